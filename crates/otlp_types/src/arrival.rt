@@ -1,0 +1,70 @@
+ghost use Rattle.std.specs.Prelude.{◌≡◌, IfOk};
+
+use crate::list::{Text, TryClone};
+use crate::request::{Resource, Scope};
+use crate::span::Span;
+use span_ids::{ArrivalKey, Moment};
+use std::alloc::{AllocError, Global};
+
+/// A span with the resource and the scope that it was sent under, and the schema URLs of both.
+#[derive(Debug, Drop)]
+pub struct Record {
+    pub resource: Resource,
+    pub resource_schema_url: Text,
+    pub scope: Scope,
+    pub scope_schema_url: Text,
+    pub span: Span,
+}
+
+/// A received span.
+#[derive(Debug, Drop)]
+pub struct Arrival {
+    /// Its place among all received spans.
+    pub key: ArrivalKey,
+    /// When its request was read, in milliseconds.
+    pub moment: Moment,
+    /// What was received.
+    pub rec: Record,
+}
+
+/// What a shard takes.
+#[derive(Debug, Drop)]
+pub enum Item {
+    /// A span of one of the shard's traces.
+    Span(Arrival),
+    /// The present moment, in milliseconds.
+    Tick(Moment),
+    /// The sender of this number sends nothing more.
+    End(u16),
+}
+
+/// What the exporter takes.
+#[derive(Debug, Drop)]
+pub enum Shipment {
+    /// A span of a sampled trace.
+    Span(Arrival),
+    /// The shard of this number sends nothing more.
+    End(u16),
+}
+
+impl TryClone for Record {
+    fn try_clone(&self, alloc: Global) -> Result<Record, AllocError> {
+        Ok(Record {
+            resource: self.resource.try_clone(alloc)?,
+            resource_schema_url: self.resource_schema_url.try_clone(alloc)?,
+            scope: self.scope.try_clone(alloc)?,
+            scope_schema_url: self.scope_schema_url.try_clone(alloc)?,
+            span: self.span.try_clone(alloc)?,
+        })
+    }
+}
+
+impl TryClone for Arrival {
+    fn try_clone(&self, alloc: Global) -> Result<Arrival, AllocError> {
+        Ok(Arrival {
+            key: self.key,
+            moment: self.moment,
+            rec: self.rec.try_clone(alloc)?,
+        })
+    }
+}

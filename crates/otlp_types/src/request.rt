@@ -1,0 +1,92 @@
+ghost use Rattle.std.specs.Prelude.{◌≡◌, IfOk};
+
+use crate::list::{List, Text, TryClone};
+use crate::span::Span;
+use crate::value::KeyValue;
+use std::alloc::{AllocError, Global};
+
+/// What sends spans (`resource.proto` v1, `Resource`).
+#[derive(Debug, Drop)]
+pub struct Resource {
+    pub attributes: List<KeyValue>,
+    pub dropped_attributes_count: u32,
+}
+
+/// The library that made spans (`common.proto` v1, `InstrumentationScope`).
+#[derive(Debug, Drop)]
+pub struct Scope {
+    pub name: Text,
+    pub version: Text,
+    pub attributes: List<KeyValue>,
+    pub dropped_attributes_count: u32,
+}
+
+/// The spans of one scope (`trace.proto` v1, `ScopeSpans`).
+#[derive(Debug, Drop)]
+pub struct ScopeSpans {
+    pub scope: Scope,
+    pub spans: List<Span>,
+    pub schema_url: Text,
+}
+
+/// The spans of one resource (`trace.proto` v1, `ResourceSpans`).
+#[derive(Debug, Drop)]
+pub struct ResourceSpans {
+    pub resource: Resource,
+    pub scope_spans: List<ScopeSpans>,
+    pub schema_url: Text,
+}
+
+/// A request to take traces (OTLP 1.x, `ExportTraceServiceRequest`).
+#[derive(Debug, Drop)]
+pub struct Request {
+    pub resource_spans: List<ResourceSpans>,
+}
+
+impl TryClone for Resource {
+    fn try_clone(&self, alloc: Global) -> Result<Resource, AllocError> {
+        Ok(Resource {
+            attributes: self.attributes.try_clone(alloc)?,
+            dropped_attributes_count: self.dropped_attributes_count,
+        })
+    }
+}
+
+impl TryClone for Scope {
+    fn try_clone(&self, alloc: Global) -> Result<Scope, AllocError> {
+        Ok(Scope {
+            name: self.name.try_clone(alloc)?,
+            version: self.version.try_clone(alloc)?,
+            attributes: self.attributes.try_clone(alloc)?,
+            dropped_attributes_count: self.dropped_attributes_count,
+        })
+    }
+}
+
+impl TryClone for ScopeSpans {
+    fn try_clone(&self, alloc: Global) -> Result<ScopeSpans, AllocError> {
+        Ok(ScopeSpans {
+            scope: self.scope.try_clone(alloc)?,
+            spans: self.spans.try_clone(alloc)?,
+            schema_url: self.schema_url.try_clone(alloc)?,
+        })
+    }
+}
+
+impl TryClone for ResourceSpans {
+    fn try_clone(&self, alloc: Global) -> Result<ResourceSpans, AllocError> {
+        Ok(ResourceSpans {
+            resource: self.resource.try_clone(alloc)?,
+            scope_spans: self.scope_spans.try_clone(alloc)?,
+            schema_url: self.schema_url.try_clone(alloc)?,
+        })
+    }
+}
+
+impl TryClone for Request {
+    fn try_clone(&self, alloc: Global) -> Result<Request, AllocError> {
+        Ok(Request {
+            resource_spans: self.resource_spans.try_clone(alloc)?,
+        })
+    }
+}

@@ -1,0 +1,120 @@
+ghost use Rattle.std.specs.Prelude.{◌≡◌, IfOk};
+
+use crate::list::{List, Text, TryClone};
+use crate::value::KeyValue;
+use span_ids::{SpanId, TraceId};
+use std::alloc::{AllocError, Global};
+
+/// The ids of a span, where all of them are valid. A root has no parent.
+#[derive(Clone, Copy, Debug, PartialEq, Eq)]
+pub struct Ids {
+    pub trace: TraceId,
+    pub span: SpanId,
+    pub parent: Option<SpanId>,
+}
+
+/// Something that happened during a span (`trace.proto` v1, `Span.Event`).
+#[derive(Debug, Drop)]
+pub struct Event {
+    /// Nanoseconds since 1970.
+    pub time_unix_nano: u64,
+    pub name: Text,
+    pub attributes: List<KeyValue>,
+    pub dropped_attributes_count: u32,
+}
+
+/// A pointer to another span (`trace.proto` v1, `Span.Link`). Its ids are kept as the text that came.
+#[derive(Debug, Drop)]
+pub struct Link {
+    pub trace_id: Text,
+    pub span_id: Text,
+    pub trace_state: Text,
+    pub attributes: List<KeyValue>,
+    pub dropped_attributes_count: u32,
+    pub flags: u32,
+}
+
+/// The status of a span (`trace.proto` v1, `Status`).
+#[derive(Debug, Drop)]
+pub struct Status {
+    pub message: Text,
+    /// 0 unset, 1 ok, 2 error; other numbers are kept.
+    pub code: i32,
+}
+
+/// One operation of a trace (`trace.proto` v1, `Span`).
+#[derive(Debug, Drop)]
+pub struct Span {
+    /// `None` where an id is missing or invalid.
+    pub ids: Option<Ids>,
+    pub trace_state: Text,
+    pub flags: u32,
+    pub name: Text,
+    /// 0 unspecified, 1 internal, 2 server, 3 client, 4 producer, 5 consumer; other numbers are kept.
+    pub kind: i32,
+    /// Nanoseconds since 1970.
+    pub start_time_unix_nano: u64,
+    /// Nanoseconds since 1970.
+    pub end_time_unix_nano: u64,
+    pub attributes: List<KeyValue>,
+    pub dropped_attributes_count: u32,
+    pub events: List<Event>,
+    pub dropped_events_count: u32,
+    pub links: List<Link>,
+    pub dropped_links_count: u32,
+    pub status: Status,
+}
+
+impl TryClone for Event {
+    fn try_clone(&self, alloc: Global) -> Result<Event, AllocError> {
+        Ok(Event {
+            time_unix_nano: self.time_unix_nano,
+            name: self.name.try_clone(alloc)?,
+            attributes: self.attributes.try_clone(alloc)?,
+            dropped_attributes_count: self.dropped_attributes_count,
+        })
+    }
+}
+
+impl TryClone for Link {
+    fn try_clone(&self, alloc: Global) -> Result<Link, AllocError> {
+        Ok(Link {
+            trace_id: self.trace_id.try_clone(alloc)?,
+            span_id: self.span_id.try_clone(alloc)?,
+            trace_state: self.trace_state.try_clone(alloc)?,
+            attributes: self.attributes.try_clone(alloc)?,
+            dropped_attributes_count: self.dropped_attributes_count,
+            flags: self.flags,
+        })
+    }
+}
+
+impl TryClone for Status {
+    fn try_clone(&self, alloc: Global) -> Result<Status, AllocError> {
+        Ok(Status {
+            message: self.message.try_clone(alloc)?,
+            code: self.code,
+        })
+    }
+}
+
+impl TryClone for Span {
+    fn try_clone(&self, alloc: Global) -> Result<Span, AllocError> {
+        Ok(Span {
+            ids: self.ids,
+            trace_state: self.trace_state.try_clone(alloc)?,
+            flags: self.flags,
+            name: self.name.try_clone(alloc)?,
+            kind: self.kind,
+            start_time_unix_nano: self.start_time_unix_nano,
+            end_time_unix_nano: self.end_time_unix_nano,
+            attributes: self.attributes.try_clone(alloc)?,
+            dropped_attributes_count: self.dropped_attributes_count,
+            events: self.events.try_clone(alloc)?,
+            dropped_events_count: self.dropped_events_count,
+            links: self.links.try_clone(alloc)?,
+            dropped_links_count: self.dropped_links_count,
+            status: self.status.try_clone(alloc)?,
+        })
+    }
+}
