@@ -1,0 +1,103 @@
+ghost use Rattle.std.specs.Prelude.{◌≡◌, ◌+◌, ◌^◌, ◌<◌, ◌≤◌, Some, None, length, filter, IfOk, IfErr};
+ghost use Rattle.std.specs.Result.{IsErrOf};
+ghost use Rattle.serde_json.specs.Data.{Data};
+ghost use Rattle.otlp_json.specs.Decoding.{IsJson};
+ghost use Rattle.otlp_json.specs.Reading.{request_of};
+ghost use Rattle.otlp_flatten.specs.Flat.{records_of};
+ghost use Rattle.otlp_types.specs.declared.request.Request.{Request};
+ghost use Rattle.lane_seq.specs.Numbers.{arrivals_from, is_invalid};
+ghost use Rattle.lane_seq.specs.Replies.{IsRefusal};
+
+use crate::reply::{BadData, Reply};
+use otlp_flatten::flatten;
+use otlp_json::{Bad, decode};
+use otlp_types::{Arrival, Record};
+use span_ids::{ArrivalKey, ConnKey, Moment};
+use std::alloc::{AllocError, Global};
+
+/// A connection of a lane.
+#[derive(Clone, Copy, Debug, PartialEq, Eq)]
+pub struct Conn {
+    /// Its lane and ordinal.
+    pub key: ConnKey,
+    /// The number of the next span on it.
+    pub next: u64,
+}
+
+/// A request that was read.
+#[derive(Debug, Drop)]
+pub struct Prepared {
+    /// Its spans in document order, those with invalid ids included.
+    pub arrivals: Vec<Arrival>,
+}
+
+/// Reads a request that came on a connection at a moment, and numbers its spans. It makes every growth that taking
+/// the request needs, and changes nothing.
+///
+/// The reply of a refusal is `BadData` where the body is no request, or `Busy` where memory was refused or the
+/// connection's numbers would pass 2^64-1.
+pub fn prepare(alloc: Global, conn: &Conn, body: &[u8], moment: Moment) -> Result<Prepared, Reply>
+    ensures read { IfOk result (λ prepared. (d : Data) × (request : Request) × IsJson body.now d × (request_of d ≡ Some request)
+        × (prepared.arrivals.items ≡ arrivals_from conn.now.key conn.now.next moment (records_of request))) }
+    ensures numbers { IfOk result (λ prepared. conn.now.next + length prepared.arrivals.items < 2 ^ 64) }
+    ensures json { IsErrOf result (Reply.BadData BadData.Json) → (d : Data) → IsJson body.now d → ⊥ }
+    ensures shape { IsErrOf result (Reply.BadData BadData.Shape) → (d : Data) × IsJson body.now d × (request_of d ≡ None) }
+    ensures refusal { IfErr result IsRefusal }
+{
+    let request = match decode(alloc, body) {
+        Ok(request) => request,
+        Err(Bad::Json) => return Err(Reply::BadData(BadData::Json)),
+        Err(Bad::Shape) => return Err(Reply::BadData(BadData::Shape)),
+        Err(Bad::NoMemory) => return Err(Reply::Busy),
+    };
+    let Ok(records) = flatten(alloc, request) else {
+        return Err(Reply::Busy);
+    };
+    number_records(alloc, conn, records, moment)
+}
+
+/// Numbers records, or answers `Busy`.
+fn number_records(alloc: Global, conn: &Conn, records: Vec<Record>, moment: Moment) -> Result<Prepared, Reply>
+    ensures arrivals { IfOk result (λ prepared. prepared.arrivals.items
+        ≡ arrivals_from conn.now.key conn.now.next moment records.items) }
+    ensures numbers { IfOk result (λ prepared. conn.now.next + length prepared.arrivals.items < 2 ^ 64) }
+    ensures busy { IfErr result (λ reply. reply ≡ Reply.Busy) }
+{
+    if conn.next.checked_add(records.len() as u64).is_none() {
+        return Err(Reply::Busy);
+    }
+    match arrivals_from(alloc, conn.key, conn.next, records, moment) {
+        Ok(arrivals) => Ok(Prepared { arrivals }),
+        Err(_) => Err(Reply::Busy),
+    }
+}
+
+/// The arrivals of records, with numbers from `first` on.
+fn arrivals_from(alloc: Global, key: ConnKey, first: u64, records: Vec<Record>, moment: Moment) -> Result<Vec<Arrival>, AllocError>
+    requires { first + length records.items < 2 ^ 64 }
+    ensures arrivals { IfOk result (λ arrivals. arrivals.items ≡ arrivals_from key first moment records.items) }
+    ensures len { IfOk result (λ arrivals. length arrivals.items ≡ length records.items) }
+{
+    let mut arrivals = Vec::with_capacity(alloc, records.len())?;
+    let mut number = first;
+    for rec in records {
+        let key = ArrivalKey { conn: key, number };
+        arrivals.push(Arrival { key, moment, rec })?;
+        number += 1;
+    }
+    Ok(arrivals)
+}
+
+/// How many arrivals have an id that is missing or invalid.
+pub fn count_invalid(arrivals: &[Arrival]) -> usize
+    ensures count { result ≡ length (filter is_invalid arrivals.now) }
+    ensures within { result ≤ length arrivals.now }
+{
+    let mut count = 0;
+    for arrival in arrivals {
+        if arrival.rec.span.ids.is_none() {
+            count += 1;
+        }
+    }
+    count
+}

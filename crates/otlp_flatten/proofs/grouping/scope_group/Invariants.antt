@@ -1,0 +1,5 @@
+use Rattle.std.proofs.Common.{◌≡◌, map, take}
+use Rattle.otlp_flatten.proofs.grouping.scope_group.Given as goal
+
+abbrev pub invariant-loop-item : goal.invariant-loop-item
+invariant-loop-item g l = l.copies ≡ map (λ x. (g.T.HasRecord.record_in x).span) (take l.item-index l.spans)

@@ -1,0 +1,71 @@
+ghost use Rattle.std.specs.Prelude.{◌≡◌, ◌<◌, ℕ, Some, length, map, slice_get, option_map, IfOk, ◌≤◌};
+ghost use Rattle.std.specs.List.{AllByRecursion};
+ghost use Rattle.otlp_flatten.specs.Flat.{records_of, resource_records, scope_records};
+ghost use Rattle.otlp_flatten.specs.Grouped.{IsGrouped, IsResourceGroup, resource_key, scope_key};
+ghost use Rattle.otlp_flatten.specs.Runs.{resource_of, scope_of};
+
+use crate::runs::{HasRecord, resource_run, scope_run};
+use otlp_types::{List, Request, ResourceSpans, ScopeSpans, TryClone};
+use std::alloc::{AllocError, Global};
+
+/// Records grouped as a request: neighbours of equal resource and resource schema URL share a `ResourceSpans`, and
+/// inside it neighbours of equal scope and scope schema URL share a `ScopeSpans`. `Err` only where memory was refused.
+pub fn group<T: HasRecord>(alloc: Global, spans: &[T]) -> Result<Request, AllocError>
+    ensures flat { IfOk result (λ request. records_of request ≡ map T.record_in spans.now) }
+    ensures grouped { IfOk result IsGrouped }
+{
+    let mut groups = List::new(alloc);
+    let mut rest = spans;
+    while !rest.is_empty() {
+        let (front, behind) = rest.split_at(resource_run(rest));
+        groups.push(resource_group(alloc, front)?)?;
+        rest = behind;
+    }
+    Ok(Request {
+        resource_spans: groups,
+    })
+}
+
+/// The group of spans of one resource.
+fn resource_group<T: HasRecord>(alloc: Global, spans: &[T]) -> Result<ResourceSpans, AllocError>
+    requires some { 0 < length spans.now }
+    requires same { (k : ℕ) → k < length spans.now → option_map (λ x. resource_of (T.record_in x)) (slice_get spans.now k)
+        ≡ option_map (λ x. resource_of (T.record_in x)) (slice_get spans.now 0) }
+    ensures grouped { IfOk result IsResourceGroup }
+    ensures flat { IfOk result (λ group. resource_records group ≡ map T.record_in spans.now) }
+    ensures key { IfOk result (λ group. Some (resource_key group)
+        ≡ option_map (λ x. resource_of (T.record_in x)) (slice_get spans.now 0)) }
+{
+    let mut groups = List::new(alloc);
+    let mut rest = spans;
+    while !rest.is_empty() {
+        let (front, behind) = rest.split_at(scope_run(rest));
+        groups.push(scope_group(alloc, front)?)?;
+        rest = behind;
+    }
+    let first = spans[0].rec();
+    Ok(ResourceSpans {
+        resource: first.resource.try_clone(alloc)?,
+        scope_spans: groups,
+        schema_url: first.resource_schema_url.try_clone(alloc)?,
+    })
+}
+
+/// The group of spans of one scope.
+fn scope_group<T: HasRecord>(alloc: Global, spans: &[T]) -> Result<ScopeSpans, AllocError>
+    requires some { 0 < length spans.now }
+    ensures spans { IfOk result (λ group. group.spans ≡ map (λ x. (T.record_in x).span) spans.now) }
+    ensures key { IfOk result (λ group. Some (scope_key group)
+        ≡ option_map (λ x. scope_of (T.record_in x)) (slice_get spans.now 0)) }
+{
+    let mut copies = List::new(alloc);
+    for item in spans {
+        copies.push(item.rec().span.try_clone(alloc)?)?;
+    }
+    let first = spans[0].rec();
+    Ok(ScopeSpans {
+        scope: first.scope.try_clone(alloc)?,
+        spans: copies,
+        schema_url: first.scope_schema_url.try_clone(alloc)?,
+    })
+}

@@ -1,0 +1,121 @@
+ghost use Rattle.std.specs.Prelude.{◌≡◌, ◌++◌, IfOk, OnOk, map, flat_map};
+ghost use Rattle.otlp_flatten.specs.Flat.{record_with, scope_records, resource_records, records_of};
+
+use otlp_types::{
+    List, Record, Request, Resource, ResourceSpans, Scope, ScopeSpans, Span, Text, TryClone,
+};
+use std::alloc::{AllocError, Global};
+
+/// The spans of a request in document order: resource, scope, span (`trace.proto` v1). `Err` only where memory was refused.
+pub fn flatten(alloc: Global, request: Request) -> Result<Vec<Record>, AllocError>
+    ensures { IfOk result (λ records. records.items ≡ records_of request) }
+{
+    let mut records = Vec::new(alloc);
+    for group in request.resource_spans.into_vec() {
+        push_resource(alloc, &mut records, group)?;
+    }
+    Ok(records)
+}
+
+fn push_resource(
+    alloc: Global,
+    records: &mut Vec<Record>,
+    group: ResourceSpans,
+) -> Result<(), AllocError>
+    ensures { OnOk result (records.new.items ≡ records.old.items ++ resource_records group) }
+{
+    let ResourceSpans {
+        resource,
+        scope_spans,
+        schema_url,
+    } = group;
+    push_scopes(alloc, records, &resource, &schema_url, scope_spans)
+}
+
+fn push_scopes(
+    alloc: Global,
+    records: &mut Vec<Record>,
+    resource: &Resource,
+    resource_schema_url: &Text,
+    groups: List<ScopeSpans>,
+) -> Result<(), AllocError>
+    ensures { OnOk result (records.new.items
+        ≡ records.old.items ++ flat_map (scope_records resource.now resource_schema_url.now) groups) }
+{
+    for group in groups.into_vec() {
+        push_scope(alloc, records, resource, resource_schema_url, group)?;
+    }
+    Ok(())
+}
+
+fn push_scope(
+    alloc: Global,
+    records: &mut Vec<Record>,
+    resource: &Resource,
+    resource_schema_url: &Text,
+    group: ScopeSpans,
+) -> Result<(), AllocError>
+    ensures { OnOk result (records.new.items
+        ≡ records.old.items ++ scope_records resource.now resource_schema_url.now group) }
+{
+    let ScopeSpans {
+        scope,
+        spans,
+        schema_url,
+    } = group;
+    push_spans(
+        alloc,
+        records,
+        resource,
+        resource_schema_url,
+        &scope,
+        &schema_url,
+        spans,
+    )
+}
+
+fn push_spans(
+    alloc: Global,
+    records: &mut Vec<Record>,
+    resource: &Resource,
+    resource_schema_url: &Text,
+    scope: &Scope,
+    scope_schema_url: &Text,
+    spans: List<Span>,
+) -> Result<(), AllocError>
+    ensures { OnOk result (records.new.items ≡ records.old.items
+        ++ map (record_with resource.now resource_schema_url.now scope.now scope_schema_url.now) spans) }
+{
+    for span in spans.into_vec() {
+        let record = record_with(
+            alloc,
+            resource,
+            resource_schema_url,
+            scope,
+            scope_schema_url,
+            span,
+        )?;
+        records.push(record)?;
+    }
+    Ok(())
+}
+
+fn record_with(
+    alloc: Global,
+    resource: &Resource,
+    resource_schema_url: &Text,
+    scope: &Scope,
+    scope_schema_url: &Text,
+    span: Span,
+) -> Result<Record, AllocError>
+    ensures { IfOk result
+        (λ r. r ≡ record_with resource.now resource_schema_url.now scope.now scope_schema_url.now span) }
+{
+    Ok(Record {
+        resource: resource.try_clone(alloc)?,
+        resource_schema_url: resource_schema_url.try_clone(alloc)?,
+        scope: scope.try_clone(alloc)?,
+        scope_schema_url: scope_schema_url.try_clone(alloc)?,
+        span,
+    })
+}

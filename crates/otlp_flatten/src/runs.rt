@@ -1,0 +1,74 @@
+ghost use Rattle.std.specs.Prelude.{◌≡◌, ◌<◌, ◌↔◌, length, IsTrue};
+ghost use Rattle.otlp_types.specs.declared.arrival.Record.{Record};
+ghost use Rattle.otlp_flatten.specs.Runs.{resource_of, scope_of, IsRun};
+
+use crate::same::Same;
+use otlp_types::{Arrival, Record};
+
+/// What holds a record.
+pub trait HasRecord {
+    /// The record that it holds.
+    ghost record_in: { Self → Record };
+
+    /// The record that it holds.
+    fn rec(&self) -> &Record
+        ensures { result.now ≡ record_in self.now };
+}
+
+impl HasRecord for Record {
+    ghost record_in = { λ r. r };
+
+    fn rec(&self) -> &Record {
+        self
+    }
+}
+
+impl HasRecord for Arrival {
+    ghost record_in = { λ a. a.rec };
+
+    fn rec(&self) -> &Record {
+        &self.rec
+    }
+}
+
+/// Whether two records have the same resource and resource schema URL.
+fn same_resource(a: &Record, b: &Record) -> bool
+    ensures { IsTrue result ↔ (resource_of a.now ≡ resource_of b.now) }
+{
+    a.resource_schema_url.same(&b.resource_schema_url) && a.resource.same(&b.resource)
+}
+
+/// Whether two records have the same scope and scope schema URL.
+fn same_scope(a: &Record, b: &Record) -> bool
+    ensures { IsTrue result ↔ (scope_of a.now ≡ scope_of b.now) }
+{
+    a.scope_schema_url.same(&b.scope_schema_url) && a.scope.same(&b.scope)
+}
+
+/// How many spans at the front have the first one's resource and resource schema URL.
+pub fn resource_run<T: HasRecord>(spans: &[T]) -> usize
+    requires { 0 < length spans.now }
+    ensures { IsRun (λ x. resource_of (T.record_in x)) spans.now result }
+{
+    let first = spans[0].rec();
+    for i in 1..spans.len() {
+        if !same_resource(first, spans[i].rec()) {
+            return i;
+        }
+    }
+    spans.len()
+}
+
+/// How many spans at the front have the first one's scope and scope schema URL.
+pub fn scope_run<T: HasRecord>(spans: &[T]) -> usize
+    requires { 0 < length spans.now }
+    ensures { IsRun (λ x. scope_of (T.record_in x)) spans.now result }
+{
+    let first = spans[0].rec();
+    for i in 1..spans.len() {
+        if !same_scope(first, spans[i].rec()) {
+            return i;
+        }
+    }
+    spans.len()
+}

@@ -1,0 +1,12 @@
+pub mod NumberTexts
+pub mod Held
+pub mod Each
+pub mod Levels
+pub mod Fields
+pub mod Rows
+pub mod Plain
+pub mod NumbersBack
+pub mod Table
+pub mod ValuesBack
+pub mod MessagesBack
+pub mod Depth

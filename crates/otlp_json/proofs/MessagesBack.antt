@@ -1,0 +1,503 @@
+-- A message that is written reads as itself.
+use Rattle.std.proofs.Common.{◌≡◌, ℕ, ◌+◌, ◌-◌, ◌<◌, ◌≤◌, ◌^◌, List, [], ◌∷◌, map, codes, Bool, true, false, Option, Some, None, option_map, ℤ, pos, negsuc, refl, ap, ◌∙◌, arith}
+use Rattle.std.specs.Prelude.{FitsSigned, min, ◌==◌, ◌||◌, cond, length}
+use Rattle.std.specs.Int.{w32}
+use Rattle.std.specs.List.{AllByRecursion}
+use Rattle.std.specs.Str.{bytes_eq}
+use Rattle.std.proofs.lemmas.Bool.Decides.{nat_tests}
+use Rattle.std.proofs.lemmas.List.{map-id}
+use Rattle.std.proofs.lemmas.Slice.Eq.{bytes_eq-Decides}
+use Rattle.hex.proofs.OnLiterals.{hex_on_literals}
+use Rattle.serde_json.specs.Data.{Data, number, unsigned, string, object, Members, no_members, member, depth}
+use Rattle.serde_json.specs.Find.{of_integer}
+use Rattle.serde_json.specs.View.{items_of}
+use Rattle.serde_json.specs.Written.{members_have_float}
+use Rattle.otlp_types.specs.declared.value.KeyValue.{KeyValue}
+use Rattle.otlp_types.specs.declared.span.Ids.{Ids}
+use Rattle.otlp_types.specs.declared.span.Status.{Status}
+use Rattle.otlp_types.specs.declared.span.Event.{Event}
+use Rattle.otlp_types.specs.declared.span.Link.{Link}
+use Rattle.otlp_types.specs.declared.span.Span.{Span}
+use Rattle.otlp_types.specs.declared.request.Resource.{Resource}
+use Rattle.otlp_types.specs.declared.request.Scope.{Scope}
+use Rattle.otlp_types.specs.declared.request.ScopeSpans.{ScopeSpans}
+use Rattle.otlp_types.specs.declared.request.ResourceSpans.{ResourceSpans}
+use Rattle.otlp_types.specs.declared.request.Request.{Request}
+use Rattle.span_ids.specs.Id.{id_of, id_text}
+use Rattle.otlp_json.specs.Kinds.{field, text, u32, u64, enum, list_of, message, inner}
+use Rattle.otlp_json.specs.Reading.{discarded, any_value, key_value, attributes, parent_of, valid_ids, ids, status, event, link, span, resource, scope, scope_spans, resource_spans, request}
+use Rattle.otlp_json.specs.Writing.{fields, text_field, u32_field, u64_field, enum_field, message_field, list_field, attributes_field, pair_fields, trace_field, span_field, parent_field, status_fields, event_fields, link_fields, span_fields, resource_fields, scope_fields, scope_spans_fields, resource_spans_fields, request_fields}
+use Rattle.otlp_json.specs.ReadsBack.{PairReadsBack, ReadsBack, StatusReadsBack, EventReadsBack, LinkReadsBack, TraceReadsBack, IdReadsBack, OptionalIdReadsBack, ParentReadsBack, CountsReadBack, HeadReadsBack, TailReadsBack}
+use Rattle.otlp_json.proofs.NumbersBack.{u32-back, u64-back, enum-back}
+use Rattle.otlp_json.proofs.Table.{Table, found, IsField, IsTable, field-fields, table-plain, found-depth}
+use Rattle.otlp_json.proofs.ValuesBack.{text_field-present, text-back, message_field-present, message-within, items_field-present, objects-plain, AllRead, Within, list-back, kept-all, none-discarded, pair_again, pairs_field-is}
+
+-- ---- fields
+
+if_present : (b : Bool) (d : Data) → IsField (Some d) → IsField (cond b None (Some d))
+if_present true d h = (refl, tt)
+if_present false d h = h
+
+u32_field-present : (n : ℕ) → IsField (u32_field n)
+u32_field-present n = if_present (n == 0) (number (unsigned n)) (refl, refl)
+
+u64_field-present : (n : ℕ) → IsField (u64_field n)
+u64_field-present n = if_present (n == 0) _ (refl, refl)
+
+enum_field-present : (z : ℤ) → IsField (enum_field z)
+enum_field-present (pos n) = if_present (n == 0) (number (of_integer (pos n))) (refl, refl)
+enum_field-present (negsuc n) = (refl, refl)
+
+-- what the table has under a name is read as x
+at : {B : Type 0} (read : Option Data → Option B) (q : List ℕ) (fs : Table) (o : Option Data) (x : B) → IsTable fs → found q fs ≡ o → read o ≡ Some x → read (field q (fields fs)) ≡ Some x
+at read q fs o x table is back = ap read (field-fields q fs table ∙ is) ∙ back
+
+within_at : (q : List ℕ) (fs : Table) (o : Option Data) (n : ℕ) → IsTable fs → depth (object (fields fs)) ≤ n → found q fs ≡ o → Within o n
+within_at q fs o n table h is d e = found-depth q fs d n table h (is ∙ e)
+
+-- ---- messages in fields
+
+inner_held : {A : Type 0} (meaning : Members → Option A) (ms : Members) (x : A) → meaning ms ≡ Some x → inner meaning (message_field ms) ≡ Some x
+inner_held meaning no_members x h = h
+inner_held meaning (member k d ms) x h = h
+
+inner-at : {A : Type 0} (meaning : Members → Option A) (f : A → Members) (x : A) (q : List ℕ) (fs : Table) → ReadsBack f meaning x → IsTable fs → depth (object (fields fs)) ≤ 127
+    → found q fs ≡ message_field (f x) → inner meaning (field q (fields fs)) ≡ Some x
+inner-at meaning f x q fs back table h is =
+    let within = message-within (f x) 127 (omega arith) (within_at q fs (message_field (f x)) 127 table h is) in
+    at (inner meaning) q fs (message_field (f x)) x table is (inner_held meaning (f x) x (back.again within))
+
+inner-present : {A : Type 0} (meaning : Members → Option A) (f : A → Members) (x : A) → ReadsBack f meaning x → IsField (message_field (f x))
+inner-present meaning f x back = message_field-present (f x) back.plain
+
+-- ---- lists of messages
+
+all_again : {A : Type 0} (meaning : Members → Option A) (f : A → Members) (xs : List A) → AllByRecursion (ReadsBack f meaning) xs → AllRead 127 (message meaning) f (λ x. x) xs
+all_again meaning f [] h = tt
+all_again meaning f (x ∷ xs) h = (h.0.again, all_again meaning f xs h.1)
+
+all_plain : {A : Type 0} (meaning : Members → Option A) (f : A → Members) (xs : List A) → AllByRecursion (ReadsBack f meaning) xs → AllByRecursion (λ x. members_have_float (f x) ≡ false) xs
+all_plain meaning f [] h = tt
+all_plain meaning f (x ∷ xs) h = (h.0.plain, all_plain meaning f xs h.1)
+
+list-present : {A : Type 0} (meaning : Members → Option A) (f : A → Members) (xs : List A) → AllByRecursion (ReadsBack f meaning) xs → IsField (list_field (map f xs))
+list-present meaning f xs back = items_field-present (items_of (map object (map f xs))) (objects-plain f xs (all_plain meaning f xs back))
+
+list-at : {A : Type 0} (meaning : Members → Option A) (f : A → Members) (xs : List A) (q : List ℕ) (fs : Table) → AllByRecursion (ReadsBack f meaning) xs → IsTable fs → depth (object (fields fs)) ≤ 127
+    → found q fs ≡ list_field (map f xs) → list_of (message meaning) (field q (fields fs)) ≡ Some xs
+list-at meaning f xs q fs back table h is =
+    at (list_of (message meaning)) q fs (list_field (map f xs)) xs table is
+    (list-back 127 (message meaning) f (λ x. x) xs (all_again meaning f xs back) (within_at q fs (list_field (map f xs)) 127 table h is) ∙ ap Some (map-id xs))
+
+-- ---- attributes
+
+small : (n k : ℕ) → n < 2 ^ 32 → k ≡ 0 → min (n + k) (2 ^ 32 - 1) ≡ n
+small n k h e = omega arith
+
+attributes_of : (ms : Members) (ps : List KeyValue) (n : ℕ) → n < 2 ^ 32 → list_of (message (key_value any_value)) (field (codes "attributes") ms) ≡ Some (map Some ps)
+    → u32 (field (codes "droppedAttributesCount") ms) ≡ Some n → attributes ms ≡ Some (ps, n)
+attributes_of ms ps n h all dropped = rw (all, dropped, kept-all ps, small n (discarded (map Some ps)) h (none-discarded ps))
+
+attributes-at : (ps : List KeyValue) (n : ℕ) (fs : Table) → AllByRecursion PairReadsBack ps → n < 2 ^ 32 → IsTable fs → depth (object (fields fs)) ≤ 127
+    → found (codes "attributes") fs ≡ attributes_field ps → found (codes "droppedAttributesCount") fs ≡ u32_field n → attributes (fields fs) ≡ Some (ps, n)
+attributes-at ps n fs back small table h is count =
+    attributes_of (fields fs) ps n small
+    (at (list_of (message (key_value any_value))) (codes "attributes") fs (attributes_field ps) (map Some ps) table is
+    (list-back 127 (message (key_value any_value)) pair_fields Some ps (pair_again 127 ps back) (within_at (codes "attributes") fs (attributes_field ps) 127 table h is)))
+    (at u32 (codes "droppedAttributesCount") fs (u32_field n) n table count (u32-back n small))
+
+-- ---- the messages
+
+abbrev status_table : Status → Table
+status_table s = (codes "code", enum_field s.code) ∷ (codes "message", text_field s.message) ∷ []
+
+status-is : (s : Status) → IsTable (status_table s)
+status-is s = (refl, enum_field-present s.code, (refl, text_field-present s.message, tt))
+
+status_of : (s : Status) (ms : Members) → text (field (codes "message") ms) ≡ Some s.message → enum (field (codes "code") ms) ≡ Some s.code → status ms ≡ Some s
+status_of s ms message code = rw (message, code)
+
+pub status-back : (s : Status) → FitsSigned w32 s.code → StatusReadsBack s
+status-back s fits = record {
+  plain = table-plain (status_table s) (status-is s);
+  again = λ h. status_of s (fields (status_table s))
+      (at text (codes "message") (status_table s) (text_field s.message) s.message (status-is s) refl (text-back s.message))
+      (at enum (codes "code") (status_table s) (enum_field s.code) s.code (status-is s) refl (enum-back s.code fits));
+}
+
+abbrev event_table : Event → Table
+event_table e =
+    (codes "attributes", attributes_field e.attributes)
+    ∷ (codes "droppedAttributesCount", u32_field e.dropped_attributes_count)
+    ∷ (codes "name", text_field e.name)
+    ∷ (codes "timeUnixNano", u64_field e.time_unix_nano)
+    ∷ []
+
+event-is : (e : Event) → AllByRecursion PairReadsBack e.attributes → IsTable (event_table e)
+event-is e all = (refl, pairs_field-is e.attributes all, (refl, u32_field-present _, (refl, text_field-present e.name, (refl, u64_field-present _, tt))))
+
+event_of : (e : Event) (ms : Members) → u64 (field (codes "timeUnixNano") ms) ≡ Some e.time_unix_nano → text (field (codes "name") ms) ≡ Some e.name
+    → attributes ms ≡ Some (e.attributes, e.dropped_attributes_count) → event ms ≡ Some e
+event_of e ms time name all = rw (time, name, all)
+
+pub event-back : (e : Event) → AllByRecursion PairReadsBack e.attributes → e.dropped_attributes_count < 2 ^ 32 → e.time_unix_nano < 2 ^ 64 → EventReadsBack e
+event-back e all dropped time =
+    let t : IsTable (event_table e) = event-is e all in
+    record {
+      plain = table-plain (event_table e) t;
+      again = λ h. event_of e (fields (event_table e))
+          (at u64 (codes "timeUnixNano") (event_table e) (u64_field e.time_unix_nano) e.time_unix_nano t refl (u64-back e.time_unix_nano time))
+          (at text (codes "name") (event_table e) (text_field e.name) e.name t refl (text-back e.name))
+          (attributes-at e.attributes e.dropped_attributes_count (event_table e) all dropped t h refl refl);
+    }
+
+abbrev link_table : Link → Table
+link_table l =
+    (codes "attributes", attributes_field l.attributes)
+    ∷ (codes "droppedAttributesCount", u32_field l.dropped_attributes_count)
+    ∷ (codes "flags", u32_field l.flags)
+    ∷ (codes "spanId", text_field l.span_id)
+    ∷ (codes "traceId", text_field l.trace_id)
+    ∷ (codes "traceState", text_field l.trace_state)
+    ∷ []
+
+link-is : (l : Link) → AllByRecursion PairReadsBack l.attributes → IsTable (link_table l)
+link-is l all =
+    (refl, pairs_field-is l.attributes all, (refl, u32_field-present _, (refl, u32_field-present _, (refl, text_field-present l.span_id, (refl, text_field-present l.trace_id, (refl, text_field-present l.trace_state, tt))))))
+
+link_of : (l : Link) (ms : Members) → text (field (codes "traceId") ms) ≡ Some l.trace_id → text (field (codes "spanId") ms) ≡ Some l.span_id
+    → text (field (codes "traceState") ms) ≡ Some l.trace_state → attributes ms ≡ Some (l.attributes, l.dropped_attributes_count) → u32 (field (codes "flags") ms) ≡ Some l.flags → link ms ≡ Some l
+link_of l ms trace span state all flags = rw (trace, span, state, all, flags)
+
+pub link-back : (l : Link) → AllByRecursion PairReadsBack l.attributes → l.dropped_attributes_count < 2 ^ 32 → l.flags < 2 ^ 32 → LinkReadsBack l
+link-back l all dropped flags =
+    let t : IsTable (link_table l) = link-is l all in
+    record {
+      plain = table-plain (link_table l) t;
+      again = λ h. link_of l (fields (link_table l))
+          (at text (codes "traceId") (link_table l) (text_field l.trace_id) l.trace_id t refl (text-back l.trace_id))
+          (at text (codes "spanId") (link_table l) (text_field l.span_id) l.span_id t refl (text-back l.span_id))
+          (at text (codes "traceState") (link_table l) (text_field l.trace_state) l.trace_state t refl (text-back l.trace_state))
+          (attributes-at l.attributes l.dropped_attributes_count (link_table l) all dropped t h refl refl)
+          (at u32 (codes "flags") (link_table l) (u32_field l.flags) l.flags t refl (u32-back l.flags flags));
+    }
+
+-- ---- the ids of a span
+
+abbrev root_text : Option (List ℕ) → List ℕ
+root_text None = []
+root_text (Some p) = id_text p
+
+root_field : (p : Option (List ℕ)) → text (option_map (λ p. string (id_text p)) p) ≡ Some (root_text p)
+root_field None = refl
+root_field (Some p) = refl
+
+no_id : id_of 8 [] ≡ None
+unfolding hex_on_literals
+no_id = refl
+
+zero_id : id_of 8 (codes "0000000000000000") ≡ None
+unfolding hex_on_literals
+zero_id = refl
+
+no_ids : valid_ids [] [] [] ≡ None
+unfolding hex_on_literals
+no_ids = refl
+
+no_text : (s : List ℕ) → (length s == 0) ≡ true → s ≡ []
+no_text [] h = refl
+no_text (c ∷ s) h = absurd (empty h)
+  where
+    empty : (length (c ∷ s) == 0) ≡ true → ⊥
+    empty e = grind (arith, nat_tests)
+
+parent_if : (none zeros : Bool) (s : List ℕ) (p : List ℕ) → (length s == 0) ≡ none → bytes_eq s (codes "0000000000000000") ≡ zeros → id_of 8 s ≡ Some p
+    → cond (none || zeros) (Some None) (option_map Some (id_of 8 s)) ≡ Some (Some p)
+parent_if true zeros s p e f h = let no : id_of 8 s ≡ None = ap (id_of 8) (no_text s e) ∙ no_id in cc
+parent_if false true s p e f h = let no : id_of 8 s ≡ None = ap (id_of 8) ((bytes_eq-Decides s (codes "0000000000000000")).0 f) ∙ zero_id in cc
+parent_if false false s p e f h = ap (option_map Some) h
+
+parent_back : (p : Option (List ℕ)) → OptionalIdReadsBack p → parent_of (root_text p) ≡ Some p
+parent_back None h = refl
+parent_back (Some p) h = parent_if (length (id_text p) == 0) (bytes_eq (id_text p) (codes "0000000000000000")) (id_text p) p refl refl h
+
+ids_texts : (ms : Members) (t s p : List ℕ) → text (field (codes "traceId") ms) ≡ Some t → text (field (codes "spanId") ms) ≡ Some s → text (field (codes "parentSpanId") ms) ≡ Some p
+    → ids ms ≡ Some (valid_ids t s p)
+ids_texts ms t s p trace span parent = rw (trace, span, parent)
+
+valid_of : (i : Ids) (t s p : List ℕ) → id_of 16 t ≡ Some i.trace → id_of 8 s ≡ Some i.span → parent_of p ≡ Some i.parent → valid_ids t s p ≡ Some i
+valid_of i t s p trace span parent = rw (trace, span, parent)
+
+ids-at : (o : Option Ids) (fs : Table) → IsTable fs → found (codes "traceId") fs ≡ trace_field o → found (codes "spanId") fs ≡ span_field o → found (codes "parentSpanId") fs ≡ parent_field o
+    → TraceReadsBack o → IdReadsBack o → ParentReadsBack o → ids (fields fs) ≡ Some o
+ids-at None fs table trace span parent a b c =
+    ids_texts (fields fs) [] [] []
+    (at text (codes "traceId") fs None [] table trace refl)
+    (at text (codes "spanId") fs None [] table span refl)
+    (at text (codes "parentSpanId") fs None [] table parent refl)
+    ∙ ap Some no_ids
+ids-at (Some i) fs table trace span parent a b c =
+    ids_texts (fields fs) (id_text i.trace) (id_text i.span) (root_text i.parent)
+    (at text (codes "traceId") fs (Some (string (id_text i.trace))) (id_text i.trace) table trace refl)
+    (at text (codes "spanId") fs (Some (string (id_text i.span))) (id_text i.span) table span refl)
+    (at text (codes "parentSpanId") fs (option_map (λ p. string (id_text p)) i.parent) (root_text i.parent) table parent (root_field i.parent))
+    ∙ ap Some (valid_of i (id_text i.trace) (id_text i.span) (root_text i.parent) a b (parent_back i.parent c))
+
+trace_field-present : (o : Option Ids) → IsField (trace_field o)
+trace_field-present None = (refl, tt)
+trace_field-present (Some i) = (refl, refl)
+
+span_field-present : (o : Option Ids) → IsField (span_field o)
+span_field-present None = (refl, tt)
+span_field-present (Some i) = (refl, refl)
+
+root_field-present : (p : Option (List ℕ)) → IsField (option_map (λ p. string (id_text p)) p)
+root_field-present None = (refl, tt)
+root_field-present (Some p) = (refl, refl)
+
+parent_field-present : (o : Option Ids) → IsField (parent_field o)
+parent_field-present None = (refl, tt)
+parent_field-present (Some i) = root_field-present i.parent
+
+-- ---- the span
+
+abbrev span_table : Span → Table
+span_table s =
+    (codes "attributes", attributes_field s.attributes)
+    ∷ (codes "droppedAttributesCount", u32_field s.dropped_attributes_count)
+    ∷ (codes "droppedEventsCount", u32_field s.dropped_events_count)
+    ∷ (codes "droppedLinksCount", u32_field s.dropped_links_count)
+    ∷ (codes "endTimeUnixNano", u64_field s.end_time_unix_nano)
+    ∷ (codes "events", list_field (map event_fields s.events))
+    ∷ (codes "flags", u32_field s.flags)
+    ∷ (codes "kind", enum_field s.kind)
+    ∷ (codes "links", list_field (map link_fields s.links))
+    ∷ (codes "name", text_field s.name)
+    ∷ (codes "parentSpanId", parent_field s.ids)
+    ∷ (codes "spanId", span_field s.ids)
+    ∷ (codes "startTimeUnixNano", u64_field s.start_time_unix_nano)
+    ∷ (codes "status", message_field (status_fields s.status))
+    ∷ (codes "traceId", trace_field s.ids)
+    ∷ (codes "traceState", text_field s.trace_state)
+    ∷ []
+
+span-is : (s : Span) → CountsReadBack s → HeadReadsBack s → TailReadsBack s → IsTable (span_table s)
+span-is s counts head tail = (
+  refl,
+  pairs_field-is s.attributes counts.attributes,
+  (
+    refl,
+    u32_field-present _,
+    (
+      refl,
+      u32_field-present _,
+      (
+        refl,
+        u32_field-present _,
+        (
+          refl,
+          u64_field-present _,
+          (
+            refl,
+            list-present event event_fields s.events head.events,
+            (
+              refl,
+              u32_field-present _,
+              (
+                refl,
+                enum_field-present s.kind,
+                (
+                  refl,
+                  list-present link link_fields s.links tail.links,
+                  (
+                    refl,
+                    text_field-present s.name,
+                    (
+                      refl,
+                      parent_field-present s.ids,
+                      (
+                        refl,
+                        span_field-present s.ids,
+                        (
+                          refl,
+                          u64_field-present _,
+                          (
+                            refl,
+                            inner-present status status_fields s.status tail.status,
+                            (
+                              refl,
+                              trace_field-present s.ids,
+                              (refl, text_field-present s.trace_state, tt),
+                            ),
+                          ),
+                        ),
+                      ),
+                    ),
+                  ),
+                ),
+              ),
+            ),
+          ),
+        ),
+      ),
+    ),
+  ),
+)
+
+-- what each field reads as
+record SpanFields (s : Span) (ms : Members) : Type 0 where
+  pub ids : ids ms ≡ Some s.ids
+  pub state : text (field (codes "traceState") ms) ≡ Some s.trace_state
+  pub flags : u32 (field (codes "flags") ms) ≡ Some s.flags
+  pub name : text (field (codes "name") ms) ≡ Some s.name
+  pub kind : enum (field (codes "kind") ms) ≡ Some s.kind
+  pub start : u64 (field (codes "startTimeUnixNano") ms) ≡ Some s.start_time_unix_nano
+  pub end : u64 (field (codes "endTimeUnixNano") ms) ≡ Some s.end_time_unix_nano
+  pub all : attributes ms ≡ Some (s.attributes, s.dropped_attributes_count)
+  pub events : list_of (message event) (field (codes "events") ms) ≡ Some s.events
+  pub dropped_events : u32 (field (codes "droppedEventsCount") ms) ≡ Some s.dropped_events_count
+  pub links : list_of (message link) (field (codes "links") ms) ≡ Some s.links
+  pub dropped_links : u32 (field (codes "droppedLinksCount") ms) ≡ Some s.dropped_links_count
+  pub status : inner status (field (codes "status") ms) ≡ Some s.status
+
+span_of : (s : Span) (ms : Members) → SpanFields s ms → span ms ≡ Some s
+span_of s ms f = rw (f.ids, f.state, f.flags, f.name, f.kind, f.start, f.end, f.all, f.events, f.dropped_events, f.links, f.dropped_links, f.status)
+
+span_fields-are : (s : Span) → CountsReadBack s → HeadReadsBack s → TailReadsBack s → depth (object (fields (span_table s))) ≤ 127 → SpanFields s (fields (span_table s))
+span_fields-are s counts head tail h =
+    let t : IsTable (span_table s) = span-is s counts head tail in
+    record {
+      ids = ids-at s.ids (span_table s) t refl refl refl tail.trace tail.span tail.parent;
+      state = at text (codes "traceState") (span_table s) (text_field s.trace_state) s.trace_state t refl (text-back s.trace_state);
+      flags = at u32 (codes "flags") (span_table s) (u32_field s.flags) s.flags t refl (u32-back s.flags head.flags);
+      name = at text (codes "name") (span_table s) (text_field s.name) s.name t refl (text-back s.name);
+      kind = at enum (codes "kind") (span_table s) (enum_field s.kind) s.kind t refl (enum-back s.kind head.kind);
+      start = at u64 (codes "startTimeUnixNano") (span_table s) (u64_field s.start_time_unix_nano) s.start_time_unix_nano t refl (u64-back s.start_time_unix_nano tail.start);
+      end = at u64 (codes "endTimeUnixNano") (span_table s) (u64_field s.end_time_unix_nano) s.end_time_unix_nano t refl (u64-back s.end_time_unix_nano head.end);
+      all = attributes-at s.attributes s.dropped_attributes_count (span_table s) counts.attributes counts.dropped_attributes t h refl refl;
+      events = list-at event event_fields s.events (codes "events") (span_table s) head.events t h refl;
+      dropped_events = at u32 (codes "droppedEventsCount") (span_table s) (u32_field s.dropped_events_count) s.dropped_events_count t refl (u32-back s.dropped_events_count counts.dropped_events);
+      links = list-at link link_fields s.links (codes "links") (span_table s) tail.links t h refl;
+      dropped_links = at u32 (codes "droppedLinksCount") (span_table s) (u32_field s.dropped_links_count) s.dropped_links_count t refl (u32-back s.dropped_links_count counts.dropped_links);
+      status = inner-at status status_fields s.status (codes "status") (span_table s) tail.status t h refl;
+    }
+
+pub span-back : (s : Span) → CountsReadBack s → HeadReadsBack s → TailReadsBack s → ReadsBack span_fields span s
+span-back s counts head tail = record {
+  plain = table-plain (span_table s) (span-is s counts head tail);
+  again = λ h. span_of s (fields (span_table s)) (span_fields-are s counts head tail h);
+}
+
+-- ---- the request
+
+abbrev resource_table : Resource → Table
+resource_table r = (codes "attributes", attributes_field r.attributes) ∷ (codes "droppedAttributesCount", u32_field r.dropped_attributes_count) ∷ []
+
+resource-is : (r : Resource) → AllByRecursion PairReadsBack r.attributes → IsTable (resource_table r)
+resource-is r all = (refl, pairs_field-is r.attributes all, (refl, u32_field-present _, tt))
+
+resource_of : (r : Resource) (ms : Members) → attributes ms ≡ Some (r.attributes, r.dropped_attributes_count) → resource ms ≡ Some r
+resource_of r ms all = rw all
+
+pub resource-back : (r : Resource) → AllByRecursion PairReadsBack r.attributes → r.dropped_attributes_count < 2 ^ 32 → ReadsBack resource_fields resource r
+resource-back r all dropped =
+    let t : IsTable (resource_table r) = resource-is r all in
+    record {
+      plain = table-plain (resource_table r) t;
+      again = λ h. resource_of r (fields (resource_table r)) (attributes-at r.attributes r.dropped_attributes_count (resource_table r) all dropped t h refl refl);
+    }
+
+abbrev scope_table : Scope → Table
+scope_table s =
+    (codes "attributes", attributes_field s.attributes)
+    ∷ (codes "droppedAttributesCount", u32_field s.dropped_attributes_count)
+    ∷ (codes "name", text_field s.name)
+    ∷ (codes "version", text_field s.version)
+    ∷ []
+
+scope-is : (s : Scope) → AllByRecursion PairReadsBack s.attributes → IsTable (scope_table s)
+scope-is s all = (refl, pairs_field-is s.attributes all, (refl, u32_field-present _, (refl, text_field-present s.name, (refl, text_field-present s.version, tt))))
+
+scope_of : (s : Scope) (ms : Members) → text (field (codes "name") ms) ≡ Some s.name → text (field (codes "version") ms) ≡ Some s.version
+    → attributes ms ≡ Some (s.attributes, s.dropped_attributes_count) → scope ms ≡ Some s
+scope_of s ms name version all = rw (name, version, all)
+
+pub scope-back : (s : Scope) → AllByRecursion PairReadsBack s.attributes → s.dropped_attributes_count < 2 ^ 32 → ReadsBack scope_fields scope s
+scope-back s all dropped =
+    let t : IsTable (scope_table s) = scope-is s all in
+    record {
+      plain = table-plain (scope_table s) t;
+      again = λ h. scope_of s (fields (scope_table s))
+          (at text (codes "name") (scope_table s) (text_field s.name) s.name t refl (text-back s.name))
+          (at text (codes "version") (scope_table s) (text_field s.version) s.version t refl (text-back s.version))
+          (attributes-at s.attributes s.dropped_attributes_count (scope_table s) all dropped t h refl refl);
+    }
+
+abbrev scope_spans_table : ScopeSpans → Table
+scope_spans_table g =
+    (codes "schemaUrl", text_field g.schema_url)
+    ∷ (codes "scope", message_field (scope_fields g.scope))
+    ∷ (codes "spans", list_field (map span_fields g.spans))
+    ∷ []
+
+scope_spans-is : (g : ScopeSpans) → ReadsBack scope_fields scope g.scope → AllByRecursion (ReadsBack span_fields span) g.spans → IsTable (scope_spans_table g)
+scope_spans-is g s all = (refl, text_field-present g.schema_url, (refl, inner-present scope scope_fields g.scope s, (refl, list-present span span_fields g.spans all, tt)))
+
+scope_spans_of : (g : ScopeSpans) (ms : Members) → inner scope (field (codes "scope") ms) ≡ Some g.scope → list_of (message span) (field (codes "spans") ms) ≡ Some g.spans
+    → text (field (codes "schemaUrl") ms) ≡ Some g.schema_url → scope_spans ms ≡ Some g
+scope_spans_of g ms s all url = rw (s, all, url)
+
+pub scope_spans-back : (g : ScopeSpans) → ReadsBack scope_fields scope g.scope → AllByRecursion (ReadsBack span_fields span) g.spans → ReadsBack scope_spans_fields scope_spans g
+scope_spans-back g s all =
+    let t : IsTable (scope_spans_table g) = scope_spans-is g s all in
+    record {
+      plain = table-plain (scope_spans_table g) t;
+      again = λ h. scope_spans_of g (fields (scope_spans_table g))
+          (inner-at scope scope_fields g.scope (codes "scope") (scope_spans_table g) s t h refl)
+          (list-at span span_fields g.spans (codes "spans") (scope_spans_table g) all t h refl)
+          (at text (codes "schemaUrl") (scope_spans_table g) (text_field g.schema_url) g.schema_url t refl (text-back g.schema_url));
+    }
+
+abbrev resource_spans_table : ResourceSpans → Table
+resource_spans_table g =
+    (codes "resource", message_field (resource_fields g.resource))
+    ∷ (codes "schemaUrl", text_field g.schema_url)
+    ∷ (codes "scopeSpans", list_field (map scope_spans_fields g.scope_spans))
+    ∷ []
+
+resource_spans-is : (g : ResourceSpans) → ReadsBack resource_fields resource g.resource → AllByRecursion (ReadsBack scope_spans_fields scope_spans) g.scope_spans → IsTable (resource_spans_table g)
+resource_spans-is g r all =
+    (refl, inner-present resource resource_fields g.resource r, (refl, text_field-present g.schema_url, (refl, list-present scope_spans scope_spans_fields g.scope_spans all, tt)))
+
+resource_spans_of : (g : ResourceSpans) (ms : Members) → inner resource (field (codes "resource") ms) ≡ Some g.resource → list_of (message scope_spans) (field (codes "scopeSpans") ms) ≡ Some g.scope_spans
+    → text (field (codes "schemaUrl") ms) ≡ Some g.schema_url → resource_spans ms ≡ Some g
+resource_spans_of g ms r all url = rw (r, all, url)
+
+pub resource_spans-back : (g : ResourceSpans) → ReadsBack resource_fields resource g.resource → AllByRecursion (ReadsBack scope_spans_fields scope_spans) g.scope_spans
+    → ReadsBack resource_spans_fields resource_spans g
+resource_spans-back g r all =
+    let t : IsTable (resource_spans_table g) = resource_spans-is g r all in
+    record {
+      plain = table-plain (resource_spans_table g) t;
+      again = λ h. resource_spans_of g (fields (resource_spans_table g))
+          (inner-at resource resource_fields g.resource (codes "resource") (resource_spans_table g) r t h refl)
+          (list-at scope_spans scope_spans_fields g.scope_spans (codes "scopeSpans") (resource_spans_table g) all t h refl)
+          (at text (codes "schemaUrl") (resource_spans_table g) (text_field g.schema_url) g.schema_url t refl (text-back g.schema_url));
+    }
+
+abbrev request_table : Request → Table
+request_table q = (codes "resourceSpans", list_field (map resource_spans_fields q.resource_spans)) ∷ []
+
+request-is : (q : Request) → AllByRecursion (ReadsBack resource_spans_fields resource_spans) q.resource_spans → IsTable (request_table q)
+request-is q all = (refl, list-present resource_spans resource_spans_fields q.resource_spans all, tt)
+
+request_from : (q : Request) (ms : Members) → list_of (message resource_spans) (field (codes "resourceSpans") ms) ≡ Some q.resource_spans → request ms ≡ Some q
+request_from q ms all = rw all
+
+pub request-back : (q : Request) → AllByRecursion (ReadsBack resource_spans_fields resource_spans) q.resource_spans → ReadsBack request_fields request q
+request-back q all =
+    let t : IsTable (request_table q) = request-is q all in
+    record {
+      plain = table-plain (request_table q) t;
+      again = λ h. request_from q (fields (request_table q)) (list-at resource_spans resource_spans_fields q.resource_spans (codes "resourceSpans") (request_table q) all t h refl);
+    }

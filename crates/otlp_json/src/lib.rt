@@ -1,0 +1,66 @@
+//! Requests to take traces, read from JSON and written as JSON (OTLP 1.x, JSON encoding).
+//!
+//! What is proved: [`decode`] answers a request only where the bytes' JSON value reads as that request, field by
+//! field, and refuses them only where there is no such value or no such request; [`encode`] writes the canonical
+//! text, which reads as the request again. No contract says that they succeed where there is memory enough: the tests
+//! call both so.
+#![tactic(auto)]
+
+ghost use Rattle.std.specs.Prelude.{◌≡◌, ◌≤◌, IfOk, IsErrOf, Some, None};
+ghost use Rattle.serde_json.specs.Data.{Data, depth};
+ghost use Rattle.otlp_json.specs.Reading.{request_of};
+ghost use Rattle.otlp_json.specs.Decoding.{IsJson};
+ghost use Rattle.otlp_json.specs.Writing.{data_of, canonical_text};
+
+mod bad;
+mod kinds;
+mod laws;
+mod message;
+mod request;
+mod span;
+#[cfg(test)]
+mod tests;
+mod value;
+mod writing;
+
+pub use bad::Bad;
+pub use laws::levels_suffice;
+use message::Message;
+use otlp_types::Request;
+use serde_json::Value;
+use std::alloc::{AllocError, Global};
+use writing::Written;
+
+/// The request that the bytes write: JSON in UTF-8, nesting at most 127 deep, read as the JSON encoding of OTLP 1.x
+/// says.
+///
+/// `Json` where the bytes are no such text, `Shape` where some field of the value has another shape than its kind.
+pub fn decode(alloc: Global, bytes: &[u8]) -> Result<Request, Bad>
+    ensures ok { IfOk result
+        (λ request. (d : Data) × IsJson bytes.now d × (request_of d ≡ Some request)) }
+    ensures json { IsErrOf result Bad.Json → (d : Data) → IsJson bytes.now d → ⊥ }
+    ensures shape { IsErrOf result Bad.Shape
+        → (d : Data) × IsJson bytes.now d × (request_of d ≡ None) }
+{
+    match Value::from_slice(alloc, bytes) {
+        Ok(value) => Request::read(alloc, kinds::object(&value)?),
+        Err(e) => if e.is_memory() {
+            Err(Bad::NoMemory)
+        } else {
+            Err(Bad::Json)
+        },
+    }
+}
+
+/// The canonical text of a request: no white space, the names of each object in order, and no field that has its
+/// default. `Err` only where memory was refused.
+///
+/// A request that nests at most 127 deep as JSON is read again from its text.
+pub fn encode(alloc: Global, request: &Request) -> Result<Vec<u8>, AllocError>
+    ensures text { IfOk result (λ bytes. bytes.items ≡ canonical_text request.now) }
+    ensures back { IfOk result (λ bytes. depth (data_of request.now) ≤ 127
+        → IsJson bytes.items (data_of request.now)
+        × (request_of (data_of request.now) ≡ Some request.now)) }
+{
+    Value::Object(request.write(alloc)?).to_vec(alloc)
+}

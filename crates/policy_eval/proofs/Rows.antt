@@ -1,0 +1,126 @@
+-- Worked rows of the policies' meaning, by computation.
+use Rattle.std.specs.Prelude.{ℕ, Bool, true, false, pos, List, [], ◌∷◌, ◌++◌, map, None, ◌≡◌, refl}
+use Rattle.policy_eval.specs.Policies.{Policy, Policies, no_more, one_more, Leaf, leaf, and_policy, rate_limiting, always_sample, latency, status_code, attribute, span_count, text_among, whole_within, truth_of, sample, not_sample, inverted_sample, inverted_not_sample, leaf_answer, is_slow, is_within, verdict, verdict_of_answers, asked_nodes, limiters}
+use Rattle.policy_eval.specs.Limiter.{Asking, grants}
+use Rattle.otlp_types.specs.declared.arrival.Arrival.{Arrival}
+use Rattle.otlp_types.specs.declared.value.AnyValue.{AnyValue}
+use Rattle.otlp_types.specs.declared.value.AnyValue.TheVariants.{Str, Int, Bool as Truth}
+use Rattle.otlp_types.specs.declared.value.KeyValue.{KeyValue}
+use Rattle.span_ids.specs.declared.outcome.Verdict.TheVariants.{Sampled as ForIt, NotSampled as AgainstIt}
+
+-- a span: its status code, start and end, its attributes and those of its resource
+abbrev arrival : (code start end : ℕ) → (own of_resource : List KeyValue) → Arrival
+arrival code start end own of_resource = record {
+  key = record { conn = record { lane = 0; ordinal = 0 }; number = 0 };
+  moment = 0;
+  rec = record {
+    resource = record { attributes = of_resource; dropped_attributes_count = 0 };
+    resource_schema_url = [];
+    scope = record { name = []; version = []; attributes = []; dropped_attributes_count = 0 };
+    scope_schema_url = [];
+    span = record {
+      ids = None;
+      trace_state = [];
+      flags = 0;
+      name = [];
+      kind = pos 0;
+      start_time_unix_nano = start;
+      end_time_unix_nano = end;
+      attributes = own;
+      dropped_attributes_count = 0;
+      events = [];
+      dropped_events_count = 0;
+      links = [];
+      dropped_links_count = 0;
+      status = record { message = []; code = pos code };
+    };
+  };
+}
+
+abbrev errors : Policies
+errors = one_more (leaf (status_code (pos 2 ∷ []))) no_more
+
+abbrev always : Policies
+always = one_more (leaf always_sample) no_more
+
+abbrev env : AnyValue → List KeyValue
+env value = record { key = 101 ∷ 110 ∷ 118 ∷ []; value = value } ∷ []
+
+abbrev dev : List ℕ
+dev = 100 ∷ 101 ∷ 118 ∷ []
+
+abbrev in_env : List ℕ → List Arrival
+in_env value = arrival 0 0 0 (env (Str value)) [] ∷ []
+
+-- an inverted match of `env` on `dev`
+abbrev not_dev : Policy
+not_dev = leaf (attribute (101 ∷ 110 ∷ 118 ∷ []) (text_among (dev ∷ [])) true)
+
+pub inverted_match_wins : verdict (one_more not_dev always) (λ n. true) (in_env dev) ≡ AgainstIt
+inverted_match_wins = refl
+
+pub and_with_inverted_part : verdict (one_more (and_policy (one_more (leaf always_sample) (one_more not_dev no_more))) always) (λ n. true) (in_env dev) ≡ ForIt
+and_with_inverted_part = refl
+
+pub inverted_match_alone : verdict (one_more not_dev no_more) (λ n. true) (in_env (112 ∷ [])) ≡ ForIt
+inverted_match_alone = refl
+
+pub inverted_match_beside_no_error : verdict (one_more not_dev errors) (λ n. true) (in_env (112 ∷ [])) ≡ AgainstIt
+inverted_match_beside_no_error = refl
+
+-- each pair of different answers
+pub answers_by_rank : map verdict_of_answers ((sample ∷ not_sample ∷ []) ∷ (sample ∷ inverted_sample ∷ []) ∷ (sample ∷ inverted_not_sample ∷ []) ∷ (inverted_sample ∷ inverted_not_sample ∷ []) ∷ (inverted_sample ∷ not_sample ∷ []) ∷ (inverted_sample ∷ []) ∷ (not_sample ∷ []) ∷ []) ≡ ForIt ∷ ForIt ∷ AgainstIt ∷ AgainstIt ∷ AgainstIt ∷ ForIt ∷ AgainstIt ∷ []
+answers_by_rank = refl
+
+pub times_at_the_top : verdict (one_more (leaf (latency 0 0)) no_more) (λ n. true) (arrival 0 18446744073709551615 0 [] [] ∷ []) ≡ ForIt
+times_at_the_top = refl
+
+pub times_at_the_top_with_an_upper_bound : verdict (one_more (leaf (latency 0 1)) no_more) (λ n. true) (arrival 0 18446744073709551615 0 [] [] ∷ []) ≡ AgainstIt
+times_at_the_top_with_an_upper_bound = refl
+
+-- from the earliest start to the latest end, in whole milliseconds
+pub latency_over_spans : map (λ (l : Leaf). leaf_answer l (arrival 0 1000000 2000000 [] [] ∷ arrival 0 3000000 500999999 [] [] ∷ [])) (latency 499 0 ∷ latency 500 0 ∷ []) ≡ sample ∷ not_sample ∷ []
+latency_over_spans = refl
+
+pub slow_bounds : map (is_slow 500 501) (500 ∷ 501 ∷ 502 ∷ []) ++ map (is_slow 500 0) (499 ∷ 500 ∷ []) ≡ false ∷ true ∷ false ∷ false ∷ true ∷ []
+slow_bounds = refl
+
+pub count_bounds : map (is_within 2 3) (1 ∷ 2 ∷ 3 ∷ 4 ∷ []) ++ map (is_within 2 0) (1 ∷ 9 ∷ []) ≡ false ∷ true ∷ true ∷ false ∷ false ∷ true ∷ []
+count_bounds = refl
+
+abbrev within : (least greatest : ℕ) → Leaf
+within least greatest = attribute (101 ∷ 110 ∷ 118 ∷ []) (whole_within (pos least) (pos greatest)) false
+
+pub whole_bounds : map (λ (l : Leaf). leaf_answer l (arrival 0 0 0 (env (Int (pos 5))) [] ∷ [])) (within 5 5 ∷ within 6 9 ∷ within 0 4 ∷ []) ≡ sample ∷ not_sample ∷ not_sample ∷ []
+whole_bounds = refl
+
+pub of_the_resource : leaf_answer (within 5 5) (arrival 0 0 0 [] (env (Int (pos 5))) ∷ []) ≡ sample
+of_the_resource = refl
+
+pub of_another_kind : leaf_answer (within 5 5) (arrival 0 0 0 (env (Str (53 ∷ []))) [] ∷ []) ≡ not_sample
+of_another_kind = refl
+
+pub truths : map (λ (b : Bool). leaf_answer (attribute (101 ∷ 110 ∷ 118 ∷ []) (truth_of b) false) (arrival 0 0 0 (env (Truth false)) [] ∷ [])) (false ∷ true ∷ []) ≡ sample ∷ not_sample ∷ []
+truths = refl
+
+-- an `and` asks no further after a no; a top policy is asked all the same
+abbrev no_then_rate : Policies
+no_then_rate = one_more (and_policy (one_more (leaf (span_count 2 0)) (one_more (rate_limiting 3) no_more))) (one_more (rate_limiting 4) no_more)
+
+pub asks_no_further : asked_nodes no_then_rate (λ n. true) (arrival 0 0 0 [] [] ∷ []) ≡ 3 ∷ []
+asks_no_further = refl
+
+pub limiter_nodes : limiters no_then_rate ≡ (2, 3) ∷ (3, 4) ∷ []
+limiter_nodes = refl
+
+-- the askings of one limiter node, each with its answer
+abbrev asks : (limit : ℕ) → List (ℕ × ℕ) → (earlier : List Asking) → List Bool
+asks limit [] earlier = []
+asks limit (a ∷ rest) earlier = let g = grants limit earlier a.0 a.1 in g ∷ asks limit rest (record { node = 0; second = a.0; spans = a.1; granted = g } ∷ earlier)
+
+pub askings_of_one_node : asks 3 ((5, 2) ∷ (4, 2) ∷ (4, 1) ∷ (6, 3) ∷ (5, 1) ∷ []) [] ≡ true ∷ false ∷ true ∷ true ∷ false ∷ []
+askings_of_one_node = refl
+
+-- a refused asking takes nothing from its second
+pub refused_asking : grants 3 (record { node = 0; second = 5; spans = 9; granted = false } ∷ []) 5 3 ≡ true
+refused_asking = refl

@@ -1,0 +1,218 @@
+-- What policies mean on the spans of a trace (tailsamplingprocessor README, "Policies").
+use Rattle.std.specs.Prelude.{ℕ, ◌+◌, ◌-◌, ◌/◌, min, max, ℤ, Bool, true, false, not, ◌&&◌, ◌||◌, if◌then◌else◌, ◌==◌, nat_lt, nat_le, List, [], ◌∷◌, ◌++◌, length, bytes_eq, int_le}
+use Rattle.std.specs.List.{list_any}
+use Rattle.std.specs.Ordering.{int_eq}
+use Rattle.otlp_types.specs.declared.arrival.Arrival.{Arrival}
+use Rattle.otlp_types.specs.declared.value.AnyValue.{AnyValue}
+use Rattle.otlp_types.specs.declared.value.AnyValue.TheVariants.{Str, Int, Bool as Truth}
+use Rattle.otlp_types.specs.declared.value.KeyValue.{KeyValue}
+use Rattle.span_ids.specs.declared.outcome.Verdict.{Verdict}
+use Rattle.span_ids.specs.declared.outcome.Verdict.TheVariants.{Sampled, NotSampled}
+
+-- what an attribute's value is to be
+pub data Wanted : Type 0 where
+  text_among : List (List ℕ) → Wanted
+  whole_within : (least greatest : ℤ) → Wanted
+  truth_of : Bool → Wanted
+
+-- a policy that has no parts and asks no limiter; times are milliseconds, and an upper bound of 0 is none
+pub data Leaf : Type 0 where
+  always_sample : Leaf
+  latency : (threshold_ms upper_threshold_ms : ℕ) → Leaf
+  status_code : (codes : List ℤ) → Leaf
+  attribute : (key : List ℕ) (wanted : Wanted) (invert_match : Bool) → Leaf
+  span_count : (min_spans max_spans : ℕ) → Leaf
+
+-- a policy, and a list of policies
+mutual
+  -- a policy without its name
+  pub data Policy : Type 0 where
+    leaf : Leaf → Policy
+    rate_limiting : (spans_per_second : ℕ) → Policy
+    and_policy : Policies → Policy
+
+  -- the policies of one list, in order
+  pub data Policies : Type 0 where
+    no_more : Policies
+    one_more : Policy → Policies → Policies
+
+-- what a policy answers for the spans of a trace
+pub data Answer : Type 0 where
+  sample : Answer
+  not_sample : Answer
+  inverted_sample : Answer
+  inverted_not_sample : Answer
+
+-- ---- leaves
+
+-- the latest end of the spans, in nanoseconds
+abbrev pub latest_end : List Arrival → ℕ
+latest_end [] = 0
+latest_end (a ∷ rest) = max a.rec.span.end_time_unix_nano (latest_end rest)
+
+-- the least of a start and those of the spans
+abbrev pub earliest_with : ℕ → List Arrival → ℕ
+earliest_with start [] = start
+earliest_with start (a ∷ rest) = min a.rec.span.start_time_unix_nano (earliest_with start rest)
+
+-- the earliest start of the spans, in nanoseconds
+abbrev pub earliest_start : List Arrival → ℕ
+earliest_start [] = 0
+earliest_start (a ∷ rest) = earliest_with a.rec.span.start_time_unix_nano rest
+
+-- whole milliseconds from the earliest start to the latest end, 0 where that ends before
+abbrev pub duration_ms : List Arrival → ℕ
+duration_ms spans = (latest_end spans - earliest_start spans) / 1000000
+
+-- a latency within its bounds: from the threshold on, or above it and up to the upper one
+abbrev pub is_slow : (threshold upper : ℕ) → ℕ → Bool
+is_slow threshold upper d = if upper == 0 then nat_le threshold d else nat_lt threshold d && nat_le d upper
+
+-- a number within its bounds, both included
+abbrev pub is_within : (least most : ℕ) → ℕ → Bool
+is_within least most n = nat_le least n && (most == 0 || nat_le n most)
+
+-- a text is one of the values
+abbrev pub is_among : List (List ℕ) → List ℕ → Bool
+is_among values text = list_any (λ v. bytes_eq v text) values
+
+-- the value of an attribute is of the wanted kind, and as it is wanted
+abbrev pub is_wanted : Wanted → AnyValue → Bool
+is_wanted (text_among values) (Str t) = is_among values t
+is_wanted (whole_within least greatest) (Int n) = int_le least n && int_le n greatest
+is_wanted (truth_of true) (Truth b) = b
+is_wanted (truth_of false) (Truth b) = not b
+is_wanted _ _ = false
+
+-- some attribute of that key has a wanted value
+abbrev pub has_wanted : (key : List ℕ) → Wanted → List KeyValue → Bool
+has_wanted key wanted attributes = list_any (λ (a : KeyValue). bytes_eq a.key key && is_wanted wanted a.value) attributes
+
+-- some span, or its resource, has such an attribute
+abbrev pub matches : (key : List ℕ) → Wanted → List Arrival → Bool
+matches key wanted spans = list_any (λ (a : Arrival). has_wanted key wanted a.rec.span.attributes || has_wanted key wanted a.rec.resource.attributes) spans
+
+-- some span has one of the status codes
+abbrev pub has_status : List ℤ → List Arrival → Bool
+has_status codes spans = list_any (λ (a : Arrival). list_any (λ c. int_eq c a.rec.span.status.code) codes) spans
+
+-- without `invert_match`
+abbrev pub plain : Bool → Answer
+plain holds = if holds then sample else not_sample
+
+-- with `invert_match`: not to sample where it matches
+abbrev pub inverted : Bool → Answer
+inverted holds = if holds then inverted_not_sample else inverted_sample
+
+-- the answer of a leaf
+abbrev pub leaf_answer : Leaf → List Arrival → Answer
+leaf_answer always_sample spans = sample
+leaf_answer (latency threshold upper) spans = plain (is_slow threshold upper (duration_ms spans))
+leaf_answer (status_code codes) spans = plain (has_status codes spans)
+leaf_answer (attribute key wanted invert) spans = if invert then inverted (matches key wanted spans) else plain (matches key wanted spans)
+leaf_answer (span_count least most) spans = plain (is_within least most (length spans))
+
+-- ---- nodes: a node's number is its place in the walk that takes a policy before its parts
+
+abbrev mutual
+  -- how many policies there are in this one, itself too
+  pub nodes : Policy → ℕ
+  nodes (leaf l) = 1
+  nodes (rate_limiting limit) = 1
+  nodes (and_policy parts) = nodes_in parts + 1
+
+  -- how many policies there are in all of these
+  pub nodes_in : Policies → ℕ
+  nodes_in no_more = 0
+  nodes_in (one_more p rest) = nodes p + nodes_in rest
+
+-- ---- answers: `granted` is the limiter's answer at each node
+
+-- an answer for the trace
+abbrev pub samples : Answer → Bool
+samples sample = true
+samples inverted_sample = true
+samples not_sample = false
+samples inverted_not_sample = false
+
+abbrev mutual
+  -- the answer of the policy with this number
+  pub answer : Policy → (node : ℕ) → (granted : ℕ → Bool) → List Arrival → Answer
+  answer (leaf l) node granted spans = leaf_answer l spans
+  answer (rate_limiting limit) node granted spans = plain (granted node)
+  answer (and_policy parts) node granted spans = plain (each_samples parts (node + 1) granted spans)
+
+  -- every part answers sample or inverted sample
+  pub each_samples : Policies → (node : ℕ) → (granted : ℕ → Bool) → List Arrival → Bool
+  each_samples no_more node granted spans = true
+  each_samples (one_more p rest) node granted spans = samples (answer p node granted spans) && each_samples rest (node + nodes p) granted spans
+
+abbrev mutual
+  -- the limiter nodes that are asked where the policy is asked
+  pub asked : Policy → (node : ℕ) → (granted : ℕ → Bool) → List Arrival → List ℕ
+  asked (leaf l) node granted spans = []
+  asked (rate_limiting limit) node granted spans = node ∷ []
+  asked (and_policy parts) node granted spans = asked_in_turn parts (node + 1) granted spans
+
+  -- the parts of an `and`: no further one is asked once one doesn't sample
+  pub asked_in_turn : Policies → (node : ℕ) → (granted : ℕ → Bool) → List Arrival → List ℕ
+  asked_in_turn no_more node granted spans = []
+  asked_in_turn (one_more p rest) node granted spans = asked p node granted spans ++ (if samples (answer p node granted spans) then asked_in_turn rest (node + nodes p) granted spans else [])
+
+-- ---- the top policies: each is asked, in order
+
+-- the answers of the top policies, in order
+abbrev pub answers : Policies → (node : ℕ) → (granted : ℕ → Bool) → List Arrival → List Answer
+answers no_more node granted spans = []
+answers (one_more p rest) node granted spans = answer p node granted spans ∷ answers rest (node + nodes p) granted spans
+
+-- the limiter nodes that they ask, in the walk's order
+abbrev pub asked_at_top : Policies → (node : ℕ) → (granted : ℕ → Bool) → List Arrival → List ℕ
+asked_at_top no_more node granted spans = []
+asked_at_top (one_more p rest) node granted spans = asked p node granted spans ++ asked_at_top rest (node + nodes p) granted spans
+
+-- two answers are the same
+abbrev pub is_same_answer : Answer → Answer → Bool
+is_same_answer sample sample = true
+is_same_answer not_sample not_sample = true
+is_same_answer inverted_sample inverted_sample = true
+is_same_answer inverted_not_sample inverted_not_sample = true
+is_same_answer _ _ = false
+
+-- one of the answers is this one
+abbrev pub has_answer : Answer → List Answer → Bool
+has_answer one all = list_any (is_same_answer one) all
+
+-- an inverted not-sample decides against; else a sample decides for; else an inverted sample with no not-sample does
+abbrev pub verdict_of_answers : List Answer → Verdict
+verdict_of_answers all =
+    if has_answer inverted_not_sample all then NotSampled
+    else if has_answer sample all then Sampled
+    else if has_answer inverted_sample all && not (has_answer not_sample all) then Sampled
+    else NotSampled
+
+-- the verdict of the policies on these spans, where the limiter answers so
+abbrev pub verdict : Policies → (granted : ℕ → Bool) → List Arrival → Verdict
+verdict policies granted spans = verdict_of_answers (answers policies 0 granted spans)
+
+-- the limiter nodes that such a decision asks, in the walk's order
+abbrev pub asked_nodes : Policies → (granted : ℕ → Bool) → List Arrival → List ℕ
+asked_nodes policies granted spans = asked_at_top policies 0 granted spans
+
+-- ---- limits
+
+abbrev mutual
+  -- the limiter nodes of a policy with their limits, in spans per second
+  pub limits : Policy → (node : ℕ) → List (ℕ × ℕ)
+  limits (leaf l) node = []
+  limits (rate_limiting limit) node = (node, limit) ∷ []
+  limits (and_policy parts) node = limits_in parts (node + 1)
+
+  -- those of all of these
+  pub limits_in : Policies → (node : ℕ) → List (ℕ × ℕ)
+  limits_in no_more node = []
+  limits_in (one_more p rest) node = limits p node ++ limits_in rest (node + nodes p)
+
+-- the limiter nodes with their limits
+abbrev pub limiters : Policies → List (ℕ × ℕ)
+limiters policies = limits_in policies 0

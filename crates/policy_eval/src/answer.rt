@@ -1,0 +1,88 @@
+ghost use Rattle.std.specs.Prelude.{◌≡◌};
+ghost use Rattle.policy_eval.specs.Policies.{plain, inverted};
+ghost use Rattle.policy_eval.specs.Meaning.{answer_of, seen_with, verdict_of_seen};
+
+use span_ids::Verdict;
+
+/// What a policy answers for the spans of a trace.
+#[derive(Clone, Copy, Debug, PartialEq, Eq)]
+pub enum Answer {
+    Sample,
+    NotSample,
+    /// An inverted match doesn't match.
+    InvertedSample,
+    /// An inverted match matches.
+    InvertedNotSample,
+}
+
+impl Answer {
+    /// The answer of a policy that isn't inverted.
+    pub fn plain(holds: bool) -> Answer
+        ensures { result ≡ answer_of (plain holds) }
+    {
+        if holds {
+            Answer::Sample
+        } else {
+            Answer::NotSample
+        }
+    }
+
+    /// The answer of a policy with `invert_match`.
+    pub fn inverted(holds: bool) -> Answer
+        ensures { result ≡ answer_of (inverted holds) }
+    {
+        if holds {
+            Answer::InvertedNotSample
+        } else {
+            Answer::InvertedSample
+        }
+    }
+}
+
+/// Which answers the policies gave.
+#[derive(Clone, Copy)]
+pub struct Seen {
+    pub sample: bool,
+    pub not_sample: bool,
+    pub inverted_sample: bool,
+    pub inverted_not_sample: bool,
+}
+
+impl Seen {
+    /// These answers, and one more.
+    pub fn with(self, answer: Answer) -> Seen
+        ensures { result ≡ seen_with answer self }
+    {
+        match answer {
+            Answer::Sample => Seen {
+                sample: true,
+                ..self
+            },
+            Answer::NotSample => Seen {
+                not_sample: true,
+                ..self
+            },
+            Answer::InvertedSample => Seen {
+                inverted_sample: true,
+                ..self
+            },
+            Answer::InvertedNotSample => Seen {
+                inverted_not_sample: true,
+                ..self
+            },
+        }
+    }
+
+    /// The verdict by these answers.
+    pub fn verdict(self) -> Verdict
+        ensures { result ≡ verdict_of_seen self }
+    {
+        if self.inverted_not_sample {
+            Verdict::NotSampled
+        } else if self.sample || self.inverted_sample && !self.not_sample {
+            Verdict::Sampled
+        } else {
+            Verdict::NotSampled
+        }
+    }
+}

@@ -1,0 +1,38 @@
+ghost use Rattle.std.specs.Prelude.{◌≡◌};
+ghost use Rattle.policy_tree.specs.Faults.{number_of};
+
+/// Why a list of policies is refused. Its number, from 1 to 7, orders the faults: the least that holds is answered.
+#[derive(Clone, Copy, Debug, PartialEq, Eq)]
+pub enum PolicyFault {
+    /// 1: a list of policies is empty.
+    EmptyList,
+    /// 2: policies are nested deeper than 8. A top policy has depth 1.
+    TooDeep,
+    /// 3: there are more than 64 policies in all.
+    TooMany,
+    /// 4: two policies of one list have the same name.
+    SameName,
+    /// 5: a least bound is above its greatest one.
+    CrossedBounds,
+    /// 6: the values or status codes of a policy are an empty list.
+    NoValues,
+    /// 7: memory was refused.
+    NoMemory,
+}
+
+impl PolicyFault {
+    /// The number of the fault, from 1 to 7.
+    pub fn number(self) -> u8
+        ensures { result ≡ number_of self }
+    {
+        match self {
+            PolicyFault::EmptyList => 1,
+            PolicyFault::TooDeep => 2,
+            PolicyFault::TooMany => 3,
+            PolicyFault::SameName => 4,
+            PolicyFault::CrossedBounds => 5,
+            PolicyFault::NoValues => 6,
+            PolicyFault::NoMemory => 7,
+        }
+    }
+}

@@ -1,0 +1,121 @@
+//! Lists of policies that are taken, and one for each fault that a list without parts may have.
+use crate::fault::PolicyFault;
+use crate::policies::Policies;
+use crate::policy::{Policy, PolicyKind, Wanted};
+use otlp_types::{List, Text, TryClone};
+use std::alloc::{AllocError, Global};
+use std::test::Fail;
+
+/// Policies on so many status codes; those after the first `named` have one name.
+fn list_of(alloc: Global, count: u32, named: u32, codes: usize) -> Result<Vec<Policy>, AllocError> {
+    let mut list = Vec::new(alloc);
+    for i in 0..count {
+        let name = format!(in alloc; "{}", i.min(named))?;
+        let kind = PolicyKind::StatusCode {
+            codes: List::from_vec(vec![in alloc; 2; codes]?),
+        };
+        list.push(Policy {
+            name: Text::from_string(name),
+            kind,
+        })?;
+    }
+    Ok(list)
+}
+
+#[test]
+fn policy_limits(rt: HostRuntime) -> Result<(), Fail> {
+    let alloc = rt.alloc();
+    let cases: [(u32, u32, usize, Option<u8>); 7] = [
+        (0, 0, 1, Some(1)),
+        (1, 1, 1, None),
+        (64, 64, 2, None),
+        (65, 64, 1, Some(3)),
+        (65, 0, 0, Some(3)),
+        (2, 0, 0, Some(4)),
+        (2, 2, 0, Some(6)),
+    ];
+    for (count, named, codes, number) in cases {
+        let made = Policies::new(alloc, list_of(alloc, count, named, codes)?);
+        assert_eq!(rt;
+            made.err().map(PolicyFault::number),
+            number,
+            "{count} policies"
+        );
+    }
+    Ok(())
+}
+
+#[test]
+fn copies_are_made(rt: HostRuntime) -> Result<(), Fail> {
+    let alloc = rt.alloc();
+    let policies = Policies::new(alloc, list_of(alloc, 3, 3, 2)?)?;
+    assert_eq!(rt; policies.try_clone(alloc)?.as_slice().len(), 3);
+    Ok(())
+}
+
+/// The number of the fault of a list of one policy of this kind.
+fn fault_of(alloc: Global, kind: PolicyKind) -> Result<Option<u8>, AllocError> {
+    let policy = Policy {
+        name: Text::new(alloc),
+        kind,
+    };
+    let made = Policies::new(alloc, vec![in alloc; policy]?);
+    Ok(made.err().map(PolicyFault::number))
+}
+
+#[test]
+fn policy_bounds(rt: HostRuntime) -> Result<(), Fail> {
+    let alloc = rt.alloc();
+    for (least, most, of_latency, of_count) in [
+        (500, 500, Some(5), None),
+        (500, 499, Some(5), Some(5)),
+        (500, 0, None, None),
+        (0, 1, None, None),
+    ] {
+        let latency = PolicyKind::Latency {
+            threshold_ms: least,
+            upper_threshold_ms: most,
+        };
+        let count = PolicyKind::SpanCount {
+            min_spans: least,
+            max_spans: most,
+        };
+        assert_eq!(rt;
+            fault_of(alloc, latency)?,
+            of_latency,
+            "latency {least} to {most}"
+        );
+        assert_eq!(rt;
+            fault_of(alloc, count)?,
+            of_count,
+            "count {least} to {most}"
+        );
+    }
+    let attributes = [
+        (
+            Wanted::NumberWithin {
+                min_value: 1,
+                max_value: 0,
+            },
+            Some(5),
+        ),
+        (
+            Wanted::NumberWithin {
+                min_value: -1,
+                max_value: -1,
+            },
+            None,
+        ),
+        (Wanted::StringAmong(List::new(alloc)), Some(6)),
+        (Wanted::Boolean(false), None),
+    ];
+    for (wanted, number) in attributes {
+        let kind = PolicyKind::Attribute {
+            key: Text::new(alloc),
+            wanted,
+            invert_match: false,
+        };
+        assert_eq!(rt; fault_of(alloc, kind)?, number);
+    }
+    Ok(())
+}

@@ -1,0 +1,222 @@
+-- What the answers of a shard hand over and count is what the definitions release and count.
+use Rattle.std.proofs.Common.{◌≡◌, ℕ, zero, suc, ◌+◌, ◌<◌, Bool, true, false, cond, List, [], ◌∷◌, ◌++◌, map, length, take, drop, Option, Some, None, refl, sym, ap, subst, ◌∙◌, arith, append-nil, append_assoc, add-one, length-append}
+use Rattle.std.specs.List.{filter}
+use Rattle.std.proofs.lemmas.List.{map-append}
+use Rattle.std.proofs.lemmas.List.Elements.{filter-append}
+use Rattle.shard_core.specs.Journal.{Entry, Settings, Journal, Decision, Notes, Finding, joins, meets, opens, notes, finding, due_now, decisions_now, has_finished}
+use Rattle.shard_core.specs.Fate.{DroppedSpan, Effect, counts, under, is_same_reason, effect, effect_dealt, effect_of_taking, effect_of_item, effect_of_span, effect_of_finding, effect_of_verdict, effect_of_decision, effect_of_decisions, released_dealt, dropped_dealt}
+use Rattle.shard_core.specs.Held.{Held, settings, settings_of, StandsFor, has_due, is_due_in}
+use Rattle.shard_core.specs.Taking.{entry, answer_to, answer_to_ids, answer_to_item, answer_to_finding, released_by, dropped_by, released_in, dropped_in, dealt_after, Releases, Decides, DecidesFirst}
+use Rattle.shard_core.specs.declared.answer.Taken.{Taken}
+use Rattle.shard_core.specs.declared.answer.Taken.TheVariants.{Ended, Finished}
+use Rattle.shard_core.specs.declared.answer.Decided.{Decided}
+use Rattle.shard_core.specs.declared.answer.Decided.TheVariants.{Release, Nothing, Dropped as NotReleased}
+use Rattle.otlp_types.specs.declared.span.Ids.{Ids}
+use Rattle.otlp_types.specs.declared.arrival.Arrival.{Arrival}
+use Rattle.otlp_types.specs.declared.arrival.Item.{Item}
+use Rattle.otlp_types.specs.declared.arrival.Item.TheVariants.{Span, Tick, End}
+use Rattle.span_ids.specs.declared.outcome.Reason.{Reason}
+use Rattle.span_ids.specs.declared.outcome.Reason.TheVariants.{NoMemory, LateNotSampled, NotSampled as NotSampledReason}
+use Rattle.span_ids.specs.declared.outcome.Verdict.{Verdict}
+use Rattle.span_ids.specs.declared.outcome.Verdict.TheVariants.{Sampled, NotSampled}
+use Rattle.policy_tree.specs.declared.policy.Policy.{Policy}
+use Rattle.shard_core.proofs.Lists.{find-from_any}
+use Rattle.shard_core.proofs.Journals.{nothing_left, turn-done, due_list}
+
+-- ---- how many are counted
+
+abbrev pub number : Reason → List DroppedSpan → ℕ
+number reason counted = length (under reason counted)
+
+number-append : (reason : Reason) (xs ys : List DroppedSpan) → number reason (xs ++ ys) ≡ number reason xs + number reason ys
+number-append reason xs ys =
+    let p = λ (c : DroppedSpan). is_same_reason c.reason reason in
+    ap (λ (cs : List DroppedSpan). length (map (λ (c : DroppedSpan). c.key) cs)) (filter-append p xs ys)
+    ∙ ap length (map-append (λ (c : DroppedSpan). c.key) (filter p xs) (filter p ys))
+    ∙ length-append (under reason xs) (under reason ys)
+
+number-counts : (reason r : Reason) (b : Bool) → is_same_reason r reason ≡ b → (spans : List Arrival) → number reason (counts r spans) ≡ cond b (length spans) 0
+number-counts reason r true h [] = refl
+number-counts reason r false h [] = refl
+number-counts reason r true h (a ∷ spans) = rw h (ap suc (number-counts reason r true h spans))
+number-counts reason r false h (a ∷ spans) = rw h (number-counts reason r false h spans)
+
+-- ---- an item
+
+module _ (policies : List Policy) (wait senders : ℕ) where
+  abbrev s : Settings
+  s = settings_of policies wait senders
+
+  found-released : (a : Arrival) (before : Journal) (noted : Notes) (f : Finding) → (effect_of_finding s before noted a f).released ≡ released_by (answer_to_finding a f)
+  found-released a before noted (joins o) = refl
+  found-released a before noted (meets o Sampled) = refl
+  found-released a before noted (meets o NotSampled) = refl
+  found-released a before noted opens = refl
+
+  found-dropped : (reason : Reason) (a : Arrival) (before : Journal) (noted : Notes) (f : Finding) → number reason (effect_of_finding s before noted a f).counted ≡ dropped_by reason (answer_to_finding a f)
+  found-dropped reason a before noted (joins o) = refl
+  found-dropped reason a before noted (meets o Sampled) = refl
+  found-dropped reason a before noted (meets o NotSampled) = number-counts reason LateNotSampled (is_same_reason LateNotSampled reason) refl (a ∷ [])
+  found-dropped reason a before noted opens = refl
+
+  ids-released : (refused : Bool) (a : Arrival) (before : Journal) (ids : Option Ids) → (effect_of_span s before refused a ids).released ≡ released_by (answer_to_ids s refused before a ids)
+  ids-released refused a before None = refl
+  ids-released true a before (Some ids) = refl
+  ids-released false a before (Some ids) = found-released a before (notes s before) (finding s (notes s before) ids.trace)
+
+  ids-dropped : (reason : Reason) (refused : Bool) (a : Arrival) (before : Journal) (ids : Option Ids) → number reason (effect_of_span s before refused a ids).counted ≡ dropped_by reason (answer_to_ids s refused before a ids)
+  ids-dropped reason refused a before None = refl
+  ids-dropped reason true a before (Some ids) = number-counts reason NoMemory (is_same_reason NoMemory reason) refl (a ∷ [])
+  ids-dropped reason false a before (Some ids) = found-dropped reason a before (notes s before) (finding s (notes s before) ids.trace)
+
+  ended-released : (b : Bool) → [] ≡ released_by (cond b Finished Ended)
+  ended-released true = refl
+  ended-released false = refl
+
+  ended-dropped : (reason : Reason) (b : Bool) → 0 ≡ dropped_by reason (cond b Finished Ended)
+  ended-dropped reason true = refl
+  ended-dropped reason false = refl
+
+  item-released : (e : Entry) (before : Journal) (item : Item) → (effect_of_item s before e.refused item).released ≡ released_by (answer_to_item s e before item)
+  item-released e before (Span a) = ids-released e.refused a before a.rec.span.ids
+  item-released e before (Tick m) = refl
+  item-released e before (End sender) = ended-released (has_finished s e before)
+
+  item-dropped : (reason : Reason) (e : Entry) (before : Journal) (item : Item) → number reason (effect_of_item s before e.refused item).counted ≡ dropped_by reason (answer_to_item s e before item)
+  item-dropped reason e before (Span a) = ids-dropped reason e.refused a before a.rec.span.ids
+  item-dropped reason e before (Tick m) = refl
+  item-dropped reason e before (End sender) = ended-dropped reason (has_finished s e before)
+
+  -- where each decision was dealt with, all has been done
+  dealt-effect : (past : Journal) (k : ℕ) → drop k (due_now s past) ≡ [] → effect_dealt s past k ≡ effect s past
+  dealt-effect [] k h = refl
+  dealt-effect (e ∷ before) k h =
+      let t = turn-done policies wait senders (e ∷ before) k (due_list policies wait senders e before) (notes s before).decisions h in
+      let done = λ (ds : List Decision). let x : Effect = record { released = ((effect s before).released ++ (effect_of_taking s e before).released) ++ (effect_of_decisions ds).released; counted = ((effect s before).counted ++ (effect_of_taking s e before).counted) ++ (effect_of_decisions ds).counted } in x in
+      ap done t.1
+
+-- a shard in which nothing is due has dealt with each decision
+pub all_dealt : (h : Held) (past : Journal) (k : ℕ) → 0 < h.wait → has_due h ≡ false → StandsFor h past k → effect_dealt (settings h) past k ≡ effect (settings h) past
+all_dealt h past k w d t =
+    let senders = length h.standing.ends in
+    dealt-effect h.policies h.wait senders past k (nothing_left h.policies h.wait senders past k h.standing w t.0 t.1 (find-from_any (is_due_in h) h.standing.episodes d))
+
+pub take_released : (h : Held) (item : Item) (answer : Taken) (past : Journal) (k : ℕ) → 0 < h.wait → has_due h ≡ false → StandsFor h past k → answer ≡ answer_to (settings h) (entry item answer) past →
+    released_dealt (settings h) (entry item answer ∷ past) 0 ≡ released_dealt (settings h) past k ++ released_by answer
+take_released h item answer past k w d t a =
+    let x = effect (settings h) past in
+    let own = item-released h.policies h.wait (length h.standing.ends) (entry item answer) past item ∙ ap released_by (sym a) in
+    append-nil (x.released ++ (effect_of_taking (settings h) (entry item answer) past).released)
+    ∙ ap (λ more. x.released ++ more) own
+    ∙ ap (λ (y : Effect). y.released ++ released_by answer) (sym (all_dealt h past k w d t))
+
+pub take_dropped : (h : Held) (item : Item) (answer : Taken) (past : Journal) (k : ℕ) (reason : Reason) → 0 < h.wait → has_due h ≡ false → StandsFor h past k → answer ≡ answer_to (settings h) (entry item answer) past →
+    dropped_dealt (settings h) (entry item answer ∷ past) 0 reason ≡ dropped_dealt (settings h) past k reason + dropped_by reason answer
+take_dropped h item answer past k reason w d t a =
+    let x = effect (settings h) past in
+    let y = effect_of_taking (settings h) (entry item answer) past in
+    let own = item-dropped h.policies h.wait (length h.standing.ends) reason (entry item answer) past item ∙ ap (dropped_by reason) (sym a) in
+    ap (number reason) (append-nil (x.counted ++ y.counted))
+    ∙ number-append reason x.counted y.counted
+    ∙ ap (λ n. number reason x.counted + n) own
+    ∙ ap (λ (y : Effect). number reason y.counted + dropped_by reason answer) (sym (all_dealt h past k w d t))
+
+-- ---- a decision
+
+releases-released : (answer : Decided) (spans : List Arrival) (v : Verdict) → Releases answer spans v → (effect_of_verdict NotSampledReason spans v).released ≡ released_in answer
+releases-released (Release xs) spans Sampled r = sym r
+releases-released (Release xs) spans NotSampled r = absurd r
+releases-released (NotReleased n) spans Sampled r = absurd r
+releases-released (NotReleased n) spans NotSampled r = refl
+releases-released Nothing spans v r = absurd r
+
+releases-dropped : (reason : Reason) (answer : Decided) (spans : List Arrival) (v : Verdict) → Releases answer spans v → number reason (effect_of_verdict NotSampledReason spans v).counted ≡ dropped_in reason answer
+releases-dropped reason (Release xs) spans Sampled r = refl
+releases-dropped reason (Release xs) spans NotSampled r = absurd r
+releases-dropped reason (NotReleased n) spans Sampled r = absurd r
+releases-dropped reason (NotReleased n) spans NotSampled r = number-counts reason NotSampledReason (is_same_reason NotSampledReason reason) refl spans ∙ ap (λ k. cond (is_same_reason NotSampledReason reason) k 0) (sym r)
+releases-dropped reason Nothing spans v r = absurd r
+
+releases-after : (answer : Decided) (spans : List Arrival) (v : Verdict) (k : ℕ) → Releases answer spans v → k + 1 ≡ dealt_after answer k
+releases-after (Release xs) spans v k r = refl
+releases-after (NotReleased n) spans v k r = refl
+releases-after Nothing spans v k r = absurd r
+
+take-more : (k : ℕ) (ds : List Decision) (d : Decision) (later : List Decision) → drop k ds ≡ d ∷ later → take (suc k) ds ≡ take k ds ++ d ∷ []
+take-more zero [] d later h = cc
+take-more (suc k) [] d later h = cc
+take-more zero (x ∷ ds) d later h = let same : x ≡ d = cc in ap (λ y. y ∷ []) same
+take-more (suc k) (x ∷ ds) d later h = ap (λ ys. x ∷ ys) (take-more k ds d later h)
+
+push-released : (ds : List Decision) (d : Decision) → (effect_of_decisions (ds ++ d ∷ [])).released ≡ (effect_of_decisions ds).released ++ (effect_of_decision d).released
+push-released [] d = append-nil (effect_of_decision d).released
+push-released (x ∷ ds) d = ap (λ ys. (effect_of_decision x).released ++ ys) (push-released ds d) ∙ sym (append_assoc (effect_of_decision x).released (effect_of_decisions ds).released (effect_of_decision d).released)
+
+push-counted : (ds : List Decision) (d : Decision) → (effect_of_decisions (ds ++ d ∷ [])).counted ≡ (effect_of_decisions ds).counted ++ (effect_of_decision d).counted
+push-counted [] d = append-nil (effect_of_decision d).counted
+push-counted (x ∷ ds) d = ap (λ ys. (effect_of_decision x).counted ++ ys) (push-counted ds d) ∙ sym (append_assoc (effect_of_decision x).counted (effect_of_decisions ds).counted (effect_of_decision d).counted)
+
+dropped-nil : (k : ℕ) (d : Decision) (later : List Decision) → drop k [] ≡ d ∷ later → ⊥
+dropped-nil zero d later h = cc
+dropped-nil (suc k) d later h = cc
+
+-- one more decision is dealt with
+more-released : (s : Settings) (past : Journal) (k : ℕ) (d : Decision) (later : List Decision) → drop k (decisions_now s past) ≡ d ∷ later → released_dealt s past (suc k) ≡ released_dealt s past k ++ (effect_of_decision d).released
+more-released s [] k d later h = absurd (dropped-nil k d later h)
+more-released s (e ∷ before) k d later h =
+    let ds = decisions_now s (e ∷ before) in
+    let before_all = (effect s before).released ++ (effect_of_taking s e before).released in
+    ap (λ (xs : List Decision). before_all ++ (effect_of_decisions xs).released) (take-more k ds d later h)
+    ∙ ap (λ ys. before_all ++ ys) (push-released (take k ds) d)
+    ∙ sym (append_assoc before_all (effect_of_decisions (take k ds)).released (effect_of_decision d).released)
+
+more-dropped : (s : Settings) (past : Journal) (k : ℕ) (d : Decision) (later : List Decision) (reason : Reason) → drop k (decisions_now s past) ≡ d ∷ later → dropped_dealt s past (suc k) reason ≡ dropped_dealt s past k reason + number reason (effect_of_decision d).counted
+more-dropped s [] k d later reason h = absurd (dropped-nil k d later h)
+more-dropped s (e ∷ before) k d later reason h =
+    let ds = decisions_now s (e ∷ before) in
+    let before_all = (effect s before).counted ++ (effect_of_taking s e before).counted in
+    ap (number reason) (ap (λ (xs : List Decision). before_all ++ (effect_of_decisions xs).counted) (take-more k ds d later h)
+    ∙ ap (λ ys. before_all ++ ys) (push-counted (take k ds) d)
+    ∙ sym (append_assoc before_all (effect_of_decisions (take k ds)).counted (effect_of_decision d).counted))
+    ∙ number-append reason (before_all ++ (effect_of_decisions (take k ds)).counted) (effect_of_decision d).counted
+
+released-first : (old new : Held) (answer : Decided) (past : Journal) (k : ℕ) (ds : List Decision) → drop k (decisions_now (settings old) past) ≡ ds → DecidesFirst old new answer past k ds →
+    released_dealt (settings old) past (dealt_after answer k) ≡ released_dealt (settings old) past k ++ released_in answer
+released-first old new answer past k [] e d =
+    let P = λ (x : Decided). released_dealt (settings old) past (dealt_after x k) ≡ released_dealt (settings old) past k ++ released_in x in
+    subst P (sym d.0) (sym (append-nil (released_dealt (settings old) past k)))
+released-first old new answer past k (x ∷ later) e d =
+    ap (released_dealt (settings old) past) (sym (releases-after answer x.spans x.verdict k d.0) ∙ add-one k)
+    ∙ more-released (settings old) past k x later e
+    ∙ ap (λ ys. released_dealt (settings old) past k ++ ys) (releases-released answer x.spans x.verdict d.0)
+
+pub decide_released : (old new : Held) (answer : Decided) (past : Journal) (k : ℕ) → Decides old new answer past k →
+    released_dealt (settings old) past (dealt_after answer k) ≡ released_dealt (settings old) past k ++ released_in answer
+decide_released old new answer past k d = released-first old new answer past k (drop k (decisions_now (settings old) past)) refl d
+
+zero-more : (n : ℕ) → n ≡ n + 0
+zero-more n = omega arith
+
+dropped-first : (old new : Held) (answer : Decided) (past : Journal) (k : ℕ) (reason : Reason) (ds : List Decision) → drop k (decisions_now (settings old) past) ≡ ds → DecidesFirst old new answer past k ds →
+    dropped_dealt (settings old) past (dealt_after answer k) reason ≡ dropped_dealt (settings old) past k reason + dropped_in reason answer
+dropped-first old new answer past k reason [] e d =
+    let P = λ (x : Decided). dropped_dealt (settings old) past (dealt_after x k) reason ≡ dropped_dealt (settings old) past k reason + dropped_in reason x in
+    subst P (sym d.0) (zero-more (dropped_dealt (settings old) past k reason))
+dropped-first old new answer past k reason (x ∷ later) e d =
+    ap (λ n. dropped_dealt (settings old) past n reason) (sym (releases-after answer x.spans x.verdict k d.0) ∙ add-one k)
+    ∙ more-dropped (settings old) past k x later reason e
+    ∙ ap (λ n. dropped_dealt (settings old) past k reason + n) (releases-dropped reason answer x.spans x.verdict d.0)
+
+pub decide_dropped : (old new : Held) (answer : Decided) (past : Journal) (k : ℕ) (reason : Reason) → Decides old new answer past k →
+    dropped_dealt (settings old) past (dealt_after answer k) reason ≡ dropped_dealt (settings old) past k reason + dropped_in reason answer
+decide_dropped old new answer past k reason d = dropped-first old new answer past k reason (drop k (decisions_now (settings old) past)) refl d
+
+stands-first : (old new : Held) (answer : Decided) (past : Journal) (k : ℕ) (ds : List Decision) → DecidesFirst old new answer past k ds → StandsFor old past k → StandsFor new past (dealt_after answer k)
+stands-first old new answer past k [] d t =
+    let P = λ (x : Decided). StandsFor new past (dealt_after x k) in
+    let Q = λ (h : Held). StandsFor h past k in
+    subst P (sym d.0) (subst Q (sym d.1) t)
+stands-first old new answer past k (x ∷ later) d t = let P = λ (n : ℕ). StandsFor new past n in subst P (releases-after answer x.spans x.verdict k d.0) d.1
+
+pub decide_stands : (old new : Held) (answer : Decided) (past : Journal) (k : ℕ) → Decides old new answer past k → StandsFor old past k → StandsFor new past (dealt_after answer k)
+decide_stands old new answer past k d t = stands-first old new answer past k (drop k (decisions_now (settings old) past)) d t

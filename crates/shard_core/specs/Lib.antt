@@ -1,0 +1,6 @@
+pub mod Journal
+pub mod Fate
+pub mod Standing
+pub mod Held
+pub mod Taking
+pub mod Holding

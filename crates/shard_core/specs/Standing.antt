@@ -1,0 +1,90 @@
+-- What a shard holds that stands for a journal.
+use Rattle.std.specs.Prelude.{ℕ, zero, suc, Bool, List, [], ◌∷◌, ◌++◌, map, reverse, take, Option, Some, None}
+use Rattle.policy_eval.specs.Policies.{limiters}
+use Rattle.policy_eval.specs.Limiter.{Asking, latest_second, granted_in, askings_of}
+use Rattle.shard_core.specs.Journal.{Settings, Journal, Opening, Notes, clock, has_ended, in_buffer, decided_as, cache_size, last_touched, spans_since, askings_made, notes_dealt}
+use Rattle.span_ids.specs.declared.ids.TraceId.{TraceId}
+use Rattle.otlp_types.specs.declared.arrival.Arrival.{Arrival}
+use Rattle.otlp_types.specs.declared.arrival.Item.{Item}
+use Rattle.otlp_types.specs.declared.arrival.Item.TheVariants.{Span, Tick, End}
+use Rattle.shard_core.specs.Journal.{Entry}
+use Rattle.span_ids.specs.declared.outcome.Verdict.{Verdict}
+use Rattle.span_ids.specs.declared.outcome.Verdict.TheVariants.{Sampled, NotSampled}
+
+-- an episode in the buffer: its spans until it is decided, and then its verdict
+pub record Episode : Type 0 where
+  pub trace : TraceId
+  pub moment : ℕ
+  pub spans : List Arrival
+  pub verdict : Option Verdict
+
+-- a limiter node's greatest second asked, and the spans granted in it
+pub record LimiterCount : Type 0 where
+  pub node : ℕ
+  pub second : ℕ
+  pub granted : ℕ
+
+-- what a shard holds: episodes in order of opening; a cache's traces, the last touched first; whether each sender has ended
+pub record Standing : Type 0 where
+  pub episodes : List Episode
+  pub sampled : List TraceId
+  pub non_sampled : List TraceId
+  pub limiter_counts : List LimiterCount
+  pub clock : ℕ
+  pub mark : ℕ
+  pub ends : List Bool
+
+-- the spans that an episode holds: none once it is decided
+abbrev pub spans_left : List Arrival → Option Verdict → List Arrival
+spans_left spans None = spans
+spans_left spans (Some v) = []
+
+-- the episode of an opening
+abbrev pub episode : Journal → Notes → Opening → Episode
+episode past noted o = let verdict = decided_as noted o.at in
+    record { trace = o.trace; moment = o.moment; spans = spans_left (spans_since past o) verdict; verdict = verdict }
+
+-- the episodes in the buffer, in order of opening
+abbrev pub episodes : Settings → Journal → Notes → List Episode
+episodes s past noted = map (episode past noted) (reverse (in_buffer s noted))
+
+-- the last touched of the traces with this verdict
+abbrev pub cache : Settings → Notes → Verdict → List TraceId
+cache s noted v = take (cache_size s v) (last_touched v noted.touches)
+
+-- the count of a limiter node, after these askings
+abbrev pub limiter_count : List Asking → (limiter : ℕ × ℕ) → LimiterCount
+limiter_count askings limiter =
+    let own = askings_of limiter.0 askings in
+    let second = latest_second own in
+    record { node = limiter.0; second = second; granted = granted_in second own }
+
+-- the mark after an item
+abbrev pub mark_at : Entry → (before : Journal) → (earlier : ℕ) → Item → ℕ
+mark_at e before earlier (Tick m) = clock (e ∷ before)
+mark_at e before earlier (Span a) = earlier
+mark_at e before earlier (End sender) = earlier
+
+-- the clock at the last tick
+abbrev pub mark : Journal → ℕ
+mark [] = 0
+mark (e ∷ before) = mark_at e before (mark before) e.item
+
+-- whether each sender has ended
+abbrev pub ends : Journal → (senders : ℕ) → List Bool
+ends past zero = []
+ends past (suc n) = ends past n ++ has_ended past n ∷ []
+
+-- what a shard holds that stands for the journal, where of the decisions at its last item the first `dealt` were dealt with
+abbrev pub standing : Settings → Journal → (dealt : ℕ) → Standing
+standing s past dealt =
+    let noted = notes_dealt s past dealt in
+    record {
+      episodes = episodes s past noted;
+      sampled = cache s noted Sampled;
+      non_sampled = cache s noted NotSampled;
+      limiter_counts = map (limiter_count (askings_made noted.decisions)) (limiters s.policies);
+      clock = clock past;
+      mark = mark past;
+      ends = ends past s.senders;
+    }

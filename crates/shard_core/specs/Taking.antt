@@ -1,0 +1,161 @@
+-- What `take` and `decide` answer.
+use Rattle.std.specs.Prelude.{ℕ, ◌+◌, ◌≡◌, max, Bool, true, false, not, ◌||◌, is_none, is_some, if◌then◌else◌, List, [], ◌∷◌, length, drop, filter, slice_set, Option, Some, None}
+use Rattle.shard_core.specs.Journal.{Settings, Journal, Finding, joins, meets, opens, Decision, notes, finding, has_finished, decisions_now, item_moment}
+use Rattle.shard_core.specs.Fate.{Fate, waits, is_released, is_counted, fate, is_same_reason}
+use Rattle.otlp_types.specs.declared.span.Ids.{Ids}
+use Rattle.otlp_types.specs.declared.arrival.Arrival.{Arrival}
+use Rattle.otlp_types.specs.declared.arrival.Item.{Item}
+use Rattle.otlp_types.specs.declared.arrival.Item.TheVariants.{Span, Tick, End}
+use Rattle.shard_core.specs.Journal.{Entry}
+use Rattle.span_ids.specs.declared.outcome.Verdict.{Verdict}
+use Rattle.span_ids.specs.declared.outcome.Verdict.TheVariants.{Sampled, NotSampled}
+use Rattle.span_ids.specs.declared.outcome.Reason.{Reason}
+use Rattle.span_ids.specs.declared.outcome.Reason.TheVariants.{NoMemory, LateNotSampled, NotSampled as NotSampledReason}
+use Rattle.shard_core.specs.Held.{Held, settings, StandsFor}
+use Rattle.shard_core.specs.declared.answer.Taken.{Taken}
+use Rattle.shard_core.specs.declared.answer.Taken.TheVariants.{Kept, Late, Dropped, Ticked, Ended, Finished}
+use Rattle.shard_core.specs.declared.answer.Decided.{Decided}
+use Rattle.shard_core.specs.declared.answer.Decided.TheVariants.{Release, Nothing, Dropped as NotReleased}
+
+-- ---- what `take` answers
+
+-- memory was refused to the span
+abbrev pub is_refusal : Taken → Bool
+is_refusal (Dropped NoMemory) = true
+is_refusal _ = false
+
+-- the item as the shard's answer marks it
+abbrev pub entry : Item → Taken → Entry
+entry item answer = record { item = item; refused = is_refusal answer; lost = false }
+
+-- the answer to a late span, by the verdict that it meets
+abbrev pub answer_to_late : Arrival → Verdict → Taken
+answer_to_late a Sampled = Late a
+answer_to_late a NotSampled = Dropped LateNotSampled
+
+-- the answer to a span, not refused, by what it finds
+abbrev pub answer_to_finding : Arrival → Finding → Taken
+answer_to_finding a (meets o v) = answer_to_late a v
+answer_to_finding a (joins o) = Kept
+answer_to_finding a opens = Kept
+
+-- the answer to a span with these ids
+abbrev pub answer_to_ids : Settings → (refused : Bool) → Journal → Arrival → Option Ids → Taken
+answer_to_ids s refused before a None = Kept
+answer_to_ids s true before a (Some ids) = Dropped NoMemory
+answer_to_ids s false before a (Some ids) = answer_to_finding a (finding s (notes s before) ids.trace)
+
+-- the answer to an item
+abbrev pub answer_to_item : Settings → Entry → (before : Journal) → Item → Taken
+answer_to_item s e before (Span a) = answer_to_ids s e.refused before a a.rec.span.ids
+answer_to_item s e before (Tick m) = Ticked
+answer_to_item s e before (End sender) = if has_finished s e before then Finished else Ended
+
+-- the answer to an entry: its fate at once, and what it ends
+abbrev pub answer_to : Settings → Entry → (before : Journal) → Taken
+answer_to s e before = answer_to_item s e before e.item
+
+-- a refusal is of an append or an opening
+abbrev pub refusal_applies : Finding → Bool
+refusal_applies (joins o) = true
+refusal_applies (meets o v) = false
+refusal_applies opens = true
+
+-- the span with these ids may be refused
+abbrev pub marks_apply_to_ids : Settings → (before : Journal) → Option Ids → Bool
+marks_apply_to_ids s before None = false
+marks_apply_to_ids s before (Some ids) = refusal_applies (finding s (notes s before) ids.trace)
+
+-- the item may be refused
+abbrev pub marks_apply_to : Settings → (before : Journal) → Item → Bool
+marks_apply_to s before (Span a) = marks_apply_to_ids s before a.rec.span.ids
+marks_apply_to s before (Tick m) = false
+marks_apply_to s before (End sender) = false
+
+-- memory is refused at most to an append or an opening
+abbrev pub marks_apply : Settings → Entry → (before : Journal) → Bool
+marks_apply s e before = not e.refused || marks_apply_to s before e.item
+
+-- a span that a shard is handed has valid ids
+abbrev pub has_ids : Item → Bool
+has_ids (Span a) = is_some a.rec.span.ids
+has_ids (Tick m) = true
+has_ids (End sender) = true
+
+-- the shard takes no more
+abbrev pub is_last : Taken → Bool
+is_last Finished = true
+is_last _ = false
+
+-- which senders have ended after an item
+abbrev pub ends_after : Item → List Bool → List Bool
+ends_after (Span a) ends = ends
+ends_after (Tick m) ends = ends
+ends_after (End sender) ends = slice_set ends sender true
+
+-- the item moves the clock, and changes nothing else
+abbrev pub only_clock : Item → Held → Held
+only_clock item h = record h { standing = record h.standing { clock = max (item_moment item) h.standing.clock } }
+
+-- the fate of a span that the answer to it tells
+abbrev pub fate_told : Taken → Fate
+fate_told (Late a) = is_released
+fate_told (Dropped r) = is_counted r
+fate_told _ = waits
+
+-- right after a span with these ids was taken, its fate is what the answer tells
+abbrev pub TellsFateOf : Settings → (past : Journal) → Arrival → Taken → Option Ids → Type 0
+TellsFateOf s past a answer None = Unit {0}
+TellsFateOf s past a answer (Some ids) = fate s (entry (Span a) answer ∷ past) past (is_refusal answer) ids ≡ fate_told answer
+
+-- right after a span was taken, its fate is what the answer tells
+abbrev pub TellsFate : Settings → (past : Journal) → Item → Taken → Type 0
+TellsFate s past (Span a) answer = TellsFateOf s past a answer a.rec.span.ids
+TellsFate s past (Tick m) answer = Unit {0}
+TellsFate s past (End sender) answer = Unit {0}
+
+-- the spans that an answer hands over at once
+abbrev pub released_by : Taken → List Arrival
+released_by (Late a) = a ∷ []
+released_by _ = []
+
+-- how many spans an answer counts under a reason
+abbrev pub dropped_by : Reason → Taken → ℕ
+dropped_by reason (Dropped r) = if is_same_reason r reason then 1 else 0
+dropped_by reason _ = 0
+
+-- ---- what `decide` answers
+
+-- how many episodes are undecided
+abbrev pub waiting : Held → ℕ
+waiting h = length (filter (λ e. is_none e.verdict) h.standing.episodes)
+
+-- what `decide` answers for a decision
+abbrev pub Releases : Decided → List Arrival → Verdict → Type 0
+Releases (Release v) spans Sampled = v.items ≡ spans
+Releases (NotReleased n) spans NotSampled = n ≡ length spans
+Releases _ spans v = ⊥
+
+-- what `decide` does, by the decisions that it has still to deal with
+abbrev pub DecidesFirst : (old new : Held) → Decided → Journal → (dealt : ℕ) → List Decision → Type 0
+DecidesFirst old new answer past dealt [] = (answer ≡ Nothing) × (new ≡ old)
+DecidesFirst old new answer past dealt (d ∷ later) = Releases answer d.spans d.verdict × StandsFor new past (dealt + 1)
+
+-- what `decide` does to a shard that stands for a journal with so many decisions dealt with
+abbrev pub Decides : (old new : Held) → Decided → Journal → (dealt : ℕ) → Type 0
+Decides old new answer past dealt = DecidesFirst old new answer past dealt (drop dealt (decisions_now (settings old) past))
+
+-- the spans that a decision's answer hands over, in order
+abbrev pub released_in : Decided → List Arrival
+released_in (Release v) = v.items
+released_in _ = []
+
+-- how many spans a decision's answer counts under a reason
+abbrev pub dropped_in : Reason → Decided → ℕ
+dropped_in reason (NotReleased n) = if is_same_reason NotSampledReason reason then n else 0
+dropped_in reason _ = 0
+
+-- how many of the decisions at the last item were dealt with, after this answer
+abbrev pub dealt_after : Decided → (dealt : ℕ) → ℕ
+dealt_after Nothing dealt = dealt
+dealt_after _ dealt = dealt + 1

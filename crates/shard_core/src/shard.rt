@@ -1,0 +1,241 @@
+ghost use Rattle.std.specs.Prelude.{◌≡◌, ◌⊎◌, ℕ, replicate, [], ◌∷◌, ◌++◌, ◌+◌, if◌then◌else◌, ◌<◌, ◌≤◌, max, Bool, IsTrue, IsSome, true, false, length, OnOk, IfOk, position, Some, None};
+ghost use Rattle.span_ids.specs.declared.outcome.Reason.{Reason};
+ghost use Rattle.shard_core.specs.Journal.{Journal, same_trace};
+ghost use Rattle.shard_core.specs.Fate.{effect, effect_dealt, output, released_dealt, dropped_dealt};
+
+use crate::answer::{Decided, Taken};
+use crate::episode::Episode;
+use otlp_types::{Arrival, Ids, Item};
+use policy_eval::evaluate;
+use policy_tree::Policies;
+use span_ids::{Moment, Reason, TraceId, Verdict};
+use std::alloc::{AllocError, Global};
+use std::marker::Model;
+
+/// A shard.
+///
+/// Its clock is the greatest moment of the spans and ticks that it has taken, 0 at first. Its mark is the clock at the
+/// last tick. A caller hands it an item by `take`, then calls `decide` until the answer is `Nothing`, and so on until
+/// `take` answers `Finished` and the last traces are decided.
+#[derive(Debug, Drop)]
+pub struct Shard {
+    alloc: Global,
+    policies: Policies,
+    wait: Moment,
+    episodes: Vec<Episode>,
+    clock: Moment,
+    mark: Moment,
+    ends: Vec<bool>,
+}
+
+impl Model for Shard {
+    ghost use Rattle.std.specs.Prelude.{[], ◌<◌};
+    ghost use Rattle.shard_core.specs.Held.{Held};
+    ghost use Rattle.std.specs.Coded.{codes};
+    ghost use Rattle.otlp_types.specs.contracts.value.AnyValue as any_value;
+
+    ghost Value = { Held };
+
+    ghost coded = { Prim.hlevel (codes, any_value.the_row.coded) };
+
+    ghost view = { λ s. record { policies = s.policies; wait = s.wait; standing = record { episodes = s.episodes.items; sampled = []; non_sampled = []; limiter_counts = []; clock = s.clock; mark = s.mark; ends = s.ends.items } } };
+
+    ghost invariant = { λ s. 0 < s.wait };
+}
+
+impl Shard {
+    ghost use Rattle.shard_core.specs.Held.{StandsFor, has_due, is_finished, settings, settings_of, is_due_in};
+    ghost use Rattle.shard_core.specs.Taking.{entry, ends_after, answer_to, marks_apply, has_ids, is_refusal, only_clock, TellsFate, is_last, released_by, dropped_by, Decides, waiting, released_in, dropped_in, dealt_after};
+    ghost use Rattle.shard_core.specs.Holding.{first_due, held_after_tick, held_after_end, TakesSpan, Opens, Joins, SettlesAt};
+
+    /// A shard that has taken nothing. `wait` is how long a trace waits for its decision, in milliseconds; senders
+    /// have the numbers below `senders`.
+    pub fn new(
+        alloc: Global,
+        policies: Policies,
+        wait: Moment,
+        senders: usize,
+    ) -> Result<Shard, AllocError>
+        requires waits { 0 < wait }
+        requires has_senders { 0 < senders }
+        ensures stands { IfOk result (λ shard. StandsFor shard [] 0) }
+        ensures policies { IfOk result (λ shard. shard.policies ≡ policies) }
+        ensures settings { IfOk result (λ shard. settings shard ≡ settings_of policies wait senders) }
+        ensures nothing_due { IfOk result (λ shard. has_due shard ≡ false) }
+        ensures running { IfOk result (λ shard. is_finished shard ≡ false) }
+        ensures ends { IfOk result (λ shard. shard.standing.ends ≡ replicate senders false) }
+    {
+        Ok(Shard {
+            alloc,
+            policies,
+            wait,
+            episodes: Vec::new(alloc),
+            clock: 0,
+            mark: 0,
+            ends: vec![in alloc; false; senders]?,
+        })
+    }
+
+    /// Whether a trace is to be decided before the next item.
+    pub fn has_due(&self) -> bool
+        ensures { result ≡ has_due self.now }
+    {
+        let all_ended = self.finished();
+        let mark = self.mark;
+        let wait = self.wait;
+        self.episodes
+            .iter()
+            .any(|episode| episode.is_due(all_ended, mark, wait))
+    }
+
+    /// Whether every sender has ended.
+    pub fn finished(&self) -> bool
+        ensures { result ≡ is_finished self.now }
+    {
+        self.ends.iter().all(|ended| *ended)
+    }
+
+    /// Takes an item. A span has valid ids. An `End` taken before, or of no sender, changes nothing.
+    ///
+    /// Memory is taken only to keep a span. A refusal changes the clock alone.
+    pub fn take(&mut self, item: Item) -> Taken
+        requires nothing_due { has_due self.old ≡ false }
+        requires running { is_finished self.old ≡ false }
+        requires ids { has_ids item ≡ true }
+        ensures stands { (past : Journal) (dealt : ℕ) → StandsFor self.old past dealt → StandsFor self.new (entry item result ∷ past) 0 }
+        ensures answer { (past : Journal) (dealt : ℕ) → StandsFor self.old past dealt → result ≡ answer_to (settings self.old) (entry item result) past }
+        ensures marks { (past : Journal) (dealt : ℕ) → StandsFor self.old past dealt → marks_apply (settings self.old) (entry item result) past ≡ true }
+        ensures fate { (past : Journal) (dealt : ℕ) → StandsFor self.old past dealt → TellsFate (settings self.old) past item result }
+        ensures released { (past : Journal) (dealt : ℕ) → StandsFor self.old past dealt → released_dealt (settings self.old) (entry item result ∷ past) 0 ≡ released_dealt (settings self.old) past dealt ++ released_by result }
+        ensures dropped { (past : Journal) (dealt : ℕ) (reason : Reason) → StandsFor self.old past dealt → dropped_dealt (settings self.old) (entry item result ∷ past) 0 reason ≡ dropped_dealt (settings self.old) past dealt reason + dropped_by reason result }
+        ensures refused { is_refusal result ≡ true → self.new ≡ only_clock item self.old }
+        ensures finished { is_finished self.new ≡ is_last result }
+        ensures ends { self.new.standing.ends ≡ ends_after item self.old.standing.ends }
+        ensures policies { self.new.policies ≡ self.old.policies }
+        ensures settings { settings self.new ≡ settings self.old }
+    {
+        let _ = &self.alloc;
+        match item {
+            Item::Span(arrival) => self.take_span(arrival),
+            Item::Tick(moment) => self.take_tick(moment),
+            Item::End(sender) => self.take_end(sender as usize),
+        }
+    }
+
+    fn take_span(&mut self, arrival: Arrival) -> Taken
+        requires { IsSome arrival.rec.span.ids }
+        ensures { TakesSpan self.old arrival arrival.rec.span.ids result self.new }
+    {
+        self.clock = arrival.moment.max(self.clock);
+        let trace = ids_of(&arrival).unwrap().trace;
+        match self.find(trace) {
+            None => self.open(trace, arrival),
+            Some(i) => self.join(i, arrival),
+        }
+    }
+
+    fn find(&self, trace: TraceId) -> Option<usize>
+        ensures { result ≡ position (λ e. same_trace e.trace trace) self.now.standing.episodes }
+    {
+        self.episodes
+            .iter()
+            .position(|episode| episode.is_of(trace))
+    }
+
+    fn open(&mut self, trace: TraceId, first: Arrival) -> Taken
+        ensures { Opens self.old trace first result self.new }
+    {
+        let Ok(episode) = Episode::open(self.alloc, trace, self.clock, first) else {
+            return Taken::Dropped(Reason::NoMemory);
+        };
+        match self.episodes.push(episode) {
+            Ok(()) => Taken::Kept,
+            Err(_) => Taken::Dropped(Reason::NoMemory),
+        }
+    }
+
+    fn join(&mut self, i: usize, arrival: Arrival) -> Taken
+        requires { i < length self.old.standing.episodes }
+        ensures { Joins self.old i arrival result self.new }
+    {
+        self.episodes[i].take(arrival)
+    }
+
+    fn take_tick(&mut self, moment: Moment) -> Taken
+        ensures answer { result ≡ Taken.Ticked }
+        ensures after { self.new ≡ record self.old { standing = held_after_tick moment self.old.standing } }
+    {
+        self.clock = moment.max(self.clock);
+        self.mark = self.clock;
+        Taken::Ticked
+    }
+
+    fn take_end(&mut self, sender: usize) -> Taken
+        ensures answer { result ≡ (if is_finished self.new then Taken.Finished else Taken.Ended) }
+        ensures after { self.new ≡ record self.old { standing = held_after_end sender self.old.standing } }
+    {
+        if sender < self.ends.len() {
+            self.ends[sender] = true;
+        }
+        if self.finished() {
+            Taken::Finished
+        } else {
+            Taken::Ended
+        }
+    }
+
+    /// Decides the due trace that was opened first. It takes no memory.
+    pub fn decide(&mut self) -> Decided
+        ensures decides { (past : Journal) (dealt : ℕ) → StandsFor self.old past dealt → Decides self.old self.new result past dealt }
+        ensures stands { (past : Journal) (dealt : ℕ) → StandsFor self.old past dealt → StandsFor self.new past (dealt_after result dealt) }
+        ensures released { (past : Journal) (dealt : ℕ) → StandsFor self.old past dealt → released_dealt (settings self.old) past (dealt_after result dealt) ≡ released_dealt (settings self.old) past dealt ++ released_in result }
+        ensures dropped { (past : Journal) (dealt : ℕ) (reason : Reason) → StandsFor self.old past dealt → dropped_dealt (settings self.old) past (dealt_after result dealt) reason ≡ dropped_dealt (settings self.old) past dealt reason + dropped_in reason result }
+        ensures all_dealt { result ≡ Decided.Nothing → (past : Journal) (dealt : ℕ) → StandsFor self.old past dealt → effect_dealt (settings self.old) past dealt ≡ effect (settings self.old) past }
+        ensures output { result ≡ Decided.Nothing → (past : Journal) (dealt : ℕ) → StandsFor self.old past dealt → released_dealt (settings self.old) past dealt ≡ output (settings self.old) past }
+        ensures nothing { result ≡ Decided.Nothing → has_due self.new ≡ false }
+        ensures fewer { (result ≡ Decided.Nothing) ⊎ (waiting self.new < waiting self.old) }
+        ensures finished { is_finished self.new ≡ is_finished self.old }
+        ensures ends { self.new.standing.ends ≡ self.old.standing.ends }
+        ensures policies { self.new.policies ≡ self.old.policies }
+        ensures settings { settings self.new ≡ settings self.old }
+    {
+        let _ = &self.alloc;
+        match self.first_due() {
+            None => Decided::Nothing,
+            Some(i) => self.settle(i),
+        }
+    }
+
+    fn first_due(&self) -> Option<usize>
+        ensures { result ≡ first_due self.now }
+    {
+        let all_ended = self.finished();
+        let mark = self.mark;
+        let wait = self.wait;
+        self.episodes
+            .iter()
+            .position(|episode| episode.is_due(all_ended, mark, wait))
+    }
+
+    fn settle(&mut self, i: usize) -> Decided
+        requires { i < length self.old.standing.episodes }
+        ensures settles { SettlesAt self.old i result self.new }
+        ensures ends { self.new.standing.ends ≡ self.old.standing.ends }
+        ensures policies { self.new.policies ≡ self.old.policies }
+        ensures wait { self.new.wait ≡ self.old.wait }
+    {
+        let episode = &mut self.episodes[i];
+        let verdict = evaluate(&self.policies, episode.spans());
+        let spans = episode.settle(verdict);
+        match verdict {
+            Verdict::Sampled => Decided::Release(spans),
+            Verdict::NotSampled => Decided::Dropped(spans.len() as u64),
+        }
+    }
+}
+
+fn ids_of(arrival: &Arrival) -> Option<Ids>
+    ensures { result ≡ arrival.now.rec.span.ids }
+{
+    arrival.rec.span.ids
+}

@@ -1,0 +1,160 @@
+//! A shard with ample memory: the first path, and each kind of policy.
+ghost use Rattle.std.specs.Prelude.{◌≡◌, IsSome, true};
+ghost use Rattle.shard_core.specs.Taking.{has_ids};
+
+use crate::answer::{Decided, Taken};
+use crate::shard::Shard;
+use otlp_types::{Arrival, Ids, Item, List, Record, Resource, Scope, Span, Status, Text};
+use policy_tree::{Policies, Policy, PolicyKind};
+use span_ids::{ArrivalKey, ConnKey, SpanId, TraceId};
+use std::alloc::Global;
+use std::process::Abort;
+use std::test::Fail;
+
+/// A span by its number, its moment and its status code, of one trace.
+fn span_item(rt: &impl Abort, alloc: Global, number: u64, moment: u64, code: i32) -> Item
+    ensures { has_ids result ≡ true }
+{
+    let ids = Ids {
+        trace: TraceId::parse("5b8efff798038103d269b633813fc60c").expect(rt, "a trace id"),
+        span: SpanId::parse("eee19b7ec3c1b174").expect(rt, "a span id"),
+        parent: None,
+    };
+    Item::Span(Arrival {
+        key: ArrivalKey {
+            conn: ConnKey {
+                lane: 0,
+                ordinal: 0,
+            },
+            number,
+        },
+        moment,
+        rec: record_of(alloc, ids, code),
+    })
+}
+
+fn record_of(alloc: Global, ids: Ids, code: i32) -> Record
+    ensures { IsSome result.span.ids }
+{
+    Record {
+        resource: Resource {
+            attributes: List::new(alloc),
+            dropped_attributes_count: 0,
+        },
+        resource_schema_url: Text::new(alloc),
+        scope: Scope {
+            name: Text::new(alloc),
+            version: Text::new(alloc),
+            attributes: List::new(alloc),
+            dropped_attributes_count: 0,
+        },
+        scope_schema_url: Text::new(alloc),
+        span: Span {
+            ids: Some(ids),
+            trace_state: Text::new(alloc),
+            flags: 0,
+            name: Text::new(alloc),
+            kind: 0,
+            start_time_unix_nano: 0,
+            end_time_unix_nano: 0,
+            attributes: List::new(alloc),
+            dropped_attributes_count: 0,
+            events: List::new(alloc),
+            dropped_events_count: 0,
+            links: List::new(alloc),
+            dropped_links_count: 0,
+            status: Status {
+                message: Text::new(alloc),
+                code,
+            },
+        },
+    }
+}
+
+/// A shard of two senders with a wait of ten seconds and one policy, on this status code or on none.
+fn shard_with(alloc: Global, code: Option<i32>) -> Result<Shard, Fail> {
+    let kind = match code {
+        None => PolicyKind::AlwaysSample,
+        Some(code) => PolicyKind::StatusCode {
+            codes: List::from_vec(vec![in alloc; code]?),
+        },
+    };
+    let policy = Policy {
+        name: Text::from_str(alloc, "one")?,
+        kind,
+    };
+    let policies = Policies::new(alloc, vec![in alloc; policy]?)?;
+    Ok(Shard::new(alloc, policies, 10_000, 2)?)
+}
+
+/// Takes an item and decides once: the answer to the item, and how many spans were released.
+fn play(rt: &impl Abort, shard: &mut Shard, item: Item) -> (&'static str, usize)
+    requires { has_ids item ≡ true }
+{
+    assert!(rt; !shard.has_due());
+    assert!(rt; !shard.finished());
+    let taken = match shard.take(item) {
+        Taken::Kept => "kept",
+        Taken::Late(_) => "late",
+        Taken::Dropped(_) => "dropped",
+        Taken::Ticked => "ticked",
+        Taken::Ended => "ended",
+        Taken::Finished => "finished",
+    };
+    let released = match shard.decide() {
+        Decided::Release(spans) => spans.len(),
+        _ => 0,
+    };
+    (taken, released)
+}
+
+#[test]
+fn error_span_is_kept(rt: HostRuntime) -> Result<(), Fail> {
+    let alloc = rt.alloc();
+    let mut shard = shard_with(alloc, Some(2))?;
+    assert_eq!(&rt;
+        play(&rt, &mut shard, span_item(&rt, alloc, 0, 1000, 2)),
+        ("kept", 0)
+    );
+    assert_eq!(&rt; play(&rt, &mut shard, Item::Tick(10_999)), ("ticked", 0));
+    assert_eq!(&rt;
+        play(&rt, &mut shard, span_item(&rt, alloc, 1, 5000, 0)),
+        ("kept", 0)
+    );
+    assert_eq!(&rt; play(&rt, &mut shard, Item::Tick(11_000)), ("ticked", 2));
+    Ok(())
+}
+
+#[test]
+fn late_span_follows_sampled(rt: HostRuntime) -> Result<(), Fail> {
+    let alloc = rt.alloc();
+    let mut shard = shard_with(alloc, None)?;
+    assert_eq!(&rt;
+        play(&rt, &mut shard, span_item(&rt, alloc, 0, 0, 0)),
+        ("kept", 0)
+    );
+    assert_eq!(&rt; play(&rt, &mut shard, Item::End(1)), ("ended", 0));
+    assert_eq!(&rt; play(&rt, &mut shard, Item::Tick(10_000)), ("ticked", 1));
+    assert_eq!(&rt;
+        play(&rt, &mut shard, span_item(&rt, alloc, 1, 10_000, 0)),
+        ("late", 0)
+    );
+    assert_eq!(&rt; play(&rt, &mut shard, Item::End(0)), ("finished", 0));
+    Ok(())
+}
+
+#[test]
+fn late_span_follows_not_sampled(rt: HostRuntime) -> Result<(), Fail> {
+    let alloc = rt.alloc();
+    let mut shard = shard_with(alloc, Some(2))?;
+    assert_eq!(&rt;
+        play(&rt, &mut shard, span_item(&rt, alloc, 0, 0, 1)),
+        ("kept", 0)
+    );
+    assert_eq!(&rt; play(&rt, &mut shard, Item::Tick(10_000)), ("ticked", 0));
+    assert_eq!(&rt;
+        play(&rt, &mut shard, span_item(&rt, alloc, 1, 10_000, 2)),
+        ("dropped", 0)
+    );
+    Ok(())
+}

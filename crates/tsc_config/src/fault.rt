@@ -1,0 +1,62 @@
+ghost use Rattle.std.specs.Prelude.{◌≡◌};
+ghost use Rattle.tsc_config.specs.Faults.{number_of};
+ghost use Rattle.tsc_config.specs.Faults as spec;
+
+use policy_tree::PolicyFault;
+
+/// Why a configuration is refused. Its number, from 1 to 8, orders the faults: the least that the text has is
+/// answered.
+#[derive(Clone, Copy, Debug, PartialEq, Eq)]
+pub enum ConfigFault {
+    /// 1: the text is no TOML.
+    NotToml,
+    /// 2: a table has a key that isn't one of its keys.
+    UnknownKey,
+    /// 3: a required key is missing.
+    MissingKey,
+    /// 4: a value is of another type than its key has.
+    WrongType,
+    /// 5: a number is out of its range, or a text is none of those that its key takes.
+    OutOfRange,
+    /// 6: there are fewer traces than shards. The keys of both are not read yet, so it is not answered.
+    TooFewTraces,
+    /// 7: the policies are refused, for the reason inside.
+    Policy(PolicyFault),
+    /// 8: memory was refused. Where it was refused while the text was parsed, the text may have any other fault.
+    NoMemory,
+}
+
+impl ConfigFault {
+    /// The number of the fault, from 1 to 8. A program prints a policy fault as `7.P`, P being its own number.
+    pub fn number(self) -> u8
+        ensures { result ≡ number_of self }
+    {
+        match self {
+            ConfigFault::NotToml => 1,
+            ConfigFault::UnknownKey => 2,
+            ConfigFault::MissingKey => 3,
+            ConfigFault::WrongType => 4,
+            ConfigFault::OutOfRange => 5,
+            ConfigFault::TooFewTraces => 6,
+            ConfigFault::Policy(_) => 7,
+            ConfigFault::NoMemory => 8,
+        }
+    }
+}
+
+/// The fault of less number, and none only where both are none.
+pub fn least(first: Option<ConfigFault>, second: Option<ConfigFault>) -> Option<ConfigFault>
+    ensures { result ≡ spec.least first second }
+{
+    match (first, second) {
+        (None, other) => other,
+        (Some(fault), None) => Some(fault),
+        (Some(fault), Some(other)) => {
+            if other.number() < fault.number() {
+                Some(other)
+            } else {
+                Some(fault)
+            }
+        }
+    }
+}

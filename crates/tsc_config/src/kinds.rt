@@ -1,0 +1,17 @@
+/// The types of policy that are read.
+#[derive(Clone, Copy, Debug, PartialEq, Eq)]
+pub enum PolicyType {
+    AlwaysSample,
+    StatusCode,
+}
+
+/// The kinds of table in a configuration, each with keys of its own.
+#[derive(Clone, Copy, Debug, PartialEq, Eq)]
+pub enum TableKind {
+    /// The whole text.
+    Config,
+    /// An element of `policies`.
+    Policy(PolicyType),
+    /// The settings of a `status_code` policy.
+    StatusCode,
+}

@@ -1,0 +1,136 @@
+//! What a table without a fault gives.
+ghost use Rattle.std.specs.Prelude.{◌≡◌, IfOk, codes};
+ghost use Rattle.toml.specs.Data.{get_member};
+ghost use Rattle.toml.specs.View.{view, table_view, array_view};
+ghost use Rattle.tsc_config.specs.Values as spec;
+
+use crate::keys::{code_of, member};
+use crate::kinds::PolicyType;
+use crate::policy_faults::type_at;
+use otlp_types::{List, Text};
+use policy_tree::{Policy, PolicyKind};
+use span_ids::Moment;
+use std::alloc::{AllocError, Global};
+use toml::value::Array;
+use toml::{Table, Value};
+
+/// The wait where the text gives none, in milliseconds.
+const DEFAULT_WAIT: Moment = 30_000;
+
+/// The wait, in milliseconds.
+pub fn wait_at(table: &Table) -> Moment
+    ensures { result ≡ spec.wait_of (get_member (codes "decision_wait_ms") (table_view table.now)) }
+{
+    match member(table, "decision_wait_ms") {
+        Some(value) => wait_of(value),
+        None => DEFAULT_WAIT,
+    }
+}
+
+fn wait_of(value: &Value) -> Moment
+    ensures { result ≡ spec.wait_value (view value.now) }
+{
+    match value {
+        Value::Integer(number) if 0 <= *number => *number as u64,
+        _ => DEFAULT_WAIT,
+    }
+}
+
+/// The policies, in order.
+pub fn policies_at(alloc: Global, table: &Table) -> Result<Vec<Policy>, AllocError>
+    ensures { IfOk result (λ list. list.items ≡ spec.policies_of (get_member (codes "policies") (table_view table.now))) }
+{
+    match member(table, "policies") {
+        Some(value) => policies_of(alloc, value),
+        None => Ok(Vec::new(alloc)),
+    }
+}
+
+fn policies_of(alloc: Global, value: &Value) -> Result<Vec<Policy>, AllocError>
+    ensures { IfOk result (λ list. list.items ≡ spec.policies_value (view value.now)) }
+{
+    match value {
+        Value::Array(items) => item_policies(alloc, items),
+        _ => Ok(Vec::new(alloc)),
+    }
+}
+
+fn item_policies(alloc: Global, items: &Array) -> Result<Vec<Policy>, AllocError>
+    ensures { IfOk result (λ list. list.items ≡ spec.item_policies (array_view items.now)) }
+{
+    let mut list = Vec::new(alloc);
+    for item in items {
+        if let Value::Table(table) = item {
+            list.push(policy_of(alloc, table)?)?;
+        }
+    }
+    Ok(list)
+}
+
+fn policy_of(alloc: Global, table: &Table) -> Result<Policy, AllocError>
+    ensures { IfOk result (λ policy. policy ≡ spec.policy_of (table_view table.now)) }
+{
+    Ok(Policy {
+        name: name_at(alloc, table)?,
+        kind: kind_at(alloc, table)?,
+    })
+}
+
+fn name_at(alloc: Global, table: &Table) -> Result<Text, AllocError>
+    ensures { IfOk result (λ name. name ≡ spec.text_of (get_member (codes "name") (table_view table.now))) }
+{
+    match member(table, "name") {
+        Some(value) => text_of(alloc, value),
+        None => Ok(Text::new(alloc)),
+    }
+}
+
+fn text_of(alloc: Global, value: &Value) -> Result<Text, AllocError>
+    ensures { IfOk result (λ text. text ≡ spec.text_value (view value.now)) }
+{
+    match value {
+        Value::String(text) => Text::from_str(alloc, text.as_str()),
+        _ => Ok(Text::new(alloc)),
+    }
+}
+
+fn kind_at(alloc: Global, table: &Table) -> Result<PolicyKind, AllocError>
+    ensures { IfOk result (λ kind. kind ≡ spec.kind_of (table_view table.now)) }
+{
+    match type_at(table) {
+        Some(PolicyType::StatusCode) => Ok(PolicyKind::StatusCode {
+            codes: settings_codes(alloc, table)?,
+        }),
+        _ => Ok(PolicyKind::AlwaysSample),
+    }
+}
+
+fn settings_codes(alloc: Global, table: &Table) -> Result<List<i32>, AllocError>
+    ensures { IfOk result (λ list. list ≡ spec.settings_codes (get_member (codes "status_code") (table_view table.now))) }
+{
+    match member(table, "status_code") {
+        Some(Value::Table(settings)) => codes_at(alloc, settings),
+        _ => Ok(List::new(alloc)),
+    }
+}
+
+fn codes_at(alloc: Global, settings: &Table) -> Result<List<i32>, AllocError>
+    ensures { IfOk result (λ list. list ≡ spec.codes_of (get_member (codes "status_codes") (table_view settings.now))) }
+{
+    match member(settings, "status_codes") {
+        Some(Value::Array(items)) => item_codes(alloc, items),
+        _ => Ok(List::new(alloc)),
+    }
+}
+
+fn item_codes(alloc: Global, items: &Array) -> Result<List<i32>, AllocError>
+    ensures { IfOk result (λ list. list ≡ spec.item_codes (array_view items.now)) }
+{
+    let mut list = List::new(alloc);
+    for item in items {
+        if let Some(code) = code_of(item) {
+            list.push(code)?;
+        }
+    }
+    Ok(list)
+}

@@ -1,0 +1,5 @@
+pub mod Reading
+pub mod Playing
+pub mod Exits
+pub mod Last
+pub mod Weaker

@@ -1,0 +1,6 @@
+pub mod Lines
+pub mod ToRead
+pub mod Instructions
+pub mod Script
+pub mod Stops
+pub mod Progress

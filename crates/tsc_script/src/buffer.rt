@@ -1,0 +1,124 @@
+//! A buffer over a reader, which counts the reads.
+ghost use Rattle.std.specs.Prelude.{◌≡◌, ◌≢◌, ℕ, ◌+◌, ◌-◌, ◌^◌, ◌<◌, ◌≤◌, ◌++◌, Option, List, [], length, take, drop, IfOk, OnOk, OnErr, IfSome, IfNone, vec_len};
+ghost use Rattle.std.specs.Io.KnownBytes.{Consumes, Keeps, IsAtEnd};
+ghost use Rattle.tsc_script.specs.declared.limits.TheConstants.{MAX_READS};
+ghost use Rattle.tsc_script.specs.ToRead.{BufferState, still_to_come};
+
+use crate::limits::MAX_READS;
+use std::alloc::{AllocError, Allocator};
+use std::io::{ErrorKind, Read};
+use std::marker::Model;
+
+/// How many bytes one read asks for.
+const CHUNK: usize = 65536;
+
+/// What a refill of the buffer found.
+#[derive(Clone, Copy, Debug, PartialEq, Eq, Drop)]
+pub(crate) enum Refill {
+    /// More bytes.
+    More,
+    /// The input's end.
+    End,
+    /// The reader failed, or the last read that may be made has been made.
+    Fault,
+}
+
+/// The bytes that were read and not yet used.
+#[derive(Drop)]
+pub(crate) struct Buffer<A: Allocator> {
+    chunk: Vec<u8, A>,
+    at: usize,
+    filled: usize,
+    reads: u64,
+}
+
+impl<A: Allocator> Model for Buffer<A> {
+    ghost Value = { BufferState };
+
+    ghost view = { λ b. record { bytes = take (b.filled - b.at) (drop b.at b.chunk.items); reads = b.reads } };
+
+    ghost invariant = { λ b. (b.at ≤ b.filled) × (b.filled ≤ vec_len b.chunk)
+        × (0 < vec_len b.chunk) × (b.reads ≤ MAX_READS) };
+}
+
+impl<A: Allocator> Buffer<A> {
+    /// An empty buffer with room for one read.
+    pub(crate) fn new(alloc: A) -> Result<Self, AllocError>
+        ensures { IfOk result (λ b. b ≡ record { bytes = []; reads = 0 }) }
+    {
+        let chunk = vec![in alloc; 0; CHUNK]?;
+        Ok(Buffer {
+            chunk,
+            at: 0,
+            filled: 0,
+            reads: 0,
+        })
+    }
+
+    /// The bytes that were read and not yet used.
+    pub(crate) fn bytes(&self) -> &[u8]
+        ensures bytes { result.now ≡ self.now.bytes }
+        // For the measure of a loop over refills: the bound on reads, which the Model's invariant holds.
+        ensures reads { self.now.reads ≤ MAX_READS }
+    {
+        &self.chunk[self.at..self.filled]
+    }
+
+    /// Uses the first bytes up.
+    pub(crate) fn consume(&mut self, count: usize)
+        requires { count ≤ length self.old.bytes }
+        ensures bytes { self.new.bytes ≡ drop count self.old.bytes }
+        ensures reads { self.new.reads ≡ self.old.reads }
+    {
+        self.at += count;
+    }
+
+    /// Reads more bytes into the empty buffer.
+    pub(crate) fn refill<R: Read>(&mut self, reader: &mut R) -> Refill
+        requires { self.old.bytes ≡ [] }
+        ensures more { result ≡ Refill.More → (self.old.reads < self.new.reads)
+            × Consumes (R.remaining reader.old) (R.remaining reader.new) self.new.bytes }
+        ensures end { result ≡ Refill.End → (self.new.bytes ≡ [])
+            × IsAtEnd (R.remaining reader.new) }
+        ensures kept { result ≢ Refill.More → (self.new.bytes ≡ [])
+            × Keeps (R.remaining reader.old) (R.remaining reader.new) }
+        ensures reads { (self.old.reads ≤ self.new.reads) × (self.new.reads ≤ MAX_READS) }
+    {
+        self.at = 0;
+        self.filled = 0;
+        match read_some(reader, &mut self.chunk, &mut self.reads) {
+            None => Refill::Fault,
+            Some(0) => Refill::End,
+            Some(count) => {
+                self.filled = count;
+                Refill::More
+            }
+        }
+    }
+}
+
+/// Reads once more, and again after each interruption, while the bound on reads allows it.
+fn read_some<R: Read>(reader: &mut R, chunk: &mut [u8], reads: &mut u64) -> Option<usize>
+    requires room { 0 < length chunk.old }
+    requires reads { reads.old ≤ MAX_READS }
+    ensures within { IfSome result (λ count. count ≤ length chunk.new) }
+    ensures bytes { IfSome result (λ count.
+        Consumes (R.remaining reader.old) (R.remaining reader.new) (take count chunk.new)) }
+    ensures end { IfSome result (λ count. count ≡ 0 → IsAtEnd (R.remaining reader.new)) }
+    ensures fault { IfNone result (Keeps (R.remaining reader.old) (R.remaining reader.new)) }
+    ensures reads { (reads.old ≤ reads.new) × (reads.new ≤ MAX_READS) }
+    ensures counted { IfSome result (λ count. reads.old < reads.new) }
+{
+    while *reads < MAX_READS {
+        *reads += 1;
+        match reader.read(chunk) {
+            Ok(count) => return Some(count),
+            Err(error) => {
+                if error.kind() != ErrorKind::Interrupted {
+                    return None;
+                }
+            }
+        }
+    }
+    None
+}

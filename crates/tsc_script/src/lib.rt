@@ -1,0 +1,27 @@
+//! A script of the program: its lines, what each line says, and the playing of them on a machine.
+//!
+//! A script's lines end with a line feed, which the last one may lack. A line is `recv CONNECTION MOMENT JSON`,
+//! `tick MOMENT` or `close`, with one space between the words. CONNECTION and MOMENT are 1 to 20 decimal digits that
+//! fit a u64, and JSON is the rest of the line, spaces included. Another line, an empty one, one above 4,194,368
+//! bytes without its line feed, and any line after `close` is refused. The input's end without `close` acts as one.
+//!
+//! No contract can say when a reader fails, so a body that always answers `Fault` at the right line meets
+//! `play_script`'s contract, as does one that always answers `NoMemory`. The tests show that a good reader gets
+//! neither.
+#![tactic(auto)]
+
+mod buffer;
+mod command;
+mod grammar;
+mod limits;
+mod lines;
+mod machine;
+mod play;
+mod stop;
+#[cfg(test)]
+mod tests;
+
+pub use command::Command;
+pub use machine::Machine;
+pub use play::play_script;
+pub use stop::Stop;

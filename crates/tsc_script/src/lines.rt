@@ -1,0 +1,131 @@
+//! The lines of a script.
+ghost use Rattle.std.specs.Prelude.{◌≡◌, ◌≢◌, ℕ, ◌+◌, ◌-◌, ◌^◌, ◌<◌, ◌≤◌, ◌++◌, ◌∷◌, Option, List, [], length, take, drop, vec_len, vec_capacity, slice_index};
+ghost use Rattle.std.specs.Io.KnownBytes.{Consumes, Keeps, IsAtEnd};
+ghost use Rattle.tsc_script.specs.ToRead.{BufferState, still_to_come};
+ghost use Rattle.tsc_script.specs.Lines.{HasNoLineFeed};
+
+use crate::buffer::{Buffer, Refill};
+use crate::limits::MAX_LINE_BYTES;
+use std::alloc::Allocator;
+use std::io::Read;
+
+/// How a line ended.
+#[derive(Clone, Copy, Debug, PartialEq, Eq, Drop)]
+pub(crate) enum LineEnd {
+    /// A line feed stands behind it.
+    LineFeed,
+    /// The input ended.
+    Input,
+    /// It is too long.
+    TooLong,
+    /// The reader failed, or the last read that may be made has been made.
+    Fault,
+}
+
+/// Reads the next line into a vector with room for it. Where the line is too long, its first part is used up.
+pub(crate) fn read_line<R: Read, A: Allocator, B: Allocator>(
+    reader: &mut R,
+    buffer: &mut Buffer<A>,
+    line: &mut Vec<u8, B>,
+) -> LineEnd
+    requires { MAX_LINE_BYTES ≤ vec_capacity line.old }
+    ensures room { MAX_LINE_BYTES ≤ vec_capacity line.new }
+    ensures plain { HasNoLineFeed line.new.items × (vec_len line.new ≤ MAX_LINE_BYTES) }
+    ensures line_feed { result ≡ LineEnd.LineFeed → Consumes
+        (still_to_come buffer.old (R.remaining reader.old))
+        (still_to_come buffer.new (R.remaining reader.new)) (line.new.items ++ 10 ∷ []) }
+    ensures input { result ≡ LineEnd.Input → Consumes
+        (still_to_come buffer.old (R.remaining reader.old))
+        (still_to_come buffer.new (R.remaining reader.new)) line.new.items
+        × IsAtEnd (still_to_come buffer.new (R.remaining reader.new)) }
+    ensures too_long { result ≡ LineEnd.TooLong → (more : List ℕ) × HasNoLineFeed more
+        × (MAX_LINE_BYTES < vec_len line.new + length more) × Consumes
+        (still_to_come buffer.old (R.remaining reader.old))
+        (still_to_come buffer.new (R.remaining reader.new)) (line.new.items ++ more) }
+    ensures fault { result ≡ LineEnd.Fault → Consumes
+        (still_to_come buffer.old (R.remaining reader.old))
+        (still_to_come buffer.new (R.remaining reader.new)) line.new.items }
+{
+    line.clear();
+    'line: loop {
+        match take_part(buffer, line) {
+            Part::Ended => return LineEnd::LineFeed,
+            Part::TooLong => return LineEnd::TooLong,
+            Part::Open => match buffer.refill(reader) {
+                Refill::More => {}
+                Refill::End => return LineEnd::Input,
+                Refill::Fault => return LineEnd::Fault,
+            },
+        }
+    }
+}
+
+/// What came of a line.
+#[derive(Clone, Copy, Debug, PartialEq, Eq, Drop)]
+enum Part {
+    /// All of it, and its line feed.
+    Ended,
+    /// All that the buffer had, with no line feed.
+    Open,
+    /// More than a line may have.
+    TooLong,
+}
+
+/// Moves bytes from the buffer to the end of the line.
+fn take_part<A: Allocator, B: Allocator>(buffer: &mut Buffer<A>, line: &mut Vec<u8, B>) -> Part
+    requires room { MAX_LINE_BYTES ≤ vec_capacity line.old }
+    requires short { vec_len line.old ≤ MAX_LINE_BYTES }
+    ensures room { MAX_LINE_BYTES ≤ vec_capacity line.new }
+    ensures short { vec_len line.new ≤ MAX_LINE_BYTES }
+    ensures reads { buffer.new.reads ≡ buffer.old.reads }
+    ensures ended { result ≡ Part.Ended → (part : List ℕ) × HasNoLineFeed part
+        × (line.new.items ≡ line.old.items ++ part)
+        × (buffer.old.bytes ≡ part ++ 10 ∷ buffer.new.bytes) }
+    ensures open { result ≡ Part.Open → HasNoLineFeed buffer.old.bytes
+        × (line.new.items ≡ line.old.items ++ buffer.old.bytes) × (buffer.new.bytes ≡ []) }
+    ensures too_long { result ≡ Part.TooLong → (part : List ℕ) × HasNoLineFeed part
+        × (MAX_LINE_BYTES < vec_len line.old + length part)
+        × (line.new.items ≡ line.old.items) × (buffer.old.bytes ≡ part ++ buffer.new.bytes) }
+{
+    let bytes = buffer.bytes();
+    let count = bytes.len();
+    let length = length_of_line(bytes);
+    if length > MAX_LINE_BYTES - line.len() {
+        buffer.consume(length);
+        return Part::TooLong;
+    }
+    append(line, &bytes[..length]);
+    if length < count {
+        buffer.consume(length + 1);
+        Part::Ended
+    } else {
+        buffer.consume(length);
+        Part::Open
+    }
+}
+
+/// Appends bytes for which there is room.
+fn append<B: Allocator>(line: &mut Vec<u8, B>, part: &[u8])
+    requires { vec_len line.old + length part.now ≤ vec_capacity line.old }
+    ensures items { line.new.items ≡ line.old.items ++ part.now }
+    ensures len { vec_len line.new ≡ vec_len line.old + length part.now }
+    ensures capacity { vec_capacity line.old ≤ vec_capacity line.new }
+{
+    if line.extend_from_slice(part).is_err() {
+        unreachable!();
+    }
+}
+
+/// How many bytes stand before the first line feed.
+fn length_of_line(bytes: &[u8]) -> usize
+    ensures within { result ≤ length bytes.now }
+    ensures plain { HasNoLineFeed (take result bytes.now) }
+    ensures line_feed { result < length bytes.now → slice_index bytes.now result ≡ 10 }
+{
+    for (at, byte) in bytes.iter().enumerate() {
+        if *byte == b'\n' {
+            return at;
+        }
+    }
+    bytes.len()
+}

@@ -1,0 +1,168 @@
+//! The playing of a script on a machine.
+ghost use Rattle.std.specs.Prelude.{◌≡◌, ◌≢◌, ℕ, ◌+◌, ◌++◌, ◌∷◌, Bool, true, false, Option, List, [], Some, Ok, Err, OnOk, IfSome, IfErr, length, ◌≤◌, ◌⊎◌, if◌then◌else◌, vec_capacity};
+ghost use Rattle.std.specs.Result.{IsErrOf};
+ghost use Rattle.std.specs.Io.KnownBytes.{Consumes, IsAtEnd};
+ghost use Rattle.tsc_script.specs.Instructions.{Instruction, instruction_of_command, close};
+ghost use Rattle.tsc_script.specs.Script.{instructions_of, instructions_from};
+ghost use Rattle.tsc_script.specs.Lines.{HasNoLineFeed, lines_of};
+ghost use Rattle.tsc_script.specs.ToRead.{still_to_come};
+ghost use Rattle.tsc_script.specs.Stops.{IfRefused, IsAtLine, MatchRefusedDown, is_up_after};
+ghost use Rattle.tsc_script.specs.Progress.{Ends, StopsAfter};
+
+use crate::buffer::Buffer;
+use crate::command::Command;
+use crate::grammar::parse;
+use crate::limits::MAX_LINE_BYTES;
+use crate::lines::{LineEnd, read_line};
+use crate::machine::Machine;
+use crate::stop::Stop;
+use std::alloc::{Allocator, Global};
+use std::io::Read;
+
+/// Plays a script, line by line. The memory for a line (4,194,368 bytes) and for a read (65,536 bytes) is taken at the
+/// start, before anything is read or played. Once the machine takes no further instruction, no further line is read,
+/// and `close` is played. The reader may have given bytes behind the last line that was used.
+pub fn play_script<R: Read, M: Machine>(
+    alloc: Global,
+    reader: &mut R,
+    machine: &mut M,
+) -> Result<(), Stop>
+    requires start { M.leads machine.old [] machine.old }
+    requires open { M.is_closed machine.old ≡ false }
+    requires up { M.is_up machine.old ≡ true }
+
+    // The reader was read to its end, and all that it gave was played.
+    ensures whole { OnOk result ((instructions : List Instruction)
+        × Ends (R.remaining reader.old) (R.remaining reader.new) instructions
+        × M.leads machine.old instructions machine.new) }
+
+    // Just the lines before were played, and at `Down` a close behind them.
+    ensures stopped { IfErr result (StopsAfter
+        (λ done. M.leads machine.old done machine.new)
+        (λ done. (fallen : M) × M.leads machine.old done fallen × (M.is_up fallen ≡ false))
+        (R.remaining reader.old) (R.remaining reader.new)) }
+    ensures no_memory { IsErrOf result Stop.NoMemory
+        → (machine.new ≡ machine.old) × (reader.new ≡ reader.old) }
+
+    // It is the first refused line of all that the reader would give.
+    ensures refused { IfErr result (λ stop. IfRefused stop (λ number.
+        IfSome (R.remaining reader.old) (λ script. instructions_of script ≡ Err number))) }
+
+    ensures up { M.is_up machine.new ≡ is_up_after result }
+    ensures closed { OnOk result (M.is_closed machine.new ≡ true) }
+    ensures down_closed { IsErrOf result Stop.Down → M.is_closed machine.new ≡ true }
+{
+    let Ok(mut line) = Vec::with_capacity(alloc, MAX_LINE_BYTES) else {
+        return Err(Stop::NoMemory);
+    };
+    let Ok(mut buffer) = Buffer::new(alloc) else {
+        return Err(Stop::NoMemory);
+    };
+    for number in 1..u64::MAX {
+        match read_line(reader, &mut buffer, &mut line) {
+            LineEnd::LineFeed => {}
+            LineEnd::Input => return play_last(machine, &line, number),
+            LineEnd::TooLong => return Err(Stop::Refused(number)),
+            LineEnd::Fault => return Err(Stop::Fault(number)),
+        }
+        let Some(command) = parse(&line) else {
+            return Err(Stop::Refused(number));
+        };
+        if let Command::Close = command {
+            if !machine.play(command) {
+                return Err(Stop::Down);
+            }
+            return expect_end(reader, &mut buffer, &mut line, number + 1);
+        }
+        if !machine.play(command) {
+            machine.play(Command::Close);
+            return Err(Stop::Down);
+        }
+    }
+    // The bound on reads ends each script before this.
+    Err(Stop::Fault(u64::MAX))
+}
+
+/// Plays the text behind the last line feed, and closes.
+fn play_last<M: Machine>(machine: &mut M, line: &[u8], number: u64) -> Result<(), Stop>
+    requires short { length line.now ≤ MAX_LINE_BYTES }
+    requires plain { HasNoLineFeed line.now }
+    requires open { M.is_closed machine.old ≡ false }
+    requires up { M.is_up machine.old ≡ true }
+    ensures whole { OnOk result ((more : List Instruction)
+        × (instructions_from number (lines_of line.now) ≡ Ok (more ++ close ∷ []))
+        × ((start : M) (done : List Instruction) → M.leads start done machine.old
+        → M.leads start ((done ++ more) ++ close ∷ []) machine.new)) }
+    ensures stopped { IfErr result (λ stop. MatchRefusedDown stop
+        (machine.new ≡ machine.old)
+        ((more : List Instruction)
+        × (instructions_from number (lines_of line.now) ≡ Ok (more ++ close ∷ []))
+        × ((start : M) (done : List Instruction) → M.leads start done machine.old
+        → M.leads start ((done ++ more) ++ close ∷ []) machine.new))) }
+    ensures refused { IfErr result (λ stop. IfRefused stop (λ at.
+        (at ≡ number) × (instructions_from number (lines_of line.now) ≡ Err number))) }
+    ensures up { M.is_up machine.new ≡ is_up_after result }
+    ensures closed { OnOk result (M.is_closed machine.new ≡ true) }
+    ensures down_closed { IsErrOf result Stop.Down → M.is_closed machine.new ≡ true }
+{
+    if line.is_empty() {
+        return finish(machine);
+    }
+    let Some(command) = parse(line) else {
+        return Err(Stop::Refused(number));
+    };
+    if let Command::Close = command {
+        return finish(machine);
+    }
+    machine.play(command);
+    finish(machine)
+}
+
+/// Closes the machine.
+fn finish<M: Machine>(machine: &mut M) -> Result<(), Stop>
+    requires open { M.is_closed machine.old ≡ false }
+    ensures played { (start : M) (done : List Instruction) → M.leads start done machine.old
+        → M.leads start (done ++ close ∷ []) machine.new }
+    ensures only_down { IfErr result (λ stop. stop ≡ Stop.Down) }
+    ensures up { M.is_up machine.new ≡ is_up_after result }
+    ensures closed { M.is_closed machine.new ≡ true }
+{
+    if machine.play(Command::Close) {
+        Ok(())
+    } else {
+        Err(Stop::Down)
+    }
+}
+
+/// Reads on after the line before this one, behind which nothing may stand.
+fn expect_end<R: Read, A: Allocator, B: Allocator>(
+    reader: &mut R,
+    buffer: &mut Buffer<A>,
+    line: &mut Vec<u8, B>,
+    number: u64,
+) -> Result<(), Stop>
+    requires { MAX_LINE_BYTES ≤ vec_capacity line.old }
+    ensures end { OnOk result (Consumes
+        (still_to_come buffer.old (R.remaining reader.old))
+        (still_to_come buffer.new (R.remaining reader.new)) []
+        × IsAtEnd (still_to_come buffer.new (R.remaining reader.new))) }
+    ensures refused { IfErr result (λ stop. IfRefused stop (λ at. (at ≡ number)
+        × IfSome (still_to_come buffer.old (R.remaining reader.old)) (λ more. more ≢ []))) }
+    ensures at_line { IfErr result (λ stop. IsAtLine stop number) }
+    ensures read { (read : List ℕ) × Consumes
+        (still_to_come buffer.old (R.remaining reader.old))
+        (still_to_come buffer.new (R.remaining reader.new)) read }
+{
+    match read_line(reader, buffer, line) {
+        LineEnd::Fault => Err(Stop::Fault(number)),
+        LineEnd::LineFeed => Err(Stop::Refused(number)),
+        LineEnd::TooLong => Err(Stop::Refused(number)),
+        LineEnd::Input => {
+            if line.is_empty() {
+                Ok(())
+            } else {
+                Err(Stop::Refused(number))
+            }
+        }
+    }
+}
