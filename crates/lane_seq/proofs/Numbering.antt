@@ -1,5 +1,5 @@
 -- One more arrival.
-use Rattle.std.proofs.Common.{◌≡◌, ℕ, ◌+◌, List, [], ◌∷◌, ◌++◌, length, refl, sym, ap, ◌∙◌, arith, append_assoc}
+use Rattle.std.proofs.Common.{◌≡◌, ℕ, ◌+◌, List, [], ◌∷◌, ◌++◌, length, ap, ◌∙◌, arith, append_assoc}
 use Rattle.span_ids.specs.declared.keys.ConnKey.{ConnKey}
 use Rattle.otlp_types.specs.declared.arrival.Record.{Record}
 use Rattle.lane_seq.specs.Numbers.{arrival_of, arrivals_from}
@@ -10,7 +10,7 @@ arrivals_from-push conn number moment [] r = let e : number ≡ number + 0 = ome
 arrivals_from-push conn number moment (x ∷ rs) r =
     let e : (number + 1) + length rs ≡ number + length (x ∷ rs) = omega arith in
     ap (λ more. arrival_of conn number moment x ∷ more) (arrivals_from-push conn (number + 1) moment rs r
-        ∙ ap (λ n. arrivals_from conn (number + 1) moment rs ++ arrival_of conn n moment r ∷ []) e)
+    ∙ ap (λ n. arrivals_from conn (number + 1) moment rs ++ arrival_of conn n moment r ∷ []) e)
 
 -- texts put one behind the other
 pub joined : (old a b c d e f g : List ℕ) → (((((((old ++ a) ++ b) ++ c) ++ d) ++ e) ++ f) ++ g) ≡ old ++ ((((((a ++ b) ++ c) ++ d) ++ e) ++ f) ++ g)

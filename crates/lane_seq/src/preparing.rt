@@ -57,7 +57,12 @@ pub fn prepare(alloc: Global, conn: &Conn, body: &[u8], moment: Moment) -> Resul
 }
 
 /// Numbers records, or answers `Busy`.
-fn number_records(alloc: Global, conn: &Conn, records: Vec<Record>, moment: Moment) -> Result<Prepared, Reply>
+fn number_records(
+    alloc: Global,
+    conn: &Conn,
+    records: Vec<Record>,
+    moment: Moment,
+) -> Result<Prepared, Reply>
     ensures arrivals { IfOk result (λ prepared. prepared.arrivals.items
         ≡ arrivals_from conn.now.key conn.now.next moment records.items) }
     ensures numbers { IfOk result (λ prepared. conn.now.next + length prepared.arrivals.items < 2 ^ 64) }
@@ -73,7 +78,13 @@ fn number_records(alloc: Global, conn: &Conn, records: Vec<Record>, moment: Mome
 }
 
 /// The arrivals of records, with numbers from `first` on.
-fn arrivals_from(alloc: Global, key: ConnKey, first: u64, records: Vec<Record>, moment: Moment) -> Result<Vec<Arrival>, AllocError>
+fn arrivals_from(
+    alloc: Global,
+    key: ConnKey,
+    first: u64,
+    records: Vec<Record>,
+    moment: Moment,
+) -> Result<Vec<Arrival>, AllocError>
     requires { first + length records.items < 2 ^ 64 }
     ensures arrivals { IfOk result (λ arrivals. arrivals.items ≡ arrivals_from key first moment records.items) }
     ensures len { IfOk result (λ arrivals. length arrivals.items ≡ length records.items) }

@@ -64,7 +64,9 @@ impl Reply {
             Reply::Done { .. } => text.extend_from_slice(b"{}"),
             Reply::Partial { rejected, .. } => put_rejected(text, *rejected),
             Reply::BadData(BadData::Json) => text.extend_from_slice(b"{\"message\":\"not JSON\"}"),
-            Reply::BadData(BadData::Shape) => text.extend_from_slice(b"{\"message\":\"wrong shape\"}"),
+            Reply::BadData(BadData::Shape) => text.extend_from_slice(
+                b"{\"message\":\"wrong shape\"}",
+            ),
             Reply::Busy => text.extend_from_slice(b"{\"message\":\"busy\"}"),
         }
     }
@@ -87,9 +89,14 @@ fn put_rejected(text: &mut Vec<u8>, rejected: Rejected) -> Result<(), AllocError
     let mut sum_digits = Buffer::new();
     let invalid = invalid_digits.format(rejected.invalid).as_bytes();
     let full = full_digits.format(rejected.full).as_bytes();
-    let sum = sum_digits.format(rejected.invalid + rejected.full).as_bytes();
+    let sum = sum_digits
+        .format(rejected.invalid + rejected.full)
+        .as_bytes();
     text.reserve(PARTIAL_SUCCESS_LEN + invalid.len() + full.len() + sum.len())?;
-    put(text, b"{\"partialSuccess\":{\"errorMessage\":\"invalid id: ");
+    put(
+        text,
+        b"{\"partialSuccess\":{\"errorMessage\":\"invalid id: ",
+    );
     put(text, invalid);
     put(text, b", queue full: ");
     put(text, full);

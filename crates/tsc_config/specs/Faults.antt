@@ -1,5 +1,5 @@
 -- What is wrong with the table of a configuration: the fault of least number among those of all its rows.
-use Rattle.std.specs.Prelude.{ℕ, ℤ, pos, Bool, ◌&&◌, List, codes, Option, None, Some, if◌then◌else◌, int_le, nat_lt}
+use Rattle.std.specs.Prelude.{ℕ, ℤ, pos, ◌&&◌, codes, Option, None, Some, if◌then◌else◌, int_le, nat_lt}
 use Rattle.toml.specs.Data.{Data, string, integer, array, table, Items, no_items, item, Members, get_member}
 use Rattle.tsc_config.specs.Keys.{has_unknown_key, type_of, type_at, code_of}
 use Rattle.tsc_config.specs.declared.fault.ConfigFault.{ConfigFault}
@@ -79,7 +79,7 @@ codes_fault _ = Some WrongType
 abbrev pub status_code_fault : Data → Option ConfigFault
 status_code_fault (table members) =
     least (unknown_fault table_is.StatusCode members)
-          (required codes_fault (get_member (codes "status_codes") members))
+    (required codes_fault (get_member (codes "status_codes") members))
 status_code_fault _ = Some WrongType
 
 -- the rows of a policy table of a known type, beside `name` and `type`
@@ -87,19 +87,19 @@ abbrev pub typed_fault : PolicyType → Members → Option ConfigFault
 typed_fault type_is.AlwaysSample members = unknown_fault (table_is.Policy type_is.AlwaysSample) members
 typed_fault type_is.StatusCode members =
     least (unknown_fault (table_is.Policy type_is.StatusCode) members)
-          (required status_code_fault (get_member (codes "status_code") members))
+    (required status_code_fault (get_member (codes "status_code") members))
 
 -- those rows where the type is known; else nothing more is looked at
 abbrev pub typed_fault_where : Option PolicyType → Members → Option ConfigFault
-typed_fault_where None members = None
+typed_fault_where None _ = None
 typed_fault_where (Some kind) members = typed_fault kind members
 
 -- the rows of a policy table
-abbrev pub policy_table_fault : Members → Option ConfigFault
+unfoldable pub policy_table_fault : Members → Option ConfigFault
 policy_table_fault members =
     least (least (required text_fault (get_member (codes "name") members))
-                 (required type_fault (get_member (codes "type") members)))
-          (typed_fault_where (type_at members) members)
+    (required type_fault (get_member (codes "type") members)))
+    (typed_fault_where (type_at members) members)
 
 -- a policy table is wanted
 abbrev pub policy_fault : Data → Option ConfigFault
@@ -117,8 +117,8 @@ policies_fault (array items) = policy_items_fault items
 policies_fault _ = Some WrongType
 
 -- the rows of the whole table: a key more is a row more
-abbrev pub table_fault : Members → Option ConfigFault
+unfoldable pub table_fault : Members → Option ConfigFault
 table_fault members =
     least (unknown_fault table_is.Config members)
     (least (optional (integer_fault (pos 1) (pos 3600000)) (get_member (codes "decision_wait_ms") members))
-           (required policies_fault (get_member (codes "policies") members)))
+    (required policies_fault (get_member (codes "policies") members)))

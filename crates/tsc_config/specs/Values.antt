@@ -1,5 +1,5 @@
 -- What the table of a configuration gives. Of a table with a fault this says nothing that counts.
-use Rattle.std.specs.Prelude.{ℕ, ℤ, pos, List, [], ◌∷◌, ◌++◌, codes, Option, Some, None}
+use Rattle.std.specs.Prelude.{suc, ℕ, ℤ, pos, List, [], ◌∷◌, codes, Option, Some, None}
 use Rattle.toml.specs.Data.{Data, string, integer, array, table, Items, no_items, item, Members, get_member}
 use Rattle.policy_tree.specs.declared.policy.Policy.{Policy}
 use Rattle.policy_tree.specs.declared.policy.PolicyKind.{PolicyKind}
@@ -9,14 +9,18 @@ use Rattle.tsc_config.specs.declared.kinds.PolicyType.{PolicyType}
 use Rattle.tsc_config.specs.declared.kinds.PolicyType.TheVariants as type_is
 use Rattle.tsc_config.specs.declared.config.Config.{Config}
 
--- a number of milliseconds
-abbrev pub wait_value : Data → ℕ
-wait_value (integer (pos number)) = number
-wait_value _ = 30000
+-- the wait in milliseconds where none is given
+abbrev pub default_wait : ℕ
+default_wait = 30000
 
--- the wait in milliseconds, 30000 where none is given
+-- a number of milliseconds, at least 1
+abbrev pub wait_value : Data → ℕ
+wait_value (integer (pos (suc number))) = suc number
+wait_value _ = default_wait
+
+-- the wait in milliseconds
 abbrev pub wait_of : Option Data → ℕ
-wait_of None = 30000
+wait_of None = default_wait
 wait_of (Some value) = wait_value value
 
 -- the bytes of a text
@@ -39,27 +43,37 @@ abbrev pub item_codes : Items → List ℤ
 item_codes no_items = []
 item_codes (item value rest) = found_before (code_of value) (item_codes rest)
 
--- the status codes of an array at a key
+-- the status codes of an array
+abbrev pub codes_value : Data → List ℤ
+codes_value (array items) = item_codes items
+codes_value _ = []
+
+-- the status codes of the array at a key
 abbrev pub codes_of : Option Data → List ℤ
-codes_of (Some (array items)) = item_codes items
-codes_of _ = []
+codes_of None = []
+codes_of (Some value) = codes_value value
+
+-- the status codes of settings
+abbrev pub settings_value : Data → List ℤ
+settings_value (table members) = codes_of (get_member (codes "status_codes") members)
+settings_value _ = []
 
 -- the status codes of the settings at a key
 abbrev pub settings_codes : Option Data → List ℤ
-settings_codes (Some (table members)) = codes_of (get_member (codes "status_codes") members)
-settings_codes _ = []
+settings_codes None = []
+settings_codes (Some value) = settings_value value
 
 -- what a policy of this type samples
 abbrev pub kind_typed : Option PolicyType → Members → PolicyKind
 kind_typed (Some type_is.StatusCode) members = kind_is.StatusCode (settings_codes (get_member (codes "status_code") members))
-kind_typed _ members = kind_is.AlwaysSample
+kind_typed _ _ = kind_is.AlwaysSample
 
 -- what the policy of a table samples
 abbrev pub kind_of : Members → PolicyKind
 kind_of members = kind_typed (type_at members) members
 
 -- the policy of a table
-abbrev pub policy_of : Members → Policy
+unfoldable pub policy_of : Members → Policy
 policy_of members = record { name = text_of (get_member (codes "name") members); kind = kind_of members }
 
 -- the policy of a value that is a table
@@ -86,4 +100,5 @@ policies_of (Some value) = policies_value value
 abbrev pub config_of : Members → Config
 config_of members = record {
   decision_wait = wait_of (get_member (codes "decision_wait_ms") members);
-  policies = policies_of (get_member (codes "policies") members) }
+  policies = policies_of (get_member (codes "policies") members);
+}

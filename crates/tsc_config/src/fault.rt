@@ -1,5 +1,4 @@
 ghost use Rattle.std.specs.Prelude.{◌≡◌};
-ghost use Rattle.tsc_config.specs.Faults.{number_of};
 ghost use Rattle.tsc_config.specs.Faults as spec;
 
 use policy_tree::PolicyFault;
@@ -29,7 +28,7 @@ pub enum ConfigFault {
 impl ConfigFault {
     /// The number of the fault, from 1 to 8. A program prints a policy fault as `7.P`, P being its own number.
     pub fn number(self) -> u8
-        ensures { result ≡ number_of self }
+        ensures { result ≡ spec.number_of self }
     {
         match self {
             ConfigFault::NotToml => 1,

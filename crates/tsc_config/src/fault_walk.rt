@@ -5,12 +5,13 @@ ghost use Rattle.toml.specs.View.{view, table_view};
 ghost use Rattle.tsc_config.specs.Faults as spec;
 
 use crate::fault::{ConfigFault, least};
-use crate::keys::member;
+use crate::keys::{member, unknown_fault};
 use crate::kinds::TableKind;
-use crate::policy_faults::{policies_fault, unknown_fault};
+use crate::policy_faults::policies_fault;
 use toml::{Table, Value};
 
 /// The least fault of the table of a configuration, up to 5. It takes no memory.
+#[tactic(auto, unfolding(crate::specs::Faults::table_fault))]
 pub fn table_fault(table: &Table) -> Option<ConfigFault>
     ensures { result ≡ spec.table_fault (table_view table.now) }
 {

@@ -1,9 +1,11 @@
 //! The keys of each table, and what stands at a key.
-ghost use Rattle.std.specs.Prelude.{◌≡◌, option_map, codes};
+ghost use Rattle.std.specs.Prelude.{◌≡◌, option_map};
 ghost use Rattle.toml.specs.Data.{get_member};
 ghost use Rattle.toml.specs.View.{view, table_view};
+ghost use Rattle.tsc_config.specs.Faults.{unknown_fault};
 ghost use Rattle.tsc_config.specs.Keys as spec;
 
+use crate::fault::ConfigFault;
 use crate::kinds::{PolicyType, TableKind};
 use toml::{Table, Value};
 
@@ -30,7 +32,7 @@ fn is_key(kind: TableKind, key: &str) -> bool
 }
 
 /// Whether a table has a key that tables of its kind don't have.
-pub fn has_unknown_key(kind: TableKind, table: &Table) -> bool
+fn has_unknown_key(kind: TableKind, table: &Table) -> bool
     ensures { result ≡ spec.has_unknown_key kind (table_view table.now) }
 {
     for (key, _) in table {
@@ -39,6 +41,17 @@ pub fn has_unknown_key(kind: TableKind, table: &Table) -> bool
         }
     }
     false
+}
+
+/// The fault that a table has a key that tables of its kind don't have.
+pub fn unknown_fault(kind: TableKind, table: &Table) -> Option<ConfigFault>
+    ensures { result ≡ unknown_fault kind (table_view table.now) }
+{
+    if has_unknown_key(kind, table) {
+        Some(ConfigFault::UnknownKey)
+    } else {
+        None
+    }
 }
 
 /// The type of policy that a text names.
@@ -62,6 +75,16 @@ pub fn type_of(value: &Value) -> Option<PolicyType>
     match value {
         Value::String(text) => type_named(text.as_str()),
         _ => None,
+    }
+}
+
+/// The type of policy that a policy table names.
+pub fn type_at(table: &Table) -> Option<PolicyType>
+    ensures { result ≡ spec.type_at (table_view table.now) }
+{
+    match member(table, "type") {
+        Some(value) => type_of(value),
+        None => None,
     }
 }
 

@@ -1,6 +1,10 @@
 //! The configuration of the collector: a TOML text, read into a wait and its policies, or one numbered fault
 //! (tailsamplingprocessor README, "decision_wait", "policies"). Of the policy types only `always_sample` and
 //! `status_code` are read so far.
+//!
+//! The faults of the table are looked for first, in a walk that takes no memory; what the table gives is made only where
+//! there is none. No contract keeps [`read`] from answering that it found no memory, except for a text without keys:
+//! that a text can be read is a test.
 #![tactic(auto)]
 
 mod config;

@@ -2,11 +2,10 @@
 ghost use Rattle.std.specs.Prelude.{◌≡◌, codes};
 ghost use Rattle.toml.specs.Data.{get_member};
 ghost use Rattle.toml.specs.View.{view, table_view, array_view};
-ghost use Rattle.tsc_config.specs.Keys.{type_at};
 ghost use Rattle.tsc_config.specs.Faults as spec;
 
 use crate::fault::{ConfigFault, least};
-use crate::keys::{code_of, has_unknown_key, member, type_of};
+use crate::keys::{code_of, member, type_at, type_of, unknown_fault};
 use crate::kinds::{PolicyType, TableKind};
 use toml::value::Array;
 use toml::{Table, Value};
@@ -40,6 +39,7 @@ fn policy_fault(value: &Value) -> Option<ConfigFault>
     }
 }
 
+#[tactic(auto, unfolding(crate::specs::Faults::policy_table_fault))]
 fn policy_table_fault(table: &Table) -> Option<ConfigFault>
     ensures { result ≡ spec.policy_table_fault (table_view table.now) }
 {
@@ -67,16 +67,6 @@ fn text_fault(value: &Value) -> Option<ConfigFault>
     match value {
         Value::String(_) => None,
         _ => Some(ConfigFault::WrongType),
-    }
-}
-
-/// The type of policy that a policy table names.
-pub fn type_at(table: &Table) -> Option<PolicyType>
-    ensures { result ≡ type_at (table_view table.now) }
-{
-    match member(table, "type") {
-        Some(value) => type_of(value),
-        None => None,
     }
 }
 
@@ -109,17 +99,6 @@ fn typed_fault(kind: PolicyType, table: &Table) -> Option<ConfigFault>
     match kind {
         PolicyType::AlwaysSample => keys,
         PolicyType::StatusCode => least(keys, status_code_fault(table)),
-    }
-}
-
-/// The fault that a table has a key that tables of its kind don't have.
-pub fn unknown_fault(kind: TableKind, table: &Table) -> Option<ConfigFault>
-    ensures { result ≡ spec.unknown_fault kind (table_view table.now) }
-{
-    if has_unknown_key(kind, table) {
-        Some(ConfigFault::UnknownKey)
-    } else {
-        None
     }
 }
 

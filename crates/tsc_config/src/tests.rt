@@ -4,7 +4,8 @@ use crate::fault::ConfigFault;
 use policy_tree::PolicyFault;
 use std::test::Fail;
 
-const GOOD: &str = "decision_wait_ms = 10000\n[[policies]]\nname = \"errors\"\ntype = \"status_code\"\nstatus_code = { status_codes = [\"ERROR\"] }\n";
+const GOOD: &str =
+    "decision_wait_ms = 10000\n[[policies]]\nname = \"errors\"\ntype = \"status_code\"\nstatus_code = { status_codes = [\"ERROR\"] }\n";
 
 #[test]
 fn faults(rt: HostRuntime) -> Result<(), Fail> {
@@ -14,8 +15,14 @@ fn faults(rt: HostRuntime) -> Result<(), Fail> {
         ("polices = []", ConfigFault::UnknownKey),
         ("policies = []", ConfigFault::Policy(PolicyFault::EmptyList)),
         ("policies = [1]", ConfigFault::WrongType),
-        ("decision_wait_ms = 0\npolicies = []", ConfigFault::OutOfRange),
-        ("decision_wait_ms = \"1\"\npolicies = []", ConfigFault::WrongType),
+        (
+            "decision_wait_ms = 0\npolicies = []",
+            ConfigFault::OutOfRange,
+        ),
+        (
+            "decision_wait_ms = \"1\"\npolicies = []",
+            ConfigFault::WrongType,
+        ),
         (
             "policies = [{ name = \"a\", type = \"always_sample\", status_code = 1 }]",
             ConfigFault::UnknownKey,

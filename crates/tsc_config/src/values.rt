@@ -1,12 +1,11 @@
 //! What a table without a fault gives.
-ghost use Rattle.std.specs.Prelude.{◌≡◌, IfOk, codes};
+ghost use Rattle.std.specs.Prelude.{◌≡◌, ◌<◌, IfOk, codes};
 ghost use Rattle.toml.specs.Data.{get_member};
 ghost use Rattle.toml.specs.View.{view, table_view, array_view};
 ghost use Rattle.tsc_config.specs.Values as spec;
 
-use crate::keys::{code_of, member};
+use crate::keys::{code_of, member, type_at};
 use crate::kinds::PolicyType;
-use crate::policy_faults::type_at;
 use otlp_types::{List, Text};
 use policy_tree::{Policy, PolicyKind};
 use span_ids::Moment;
@@ -19,7 +18,8 @@ const DEFAULT_WAIT: Moment = 30_000;
 
 /// The wait, in milliseconds.
 pub fn wait_at(table: &Table) -> Moment
-    ensures { result ≡ spec.wait_of (get_member (codes "decision_wait_ms") (table_view table.now)) }
+    ensures wait { result ≡ spec.wait_of (get_member (codes "decision_wait_ms") (table_view table.now)) }
+    ensures waits { 0 < result }
 {
     match member(table, "decision_wait_ms") {
         Some(value) => wait_of(value),
@@ -28,10 +28,11 @@ pub fn wait_at(table: &Table) -> Moment
 }
 
 fn wait_of(value: &Value) -> Moment
-    ensures { result ≡ spec.wait_value (view value.now) }
+    ensures wait { result ≡ spec.wait_value (view value.now) }
+    ensures waits { 0 < result }
 {
     match value {
-        Value::Integer(number) if 0 <= *number => *number as u64,
+        Value::Integer(number) if 1 <= *number => *number as u64,
         _ => DEFAULT_WAIT,
     }
 }
@@ -60,13 +61,23 @@ fn item_policies(alloc: Global, items: &Array) -> Result<Vec<Policy>, AllocError
 {
     let mut list = Vec::new(alloc);
     for item in items {
-        if let Value::Table(table) = item {
-            list.push(policy_of(alloc, table)?)?;
+        if let Some(policy) = policy_value(alloc, item)? {
+            list.push(policy)?;
         }
     }
     Ok(list)
 }
 
+fn policy_value(alloc: Global, value: &Value) -> Result<Option<Policy>, AllocError>
+    ensures { IfOk result (λ found. found ≡ spec.policy_value (view value.now)) }
+{
+    match value {
+        Value::Table(table) => Ok(Some(policy_of(alloc, table)?)),
+        _ => Ok(None),
+    }
+}
+
+#[tactic(auto, unfolding(crate::specs::Values::policy_of))]
 fn policy_of(alloc: Global, table: &Table) -> Result<Policy, AllocError>
     ensures { IfOk result (λ policy. policy ≡ spec.policy_of (table_view table.now)) }
 {
@@ -109,7 +120,16 @@ fn settings_codes(alloc: Global, table: &Table) -> Result<List<i32>, AllocError>
     ensures { IfOk result (λ list. list ≡ spec.settings_codes (get_member (codes "status_code") (table_view table.now))) }
 {
     match member(table, "status_code") {
-        Some(Value::Table(settings)) => codes_at(alloc, settings),
+        Some(value) => settings_value(alloc, value),
+        None => Ok(List::new(alloc)),
+    }
+}
+
+fn settings_value(alloc: Global, value: &Value) -> Result<List<i32>, AllocError>
+    ensures { IfOk result (λ list. list ≡ spec.settings_value (view value.now)) }
+{
+    match value {
+        Value::Table(settings) => codes_at(alloc, settings),
         _ => Ok(List::new(alloc)),
     }
 }
@@ -118,7 +138,16 @@ fn codes_at(alloc: Global, settings: &Table) -> Result<List<i32>, AllocError>
     ensures { IfOk result (λ list. list ≡ spec.codes_of (get_member (codes "status_codes") (table_view settings.now))) }
 {
     match member(settings, "status_codes") {
-        Some(Value::Array(items)) => item_codes(alloc, items),
+        Some(value) => codes_value(alloc, value),
+        None => Ok(List::new(alloc)),
+    }
+}
+
+fn codes_value(alloc: Global, value: &Value) -> Result<List<i32>, AllocError>
+    ensures { IfOk result (λ list. list ≡ spec.codes_value (view value.now)) }
+{
+    match value {
+        Value::Array(items) => item_codes(alloc, items),
         _ => Ok(List::new(alloc)),
     }
 }

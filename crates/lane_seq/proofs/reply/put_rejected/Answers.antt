@@ -1,4 +1,4 @@
-use Rattle.std.proofs.Common.{◌≡◌, ◌+◌, ◌++◌, ℕ, List, codes, sym, ap, ◌∙◌}
+use Rattle.std.proofs.Common.{◌+◌, codes}
 use Rattle.std.specs.Prelude.{decimal}
 use Rattle.lane_seq.proofs.Numbering.{joined}
 use Rattle.lane_seq.proofs.reply.put_rejected.Goals as goal
@@ -6,6 +6,21 @@ use Rattle.lane_seq.proofs.reply.put_rejected.Goals as goal
 pub returns-clause-ok : goal.returns-clause-ok
 returns-clause-ok c = let n = c.args.rejected in
     let all = joined c.args.text.now.items (codes "{\"partialSuccess\":{\"errorMessage\":\"invalid id: ") (decimal n.invalid) (codes ", queue full: ") (decimal n.full)
-        (codes "\",\"rejectedSpans\":\"") (decimal (n.invalid + n.full)) (codes "\"}}") in
-    cc (all, c.in_ok-reserve.ensures.items, c.put.ensures.items, c.put-2.ensures.items, c.put-3.ensures.items, c.put-4.ensures.items, c.put-5.ensures.items, c.put-6.ensures.items, c.put-7.ensures.items,
-        c.as_bytes-invalid.ensures.value, c.as_bytes-full.ensures.value, c.as_bytes-sum.ensures.value, c.format.ensures.text, c.format-2.ensures.text, c.format-3.ensures.text)
+    (codes "\",\"rejectedSpans\":\"") (decimal (n.invalid + n.full)) (codes "\"}}") in
+    cc (
+      all,
+      c.in_ok-reserve.ensures.items,
+      c.put.ensures.items,
+      c.put-2.ensures.items,
+      c.put-3.ensures.items,
+      c.put-4.ensures.items,
+      c.put-5.ensures.items,
+      c.put-6.ensures.items,
+      c.put-7.ensures.items,
+      c.as_bytes-invalid.ensures.value,
+      c.as_bytes-full.ensures.value,
+      c.as_bytes-sum.ensures.value,
+      c.format.ensures.text,
+      c.format-2.ensures.text,
+      c.format-3.ensures.text,
+    )

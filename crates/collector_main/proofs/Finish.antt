@@ -1,0 +1,66 @@
+-- What a run leaves of its sink follows from how its script was played.
+use Rattle.std.proofs.Common.{◌≡◌, ℕ, Bool, true, false, List, Option, Result, Ok, Err, refl, ap, subst, ◌∙◌, inl, inr}
+use Rattle.std.specs.Prelude.{not, IfSome}
+use Rattle.std.specs.Result.{OnOk, IfErr}
+use Rattle.drop_ledger.specs.declared.report.Report.{Report}
+use Rattle.span_sink.specs.LineSinks.{LineSinkState, up_state, down_state}
+use Rattle.tsc_script.specs.declared.stop.Stop.{Stop}
+use Rattle.tsc_script.specs.declared.stop.Stop.TheVariants.{NoMemory as NothingRead, Refused as LineRefused, Fault as LineUnread, Down}
+use Rattle.tsc_script.specs.Instructions.{Instruction}
+use Rattle.tsc_script.specs.Script.{instructions_of}
+use Rattle.tsc_script.specs.Stops.{IfRefused, is_up_after}
+use Rattle.tsc_script.specs.Progress.{Ends, StopsAfter}
+use Rattle.tsc_script.proofs.Weaker.{StopsAfter-weaker}
+use Rattle.collector_main.specs.declared.fault.RunFault.{RunFault}
+use Rattle.collector_main.specs.declared.fault.RunFault.TheVariants.{NoMemory, Refused, Fault, BookFull, SinkDown}
+use Rattle.collector_main.specs.Answers.{AnswersStop}
+use Rattle.collector_main.specs.Replay.{Run, Played, PlayedDown, Fell, PlayedWhole, StoppedDown, RunEnds}
+
+not-true : (b : Bool) → not b ≡ true → b ≡ false
+not-true true e = cc
+not-true false e = refl
+
+pub not-false : (b : Bool) → not b ≡ false → b ≡ true
+not-false true e = refl
+not-false false e = cc
+
+pub is_up_state : (s : LineSinkState) (taken : Option (List ℕ)) (failures : ℕ) → taken ≡ s.taken → failures ≡ s.failures → not s.is_down ≡ true → s ≡ up_state taken failures
+is_up_state s taken failures t f up = rw (t, f) (ap (λ b. record s { is_down = b }) (not-true s.is_down up))
+
+pub is_down_state : (s : LineSinkState) (taken : Option (List ℕ)) (failures : ℕ) → taken ≡ s.taken → failures ≡ s.failures → not s.is_down ≡ false → s ≡ down_state taken failures
+is_down_state s taken failures t f up = rw (t, f) (ap (λ b. record s { is_down = b }) (not-false s.is_down up))
+
+module _ (run : Run) (played : Result (Unit {0}) Stop) (up : Bool) (L F : List Instruction → Type 0)
+    (whole : OnOk played ((instructions : List Instruction) × Ends run.unread run.unread_after instructions × L instructions))
+    (stopped : IfErr played (StopsAfter L F run.unread run.unread_after))
+    (refused : IfErr played (λ stop. IfRefused stop (λ number. IfSome run.unread (λ script. instructions_of script ≡ Err number))))
+    (up_is : up ≡ is_up_after played)
+    (no_memory : played ≡ Err NothingRead → (run.taken_after ≡ run.taken) × (run.failures_after ≡ run.failures))
+    (to_played : up ≡ true → (done : List Instruction) → L done → Played run done)
+    (to_down : up ≡ false → (done : List Instruction) → L done → PlayedDown run done)
+    (to_fell : (done : List Instruction) → F done → Fell run done) where
+  ended : played ≡ Ok tt → PlayedWhole run
+  ended e =
+      let P = λ (p : Result (Unit {0}) Stop). OnOk p ((instructions : List Instruction) × Ends run.unread run.unread_after instructions × L instructions) in
+      let w = subst P e whole in
+      (w.0, w.1, to_played (up_is ∙ ap is_up_after e) w.0 w.2)
+
+  stops : (stop : Stop) → played ≡ Err stop → StopsAfter L F run.unread run.unread_after stop
+  stops stop e = let P = λ (p : Result (Unit {0}) Stop). IfErr p (StopsAfter L F run.unread run.unread_after) in subst P e stopped
+
+  at_line : (stop : Stop) → played ≡ Err stop → is_up_after (Err stop) ≡ true → StopsAfter (Played run) F run.unread run.unread_after stop
+  at_line stop e still = StopsAfter-weaker L (Played run) F F run.unread run.unread_after stop (to_played (up_is ∙ ap is_up_after e ∙ still)) (λ done f. f) (stops stop e)
+
+  fell : played ≡ Err Down → StoppedDown run
+  fell e = StopsAfter-weaker L (PlayedDown run) F (Fell run) run.unread run.unread_after Down (to_down (up_is ∙ ap is_up_after e)) to_fell (stops Down e)
+
+  pub run-ends : (answer : Result Report RunFault) → AnswersStop played answer → RunEnds run answer
+  run-ends (Ok report) e = ended e
+  run-ends (Err NoMemory) e = no_memory e
+  run-ends (Err (Refused line)) e =
+      let P = λ (p : Result (Unit {0}) Stop). IfErr p (λ stop. IfRefused stop (λ number. IfSome run.unread (λ script. instructions_of script ≡ Err number))) in
+      (at_line (LineRefused line) e refl, subst P e refused)
+  run-ends (Err (Fault line)) e = at_line (LineUnread line) e refl
+  run-ends (Err BookFull) (inl e) = inl (ended e)
+  run-ends (Err BookFull) (inr e) = inr (fell e)
+  run-ends (Err (SinkDown report)) e = fell e

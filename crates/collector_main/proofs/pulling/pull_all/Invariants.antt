@@ -1,0 +1,10 @@
+use Rattle.std.proofs.Common.{◌≡◌, ◌<◌, true, length}
+use Rattle.collector_main.specs.Pulling.{PullsAll}
+use Rattle.collector_main.proofs.pulling.pull_all.Given as goal
+
+abbrev pub invariant-loop-arrival : goal.invariant-loop-arrival
+invariant-loop-arrival g l = record {
+  pulls : PullsAll l.fn.exporter l.yielded l.exporter;
+  room : length l.exporter.batch < l.exporter.size;
+  down : l.fn.exporter.sink.is_down ≡ true → l.exporter.sink.is_down ≡ true;
+}

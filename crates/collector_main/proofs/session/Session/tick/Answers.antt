@@ -1,0 +1,10 @@
+use Rattle.std.proofs.Common.{[], ◌∷◌}
+use Rattle.otlp_types.specs.declared.arrival.Item.TheVariants.{Tick}
+use Rattle.collector_main.proofs.Quiet.{quiets, AreOf-known}
+use Rattle.collector_main.proofs.session.Session.tick.Goals as goal
+
+pub returns-clause-plays : goal.returns-clause-plays
+returns-clause-plays g c = λ w are.
+    let done = quiets w c.args.self.now.shard c.take_item.new.shard c.args.self.now.exporter c.take_item.new.exporter c.send.new.exporter (Tick c.args.moment ∷ []) are.released_all are.sink_is
+    c.args.self.now.sent c.take_item.ensures.takes c.take_item.ensures.room c.send.ensures.sent in
+    (done.0, done.1, AreOf-known done.0 w.connections c.args.self.now.connections c.take_item.new.shard c.send.new.exporter are.connections_are done.2)

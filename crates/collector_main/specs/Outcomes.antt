@@ -1,0 +1,27 @@
+-- The program's outcomes and exit statuses.
+use Rattle.std.specs.Prelude.{ℕ, Bool, Result, Ok, Err, if◌then◌else◌}
+use Rattle.drop_ledger.specs.declared.report.Report.{Report}
+use Rattle.collector_main.specs.declared.fault.RunFault.{RunFault}
+use Rattle.collector_main.specs.declared.fault.RunFault.TheVariants.{NoMemory as NoRoom, Refused, Fault, BookFull as Overflows, SinkDown as Fails}
+use Rattle.collector_main.specs.declared.program.Outcome.{Outcome}
+use Rattle.collector_main.specs.declared.program.Outcome.TheVariants.{Done, SinkDown, Usage, Unreadable, Configuration, Script, NoMemory, BookFull}
+
+-- how the program ends after a run with this answer
+abbrev pub outcome_of : Result Report RunFault → Outcome
+outcome_of (Ok report) = Done report
+outcome_of (Err NoRoom) = NoMemory
+outcome_of (Err (Refused line)) = Script line
+outcome_of (Err (Fault line)) = Script line
+outcome_of (Err Overflows) = BookFull
+outcome_of (Err (Fails report)) = SinkDown
+
+-- the exit status: a fault in writing the last text counts only where all else was done
+abbrev pub exit_status : Outcome → (written : Bool) → ℕ
+exit_status (Done report) written = if written then 0 else 1
+exit_status SinkDown written = 1
+exit_status Usage written = 2
+exit_status Unreadable written = 3
+exit_status (Configuration fault) written = 3
+exit_status (Script line) written = 4
+exit_status NoMemory written = 5
+exit_status BookFull written = 7

@@ -1,0 +1,280 @@
+//! The program: its arguments, its configuration, its texts and its exit status.
+ghost use Rattle.std.specs.Prelude.{◌≡◌, ◌+◌, ◌≤◌, ◌<◌, ◌++◌, IfOk, vec_capacity, vec_len, length, decimal, codes};
+ghost use Rattle.collector_main.specs.Outcomes.{outcome_of, exit_status};
+
+use crate::fault::RunFault;
+use crate::replay::replay_run;
+use drop_ledger::{Count, Report};
+use itoa::Buffer;
+use lane_seq::put;
+use span_ids::Reason;
+use span_sink::{LineSink, Sink, WriteSink};
+use std::alloc::Global;
+use std::fs;
+use std::io::{ErrorKind, Read, Write};
+use std::rt::Files;
+use tsc_config::{Config, ConfigFault, read};
+
+/// The longest configuration that is read, in bytes.
+const MAX_CONFIG_LEN: usize = 1_048_576;
+
+/// Room for a line of the report or of a refusal, in bytes.
+const TEXT_ROOM: usize = 128;
+
+/// How the program ended.
+#[derive(Clone, Copy, Debug, PartialEq, Eq)]
+pub enum Outcome {
+    /// The script was run to its end.
+    Done(Report),
+    /// A write failed.
+    SinkDown,
+    /// The arguments are wrong.
+    Usage,
+    /// The configuration's file can't be read, isn't UTF-8 or is too long.
+    Unreadable,
+    /// The configuration is refused.
+    Configuration(ConfigFault),
+    /// A line of the script is refused, or can't be read.
+    Script(u64),
+    /// There was no memory at the start.
+    NoMemory,
+    /// A count would have passed 2^64-1.
+    BookFull,
+}
+
+/// Runs the program with the arguments behind its own name. It gives the writer back beside the exit status.
+pub fn program<T: Files, R: Read, W: Write>(
+    rt: &T,
+    alloc: Global,
+    arguments: &[String],
+    reader: &mut R,
+    writer: W,
+) -> (W, u8)
+    ensures { result.1 < 8 }
+{
+    let Ok(mut text) = Vec::with_capacity(alloc, TEXT_ROOM) else {
+        return (without_memory(writer), 5);
+    };
+    let (writer, outcome) = run(rt, alloc, arguments, reader, writer);
+    finish(writer, &mut text, outcome)
+}
+
+/// Writes that there is no memory, and gives the writer back.
+fn without_memory<W: Write>(writer: W) -> W {
+    let mut lines = LineSink::new(WriteSink::new(writer));
+    let _ = lines.hand(b"tsc: no memory\n");
+    lines.end().end()
+}
+
+/// Writes the last text, and gives the writer back beside the exit status.
+fn finish<W: Write>(writer: W, text: &mut Vec<u8>, outcome: Outcome) -> (W, u8)
+    requires { TEXT_ROOM ≤ vec_capacity text.old }
+    ensures { result.1 < 8 }
+{
+    let (writer, written) = say_last(writer, text, &outcome);
+    (writer, exit_status(&outcome, written))
+}
+
+/// Writes the last text, and gives the writer back beside whether the text was taken whole.
+fn say_last<W: Write>(writer: W, text: &mut Vec<u8>, outcome: &Outcome) -> (W, bool)
+    requires { TEXT_ROOM ≤ vec_capacity text.old }
+{
+    let mut lines = LineSink::new(WriteSink::new(writer));
+    let written = say(&mut lines, text, outcome);
+    let sink = lines.end();
+    (sink.end(), written)
+}
+
+/// The exit status. A fault in writing the last text counts only where all else was done.
+fn exit_status(outcome: &Outcome, written: bool) -> u8
+    ensures status { result ≡ exit_status outcome.now written }
+    ensures below { result < 8 }
+{
+    match outcome {
+        Outcome::Done(_) => { if written { 0 } else { 1 } }
+        Outcome::SinkDown => 1,
+        Outcome::Usage => 2,
+        Outcome::Unreadable => 3,
+        Outcome::Configuration(_) => 3,
+        Outcome::Script(_) => 4,
+        Outcome::NoMemory => 5,
+        Outcome::BookFull => 7,
+    }
+}
+
+/// Does what the arguments say. `serve` is not there yet.
+fn run<T: Files, R: Read, W: Write>(
+    rt: &T,
+    alloc: Global,
+    arguments: &[String],
+    reader: &mut R,
+    writer: W,
+) -> (W, Outcome) {
+    let [command, path] = arguments else {
+        return (writer, Outcome::Usage);
+    };
+    if command.as_str() != "replay" {
+        return (writer, Outcome::Usage);
+    }
+    let config = match load(rt, alloc, path.as_str()) {
+        Ok(config) => config,
+        Err(outcome) => return (writer, outcome),
+    };
+    let (sink, answer) = replay_run(
+        alloc,
+        config.policies,
+        config.decision_wait,
+        reader,
+        WriteSink::new(writer),
+    );
+    (sink.end(), outcome_of(answer))
+}
+
+fn outcome_of(answer: Result<Report, RunFault>) -> Outcome
+    ensures { result ≡ outcome_of answer }
+{
+    match answer {
+        Ok(report) => Outcome::Done(report),
+        Err(RunFault::NoMemory) => Outcome::NoMemory,
+        Err(RunFault::Refused(line)) => Outcome::Script(line),
+        Err(RunFault::Fault(line)) => Outcome::Script(line),
+        Err(RunFault::BookFull) => Outcome::BookFull,
+        Err(RunFault::SinkDown(_)) => Outcome::SinkDown,
+    }
+}
+
+/// Reads the configuration from its file.
+fn load<T: Files>(rt: &T, alloc: Global, path: &str) -> Result<Config, Outcome>
+    ensures { IfOk result (λ config. 0 < config.decision_wait) }
+{
+    let bytes = read_file(rt, alloc, path)?;
+    let Ok(text) = String::from_utf8(bytes) else {
+        return Err(Outcome::Unreadable);
+    };
+    match read(alloc, text.as_str()) {
+        Ok(config) => Ok(config),
+        Err(fault) => Err(Outcome::Configuration(fault)),
+    }
+}
+
+fn read_file<T: Files>(rt: &T, alloc: Global, path: &str) -> Result<Vec<u8>, Outcome> {
+    let Ok(mut file) = fs::open(rt, path) else {
+        return Err(Outcome::Unreadable);
+    };
+    let mut bytes = Vec::new(alloc);
+    for _ in 0..u64::MAX {
+        if !read_chunk(&mut file, &mut bytes)? {
+            return Ok(bytes);
+        }
+    }
+    Err(Outcome::Unreadable)
+}
+
+/// Reads some more bytes, and answers whether there may be more behind them.
+fn read_chunk<F: Read>(file: &mut F, bytes: &mut Vec<u8>) -> Result<bool, Outcome> {
+    let mut chunk = [0u8; 4096];
+    match file.read(&mut chunk) {
+        Ok(0) => Ok(false),
+        Ok(count) => {
+            if bytes.len() > MAX_CONFIG_LEN || count > MAX_CONFIG_LEN - bytes.len() {
+                return Err(Outcome::Unreadable);
+            }
+            match bytes.extend_from_slice(&chunk[..count]) {
+                Ok(()) => Ok(true),
+                Err(_) => Err(Outcome::NoMemory),
+            }
+        }
+        Err(error) if error.kind() == ErrorKind::Interrupted => Ok(true),
+        Err(_) => Err(Outcome::Unreadable),
+    }
+}
+
+/// Writes the last text, and answers whether it was taken whole. Once a write of the run failed nothing more is written.
+fn say<S: Sink>(lines: &mut LineSink<S>, text: &mut Vec<u8>, outcome: &Outcome) -> bool
+    requires { TEXT_ROOM ≤ vec_capacity text.old }
+{
+    match outcome {
+        Outcome::Done(report) => say_report(lines, text, report),
+        Outcome::SinkDown => true,
+        Outcome::Usage => {
+            lines
+                .hand(b"tsc: usage: tsc replay CONFIG or tsc serve CONFIG\n")
+                .is_ok()
+        }
+        Outcome::Unreadable => {
+            lines
+                .hand(b"tsc: configuration refused: unreadable\n")
+                .is_ok()
+        }
+        Outcome::Configuration(fault) => say_fault(lines, text, *fault),
+        Outcome::Script(line) => {
+            text.clear();
+            put(text, b"tsc: script refused: line ");
+            put_number(text, *line);
+            lines.hand(text).is_ok()
+        }
+        Outcome::NoMemory => lines.hand(b"tsc: no memory\n").is_ok(),
+        Outcome::BookFull => lines.hand(b"tsc: book full\n").is_ok(),
+    }
+}
+
+/// Writes a fault of the configuration by its number, and a fault of its policies as `7.P`.
+fn say_fault<S: Sink>(lines: &mut LineSink<S>, text: &mut Vec<u8>, fault: ConfigFault) -> bool
+    requires { TEXT_ROOM ≤ vec_capacity text.old }
+{
+    text.clear();
+    put(text, b"tsc: configuration refused: ");
+    match fault {
+        ConfigFault::Policy(policy) => {
+            put(text, b"7.");
+            put_number(text, u64::from(policy.number()));
+        }
+        _ => put_number(text, u64::from(fault.number())),
+    }
+    lines.hand(text).is_ok()
+}
+
+/// Writes the nine counts, a line each.
+fn say_report<S: Sink>(lines: &mut LineSink<S>, text: &mut Vec<u8>, report: &Report) -> bool
+    requires { TEXT_ROOM ≤ vec_capacity text.old }
+{
+    let rows: [(&[u8], Count); 9] = [
+        (b"received ", Count::Received),
+        (b"handed ", Count::Handed),
+        (b"dropped 1 ", Count::Dropped(Reason::InvalidId)),
+        (b"dropped 2 ", Count::Dropped(Reason::QueueFull)),
+        (b"dropped 3 ", Count::Dropped(Reason::NoMemory)),
+        (b"dropped 4 ", Count::Dropped(Reason::Evicted)),
+        (b"dropped 5 ", Count::Dropped(Reason::NotSampled)),
+        (b"dropped 6 ", Count::Dropped(Reason::LateNotSampled)),
+        (b"dropped 7 ", Count::Dropped(Reason::ExporterDown)),
+    ];
+    let mut written = true;
+    for (name, what) in rows {
+        written = say_count(lines, text, name, report.number(what)) && written;
+    }
+    written
+}
+
+/// Writes a count behind its name.
+fn say_count<S: Sink>(lines: &mut LineSink<S>, text: &mut Vec<u8>, name: &[u8], number: u64) -> bool
+    requires room { TEXT_ROOM ≤ vec_capacity text.old }
+    requires short { length name.now ≤ 10 }
+    ensures room { TEXT_ROOM ≤ vec_capacity text.new }
+{
+    text.clear();
+    put(text, name);
+    put_number(text, number);
+    lines.hand(text).is_ok()
+}
+
+/// Appends a number and a line feed.
+fn put_number(text: &mut Vec<u8>, number: u64)
+    requires { vec_len text.old + 41 ≤ vec_capacity text.old }
+    ensures line { text.new.items ≡ text.old.items ++ decimal number ++ codes "\n" }
+    ensures capacity { vec_capacity text.old ≤ vec_capacity text.new }
+{
+    let mut digits = Buffer::new();
+    put(text, digits.format(number).as_bytes());
+    put(text, b"\n");
+}
