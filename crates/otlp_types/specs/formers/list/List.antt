@@ -53,7 +53,7 @@ the_places from to along alike =
     (invariant from.Denot) (invariant to.Denot) (λ held p q. refl) (λ held p q. refl) (λ held e. tt) (λ held e. tt)
     (over (inside.the_row from)) (over (inside.the_row to))
     (struct_places (inside.the_type from) (inside.the_type to) (vec.mapped along, tt) _ (λ held. refl) refl
-        (laid _ _ _ (vec.the_places global.the_row ghosts from to along alike), tt))
+    (laid _ _ _ (vec.the_places global.the_row ghosts from to along alike), tt))
 
 -- and their codes are alike too
 pub the_codes_placed : (from to : RattleType) (along : from.Denot → to.Denot) → Recodes from to along
