@@ -1,0 +1,56 @@
+//! A table of bodies with what each is read as: the canonical text of its request, or a refusal. Each row of
+//! `readings.tsv` is a body, a tab, and the expected answer. The answers come from another implementation of the
+//! formats (OTLP 1.x, JSON encoding). The gate runs it and compares what it prints.
+//!
+//! Where memory is refused it ends with status 1 and answers nothing, so that a run for each allocation that is
+//! refused in turn shows that no other answer changes.
+#![tactic(auto)]
+
+use otlp_flatten::{flatten, group};
+use otlp_json::{Bad, decode, encode};
+use otlp_types::Request;
+use std::alloc::{AllocError, Global};
+use std::process::ExitCode;
+use std::{fs, io};
+
+/// Whether a row's body is read as it says. `Err` where memory was refused.
+fn holds(alloc: Global, row: &[u8]) -> Result<bool, AllocError> {
+    let Some(tab) = row.iter().position(|byte| *byte == b'\t') else {
+        return Ok(false);
+    };
+    let expected = &row[tab + 1..];
+    match decode(alloc, &row[..tab]) {
+        Ok(request) => {
+            let text = encode(alloc, &request)?;
+            Ok(text.as_slice() == expected && keeps_records(alloc, request)?)
+        }
+        Err(Bad::Json) => Ok(expected == b"not JSON".as_slice()),
+        Err(Bad::Shape) => Ok(expected == b"wrong shape".as_slice()),
+        Err(Bad::NoMemory) => Err(AllocError),
+    }
+}
+
+/// Whether as many records stand in the groups of a request's records.
+fn keeps_records(alloc: Global, request: Request) -> Result<bool, AllocError> {
+    let records = flatten(alloc, request)?;
+    let grouped = flatten(alloc, group(alloc, &records)?)?;
+    Ok(grouped.len() == records.len())
+}
+
+fn main(rt: HostRuntime) -> io::Result<ExitCode> {
+    let table = fs::read(&rt, "readings.tsv")?;
+    let mut rows = 0u64;
+    let mut wrong = 0u64;
+    for row in table.split(|byte| *byte == b'\n') {
+        if row.is_empty() {
+            continue;
+        }
+        rows = rows.saturating_add(1);
+        if !holds(rt.alloc(), row)? {
+            wrong = wrong.saturating_add(1);
+            println!(rt; "row {rows} is read otherwise")?;
+        }
+    }
+    println!(rt; "{rows} readings, {wrong} wrong")?;
+    Ok(ExitCode::from(0))
+}
