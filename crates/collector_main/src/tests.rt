@@ -204,6 +204,18 @@ fn moments_go_back(rt: HostRuntime) -> Result<(), Fail> {
     )
 }
 
+/// The greatest time is kept as it came. One nanosecond more is of another shape.
+#[test]
+fn times_at_the_top(rt: HostRuntime) -> Result<(), Fail> {
+    check(
+        &rt,
+        EVERYTHING,
+        b"recv 1 0 {\"resourceSpans\":[{\"scopeSpans\":[{\"spans\":[{\"traceId\":\"5b8efff798038103d269b633813fc60c\",\"spanId\":\"eee19b7ec3c1b174\",\"startTimeUnixNano\":\"18446744073709551615\"}]}]}]}\nrecv 1 0 {\"resourceSpans\":[{\"scopeSpans\":[{\"spans\":[{\"traceId\":\"5b8efff798038103d269b633813fc60c\",\"spanId\":\"eee19b7ec3c1b174\",\"startTimeUnixNano\":\"18446744073709551616\"}]}]}]}\n",
+        b"reply 200 {}\nreply 400 {\"message\":\"wrong shape\"}\n{\"resourceSpans\":[{\"scopeSpans\":[{\"spans\":[{\"spanId\":\"eee19b7ec3c1b174\",\"startTimeUnixNano\":\"18446744073709551615\",\"traceId\":\"5b8efff798038103d269b633813fc60c\"}]}]}]}\n",
+        [1, 1, 0, 0, 0, 0, 0, 0, 0],
+    )
+}
+
 /// The count of discarded attributes stays at its greatest value.
 #[test]
 fn discarded_double_at_the_top_count(rt: HostRuntime) -> Result<(), Fail> {

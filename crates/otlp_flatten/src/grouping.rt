@@ -58,7 +58,7 @@ fn scope_group<T: HasRecord>(alloc: Global, spans: &[T]) -> Result<ScopeSpans, A
     ensures key { IfOk result (λ group. Some (scope_key group)
         ≡ option_map (λ x. scope_of (T.record_in x)) (slice_get spans.now 0)) }
 {
-    let mut copies = List::new(alloc);
+    let mut copies = List::from_vec(Vec::with_capacity(alloc, spans.len())?);
     for item in spans {
         copies.push(item.rec().span.try_clone(alloc)?)?;
     }

@@ -1,4 +1,5 @@
-ghost use Rattle.std.specs.Prelude.{◌≡◌, ◌++◌, IfOk, OnOk, map, flat_map};
+ghost use Rattle.std.specs.Prelude.{◌≡◌, ◌++◌, ◌-◌, ◌^◌, IfOk, OnOk, length, map, flat_map, min};
+ghost use Rattle.std.specs.List.{sum_by};
 ghost use Rattle.otlp_flatten.specs.Flat.{record_with, scope_records, resource_records, records_of};
 
 use otlp_types::{
@@ -7,14 +8,40 @@ use otlp_types::{
 use std::alloc::{AllocError, Global};
 
 /// The spans of a request in document order: resource, scope, span (`trace.proto` v1). `Err` only where memory was refused.
+///
+/// Room for all of them is taken once, at the start. Each span is moved; its resource and scope are copied.
 pub fn flatten(alloc: Global, request: Request) -> Result<Vec<Record>, AllocError>
     ensures { IfOk result (λ records. records.items ≡ records_of request) }
 {
-    let mut records = Vec::new(alloc);
+    let mut records = Vec::with_capacity(alloc, span_count(&request))?;
     for group in request.resource_spans.into_vec() {
         push_resource(alloc, &mut records, group)?;
     }
     Ok(records)
+}
+
+/// How many spans a request has.
+fn span_count(request: &Request) -> usize
+    ensures { result ≡ min
+        (sum_by (λ group. sum_by (λ part. length part.spans) group.scope_spans) request.now.resource_spans)
+        (2 ^ 64 - 1) }
+{
+    let mut count = 0usize;
+    for group in request.resource_spans.as_slice() {
+        count = count.saturating_add(scope_span_count(group.scope_spans.as_slice()));
+    }
+    count
+}
+
+/// How many spans the groups of one resource have.
+fn scope_span_count(groups: &[ScopeSpans]) -> usize
+    ensures { result ≡ min (sum_by (λ group. length group.spans) groups.now) (2 ^ 64 - 1) }
+{
+    let mut count = 0usize;
+    for group in groups {
+        count = count.saturating_add(group.spans.len());
+    }
+    count
 }
 
 fn push_resource(

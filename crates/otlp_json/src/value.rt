@@ -162,7 +162,7 @@ fn kv_list(alloc: Global, value: &Value, levels: usize) -> Result<Option<AnyValu
 fn values(alloc: Global, items: &[Value], levels: usize) -> Result<(List<AnyValue>, usize), Bad>
     ensures { Gives result (option_map sieved (each (value_to levels) (items_view items.now))) }
 {
-    let mut kept = List::new(alloc);
+    let mut kept = List::from_vec(Vec::with_capacity(alloc, items.len())?);
     let mut discarded = 0;
     for item in items {
         match value_to(alloc, item, levels)? {
@@ -183,7 +183,7 @@ pub fn key_values(
     ensures { Gives result
         (option_map sieved (each (message (key_value (value_to levels))) (items_view items.now))) }
 {
-    let mut kept = List::new(alloc);
+    let mut kept = List::from_vec(Vec::with_capacity(alloc, items.len())?);
     let mut discarded = 0;
     for item in items {
         match key_value(alloc, item, levels)? {

@@ -86,7 +86,7 @@ impl<T: Drop> List<T> {
 
 impl<T: TryClone + Drop> TryClone for List<T> {
     fn try_clone(&self, alloc: Global) -> Result<List<T>, AllocError> {
-        let mut copy = List::new(alloc);
+        let mut copy = List::from_vec(Vec::with_capacity(alloc, self.len())?);
         for item in self.as_slice() {
             copy.push(item.try_clone(alloc)?)?;
         }

@@ -1,0 +1,7 @@
+use Rattle.std.proofs.Common.{◌≡◌}
+use Rattle.std.specs.Prelude.{◌-◌, ◌^◌, length, min, take}
+use Rattle.std.specs.List.{sum_by}
+use Rattle.otlp_flatten.proofs.records.span_count.Given as goal
+
+abbrev pub invariant-loop-group : goal.invariant-loop-group
+invariant-loop-group l = l.count ≡ min (sum_by (λ group. sum_by (λ part. length part.spans) group.scope_spans) (take l.group-index l.request.resource_spans)) (2 ^ 64 - 1)
