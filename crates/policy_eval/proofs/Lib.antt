@@ -1,2 +1,3 @@
 pub mod Verdicts
-pub mod Rows
+pub mod Turns
+mod Rows

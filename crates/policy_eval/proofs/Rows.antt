@@ -1,7 +1,7 @@
 -- Worked rows of the policies' meaning, by computation.
 use Rattle.std.specs.Prelude.{ℕ, Bool, true, false, pos, List, [], ◌∷◌, ◌++◌, map, None, ◌≡◌, refl}
-use Rattle.policy_eval.specs.Policies.{Policy, Policies, no_more, one_more, Leaf, leaf, and_policy, rate_limiting, always_sample, latency, status_code, attribute, span_count, text_among, whole_within, truth_of, sample, not_sample, inverted_sample, inverted_not_sample, leaf_answer, is_slow, is_within, verdict, verdict_of_answers, asked_nodes, limiters}
-use Rattle.policy_eval.specs.Limiter.{Asking, grants}
+use Rattle.policy_tree.specs.Tree.{Policy, Policies, no_more, one_more, Leaf, leaf, and_policy, rate_limiting, always_sample, latency, status_code, attribute, span_count, text_among, whole_within, truth_of}
+use Rattle.policy_eval.specs.Policies.{sample, not_sample, inverted_sample, inverted_not_sample, leaf_answer, is_slow, is_within, verdict, verdict_of_answers, asked_nodes}
 use Rattle.otlp_types.specs.declared.arrival.Arrival.{Arrival}
 use Rattle.otlp_types.specs.declared.value.AnyValue.{AnyValue}
 use Rattle.otlp_types.specs.declared.value.AnyValue.TheVariants.{Str, Int, Bool as Truth}
@@ -110,17 +110,12 @@ no_then_rate = one_more (and_policy (one_more (leaf (span_count 2 0)) (one_more 
 pub asks_no_further : asked_nodes no_then_rate (λ n. true) (arrival 0 0 0 [] [] ∷ []) ≡ 3 ∷ []
 asks_no_further = refl
 
-pub limiter_nodes : limiters no_then_rate ≡ (2, 3) ∷ (3, 4) ∷ []
-limiter_nodes = refl
+-- an `and` of a latency of 500 and a limit of 3: the limiter isn't asked for 499 ms
+abbrev slow_and_granted : Policies
+slow_and_granted = one_more (and_policy (one_more (leaf (latency 500 0)) (one_more (rate_limiting 3) no_more))) no_more
 
--- the askings of one limiter node, each with its answer
-abbrev asks : (limit : ℕ) → List (ℕ × ℕ) → (earlier : List Asking) → List Bool
-asks limit [] earlier = []
-asks limit (a ∷ rest) earlier = let g = grants limit earlier a.0 a.1 in g ∷ asks limit rest (record { node = 0; second = a.0; spans = a.1; granted = g } ∷ earlier)
+pub and_of_latency_and_rate : map (λ (end : ℕ). asked_nodes slow_and_granted (λ n. true) (arrival 0 0 end [] [] ∷ [])) (499999999 ∷ 500000000 ∷ []) ≡ [] ∷ (2 ∷ []) ∷ []
+and_of_latency_and_rate = refl
 
-pub askings_of_one_node : asks 3 ((5, 2) ∷ (4, 2) ∷ (4, 1) ∷ (6, 3) ∷ (5, 1) ∷ []) [] ≡ true ∷ false ∷ true ∷ true ∷ false ∷ []
-askings_of_one_node = refl
-
--- a refused asking takes nothing from its second
-pub refused_asking : grants 3 (record { node = 0; second = 5; spans = 9; granted = false } ∷ []) 5 3 ≡ true
-refused_asking = refl
+pub granted_or_not : map (λ (b : Bool). verdict slow_and_granted (λ n. b) (arrival 0 0 500000000 [] [] ∷ [])) (true ∷ false ∷ []) ≡ ForIt ∷ AgainstIt ∷ []
+granted_or_not = refl

@@ -1,9 +1,8 @@
 -- The verdict by which answers the top policies gave.
 use Rattle.std.proofs.Common.{◌≡◌, ℕ, suc, ◌+◌, ◌<◌, min, max, Bool, true, false, ◌||◌, List, [], ◌∷◌, length, drop, get_or, refl, sym, ap, ◌∙◌, arith, drop-cons, add-one}
 use Rattle.policy_eval.specs.Policies as spec
-use Rattle.policy_eval.specs.Meaning.{meaning, leaf_of, answer_of, seen_with, verdict_of_seen}
+use Rattle.policy_eval.specs.Meaning.{answer_of, seen_with, verdict_of_seen}
 use Rattle.policy_eval.specs.declared.answer.Seen.{Seen}
-use Rattle.policy_tree.specs.declared.policy.Policy.{Policy}
 use Rattle.otlp_types.specs.declared.arrival.Arrival.{Arrival}
 
 -- which answers were seen, and what the others will answer
@@ -29,21 +28,6 @@ tells-more s spec.inverted_not_sample rest all t = record { sample = t.sample; n
 
 pub tells-all : (s : Seen) (all : List spec.Answer) → Tells s [] all → verdict_of_seen s ≡ spec.verdict_of_answers all
 tells-all s all t = rw (t.sample ∙ or-end s.sample, t.not_sample ∙ or-end s.not_sample, t.inverted_sample ∙ or-end s.inverted_sample, t.inverted_not_sample ∙ or-end s.inverted_not_sample)
-
--- the answers of policies that ask no limiter
-abbrev pub answers_of : List Arrival → List Policy → List spec.Answer
-answers_of spans [] = []
-answers_of spans (p ∷ rest) = spec.leaf_answer (leaf_of p.kind) spans ∷ answers_of spans rest
-
-pub answers-are : (ps : List Policy) (node : ℕ) (granted : ℕ → Bool) (spans : List Arrival) → spec.answers (meaning ps) node granted spans ≡ answers_of spans ps
-answers-are [] node granted spans = refl
-answers-are (p ∷ ps) node granted spans = ap (λ (rest : List spec.Answer). spec.leaf_answer (leaf_of p.kind) spans ∷ rest) (answers-are ps (node + 1) granted spans)
-
-pub next-answer : (spans : List Arrival) (ps : List Policy) (i : ℕ) (p : Policy) → i < length ps → p ≡ get_or ps i p → answers_of spans (drop i ps) ≡ spec.leaf_answer (leaf_of p.kind) spans ∷ answers_of spans (drop (i + 1) ps)
-next-answer spans ps i p h e =
-    ap (answers_of spans) (drop-cons ps i p h)
-    ∙ ap (λ (q : Policy). spec.leaf_answer (leaf_of q.kind) spans ∷ answers_of spans (drop (suc i) ps)) (sym e)
-    ∙ ap (λ k. spec.leaf_answer (leaf_of p.kind) spans ∷ answers_of spans (drop k ps)) (sym (add-one i))
 
 -- ---- latencies
 

@@ -1,3 +1,4 @@
 pub mod Policies
-pub mod Limiter
 pub mod Meaning
+pub mod AskingLaws
+pub mod Laws

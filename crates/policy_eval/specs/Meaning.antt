@@ -1,35 +1,13 @@
--- What the policies of a program mean.
-use Rattle.std.specs.Prelude.{true, not, ◌&&◌, if◌then◌else◌, List, [], ◌∷◌}
+-- The program's answers, and the askings of a limiter.
+use Rattle.std.specs.Prelude.{ℕ, ◌≤◌, ◌≡◌, Bool, true, false, not, ◌&&◌, if◌then◌else◌, List, [], ◌∷◌}
+use Rattle.std.specs.List.{list_all}
 use Rattle.policy_eval.specs.Policies as spec
-use Rattle.policy_tree.specs.declared.policy.Policy.{Policy}
-use Rattle.policy_tree.specs.declared.policy.PolicyKind.{PolicyKind}
-use Rattle.policy_tree.specs.declared.policy.PolicyKind.TheVariants.{AlwaysSample, Latency, StatusCode, Attribute, SpanCount}
-use Rattle.policy_tree.specs.declared.policy.Wanted.{Wanted}
-use Rattle.policy_tree.specs.declared.policy.Wanted.TheVariants.{StringAmong, NumberWithin, Boolean}
+use Rattle.policy_tree.specs.declared.limiter_node.LimiterNode.{LimiterNode}
 use Rattle.policy_eval.specs.declared.answer.Answer.{Answer}
 use Rattle.policy_eval.specs.declared.answer.Answer.TheVariants.{Sample, NotSample, InvertedSample, InvertedNotSample}
 use Rattle.policy_eval.specs.declared.answer.Seen.{Seen}
 use Rattle.span_ids.specs.declared.outcome.Verdict.{Verdict}
 use Rattle.span_ids.specs.declared.outcome.Verdict.TheVariants.{Sampled, NotSampled}
-
--- what the value of an attribute is to be
-abbrev pub wanted_of : Wanted → spec.Wanted
-wanted_of (StringAmong values) = spec.text_among values
-wanted_of (NumberWithin least greatest) = spec.whole_within least greatest
-wanted_of (Boolean value) = spec.truth_of value
-
--- the leaf that a kind is
-abbrev pub leaf_of : PolicyKind → spec.Leaf
-leaf_of AlwaysSample = spec.always_sample
-leaf_of (Latency threshold upper) = spec.latency threshold upper
-leaf_of (StatusCode codes) = spec.status_code codes
-leaf_of (Attribute key wanted invert) = spec.attribute key (wanted_of wanted) invert
-leaf_of (SpanCount least most) = spec.span_count least most
-
--- what the policies mean, in order: a name means nothing
-abbrev pub meaning : List Policy → spec.Policies
-meaning [] = spec.no_more
-meaning (p ∷ rest) = spec.one_more (spec.leaf (leaf_of p.kind)) (meaning rest)
 
 -- the program's answer
 abbrev pub answer_of : spec.Answer → Answer
@@ -37,6 +15,13 @@ answer_of spec.sample = Sample
 answer_of spec.not_sample = NotSample
 answer_of spec.inverted_sample = InvertedSample
 answer_of spec.inverted_not_sample = InvertedNotSample
+
+-- an answer for the trace
+abbrev pub is_for : Answer → Bool
+is_for Sample = true
+is_for InvertedSample = true
+is_for NotSample = false
+is_for InvertedNotSample = false
 
 -- which answers were given, with one more
 abbrev pub seen_with : Answer → Seen → Seen
@@ -52,3 +37,22 @@ verdict_of_seen s =
     else if s.sample then Sampled
     else if s.inverted_sample && not s.not_sample then Sampled
     else NotSampled
+
+-- ---- a limiter, by what it grants at a node in a second for a number of spans
+
+-- the limiter after these nodes were asked in turn
+abbrev pub after_asking : {S : Type 0} → (after : S → ℕ → ℕ → ℕ → S) → (second spans : ℕ) → List ℕ → S → S
+after_asking after second spans [] s = s
+after_asking after second spans (n ∷ rest) s = after_asking after second spans rest (after s n second spans)
+
+-- it knows each of these limiter nodes
+abbrev pub knows : (has_node : ℕ → Bool) → List LimiterNode → Bool
+knows has_node nodes = list_all (λ (l : LimiterNode). has_node l.node) nodes
+
+-- at the nodes from `node` on it grants so
+abbrev pub GrantsFrom : (grants_at : ℕ → ℕ → ℕ → Bool) → (second spans node : ℕ) → (granted : ℕ → Bool) → Type 0
+GrantsFrom grants_at second spans node granted = (m : ℕ) → node ≤ m → grants_at m second spans ≡ granted m
+
+-- at the nodes from `node` on nothing changed
+abbrev pub SameFrom : (old new : ℕ → ℕ → ℕ → Bool) → (node : ℕ) → Type 0
+SameFrom old new node = (m s k : ℕ) → node ≤ m → new m s k ≡ old m s k

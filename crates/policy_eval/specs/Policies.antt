@@ -2,39 +2,13 @@
 use Rattle.std.specs.Prelude.{ℕ, ◌+◌, ◌-◌, ◌/◌, min, max, ℤ, Bool, true, false, not, ◌&&◌, ◌||◌, if◌then◌else◌, ◌==◌, nat_lt, nat_le, List, [], ◌∷◌, ◌++◌, length, bytes_eq, int_le}
 use Rattle.std.specs.List.{list_any}
 use Rattle.std.specs.Ordering.{int_eq}
+use Rattle.policy_tree.specs.Tree.{Wanted, text_among, whole_within, truth_of, Leaf, always_sample, latency, status_code, attribute, span_count, Policy, leaf, rate_limiting, and_policy, Policies, no_more, one_more, nodes}
 use Rattle.otlp_types.specs.declared.arrival.Arrival.{Arrival}
 use Rattle.otlp_types.specs.declared.value.AnyValue.{AnyValue}
 use Rattle.otlp_types.specs.declared.value.AnyValue.TheVariants.{Str, Int, Bool as Truth}
 use Rattle.otlp_types.specs.declared.value.KeyValue.{KeyValue}
 use Rattle.span_ids.specs.declared.outcome.Verdict.{Verdict}
 use Rattle.span_ids.specs.declared.outcome.Verdict.TheVariants.{Sampled, NotSampled}
-
--- what an attribute's value is to be
-pub data Wanted : Type 0 where
-  text_among : List (List ℕ) → Wanted
-  whole_within : (least greatest : ℤ) → Wanted
-  truth_of : Bool → Wanted
-
--- a policy that has no parts and asks no limiter; times are milliseconds, and an upper bound of 0 is none
-pub data Leaf : Type 0 where
-  always_sample : Leaf
-  latency : (threshold_ms upper_threshold_ms : ℕ) → Leaf
-  status_code : (codes : List ℤ) → Leaf
-  attribute : (key : List ℕ) (wanted : Wanted) (invert_match : Bool) → Leaf
-  span_count : (min_spans max_spans : ℕ) → Leaf
-
--- a policy, and a list of policies
-mutual
-  -- a policy without its name
-  pub data Policy : Type 0 where
-    leaf : Leaf → Policy
-    rate_limiting : (spans_per_second : ℕ) → Policy
-    and_policy : Policies → Policy
-
-  -- the policies of one list, in order
-  pub data Policies : Type 0 where
-    no_more : Policies
-    one_more : Policy → Policies → Policies
 
 -- what a policy answers for the spans of a trace
 pub data Answer : Type 0 where
@@ -112,20 +86,6 @@ leaf_answer (status_code codes) spans = plain (has_status codes spans)
 leaf_answer (attribute key wanted invert) spans = if invert then inverted (matches key wanted spans) else plain (matches key wanted spans)
 leaf_answer (span_count least most) spans = plain (is_within least most (length spans))
 
--- ---- nodes: a node's number is its place in the walk that takes a policy before its parts
-
-abbrev mutual
-  -- how many policies there are in this one, itself too
-  pub nodes : Policy → ℕ
-  nodes (leaf l) = 1
-  nodes (rate_limiting limit) = 1
-  nodes (and_policy parts) = nodes_in parts + 1
-
-  -- how many policies there are in all of these
-  pub nodes_in : Policies → ℕ
-  nodes_in no_more = 0
-  nodes_in (one_more p rest) = nodes p + nodes_in rest
-
 -- ---- answers: `granted` is the limiter's answer at each node
 
 -- an answer for the trace
@@ -198,21 +158,3 @@ verdict policies granted spans = verdict_of_answers (answers policies 0 granted 
 -- the limiter nodes that such a decision asks, in the walk's order
 abbrev pub asked_nodes : Policies → (granted : ℕ → Bool) → List Arrival → List ℕ
 asked_nodes policies granted spans = asked_at_top policies 0 granted spans
-
--- ---- limits
-
-abbrev mutual
-  -- the limiter nodes of a policy with their limits, in spans per second
-  pub limits : Policy → (node : ℕ) → List (ℕ × ℕ)
-  limits (leaf l) node = []
-  limits (rate_limiting limit) node = (node, limit) ∷ []
-  limits (and_policy parts) node = limits_in parts (node + 1)
-
-  -- those of all of these
-  pub limits_in : Policies → (node : ℕ) → List (ℕ × ℕ)
-  limits_in no_more node = []
-  limits_in (one_more p rest) node = limits p node ++ limits_in rest (node + nodes p)
-
--- the limiter nodes with their limits
-abbrev pub limiters : Policies → List (ℕ × ℕ)
-limiters policies = limits_in policies 0

@@ -1,6 +1,6 @@
-ghost use Rattle.std.specs.Prelude.{◌≡◌};
+ghost use Rattle.std.specs.Prelude.{◌≡◌, if◌then◌else◌};
 ghost use Rattle.policy_eval.specs.Policies.{plain, inverted};
-ghost use Rattle.policy_eval.specs.Meaning.{answer_of, seen_with, verdict_of_seen};
+ghost use Rattle.policy_eval.specs.Meaning.{answer_of, is_for, seen_with, verdict_of_seen};
 
 use span_ids::Verdict;
 
@@ -27,14 +27,26 @@ impl Answer {
         }
     }
 
-    /// The answer of a policy with `invert_match`.
-    pub fn inverted(holds: bool) -> Answer
-        ensures { result ≡ answer_of (inverted holds) }
+    /// The answer of a policy on attributes: with `invert_match` not to sample where it matches.
+    pub fn of_match(holds: bool, invert_match: bool) -> Answer
+        ensures { result ≡ answer_of (if invert_match then inverted holds else plain holds) }
     {
-        if holds {
+        if !invert_match {
+            Answer::plain(holds)
+        } else if holds {
             Answer::InvertedNotSample
         } else {
             Answer::InvertedSample
+        }
+    }
+
+    /// Whether it is an answer for the trace.
+    pub fn samples(self) -> bool
+        ensures { result ≡ is_for self }
+    {
+        match self {
+            Answer::Sample | Answer::InvertedSample => true,
+            Answer::NotSample | Answer::InvertedNotSample => false,
         }
     }
 }

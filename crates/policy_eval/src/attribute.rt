@@ -1,6 +1,6 @@
 ghost use Rattle.std.specs.Prelude.{◌≡◌};
 ghost use Rattle.policy_eval.specs.Policies.{matches, has_wanted, is_among, is_wanted};
-ghost use Rattle.policy_eval.specs.Meaning.{wanted_of};
+ghost use Rattle.policy_tree.specs.Meaning.{wanted_of};
 
 use otlp_types::{AnyValue, Arrival, KeyValue, Text};
 use policy_tree::Wanted;

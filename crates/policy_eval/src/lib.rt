@@ -1,11 +1,16 @@
 //! The verdict of policies on the spans of a trace (tailsamplingprocessor README, "Policies").
 //!
-//! The definitions give the meaning of all kinds of policies; the kinds that `policy_tree` has so far ask no limiter.
+//! An answer of the limiter is an input of the verdict's definition: whichever limiter it is, the verdict is that of the
+//! policies where it grants so, and it is asked just what they ask.
 #![tactic(auto)]
 
 mod answer;
 mod attribute;
 mod latency;
+mod laws;
+#[cfg(test)]
+mod tests;
 mod verdict;
 
+pub use laws::{asked_nodes_rise, decisions_keep_the_counts};
 pub use verdict::evaluate;

@@ -1,11 +1,10 @@
 -- Which lists of policies are refused, and why (tailsamplingprocessor README, "Policies").
-use Rattle.std.specs.Prelude.{ℕ, Bool, false, ◌||◌, ◌&&◌, not, if◌then◌else◌, nat_lt, nat_le, int_lt, ◌==◌, List, [], ◌∷◌, length, bytes_eq, Option, Some, None}
+use Rattle.std.specs.Prelude.{ℕ, Bool, false, ◌||◌, ◌&&◌, not, if◌then◌else◌, nat_lt, nat_le, int_lt, ◌==◌, List, [], ◌∷◌, map, length, bytes_eq, Option, Some, None}
 use Rattle.std.specs.List.{list_any}
-use Rattle.policy_tree.specs.declared.policy.Policy.{Policy}
-use Rattle.policy_tree.specs.declared.policy.PolicyKind.{PolicyKind}
-use Rattle.policy_tree.specs.declared.policy.PolicyKind.TheVariants.{AlwaysSample, Latency, StatusCode, Attribute, SpanCount}
-use Rattle.policy_tree.specs.declared.policy.Wanted.{Wanted}
-use Rattle.policy_tree.specs.declared.policy.Wanted.TheVariants.{StringAmong, NumberWithin, Boolean}
+use Rattle.policy_tree.specs.Tree.{Leaf, always_sample, latency, status_code, attribute, span_count, Wanted, text_among, whole_within, truth_of, nodes_in, depth_in, has_empty_list, some_leaf_in}
+use Rattle.policy_tree.specs.Meaning.{meaning}
+use Rattle.policy_tree.specs.declared.policy.Policy.{Policy, Policy-F, fold-Policy}
+use Rattle.policy_tree.specs.declared.policy.PolicyKind.TheOpen.{PolicyKind-F}
 use Rattle.policy_tree.specs.declared.fault.PolicyFault.{PolicyFault}
 use Rattle.policy_tree.specs.declared.fault.PolicyFault.TheVariants.{EmptyList, TooDeep, TooMany, SameName, CrossedBounds, NoValues, NoMemory}
 
@@ -19,57 +18,85 @@ number_of CrossedBounds = 5
 number_of NoValues = 6
 number_of NoMemory = 7
 
+-- ---- names
+
+-- a policy's name, and whether a list inside it has two policies of the same name
+pub record Named : Type 0 where
+  pub name : List ℕ
+  pub doubled : Bool
+
 -- some policy has this name
-abbrev pub has_name : (name : List ℕ) → List Policy → Bool
-has_name name policies = list_any (λ p. bytes_eq p.name name) policies
+abbrev pub has_name : (name : List ℕ) → List Named → Bool
+has_name name policies = list_any (λ (p : Named). bytes_eq p.name name) policies
 
 -- two of the policies have the same name
-abbrev pub has_same_names : List Policy → Bool
+abbrev pub has_same_names : List Named → Bool
 has_same_names [] = false
 has_same_names (p ∷ rest) = has_name p.name rest || has_same_names rest
 
+-- two policies of the list, or of a list inside it, have the same name
+abbrev pub is_doubled : List Named → Bool
+is_doubled policies = has_same_names policies || list_any (λ (p : Named). p.doubled) policies
+
+-- a kind's list, if it has one, with what is known of each policy in it
+abbrev pub doubled_step : PolicyKind-F Bool Named → Bool
+doubled_step PolicyKind-F.AlwaysSample = false
+doubled_step (PolicyKind-F.Latency threshold upper) = false
+doubled_step (PolicyKind-F.StatusCode codes) = false
+doubled_step (PolicyKind-F.Attribute key wanted invert) = false
+doubled_step (PolicyKind-F.SpanCount least most) = false
+doubled_step (PolicyKind-F.RateLimiting limit) = false
+doubled_step (PolicyKind-F.And policies) = is_doubled policies
+
+-- a policy, with what is known of its kind
+abbrev pub named_step : Policy-F Bool Named → Named
+named_step p = record { name = p.name; doubled = p.kind }
+
+-- a policy's name, and whether a list inside it has two policies of the same name
+abbrev pub named : Policy → Named
+named = fold-Policy Bool Named doubled_step named_step
+
+-- two policies of one list, at any level, have the same name
+abbrev pub has_doubled_names : List Policy → Bool
+has_doubled_names policies = is_doubled (map named policies)
+
+-- ---- leaves
+
 -- a value is to be one of no values
 abbrev pub wants_none : Wanted → Bool
-wants_none (StringAmong values) = length values == 0
-wants_none (NumberWithin least greatest) = false
-wants_none (Boolean value) = false
+wants_none (text_among values) = length values == 0
+wants_none (whole_within least greatest) = false
+wants_none (truth_of value) = false
 
 -- the policy looks for one of no values
-abbrev pub has_no_values : PolicyKind → Bool
-has_no_values AlwaysSample = false
-has_no_values (Latency threshold upper) = false
-has_no_values (StatusCode codes) = length codes == 0
-has_no_values (Attribute key wanted invert) = wants_none wanted
-has_no_values (SpanCount least most) = false
+abbrev pub has_no_values : Leaf → Bool
+has_no_values always_sample = false
+has_no_values (latency threshold upper) = false
+has_no_values (status_code codes) = length codes == 0
+has_no_values (attribute key wanted invert) = wants_none wanted
+has_no_values (span_count least most) = false
 
 -- a value is to be within bounds that leave nothing
 abbrev pub wants_crossed : Wanted → Bool
-wants_crossed (StringAmong values) = false
-wants_crossed (NumberWithin least greatest) = int_lt greatest least
-wants_crossed (Boolean value) = false
+wants_crossed (text_among values) = false
+wants_crossed (whole_within least greatest) = int_lt greatest least
+wants_crossed (truth_of value) = false
 
 -- an upper bound that isn't 0 leaves nothing, or the bounds of a number leave nothing
-abbrev pub has_crossed_bounds : PolicyKind → Bool
-has_crossed_bounds AlwaysSample = false
-has_crossed_bounds (Latency threshold upper) = not (upper == 0) && nat_le upper threshold
-has_crossed_bounds (StatusCode codes) = false
-has_crossed_bounds (Attribute key wanted invert) = wants_crossed wanted
-has_crossed_bounds (SpanCount least most) = not (most == 0) && nat_lt most least
-
--- one of the policies has crossed bounds
-abbrev pub some_has_crossed_bounds : List Policy → Bool
-some_has_crossed_bounds policies = list_any (λ (p : Policy). has_crossed_bounds p.kind) policies
-
--- one of the policies looks for one of no values
-abbrev pub some_has_no_values : List Policy → Bool
-some_has_no_values policies = list_any (λ (p : Policy). has_no_values p.kind) policies
+abbrev pub has_crossed_bounds : Leaf → Bool
+has_crossed_bounds always_sample = false
+has_crossed_bounds (latency threshold upper) = not (upper == 0) && nat_le upper threshold
+has_crossed_bounds (status_code codes) = false
+has_crossed_bounds (attribute key wanted invert) = wants_crossed wanted
+has_crossed_bounds (span_count least most) = not (most == 0) && nat_lt most least
 
 -- the least fault that a list of policies has
 abbrev pub fault_of_policies : List Policy → Option PolicyFault
 fault_of_policies policies =
-    if length policies == 0 then Some EmptyList
-    else if nat_lt 64 (length policies) then Some TooMany
-    else if has_same_names policies then Some SameName
-    else if some_has_crossed_bounds policies then Some CrossedBounds
-    else if some_has_no_values policies then Some NoValues
+    if has_empty_list (meaning policies) then Some EmptyList
+    else if nat_lt 8 (depth_in (meaning policies)) then Some TooDeep
+    else if nat_lt 64 (nodes_in (meaning policies)) then Some TooMany
+    else if has_doubled_names policies then Some SameName
+    else if some_leaf_in has_crossed_bounds (meaning policies) then Some CrossedBounds
+    else if some_leaf_in has_no_values (meaning policies) then Some NoValues
     else None

@@ -1,13 +1,18 @@
 //! Sampling policies as plain data, and lists of them that are within their limits
-//! (tailsamplingprocessor README, "Policies"). The types `rate_limiting` and `and` are not here yet.
+//! (tailsamplingprocessor README, "Policies").
 #![tactic(auto)]
 
 mod fault;
+mod leaves;
+mod limiter_node;
+mod names;
 mod policies;
 mod policy;
+mod shape;
 #[cfg(test)]
 mod tests;
 
 pub use fault::PolicyFault;
+pub use limiter_node::LimiterNode;
 pub use policies::Policies;
 pub use policy::{Policy, PolicyKind, Wanted};

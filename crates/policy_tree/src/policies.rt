@@ -1,18 +1,27 @@
-ghost use Rattle.std.specs.Prelude.{◌≡◌, None, IfOk};
+ghost use Rattle.std.specs.Prelude.{◌≡◌, ◌≤◌, ◌+◌, ◌++◌, false, None, IfOk};
 ghost use Rattle.std.specs.Result.{result_err};
-ghost use Rattle.policy_tree.specs.Faults.{fault_of_policies, has_same_names, has_name, has_no_values, some_has_no_values, has_crossed_bounds, some_has_crossed_bounds};
+ghost use Rattle.policy_tree.specs.Tree.{nodes, nodes_in, depth_in, has_empty_list, limits, limits_in, limiters};
+ghost use Rattle.policy_tree.specs.Meaning.{meaning, policy_meaning};
+ghost use Rattle.policy_tree.specs.Faults.{fault_of_policies};
 
 use crate::fault::PolicyFault;
-use crate::policy::{Policy, PolicyKind, Wanted};
+use crate::leaves::{some_has_crossed_bounds, some_has_no_values};
+use crate::limiter_node::LimiterNode;
+use crate::names::has_doubled_names;
+use crate::policy::{Policy, PolicyKind};
+use crate::shape::{count_in, depth_in, has_empty_list};
 use otlp_types::TryClone;
 use std::alloc::{AllocError, Global};
 use std::marker::Model;
 
-/// The greatest number of policies in all.
+/// The greatest number of levels of policies. A top policy is at level 1.
+const MOST_LEVELS: usize = 8;
+
+/// The greatest number of policies in all, each `and` counted too.
 const MOST_POLICIES: usize = 64;
 
-/// A list of policies within its limits: neither empty nor longer than 64, no two of one name, none with crossed
-/// bounds, and none without values to look for.
+/// A list of policies within its limits: no list is empty, there are at most 8 levels and at most 64 policies in all,
+/// no two policies of one list have the same name, none has crossed bounds, and none has no values to look for.
 #[derive(Debug, Drop)]
 pub struct Policies {
     list: Vec<Policy>,
@@ -21,8 +30,12 @@ pub struct Policies {
 impl Model for Policies {
     ghost use Rattle.std.specs.Prelude.{List, ◌≡◌, None};
     ghost use Rattle.policy_tree.specs.declared.policy.Policy.{Policy};
+    ghost use Rattle.std.specs.Coded.{codes};
+    ghost use Rattle.policy_tree.specs.contracts.policy.PolicyKind as kind;
 
     ghost Value = { List Policy };
+
+    ghost coded = { Prim.hlevel (codes, kind.the_row.coded) };
 
     ghost use Rattle.policy_tree.specs.Faults.{fault_of_policies};
 
@@ -32,8 +45,8 @@ impl Model for Policies {
 }
 
 impl Policies {
-    /// The policies of the list, in order, or the least fault that the list has. No kind has parts or a count of its
-    /// own so far: `TooDeep` is not answered, and no memory is taken, so that `NoMemory` isn't either.
+    /// The policies of the list, in order, or the least fault that the list has. It takes no memory, so `NoMemory`
+    /// isn't answered. Its recursion goes as deep as the list is nested: a caller that reads lists bounds that first.
     pub fn new(_alloc: Global, list: Vec<Policy>) -> Result<Policies, PolicyFault>
         ensures policies { IfOk result (λ policies. policies ≡ list.items) }
         ensures fault { result_err result ≡ fault_of_policies list.items }
@@ -47,9 +60,21 @@ impl Policies {
     /// The policies, in order.
     pub fn as_slice(&self) -> &[Policy]
         ensures policies { result.now ≡ self.now }
-        ensures limits { fault_of_policies self.now ≡ None }
+        ensures faultless { fault_of_policies self.now ≡ None }
+        ensures no_empty_list { has_empty_list (meaning self.now) ≡ false }
+        ensures levels { depth_in (meaning self.now) ≤ 8 }
+        ensures number { nodes_in (meaning self.now) ≤ 64 }
     {
         self.list.as_slice()
+    }
+
+    /// The policies that ask a limiter, with their limits, in the order of their numbers.
+    pub fn limiters(&self, alloc: Global) -> Result<Vec<LimiterNode>, AllocError>
+        ensures { IfOk result (λ found. found.items ≡ limiters (meaning self.now)) }
+    {
+        let mut found = Vec::new(alloc);
+        put_limiters_in(self.as_slice(), 0, &mut found)?;
+        Ok(found)
     }
 }
 
@@ -66,11 +91,13 @@ impl TryClone for Policies {
 fn fault_of(list: &[Policy]) -> Option<PolicyFault>
     ensures { result ≡ fault_of_policies list.now }
 {
-    if list.is_empty() {
+    if has_empty_list(list) {
         Some(PolicyFault::EmptyList)
-    } else if list.len() > MOST_POLICIES {
+    } else if depth_in(list) > MOST_LEVELS {
+        Some(PolicyFault::TooDeep)
+    } else if count_in(list) > MOST_POLICIES {
         Some(PolicyFault::TooMany)
-    } else if has_same_names(list) {
+    } else if has_doubled_names(list) {
         Some(PolicyFault::SameName)
     } else if some_has_crossed_bounds(list) {
         Some(PolicyFault::CrossedBounds)
@@ -81,69 +108,40 @@ fn fault_of(list: &[Policy]) -> Option<PolicyFault>
     }
 }
 
-fn has_same_names(list: &[Policy]) -> bool
-    ensures { result ≡ has_same_names list.now }
+/// Puts the limiter nodes of the policy of this number last, and gives the number behind the policy's own.
+#[cycle(limiters)]
+fn put_limiters(policy: &Policy, node: u16, found: &mut Vec<LimiterNode>) -> Result<u16, AllocError>
+    requires { node + nodes (policy_meaning policy.now) ≤ 64 }
+    ensures next { IfOk result (λ next. next ≡ node + nodes (policy_meaning policy.now)) }
+    ensures found { IfOk result (λ next. found.new.items ≡ found.old.items ++ limits (policy_meaning policy.now) node) }
 {
-    let mut left = list;
-    while let Some((first, rest)) = left.split_first() {
-        if has_name(rest, first.name.as_str()) {
-            return true;
+    match &policy.kind {
+        PolicyKind::RateLimiting { spans_per_second } => {
+            found.push(LimiterNode {
+                node,
+                spans_per_second: *spans_per_second,
+            })?;
+            Ok(node + 1)
         }
-        left = rest;
-    }
-    false
-}
-
-fn has_name(list: &[Policy], name: &str) -> bool
-    ensures { result ≡ has_name name.now list.now }
-{
-    list.iter().any(|policy| policy.name.as_str() == name)
-}
-
-fn some_has_no_values(list: &[Policy]) -> bool
-    ensures { result ≡ some_has_no_values list.now }
-{
-    list.iter().any(|policy| has_no_values(&policy.kind))
-}
-
-fn has_no_values(kind: &PolicyKind) -> bool
-    ensures { result ≡ has_no_values kind.now }
-{
-    match kind {
-        PolicyKind::StatusCode { codes } => codes.is_empty(),
-        PolicyKind::Attribute {
-            wanted: Wanted::StringAmong(values),
-            ..
-        } => values.is_empty(),
-        _ => false,
+        PolicyKind::And { policies } => put_limiters_in(policies.as_slice(), node + 1, found),
+        _ => Ok(node + 1),
     }
 }
 
-fn some_has_crossed_bounds(list: &[Policy]) -> bool
-    ensures { result ≡ some_has_crossed_bounds list.now }
+/// Puts the limiter nodes of policies last, of which the first has this number, and gives the number behind theirs.
+#[cycle(limiters)]
+fn put_limiters_in(
+    list: &[Policy],
+    node: u16,
+    found: &mut Vec<LimiterNode>,
+) -> Result<u16, AllocError>
+    requires { node + nodes_in (meaning list.now) ≤ 64 }
+    ensures next { IfOk result (λ next. next ≡ node + nodes_in (meaning list.now)) }
+    ensures found { IfOk result (λ next. found.new.items ≡ found.old.items ++ limits_in (meaning list.now) node) }
 {
-    list.iter().any(|policy| has_crossed_bounds(&policy.kind))
-}
-
-fn has_crossed_bounds(kind: &PolicyKind) -> bool
-    ensures { result ≡ has_crossed_bounds kind.now }
-{
-    match kind {
-        PolicyKind::Latency {
-            threshold_ms,
-            upper_threshold_ms,
-        } => *upper_threshold_ms != 0 && upper_threshold_ms <= threshold_ms,
-        PolicyKind::SpanCount {
-            min_spans,
-            max_spans,
-        } => *max_spans != 0 && max_spans < min_spans,
-        PolicyKind::Attribute {
-            wanted: Wanted::NumberWithin {
-                min_value,
-                max_value,
-            },
-            ..
-        } => max_value < min_value,
-        _ => false,
+    let mut next = node;
+    for policy in list {
+        next = put_limiters(policy, next, found)?;
     }
+    Ok(next)
 }

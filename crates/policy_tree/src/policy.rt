@@ -4,6 +4,7 @@ use otlp_types::{List, Text, TryClone};
 use std::alloc::{AllocError, Global};
 
 /// A policy by its name (tailsamplingprocessor README, `policies`).
+#[cycle(policy)]
 #[derive(Debug, Drop)]
 pub struct Policy {
     /// Different from the names of the other policies of its list.
@@ -12,6 +13,7 @@ pub struct Policy {
 }
 
 /// What a policy samples (tailsamplingprocessor README, `type`).
+#[cycle(policy)]
 #[derive(Debug, Drop)]
 pub enum PolicyKind {
     /// Every trace.
@@ -38,6 +40,15 @@ pub enum PolicyKind {
         min_spans: u64,
         max_spans: u64,
     },
+    /// A trace whose spans are granted by a limiter of so many spans per second.
+    RateLimiting {
+        spans_per_second: u64,
+    },
+    /// A trace that each of these policies samples. They are asked in order, up to the first that does not
+    /// (`and_sub_policy`).
+    And {
+        policies: List<Policy>,
+    },
 }
 
 /// What the value of an attribute is to be (tailsamplingprocessor README, `string_attribute`, `numeric_attribute`,
@@ -52,37 +63,83 @@ pub enum Wanted {
     Boolean(bool),
 }
 
+#[cycle(clone)]
+fn clone_policy(alloc: Global, policy: &Policy) -> Result<Policy, AllocError>
+    ensures { IfOk result (λ copy. copy ≡ policy.now) }
+{
+    Ok(Policy {
+        name: policy.name.try_clone(alloc)?,
+        kind: clone_kind(alloc, &policy.kind)?,
+    })
+}
+
+#[cycle(clone)]
+fn clone_kind(alloc: Global, kind: &PolicyKind) -> Result<PolicyKind, AllocError>
+    ensures { IfOk result (λ copy. copy ≡ kind.now) }
+{
+    match kind {
+        PolicyKind::AlwaysSample => Ok(PolicyKind::AlwaysSample),
+        PolicyKind::Latency {
+            threshold_ms,
+            upper_threshold_ms,
+        } => Ok(PolicyKind::Latency {
+            threshold_ms: *threshold_ms,
+            upper_threshold_ms: *upper_threshold_ms,
+        }),
+        PolicyKind::StatusCode { codes } => Ok(PolicyKind::StatusCode {
+            codes: copy_codes(alloc, codes.as_slice())?,
+        }),
+        PolicyKind::Attribute {
+            key,
+            wanted,
+            invert_match,
+        } => Ok(PolicyKind::Attribute {
+            key: key.try_clone(alloc)?,
+            wanted: wanted.try_clone(alloc)?,
+            invert_match: *invert_match,
+        }),
+        PolicyKind::SpanCount {
+            min_spans,
+            max_spans,
+        } => Ok(PolicyKind::SpanCount {
+            min_spans: *min_spans,
+            max_spans: *max_spans,
+        }),
+        PolicyKind::RateLimiting { spans_per_second } => Ok(PolicyKind::RateLimiting {
+            spans_per_second: *spans_per_second,
+        }),
+        PolicyKind::And { policies } => Ok(PolicyKind::And {
+            policies: clone_policies(alloc, policies)?,
+        }),
+    }
+}
+
+#[cycle(clone)]
+fn clone_policies(alloc: Global, policies: &List<Policy>) -> Result<List<Policy>, AllocError>
+    ensures { IfOk result (λ copy. copy ≡ policies.now) }
+{
+    let mut copy = List::new(alloc);
+    for policy in policies.as_slice() {
+        copy.push(clone_policy(alloc, policy)?)?;
+    }
+    Ok(copy)
+}
+
+fn copy_codes(alloc: Global, codes: &[i32]) -> Result<List<i32>, AllocError>
+    ensures { IfOk result (λ copy. copy ≡ codes.now) }
+{
+    Ok(List::from_vec(codes.to_vec(alloc)?))
+}
+
+impl TryClone for Policy {
+    fn try_clone(&self, alloc: Global) -> Result<Policy, AllocError> {
+        clone_policy(alloc, self)
+    }
+}
+
 impl TryClone for PolicyKind {
     fn try_clone(&self, alloc: Global) -> Result<PolicyKind, AllocError> {
-        match self {
-            PolicyKind::AlwaysSample => Ok(PolicyKind::AlwaysSample),
-            PolicyKind::Latency {
-                threshold_ms,
-                upper_threshold_ms,
-            } => Ok(PolicyKind::Latency {
-                threshold_ms: *threshold_ms,
-                upper_threshold_ms: *upper_threshold_ms,
-            }),
-            PolicyKind::StatusCode { codes } => Ok(PolicyKind::StatusCode {
-                codes: copy_codes(alloc, codes.as_slice())?,
-            }),
-            PolicyKind::Attribute {
-                key,
-                wanted,
-                invert_match,
-            } => Ok(PolicyKind::Attribute {
-                key: key.try_clone(alloc)?,
-                wanted: wanted.try_clone(alloc)?,
-                invert_match: *invert_match,
-            }),
-            PolicyKind::SpanCount {
-                min_spans,
-                max_spans,
-            } => Ok(PolicyKind::SpanCount {
-                min_spans: *min_spans,
-                max_spans: *max_spans,
-            }),
-        }
+        clone_kind(alloc, self)
     }
 }
 
@@ -99,20 +156,5 @@ impl TryClone for Wanted {
             }),
             Wanted::Boolean(value) => Ok(Wanted::Boolean(*value)),
         }
-    }
-}
-
-fn copy_codes(alloc: Global, codes: &[i32]) -> Result<List<i32>, AllocError>
-    ensures { IfOk result (λ copy. copy ≡ codes.now) }
-{
-    Ok(List::from_vec(codes.to_vec(alloc)?))
-}
-
-impl TryClone for Policy {
-    fn try_clone(&self, alloc: Global) -> Result<Policy, AllocError> {
-        Ok(Policy {
-            name: self.name.try_clone(alloc)?,
-            kind: self.kind.try_clone(alloc)?,
-        })
     }
 }

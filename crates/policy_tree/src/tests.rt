@@ -1,5 +1,6 @@
-//! Lists of policies that are taken, and one for each fault that a list without parts may have.
+//! Lists of policies that are taken, one for each fault at the top and inside an `and`, and their limiter nodes.
 use crate::fault::PolicyFault;
+use crate::limiter_node::LimiterNode;
 use crate::policies::Policies;
 use crate::policy::{Policy, PolicyKind, Wanted};
 use otlp_types::{List, Text, TryClone};
@@ -117,5 +118,83 @@ fn policy_bounds(rt: HostRuntime) -> Result<(), Fail> {
         };
         assert_eq!(rt; fault_of(alloc, kind)?, number);
     }
+    Ok(())
+}
+
+/// A policy of this name and kind.
+fn named(alloc: Global, name: &str, kind: PolicyKind) -> Result<Policy, AllocError> {
+    Ok(Policy {
+        name: Text::from_str(alloc, name)?,
+        kind,
+    })
+}
+
+/// An `and` of these policies.
+fn and_of(policies: Vec<Policy>) -> PolicyKind {
+    PolicyKind::And {
+        policies: List::from_vec(policies),
+    }
+}
+
+/// A kind inside so many `and`s.
+fn nested(alloc: Global, levels: u32, inner: PolicyKind) -> Result<PolicyKind, AllocError> {
+    let mut kind = inner;
+    for _ in 0..levels {
+        kind = and_of(vec![in alloc; named(alloc, "a", kind)?]?);
+    }
+    Ok(kind)
+}
+
+#[test]
+fn policy_limits_of_nested_lists(rt: HostRuntime) -> Result<(), Fail> {
+    let alloc = rt.alloc();
+    let empty = || and_of(Vec::new(alloc));
+    for (levels, number) in [(7, None), (8, Some(2))] {
+        let kind = nested(alloc, levels, PolicyKind::AlwaysSample)?;
+        assert_eq!(rt; fault_of(alloc, kind)?, number, "{levels} levels");
+    }
+    for levels in [0, 1, 8, 20] {
+        assert_eq!(rt; fault_of(alloc, nested(alloc, levels, empty())?)?, Some(1));
+    }
+    for (count, number) in [(63, None), (64, Some(3))] {
+        let kind = and_of(list_of(alloc, count, count, 1)?);
+        assert_eq!(rt; fault_of(alloc, kind)?, number, "{count} parts");
+    }
+    assert_eq!(rt; fault_of(alloc, and_of(list_of(alloc, 2, 0, 0)?))?, Some(4));
+    let crossed = PolicyKind::SpanCount {
+        min_spans: 2,
+        max_spans: 1,
+    };
+    assert_eq!(rt; fault_of(alloc, nested(alloc, 3, crossed)?)?, Some(5));
+    let no_codes = PolicyKind::StatusCode {
+        codes: List::new(alloc),
+    };
+    assert_eq!(rt; fault_of(alloc, nested(alloc, 3, no_codes)?)?, Some(6));
+    Ok(())
+}
+
+/// `and` of (always, a limit of 3), a limit of 4, and an `and` of an `and` of a limit of 5.
+fn limited(alloc: Global) -> Result<Vec<Policy>, AllocError> {
+    let rate = |spans_per_second: u64| PolicyKind::RateLimiting { spans_per_second };
+    let always = named(alloc, "always", PolicyKind::AlwaysSample)?;
+    let first = and_of(vec![in alloc; always, named(alloc, "rate", rate(3))?]?);
+    Ok(vec![in alloc;
+        named(alloc, "first", first)?,
+        named(alloc, "rate", rate(4))?,
+        named(alloc, "last", nested(alloc, 2, rate(5))?)?,
+    ]?)
+}
+
+#[test]
+fn limiter_nodes_by_the_walk(rt: HostRuntime) -> Result<(), Fail> {
+    let alloc = rt.alloc();
+    let policies = Policies::new(alloc, limited(alloc)?)?;
+    let expected = [(2, 3), (3, 4), (6, 5)].map(|(node, spans_per_second)| LimiterNode {
+        node,
+        spans_per_second,
+    });
+    assert_eq!(rt; policies.limiters(alloc)?.as_slice(), expected.as_slice());
+    let copy = policies.try_clone(alloc)?;
+    assert_eq!(rt; copy.limiters(alloc)?.as_slice(), expected.as_slice());
     Ok(())
 }

@@ -7,8 +7,9 @@ use Rattle.std.proofs.lemmas.List.{reverse-reverse, map-append, length_push, set
 use Rattle.std.proofs.lemmas.List.Folds.{list_all-append}
 use Rattle.std.proofs.Math.Seq.{set-append_seam}
 use Rattle.std.proofs.lemmas.Bool.Decides.{nat_tests}
-use Rattle.policy_eval.specs.Policies.{limits_in}
-use Rattle.shard_core.specs.Journal.{Entry, StoppedInTime, Settings, Journal, Opening, Decision, Notes, Finding, joins, meets, opens, notes, notes_dealt, finding, latest_episode, decided_as, is_in_buffer, is_due, due_at, due_now, have_ended, has_ended, decisions_in_turn, decision, after_item, after_span, after_finding, after_decisions, same_trace, clock, is_of_trace, ids_have_trace, spans_since, item_spans}
+use Rattle.rate_budget.specs.Budget.{limiter_counts}
+use Rattle.rate_budget.specs.declared.count.LimiterCount.{LimiterCount}
+use Rattle.shard_core.specs.Journal.{Entry, StoppedInTime, Settings, Journal, Opening, Decision, Notes, Finding, joins, meets, opens, notes, notes_dealt, finding, latest_episode, decided_as, is_in_buffer, is_due, due_at, due_now, have_ended, has_ended, decisions_in_turn, decision, after_item, after_span, after_finding, after_decisions, same_trace, clock, is_of_trace, ids_have_trace, spans_since, item_spans, askings_made}
 use Rattle.shard_core.specs.Standing.{Standing, Episode, episode, spans_left, standing, mark, ends}
 use Rattle.otlp_types.specs.declared.span.Ids.{Ids}
 use Rattle.span_ids.specs.declared.ids.TraceId.{TraceId}
@@ -16,7 +17,7 @@ use Rattle.otlp_types.specs.declared.arrival.Arrival.{Arrival}
 use Rattle.otlp_types.specs.declared.arrival.Item.{Item}
 use Rattle.otlp_types.specs.declared.arrival.Item.TheVariants.{Span, Tick, End}
 use Rattle.span_ids.specs.declared.outcome.Verdict.{Verdict}
-use Rattle.policy_eval.specs.Meaning.{meaning}
+use Rattle.policy_tree.specs.Meaning.{meaning}
 use Rattle.shard_core.specs.Held.{is_due_by, settings_of}
 use Rattle.policy_tree.specs.declared.policy.Policy.{Policy}
 use Rattle.shard_core.specs.Holding.{joined, episodes_after}
@@ -91,8 +92,8 @@ decided-none n ds a = find-none _ ds (Each-weaken (λ d. d.opening.at < n) (λ d
 pub undecided_yet : (noted : Notes) (n : ℕ) → Each (λ d. d.opening.at < n) noted.decisions → decided_as noted n ≡ None
 undecided_yet noted n a = rw (decided-none n noted.decisions a)
 
-abbrev pub holding : List Episode → (clock mark : ℕ) → List Bool → Standing
-holding es c m ended = record { episodes = es; sampled = []; non_sampled = []; limiter_counts = []; clock = c; mark = m; ends = ended }
+abbrev pub holding : List Episode → List LimiterCount → (clock mark : ℕ) → List Bool → Standing
+holding es counts c m ended = record { episodes = es; sampled = []; non_sampled = []; limiter_counts = counts; clock = c; mark = m; ends = ended }
 
 module _ (policies : List Policy) (wait senders : ℕ) where
   abbrev pub plain_settings : Settings
@@ -448,15 +449,11 @@ module _ (policies : List Policy) (wait senders : ℕ) where
 
   -- ---- what stands for a journal
 
-  pub limits-none : (ps : List Policy) (node : ℕ) → limits_in (meaning ps) node ≡ []
-  limits-none [] node = refl
-  limits-none (p ∷ ps) node = limits-none ps (node + 1)
-
   abbrev pub standing_with : Notes → Journal → Standing
-  standing_with noted past = holding (map (episode past noted) (reverse noted.openings)) (clock past) (mark past) (ends past senders)
+  standing_with noted past = holding (map (episode past noted) (reverse noted.openings)) (limiter_counts (meaning policies) (askings_made noted.decisions)) (clock past) (mark past) (ends past senders)
 
   pub standing-is : (past : Journal) (k : ℕ) → standing plain_settings past k ≡ standing_with (notes_dealt plain_settings past k) past
-  standing-is past k = rw (limits-none policies 0)
+  standing-is past k = refl
 
   pub length-ends : (past : Journal) (n : ℕ) → length (ends past n) ≡ n
   length-ends past zero = refl

@@ -1,6 +1,6 @@
 -- Worked rows of a shard, by computation: what each journal releases, counts and leaves.
 use Rattle.std.specs.Prelude.{ℕ, Bool, true, false, pos, List, [], ◌∷◌, ◌++◌, map, reverse, length, take, Option, Some, None, ◌≡◌, refl}
-use Rattle.policy_eval.specs.Policies.{Policies, no_more, one_more, leaf, and_policy, rate_limiting, always_sample, status_code, latency}
+use Rattle.policy_tree.specs.Tree.{Policies, no_more, one_more, leaf, and_policy, rate_limiting, always_sample, status_code, latency}
 use Rattle.shard_core.specs.Journal.{Entry, Settings, notes}
 use Rattle.shard_core.specs.Fate.{Fate, waits, is_released, is_counted, effect, output, under, fate}
 use Rattle.shard_core.specs.Standing.{Standing, Episode, standing}

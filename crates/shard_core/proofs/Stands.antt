@@ -3,8 +3,9 @@ use Rattle.std.proofs.Common.{◌≡◌, ℕ, zero, suc, ◌+◌, ◌/◌, ◌<�
 use Rattle.std.specs.List.{list_all, find, position_or_len, slice_set}
 use Rattle.std.specs.Option.{option_map, is_none, is_some}
 use Rattle.std.proofs.lemmas.List.{length-set, length-replicate}
-use Rattle.policy_eval.specs.Policies.{verdict}
-use Rattle.policy_eval.specs.Limiter.{granted_after}
+use Rattle.policy_eval.specs.AskingLaws.{decides_by_counts}
+use Rattle.rate_budget.specs.Budget.{limiter_counts}
+use Rattle.rate_budget.specs.declared.count.LimiterCount.{LimiterCount}
 use Rattle.shard_core.specs.Journal.{Settings, Journal, Opening, Decision, Notes, Finding, meets, opens, notes, notes_dealt, finding, latest_episode, decided_as, due_now, decision, decisions_now, have_ended, after_span, after_finding, askings_made, clock, spans_since}
 use Rattle.shard_core.specs.Standing.{Standing, Episode, episode, standing, mark, ends, spans_left}
 use Rattle.otlp_types.specs.declared.span.Ids.{Ids}
@@ -12,10 +13,10 @@ use Rattle.otlp_types.specs.declared.arrival.Arrival.{Arrival}
 use Rattle.otlp_types.specs.declared.arrival.Item.TheVariants.{Span, Tick, End}
 use Rattle.shard_core.specs.Journal.{Entry}
 use Rattle.span_ids.specs.declared.outcome.Verdict.{Verdict}
-use Rattle.policy_eval.specs.Meaning.{meaning}
+use Rattle.policy_tree.specs.Meaning.{meaning}
 use Rattle.shard_core.specs.Held.{Held, settings, StandsFor, has_due, is_finished, is_due_in, is_due_by}
 use Rattle.shard_core.specs.Taking.{entry, is_refusal, answer_to, answer_to_finding, answer_to_ids, refusal_applies, marks_apply, marks_apply_to_ids, Releases, Decides, DecidesFirst}
-use Rattle.shard_core.specs.Holding.{answer_for_episode, answer_for_verdict, may_refuse_episode, episode_of, held_after_span, held_after_tick, held_after_end, episodes_after, TakesSpan, TakesSpanOf, SettlesAt, settled, first_due}
+use Rattle.shard_core.specs.Holding.{answer_for_episode, answer_for_verdict, may_refuse_episode, episode_of, held_after_span, held_after_tick, held_after_end, episodes_after, TakesSpan, TakesSpanOf, SettlesAt, settled, first_due, verdict_held, counts_asked}
 use Rattle.policy_tree.specs.declared.policy.Policy.{Policy}
 use Rattle.shard_core.specs.declared.answer.Taken.{Taken}
 use Rattle.shard_core.specs.declared.answer.Taken.TheVariants.{Ticked, Ended, Finished}
@@ -24,8 +25,8 @@ use Rattle.shard_core.specs.declared.answer.Decided.TheVariants.{Nothing}
 use Rattle.shard_core.proofs.Lists.{find-from_any, position-none, filter-from_find, set_first, set-position, position-found, Apart, Each-weaken, find-each, find-passes}
 use Rattle.shard_core.proofs.Journals.{Noted, plain_settings, holding, standing_with, standing-is, known, nothing_left, dealt-notes, all_ended, ends-span, ends-tick, ends-end, latest-front, find-trace, finds-none, finds-undecided, finds-decided, episodes-opened, episodes-found, episodes-refused, episodes-other, turn-done, turn-next, due_list, item_notes, due-dealt, open_due, OtherPlace, map-same, eqb-same, decisions-item, noted-item, stopped-before, find-episodes, DueIn}
 
-holding-same : (es fs : List Episode) (c m : ℕ) (xs ys : List Bool) → es ≡ fs → xs ≡ ys → holding es c m xs ≡ holding fs c m ys
-holding-same es fs c m xs ys e f = rw (e, f)
+holding-same : (es fs : List Episode) (ks : List LimiterCount) (c m : ℕ) (xs ys : List Bool) → es ≡ fs → xs ≡ ys → holding es ks c m xs ≡ holding fs ks c m ys
+holding-same es fs ks c m xs ys e f = rw (e, f)
 
 abbrev of : Held → Settings
 of h = plain_settings h.policies h.wait (length h.standing.ends)
@@ -70,6 +71,9 @@ module _ (h : Held) (a : Arrival) (ids : Ids) (past : Journal) (i : a.rec.span.i
   abbrev senders : ℕ
   senders = length h.standing.ends
 
+  abbrev held_counts : List LimiterCount
+  held_counts = limiter_counts (meaning h.policies) (askings_made noted.decisions)
+
   abbrev held_episodes : List Episode
   held_episodes = map (episode past noted) (reverse noted.openings)
 
@@ -77,19 +81,20 @@ module _ (h : Held) (a : Arrival) (ids : Ids) (past : Journal) (i : a.rec.span.i
   refused-stands =
       let x = span_entry a true in
       ap (held_after_span true ids.trace a) g.stands
-      ∙ holding-same held_episodes (map (episode (x ∷ past) noted) (reverse noted.openings)) (max a.moment (clock past)) (mark past) (ends past senders) (ends (x ∷ past) senders)
+      ∙ holding-same held_episodes (map (episode (x ∷ past) noted) (reverse noted.openings)) held_counts (max a.moment (clock past)) (mark past) (ends past senders) (ends (x ∷ past) senders)
       (episodes-refused h.policies h.wait senders a ids past noted i g.noted) (sym (ends-span h.policies h.wait senders a true false past senders))
       ∙ ap (λ (n : Notes). standing_with h.policies h.wait senders n (x ∷ past)) (sym (notes-refused s a ids past i))
       ∙ sym (standing-is h.policies h.wait senders (x ∷ past) 0)
 
-  kept-stands-by : (m : Notes) → notes_dealt s (span_entry a false ∷ past) 0 ≡ m →
+  kept-stands-by : (m : Notes) → notes_dealt s (span_entry a false ∷ past) 0 ≡ m → m.decisions ≡ noted.decisions →
       episodes_after (max a.moment (clock past)) ids.trace a held_episodes ≡ map (episode (span_entry a false ∷ past) m) (reverse m.openings) →
       held_after_span false ids.trace a h.standing ≡ standing s (span_entry a false ∷ past) 0
-  kept-stands-by m n e =
+  kept-stands-by m n d e =
       let x = span_entry a false in
       ap (held_after_span false ids.trace a) g.stands
-      ∙ holding-same (episodes_after (max a.moment (clock past)) ids.trace a held_episodes) (map (episode (x ∷ past) m) (reverse m.openings)) (max a.moment (clock past)) (mark past) (ends past senders) (ends (x ∷ past) senders)
+      ∙ holding-same (episodes_after (max a.moment (clock past)) ids.trace a held_episodes) (map (episode (x ∷ past) m) (reverse m.openings)) held_counts (max a.moment (clock past)) (mark past) (ends past senders) (ends (x ∷ past) senders)
       e (sym (ends-span h.policies h.wait senders a false false past senders))
+      ∙ ap (λ (ds : List Decision). holding (map (episode (x ∷ past) m) (reverse m.openings)) (limiter_counts (meaning h.policies) (askings_made ds)) (max a.moment (clock past)) (mark past) (ends (x ∷ past) senders)) (sym d)
       ∙ ap (λ (n : Notes). standing_with h.policies h.wait senders n (x ∷ past)) (sym n)
       ∙ sym (standing-is h.policies h.wait senders (x ∷ past) 0)
 
@@ -97,13 +102,13 @@ module _ (h : Held) (a : Arrival) (ids : Ids) (past : Journal) (i : a.rec.span.i
   after_found f = after_finding s ids.trace false (length past) (clock (span_entry a false ∷ past)) noted f
 
   kept-stands-found : (p : Opening) (v : Option Verdict) → latest_episode noted ids.trace ≡ Some p → decided_as noted p.at ≡ v → held_after_span false ids.trace a h.standing ≡ standing s (span_entry a false ∷ past) 0
-  kept-stands-found p None l d = kept-stands-by noted (notes-kept s a ids past i ∙ ap after_found (finds-undecided h.policies h.wait senders noted ids.trace p l d))
+  kept-stands-found p None l d = kept-stands-by noted (notes-kept s a ids past i ∙ ap after_found (finds-undecided h.policies h.wait senders noted ids.trace p l d)) refl
       (episodes-found h.policies h.wait senders a ids past noted noted p i g.noted refl refl l)
-  kept-stands-found p (Some v) l d = kept-stands-by (after_found (meets p v)) (notes-kept s a ids past i ∙ ap after_found (finds-decided h.policies h.wait senders noted ids.trace p v l d))
+  kept-stands-found p (Some v) l d = kept-stands-by (after_found (meets p v)) (notes-kept s a ids past i ∙ ap after_found (finds-decided h.policies h.wait senders noted ids.trace p v l d)) refl
       (episodes-found h.policies h.wait senders a ids past noted (after_found (meets p v)) p i g.noted refl refl l)
 
   kept-stands : (l : Option Opening) → latest_episode noted ids.trace ≡ l → held_after_span false ids.trace a h.standing ≡ standing s (span_entry a false ∷ past) 0
-  kept-stands None l = kept-stands-by (after_found opens) (notes-kept s a ids past i ∙ ap after_found (finds-none h.policies h.wait senders noted ids.trace l))
+  kept-stands None l = kept-stands-by (after_found opens) (notes-kept s a ids past i ∙ ap after_found (finds-none h.policies h.wait senders noted ids.trace l)) refl
       (episodes-opened h.policies h.wait senders a ids past noted (after_found opens) i g.noted refl refl l)
   kept-stands (Some p) l = kept-stands-found p (decided_as noted p.at) l refl
 
@@ -162,10 +167,11 @@ pub takes_tick : (h : Held) (m : ℕ) (past : Journal) → Ready h past → Stan
 takes_tick h m past g =
     let x = entry (Tick m) Ticked in
     let senders = length h.standing.ends in
-    let noted = notes (settings h) past in (
+    let noted = notes (settings h) past in
+    let counts = limiter_counts (meaning h.policies) (askings_made noted.decisions) in (
       g.runs,
       ap (held_after_tick m) g.stands
-          ∙ holding-same (map (episode past noted) (reverse noted.openings)) (map (episode (x ∷ past) noted) (reverse noted.openings)) (max m (clock past)) (max m (clock past)) (ends past senders) (ends (x ∷ past) senders)
+          ∙ holding-same (map (episode past noted) (reverse noted.openings)) (map (episode (x ∷ past) noted) (reverse noted.openings)) counts (max m (clock past)) (max m (clock past)) (ends past senders) (ends (x ∷ past) senders)
           (episodes-other h.policies h.wait senders x past noted (λ o. refl)) (sym (ends-tick h.policies h.wait senders m false false past senders))
           ∙ sym (standing-is h.policies h.wait senders (x ∷ past) 0),
     )
@@ -181,10 +187,11 @@ end-holds h sender refused past g =
     let x = end_entry sender refused in
     let senders = length h.standing.ends in
     let noted = notes (settings h) past in
+    let counts = limiter_counts (meaning h.policies) (askings_made noted.decisions) in
     ap (held_after_end sender) g.stands
-    ∙ holding-same (map (episode past noted) (reverse noted.openings)) (map (episode (x ∷ past) noted) (reverse noted.openings)) (clock past) (mark past) (slice_set (ends past senders) sender true) (ends (x ∷ past) senders)
+    ∙ holding-same (map (episode past noted) (reverse noted.openings)) (map (episode (x ∷ past) noted) (reverse noted.openings)) counts (clock past) (mark past) (slice_set (ends past senders) sender true) (ends (x ∷ past) senders)
     (episodes-other h.policies h.wait senders x past noted (λ o. refl)) (sym (ends-end h.policies h.wait senders sender refused false past senders))
-    ∙ ap (λ c. holding (map (episode (x ∷ past) noted) (reverse noted.openings)) c (mark past) (ends (x ∷ past) senders)) (zero-max (clock past))
+    ∙ ap (λ c. holding (map (episode (x ∷ past) noted) (reverse noted.openings)) counts c (mark past) (ends (x ∷ past) senders)) (zero-max (clock past))
     ∙ sym (standing-is h.policies h.wait senders (x ∷ past) 0)
 
 pub takes_end : (h : Held) (sender : ℕ) (answer : Taken) (past : Journal) → Ready h past → StandsFor (record h { standing = held_after_end sender h.standing }) (entry (End sender) answer ∷ past) 0
@@ -268,9 +275,9 @@ module _ (policies : List Policy) (wait senders : ℕ) where
   -- the k-th decision at the last item
   decides-step : (x : Entry) (before : Journal) (k : ℕ) (st : Standing) (e : Episode) (i : ℕ) (v : Verdict) → let past : Journal = x ∷ before in let s = plain_settings policies wait senders in
       0 < wait → have_ended before senders ≡ false → st ≡ standing s past k → find (DueIn policies wait senders st) st.episodes ≡ Some e → position_or_len (DueIn policies wait senders st) st.episodes ≡ i →
-      ((granted : ℕ → Bool) → v ≡ verdict (meaning policies) granted e.spans) →
+      v ≡ verdict_held (meaning policies) st e.spans →
       (later : List Decision) × (d : Decision) × (drop k (decisions_now s past) ≡ d ∷ later) × (d.spans ≡ e.spans) × (d.verdict ≡ v)
-      × (record st { episodes = slice_set st.episodes i (settled v e) } ≡ standing s past (k + 1))
+      × (record st { episodes = slice_set st.episodes i (settled v e); limiter_counts = counts_asked (meaning policies) st e.spans } ≡ standing s past (k + 1))
   decides-step x before k st e i v w h eq f at judged =
       let past : Journal = x ∷ before in
       let s = plain_settings policies wait senders in
@@ -294,23 +301,31 @@ module _ (policies : List Policy) (wait senders : ℕ) where
       let undecided : decided_as n p.at ≡ None = none-left (decided_as n p.at) _ (find-passes (test past n) R p o.1) in
       let spans : d.spans ≡ e.spans = sym (ap (λ (q : Episode). q.spans) (sym o.2) ∙ ap (λ (y : Option Verdict). spans_left (spans_since past p) y) undecided) in
       let ds = decisions_now s past in
-      let G = granted_after (meaning policies) (askings_made (reverse (take k ds) ++ noted.decisions)) (clock past / 1000) (length d.spans) in
-      let judgement : d.verdict ≡ v = sym (judged G ∙ ap (verdict (meaning policies) G) (sym spans)) in
+      let P = meaning policies in
+      let earlier = reverse (take k ds) ++ noted.decisions in
       let same : m.decisions ≡ noted.decisions = decisions-item policies wait senders x before noted x.item in
+      let counts : n.decisions ≡ earlier = ap (λ q. reverse (take k ds) ++ q) same in
+      let now = standing_with policies wait senders n past in
+      let law = decides_by_counts P (askings_made earlier) (clock past / 1000) d.spans now.limiter_counts (ap (λ (q : List Decision). limiter_counts P (askings_made q)) counts) in
+      let judgement : d.verdict ≡ v = sym (judged ∙ ap (λ (t : Standing). verdict_held P t e.spans) stands ∙ ap (verdict_held P now) (sym spans) ∙ law.0) in
       let after = notes_dealt s past (suc k) in
       let onto_noted : after.decisions ≡ reverse (take (suc k) ds) ++ noted.decisions = ap (λ q. reverse (take (suc k) ds) ++ q) same in
-      let onto_item : d ∷ (reverse (take k ds) ++ noted.decisions) ≡ d ∷ n.decisions = ap (λ q. d ∷ (reverse (take k ds) ++ q)) (sym same) in
-      let one_more : after.decisions ≡ d ∷ n.decisions = ◌∙◌ {b = reverse (take (suc k) ds) ++ noted.decisions} onto_noted (◌∙◌ {b = d ∷ (reverse (take k ds) ++ noted.decisions)} next.1 onto_item) in
+      let onto_item : d ∷ earlier ≡ d ∷ n.decisions = ap (λ q. d ∷ (reverse (take k ds) ++ q)) (sym same) in
+      let one_more : after.decisions ≡ d ∷ n.decisions = ◌∙◌ {b = reverse (take (suc k) ds) ++ noted.decisions} onto_noted (◌∙◌ {b = d ∷ earlier} next.1 onto_item) in
       let places = (noted-item policies wait senders x before noted x.item g.0).places in
       let moved = settle-map past after n d R one_more places o.1 in
-      let F = λ (t : Standing). record t { episodes = set_first (DueIn policies wait senders t) (settled v) t.episodes } in
-      let H = λ (es : List Episode). holding es (clock past) (mark past) (ends past senders) in
-      let into : record st { episodes = slice_set st.episodes i (settled v e) } ≡ F st
-      = ap (λ (es : List Episode). record st { episodes = es }) (ap (λ j. slice_set st.episodes j (settled v e)) (sym at) ∙ set-position (DueIn policies wait senders st) (settled v) st.episodes e f) in
+      let asked : counts_asked P now e.spans ≡ limiter_counts P (askings_made after.decisions)
+      = ap (counts_asked P now) (sym spans) ∙ law.1 ∙ ap (λ (q : List Decision). limiter_counts P (askings_made q)) (sym (◌∙◌ {b = reverse (take (suc k) ds) ++ noted.decisions} onto_noted next.1)) in
+      let F = λ (t : Standing). record t { episodes = set_first (DueIn policies wait senders t) (settled v) t.episodes; limiter_counts = counts_asked P t e.spans } in
+      let C = counts_asked P now e.spans in
+      let H = λ (es : List Episode). holding es C (clock past) (mark past) (ends past senders) in
+      let into : record st { episodes = slice_set st.episodes i (settled v e); limiter_counts = counts_asked P st e.spans } ≡ F st
+      = ap (λ (es : List Episode). record st { episodes = es; limiter_counts = counts_asked P st e.spans }) (ap (λ j. slice_set st.episodes j (settled v e)) (sym at) ∙ set-position (DueIn policies wait senders st) (settled v) st.episodes e f) in
       let by_ends : F st ≡ H (set_first (is_due_by (have_ended past senders) (mark past) wait) (settled v) (map (episode past n) R))
       = ap F stands ∙ ap (λ b. H (set_first (is_due_by b (mark past) wait) (settled v) (map (episode past n) R))) (all_ended policies wait senders past senders) in
       let by_verdict = ap (λ (y : Verdict). H (set_first (is_due_by (have_ended past senders) (mark past) wait) (settled y) (map (episode past n) R))) (sym judgement) in
-      (next.0.0, d, next.0.1, spans, judgement, into ∙ by_ends ∙ by_verdict ∙ ap H moved ∙ sym (standing-is policies wait senders past (suc k)) ∙ ap (standing s past) (sym (take-one k)))
+      let by_counts = ap (λ (ks : List LimiterCount). holding (map (episode past after) R) ks (clock past) (mark past) (ends past senders)) asked in
+      (next.0.0, d, next.0.1, spans, judgement, into ∙ by_ends ∙ by_verdict ∙ ap H moved ∙ by_counts ∙ sym (standing-is policies wait senders past (suc k)) ∙ ap (standing s past) (sym (take-one k)))
 
 decides-in : (h new : Held) (answer : Decided) (i : ℕ) (x : Entry) (before : Journal) (k : ℕ) → let past : Journal = x ∷ before in 0 < h.wait → first_due h ≡ Some i → SettlesAt h i answer new → StandsFor h past k → Decides h new answer past k
 decides-in h new answer i x before k w f t s =
@@ -326,7 +341,7 @@ decides-in h new answer i x before k w f t s =
     let Q = λ (n : Held). StandsFor n past (k + 1) in
     let R = λ (spans : List Arrival). Releases answer spans v in
     let R2 = λ (y : Verdict). Releases answer d.spans y in
-    let ends_kept : record h { standing = record h.standing { episodes = slice_set h.standing.episodes i (settled v e) } } ≡ record h { standing = standing (settings h) past (k + 1) } = ap (λ (st : Standing). record h { standing = st }) step.5 in
+    let ends_kept : record h { standing = record h.standing { episodes = slice_set h.standing.episodes i (settled v e); limiter_counts = counts_asked (meaning h.policies) h.standing e.spans } } ≡ record h { standing = standing (settings h) past (k + 1) } = ap (λ (st : Standing). record h { standing = st }) step.5 in
     subst P (sym step.2) (subst R2 (sym step.4) (subst R (sym step.3) settle.2), subst Q (sym settle.3) (s.0, step.5))
 
 pub decides_some : (h new : Held) (answer : Decided) (i : ℕ) (past : Journal) (k : ℕ) → 0 < h.wait → first_due h ≡ Some i → SettlesAt h i answer new → StandsFor h past k → Decides h new answer past k
@@ -348,11 +363,11 @@ no-ends : (n : ℕ) → ends [] n ≡ replicate n false
 no-ends zero = refl
 no-ends (suc n) = ap (λ xs. xs ++ false ∷ []) (no-ends n) ∙ replicate-push n false
 
-pub new_stands : (policies : List Policy) (wait n : ℕ) (es : List Episode) (ended : List Bool) → es ≡ [] → ended ≡ replicate n false →
-    let h : Held = record { policies = policies; wait = wait; standing = holding es 0 0 ended } in StandsFor h [] 0
-new_stands policies wait n es ended e f =
+pub new_stands : (policies : List Policy) (wait n : ℕ) (es : List Episode) (counts : List LimiterCount) (ended : List Bool) → es ≡ [] → counts ≡ limiter_counts (meaning policies) [] → ended ≡ replicate n false →
+    let h : Held = record { policies = policies; wait = wait; standing = holding es counts 0 0 ended } in StandsFor h [] 0
+new_stands policies wait n es counts ended e c f =
     let k : ended ≡ ends [] (length ended) = f ∙ sym (no-ends n) ∙ ap (ends []) (sym (ap length f ∙ length-replicate n false)) in
-    (tt, holding-same es [] 0 0 ended (ends [] (length ended)) e k ∙ sym (standing-is policies wait (length ended) [] 0))
+    (tt, ap (λ (ks : List LimiterCount). holding es ks 0 0 ended) c ∙ holding-same es [] (limiter_counts (meaning policies) []) 0 0 ended (ends [] (length ended)) e k ∙ sym (standing-is policies wait (length ended) [] 0))
 
 -- a new shard has a sender that has not ended
 pub new_runs : (n : ℕ) (ended : List Bool) → ended ≡ replicate n false → 0 < n → list_all (λ b. b) ended ≡ false

@@ -3,7 +3,7 @@ use Rattle.std.specs.Prelude.{ℕ, ◌+◌, ◌≡◌, Bool, ◌&&◌, ◌||◌,
 use Rattle.std.specs.List.{list_any, list_all}
 use Rattle.shard_core.specs.Journal.{Settings, Journal, StoppedInTime}
 use Rattle.shard_core.specs.Standing.{Standing, Episode, standing}
-use Rattle.policy_eval.specs.Meaning.{meaning}
+use Rattle.policy_tree.specs.Meaning.{meaning}
 use Rattle.policy_tree.specs.declared.policy.Policy.{Policy}
 
 -- the policies and the wait that a shard was made with, and what it holds

@@ -1,9 +1,13 @@
 -- What the code of a shard does to what it holds: words of its private functions, beside the definitions.
-use Rattle.std.specs.Prelude.{ℕ, ◌≡◌, max, Bool, true, false, is_none, if◌then◌else◌, List, [], ◌∷◌, ◌++◌, find, position, slice_set, slice_get, ◌⊎◌, Option, Some, None}
+use Rattle.std.specs.Prelude.{ℕ, ◌/◌, ◌≡◌, max, length, Bool, true, false, is_none, if◌then◌else◌, List, [], ◌∷◌, ◌++◌, find, position, slice_set, slice_get, ◌⊎◌, Option, Some, None}
 use Rattle.shard_core.specs.Journal.{same_trace}
 use Rattle.shard_core.specs.Standing.{Standing, Episode}
-use Rattle.policy_eval.specs.Policies.{verdict}
-use Rattle.policy_eval.specs.Meaning.{meaning}
+use Rattle.policy_tree.specs.Tree.{Policies}
+use Rattle.policy_tree.specs.Meaning.{meaning}
+use Rattle.policy_eval.specs.Policies.{verdict, asked_nodes}
+use Rattle.policy_eval.specs.Meaning.{after_asking}
+use Rattle.rate_budget.specs.Budget.{grants_at, after}
+use Rattle.rate_budget.specs.declared.count.LimiterCount.{LimiterCount}
 use Rattle.otlp_types.specs.declared.span.Ids.{Ids}
 use Rattle.span_ids.specs.declared.ids.TraceId.{TraceId}
 use Rattle.otlp_types.specs.declared.arrival.Arrival.{Arrival}
@@ -107,8 +111,16 @@ JoinsAs old i a answer new e =
 abbrev pub Joins : (old : Held) → ℕ → Arrival → Taken → (new : Held) → Type 0
 Joins old i a answer new = (e : Episode) → slice_get old.standing.episodes i ≡ Some e → JoinsAs old i a answer new e
 
+-- the verdict on these spans, by what a shard holds
+abbrev pub verdict_held : Policies → Standing → List Arrival → Verdict
+verdict_held policies h spans = verdict policies (λ node. grants_at h.limiter_counts node (h.clock / 1000) (length spans)) spans
+
+-- the limiter counts once it was given
+abbrev pub counts_asked : Policies → Standing → List Arrival → List LimiterCount
+counts_asked policies h spans = after_asking after (h.clock / 1000) (length spans) (asked_nodes policies (λ node. grants_at h.limiter_counts node (h.clock / 1000) (length spans)) spans) h.limiter_counts
+
 -- the episode at i is decided
 abbrev pub SettlesAt : (old : Held) → ℕ → Decided → (new : Held) → Type 0
 SettlesAt old i answer new = (e : Episode) → slice_get old.standing.episodes i ≡ Some e →
-    (v : Verdict) × ((granted : ℕ → Bool) → v ≡ verdict (meaning old.policies) granted e.spans) × Releases answer e.spans v
-    × (new ≡ record old { standing = record old.standing { episodes = slice_set old.standing.episodes i (settled v e) } })
+    (v : Verdict) × (v ≡ verdict_held (meaning old.policies) old.standing e.spans) × Releases answer e.spans v
+    × (new ≡ record old { standing = record old.standing { episodes = slice_set old.standing.episodes i (settled v e); limiter_counts = counts_asked (meaning old.policies) old.standing e.spans } })

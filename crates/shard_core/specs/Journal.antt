@@ -2,8 +2,9 @@
 -- A journal is a list of entries, the newest first: the journal before an entry is the list behind it, whose length is the entry's position.
 use Rattle.std.specs.Prelude.{ℕ, zero, suc, ◌+◌, ◌-◌, ◌/◌, max, Bool, true, false, not, ◌&&◌, ◌||◌, if◌then◌else◌, ◌==◌, nat_lt, nat_le, is_none, List, [], ◌∷◌, ◌++◌, map, reverse, length, take, slice_get, filter, find, take_while, Option, Some, None, option_map, bytes_eq, ◌≡◌}
 use Rattle.std.specs.List.{list_any}
-use Rattle.policy_eval.specs.Policies.{Policies, verdict, asked_nodes}
-use Rattle.policy_eval.specs.Limiter.{Asking, granted_after}
+use Rattle.policy_tree.specs.Tree.{Policies}
+use Rattle.policy_eval.specs.Policies.{verdict, asked_nodes}
+use Rattle.rate_budget.specs.Grant.{Asking, granted_after}
 use Rattle.otlp_types.specs.declared.span.Ids.{Ids}
 use Rattle.span_ids.specs.declared.ids.TraceId.{TraceId}
 use Rattle.otlp_types.specs.declared.arrival.Arrival.{Arrival}
@@ -233,10 +234,10 @@ due_at s e before (End sender) noted = if has_finished s e before then undecided
 
 -- ---- decisions
 
--- the askings of these decisions, the latest decision's first (a decision asks each node at most once)
+-- the askings of these decisions, the latest first
 abbrev pub askings_made : List Decision → List Asking
 askings_made [] = []
-askings_made (d ∷ earlier) = d.askings ++ askings_made earlier
+askings_made (d ∷ earlier) = reverse d.askings ++ askings_made earlier
 
 -- the decision on these spans in that second, where the limiter answers so
 abbrev pub decision_by : Policies → Opening → List Arrival → (second : ℕ) → (granted : ℕ → Bool) → Decision

@@ -1,7 +1,7 @@
 -- What a shard holds that stands for a journal.
 use Rattle.std.specs.Prelude.{ℕ, zero, suc, Bool, List, [], ◌∷◌, ◌++◌, map, reverse, take, Option, Some, None}
-use Rattle.policy_eval.specs.Policies.{limiters}
-use Rattle.policy_eval.specs.Limiter.{Asking, latest_second, granted_in, askings_of}
+use Rattle.rate_budget.specs.Budget.{limiter_counts}
+use Rattle.rate_budget.specs.declared.count.LimiterCount.{LimiterCount}
 use Rattle.shard_core.specs.Journal.{Settings, Journal, Opening, Notes, clock, has_ended, in_buffer, decided_as, cache_size, last_touched, spans_since, askings_made, notes_dealt}
 use Rattle.span_ids.specs.declared.ids.TraceId.{TraceId}
 use Rattle.otlp_types.specs.declared.arrival.Arrival.{Arrival}
@@ -17,12 +17,6 @@ pub record Episode : Type 0 where
   pub moment : ℕ
   pub spans : List Arrival
   pub verdict : Option Verdict
-
--- a limiter node's greatest second asked, and the spans granted in it
-pub record LimiterCount : Type 0 where
-  pub node : ℕ
-  pub second : ℕ
-  pub granted : ℕ
 
 -- what a shard holds: episodes in order of opening; a cache's traces, the last touched first; whether each sender has ended
 pub record Standing : Type 0 where
@@ -52,13 +46,6 @@ episodes s past noted = map (episode past noted) (reverse (in_buffer s noted))
 abbrev pub cache : Settings → Notes → Verdict → List TraceId
 cache s noted v = take (cache_size s v) (last_touched v noted.touches)
 
--- the count of a limiter node, after these askings
-abbrev pub limiter_count : List Asking → (limiter : ℕ × ℕ) → LimiterCount
-limiter_count askings limiter =
-    let own = askings_of limiter.0 askings in
-    let second = latest_second own in
-    record { node = limiter.0; second = second; granted = granted_in second own }
-
 -- the mark after an item
 abbrev pub mark_at : Entry → (before : Journal) → (earlier : ℕ) → Item → ℕ
 mark_at e before earlier (Tick m) = clock (e ∷ before)
@@ -83,7 +70,7 @@ standing s past dealt =
       episodes = episodes s past noted;
       sampled = cache s noted Sampled;
       non_sampled = cache s noted NotSampled;
-      limiter_counts = map (limiter_count (askings_made noted.decisions)) (limiters s.policies);
+      limiter_counts = limiter_counts s.policies (askings_made noted.decisions);
       clock = clock past;
       mark = mark past;
       ends = ends past s.senders;

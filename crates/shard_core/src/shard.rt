@@ -2,12 +2,14 @@ ghost use Rattle.std.specs.Prelude.{◌≡◌, ◌⊎◌, ℕ, replicate, [], �
 ghost use Rattle.span_ids.specs.declared.outcome.Reason.{Reason};
 ghost use Rattle.shard_core.specs.Journal.{Journal, same_trace};
 ghost use Rattle.shard_core.specs.Fate.{effect, effect_dealt, output, released_dealt, dropped_dealt};
+ghost use Rattle.shard_core.specs.Taking.{Releases};
 
 use crate::answer::{Decided, Taken};
 use crate::episode::Episode;
 use otlp_types::{Arrival, Ids, Item};
 use policy_eval::evaluate;
 use policy_tree::Policies;
+use rate_budget::Budgets;
 use span_ids::{Moment, Reason, TraceId, Verdict};
 use std::alloc::{AllocError, Global};
 use std::marker::Model;
@@ -22,6 +24,7 @@ pub struct Shard {
     alloc: Global,
     policies: Policies,
     wait: Moment,
+    budgets: Budgets,
     episodes: Vec<Episode>,
     clock: Moment,
     mark: Moment,
@@ -33,14 +36,20 @@ impl Model for Shard {
     ghost use Rattle.shard_core.specs.Held.{Held};
     ghost use Rattle.std.specs.Coded.{codes};
     ghost use Rattle.otlp_types.specs.contracts.value.AnyValue as any_value;
+    ghost use Rattle.policy_tree.specs.contracts.policy.PolicyKind as kind;
 
     ghost Value = { Held };
 
-    ghost coded = { Prim.hlevel (codes, any_value.the_row.coded) };
+    ghost coded = { Prim.hlevel (codes, any_value.the_row.coded, kind.the_row.coded) };
 
-    ghost view = { λ s. record { policies = s.policies; wait = s.wait; standing = record { episodes = s.episodes.items; sampled = []; non_sampled = []; limiter_counts = []; clock = s.clock; mark = s.mark; ends = s.ends.items } } };
+    ghost view = { λ s. record { policies = s.policies; wait = s.wait; standing = record { episodes = s.episodes.items; sampled = []; non_sampled = []; limiter_counts = s.budgets; clock = s.clock; mark = s.mark; ends = s.ends.items } } };
 
-    ghost invariant = { λ s. 0 < s.wait };
+    ghost use Rattle.std.specs.Prelude.{◌≡◌, map};
+    ghost use Rattle.policy_tree.specs.Tree.{limiters};
+    ghost use Rattle.policy_tree.specs.Meaning.{meaning};
+    ghost use Rattle.rate_budget.specs.Budget.{limiter_of};
+
+    ghost invariant = { λ s. (0 < s.wait) × (map limiter_of s.budgets ≡ limiters (meaning s.policies)) };
 }
 
 impl Shard {
@@ -65,10 +74,12 @@ impl Shard {
         ensures running { IfOk result (λ shard. is_finished shard ≡ false) }
         ensures ends { IfOk result (λ shard. shard.standing.ends ≡ replicate senders false) }
     {
+        let budgets = Budgets::new(alloc, &policies)?;
         Ok(Shard {
             alloc,
             policies,
             wait,
+            budgets,
             episodes: Vec::new(alloc),
             clock: 0,
             mark: 0,
@@ -224,13 +235,21 @@ impl Shard {
         ensures policies { self.new.policies ≡ self.old.policies }
         ensures wait { self.new.wait ≡ self.old.wait }
     {
+        let now = self.clock;
         let episode = &mut self.episodes[i];
-        let verdict = evaluate(&self.policies, episode.spans());
+        let verdict = evaluate(&self.policies, episode.spans(), now, &mut self.budgets);
         let spans = episode.settle(verdict);
-        match verdict {
-            Verdict::Sampled => Decided::Release(spans),
-            Verdict::NotSampled => Decided::Dropped(spans.len() as u64),
-        }
+        decided(verdict, spans)
+    }
+}
+
+/// What is answered for the spans of an episode by its verdict.
+fn decided(verdict: Verdict, spans: Vec<Arrival>) -> Decided
+    ensures { Releases result spans.items verdict }
+{
+    match verdict {
+        Verdict::Sampled => Decided::Release(spans),
+        Verdict::NotSampled => Decided::Dropped(spans.len() as u64),
     }
 }
 

@@ -15,8 +15,31 @@ use std::test::Fail;
 fn span_item(rt: &impl Abort, alloc: Global, number: u64, moment: u64, code: i32) -> Item
     ensures { has_ids result ≡ true }
 {
+    span_of(
+        rt,
+        alloc,
+        "5b8efff798038103d269b633813fc60c",
+        number,
+        moment,
+        code,
+        0,
+    )
+}
+
+/// A span of a trace, by its number, its moment, its status code and its end in nanoseconds.
+fn span_of(
+    rt: &impl Abort,
+    alloc: Global,
+    trace: &str,
+    number: u64,
+    moment: u64,
+    code: i32,
+    end: u64,
+) -> Item
+    ensures { has_ids result ≡ true }
+{
     let ids = Ids {
-        trace: TraceId::parse("5b8efff798038103d269b633813fc60c").expect(rt, "a trace id"),
+        trace: TraceId::parse(trace).expect(rt, "a trace id"),
         span: SpanId::parse("eee19b7ec3c1b174").expect(rt, "a span id"),
         parent: None,
     };
@@ -29,11 +52,11 @@ fn span_item(rt: &impl Abort, alloc: Global, number: u64, moment: u64, code: i32
             number,
         },
         moment,
-        rec: record_of(alloc, ids, code),
+        rec: record_of(alloc, ids, code, end),
     })
 }
 
-fn record_of(alloc: Global, ids: Ids, code: i32) -> Record
+fn record_of(alloc: Global, ids: Ids, code: i32, end: u64) -> Record
     ensures { IsSome result.span.ids }
 {
     Record {
@@ -56,7 +79,7 @@ fn record_of(alloc: Global, ids: Ids, code: i32) -> Record
             name: Text::new(alloc),
             kind: 0,
             start_time_unix_nano: 0,
-            end_time_unix_nano: 0,
+            end_time_unix_nano: end,
             attributes: List::new(alloc),
             dropped_attributes_count: 0,
             events: List::new(alloc),
@@ -156,5 +179,62 @@ fn late_span_follows_not_sampled(rt: HostRuntime) -> Result<(), Fail> {
         play(&rt, &mut shard, span_item(&rt, alloc, 1, 10_000, 2)),
         ("dropped", 0)
     );
+    Ok(())
+}
+
+/// A shard of one sender with a wait of ten seconds and an `and` of a latency of 500 ms and 3 spans per second.
+fn shard_of_slow_and_granted(alloc: Global) -> Result<Shard, Fail> {
+    let slow = PolicyKind::Latency {
+        threshold_ms: 500,
+        upper_threshold_ms: 0,
+    };
+    let granted = PolicyKind::RateLimiting {
+        spans_per_second: 3,
+    };
+    let mut parts = List::new(alloc);
+    for (name, kind) in [("slow", slow), ("granted", granted)] {
+        parts.push(Policy {
+            name: Text::from_str(alloc, name)?,
+            kind,
+        })?;
+    }
+    let policy = Policy {
+        name: Text::from_str(alloc, "both")?,
+        kind: PolicyKind::And { policies: parts },
+    };
+    let policies = Policies::new(alloc, vec![in alloc; policy]?)?;
+    Ok(Shard::new(alloc, policies, 10_000, 1)?)
+}
+
+/// Decides once: the number of spans released, or of those that are not.
+fn decide(shard: &mut Shard) -> Result<usize, u64> {
+    match shard.decide() {
+        Decided::Release(spans) => Ok(spans.len()),
+        Decided::Dropped(count) => Err(count),
+        Decided::Nothing => Err(0),
+    }
+}
+
+#[test]
+fn and_of_latency_and_rate(rt: HostRuntime) -> Result<(), Fail> {
+    let alloc = rt.alloc();
+    let mut shard = shard_of_slow_and_granted(alloc)?;
+    for (trace, number, end) in [
+        ("5b8efff798038103d269b633813fc60c", 0, 0),
+        ("5b8efff798038103d269b633813fc60c", 1, 499_999_999),
+        ("5b8efff798038103d269b633813fc60d", 2, 500_000_000),
+        ("5b8efff798038103d269b633813fc60d", 3, 500_000_000),
+        ("5b8efff798038103d269b633813fc60e", 4, 500_000_000),
+        ("5b8efff798038103d269b633813fc60f", 5, 500_000_000),
+    ] {
+        let span = span_of(&rt, alloc, trace, number, 1000, 0, end);
+        assert_eq!(&rt; play(&rt, &mut shard, span), ("kept", 0));
+    }
+    assert!(&rt; !shard.has_due());
+    assert!(&rt; !shard.finished());
+    assert!(&rt; matches!(shard.take(Item::Tick(11_000)), Taken::Ticked));
+    for decided in [Err(2), Ok(2), Ok(1), Err(1), Err(0)] {
+        assert_eq!(&rt; decide(&mut shard), decided);
+    }
     Ok(())
 }

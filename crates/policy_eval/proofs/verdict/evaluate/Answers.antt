@@ -1,33 +1,33 @@
-use Rattle.std.proofs.Common.{◌+◌, List, drop, sym, ap, subst, ◌∙◌}
-use Rattle.std.proofs.Math.ListN.{drop_of_length-le}
-use Rattle.policy_eval.specs.Policies as spec
-use Rattle.policy_eval.specs.Meaning.{leaf_of, seen_with}
-use Rattle.policy_eval.specs.declared.answer.Answer.{Answer}
+use Rattle.std.proofs.Common.{◌≡◌, ℕ, ◌+◌, ◌/◌, ◌≤◌, drop, sym, subst, ◌∙◌, arith}
+use Rattle.policy_tree.specs.Tree.{Policies, one_more, nodes}
+use Rattle.policy_tree.specs.Meaning.{meaning, policy_meaning}
 use Rattle.policy_eval.specs.declared.answer.Seen.{Seen}
-use Rattle.policy_tree.specs.declared.policy.Policy.{Policy}
-use Rattle.policy_eval.proofs.Verdicts.{Tells, tells-more, tells-all, answers_of, answers-are, next-answer}
+use Rattle.policy_eval.proofs.Turns.{Part, Top, top-more, next_part, counted_nodes}
 use Rattle.policy_eval.proofs.verdict.evaluate.Goals as goal
 
 pub loop-policy-preserved : goal.loop-policy-preserved
-loop-policy-preserved c =
-    let spans = c.args.spans.now in
+loop-policy-preserved g c =
     let items = c.as_slice-policy-items.result.now in
-    let all = answers_of spans c.args.policies.now in
     let i = c.loop-policy.policy-index in
     let p = c.policy-item.result in
-    let seen = c.loop-policy.seen in
-    let rest = answers_of spans (drop (i + 1) items) in
-    let P = λ (xs : List spec.Answer). Tells seen xs all in
-    let Q = λ (s : Seen). Tells s rest all in
-    let here = subst P (next-answer spans items i p c.loop-policy-test.true c.policy-item.is) c.loop-policy.invariant in
-    subst Q (sym (c.with-seen.ensures ∙ ap (λ (a : Answer). seen_with a seen) c.answer.ensures)) (tells-more seen (spec.leaf_answer (leaf_of p.kind) spans) rest all here)
-
-pub returns : goal.returns
-returns c = λ granted.
+    let S = g.row.L.Denot in
+    let H = g.L.Limiter.has_node in
+    let A = g.L.Limiter.after in
+    let G = g.L.Limiter.grants_at in
+    let s0 = c.args.limiter.now in
+    let s = c.loop-policy.limiter in
+    let t = c.answer-given.new.limiter in
+    let second = c.args.now / 1000 in
     let spans = c.args.spans.now in
-    let items = c.as_slice-policy-items.result.now in
-    let policies = c.args.policies.now in
-    let all = answers_of spans policies in
-    let P = λ (ps : List Policy). Tells c.loop-policy.seen (answers_of spans ps) all in
-    let end = subst P (drop_of_length-le items c.loop-policy-test.false) c.loop-policy.invariant in
-    c.verdict.ensures ∙ tells-all c.loop-policy.seen all end ∙ ap spec.verdict_of_answers (sym (answers-are policies 0 granted spans))
+    let all = meaning c.args.policies.now in
+    let rest = meaning (drop (i + 1) items) in
+    let next = c.loop-policy.next in
+    let T = λ (r : Policies). Top S H A G s0 all second spans s r next c.loop-policy.seen in
+    let here : T (one_more (policy_meaning p) rest) = subst T (next_part items i p c.loop-policy-test.true c.policy-item.is) c.loop-policy.invariant in
+    let N = λ (k : ℕ). Top S H A G s0 all second spans t rest (next + k) c.with-seen.result in
+    let W = λ (x : Seen). Top S H A G s0 all second spans t rest (next + nodes (policy_meaning p)) x in
+    let part : Part S H A G second spans s t (policy_meaning p) next c.answer-given.result
+    = record { answer = c.answer-given.ensures.answer; asks = c.answer-given.ensures.asks; others = c.answer-given.ensures.others; keeps = c.answer-given.ensures.keeps } in
+    let few : nodes (policy_meaning p) ≤ 64 = omega (arith, here.counted, here.within) in
+    let count : c.count.result ≡ nodes (policy_meaning p) = c.count.ensures ∙ counted_nodes (nodes (policy_meaning p)) few in
+    subst N (sym count) (subst W (sym c.with-seen.ensures) (top-more S H A G s0 all second spans s t (policy_meaning p) rest next c.loop-policy.seen c.answer-given.result here part))

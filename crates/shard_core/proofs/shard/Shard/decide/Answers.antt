@@ -13,12 +13,12 @@ use Rattle.shard_core.proofs.shard.Shard.decide.Goals as goal
 decides : (c : goal.After-settle) (past : Journal) (k : ℕ) → StandsFor c.args.self.now past k → Decides c.args.self.now c.settle.new.self c.settle.result past k
 decides c past k s =
     let Q = λ (h : Held). 0 < h.wait in
-    decides_some c.args.self.now c.settle.new.self c.settle.result c.in-Some.i past k (subst Q c.self.view_is c.self.invariant) (sym c.first_due.ensures ∙ c.in-Some.is) c.settle.ensures.settles s
+    decides_some c.args.self.now c.settle.new.self c.settle.result c.in-Some.i past k (subst Q c.self.view_is c.self.invariant.0) (sym c.first_due.ensures ∙ c.in-Some.is) c.settle.ensures.settles s
 
 pub returns-in-None-clause-decides : goal.returns-in-None-clause-decides
 returns-in-None-clause-decides c = λ past k s.
     let Q = λ (h : Held). 0 < h.wait in
-    decides_nothing c.args.self.now past k (subst Q c.self.view_is c.self.invariant) (sym c.first_due.ensures ∙ c.in-None.is) s
+    decides_nothing c.args.self.now past k (subst Q c.self.view_is c.self.invariant.0) (sym c.first_due.ensures ∙ c.in-None.is) s
 
 pub returns-in-Some-clause-decides : goal.returns-in-Some-clause-decides
 returns-in-Some-clause-decides c = λ past k s. decides c past k s
@@ -35,12 +35,12 @@ returns-in-Some-clause-dropped c = λ past k reason s. decide_dropped c.args.sel
 pub returns-in-None-clause-all_dealt : goal.returns-in-None-clause-all_dealt
 returns-in-None-clause-all_dealt c = λ _ past k s.
     let Q = λ (h : Held). 0 < h.wait in
-    all_dealt c.args.self.now past k (subst Q c.self.view_is c.self.invariant) (nothing_due c.args.self.now (sym c.first_due.ensures ∙ c.in-None.is)) s
+    all_dealt c.args.self.now past k (subst Q c.self.view_is c.self.invariant.0) (nothing_due c.args.self.now (sym c.first_due.ensures ∙ c.in-None.is)) s
 
 pub returns-in-None-clause-output : goal.returns-in-None-clause-output
 returns-in-None-clause-output c = λ _ past k s.
     let Q = λ (h : Held). 0 < h.wait in
-    ap (λ (x : Effect). x.released) (all_dealt c.args.self.now past k (subst Q c.self.view_is c.self.invariant) (nothing_due c.args.self.now (sym c.first_due.ensures ∙ c.in-None.is)) s)
+    ap (λ (x : Effect). x.released) (all_dealt c.args.self.now past k (subst Q c.self.view_is c.self.invariant.0) (nothing_due c.args.self.now (sym c.first_due.ensures ∙ c.in-None.is)) s)
 
 pub returns-in-Some-clause-output : goal.returns-in-Some-clause-output
 returns-in-Some-clause-output c = λ e.

@@ -1,8 +1,21 @@
+use Rattle.std.proofs.Common.{List, sym, ap, ◌∙◌, map, []}
+use Rattle.policy_tree.specs.declared.policy.Policy.{Policy}
+use Rattle.policy_tree.specs.Tree.{limiters}
+use Rattle.policy_tree.specs.Meaning.{meaning}
+use Rattle.rate_budget.specs.Budget.{limiter_of, limiter_counts}
+use Rattle.rate_budget.specs.BudgetLaws.{limits-of-counts}
 use Rattle.shard_core.proofs.Stands.{new_stands, new_runs}
 use Rattle.shard_core.proofs.shard.Shard.new.Goals as goal
 
 pub returns-clause-stands : goal.returns-clause-stands
-returns-clause-stands c = new_stands c.args.policies c.args.wait c.args.senders c.new.result.items c.in_ok-vec.field-0.items c.new.ensures.items (c.in_ok-vec.ensures.items_if_clones_equal (λ y e. e))
+returns-clause-stands c =
+    let counts = c.in_ok-budgets.ensures ∙ ap (λ (ps : List Policy). limiter_counts (meaning ps) []) (sym c.policies.view_is) in
+    new_stands c.policies.inside.list.items c.args.wait c.args.senders c.new-2.result.items c.in_ok-budgets.budgets c.in_ok-vec.field-0.items c.new-2.ensures.items counts (c.in_ok-vec.ensures.items_if_clones_equal (λ y e. e))
 
 pub returns-clause-running : goal.returns-clause-running
 returns-clause-running c = new_runs c.args.senders c.in_ok-vec.field-0.items (c.in_ok-vec.ensures.items_if_clones_equal (λ y e. e)) c.requires.has_senders
+
+pub invariant_of-result-2 : goal.invariant_of-result-2
+invariant_of-result-2 c =
+    let counts = c.in_ok-budgets.ensures ∙ ap (λ (ps : List Policy). limiter_counts (meaning ps) []) (sym c.policies.view_is) in
+    (c.requires.waits, ap (map limiter_of) counts ∙ limits-of-counts (limiters (meaning c.policies.inside.list.items)) [])

@@ -1,9 +1,0 @@
-use Rattle.std.proofs.Common.{◌≡◌, length}
-use Rattle.policy_tree.specs.Faults.{has_same_names}
-use Rattle.policy_tree.proofs.policies.has_same_names.Given as goal
-
-abbrev pub invariant-loop-first : goal.invariant-loop-first
-invariant-loop-first l = has_same_names l.list ≡ has_same_names l.left
-
-abbrev pub decreases-loop-first : goal.decreases-loop-first
-decreases-loop-first l = length l.left

@@ -1,0 +1,88 @@
+ghost use Rattle.std.specs.Prelude.{◌≡◌, min};
+ghost use Rattle.policy_tree.specs.Tree.{nodes, nodes_in, depth, depth_in, has_empty_and, has_empty_list};
+ghost use Rattle.policy_tree.specs.Meaning.{meaning, policy_meaning};
+
+use crate::policy::{Policy, PolicyKind};
+
+impl Policy {
+    /// How many policies there are in this one, itself too, where they are fewer than 2^64.
+    pub fn count(&self) -> usize
+        ensures { result ≡ min (nodes (policy_meaning self.now)) usize.MAX }
+    {
+        count(self)
+    }
+}
+
+/// Whether an `and` inside the policy has no part.
+#[cycle(empty)]
+fn has_empty_and(policy: &Policy) -> bool
+    ensures { result ≡ has_empty_and (policy_meaning policy.now) }
+{
+    match &policy.kind {
+        PolicyKind::And { policies } => has_empty_list(policies.as_slice()),
+        _ => false,
+    }
+}
+
+/// Whether the list is empty, or that of an `and` inside it.
+#[cycle(empty)]
+#[tactic(auto, using(crate::proofs::Lists::list_is_empty))]
+pub fn has_empty_list(list: &[Policy]) -> bool
+    ensures { result ≡ has_empty_list (meaning list.now) }
+{
+    if list.is_empty() {
+        return true;
+    }
+    for policy in list {
+        if has_empty_and(policy) {
+            return true;
+        }
+    }
+    false
+}
+
+/// How many levels of policies there are in this one, itself too.
+#[cycle(depth)]
+fn depth(policy: &Policy) -> usize
+    ensures { result ≡ min (depth (policy_meaning policy.now)) usize.MAX }
+{
+    match &policy.kind {
+        PolicyKind::And { policies } => depth_in(policies.as_slice()).saturating_add(1),
+        _ => 1,
+    }
+}
+
+/// How many levels of policies there are in these.
+#[cycle(depth)]
+pub fn depth_in(list: &[Policy]) -> usize
+    ensures { result ≡ min (depth_in (meaning list.now)) usize.MAX }
+{
+    let mut levels = 0usize;
+    for policy in list {
+        levels = levels.max(depth(policy));
+    }
+    levels
+}
+
+/// How many policies there are in this one, itself too.
+#[cycle(count)]
+fn count(policy: &Policy) -> usize
+    ensures { result ≡ min (nodes (policy_meaning policy.now)) usize.MAX }
+{
+    match &policy.kind {
+        PolicyKind::And { policies } => count_in(policies.as_slice()).saturating_add(1),
+        _ => 1,
+    }
+}
+
+/// How many policies there are in all of these.
+#[cycle(count)]
+pub fn count_in(list: &[Policy]) -> usize
+    ensures { result ≡ min (nodes_in (meaning list.now)) usize.MAX }
+{
+    let mut all = 0usize;
+    for policy in list {
+        all = all.saturating_add(count(policy));
+    }
+    all
+}

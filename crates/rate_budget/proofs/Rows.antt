@@ -1,0 +1,31 @@
+-- Worked rows of a limiter's grants, by computation.
+use Rattle.std.specs.Prelude.{ℕ, Bool, true, false, List, [], ◌∷◌, ◌≡◌, refl}
+use Rattle.policy_tree.specs.Tree.{Policies, no_more, one_more, leaf, and_policy, rate_limiting, span_count, limiters}
+use Rattle.rate_budget.specs.Grant.{Asking, grants, granted_after}
+use Rattle.rate_budget.specs.Budget.{limiter_counts, after}
+
+-- the askings of one limiter node, each with its answer
+abbrev asks : (limit : ℕ) → List (ℕ × ℕ) → (earlier : List Asking) → List Bool
+asks limit [] earlier = []
+asks limit (a ∷ rest) earlier = let g = grants limit earlier a.0 a.1 in g ∷ asks limit rest (record { node = 0; second = a.0; spans = a.1; granted = g } ∷ earlier)
+
+pub askings_of_one_node : asks 3 ((5, 2) ∷ (4, 2) ∷ (4, 1) ∷ (6, 3) ∷ (5, 1) ∷ []) [] ≡ true ∷ false ∷ true ∷ true ∷ false ∷ []
+askings_of_one_node = refl
+
+-- a refused asking takes nothing from its second
+pub refused_asking : grants 3 (record { node = 0; second = 5; spans = 9; granted = false } ∷ []) 5 3 ≡ true
+refused_asking = refl
+
+-- an `and` of a leaf and a limit of 3, and a limit of 4
+abbrev two_limits : Policies
+two_limits = one_more (and_policy (one_more (leaf (span_count 2 0)) (one_more (rate_limiting 3) no_more))) (one_more (rate_limiting 4) no_more)
+
+pub limiter_nodes : limiters two_limits ≡ record { node = 2; spans_per_second = 3 } ∷ record { node = 3; spans_per_second = 4 } ∷ []
+limiter_nodes = refl
+
+-- each node has its own askings, and a node that is no limiter's is granted nothing
+pub nodes_apart : granted_after two_limits (record { node = 3; second = 5; spans = 4; granted = true } ∷ []) 5 3 2 ∷ granted_after two_limits (record { node = 3; second = 5; spans = 4; granted = true } ∷ []) 5 1 3 ∷ granted_after two_limits [] 5 0 1 ∷ [] ≡ true ∷ false ∷ false ∷ []
+nodes_apart = refl
+
+pub counts_of_askings : after (limiter_counts two_limits []) 3 5 4 ≡ limiter_counts two_limits (record { node = 3; second = 5; spans = 4; granted = true } ∷ [])
+counts_of_askings = refl

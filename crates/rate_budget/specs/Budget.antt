@@ -1,0 +1,59 @@
+-- What a limiter with one count for each limiter node grants.
+use Rattle.std.specs.Prelude.{ℕ, ◌+◌, ◌≡◌, ◌==◌, max, Bool, false, nat_le, if◌then◌else◌, List, [], ◌∷◌, map}
+use Rattle.std.specs.List.{list_any}
+use Rattle.policy_tree.specs.declared.limiter_node.LimiterNode.{LimiterNode}
+use Rattle.policy_tree.specs.Tree.{Policies, limiters}
+use Rattle.rate_budget.specs.Grant.{Asking, latest_second, granted_in, askings_of, granted_after}
+use Rattle.rate_budget.specs.declared.count.LimiterCount.{LimiterCount}
+
+-- ---- what the counts are by the askings
+
+-- the count of a node with this limit, after the node's askings
+abbrev pub count_of : (node limit : ℕ) → List Asking → LimiterCount
+count_of node limit own = record { node = node; limit = limit; second = latest_second own; granted = granted_in (latest_second own) own }
+
+-- the count of a limiter node, after these askings
+abbrev pub limiter_count : List Asking → LimiterNode → LimiterCount
+limiter_count askings l = count_of l.node l.spans_per_second (askings_of l.node askings)
+
+-- the counts of the policies' limiter nodes, after these askings
+abbrev pub limiter_counts : Policies → List Asking → List LimiterCount
+limiter_counts policies askings = map (limiter_count askings) (limiters policies)
+
+-- ---- what an asking does to them
+
+-- the spans granted so far in the second in which an asking counts
+abbrev pub spent_in : (second : ℕ) → LimiterCount → ℕ
+spent_in second c = if nat_le second c.second then c.granted else 0
+
+-- whether it is granted
+abbrev pub grants_of : (second n : ℕ) → LimiterCount → Bool
+grants_of second n c = nat_le (spent_in second c + n) c.limit
+
+-- the count after it
+abbrev pub asked_count : (second n : ℕ) → LimiterCount → LimiterCount
+asked_count second n c = record c { second = max second c.second; granted = (if grants_of second n c then spent_in second c + n else spent_in second c) }
+
+-- the limiter node that a count is of
+abbrev pub limiter_of : LimiterCount → LimiterNode
+limiter_of c = record { node = c.node; spans_per_second = c.limit }
+
+-- there is a count of the node
+abbrev pub has_node : List LimiterCount → (node : ℕ) → Bool
+has_node counts node = list_any (λ (c : LimiterCount). c.node == node) counts
+
+-- whether an asking of the node is granted
+abbrev pub grants_at : List LimiterCount → (node second n : ℕ) → Bool
+grants_at [] node second n = false
+grants_at (c ∷ rest) node second n = if c.node == node then grants_of second n c else grants_at rest node second n
+
+-- the counts after an asking of the node
+abbrev pub after : List LimiterCount → (node second n : ℕ) → List LimiterCount
+after [] node second n = []
+after (c ∷ rest) node second n = if c.node == node then asked_count second n c ∷ rest else c ∷ after rest node second n
+
+-- an asking after these is answered as they say, and leaves the counts after these and itself
+abbrev pub StandsAfter : Policies → List Asking → (node second n : ℕ) → (answer : Bool) → (new : List LimiterCount) → Type 0
+StandsAfter policies askings node second n answer new =
+    let asking : Asking = record { node = node; second = second; spans = n; granted = answer } in
+    (answer ≡ granted_after policies askings second n node) × (new ≡ limiter_counts policies (asking ∷ askings))

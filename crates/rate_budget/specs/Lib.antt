@@ -1,0 +1,4 @@
+pub mod Grant
+pub mod Budget
+pub mod Rising
+pub mod BudgetLaws
