@@ -2,8 +2,8 @@
 use Rattle.std.proofs.Common.{◌≡◌, ℕ, ◌+◌, ◌<◌, arith, length, ◌&&◌, max, Bool, true, false, not, cond, List, [], ◌∷◌, ◌++◌, Some, None, inl, inr, refl, sym, ap, subst, ◌∙◌}
 use Rattle.std.specs.List.{filter, find, position, position_or_len, slice_set}
 use Rattle.std.specs.Option.{is_none}
-use Rattle.shard_core.specs.Journal.{same_trace}
-use Rattle.shard_core.specs.Standing.{Episode}
+use Rattle.span_ids.specs.Same.{same_trace}
+use Rattle.trace_buffer.specs.Buffer.{Episode}
 use Rattle.span_ids.specs.declared.ids.TraceId.{TraceId}
 use Rattle.otlp_types.specs.declared.arrival.Arrival.{Arrival}
 use Rattle.shard_core.specs.Held.{Held, is_due_by, is_due_in, is_finished, has_due}

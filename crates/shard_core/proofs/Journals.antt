@@ -9,8 +9,10 @@ use Rattle.std.proofs.Math.Seq.{set-append_seam}
 use Rattle.std.proofs.lemmas.Bool.Decides.{nat_tests}
 use Rattle.rate_budget.specs.Budget.{limiter_counts}
 use Rattle.rate_budget.specs.declared.count.LimiterCount.{LimiterCount}
-use Rattle.shard_core.specs.Journal.{Entry, StoppedInTime, Settings, Journal, Opening, Decision, Notes, Finding, joins, meets, opens, notes, notes_dealt, finding, latest_episode, decided_as, is_in_buffer, is_due, due_at, due_now, have_ended, has_ended, decisions_in_turn, decision, after_item, after_span, after_finding, after_decisions, same_trace, clock, is_of_trace, ids_have_trace, spans_since, item_spans, askings_made}
-use Rattle.shard_core.specs.Standing.{Standing, Episode, episode, spans_left, standing, mark, ends}
+use Rattle.span_ids.specs.Same.{same_trace}
+use Rattle.shard_core.specs.Journal.{Entry, StoppedInTime, Settings, Journal, Opening, Decision, Notes, Finding, joins, meets, opens, notes, notes_dealt, finding, latest_episode, decided_as, is_in_buffer, is_due, due_at, due_now, have_ended, has_ended, decisions_in_turn, decision, after_item, after_span, after_finding, after_decisions, clock, is_of_trace, ids_have_trace, spans_since, item_spans, askings_made}
+use Rattle.trace_buffer.specs.Buffer.{Episode}
+use Rattle.shard_core.specs.Standing.{Standing, episode, spans_left, standing, mark, ends}
 use Rattle.otlp_types.specs.declared.span.Ids.{Ids}
 use Rattle.span_ids.specs.declared.ids.TraceId.{TraceId}
 use Rattle.otlp_types.specs.declared.arrival.Arrival.{Arrival}
@@ -21,7 +23,8 @@ use Rattle.policy_tree.specs.Meaning.{meaning}
 use Rattle.shard_core.specs.Held.{is_due_by, settings_of}
 use Rattle.policy_tree.specs.declared.policy.Policy.{Policy}
 use Rattle.shard_core.specs.Holding.{joined, episodes_after}
-use Rattle.shard_core.proofs.Lists.{Each, Each-append, Each-weaken, Each-all, Apart, Apart-push, Apart-weaken, reverse-cons, filter-reverse, filter-same, filter-none, Each-from_none, filter-filter, Each-filter, Single, find-none, Each-from_find, find-reverse, any-found, or-true, and-false, Each-reverse, drop-length, none-from_find}
+use Rattle.shard_core.proofs.ListFacts.{Each, Pairs as Apart}
+use Rattle.shard_core.proofs.Lists.{Each-append, Each-weaken, Each-all, Apart-push, Apart-weaken, reverse-cons, filter-reverse, filter-same, filter-none, Each-from_none, filter-filter, Each-filter, Single, find-none, Each-from_find, find-reverse, any-found, or-true, and-false, Each-reverse, drop-length, none-from_find}
 
 -- ---- tests
 

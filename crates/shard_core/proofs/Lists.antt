@@ -1,5 +1,6 @@
 -- Lists whose members are all so, or all different.
 use Rattle.std.proofs.Common.{◌≡◌, ℕ, zero, suc, ◌+◌, ◌<◌, ◌≤◌, nat_lt, Bool, true, false, not, ◌&&◌, ◌||◌, cond, List, [], ◌∷◌, ◌++◌, reverse, length, drop, Option, Some, None, refl, sym, ap, subst, ◌∙◌, arith, append-nil}
+use Rattle.shard_core.proofs.ListFacts.{Each, Pairs as Apart}
 use Rattle.std.specs.List.{list_any, filter, find, position, position_or_len, slice_get, slice_set}
 use Rattle.std.specs.Option.{option_or}
 use Rattle.std.proofs.lemmas.List.{reverse-append}
@@ -24,14 +25,6 @@ pub one-add : (n : ℕ) → 1 + n ≡ suc n
 one-add n = omega arith
 
 module _ {X : Type 0} where
-  abbrev pub Each : (X → Type 0) → List X → Type 0
-  Each P [] = Unit {0}
-  Each P (x ∷ xs) = P x × Each P xs
-
-  abbrev pub Apart : (X → X → Type 0) → List X → Type 0
-  Apart R [] = Unit {0}
-  Apart R (x ∷ xs) = Each (R x) xs × Apart R xs
-
   pub Each-append : (P : X → Type 0) (xs ys : List X) → Each P xs → Each P ys → Each P (xs ++ ys)
   Each-append P [] ys a b = b
   Each-append P (x ∷ xs) ys a b = (a.0, Each-append P xs ys a.1 b)

@@ -3,7 +3,8 @@ use Rattle.std.specs.Prelude.{ℕ, Bool, true, false, pos, List, [], ◌∷◌, 
 use Rattle.policy_tree.specs.Tree.{Policies, no_more, one_more, leaf, and_policy, rate_limiting, always_sample, status_code, latency}
 use Rattle.shard_core.specs.Journal.{Entry, Settings, notes}
 use Rattle.shard_core.specs.Fate.{Fate, waits, is_released, is_counted, effect, output, under, fate}
-use Rattle.shard_core.specs.Standing.{Standing, Episode, standing}
+use Rattle.trace_buffer.specs.Buffer.{Episode}
+use Rattle.shard_core.specs.Standing.{Standing, standing}
 use Rattle.otlp_types.specs.declared.arrival.Arrival.{Arrival}
 use Rattle.otlp_types.specs.declared.arrival.Item.{Item}
 use Rattle.otlp_types.specs.declared.arrival.Item.TheVariants.{Span, Tick, End}

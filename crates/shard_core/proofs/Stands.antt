@@ -7,7 +7,8 @@ use Rattle.policy_eval.specs.AskingLaws.{decides_by_counts}
 use Rattle.rate_budget.specs.Budget.{limiter_counts}
 use Rattle.rate_budget.specs.declared.count.LimiterCount.{LimiterCount}
 use Rattle.shard_core.specs.Journal.{Settings, Journal, Opening, Decision, Notes, Finding, meets, opens, notes, notes_dealt, finding, latest_episode, decided_as, due_now, decision, decisions_now, have_ended, after_span, after_finding, askings_made, clock, spans_since}
-use Rattle.shard_core.specs.Standing.{Standing, Episode, episode, standing, mark, ends, spans_left}
+use Rattle.trace_buffer.specs.Buffer.{Episode}
+use Rattle.shard_core.specs.Standing.{Standing, episode, standing, mark, ends, spans_left}
 use Rattle.otlp_types.specs.declared.span.Ids.{Ids}
 use Rattle.otlp_types.specs.declared.arrival.Arrival.{Arrival}
 use Rattle.otlp_types.specs.declared.arrival.Item.TheVariants.{Span, Tick, End}
@@ -22,7 +23,8 @@ use Rattle.shard_core.specs.declared.answer.Taken.{Taken}
 use Rattle.shard_core.specs.declared.answer.Taken.TheVariants.{Ticked, Ended, Finished}
 use Rattle.shard_core.specs.declared.answer.Decided.{Decided}
 use Rattle.shard_core.specs.declared.answer.Decided.TheVariants.{Nothing}
-use Rattle.shard_core.proofs.Lists.{find-from_any, position-none, filter-from_find, set_first, set-position, position-found, Apart, Each-weaken, find-each, find-passes}
+use Rattle.shard_core.proofs.ListFacts.{Pairs as Apart}
+use Rattle.shard_core.proofs.Lists.{find-from_any, position-none, filter-from_find, set_first, set-position, position-found, Each-weaken, find-each, find-passes}
 use Rattle.shard_core.proofs.Journals.{Noted, plain_settings, holding, standing_with, standing-is, known, nothing_left, dealt-notes, all_ended, ends-span, ends-tick, ends-end, latest-front, find-trace, finds-none, finds-undecided, finds-decided, episodes-opened, episodes-found, episodes-refused, episodes-other, turn-done, turn-next, due_list, item_notes, due-dealt, open_due, OtherPlace, map-same, eqb-same, decisions-item, noted-item, stopped-before, find-episodes, DueIn}
 
 holding-same : (es fs : List Episode) (ks : List LimiterCount) (c m : ℕ) (xs ys : List Bool) → es ≡ fs → xs ≡ ys → holding es ks c m xs ≡ holding fs ks c m ys
@@ -288,10 +290,10 @@ module _ (policies : List Policy) (wait senders : ℕ) where
       let n = notes_dealt s past k in
       let R = reverse m.openings in
       let stands : st ≡ standing_with policies wait senders n past = eq ∙ standing-is policies wait senders past k in
-      let P1 = λ (t : Standing). find (DueIn policies wait senders t) t.episodes ≡ Some e in
-      let f1 : find (is_due_by (list_all (λ b. b) (ends past senders)) (mark past) wait) (map (episode past n) R) ≡ Some e = subst P1 stands f in
-      let P2 = λ (b : Bool). find (is_due_by b (mark past) wait) (map (episode past n) R) ≡ Some e in
-      let f2 : find (is_due_by (have_ended past senders) (mark past) wait) (map (episode past n) R) ≡ Some e = subst P2 (all_ended policies wait senders past senders) f1 in
+      let IsFound = λ (t : Standing). find (DueIn policies wait senders t) t.episodes ≡ Some e in
+      let f1 : find (is_due_by (list_all (λ b. b) (ends past senders)) (mark past) wait) (map (episode past n) R) ≡ Some e = subst IsFound stands f in
+      let IsFoundBy = λ (b : Bool). find (is_due_by b (mark past) wait) (map (episode past n) R) ≡ Some e in
+      let f2 : find (is_due_by (have_ended past senders) (mark past) wait) (map (episode past n) R) ≡ Some e = subst IsFoundBy (all_ended policies wait senders past senders) f1 in
       let o = opening_of (episode past n) (find (test past n) R) e (sym (find-episodes policies wait senders past n (have_ended past senders) (mark past) R) ∙ f2) in
       let p = o.0 in
       let rest = filter-from_find (test past n) R p o.1 in
@@ -340,9 +342,9 @@ decides-in h new answer i x before k w f t s =
     let P = λ (ds : List Decision). DecidesFirst h new answer past k ds in
     let Q = λ (n : Held). StandsFor n past (k + 1) in
     let R = λ (spans : List Arrival). Releases answer spans v in
-    let R2 = λ (y : Verdict). Releases answer d.spans y in
+    let IsAnswer = λ (y : Verdict). Releases answer d.spans y in
     let ends_kept : record h { standing = record h.standing { episodes = slice_set h.standing.episodes i (settled v e); limiter_counts = counts_asked (meaning h.policies) h.standing e.spans } } ≡ record h { standing = standing (settings h) past (k + 1) } = ap (λ (st : Standing). record h { standing = st }) step.5 in
-    subst P (sym step.2) (subst R2 (sym step.4) (subst R (sym step.3) settle.2), subst Q (sym settle.3) (s.0, step.5))
+    subst P (sym step.2) (subst IsAnswer (sym step.4) (subst R (sym step.3) settle.2), subst Q (sym settle.3) (s.0, step.5))
 
 pub decides_some : (h new : Held) (answer : Decided) (i : ℕ) (past : Journal) (k : ℕ) → 0 < h.wait → first_due h ≡ Some i → SettlesAt h i answer new → StandsFor h past k → Decides h new answer past k
 decides_some h new answer i [] k w f t s =

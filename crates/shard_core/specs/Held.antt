@@ -2,7 +2,8 @@
 use Rattle.std.specs.Prelude.{ℕ, ◌+◌, ◌≡◌, Bool, ◌&&◌, ◌||◌, nat_le, is_none, List, length, None}
 use Rattle.std.specs.List.{list_any, list_all}
 use Rattle.shard_core.specs.Journal.{Settings, Journal, StoppedInTime}
-use Rattle.shard_core.specs.Standing.{Standing, Episode, standing}
+use Rattle.trace_buffer.specs.Buffer.{Episode}
+use Rattle.shard_core.specs.Standing.{Standing, standing}
 use Rattle.policy_tree.specs.Meaning.{meaning}
 use Rattle.policy_tree.specs.declared.policy.Policy.{Policy}
 

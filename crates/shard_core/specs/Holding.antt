@@ -1,7 +1,8 @@
 -- What the code of a shard does to what it holds: words of its private functions, beside the definitions.
 use Rattle.std.specs.Prelude.{ℕ, ◌/◌, ◌≡◌, max, length, Bool, true, false, is_none, if◌then◌else◌, List, [], ◌∷◌, ◌++◌, find, position, slice_set, slice_get, ◌⊎◌, Option, Some, None}
-use Rattle.shard_core.specs.Journal.{same_trace}
-use Rattle.shard_core.specs.Standing.{Standing, Episode}
+use Rattle.span_ids.specs.Same.{same_trace}
+use Rattle.trace_buffer.specs.Buffer.{Episode}
+use Rattle.shard_core.specs.Standing.{Standing}
 use Rattle.policy_tree.specs.Tree.{Policies}
 use Rattle.policy_tree.specs.Meaning.{meaning}
 use Rattle.policy_eval.specs.Policies.{verdict, asked_nodes}

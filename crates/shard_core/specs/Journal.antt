@@ -1,10 +1,12 @@
 -- What a shard has done, looking back over the items that it has taken (tailsamplingprocessor README: `decision_wait`, `num_traces`, `decision_cache`).
 -- A journal is a list of entries, the newest first: the journal before an entry is the list behind it, whose length is the entry's position.
-use Rattle.std.specs.Prelude.{ℕ, zero, suc, ◌+◌, ◌-◌, ◌/◌, max, Bool, true, false, not, ◌&&◌, ◌||◌, if◌then◌else◌, ◌==◌, nat_lt, nat_le, is_none, List, [], ◌∷◌, ◌++◌, map, reverse, length, take, slice_get, filter, find, take_while, Option, Some, None, option_map, bytes_eq, ◌≡◌}
+use Rattle.std.specs.Prelude.{ℕ, zero, suc, ◌+◌, ◌-◌, ◌/◌, max, Bool, true, false, not, ◌&&◌, ◌||◌, if◌then◌else◌, ◌==◌, nat_lt, nat_le, is_none, List, [], ◌∷◌, ◌++◌, map, reverse, length, take, slice_get, filter, find, Option, Some, None, option_map, ◌≡◌}
 use Rattle.std.specs.List.{list_any}
 use Rattle.policy_tree.specs.Tree.{Policies}
 use Rattle.policy_eval.specs.Policies.{verdict, asked_nodes}
 use Rattle.rate_budget.specs.Grant.{Asking, granted_after}
+use Rattle.span_ids.specs.Same.{same_trace}
+use Rattle.decision_cache.specs.Touches.{Touch, last_touched, touches_since}
 use Rattle.otlp_types.specs.declared.span.Ids.{Ids}
 use Rattle.span_ids.specs.declared.ids.TraceId.{TraceId}
 use Rattle.otlp_types.specs.declared.arrival.Arrival.{Arrival}
@@ -33,10 +35,6 @@ abbrev pub Journal : Type 0
 Journal = List Entry
 
 -- ---- traces
-
--- two trace ids are the same
-abbrev pub same_trace : TraceId → TraceId → Bool
-same_trace s t = bytes_eq s t
 
 -- ids are those of a span of this trace
 abbrev pub ids_have_trace : TraceId → Option Ids → Bool
@@ -90,12 +88,6 @@ pub record Decision : Type 0 where
   pub askings : List Asking
   pub verdict : Verdict
 
--- A touch of a verdict: the leaving of the decided episode that opened at `episode`, where it lost nothing, or a later span, not refused, that found its trace remembered outside the buffer.
-pub record Touch : Type 0 where
-  pub episode : ℕ
-  pub trace : TraceId
-  pub verdict : Verdict
-
 -- what the items did: openings, decisions, touches
 pub record Notes : Type 0 where
   pub openings : List Opening
@@ -136,29 +128,10 @@ latest_episode noted t = find (λ o. same_trace o.trace t) noted.openings
 
 -- ---- remembered
 
--- two verdicts are the same
-abbrev pub is_same_verdict : Verdict → Verdict → Bool
-is_same_verdict Sampled Sampled = true
-is_same_verdict NotSampled NotSampled = true
-is_same_verdict _ _ = false
-
 -- the size of the cache of a verdict
 abbrev pub cache_size : Settings → Verdict → ℕ
 cache_size s Sampled = s.sampled_size
 cache_size s NotSampled = s.non_sampled_size
-
--- each trace once, at its first place
-abbrev pub different : List TraceId → List TraceId
-different [] = []
-different (t ∷ rest) = t ∷ filter (λ u. not (same_trace t u)) (different rest)
-
--- the different traces that were touched with this verdict, the last touched first
-abbrev pub last_touched : Verdict → List Touch → List TraceId
-last_touched v touches = different (map (λ u. u.trace) (filter (λ u. is_same_verdict u.verdict v) touches))
-
--- the touches since the trace's own last one
-abbrev pub touches_since : TraceId → List Touch → List Touch
-touches_since t touches = take_while (λ u. not (same_trace u.trace t)) touches
 
 -- its episode left without losing the verdict, and fewer other traces were touched since than the cache has room for
 abbrev pub is_cached : Settings → Notes → Opening → Verdict → Bool

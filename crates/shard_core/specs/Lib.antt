@@ -4,3 +4,5 @@ pub mod Standing
 pub mod Held
 pub mod Taking
 pub mod Holding
+pub mod Laws
+pub mod Keeping

@@ -2,7 +2,9 @@
 use Rattle.std.specs.Prelude.{ℕ, zero, suc, Bool, List, [], ◌∷◌, ◌++◌, map, reverse, take, Option, Some, None}
 use Rattle.rate_budget.specs.Budget.{limiter_counts}
 use Rattle.rate_budget.specs.declared.count.LimiterCount.{LimiterCount}
-use Rattle.shard_core.specs.Journal.{Settings, Journal, Opening, Notes, clock, has_ended, in_buffer, decided_as, cache_size, last_touched, spans_since, askings_made, notes_dealt}
+use Rattle.decision_cache.specs.Touches.{last_touched}
+use Rattle.shard_core.specs.Journal.{Settings, Journal, Opening, Notes, clock, has_ended, in_buffer, decided_as, cache_size, spans_since, askings_made, notes_dealt}
+use Rattle.trace_buffer.specs.Buffer.{Episode}
 use Rattle.span_ids.specs.declared.ids.TraceId.{TraceId}
 use Rattle.otlp_types.specs.declared.arrival.Arrival.{Arrival}
 use Rattle.otlp_types.specs.declared.arrival.Item.{Item}
@@ -10,13 +12,6 @@ use Rattle.otlp_types.specs.declared.arrival.Item.TheVariants.{Span, Tick, End}
 use Rattle.shard_core.specs.Journal.{Entry}
 use Rattle.span_ids.specs.declared.outcome.Verdict.{Verdict}
 use Rattle.span_ids.specs.declared.outcome.Verdict.TheVariants.{Sampled, NotSampled}
-
--- an episode in the buffer: its spans until it is decided, and then its verdict
-pub record Episode : Type 0 where
-  pub trace : TraceId
-  pub moment : ℕ
-  pub spans : List Arrival
-  pub verdict : Option Verdict
 
 -- what a shard holds: episodes in order of opening; a cache's traces, the last touched first; whether each sender has ended
 pub record Standing : Type 0 where

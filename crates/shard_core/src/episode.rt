@@ -1,5 +1,5 @@
 ghost use Rattle.std.specs.Prelude.{◌≡◌, [], ◌∷◌, ◌++◌, None, Some, is_none, OnErr, OnOk, IfOk};
-ghost use Rattle.shard_core.specs.Journal.{same_trace};
+ghost use Rattle.span_ids.specs.Same.{same_trace};
 ghost use Rattle.shard_core.specs.Held.{is_due_by};
 ghost use Rattle.shard_core.specs.Holding.{EpisodeTakes};
 
@@ -20,7 +20,7 @@ pub struct Episode {
 }
 
 impl Model for Episode {
-    ghost use Rattle.shard_core.specs.Standing.{Episode as HeldEpisode};
+    ghost use Rattle.trace_buffer.specs.Buffer.{Episode as HeldEpisode};
     ghost use Rattle.std.specs.Coded.{codes};
     ghost use Rattle.otlp_types.specs.contracts.value.AnyValue as any_value;
 

@@ -8,6 +8,7 @@
 
 mod answer;
 mod episode;
+pub mod laws;
 mod shard;
 #[cfg(test)]
 mod tests;

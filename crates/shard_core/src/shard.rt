@@ -1,6 +1,7 @@
 ghost use Rattle.std.specs.Prelude.{◌≡◌, ◌⊎◌, ℕ, replicate, [], ◌∷◌, ◌++◌, ◌+◌, if◌then◌else◌, ◌<◌, ◌≤◌, max, Bool, IsTrue, IsSome, true, false, length, OnOk, IfOk, position, Some, None};
 ghost use Rattle.span_ids.specs.declared.outcome.Reason.{Reason};
-ghost use Rattle.shard_core.specs.Journal.{Journal, same_trace};
+ghost use Rattle.span_ids.specs.Same.{same_trace};
+ghost use Rattle.shard_core.specs.Journal.{Journal};
 ghost use Rattle.shard_core.specs.Fate.{effect, effect_dealt, output, released_dealt, dropped_dealt};
 ghost use Rattle.shard_core.specs.Taking.{Releases};
 

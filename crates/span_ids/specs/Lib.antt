@@ -1,2 +1,3 @@
 pub mod Id
 pub mod Reasons
+pub mod Same

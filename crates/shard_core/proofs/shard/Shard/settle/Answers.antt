@@ -8,7 +8,7 @@ use Rattle.rate_budget.specs.Budget.{limiter_of, grants_at}
 use Rattle.rate_budget.specs.declared.count.LimiterCount.{LimiterCount}
 use Rattle.otlp_types.specs.declared.arrival.Arrival.{Arrival}
 use Rattle.shard_core.specs.Held.{Held}
-use Rattle.shard_core.specs.Standing.{Episode}
+use Rattle.trace_buffer.specs.Buffer.{Episode}
 use Rattle.shard_core.specs.Taking.{Releases}
 use Rattle.shard_core.specs.Holding.{SettlesAt, settled, verdict_held, counts_asked}
 use Rattle.shard_core.specs.contracts.shard.Shard.{the_view}

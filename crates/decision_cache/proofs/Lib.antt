@@ -1,0 +1,3 @@
+mod Entries
+pub mod Laws
+pub mod Stands

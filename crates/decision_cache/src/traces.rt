@@ -1,0 +1,71 @@
+ghost use Rattle.std.specs.Prelude.{◌≡◌, [], false, IfOk};
+ghost use Rattle.decision_cache.specs.Lists.{is_held, renewed, PutAs};
+
+use lru::LruCache;
+use span_ids::TraceId;
+use std::alloc::{AllocError, Global};
+use std::marker::Model;
+use std::num::NonZeroUsize;
+
+/// What became of a put.
+#[derive(Clone, Copy, Debug, PartialEq, Eq)]
+pub enum Remembered {
+    /// The verdict is remembered.
+    Kept,
+    /// Verdicts of this kind aren't remembered: the size is 0.
+    Off,
+    /// Memory was refused: this verdict isn't remembered, and all else is as before.
+    Lost,
+}
+
+/// The traces of one verdict, the last touched first.
+#[derive(Drop)]
+pub struct Traces {
+    /// None where there is room for none.
+    cache: Option<LruCache<TraceId, ()>>,
+}
+
+impl Model for Traces {
+    ghost use Rattle.decision_cache.specs.Lists.{TraceList, traces_of};
+
+    ghost Value = { TraceList };
+
+    ghost view = { λ t. traces_of t.cache };
+}
+
+impl Traces {
+    pub fn new(alloc: Global, size: usize) -> Result<Traces, AllocError>
+        ensures { IfOk result (λ t. t ≡ record { traces = []; size = size }) }
+    {
+        match NonZeroUsize::new(size) {
+            None => Ok(Traces { cache: None }),
+            Some(cap) => Ok(Traces {
+                cache: Some(LruCache::sparse(alloc, cap)?),
+            }),
+        }
+    }
+
+    pub fn put(&mut self, trace: TraceId) -> Remembered
+        requires { is_held trace self.old.traces ≡ false }
+        ensures { PutAs trace self.old result self.new }
+    {
+        let Some(cache) = &mut self.cache else {
+            return Remembered::Off;
+        };
+        let _room = cache.len();
+        match cache.put(trace, ()) {
+            Ok(_) => Remembered::Kept,
+            Err(_) => Remembered::Lost,
+        }
+    }
+
+    pub fn renew(&mut self, trace: TraceId) -> bool
+        ensures held { result ≡ is_held trace self.old.traces }
+        ensures after { self.new ≡ record self.old { traces = renewed trace self.old.traces } }
+    {
+        let Some(cache) = &mut self.cache else {
+            return false;
+        };
+        cache.promote(&trace)
+    }
+}

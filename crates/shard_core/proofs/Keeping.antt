@@ -1,0 +1,538 @@
+-- What a shard holds after an item is computed from what it held before.
+use Rattle.std.proofs.Common.{◌≡◌, ℕ, zero, suc, ◌-◌, ◌<◌, ◌≤◌, max, nat_le, Bool, true, false, not, ◌&&◌, ◌||◌, cond, ◌==◌, List, [], ◌∷◌, ◌++◌, map, length, take, drop, reverse, find, slice_get, Option, Some, None, option_map, option_to_list, refl, ap, sym, ◌∙◌, arith, append-nil, ne_eqb, eq-eqb}
+use Rattle.std.specs.List.{list_any}
+use Rattle.std.proofs.lemmas.List.{reverse-reverse, reverse-append, map-append, length-map, length-reverse}
+use Rattle.span_ids.specs.Same.{same_trace}
+use Rattle.span_ids.specs.declared.ids.TraceId.{TraceId}
+use Rattle.span_ids.specs.declared.outcome.Verdict.{Verdict}
+use Rattle.span_ids.specs.declared.outcome.Verdict.TheVariants.{Sampled, NotSampled}
+use Rattle.otlp_types.specs.declared.span.Ids.{Ids}
+use Rattle.otlp_types.specs.declared.arrival.Arrival.{Arrival}
+use Rattle.otlp_types.specs.declared.arrival.Item.{Item}
+use Rattle.otlp_types.specs.declared.arrival.Item.TheVariants.{Span, Tick, End}
+use Rattle.trace_buffer.specs.Buffer.{Episode, append_first, with_span, episode_of, after_opening, opening_episode, leaves, evicted_as}
+use Rattle.decision_cache.specs.Lists.{CacheLists, TraceList, is_held, is_held_in_either, asked, after_asking, after_put, list_after_put, puts, renews, PutAs, Remembers}
+use Rattle.decision_cache.specs.Touches.{Touch, last_touched, StandsFor, touched_by, is_lost}
+use Rattle.decision_cache.specs.declared.traces.Remembered.{Remembered}
+use Rattle.decision_cache.specs.declared.traces.Remembered.TheVariants.{Kept, Off}
+use Rattle.decision_cache.proofs.Laws.{same-eq, same-sym}
+use Rattle.decision_cache.proofs.Stands.{stands-put, stands-asked}
+use Rattle.shard_core.specs.Journal.{Entry, Settings, Journal, Opening, Decision, Notes, Finding, joins, meets, opens, clock, finding, notes, in_buffer, is_in_buffer, last_of, leaving, decided_as, latest_episode, spans_since, item_spans, is_of_trace, ids_have_trace, askings_made, after_item, after_span, after_finding, touch, touch_of_leaving, touch_of_leaving_decided}
+use Rattle.shard_core.specs.Standing.{Standing, episode, episodes, cache, spans_left, mark, ends}
+use Rattle.rate_budget.specs.Budget.{limiter_counts}
+use Rattle.shard_core.specs.Keeping.{caches, with_caches, buffer, after_leaving_decided, after_leaving, after_opening_in, after_unknown, after_known, after_episode, after_span_of, after_span_in, after_entry, KeepsStanding}
+use Rattle.shard_core.specs.Laws.{state_cached, state_found}
+use Rattle.shard_core.specs.Taking.{has_ids}
+use Rattle.shard_core.proofs.ListFacts.{Each, Each-all, Each-weaker, Each-reverse, Each-left, Pairs, Pairs-reverse, Split}
+use Rattle.shard_core.proofs.Find.{found, not_found, find_none, find_front, any_split}
+use Rattle.shard_core.proofs.Notes.{HasRoom, Sound, buffer_front, same_refl, spans_more, spans_before}
+use Rattle.shard_core.proofs.Sound.{sound_notes}
+use Rattle.shard_core.proofs.Remembering.{Remembering, OtherTrace, in_cache, remembering_notes, meets_latest, behind_buffer}
+use Rattle.shard_core.proofs.FoundAsHeld.{find_reversed, find_episode, all_dealt, found_past, found_here}
+use Rattle.shard_core.proofs.Due.{ends-span, ends-tick, ends-end}
+
+-- ---- an episode, one entry later
+
+-- a span that is refused, or of another trace, joins no episode
+spans_same : (a : Arrival) (ids : Ids) (refused lost : Bool) (past : Journal) (o : Opening) → a.rec.span.ids ≡ Some ids → (same_trace o.trace ids.trace && not refused) ≡ false
+    → spans_since (record { item = Span a; refused = refused; lost = lost } ∷ past) o ≡ spans_since past o
+spans_same a ids refused lost past o i h = go (nat_le o.at (length past))
+  where
+    off : (is_of_trace o.trace a && not refused) ≡ false
+    off = ap (λ (x : Option Ids). ids_have_trace o.trace x && not refused) i ∙ h
+
+    go : (b : Bool) → spans_since past o ++ cond (b && is_of_trace o.trace a && not refused) (a ∷ []) [] ≡ spans_since past o
+    go true = rw off (append-nil (spans_since past o))
+    go false = append-nil (spans_since past o)
+
+spans_own : (a : Arrival) (ids : Ids) (lost : Bool) (past : Journal) (o : Opening) → a.rec.span.ids ≡ Some ids → o.at ≤ length past → same_trace o.trace ids.trace ≡ true
+    → spans_since (record { item = Span a; refused = false; lost = lost } ∷ past) o ≡ spans_since past o ++ a ∷ []
+spans_own a ids lost past o i l h =
+    let on : is_of_trace o.trace a ≡ true = ap (λ (x : Option Ids). ids_have_trace o.trace x) i ∙ h in
+    spans_more past o (Span a) false lost l ∙ ap (λ b. spans_since past o ++ cond (b && true) (a ∷ []) []) on
+
+map_same : (f g : Opening → Episode) (os : List Opening) → Each (λ o. f o ≡ g o) os → map f os ≡ map g os
+map_same f g [] h = refl
+map_same f g (o ∷ os) h = rw (h.0) (ap (λ (es : List Episode). g o ∷ es) (map_same f g os h.1))
+
+episode_same : (later past : Journal) (noted : Notes) (o : Opening) → spans_since later o ≡ spans_since past o → episode later noted o ≡ episode past noted o
+episode_same later past noted o e = ap (λ (spans : List Arrival). record { trace = o.trace; moment = o.moment; spans = spans_left spans (decided_as noted o.at); verdict = decided_as noted o.at }) e
+
+-- a decided episode holds no spans
+episode_decided : (later past : Journal) (noted : Notes) (o : Opening) (v : Verdict) → decided_as noted o.at ≡ Some v → episode later noted o ≡ episode past noted o
+episode_decided later past noted o v d = rw d refl
+
+-- ---- a standing by its parts
+
+abbrev standing_by : Settings → Journal → Notes → Standing
+standing_by s past noted = record {
+  episodes = episodes s past noted;
+  sampled = cache s noted Sampled;
+  non_sampled = cache s noted NotSampled;
+  limiter_counts = limiter_counts s.policies (askings_made noted.decisions);
+  clock = clock past;
+  mark = mark past;
+  ends = ends past s.senders;
+}
+
+abbrev standing_of : Settings → Notes → (es : List Episode) → (sampled non_sampled : List TraceId) → (clock mark : ℕ) → (ended : List Bool) → Standing
+standing_of s noted es sampled non_sampled c k ended = record {
+  episodes = es;
+  sampled = sampled;
+  non_sampled = non_sampled;
+  limiter_counts = limiter_counts s.policies (askings_made noted.decisions);
+  clock = c;
+  mark = k;
+  ends = ended;
+}
+
+same_parts : (s : Settings) (noted : Notes) (es fs : List Episode) (a b c d : List TraceId) (k n : ℕ) (xs ys : List Bool) → es ≡ fs → a ≡ b → c ≡ d → xs ≡ ys → standing_of s noted es a c k n xs ≡ standing_of s noted fs b d k n ys
+same_parts s noted es fs a b c d k n xs ys e f g h = rw (e, f, g, h) refl
+
+-- ---- lists
+
+less-one : (n : ℕ) → suc n - 1 ≡ n
+less-one n = omega arith
+
+taken_full : {X : Type 0} (m : ℕ) (xs : List X) (x : X) → slice_get xs m ≡ Some x → length (take m xs) ≡ m
+taken_full m [] x e = absurd (cc e)
+taken_full zero (y ∷ xs) x e = refl
+taken_full (suc m) (y ∷ xs) x e = ap suc (taken_full m xs x e)
+
+taken_short : {X : Type 0} (m : ℕ) (xs : List X) → slice_get xs m ≡ None → length (take m xs) ≡ length xs
+taken_short zero [] e = refl
+taken_short (suc m) [] e = refl
+taken_short zero (y ∷ xs) e = absurd (cc e)
+taken_short (suc m) (y ∷ xs) e = ap suc (taken_short m xs e)
+
+short : {X : Type 0} (m : ℕ) (xs : List X) → slice_get xs m ≡ None → length xs ≤ m
+short m [] e = omega arith
+short zero (y ∷ xs) e = absurd (cc e)
+short (suc m) (y ∷ xs) e = let k = short m xs e in omega (arith, k)
+
+taken_next : {X : Type 0} (m : ℕ) (xs : List X) → take (suc m) xs ≡ take m xs ++ option_to_list (slice_get xs m)
+taken_next zero [] = refl
+taken_next zero (x ∷ xs) = refl
+taken_next (suc m) [] = refl
+taken_next {X} (suc m) (x ∷ xs) = ap (λ (z : List X). x ∷ z) (taken_next m xs)
+
+-- ---- what the caches hold
+
+-- the caches of what stands for a journal are what the touches made of them
+stands_for : (s : Settings) (past : Journal) (noted : Notes) (n : ℕ) → Remembering s noted n → StandsFor (caches s (standing_by s past noted)) noted.touches
+stands_for s past noted n w = (
+  (refl, λ t h. w.last Sampled t (w.held Sampled t h)),
+  (refl, λ t h. w.last NotSampled t (w.held NotSampled t h)),
+)
+
+some_found : {X : Type 0} (q : X → Bool) (xs : List X) → list_any q xs ≡ true → (x : X) × (find q xs ≡ Some x)
+some_found q [] e = absurd (cc e)
+some_found {X} q (x ∷ xs) e = go (q x) e (some_found q xs)
+  where
+    go : (b : Bool) → (b || list_any q xs) ≡ true → (list_any q xs ≡ true → (y : X) × (find q xs ≡ Some y)) → (y : X) × (cond b (Some x) (find q xs) ≡ Some y)
+    go true h f = (x, refl)
+    go false h f = f h
+
+-- no cache holds a trace of the buffer
+buffered_not_cached : (s : Settings) (noted : Notes) (n : ℕ) → Remembering s noted n → (p : Opening) → Split p (in_buffer s noted) → (v : Verdict) (b : Bool) → in_cache s noted v p.trace ≡ b → b ≡ false
+buffered_not_cached s noted n w p k v false e = refl
+buffered_not_cached s noted n w p k v true e =
+    let own = λ (o : Opening). same_trace o.trace p.trace in
+    let old = w.held v p.trace e in
+    let q = some_found own (in_buffer s noted) (ap (list_any own) k.is ∙ any_split own k.front k.back p (same_refl p.trace)) in
+    let front = buffer_front s.limit noted.openings in
+    let l : latest_episode noted p.trace ≡ Some q.0 = ap (find own) front.1 ∙ find_front own (in_buffer s noted) front.0 q.0 q.1 in
+    let is : q.0 ≡ old.opening = cc (l, old.latest) in
+    let at = found own (in_buffer s noted) q.0 q.1 in
+    let inside : is_in_buffer s noted q.0.at ≡ true = ap (list_any (λ (x : Opening). x.at == q.0.at)) at.is ∙ any_split (λ (x : Opening). x.at == q.0.at) at.front at.back q.0 (eq-eqb q.0.at q.0.at refl) in
+    sym inside ∙ ap (λ (o : Opening). is_in_buffer s noted o.at) is ∙ old.out
+
+-- ---- what the caches become
+
+sizes_asked : (t : TraceId) (c : CacheLists) → ((after_asking t c).sampled.size ≡ c.sampled.size) × ((after_asking t c).not_sampled.size ≡ c.not_sampled.size)
+sizes_asked t c = go (is_held t c.sampled.traces)
+  where
+    go : (b : Bool) → let x = cond b (record c { sampled = renews t c.sampled }) (record c { not_sampled = renews t c.not_sampled }) in (x.sampled.size ≡ c.sampled.size) × (x.not_sampled.size ≡ c.not_sampled.size)
+    go true = (refl, refl)
+    go false = (refl, refl)
+
+-- a put that found memory
+put_as : (t : TraceId) (traces : List TraceId) (size : ℕ) → let l : TraceList = record { traces = traces; size = size } in (r : Remembered) × PutAs t l r (list_after_put t l) × (is_lost r ≡ false)
+put_as t traces zero = (Off, (refl, refl), refl)
+put_as t traces (suc n) = (Kept, (omega arith, rw (ne_eqb (suc n) 0 (λ e. omega (arith, e))) refl), refl)
+
+put_remembers : (t : TraceId) (v : Verdict) (c : CacheLists) → (r : Remembered) × Remembers t v c r (after_put t v c) × (is_lost r ≡ false)
+put_remembers t Sampled c = let w = put_as t c.sampled.traces c.sampled.size in (w.0, (w.1, refl), w.2)
+put_remembers t NotSampled c = let w = put_as t c.not_sampled.traces c.not_sampled.size in (w.0, (w.1, refl), w.2)
+
+size_put : (t : TraceId) (l : TraceList) (b : Bool) → (cond b l (puts t l)).size ≡ l.size
+size_put t l true = refl
+size_put t l false = refl
+
+sizes_put : (t : TraceId) (v : Verdict) (c : CacheLists) → ((after_put t v c).sampled.size ≡ c.sampled.size) × ((after_put t v c).not_sampled.size ≡ c.not_sampled.size)
+sizes_put t Sampled c = (size_put t c.sampled (c.sampled.size == 0), refl)
+sizes_put t NotSampled c = (refl, size_put t c.not_sampled (c.not_sampled.size == 0))
+
+-- ---- a span of this trace
+
+-- the caches' answer, by how the trace stands in them
+state_asked : (t : TraceId) (c : CacheLists) → state_cached c.sampled.traces c.not_sampled.traces t ≡ option_map (λ (v : Verdict). Some v) (asked t c)
+state_asked t c = go (is_held t c.sampled.traces) (is_held t c.not_sampled.traces)
+  where
+    go : (a b : Bool) → cond a (Some (Some Sampled)) (cond b (Some (Some NotSampled)) None) ≡ option_map (λ (v : Verdict). Some v) (cond a (Some Sampled) (cond b (Some NotSampled) None))
+    go true b = refl
+    go false true = refl
+    go false false = refl
+
+asked_from : (r : Option Verdict) (v : Verdict) → option_map (λ (x : Verdict). Some x) r ≡ Some (Some v) → r ≡ Some v
+asked_from None v e = absurd (cc e)
+asked_from (Some x) v e = cc e
+
+asked_none : (r : Option Verdict) → option_map (λ (x : Verdict). Some x) r ≡ None → r ≡ None
+asked_none None e = refl
+asked_none (Some x) e = absurd (cc e)
+
+module _ (s : Settings) (m : ℕ) (lim : s.limit ≡ Some (suc m)) (past : Journal) (a : Arrival) (ids : Ids) (i : a.rec.span.ids ≡ Some ids) where
+  room : HasRoom s.limit
+  room e = absurd (cc (lim, e))
+
+  abbrev noted : Notes
+  noted = notes s past
+
+  abbrev held : Standing
+  held = standing_by s past noted
+
+  abbrev t : TraceId
+  t = ids.trace
+
+  abbrev entry_of : (refused lost : Bool) → Entry
+  entry_of refused lost = record { item = Span a; refused = refused; lost = lost }
+
+  sound : Sound s past noted
+  sound = sound_notes s room past
+
+  w : Remembering s noted (length past)
+  w = remembering_notes s room past
+
+  abbrev front : List Opening
+  front = reverse (in_buffer s noted)
+
+  below : Each (λ (o : Opening). o.at < length past) (in_buffer s noted)
+  below = let f = buffer_front s.limit noted.openings in Each-left (λ (o : Opening). o.at < length past) (in_buffer s noted) f.0 (rw f.1 at (sound.below))
+
+  -- the clock and the ends after the span
+  abbrev clocked : Standing
+  clocked = record held { clock = max a.moment (clock past) }
+
+  same_ends : (refused lost : Bool) → ends (entry_of refused lost ∷ past) s.senders ≡ ends past s.senders
+  same_ends refused lost = ends-span s room a refused lost past s.senders
+
+  -- nothing but the clock changes
+  quiet : (refused lost : Bool) → map (episode (entry_of refused lost ∷ past) noted) front ≡ map (episode past noted) front → standing_by s (entry_of refused lost ∷ past) noted ≡ clocked
+  quiet refused lost e = same_parts s noted _ _ _ _ _ _ (max a.moment (clock past)) (mark past) _ _ e refl refl (same_ends refused lost)
+
+  refused_same : (lost : Bool) → standing_by s (entry_of true lost ∷ past) noted ≡ clocked
+  refused_same lost = quiet true lost (map_same (episode (entry_of true lost ∷ past) noted) (episode past noted) front
+      (Each-all (λ o. episode (entry_of true lost ∷ past) noted o ≡ episode past noted o) front
+      (λ o. episode_same (entry_of true lost ∷ past) past noted o (spans_same a ids true lost past o i (and-no (same_trace o.trace ids.trace))))))
+    where
+      and-no : (b : Bool) → (b && false) ≡ false
+      and-no true = refl
+      and-no false = refl
+
+  -- where the buffer has no episode of the trace, no episode changes
+  others_same : (lost : Bool) (n : Notes) → n.decisions ≡ noted.decisions → (os : List Opening) → Each (λ (o : Opening). same_trace o.trace t ≡ false) os → map (episode (entry_of false lost ∷ past) n) os ≡ map (episode past noted) os
+  others_same lost n d os h = map_same (episode (entry_of false lost ∷ past) n) (episode past noted) os
+      (Each-weaker (λ (o : Opening). same_trace o.trace t ≡ false) (λ (o : Opening). episode (entry_of false lost ∷ past) n o ≡ episode past noted o) os
+      (λ o k. rw d (episode_same (entry_of false lost ∷ past) past noted o (spans_same a ids false lost past o i (ap (λ b. b && true) k)))) h)
+
+  -- the span goes to the undecided episode of its trace, which is the only one
+  appended : (lost : Bool) (o : Opening) → decided_as noted o.at ≡ None → (os : List Opening) → Each (λ (x : Opening). x.at < length past) os → Pairs (λ older newer. same_trace older.trace newer.trace ≡ false) os →
+      find (λ (x : Opening). same_trace x.trace t) os ≡ Some o → map (episode (entry_of false lost ∷ past) noted) os ≡ append_first t a (map (episode past noted) os)
+  appended lost o d [] l h e = absurd (cc e)
+  appended lost o d (x ∷ os) l h e = (elim (same_trace x.trace t) as (λ b. same_trace x.trace t ≡ b → cond b (Some x) (find (λ (x : Opening). same_trace x.trace t) os) ≡ Some o →
+      map (episode (entry_of false lost ∷ past) noted) (x ∷ os) ≡ cond b (with_span a (episode past noted x) ∷ map (episode past noted) os) (episode past noted x ∷ append_first t a (map (episode past noted) os))) [
+        | true ↦ λ k e.
+            let is : x ≡ o = cc e in
+            let undecided : decided_as noted x.at ≡ None = ap (λ (z : Opening). decided_as noted z.at) is ∙ d in
+            let spans = spans_own a ids lost past x i (let b : x.at < length past = l.0 in omega (arith, b)) k in
+            let first : episode (entry_of false lost ∷ past) noted x ≡ with_span a (episode past noted x) = rw (undecided, spans) refl in
+            let rest = others_same lost noted refl os (Each-weaker (λ (y : Opening). same_trace x.trace y.trace ≡ false) (λ (y : Opening). same_trace y.trace t ≡ false) os
+            (λ y f. same-sym y.trace t ∙ ap (λ (z : TraceId). same_trace z y.trace) (sym (same-eq x.trace t k)) ∙ f) h.0) in
+            cc (first, rest)
+        | false ↦ λ k e.
+            let first = episode_same (entry_of false lost ∷ past) past noted x (spans_same a ids false lost past x i (ap (λ b. b && true) k)) in
+            let rest = appended lost o d os l.1 h.1 e in
+            cc (first, rest)
+      ]) refl e
+
+  -- a span that is late for a decided episode of the buffer changes none
+  late_same : (lost : Bool) (o : Opening) (v : Verdict) → decided_as noted o.at ≡ Some v → (os : List Opening) → Pairs (λ older newer. same_trace older.trace newer.trace ≡ false) os →
+      find (λ (x : Opening). same_trace x.trace t) os ≡ Some o → map (episode (entry_of false lost ∷ past) noted) os ≡ map (episode past noted) os
+  late_same lost o v d [] h e = absurd (cc e)
+  late_same lost o v d (x ∷ os) h e = (elim (same_trace x.trace t) as (λ b. same_trace x.trace t ≡ b → cond b (Some x) (find (λ (x : Opening). same_trace x.trace t) os) ≡ Some o →
+      map (episode (entry_of false lost ∷ past) noted) (x ∷ os) ≡ map (episode past noted) (x ∷ os)) [
+        | true ↦ λ k e.
+            let is : x ≡ o = cc e in
+            let first = episode_decided (entry_of false lost ∷ past) past noted x v (ap (λ (z : Opening). decided_as noted z.at) is ∙ d) in
+            let rest = others_same lost noted refl os (Each-weaker (λ (y : Opening). same_trace x.trace y.trace ≡ false) (λ (y : Opening). same_trace y.trace t ≡ false) os
+            (λ y f. same-sym y.trace t ∙ ap (λ (z : TraceId). same_trace z y.trace) (sym (same-eq x.trace t k)) ∙ f) h.0) in
+            cc (first, rest)
+        | false ↦ λ k e.
+            let first = episode_same (entry_of false lost ∷ past) past noted x (spans_same a ids false lost past x i (ap (λ b. b && true) k)) in
+            let rest = late_same lost o v d os h.1 e in
+            cc (first, rest)
+      ]) refl e
+
+  front_below : Each (λ (o : Opening). o.at < length past) front
+  front_below = Each-reverse (λ (o : Opening). o.at < length past) (in_buffer s noted) below
+
+  front_apart : Pairs (λ older newer. same_trace older.trace newer.trace ≡ false) front
+  front_apart = Pairs-reverse OtherTrace (in_buffer s noted) w.apart
+
+  abbrev after_of : (lost : Bool) → Finding → Notes
+  after_of lost f = after_finding s t lost (length past) (max a.moment (clock past)) noted f
+
+  -- in the buffer
+  known_holds : (lost : Bool) (o : Opening) → find (λ (x : Opening). same_trace x.trace t) front ≡ Some o → latest_episode noted t ≡ Some o → is_in_buffer s noted o.at ≡ true → (d : Option Verdict) → decided_as noted o.at ≡ d → (f : Finding) → finding s noted t ≡ f → state_found f ≡ Some d →
+      standing_by s (entry_of false lost ∷ past) (after_of lost f) ≡ after_known t a clocked d
+  known_holds lost o e l inside None d (joins x) f g = same_parts s noted _ _ _ _ _ _ (max a.moment (clock past)) (mark past) _ _ (appended lost o d front front_below front_apart e) refl refl (same_ends false lost)
+  known_holds lost o e l inside None d (meets x v) f g = absurd (cc g)
+  known_holds lost o e l inside None d opens f g = absurd (cc g)
+  known_holds lost o e l inside (Some v) d (joins x) f g = absurd (cc g)
+  known_holds lost o e l inside (Some v) d (meets x y) f g =
+      let facts = meets_latest s noted t x y f in
+      let is : o ≡ x = cc (l, facts.0) in
+      let here : is_in_buffer s noted x.at ≡ true = ap (λ (z : Opening). is_in_buffer s noted z.at) (sym is) ∙ inside in
+      ap (λ b. standing_by s (entry_of false lost ∷ past) (record noted { touches = cond b [] (touch x y ∷ []) ++ noted.touches })) here ∙ quiet false lost (late_same lost o v d front front_apart e)
+  known_holds lost o e l inside (Some v) d opens f g = absurd (cc g)
+
+  -- ---- outside the buffer, late
+
+  late_holds : (lost : Bool) (o : Opening) (v : Verdict) → Each (λ (x : Opening). same_trace x.trace t ≡ false) front → finding s noted t ≡ meets o v → is_in_buffer s noted o.at ≡ false → asked t (caches s held) ≡ Some v →
+      standing_by s (entry_of false lost ∷ past) (after_of lost (meets o v)) ≡ with_caches (after_asking t (caches s held)) clocked
+  late_holds lost o v none f out e =
+      let c = caches s held in
+      let facts = meets_latest s noted t o v f in
+      let trace : o.trace ≡ t = same-eq o.trace t (found (λ (x : Opening). same_trace x.trace t) noted.openings o facts.0).passes in
+      let stands = stands-asked c t noted.touches o.at v (stands_for s past noted (length past) w) e in
+      let sizes = sizes_asked t c in
+      let u = touched_by o.at t v in
+      let is : touch o v ≡ u = ap (λ (x : TraceId). touched_by o.at x v) trace in
+      let sampled : take s.sampled_size (last_touched Sampled (touch o v ∷ noted.touches)) ≡ (after_asking t c).sampled.traces
+      = ap (λ (x : Touch). take s.sampled_size (last_touched Sampled (x ∷ noted.touches))) is ∙ ap (λ n. take n (last_touched Sampled (u ∷ noted.touches))) (sym sizes.0) ∙ sym stands.0.0 in
+      let non_sampled : take s.non_sampled_size (last_touched NotSampled (touch o v ∷ noted.touches)) ≡ (after_asking t c).not_sampled.traces
+      = ap (λ (x : Touch). take s.non_sampled_size (last_touched NotSampled (x ∷ noted.touches))) is ∙ ap (λ n. take n (last_touched NotSampled (u ∷ noted.touches))) (sym sizes.1) ∙ sym stands.1.0 in
+      ap (λ b. standing_by s (entry_of false lost ∷ past) (record noted { touches = cond b [] (touch o v ∷ []) ++ noted.touches })) out
+      ∙ same_parts s noted _ _ _ _ _ _ (max a.moment (clock past)) (mark past) _ _ (others_same lost noted refl front none) sampled non_sampled (same_ends false lost)
+
+  -- ---- an opening
+
+  abbrev new : Opening
+  new = record { at = length past; trace = t; moment = max a.moment (clock past) }
+
+  abbrev opened : List Touch → Notes
+  opened touches = record noted { openings = new ∷ noted.openings; touches = touches }
+
+  abbrev kept : List Opening
+  kept = take m noted.openings
+
+  buffer_is : in_buffer s noted ≡ kept ++ option_to_list (slice_get noted.openings m)
+  buffer_is = ap (λ l. last_of l noted.openings) lim ∙ taken_next m noted.openings
+
+  buffer_next : (touches : List Touch) → in_buffer s (opened touches) ≡ new ∷ kept
+  buffer_next touches = ap (λ l. last_of l (new ∷ noted.openings)) lim
+
+  leaving_is : leaving s.limit noted.openings ≡ slice_get noted.openings m
+  leaving_is = ap (λ l. leaving l noted.openings) lim ∙ ap (slice_get noted.openings) (less-one m)
+
+  new_episode : (lost : Bool) (touches : List Touch) → episode (entry_of false lost ∷ past) (opened touches) new ≡ opening_episode t a (max a.moment (clock past))
+  new_episode lost touches =
+      let undecided : decided_as noted (length past) ≡ None = ap (option_map (λ (d : Decision). d.verdict)) (find_none (λ (d : Decision). d.opening.at == length past) noted.decisions
+      (Each-weaker (λ (d : Decision). d.opening.at < length past) (λ (d : Decision). (d.opening.at == length past) ≡ false) noted.decisions (λ d h. ne_eqb d.opening.at (length past) (λ e. omega (arith, h, e))) sound.decided)) in
+      let spans : spans_since (entry_of false lost ∷ past) new ≡ a ∷ [] = spans_own a ids lost past new i (omega arith) (same_refl t) ∙ ap (λ (xs : List Arrival). xs ++ a ∷ []) (spans_before past new (omega arith)) in
+      rw (undecided, spans) refl
+
+  -- the episodes that stay, and the new one
+  abbrev stay : List Episode
+  stay = map (episode past noted) (reverse kept)
+
+  kept_other : Each (λ (x : Opening). same_trace x.trace t ≡ false) front → Each (λ (x : Opening). same_trace x.trace t ≡ false) (reverse kept)
+  kept_other none = Each-reverse (λ (x : Opening). same_trace x.trace t ≡ false) kept
+      (Each-left (λ (x : Opening). same_trace x.trace t ≡ false) kept (option_to_list (slice_get noted.openings m)) (rw buffer_is at (unreversed none)))
+    where
+      unreversed : Each (λ (x : Opening). same_trace x.trace t ≡ false) front → Each (λ (x : Opening). same_trace x.trace t ≡ false) (in_buffer s noted)
+      unreversed h = rw (reverse-reverse (in_buffer s noted)) at (Each-reverse (λ (x : Opening). same_trace x.trace t ≡ false) front h)
+
+  episodes_next : (lost : Bool) (touches : List Touch) → Each (λ (x : Opening). same_trace x.trace t ≡ false) front → episodes s (entry_of false lost ∷ past) (opened touches) ≡ stay ++ opening_episode t a (max a.moment (clock past)) ∷ []
+  episodes_next lost touches none =
+      let g = episode (entry_of false lost ∷ past) (opened touches) in
+      ap (λ (os : List Opening). map g (reverse os)) (buffer_next touches)
+      ∙ ap (map g) (reverse-append (new ∷ []) kept)
+      ∙ map-append g (reverse kept) (new ∷ [])
+      ∙ ap (λ (es : List Episode). es ++ g new ∷ []) (others_same lost (opened touches) refl (reverse kept) (kept_other none))
+      ∙ ap (λ (e : Episode). stay ++ e ∷ []) (new_episode lost touches)
+
+  -- what the buffer held, by what leaves it
+  held_none : slice_get noted.openings m ≡ None → episodes s past noted ≡ stay
+  held_none e = ap (λ (os : List Opening). map (episode past noted) (reverse os)) (buffer_is ∙ ap (λ (r : Option Opening). kept ++ option_to_list r) e ∙ append-nil kept)
+
+  held_some : (p : Opening) → slice_get noted.openings m ≡ Some p → episodes s past noted ≡ episode past noted p ∷ stay
+  held_some p e = ap (λ (os : List Opening). map (episode past noted) (reverse os)) (buffer_is ∙ ap (λ (r : Option Opening). kept ++ option_to_list r) e) ∙ ap (map (episode past noted)) (reverse-append kept (p ∷ []))
+
+  stay_length : length stay ≡ length kept
+  stay_length = length-map (reverse kept) (episode past noted) ∙ length-reverse kept
+
+  opens_episodes : (x : Episode) (r : Option Opening) → slice_get noted.openings m ≡ r → (after_opening (buffer (suc m) held) x).episodes ≡ stay ++ x ∷ []
+  opens_episodes x None e =
+      let es = held_none e in
+      let fewer : length stay < suc m = (let k = taken_short m noted.openings e in let l = short m noted.openings e in let n = stay_length in omega (arith, k, l, n)) in
+      ap (λ (es : List Episode). cond (length es == suc m) (drop 1 es) es ++ x ∷ []) es
+      ∙ ap (λ b. cond b (drop 1 stay) stay ++ x ∷ []) (ne_eqb (length stay) (suc m) (λ q. omega (arith, fewer, q)))
+  opens_episodes x (Some p) e =
+      let es = held_some p e in
+      let full : length (episode past noted p ∷ stay) ≡ suc m = ap suc (stay_length ∙ taken_full m noted.openings p e) in
+      ap (λ (es : List Episode). cond (length es == suc m) (drop 1 es) es ++ x ∷ []) es
+      ∙ ap (λ b. cond b stay (episode past noted p ∷ stay) ++ x ∷ []) (eq-eqb (length (episode past noted p ∷ stay)) (suc m) full)
+
+  leaves_is : (r : Option Opening) → slice_get noted.openings m ≡ r → leaves (buffer (suc m) held) ≡ option_map (λ p. evicted_as (episode past noted p)) r
+  leaves_is None e =
+      let es = held_none e in
+      let fewer : length stay < suc m = (let k = taken_short m noted.openings e in let l = short m noted.openings e in let n = stay_length in omega (arith, k, l, n)) in
+      ap (λ (es : List Episode). cond (length es == suc m) (option_map evicted_as (slice_get es 0)) None) es
+      ∙ ap (λ b. cond b (option_map evicted_as (slice_get stay 0)) None) (ne_eqb (length stay) (suc m) (λ q. omega (arith, fewer, q)))
+  leaves_is (Some p) e =
+      let es = held_some p e in
+      let full : length (episode past noted p ∷ stay) ≡ suc m = ap suc (stay_length ∙ taken_full m noted.openings p e) in
+      ap (λ (es : List Episode). cond (length es == suc m) (option_map evicted_as (slice_get es 0)) None) es
+      ∙ ap (λ b. cond b (Some (evicted_as (episode past noted p))) None) (eq-eqb (length (episode past noted p ∷ stay)) (suc m) full)
+
+  -- the caches after the touches that an opening made
+  abbrev caches_of : Notes → CacheLists
+  caches_of n = record { sampled = record { traces = cache s n Sampled; size = s.sampled_size }; not_sampled = record { traces = cache s n NotSampled; size = s.non_sampled_size } }
+
+  same_lists : (c d : CacheLists) → c.sampled.traces ≡ d.sampled.traces → c.not_sampled.traces ≡ d.not_sampled.traces → c.sampled.size ≡ d.sampled.size → c.not_sampled.size ≡ d.not_sampled.size → c ≡ d
+  same_lists c d e f g h = both_lists c.sampled.traces d.sampled.traces c.not_sampled.traces d.not_sampled.traces c.sampled.size d.sampled.size c.not_sampled.size d.not_sampled.size e f g h
+    where
+      both_lists : (a b x y : List TraceId) (k l n o : ℕ) → a ≡ b → x ≡ y → k ≡ l → n ≡ o →
+          (let z : CacheLists = record { sampled = record { traces = a; size = k }; not_sampled = record { traces = x; size = n } } in z) ≡ (let z : CacheLists = record { sampled = record { traces = b; size = l }; not_sampled = record { traces = y; size = o } } in z)
+      both_lists a b x y k l n o e f g h = rw (e, f, g, h) refl
+
+  put_holds : (p : Opening) (v : Verdict) → slice_get noted.openings m ≡ Some p → caches_of (opened (touch p v ∷ noted.touches)) ≡ after_put p.trace v (caches s held)
+  put_holds p v e =
+      let c = caches s held in
+      let k : Split p (in_buffer s noted) = record { front = kept; back = []; is = buffer_is ∙ ap (λ (r : Option Opening). kept ++ option_to_list r) e } in
+      let a1 = buffered_not_cached s noted (length past) w p k Sampled (in_cache s noted Sampled p.trace) refl in
+      let a2 = buffered_not_cached s noted (length past) w p k NotSampled (in_cache s noted NotSampled p.trace) refl in
+      let out : is_held_in_either p.trace c ≡ false = rw (a1, a2) refl in
+      let r = put_remembers p.trace v c in
+      let stands = stands-put c (after_put p.trace v c) p.trace v r.0 out r.1 noted.touches p.at (stands_for s past noted (length past) w) r.2 in
+      let sizes = sizes_put p.trace v c in
+      same_lists (caches_of (opened (touch p v ∷ noted.touches))) (after_put p.trace v c)
+      (ap (λ n. take n (last_touched Sampled (touch p v ∷ noted.touches))) (sym sizes.0) ∙ sym stands.0.0)
+      (ap (λ n. take n (last_touched NotSampled (touch p v ∷ noted.touches))) (sym sizes.1) ∙ sym stands.1.0)
+      (sym sizes.0) (sym sizes.1)
+
+  touches_after : (lost : Bool) → Option Opening → List Touch
+  touches_after lost r = cond lost [] (touch_of_leaving noted r) ++ noted.touches
+
+  opens_caches_decided : (lost : Bool) (p : Opening) → slice_get noted.openings m ≡ Some p → (d : Option Verdict) → decided_as noted p.at ≡ d →
+      caches_of (opened (cond lost [] (touch_of_leaving_decided p d) ++ noted.touches)) ≡ after_leaving_decided lost p.trace d (caches s held)
+  opens_caches_decided true p e None d = refl
+  opens_caches_decided false p e None d = refl
+  opens_caches_decided true p e (Some v) d = refl
+  opens_caches_decided false p e (Some v) d = put_holds p v e
+
+  opens_caches : (lost : Bool) (r : Option Opening) → slice_get noted.openings m ≡ r →
+      caches_of (opened (cond lost [] (touch_of_leaving noted r) ++ noted.touches)) ≡ after_leaving lost (option_map (λ p. evicted_as (episode past noted p)) r) (caches s held)
+  opens_caches true None e = refl
+  opens_caches false None e = refl
+  opens_caches lost (Some p) e = opens_caches_decided lost p e (decided_as noted p.at) refl
+
+  opens_holds : (lost : Bool) → Each (λ (x : Opening). same_trace x.trace t ≡ false) front → standing_by s (entry_of false lost ∷ past) (after_of lost opens) ≡ after_opening_in s (suc m) lost t a clocked
+  opens_holds lost none =
+      let r = slice_get noted.openings m in
+      let touches = cond lost [] (touch_of_leaving noted r) ++ noted.touches in
+      let x = opening_episode t a (max a.moment (clock past)) in
+      let c = opens_caches lost r refl ∙ ap (λ e. after_leaving lost e (caches s held)) (sym (leaves_is r refl)) in
+      ap (λ (l : Option Opening). standing_by s (entry_of false lost ∷ past) (opened (cond lost [] (touch_of_leaving noted l) ++ noted.touches))) leaving_is
+      ∙ same_parts s noted _ _ _ _ _ _ (max a.moment (clock past)) (mark past) _ _
+      (episodes_next lost touches none ∙ sym (opens_episodes x r refl)) (ap (λ (l : CacheLists). l.sampled.traces) c) (ap (λ (l : CacheLists). l.not_sampled.traces) c) (same_ends false lost)
+
+  -- ---- together
+
+  asked_state : {r : Option (Option Verdict)} → r ≡ state_cached (cache s noted Sampled) (cache s noted NotSampled) t → r ≡ option_map (λ (v : Verdict). Some v) (asked t (caches s held))
+  asked_state e = e ∙ state_asked t (caches s held)
+
+  not_undecided : (r : Option Verdict) → Some None ≡ option_map (λ (v : Verdict). Some v) r → ⊥
+  not_undecided None e = cc e
+  not_undecided (Some v) e = cc e
+
+  unknown_holds : (lost : Bool) → find (λ (x : Opening). same_trace x.trace t) (in_buffer s noted) ≡ None → (f : Finding) → finding s noted t ≡ f → state_found f ≡ option_map (λ (v : Verdict). Some v) (asked t (caches s held)) →
+      standing_by s (entry_of false lost ∷ past) (after_of lost f) ≡ after_unknown s (suc m) lost t a clocked (asked t (caches s held))
+  unknown_holds lost e (joins o) f g = absurd (not_undecided (asked t (caches s held)) g)
+  unknown_holds lost e (meets o v) f g =
+      let own = λ (x : Opening). same_trace x.trace t in
+      let none : Each (λ (x : Opening). own x ≡ false) front = Each-reverse (λ (x : Opening). own x ≡ false) (in_buffer s noted) (not_found own (in_buffer s noted) e) in
+      let asks = asked_from (asked t (caches s held)) v (sym g) in
+      let facts = meets_latest s noted t o v f in
+      late_holds lost o v none f (behind_buffer s noted past sound t o facts.0 e) asks ∙ ap (after_unknown s (suc m) lost t a clocked) (sym asks)
+  unknown_holds lost e opens f g =
+      let own = λ (x : Opening). same_trace x.trace t in
+      let none : Each (λ (x : Opening). own x ≡ false) front = Each-reverse (λ (x : Opening). own x ≡ false) (in_buffer s noted) (not_found own (in_buffer s noted) e) in
+      opens_holds lost none ∙ ap (after_unknown s (suc m) lost t a clocked) (sym (asked_none (asked t (caches s held)) (sym g)))
+
+  kept_holds : (lost : Bool) (r : Option Opening) → find (λ (x : Opening). same_trace x.trace t) (in_buffer s noted) ≡ r →
+      standing_by s (entry_of false lost ∷ past) (after_of lost (finding s noted t)) ≡ after_episode s (suc m) lost t a clocked (option_map (episode past noted) r)
+  kept_holds lost None e = unknown_holds lost e (finding s noted t) refl (asked_state (found_past s past noted (length past) t sound w (latest_episode noted t) refl e))
+  kept_holds lost (Some o) e =
+      let own = λ (x : Opening). same_trace x.trace t in
+      let f = buffer_front s.limit noted.openings in
+      let k = found own (in_buffer s noted) o e in
+      let l : latest_episode noted t ≡ Some o = ap (find own) f.1 ∙ find_front own (in_buffer s noted) f.0 o e in
+      let inside : is_in_buffer s noted o.at ≡ true = ap (list_any (λ (x : Opening). x.at == o.at)) k.is ∙ any_split (λ (x : Opening). x.at == o.at) k.front k.back o (eq-eqb o.at o.at refl) in
+      known_holds lost o (find_reversed t (in_buffer s noted) w.apart (Some o) e) l inside (decided_as noted o.at) refl (finding s noted t) refl
+      (found_here s past noted (length past) t sound w o l inside (decided_as noted o.at) refl)
+
+  episode_held : episode_of t clocked.episodes ≡ option_map (episode past noted) (find (λ (x : Opening). same_trace x.trace t) (in_buffer s noted))
+  episode_held = find_episode past noted t front ∙ ap (option_map (episode past noted)) (find_reversed t (in_buffer s noted) w.apart (find (λ (x : Opening). same_trace x.trace t) (in_buffer s noted)) refl)
+
+  span_holds : (refused lost : Bool) → standing_by s (entry_of refused lost ∷ past) (cond refused noted (after_of lost (finding s noted t))) ≡ after_span_of s (suc m) refused lost t a clocked
+  span_holds true lost = refused_same lost
+  span_holds false lost = kept_holds lost (find (λ (x : Opening). same_trace x.trace t) (in_buffer s noted)) refl ∙ ap (after_episode s (suc m) lost t a clocked) (sym episode_held)
+
+-- ---- an item
+
+module _ (s : Settings) (m : ℕ) (lim : s.limit ≡ Some (suc m)) (past : Journal) where
+  span_ids : (a : Arrival) (refused lost : Bool) (ids : Option Ids) → a.rec.span.ids ≡ ids → has_ids (Span a) ≡ true → let e : Entry = record { item = Span a; refused = refused; lost = lost } in
+      standing_by s (e ∷ past) (after_span s ids e past (notes s past)) ≡ after_span_in s (suc m) refused lost a ids (record (standing_by s past (notes s past)) { clock = max a.moment (clock past) })
+  span_ids a refused lost None i h = absurd (cc (i, h))
+  span_ids a refused lost (Some ids) i h = span_holds s m lim past a ids i refused lost
+
+  lim_room : HasRoom s.limit
+  lim_room e = absurd (cc (lim, e))
+
+  zero-max : (n : ℕ) → max 0 n ≡ n
+  zero-max n = omega arith
+
+  no_spans : (later : Entry) → ((o : Opening) → item_spans o (length past) later.refused later.item ≡ []) → episodes s (later ∷ past) (notes s past) ≡ episodes s past (notes s past)
+  no_spans later f = map_same (episode (later ∷ past) (notes s past)) (episode past (notes s past)) (reverse (in_buffer s (notes s past)))
+      (Each-all (λ o. episode (later ∷ past) (notes s past) o ≡ episode past (notes s past) o) (reverse (in_buffer s (notes s past)))
+      (λ o. episode_same (later ∷ past) past (notes s past) o (ap (λ (xs : List Arrival). spans_since past o ++ xs) (f o) ∙ append-nil (spans_since past o))))
+
+  item_holds : (item : Item) (refused lost : Bool) → has_ids item ≡ true → let e : Entry = record { item = item; refused = refused; lost = lost } in
+      standing_by s (e ∷ past) (after_item s e past item (notes s past)) ≡ after_entry s (suc m) refused lost item (standing_by s past (notes s past))
+  item_holds (Span a) refused lost h = span_ids a refused lost a.rec.span.ids refl h
+  item_holds (Tick k) refused lost h =
+      let e : Entry = record { item = Tick k; refused = refused; lost = lost } in
+      same_parts s (notes s past) _ _ _ _ _ _ (max k (clock past)) (max k (clock past)) _ _ (no_spans e (λ o. refl)) refl refl (ends-tick s lim_room k refused lost past s.senders)
+  item_holds (End sender) refused lost h =
+      let e : Entry = record { item = End sender; refused = refused; lost = lost } in
+      ap (λ c. standing_of s (notes s past) (episodes s (e ∷ past) (notes s past)) (cache s (notes s past) Sampled) (cache s (notes s past) NotSampled) c (mark past) (ends (e ∷ past) s.senders)) (zero-max (clock past))
+      ∙ same_parts s (notes s past) _ _ _ _ _ _ (clock past) (mark past) _ _ (no_spans e (λ o. refl)) refl refl (ends-end s lim_room sender refused lost past s.senders)
+
+pub keeps_standing : KeepsStanding
+keeps_standing s zero past dealt e lim h d ids = absurd (omega (arith, h))
+keeps_standing s (suc m) past dealt e lim h d ids =
+    item_holds s m lim past e.item e.refused e.lost ids
+    ∙ ap (λ (n : Notes). after_entry s (suc m) e.refused e.lost e.item (standing_by s past n)) (sym (all_dealt s past dealt d))
