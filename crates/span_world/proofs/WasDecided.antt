@@ -1,0 +1,151 @@
+-- A remembered verdict is that of a decision on the spans buffered then.
+use Rattle.std.proofs.Common.{◌≡◌, ℕ, ◌<◌, Bool, true, false, cond, ◌==◌, List, [], ◌∷◌, ◌++◌, length, reverse, find, Option, Some, None, refl, ap, sym, subst, ◌∙◌, arith, append_assoc, eqb-true}
+use Rattle.span_ids.specs.Same.{same_trace}
+use Rattle.shard_core.specs.Journal.{Settings, Journal, Opening, Decision, Notes, in_buffer, decided_as, undecided, latest_episode, Finding, joins, meets, opens, finding, due_at, decision, decisions_in_turn, after_finding, after_span, after_item, decisions_at, notes, due_now, Entry}
+use Rattle.otlp_types.specs.declared.span.Ids.{Ids}
+use Rattle.span_ids.specs.declared.ids.TraceId.{TraceId}
+use Rattle.otlp_types.specs.declared.arrival.Item.{Item}
+use Rattle.otlp_types.specs.declared.arrival.Item.TheVariants.{Span, Tick, End}
+use Rattle.span_ids.specs.declared.outcome.Verdict.{Verdict}
+use Rattle.span_world.specs.Headline.{WasDecided}
+use Rattle.shard_core.proofs.Notes.{HasRoom, is_open, IsOlder, Sound, buffer_front, Meeting, it_joins, it_meets, it_opens, meeting}
+use Rattle.shard_core.proofs.ListFacts.{Each, Each-append, Each-weaker, Each-reverse, Each-split, Pairs, Split, Split-cons, Split-more}
+use Rattle.std.proofs.lemmas.List.{reverse-append}
+use Rattle.span_world.proofs.Steps.{map_some}
+use Rattle.shard_core.proofs.Find.{found}
+use Rattle.shard_core.proofs.Sound.{sound_notes}
+use Rattle.span_world.proofs.Dealing.{Each-due, undecided_stand}
+use Rattle.span_world.proofs.Decided.{same_decisions, Each-in_turn}
+
+-- of these episodes, decided in turn, the one of a decision, with those before it
+record InOrder (s : Settings) (J : Journal) (os : List Opening) (earlier : List Decision) (d : Decision) : Type 0 where
+  sooner : List Opening
+  rest : List Opening
+  due : os ≡ sooner ++ d.opening ∷ rest
+  is : d ≡ decision s J d.opening (reverse (decisions_in_turn s J sooner earlier) ++ earlier)
+
+in_order : (s : Settings) (J : Journal) (os : List Opening) (earlier : List Decision) → Each (InOrder s J os earlier) (decisions_in_turn s J os earlier)
+in_order s J [] earlier = tt
+in_order s J (o ∷ os) earlier = (
+  record { sooner = []; rest = os; due = refl; is = refl },
+  Each-weaker (InOrder s J os (first ∷ earlier)) (InOrder s J (o ∷ os) earlier) (decisions_in_turn s J os (first ∷ earlier))
+      (λ d k. record { sooner = o ∷ k.sooner; rest = k.rest; due = ap (λ (z : List Opening). o ∷ z) k.due; is = k.is ∙ ap (decision s J d.opening) (turned (decisions_in_turn s J k.sooner (first ∷ earlier))) }) (in_order s J os (first ∷ earlier)),
+)
+  where
+    first : Decision
+    first = decision s J o earlier
+
+    turned : (ds : List Decision) → reverse ds ++ first ∷ earlier ≡ reverse (first ∷ ds) ++ earlier
+    turned ds = sym (append_assoc (reverse ds) (first ∷ []) earlier) ∙ ap (λ (z : List Decision). z ++ earlier) (sym (reverse-append (first ∷ []) ds))
+
+-- where a decision was made
+record MadeAt (s : Settings) (J : Journal) (d : Decision) : Type 0 where
+  since : Journal
+  item : Entry
+  past : Journal
+  split : J ≡ since ++ item ∷ past
+  turn : InOrder s (item ∷ past) (due_now s (item ∷ past)) (notes s past).decisions d
+
+all_made : (s : Settings) (J : Journal) → Each (MadeAt s J) (notes s J).decisions
+unfolding notes
+all_made s [] = tt
+all_made s (e ∷ J) = Each-append (MadeAt s (e ∷ J)) (reverse ds) (after_item s e J e.item (notes s J)).decisions
+    (Each-reverse (MadeAt s (e ∷ J)) ds (Each-weaker (InOrder s (e ∷ J) (due_now s (e ∷ J)) (notes s J).decisions) (MadeAt s (e ∷ J)) ds
+    (λ d p. record { since = []; item = e; past = J; split = refl; turn = p }) (in_order s (e ∷ J) (due_at s e J e.item (notes s J)) (notes s J).decisions)))
+    (subst (λ z. Each (MadeAt s (e ∷ J)) z) (sym (same_decisions s e J e.item (notes s J)))
+    (Each-weaker (MadeAt s J) (MadeAt s (e ∷ J)) (notes s J).decisions (λ d m. record { since = e ∷ m.since; item = m.item; past = m.past; split = ap (λ (z : Journal). e ∷ z) m.split; turn = m.turn }) (all_made s J)))
+  where
+    ds : List Decision
+    ds = decisions_at s e J (notes s J)
+
+-- ---- a decision's opening is among the openings
+
+opened_stays : (s : Settings) (e : Entry) (J : Journal) (item : Item) (noted : Notes) (o : Opening) → Split o noted.openings → Split o (after_item s e J item noted).openings
+opened_stays s e J (Tick m) noted o h = h
+opened_stays s e J (End i) noted o h = h
+opened_stays s e J (Span a) noted o h = go a.rec.span.ids
+  where
+    by_finding : (t : TraceId) (f : Finding) (now : ℕ) → Split o (after_finding s t e.lost (length J) now noted f).openings
+    by_finding t (joins p) now = h
+    by_finding t (meets p v) now = h
+    by_finding t opens now = Split-cons o (record { at = length J; trace = t; moment = now }) noted.openings h
+
+    marked : (ids : Ids) (b : Bool) (now : ℕ) → Split o (cond b noted (after_finding s ids.trace e.lost (length J) now noted (finding s noted ids.trace))).openings
+    marked ids true now = h
+    marked ids false now = by_finding ids.trace (finding s noted ids.trace) now
+
+    go : (ids : Option Ids) → Split o (after_span s ids e J noted).openings
+    go None = h
+    go (Some ids) = marked ids e.refused _
+
+opened_decisions : (s : Settings) (J : Journal) → Each (λ (d : Decision). Split d.opening (notes s J).openings) (notes s J).decisions
+unfolding notes
+opened_decisions s [] = tt
+opened_decisions s (e ∷ J) = Each-append (λ (d : Decision). Split d.opening os) (reverse ds) (after_item s e J e.item (notes s J)).decisions
+    (Each-reverse (λ (d : Decision). Split d.opening os) ds (Each-in_turn (λ (o : Opening). Split o os) s (e ∷ J) (due_at s e J e.item (notes s J)) (notes s J).decisions
+    (Each-due (λ (o : Opening). Split o os) s e J e.item (notes s J) (Each-weaker (λ (o : Opening). Split o (in_buffer s (notes s J)) × (is_open (notes s J) o ≡ true)) (λ (o : Opening). Split o os) (undecided s (notes s J))
+    (λ o p. opened_stays s e J e.item (notes s J) o (subst (λ (z : List Opening). Split o z) (sym fr.1) (Split-more o (in_buffer s (notes s J)) fr.0 p.0))) (undecided_stand s (notes s J))))))
+    (subst (λ z. Each (λ (d : Decision). Split d.opening os) z) (sym (same_decisions s e J e.item (notes s J)))
+    (Each-weaker (λ (d : Decision). Split d.opening (notes s J).openings) (λ (d : Decision). Split d.opening os) (notes s J).decisions (λ d p. opened_stays s e J e.item (notes s J) d.opening p) (opened_decisions s J)))
+  where
+    ds : List Decision
+    ds = decisions_at s e J (notes s J)
+
+    os : List Opening
+    os = (after_item s e J e.item (notes s J)).openings
+
+    fr : (rest : List Opening) × ((notes s J).openings ≡ in_buffer s (notes s J) ++ rest)
+    fr = buffer_front s.limit (notes s J).openings
+
+-- two openings at one position are one
+unique_at : (os : List Opening) → Pairs IsOlder os → (x y : Opening) → Split x os → Split y os → x.at ≡ y.at → x ≡ y
+unique_at os h x y p q e = go os h p.front q.front p.is q.is
+  where
+    later : (o z : Opening) (os front back : List Opening) → Each (IsOlder o) os → os ≡ front ++ z ∷ back → z.at < o.at
+    later o z os front back h e = Each-split (IsOlder o) z os (record { front = front; back = back; is = e }) h
+
+    go : (os : List Opening) → Pairs IsOlder os → (f g : List Opening) → os ≡ f ++ x ∷ p.back → os ≡ g ++ y ∷ q.back → x ≡ y
+    go [] h [] g a b = absurd (cc a)
+    go [] h (z ∷ f) g a b = absurd (cc a)
+    go (o ∷ os) h [] [] a b = cc (a, b)
+    go (o ∷ os) h [] (z ∷ g) a b = let k : o ≡ x = cc a in let m : os ≡ g ++ y ∷ q.back = cc b in let l = later o y os g q.back h.0 m in let n : o.at ≡ x.at = ap (λ (o : Opening). o.at) k in absurd (omega arith)
+    go (o ∷ os) h (z ∷ f) [] a b = let k : o ≡ y = cc b in let m : os ≡ f ++ x ∷ p.back = cc a in let l = later o x os f p.back h.0 m in let n : o.at ≡ y.at = ap (λ (o : Opening). o.at) k in absurd (omega arith)
+    go (o ∷ os) h (z ∷ f) (u ∷ g) a b = go os h.1 f g (cc a) (cc b)
+
+pub was_decided : (s : Settings) → HasRoom s.limit → (J : Journal) (t : TraceId) (o : Opening) (v : Verdict) → finding s (notes s J) t ≡ meets o v → WasDecided s J t v
+was_decided s room J t o v f = go (meeting s J (notes s J) t sound)
+  where
+    sound : Sound s J (notes s J)
+    sound = sound_notes s room J
+
+    by_decision : latest_episode (notes s J) t ≡ Some o → decided_as (notes s J) o.at ≡ Some v → WasDecided s J t v
+    by_decision l d =
+        let r = map_some (λ (d : Decision). d.verdict) (find (λ (d : Decision). d.opening.at == o.at) (notes s J).decisions) v d in
+        let k = found (λ (d : Decision). d.opening.at == o.at) (notes s J).decisions r.0 r.1 in
+        let place : Split r.0 (notes s J).decisions = record { front = k.front; back = k.back; is = k.is } in
+        let m = Each-split (MadeAt s J) r.0 (notes s J).decisions place (all_made s J) in
+        let p = Each-split (λ (d : Decision). Split d.opening (notes s J).openings) r.0 (notes s J).decisions place (opened_decisions s J) in
+        let lo = found (λ (x : Opening). same_trace x.trace t) (notes s J).openings o l in
+        let same : r.0.opening ≡ o = unique_at (notes s J).openings sound.ordered r.0.opening o p (record { front = lo.front; back = lo.back; is = lo.is }) (eqb-true r.0.opening.at o.at k.passes) in
+        let earlier = reverse (decisions_in_turn s (m.item ∷ m.past) m.turn.sooner (notes s m.past).decisions) ++ (notes s m.past).decisions in
+        record {
+          since = m.since;
+          item = m.item;
+          past = m.past;
+          split = m.split;
+          opening = o;
+          latest = l;
+          sooner = m.turn.sooner;
+          rest = m.turn.rest;
+          due = m.turn.due ∙ ap (λ (z : Opening). m.turn.sooner ++ z ∷ m.turn.rest) same;
+          verdict = sym r.2 ∙ ap (λ (d : Decision). d.verdict) m.turn.is ∙ ap (λ (z : Opening). (decision s (m.item ∷ m.past) z earlier).verdict) same;
+        }
+
+    go : Meeting s (notes s J) t → WasDecided s J t v
+    go (it_joins x newer older e same d l n g fi) = absurd (cc (f, fi))
+    go (it_opens g fi) = absurd (cc (f, fi))
+    go (it_meets x u l d g fi) =
+        let q : meets x u ≡ meets o v = sym fi ∙ f in
+        let ex : x ≡ o = cc q in
+        let eu : u ≡ v = cc q in
+        by_decision (l ∙ ap (λ (x : Opening). Some x) ex) (ap (λ (x : Opening). decided_as (notes s J) x.at) (sym ex) ∙ d ∙ ap (λ (v : Verdict). Some v) eu)
