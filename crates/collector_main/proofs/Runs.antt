@@ -7,7 +7,7 @@ use Rattle.otlp_types.specs.declared.arrival.Item.TheVariants.{Span}
 use Rattle.shard_core.specs.Journal.{Settings, Journal}
 use Rattle.shard_core.specs.Fate.{output, released_dealt}
 use Rattle.shard_core.specs.Held.{Held, StandsFor, settings}
-use Rattle.shard_core.specs.Taking.{entry, is_refusal, marks_apply, released_by, released_in, dealt_after}
+use Rattle.shard_core.specs.Taking.{entry, is_refusal, is_loss, marks_apply, released_by, released_in, dealt_after}
 use Rattle.shard_core.specs.declared.answer.Taken.{Taken}
 use Rattle.shard_core.specs.declared.answer.Decided.{Decided}
 use Rattle.span_exporter.specs.Exports.{ExporterState}
@@ -19,7 +19,7 @@ use Rattle.collector_main.proofs.Pulls.{PullsAll-none, PullsAll-append}
 
 pub Takes-append : (s : Settings) (a b c : Journal) (xs ys : List Item) → Takes s a xs b → Takes s b ys c → Takes s a (xs ++ ys) c
 Takes-append s a b c [] ys p q = let P = λ (j : Journal). Takes s j ys c in subst P p q
-Takes-append s a b c (x ∷ xs) ys p q = (p.0, p.1, Takes-append s (record { item = x; refused = p.0; lost = false } ∷ a) b c xs ys p.2 q)
+Takes-append s a b c (x ∷ xs) ys p q = (p.0, p.1, p.2, Takes-append s (record { item = x; refused = p.0; lost = p.1 } ∷ a) b c xs ys p.3 q)
 
 pub TakesAndPulls-none : (s : Settings) (past : Journal) (e : ExporterState) → TakesAndPulls s past [] e past e
 TakesAndPulls-none s past e = record { takes = refl; released = []; releases = sym (append-nil (output s past)); pulls = PullsAll-none e }
@@ -96,7 +96,7 @@ takes-one old mid new past item taken before between after marks to_mid to_new h
       now,
       record { dealt = decides.dealt_now; stands = decides.stands; released_all = subst P (sym to_new) decides.released_all },
       record {
-        takes = (is_refusal taken, marks, refl);
+        takes = (is_refusal taken, is_loss taken, marks, refl);
         released = released_by taken ++ decides.released;
         releases = sym all_old ∙ more_old ∙ ap (λ zs. zs ++ decides.released) (releases ∙ ap (λ zs. zs ++ released_by taken) has.released_all)
             ∙ append_assoc (output (settings old) past) (released_by taken) decides.released;

@@ -1,6 +1,8 @@
 -- What a run over a script leaves of its sink.
 use Rattle.std.specs.Prelude.{◌≡◌, ◌⊎◌, ℕ, true, List, Option, Result, Ok, Err, IfSome}
 use Rattle.shard_core.specs.Journal.{Settings}
+use Rattle.shard_core.specs.Held.{settings_of}
+use Rattle.tsc_config.specs.declared.config.Config.{Config}
 use Rattle.span_sink.specs.LineSinks.{LineSinkState, up_state, down_state}
 use Rattle.drop_ledger.specs.declared.report.Report.{Report}
 use Rattle.tsc_script.specs.Instructions.{Instruction}
@@ -9,6 +11,10 @@ use Rattle.tsc_script.specs.Progress.{Ends, StopsAt, GoesDown}
 use Rattle.collector_main.specs.declared.fault.RunFault.{RunFault}
 use Rattle.collector_main.specs.declared.fault.RunFault.TheVariants.{NoMemory, Refused, Fault, BookFull, SinkDown}
 use Rattle.collector_main.specs.World.{World, new_world, PlaysAll}
+
+-- the settings of the shard of a run: its senders are the lane and the ticker
+abbrev pub settings_by : Config → Settings
+settings_by config = settings_of config.policies config.decision_wait config.num_traces config.sampled_cache_size config.non_sampled_cache_size 2
 
 -- from the first state of the sink, these instructions lead to this one
 abbrev pub Leads : Settings → (size : ℕ) → LineSinkState → List Instruction → LineSinkState → Type 0

@@ -27,15 +27,15 @@ pub record World : Type 0 where
 abbrev pub new_world : LineSinkState → World
 new_world sink = record { connections = []; journal = []; sink = sink }
 
--- an item as it stands in the journal, and whether memory was refused to it
-abbrev pub entry_of : Item → (refused : Bool) → Entry
-entry_of item refused = record { item = item; refused = refused; lost = false }
+-- an item as it stands in the journal: whether memory was refused to it, or to the decision that its opening put out of the buffer
+abbrev pub entry_of : Item → (refused lost : Bool) → Entry
+entry_of item refused lost = record { item = item; refused = refused; lost = lost }
 
--- the shard takes these items in turn; memory may be refused to a span, where keeping it takes memory
+-- the shard takes these items in turn; memory may be refused where taking one takes memory
 abbrev pub Takes : Settings → Journal → List Item → Journal → Type 0
 Takes s before [] after = after ≡ before
-Takes s before (item ∷ more) after = (refused : Bool) × (marks_apply s (entry_of item refused) before ≡ true)
-    × Takes s (entry_of item refused ∷ before) more after
+Takes s before (item ∷ more) after = (refused lost : Bool) × (marks_apply s (entry_of item refused lost) before ≡ true)
+    × Takes s (entry_of item refused lost ∷ before) more after
 
 -- The shard takes these items and decides all that is due. What that releases goes to the sink in batches.
 pub record RunsToQuiet (s : Settings) (size : ℕ) (old : World) (items : List Item) (new : World) : Type 0 where

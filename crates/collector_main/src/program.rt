@@ -122,8 +122,7 @@ fn run<T: Files, R: Read, W: Write>(
     };
     let (sink, answer) = replay_run(
         alloc,
-        config.policies,
-        config.decision_wait,
+        config,
         reader,
         WriteSink::new(writer),
     );
@@ -145,7 +144,8 @@ fn outcome_of(answer: Result<Report, RunFault>) -> Outcome
 
 /// Reads the configuration from its file.
 fn load<T: Files>(rt: &T, alloc: Global, path: &str) -> Result<Config, Outcome>
-    ensures { IfOk result (λ config. 0 < config.decision_wait) }
+    ensures waits { IfOk result (λ config. 0 < config.decision_wait) }
+    ensures keeps { IfOk result (λ config. 0 < config.num_traces) }
 {
     let bytes = read_file(rt, alloc, path)?;
     let Ok(text) = String::from_utf8(bytes) else {

@@ -1,40 +1,39 @@
 //! A script is run in one thread.
-ghost use Rattle.std.specs.Prelude.{◌≡◌, ◌-◌, ◌^◌, ◌<◌, [], false};
-ghost use Rattle.shard_core.specs.Held.{settings, settings_of};
-ghost use Rattle.collector_main.specs.Pulling.{HasReleasedAll};
-ghost use Rattle.collector_main.specs.Replay.{RunEnds};
+ghost use Rattle.std.specs.Prelude.{◌≡◌, ◌-◌, ◌^◌, ◌<◌, [], false, IfOk};
+ghost use Rattle.shard_core.specs.Held.{has_due, settings};
+ghost use Rattle.collector_main.specs.Pulling.{HasReleasedAll, ends_of};
+ghost use Rattle.collector_main.specs.Replay.{RunEnds, settings_by};
 
 use crate::connections::Connections;
 use crate::fault::RunFault;
 use crate::replying::MAX_REPLY_LINE;
 use crate::session::Session;
 use drop_ledger::Report;
-use policy_tree::Policies;
 use shard_core::Shard;
 use span_exporter::Exporter;
-use span_ids::Moment;
 use span_sink::{LineSink, Sink};
-use std::alloc::Global;
+use std::alloc::{AllocError, Global};
 use std::io::Read;
+use tsc_config::Config;
 use tsc_script::{Stop, play_script};
 
 /// How many spans a batch holds at most.
 pub const BATCH_SIZE: usize = 512;
 
-/// Runs a script, and gives the sink back. `wait` is how long a trace waits for its decision, in milliseconds.
+/// Runs a script, and gives the sink back.
 ///
 /// A reply line and the lines of batches go to the sink, line by line as the script goes on.
 pub fn replay_run<R: Read, S: Sink>(
     alloc: Global,
-    policies: Policies,
-    wait: Moment,
+    config: Config,
     reader: &mut R,
     sink: S,
 ) -> (S, Result<Report, RunFault>)
-    requires wait { 0 < wait }
+    requires waits { 0 < config.decision_wait }
+    requires keeps_a_trace { 0 < config.num_traces }
     requires failures { S.failures sink < 2 ^ 64 - 1 }
     ensures { RunEnds (record {
-      settings = settings_of policies wait 2;
+      settings = settings_by config;
       size = BATCH_SIZE;
       taken = S.taken sink;
       failures = S.failures sink;
@@ -48,7 +47,7 @@ pub fn replay_run<R: Read, S: Sink>(
     let Ok(text) = Vec::with_capacity(alloc, MAX_REPLY_LINE) else {
         return (lines.end(), Err(RunFault::NoMemory));
     };
-    let Ok(shard) = Shard::new(alloc, policies, wait, 2) else {
+    let Ok(shard) = shard_of(alloc, config) else {
         return (lines.end(), Err(RunFault::NoMemory));
     };
     let exporter = match Exporter::new(alloc, BATCH_SIZE, 1, lines) {
@@ -65,6 +64,26 @@ pub fn replay_run<R: Read, S: Sink>(
         closed: false,
     };
     run_session(alloc, reader, session)
+}
+
+/// A shard with these settings and two senders, the lane and the ticker.
+fn shard_of(alloc: Global, config: Config) -> Result<Shard, AllocError>
+    requires waits { 0 < config.decision_wait }
+    requires keeps_a_trace { 0 < config.num_traces }
+    ensures released { IfOk result (λ shard. HasReleasedAll shard []) }
+    ensures settings { IfOk result (λ shard. settings shard ≡ settings_by config) }
+    ensures nothing_due { IfOk result (λ shard. has_due shard ≡ false) }
+    ensures ends { IfOk result (λ shard. shard.standing.ends ≡ ends_of false) }
+{
+    Shard::new(
+        alloc,
+        config.policies,
+        config.decision_wait,
+        config.num_traces,
+        config.sampled_cache_size,
+        config.non_sampled_cache_size,
+        2,
+    )
 }
 
 /// Plays a script on a session that has seen no line.

@@ -47,7 +47,11 @@ fn pull_taken<S: Sink>(exporter: &mut Exporter<S>, report: &mut Option<Report>, 
     match taken {
         Taken::Late(arrival) => pull(exporter, report, arrival),
         Taken::Dropped(reason) => count(report, Count::Dropped(reason), 1),
-        Taken::Kept | Taken::Ticked | Taken::Ended | Taken::Finished => {}
+        Taken::Kept {
+            evicted: Some(left),
+            cache: _,
+        } => count(report, Count::Dropped(Reason::Evicted), left.spans),
+        Taken::Kept { .. } | Taken::Ticked | Taken::Ended | Taken::Finished => {}
     }
 }
 

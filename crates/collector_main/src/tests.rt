@@ -20,6 +20,22 @@ const ERRORS: &str =
 const EVERYTHING: &str =
     "decision_wait_ms = 10000\npolicies = [{ name = \"all\", type = \"always_sample\" }]\n";
 
+/// One trace in the buffer, and every trace is kept.
+const ONE_TRACE: &str =
+    "decision_wait_ms = 10000\nnum_traces = 1\npolicies = [{ name = \"all\", type = \"always_sample\" }]\n";
+
+/// One trace in the buffer, traces with an error are kept, and no decision is remembered outside.
+const NO_CACHE: &str =
+    "decision_wait_ms = 10000\nnum_traces = 1\npolicies = [{ name = \"errors\", type = \"status_code\", status_code = { status_codes = [\"ERROR\"] } }]\n";
+
+/// The same, with room for one decision of each kind outside the buffer.
+const CACHE_OF_ONE: &str =
+    "decision_wait_ms = 10000\nnum_traces = 1\ndecision_cache = { sampled_cache_size = 1, non_sampled_cache_size = 1 }\npolicies = [{ name = \"errors\", type = \"status_code\", status_code = { status_codes = [\"ERROR\"] } }]\n";
+
+/// The same, with room for two decisions of each kind.
+const CACHE_OF_TWO: &str =
+    "decision_wait_ms = 10000\nnum_traces = 1\ndecision_cache = { sampled_cache_size = 2, non_sampled_cache_size = 2 }\npolicies = [{ name = \"errors\", type = \"status_code\", status_code = { status_codes = [\"ERROR\"] } }]\n";
+
 /// A writer into memory.
 #[derive(Drop)]
 struct Page {
@@ -85,8 +101,7 @@ fn check(
     let mut reader = script;
     let (sink, answer) = replay_run(
         rt.alloc(),
-        config.policies,
-        config.decision_wait,
+        config,
         &mut reader,
         WriteSink::new(page),
     );
@@ -201,6 +216,54 @@ fn moments_go_back(rt: HostRuntime) -> Result<(), Fail> {
         b"recv 1 1000 {\"resourceSpans\":[{\"scopeSpans\":[{\"spans\":[{\"traceId\":\"5b8efff798038103d269b633813fc60c\",\"spanId\":\"eee19b7ec3c1b174\",\"status\":{\"code\":2}}]}]}]}\nrecv 1 1400 {\"resourceSpans\":[{\"scopeSpans\":[{\"spans\":[{\"traceId\":\"5b8efff798038103d269b633813fc60d\",\"spanId\":\"eee19b7ec3c1b175\",\"status\":{\"code\":2}}]}]}]}\ntick 11000\ntick 5000\ntick 11500\nrecv 1 2000 {\"resourceSpans\":[{\"scopeSpans\":[{\"spans\":[{\"traceId\":\"5b8efff798038103d269b633813fc60e\",\"spanId\":\"eee19b7ec3c1b176\",\"status\":{\"code\":2}}]}]}]}\ntick 21499\ntick 21500\n",
         b"reply 200 {}\nreply 200 {}\n{\"resourceSpans\":[{\"scopeSpans\":[{\"spans\":[{\"spanId\":\"eee19b7ec3c1b174\",\"status\":{\"code\":2},\"traceId\":\"5b8efff798038103d269b633813fc60c\"}]}]}]}\n{\"resourceSpans\":[{\"scopeSpans\":[{\"spans\":[{\"spanId\":\"eee19b7ec3c1b175\",\"status\":{\"code\":2},\"traceId\":\"5b8efff798038103d269b633813fc60d\"}]}]}]}\nreply 200 {}\n{\"resourceSpans\":[{\"scopeSpans\":[{\"spans\":[{\"spanId\":\"eee19b7ec3c1b176\",\"status\":{\"code\":2},\"traceId\":\"5b8efff798038103d269b633813fc60e\"}]}]}]}\n",
         [3, 3, 0, 0, 0, 0, 0, 0, 0],
+    )
+}
+
+/// A full buffer: the trace that opened first leaves undecided, and comes back as a new one.
+#[test]
+fn full_buffer_evicts_undecided(rt: HostRuntime) -> Result<(), Fail> {
+    check(
+        &rt,
+        ONE_TRACE,
+        b"recv 1 0 {\"resourceSpans\":[{\"scopeSpans\":[{\"spans\":[{\"traceId\":\"5b8efff798038103d269b633813fc60c\",\"spanId\":\"eee19b7ec3c1b174\"}]}]}]}\nrecv 1 1 {\"resourceSpans\":[{\"scopeSpans\":[{\"spans\":[{\"traceId\":\"5b8efff798038103d269b633813fc60d\",\"spanId\":\"eee19b7ec3c1b175\"}]}]}]}\nrecv 1 2 {\"resourceSpans\":[{\"scopeSpans\":[{\"spans\":[{\"traceId\":\"5b8efff798038103d269b633813fc60c\",\"spanId\":\"eee19b7ec3c1b176\"}]}]}]}\nclose\n",
+        b"reply 200 {}\nreply 200 {}\nreply 200 {}\n{\"resourceSpans\":[{\"scopeSpans\":[{\"spans\":[{\"spanId\":\"eee19b7ec3c1b176\",\"traceId\":\"5b8efff798038103d269b633813fc60c\"}]}]}]}\n",
+        [3, 1, 0, 0, 0, 2, 0, 0, 0],
+    )
+}
+
+/// A cache of one: the second decided trace that leaves the buffer puts the first out.
+#[test]
+fn cache_of_one_forgets(rt: HostRuntime) -> Result<(), Fail> {
+    check(
+        &rt,
+        CACHE_OF_ONE,
+        b"recv 1 0 {\"resourceSpans\":[{\"scopeSpans\":[{\"spans\":[{\"traceId\":\"5b8efff798038103d269b633813fc60c\",\"spanId\":\"eee19b7ec3c1b174\",\"status\":{\"code\":2}}]}]}]}\ntick 10000\nrecv 1 10000 {\"resourceSpans\":[{\"scopeSpans\":[{\"spans\":[{\"traceId\":\"5b8efff798038103d269b633813fc60d\",\"spanId\":\"eee19b7ec3c1b175\",\"status\":{\"code\":2}}]}]}]}\ntick 20000\nrecv 1 20000 {\"resourceSpans\":[{\"scopeSpans\":[{\"spans\":[{\"traceId\":\"5b8efff798038103d269b633813fc60e\",\"spanId\":\"eee19b7ec3c1b176\",\"status\":{\"code\":2}}]}]}]}\ntick 30000\nrecv 1 30000 {\"resourceSpans\":[{\"scopeSpans\":[{\"spans\":[{\"traceId\":\"5b8efff798038103d269b633813fc60c\",\"spanId\":\"eee19b7ec3c1b177\"}]}]}]}\ntick 40000\n",
+        b"reply 200 {}\n{\"resourceSpans\":[{\"scopeSpans\":[{\"spans\":[{\"spanId\":\"eee19b7ec3c1b174\",\"status\":{\"code\":2},\"traceId\":\"5b8efff798038103d269b633813fc60c\"}]}]}]}\nreply 200 {}\n{\"resourceSpans\":[{\"scopeSpans\":[{\"spans\":[{\"spanId\":\"eee19b7ec3c1b175\",\"status\":{\"code\":2},\"traceId\":\"5b8efff798038103d269b633813fc60d\"}]}]}]}\nreply 200 {}\n{\"resourceSpans\":[{\"scopeSpans\":[{\"spans\":[{\"spanId\":\"eee19b7ec3c1b176\",\"status\":{\"code\":2},\"traceId\":\"5b8efff798038103d269b633813fc60e\"}]}]}]}\nreply 200 {}\n",
+        [4, 3, 0, 0, 0, 0, 1, 0, 0],
+    )
+}
+
+/// A late span renews its trace: the decision of another one is put out.
+#[test]
+fn late_span_renews(rt: HostRuntime) -> Result<(), Fail> {
+    check(
+        &rt,
+        CACHE_OF_TWO,
+        b"recv 1 0 {\"resourceSpans\":[{\"scopeSpans\":[{\"spans\":[{\"traceId\":\"5b8efff798038103d269b633813fc60c\",\"spanId\":\"eee19b7ec3c1b174\",\"status\":{\"code\":2}}]}]}]}\ntick 10000\nrecv 1 10000 {\"resourceSpans\":[{\"scopeSpans\":[{\"spans\":[{\"traceId\":\"5b8efff798038103d269b633813fc60d\",\"spanId\":\"eee19b7ec3c1b175\",\"status\":{\"code\":2}}]}]}]}\ntick 20000\nrecv 1 20000 {\"resourceSpans\":[{\"scopeSpans\":[{\"spans\":[{\"traceId\":\"5b8efff798038103d269b633813fc60e\",\"spanId\":\"eee19b7ec3c1b176\",\"status\":{\"code\":2}}]}]}]}\nrecv 1 20000 {\"resourceSpans\":[{\"scopeSpans\":[{\"spans\":[{\"traceId\":\"5b8efff798038103d269b633813fc60c\",\"spanId\":\"eee19b7ec3c1b177\"}]}]}]}\ntick 30000\nrecv 1 30000 {\"resourceSpans\":[{\"scopeSpans\":[{\"spans\":[{\"traceId\":\"5b8efff798038103d269b633813fc60f\",\"spanId\":\"eee19b7ec3c1b178\",\"status\":{\"code\":2}}]}]}]}\nrecv 1 30000 {\"resourceSpans\":[{\"scopeSpans\":[{\"spans\":[{\"traceId\":\"5b8efff798038103d269b633813fc60c\",\"spanId\":\"eee19b7ec3c1b179\"}]}]}]}\nclose\n",
+        b"reply 200 {}\n{\"resourceSpans\":[{\"scopeSpans\":[{\"spans\":[{\"spanId\":\"eee19b7ec3c1b174\",\"status\":{\"code\":2},\"traceId\":\"5b8efff798038103d269b633813fc60c\"}]}]}]}\nreply 200 {}\n{\"resourceSpans\":[{\"scopeSpans\":[{\"spans\":[{\"spanId\":\"eee19b7ec3c1b175\",\"status\":{\"code\":2},\"traceId\":\"5b8efff798038103d269b633813fc60d\"}]}]}]}\nreply 200 {}\nreply 200 {}\n{\"resourceSpans\":[{\"scopeSpans\":[{\"spans\":[{\"spanId\":\"eee19b7ec3c1b177\",\"traceId\":\"5b8efff798038103d269b633813fc60c\"}]}]}]}\n{\"resourceSpans\":[{\"scopeSpans\":[{\"spans\":[{\"spanId\":\"eee19b7ec3c1b176\",\"status\":{\"code\":2},\"traceId\":\"5b8efff798038103d269b633813fc60e\"}]}]}]}\nreply 200 {}\nreply 200 {}\n{\"resourceSpans\":[{\"scopeSpans\":[{\"spans\":[{\"spanId\":\"eee19b7ec3c1b179\",\"traceId\":\"5b8efff798038103d269b633813fc60c\"}]}]}]}\n{\"resourceSpans\":[{\"scopeSpans\":[{\"spans\":[{\"spanId\":\"eee19b7ec3c1b178\",\"status\":{\"code\":2},\"traceId\":\"5b8efff798038103d269b633813fc60f\"}]}]}]}\n",
+        [6, 6, 0, 0, 0, 0, 0, 0, 0],
+    )
+}
+
+/// No cache: a decided trace that leaves the buffer is forgotten, and its next span opens it anew.
+#[test]
+fn no_cache_forgets(rt: HostRuntime) -> Result<(), Fail> {
+    check(
+        &rt,
+        NO_CACHE,
+        b"recv 1 0 {\"resourceSpans\":[{\"scopeSpans\":[{\"spans\":[{\"traceId\":\"5b8efff798038103d269b633813fc60c\",\"spanId\":\"eee19b7ec3c1b174\",\"status\":{\"code\":2}}]}]}]}\ntick 10000\nrecv 1 10000 {\"resourceSpans\":[{\"scopeSpans\":[{\"spans\":[{\"traceId\":\"5b8efff798038103d269b633813fc60d\",\"spanId\":\"eee19b7ec3c1b175\",\"status\":{\"code\":2}}]}]}]}\nrecv 1 15000 {\"resourceSpans\":[{\"scopeSpans\":[{\"spans\":[{\"traceId\":\"5b8efff798038103d269b633813fc60c\",\"spanId\":\"eee19b7ec3c1b176\"}]}]}]}\nclose\n",
+        b"reply 200 {}\n{\"resourceSpans\":[{\"scopeSpans\":[{\"spans\":[{\"spanId\":\"eee19b7ec3c1b174\",\"status\":{\"code\":2},\"traceId\":\"5b8efff798038103d269b633813fc60c\"}]}]}]}\nreply 200 {}\nreply 200 {}\n",
+        [3, 1, 0, 0, 0, 1, 1, 0, 0],
     )
 }
 
@@ -340,8 +403,7 @@ fn failing_reader(rt: HostRuntime) -> Result<(), Fail> {
     };
     let (sink, answer) = replay_run(
         rt.alloc(),
-        config.policies,
-        config.decision_wait,
+        config,
         &mut reader,
         WriteSink::new(page),
     );

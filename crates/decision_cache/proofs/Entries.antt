@@ -3,7 +3,7 @@ use Rattle.std.proofs.Common.{◌≡◌, ℕ, zero, suc, ◌-◌, Bool, true, fa
 use Rattle.std.specs.Option.{is_some}
 use Rattle.std.specs.Map.{lookup, lookup_entry, remove_entry}
 use Rattle.std.proofs.lemmas.Slice.Eq.{bytes_eq-Decides}
-use Rattle.decision_cache.specs.Same.{same_trace}
+use Rattle.span_ids.specs.Same.{same_trace}
 use Rattle.span_ids.specs.declared.ids.TraceId.{TraceId}
 use Rattle.lru.specs.LruCache.{LruCache, promoted, put_entries}
 use Rattle.decision_cache.specs.Lists.{is_held, without, renewed, renewed_if}

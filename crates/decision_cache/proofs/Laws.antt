@@ -4,7 +4,7 @@ use Rattle.std.specs.List.{filter, find, prefix_len}
 use Rattle.std.proofs.lemmas.Slice.Eq.{bytes_eq-Decides}
 use Rattle.std.proofs.lemmas.List.Elements.{filter-append}
 use Rattle.std.proofs.lemmas.Bool.Decides.{nat_tests}
-use Rattle.decision_cache.specs.Same.{same_trace}
+use Rattle.span_ids.specs.Same.{same_trace}
 use Rattle.decision_cache.specs.Touches.{Touch, last_touched, touches_since, different, is_same_verdict}
 use Rattle.span_ids.specs.declared.ids.TraceId.{TraceId}
 use Rattle.span_ids.specs.declared.outcome.Verdict.{Verdict}

@@ -1,7 +1,7 @@
 -- A cache that stands for touches stands for one more after a put or an asking that finds the trace.
 use Rattle.std.proofs.Common.{◌≡◌, ℕ, zero, suc, ◌-◌, ◌<◌, nat_lt, Bool, true, false, ◌||◌, cond, List, [], ◌∷◌, length, take, Option, Some, None, refl, sym, ap, subst, ◌∙◌, arith}
 use Rattle.std.proofs.lemmas.Bool.Decides.{nat_tests}
-use Rattle.decision_cache.specs.Same.{same_trace}
+use Rattle.span_ids.specs.Same.{same_trace}
 use Rattle.decision_cache.specs.Lists.{TraceList, CacheLists, is_held, is_held_in_either, puts, PutAs, Remembers, without, renewed_if, renews, asked, after_asking}
 use Rattle.decision_cache.specs.Touches.{Touch, touched_by, is_same_verdict, last_touched, touches_since, last_touch, size_of, sizes_of, cached_by, cached_as, HeldAsTouched, ListStandsFor, StandsFor, is_lost}
 use Rattle.decision_cache.specs.declared.traces.Remembered.{Remembered}

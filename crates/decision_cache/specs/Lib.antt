@@ -1,3 +1,2 @@
-pub mod Same
 pub mod Lists
 pub mod Touches

@@ -1,6 +1,6 @@
 -- What is remembered outside the buffer, looking back over the touches.
 use Rattle.std.specs.Prelude.{ℕ, ◌≡◌, Bool, true, false, not, if◌then◌else◌, nat_lt, List, [], ◌∷◌, map, length, take, take_while, filter, find, Option, Some, None}
-use Rattle.decision_cache.specs.Same.{same_trace}
+use Rattle.span_ids.specs.Same.{same_trace}
 use Rattle.decision_cache.specs.Lists.{TraceList, CacheLists, is_held}
 use Rattle.span_ids.specs.declared.ids.TraceId.{TraceId}
 use Rattle.span_ids.specs.declared.outcome.Verdict.{Verdict}

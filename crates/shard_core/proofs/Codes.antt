@@ -1,114 +1,263 @@
--- What the code of `take` does to the shard's list, beside the definitions.
-use Rattle.std.proofs.Common.{◌≡◌, ℕ, ◌+◌, ◌<◌, arith, length, ◌&&◌, max, Bool, true, false, not, cond, List, [], ◌∷◌, ◌++◌, Some, None, inl, inr, refl, sym, ap, subst, ◌∙◌}
-use Rattle.std.specs.List.{filter, find, position, position_or_len, slice_set}
+-- What the code of `take` does to what a shard holds, beside the definitions.
+use Rattle.std.proofs.Common.{◌≡◌, ℕ, ◌<◌, max, Bool, true, false, not, ◌&&◌, ◌||◌, cond, ◌==◌, nat_lt, List, [], ◌∷◌, find, Option, Some, None, option_map, refl, sym, ap, subst, ◌∙◌, arith, ne_eqb, eq-eqb}
 use Rattle.std.specs.Option.{is_none}
+use Rattle.std.proofs.lemmas.Bool.Decides.{nat_tests}
 use Rattle.span_ids.specs.Same.{same_trace}
-use Rattle.trace_buffer.specs.Buffer.{Episode}
 use Rattle.span_ids.specs.declared.ids.TraceId.{TraceId}
-use Rattle.otlp_types.specs.declared.arrival.Arrival.{Arrival}
-use Rattle.shard_core.specs.Held.{Held, is_due_by, is_due_in, is_finished, has_due}
 use Rattle.span_ids.specs.declared.outcome.Verdict.{Verdict}
-use Rattle.shard_core.specs.declared.answer.Decided.{Decided}
-use Rattle.shard_core.specs.declared.answer.Decided.TheVariants.{Nothing}
-use Rattle.shard_core.specs.Taking.{is_refusal, waiting}
-use Rattle.shard_core.specs.Holding.{joined, episodes_after, episodes_after_span, episode_after, episode_of, answer_for_episode, may_refuse_episode, TakesSpanOf, Opens, Joins, first_due, SettlesAt, settled}
+use Rattle.span_ids.specs.declared.outcome.Verdict.TheVariants.{Sampled, NotSampled}
+use Rattle.span_ids.specs.declared.outcome.Reason.TheVariants.{NoMemory}
+use Rattle.otlp_types.specs.declared.arrival.Arrival.{Arrival}
+use Rattle.policy_tree.specs.declared.policy.Policy.{Policy}
+use Rattle.rate_budget.specs.declared.count.LimiterCount.{LimiterCount}
+use Rattle.trace_buffer.specs.Buffer.{Episode, Buffer, append_first, episode_of, state_of, state_of_verdict, after_opening, opening_episode, leaves}
+use Rattle.trace_buffer.specs.declared.episode.State.{State as Stand}
+use Rattle.trace_buffer.specs.declared.episode.State.TheVariants.{Undecided, Decided}
+use Rattle.trace_buffer.specs.declared.episode.Evicted.{Evicted}
+use Rattle.decision_cache.specs.Lists.{CacheLists, TraceList, asked, after_asking, after_put, list_after_put, puts, PutAs, Remembers}
+use Rattle.decision_cache.specs.declared.traces.Remembered.{Remembered}
+use Rattle.decision_cache.specs.declared.traces.Remembered.TheVariants.{Kept as InCache, Off, Lost}
+use Rattle.shard_core.specs.Journal.{Settings, cache_size}
+use Rattle.shard_core.specs.Standing.{Standing}
+use Rattle.shard_core.specs.Held.{Held, held_of, settings}
+use Rattle.shard_core.specs.Keeping.{buffer, after_span_of, after_episode, after_known, after_unknown, after_opening_in, after_leaving, after_leaving_decided, with_caches}
+use Rattle.shard_core.specs.Laws.{State, state_in, state_by, state_cached}
+use Rattle.shard_core.specs.Taking.{is_refusal, is_loss, answer_to_late, put_answer, put_in, cache_is_on}
+use Rattle.shard_core.specs.Holding.{answer_by_state, answer_held, verdict_leaving, may_refuse, may_lose, marks_held, at_clock, TakesSpanOf, Puts, PutsDecided, KeepsAs}
 use Rattle.shard_core.specs.declared.answer.Taken.{Taken}
-use Rattle.shard_core.proofs.Lists.{one-add, position-none, position-found, set_first, set-position, any-none}
+use Rattle.shard_core.specs.declared.answer.Taken.TheVariants.{Kept, Dropped, Late, Ticked, Ended, Finished}
+use Rattle.decision_cache.specs.Touches.{is_lost}
+use Rattle.shard_core.proofs.Keeping.{state_asked, sizes_asked}
 
-module _ (c : ℕ) (t : TraceId) (a : Arrival) where
-  abbrev own : Episode → Bool
-  own e = same_trace e.trace t
+-- ---- what `find` says of the trace's episode
 
-  after-none : (es : List Episode) → find own es ≡ None → episodes_after c t a es ≡ es ++ record { trace = t; moment = c; spans = a ∷ []; verdict = None } ∷ []
-  after-none [] e = refl
-  after-none (x ∷ es) e = (elim (own x) as (λ b. cond b (Some x) (find own es) ≡ None → cond b (joined a x x.verdict ∷ es) (x ∷ episodes_after c t a es) ≡ x ∷ es ++ record { trace = t; moment = c; spans = a ∷ []; verdict = None } ∷ []) [
-    | true ↦ λ e. cc
-    | false ↦ λ e. ap (λ zs. x ∷ zs) (after-none es e)
-  ]) e
+undecided_episode : (e : Option Episode) → state_of e ≡ Some Undecided → (x : Episode) × (e ≡ Some x) × (x.verdict ≡ None)
+undecided_episode None h = absurd (cc h)
+undecided_episode (Some x) h = go x.verdict refl (cc h)
+  where
+    go : (v : Option Verdict) → x.verdict ≡ v → state_of_verdict v ≡ Undecided → (y : Episode) × (Some x ≡ Some y) × (y.verdict ≡ None)
+    go None e h = (x, refl, e)
+    go (Some v) e h = absurd (cc h)
 
-  set-joined : (es : List Episode) (y : Episode) → find own es ≡ Some y → slice_set es (position_or_len own es) (joined a y y.verdict) ≡ episodes_after c t a es
-  set-joined [] y e = cc
-  set-joined (x ∷ es) y e = (elim (own x) as (λ b. cond b (Some x) (find own es) ≡ Some y → slice_set (x ∷ es) (cond (not b) (1 + position_or_len own es) 0) (joined a y y.verdict) ≡ cond b (joined a x x.verdict ∷ es) (x ∷ episodes_after c t a es)) [
-    | true ↦ λ e. let same : y ≡ x = cc in ap (λ (z : Episode). joined a z z.verdict ∷ es) same
-    | false ↦ λ e. rw (one-add (position_or_len own es)) (ap (λ zs. x ∷ zs) (set-joined es y e))
-  ]) e
+decided_episode : (e : Option Episode) (v : Verdict) → state_of e ≡ Some (Decided v) → (x : Episode) × (e ≡ Some x) × (x.verdict ≡ Some v)
+decided_episode None v h = absurd (cc h)
+decided_episode (Some x) v h = go x.verdict refl (cc h)
+  where
+    go : (u : Option Verdict) → x.verdict ≡ u → state_of_verdict u ≡ Decided v → (y : Episode) × (Some x ≡ Some y) × (y.verdict ≡ Some v)
+    go None e h = absurd (cc h)
+    go (Some u) e h = let same : u ≡ v = cc h in (x, refl, e ∙ ap (λ (z : Verdict). Some z) same)
 
-  set-same : (es : List Episode) (y : Episode) → find own es ≡ Some y → slice_set es (position_or_len own es) y ≡ es
-  set-same [] y e = cc
-  set-same (x ∷ es) y e = (elim (own x) as (λ b. cond b (Some x) (find own es) ≡ Some y → slice_set (x ∷ es) (cond (not b) (1 + position_or_len own es) 0) y ≡ x ∷ es) [
-    | true ↦ λ e. let same : y ≡ x = cc in ap (λ (z : Episode). z ∷ es) same
-    | false ↦ λ e. rw (one-add (position_or_len own es)) (ap (λ zs. x ∷ zs) (set-same es y e))
-  ]) e
+pub no_episode : (e : Option Episode) → state_of e ≡ None → e ≡ None
+no_episode None h = refl
+no_episode (Some x) h = absurd (cc h)
 
-  set-after : (refused : Bool) (es : List Episode) (y : Episode) → find own es ≡ Some y → slice_set es (position_or_len own es) (episode_after refused a y) ≡ episodes_after_span refused c t a es
-  set-after true es y e = set-same es y e
-  set-after false es y e = set-joined es y e
+-- a late span is neither refused nor is anything lost
+late_refusal : (a : Arrival) (v : Verdict) → is_refusal (answer_to_late a v) ≡ false
+late_refusal a Sampled = refl
+late_refusal a NotSampled = refl
 
-abbrev pub clocked : Held → ℕ → Held
-clocked h c = record h { standing = record h.standing { clock = c } }
+late_loss : (a : Arrival) (v : Verdict) → is_loss (answer_to_late a v) ≡ false
+late_loss a Sampled = refl
+late_loss a NotSampled = refl
 
-pub opened_span : (h new : Held) (t : TraceId) (a : Arrival) (answer : Taken) → position (λ (e : Episode). same_trace e.trace t) h.standing.episodes ≡ None → Opens (clocked h (max a.moment h.standing.clock)) t a answer new → TakesSpanOf h a t answer new
-opened_span h new t a answer p o =
-    let c = max a.moment h.standing.clock in
-    let none : episode_of t h.standing.episodes ≡ None = position-none (λ (e : Episode). same_trace e.trace t) h.standing.episodes p in
-    let may : may_refuse_episode (episode_of t h.standing.episodes) ≡ true = ap may_refuse_episode none in
-    let P = λ (x : Taken). TakesSpanOf h a t x new in
-    elim o [
-      | inl w ↦ subst P (sym w.0) (w.1 ∙ ap (λ (es : List Episode). record h { standing = record h.standing { clock = c; episodes = es } }) (sym (after-none c t a h.standing.episodes none)), sym (ap (answer_for_episode false a) none), λ _. may)
-      | inr w ↦ subst P (sym w.0) (w.1, refl, λ _. may)
-    ]
+module _ (p : List Policy) (w : ℕ) (b : Buffer) (c : CacheLists) (k : List LimiterCount) (cl mk : ℕ) (en : List Bool) (a : Arrival) (t : TraceId) where
+  abbrev old : Held
+  old = held_of p w b c k cl mk en
 
-pub joined_span : (h new : Held) (t : TraceId) (a : Arrival) (answer : Taken) (i : ℕ) → position (λ (e : Episode). same_trace e.trace t) h.standing.episodes ≡ Some i → Joins (clocked h (max a.moment h.standing.clock)) i a answer new → TakesSpanOf h a t answer new
-joined_span h new t a answer i p j =
-    let c = max a.moment h.standing.clock in
-    let found = (position-found (λ (e : Episode). same_trace e.trace t) h.standing.episodes i p).1 in
-    let w = j found.0 found.1 in (
-      w.0 ∙ ap (λ (es : List Episode). record h { standing = record h.standing { clock = c; episodes = es } }) (ap (λ k. slice_set h.standing.episodes k (episode_after (is_refusal answer) a found.0)) (sym found.3) ∙ set-after c t a (is_refusal answer) h.standing.episodes found.0 found.2),
-      w.1 ∙ ap (answer_for_episode (is_refusal answer) a) (sym found.2),
-      λ r. ap may_refuse_episode found.2 ∙ w.2 r,
-    )
+  abbrev new_of : Buffer → CacheLists → Held
+  new_of d e = held_of p w d e k (max a.moment cl) mk en
 
--- ---- what is left to decide
+  abbrev s : Settings
+  s = settings old
 
-abbrev open_episode : Episode → Bool
-open_episode e = is_none e.verdict
+  abbrev st : Standing
+  st = at_clock a.moment old.standing
 
-left : (a b : Bool) → (a && b) ≡ true → a ≡ true
-left true b h = refl
-left false b h = cc
+  -- the relation, by the marks and the state
+  by_state : (answer : Taken) (new : Held) (refused lost : Bool) (state : State) → is_refusal answer ≡ refused → is_loss answer ≡ lost → state_in st t ≡ state →
+      new ≡ record old { standing = after_span_of s b.limit refused lost t a st } → answer ≡ answer_held s b.limit refused lost a st state → marks_held s b.limit refused lost st state ≡ true → TakesSpanOf old a t answer new
+  by_state answer new refused lost state r l e n q m = rw (r, l, e) (n, q, m)
 
-less-head : (x : Episode) (es : List Episode) → open_episode x ≡ true → length (filter open_episode es) < length (filter open_episode (x ∷ es))
-less-head x es h = rw h (omega arith)
+  state_known : (e : Episode) → episode_of t b.episodes ≡ Some e → state_in st t ≡ Some e.verdict
+  state_known e h = ap (state_by st t) h
 
-less-tail : (x : Episode) (b : Bool) (es fs : List Episode) → open_episode x ≡ b → length (filter open_episode es) < length (filter open_episode fs) → length (filter open_episode (x ∷ es)) < length (filter open_episode (x ∷ fs))
-less-tail x true es fs h l = rw h (omega arith)
-less-tail x false es fs h l = rw h l
+  state_unknown : episode_of t b.episodes ≡ None → state_in st t ≡ option_map (λ (v : Verdict). Some v) (asked t c)
+  state_unknown h = ap (state_by st t) h ∙ state_asked t c
 
-due-open : (f : Bool) (m w : ℕ) (e : Episode) → is_due_by f m w e ≡ true → open_episode e ≡ true
-due-open f m w e h = left (open_episode e) _ h
+  after_by : (lost : Bool) (o : Option Episode) → episode_of t b.episodes ≡ o → after_span_of s b.limit false lost t a st ≡ after_episode s b.limit lost t a st o
+  after_by lost o h = ap (after_episode s b.limit lost t a st) h
 
-abbrev open_in : List Episode → ℕ
-open_in es = length (filter open_episode es)
+  pub appended : state_of (episode_of t b.episodes) ≡ Some Undecided → (d : Buffer) → d ≡ record b { episodes = append_first t a b.episodes } → TakesSpanOf old a t (Kept None None) (new_of d c)
+  appended h d e =
+      let x = undecided_episode (episode_of t b.episodes) h in
+      by_state (Kept None None) (new_of d c) false false (Some None) refl refl (state_known x.0 x.1 ∙ ap (λ (v : Option Verdict). Some v) x.2)
+      (ap (λ (z : Buffer). new_of z c) e ∙ ap (λ (z : Standing). record old { standing = z }) (sym (after_by false (Some x.0) x.1 ∙ ap (after_known t a st) x.2))) refl refl
 
-count-less : (f : Bool) (m w : ℕ) (v : Verdict) (es : List Episode) (y : Episode) → find (is_due_by f m w) es ≡ Some y → open_in (set_first (is_due_by f m w) (settled v) es) < open_in es
-count-less f m w v [] y e = cc
-count-less f m w v (x ∷ es) y e = (elim (is_due_by f m w x) as (λ b. is_due_by f m w x ≡ b → cond b (Some x) (find (is_due_by f m w) es) ≡ Some y → open_in (cond b (settled v x ∷ es) (x ∷ set_first (is_due_by f m w) (settled v) es)) < open_in (x ∷ es)) [
-  | true ↦ λ h e. less-head x es (due-open f m w x h)
-  | false ↦ λ h e. less-tail x (open_episode x) (set_first (is_due_by f m w) (settled v) es) es refl (count-less f m w v es y e)
-]) refl e
+  pub refused_append : state_of (episode_of t b.episodes) ≡ Some Undecided → (d : Buffer) → d ≡ b → TakesSpanOf old a t (Dropped NoMemory) (new_of d c)
+  refused_append h d e =
+      let x = undecided_episode (episode_of t b.episodes) h in
+      by_state (Dropped NoMemory) (new_of d c) true false (Some None) refl refl (state_known x.0 x.1 ∙ ap (λ (v : Option Verdict). Some v) x.2) (ap (λ (z : Buffer). new_of z c) e) refl refl
 
-pub waits_less : (h new : Held) (i : ℕ) (answer : Decided) → first_due h ≡ Some i → SettlesAt h i answer new → waiting new < waiting h
-waits_less h new i answer f t =
-    let found = (position-found (is_due_in h) h.standing.episodes i f).1 in
-    let s = t found.0 found.1 in
-    let v = s.0 in
-    let moved : new.standing.episodes ≡ set_first (is_due_in h) (settled v) h.standing.episodes
-    = ap (λ (n : Held). n.standing.episodes) s.3 ∙ ap (λ k. slice_set h.standing.episodes k (settled v found.0)) (sym found.3) ∙ set-position (is_due_in h) (settled v) h.standing.episodes found.0 found.2 in
-    let P = λ (es : List Episode). open_in es < waiting h in
-    subst P (sym moved) (count-less (is_finished h) h.standing.mark h.wait v h.standing.episodes found.0 found.2)
+  pub late_known : (v : Verdict) (answer : Taken) → state_of (episode_of t b.episodes) ≡ Some (Decided v) → answer ≡ answer_to_late a v → TakesSpanOf old a t answer (new_of b c)
+  late_known v answer h q =
+      let x = decided_episode (episode_of t b.episodes) v h in
+      by_state answer (new_of b c) false false (Some (Some v)) (ap is_refusal q ∙ late_refusal a v) (ap is_loss q ∙ late_loss a v) (state_known x.0 x.1 ∙ ap (λ (v : Option Verdict). Some v) x.2)
+      (ap (λ (z : Standing). record old { standing = z }) (sym (after_by false (Some x.0) x.1 ∙ ap (after_known t a st) x.2))) q refl
 
-pub settles_something : (h new : Held) (i : ℕ) → first_due h ≡ Some i → SettlesAt h i Nothing new → ⊥
-settles_something h new i f t = let found = (position-found (is_due_in h) h.standing.episodes i f).1 in (t found.0 found.1).2
+  -- a shard with other lists
+  abbrev sized : Buffer → CacheLists → (limit sampled_size non_sampled_size : ℕ) → Held
+  sized d e limit sampled_size non_sampled_size = record { policies = p; wait = w; limit = limit; sampled_size = sampled_size; non_sampled_size = non_sampled_size; standing = record (with_caches e st) { episodes = d.episodes } }
 
-pub nothing_due : (h : Held) → first_due h ≡ None → has_due h ≡ false
-nothing_due h f = any-none (is_due_in h) h.standing.episodes (position-none (is_due_in h) h.standing.episodes f)
+  at_sizes : (d : Buffer) (e : CacheLists) (m n i j g h : ℕ) → m ≡ n → i ≡ j → g ≡ h → sized d e m i g ≡ sized d e n j h
+  at_sizes d e m n i j g h u x y = rw (u, x, y) refl
+
+  -- where the limit and the sizes are as before
+  resized : (d : Buffer) (e : CacheLists) → d.limit ≡ b.limit → e.sampled.size ≡ c.sampled.size → e.not_sampled.size ≡ c.not_sampled.size → new_of d e ≡ record old { standing = record (with_caches e st) { episodes = d.episodes } }
+  resized d e l x y = at_sizes d e d.limit b.limit e.sampled.size c.sampled.size e.not_sampled.size c.not_sampled.size l x y
+
+  pub late_cached : (v : Verdict) (answer : Taken) → state_of (episode_of t b.episodes) ≡ None → asked t c ≡ Some v → (e : CacheLists) → e ≡ after_asking t c → answer ≡ answer_to_late a v → TakesSpanOf old a t answer (new_of b e)
+  late_cached v answer h g e q r =
+      let n = no_episode (episode_of t b.episodes) h in
+      let z = sizes_asked t c in
+      by_state answer (new_of b e) false false (Some (Some v)) (ap is_refusal r ∙ late_refusal a v) (ap is_loss r ∙ late_loss a v) (state_unknown n ∙ ap (option_map (λ (v : Verdict). Some v)) g)
+      (resized b e refl (ap (λ (l : CacheLists). l.sampled.size) q ∙ z.0) (ap (λ (l : CacheLists). l.not_sampled.size) q ∙ z.1)
+        ∙ ap (λ (z : Standing). record old { standing = z }) (ap (λ (l : CacheLists). with_caches l st) q ∙ sym (after_by false None n ∙ ap (after_unknown s b.limit false t a st) g))) r refl
+
+  pub refused_opening : (answer : Taken) → answer ≡ Dropped NoMemory → state_of (episode_of t b.episodes) ≡ None → asked t c ≡ None → (d : Buffer) (e : CacheLists) → d ≡ b → e ≡ c → TakesSpanOf old a t answer (new_of d e)
+  refused_opening answer r h g d e q z =
+      let n = no_episode (episode_of t b.episodes) h in
+      by_state answer (new_of d e) true false None (ap is_refusal r) (ap is_loss r) (state_unknown n ∙ ap (option_map (λ (v : Verdict). Some v)) g) (rw (q, z) refl) r refl
+
+  -- ---- an opening
+
+  lists_are : (e : CacheLists) (x y : TraceList) → e.sampled ≡ x → e.not_sampled ≡ y → e ≡ (let l : CacheLists = record { sampled = x; not_sampled = y } in l)
+  lists_are e x y f g = ap (λ (z : TraceList). let l : CacheLists = record { sampled = z; not_sampled = e.not_sampled } in l) f ∙ ap (λ (z : TraceList). let l : CacheLists = record { sampled = x; not_sampled = z } in l) g
+
+  -- what a put did to a list, by its answer
+  abbrev ListFacts : (l e : TraceList) → TraceId → Remembered → Type 0
+  ListFacts l e tr y = (e ≡ cond (is_lost y) l (list_after_put tr l)) × (e.size ≡ l.size) × (y ≡ put_in (is_lost y) l.size) × ((not (is_lost y) || nat_lt 0 l.size) ≡ true)
+
+  not-zero : (n : ℕ) → 0 < n → (n == 0) ≡ false
+  not-zero n l = ne_eqb n 0 (λ e. omega (arith, l, e))
+
+  above-zero : (n : ℕ) → 0 < n → nat_lt 0 n ≡ true
+  above-zero n l = grind (arith, nat_tests, l)
+
+  list_facts : (l e : TraceList) (tr : TraceId) (y : Remembered) → PutAs tr l y e → ListFacts l e tr y
+  list_facts l e tr InCache q = (q.1 ∙ sym (ap (λ z. cond z l (puts tr l)) (not-zero l.size q.0)), ap (λ (z : TraceList). z.size) q.1, sym (ap (λ z. cond z Off InCache) (not-zero l.size q.0)), refl)
+  list_facts l e tr Off q = (q.1 ∙ sym (ap (λ z. cond z l (puts tr l)) (eq-eqb l.size 0 q.0)), ap (λ (z : TraceList). z.size) q.1, sym (ap (λ z. cond z Off InCache) (eq-eqb l.size 0 q.0)), refl)
+  list_facts l e tr Lost q = (q.1, ap (λ (z : TraceList). z.size) q.1, refl, above-zero l.size q.0)
+
+  -- what the put of the verdict of the episode that left did
+  record PutDone (left : Option Evicted) (r : Option Remembered) (e : CacheLists) : Type 0 where
+    caches : e ≡ after_leaving (is_loss (Kept left r)) left c
+    size : e.sampled.size ≡ c.sampled.size
+    other_size : e.not_sampled.size ≡ c.not_sampled.size
+    answer : r ≡ put_answer s (is_loss (Kept left r)) left
+    mark : (not (is_loss (Kept left r)) || cache_is_on s (verdict_leaving left)) ≡ true
+
+  put_sampled : (x : Evicted) (y : Remembered) (e : CacheLists) → x.verdict ≡ Some Sampled → Remembers x.trace Sampled c y e → PutDone (Some x) (Some y) e
+  put_sampled x y e d q = go y (list_facts c.sampled e.sampled x.trace y q.0)
+    where
+      go : (y : Remembered) → ListFacts c.sampled e.sampled x.trace y → PutDone (Some x) (Some y) e
+      go InCache f = record {
+        caches = lists_are e (list_after_put x.trace c.sampled) c.not_sampled f.0 q.1 ∙ ap (λ v. after_leaving_decided false x.trace v c) (sym d);
+        size = f.1;
+        other_size = ap (λ (z : TraceList). z.size) q.1;
+        answer = ap (λ (z : Remembered). Some z) f.2 ∙ ap (option_map (λ v. put_in false (cache_size s v))) (sym d);
+        mark = refl;
+      }
+      go Off f = record {
+        caches = lists_are e (list_after_put x.trace c.sampled) c.not_sampled f.0 q.1 ∙ ap (λ v. after_leaving_decided false x.trace v c) (sym d);
+        size = f.1;
+        other_size = ap (λ (z : TraceList). z.size) q.1;
+        answer = ap (λ (z : Remembered). Some z) f.2 ∙ ap (option_map (λ v. put_in false (cache_size s v))) (sym d);
+        mark = refl;
+      }
+      go Lost f = record {
+        caches = lists_are e c.sampled c.not_sampled f.0 q.1 ∙ ap (λ v. after_leaving_decided true x.trace v c) (sym d);
+        size = f.1;
+        other_size = ap (λ (z : TraceList). z.size) q.1;
+        answer = ap (λ (z : Remembered). Some z) f.2 ∙ ap (option_map (λ v. put_in true (cache_size s v))) (sym d);
+        mark = ap (cache_is_on s) d ∙ f.3;
+      }
+
+  put_not_sampled : (x : Evicted) (y : Remembered) (e : CacheLists) → x.verdict ≡ Some NotSampled → Remembers x.trace NotSampled c y e → PutDone (Some x) (Some y) e
+  put_not_sampled x y e d q = go y (list_facts c.not_sampled e.not_sampled x.trace y q.0)
+    where
+      go : (y : Remembered) → ListFacts c.not_sampled e.not_sampled x.trace y → PutDone (Some x) (Some y) e
+      go InCache f = record {
+        caches = lists_are e c.sampled (list_after_put x.trace c.not_sampled) q.1 f.0 ∙ ap (λ v. after_leaving_decided false x.trace v c) (sym d);
+        size = ap (λ (z : TraceList). z.size) q.1;
+        other_size = f.1;
+        answer = ap (λ (z : Remembered). Some z) f.2 ∙ ap (option_map (λ v. put_in false (cache_size s v))) (sym d);
+        mark = refl;
+      }
+      go Off f = record {
+        caches = lists_are e c.sampled (list_after_put x.trace c.not_sampled) q.1 f.0 ∙ ap (λ v. after_leaving_decided false x.trace v c) (sym d);
+        size = ap (λ (z : TraceList). z.size) q.1;
+        other_size = f.1;
+        answer = ap (λ (z : Remembered). Some z) f.2 ∙ ap (option_map (λ v. put_in false (cache_size s v))) (sym d);
+        mark = refl;
+      }
+      go Lost f = record {
+        caches = lists_are e c.sampled c.not_sampled q.1 f.0 ∙ ap (λ v. after_leaving_decided true x.trace v c) (sym d);
+        size = ap (λ (z : TraceList). z.size) q.1;
+        other_size = f.1;
+        answer = ap (λ (z : Remembered). Some z) f.2 ∙ ap (option_map (λ v. put_in true (cache_size s v))) (sym d);
+        mark = ap (cache_is_on s) d ∙ f.3;
+      }
+
+  put_decided : (x : Evicted) (v : Verdict) (y : Remembered) (e : CacheLists) → x.verdict ≡ Some v → Remembers x.trace v c y e → PutDone (Some x) (Some y) e
+  put_decided x Sampled y e d q = put_sampled x y e d q
+  put_decided x NotSampled y e d q = put_not_sampled x y e d q
+
+  put_none : (left : Option Evicted) (r : Option Remembered) (e : CacheLists) → verdict_leaving left ≡ None → r ≡ None → e ≡ c → (lost : Bool) → is_loss (Kept left r) ≡ lost → PutDone left r e
+  put_none None r e d q z lost l = let n : is_loss (Kept None r) ≡ false = ap (λ (x : Option Remembered). is_loss (Kept None x)) q in record {
+    caches = z;
+    size = ap (λ (l : CacheLists). l.sampled.size) z;
+    other_size = ap (λ (l : CacheLists). l.not_sampled.size) z;
+    answer = q;
+    mark = ap (λ b. not b || cache_is_on s None) n;
+  }
+  put_none (Some x) r e d q z lost l = let n : is_loss (Kept (Some x) r) ≡ false = ap (λ (y : Option Remembered). is_loss (Kept (Some x) y)) q in record {
+    caches = z ∙ sym (ap (λ b. after_leaving b (Some x) c) n ∙ ap (λ v. after_leaving_decided false x.trace v c) d);
+    size = ap (λ (l : CacheLists). l.sampled.size) z;
+    other_size = ap (λ (l : CacheLists). l.not_sampled.size) z;
+    answer = q ∙ sym (ap (λ b. put_answer s b (Some x)) n ∙ ap (option_map (λ v. put_in false (cache_size s v))) d);
+    mark = ap (λ b. not b || cache_is_on s x.verdict) n;
+  }
+
+  put_left : (x : Evicted) (v : Option Verdict) (r : Option Remembered) (e : CacheLists) → x.verdict ≡ v → PutsDecided x.trace v c r e → PutDone (Some x) r e
+  put_left x None r e d q = put_none (Some x) r e d q.0 q.1 (is_loss (Kept (Some x) r)) refl
+  put_left x (Some v) r e d q = let P = λ (z : Option Remembered). PutDone (Some x) z e in subst P (sym q.1) (put_decided x v q.0 e d q.2)
+
+  put_done : (left : Option Evicted) (r : Option Remembered) (e : CacheLists) → Puts left c r e → PutDone left r e
+  put_done None r e q = put_none None r e refl q.0 q.1 (is_loss (Kept None r)) refl
+  put_done (Some x) r e q = put_left x x.verdict r e refl q
+
+  kept_refusal : (left : Option Evicted) (r : Option Remembered) → is_refusal (Kept left r) ≡ false
+  kept_refusal left r = refl
+
+  pub opened : (answer : Taken) (left : Option Evicted) (r : Option Remembered) → answer ≡ Kept left r → state_of (episode_of t b.episodes) ≡ None → asked t c ≡ None → (d : Buffer) (e : CacheLists) → left ≡ leaves b → d ≡ after_opening b (opening_episode t a (max a.moment cl)) → Puts left c r e → TakesSpanOf old a t answer (new_of d e)
+  opened answer left r x h g d e l z q =
+      let n = no_episode (episode_of t b.episodes) h in
+      let done = put_done left r e q in
+      let P = λ (y : Taken). TakesSpanOf old a t y (new_of d e) in
+      let lost = is_loss (Kept left r) in
+      subst P (sym x) (by_state (Kept left r) (new_of d e) false lost None refl refl (state_unknown n ∙ ap (option_map (λ (v : Verdict). Some v)) g)
+        (resized d e (ap (λ (y : Buffer). y.limit) z) done.size done.other_size
+          ∙ ap (λ (y : CacheLists). record old { standing = record (with_caches y st) { episodes = d.episodes } }) (done.caches ∙ ap (λ (y : Option Evicted). after_leaving lost y c) l)
+          ∙ ap (λ (y : Buffer). record old { standing = record (with_caches (after_leaving lost (leaves b) c) st) { episodes = y.episodes } }) z
+          ∙ ap (λ (y : Standing). record old { standing = y }) (sym (after_by lost None n ∙ ap (after_unknown s b.limit lost t a st) g)))
+        (ap (Kept left) done.answer ∙ ap (λ (y : Option Evicted). Kept y (put_answer s lost y)) l)
+        (ap (λ (y : Option Evicted). not lost || cache_is_on s (verdict_leaving y)) (sym l) ∙ done.mark))
+
+-- what is answered to an opening, by the put
+pub keep_puts : (left : Option Evicted) (old new : CacheLists) (answer : Taken) → KeepsAs left old answer new → (r : Option Remembered) × (answer ≡ Kept left r) × Puts left old r new
+keep_puts left old new (Kept evicted r) k = (r, ap (λ (e : Option Evicted). Kept e r) k.0, k.1)
+keep_puts left old new (Late a) k = absurd k
+keep_puts left old new (Dropped r) k = absurd k
+keep_puts left old new Ticked k = absurd k
+keep_puts left old new Ended k = absurd k
+keep_puts left old new Finished k = absurd k

@@ -1,23 +1,30 @@
 -- What a shard that stands for a journal stands for after it decided an episode.
-use Rattle.std.proofs.Common.{◌≡◌, ℕ, zero, suc, ◌+◌, ◌/◌, ◌<◌, ◌==◌, Bool, true, false, ◌&&◌, cond, List, [], ◌∷◌, ◌++◌, map, reverse, take, drop, Option, Some, None, option_map, refl, sym, ap, subst, ◌∙◌, add-one}
-use Rattle.std.specs.List.{list_all, find}
-use Rattle.std.specs.Option.{is_none}
+use Rattle.std.proofs.Common.{◌≡◌, ℕ, zero, suc, ◌+◌, ◌/◌, ◌<◌, ◌≤◌, nat_le, ◌==◌, Bool, true, false, ◌&&◌, ◌||◌, cond, List, [], ◌∷◌, ◌++◌, map, reverse, length, take, drop, Option, Some, None, option_map, refl, sym, ap, subst, ◌∙◌, arith, add-one}
+use Rattle.std.specs.List.{list_all, list_any, find, filter}
+use Rattle.std.specs.Option.{is_none, is_some}
+use Rattle.std.proofs.lemmas.Bool.Decides.{nat_tests}
 use Rattle.policy_eval.specs.AskingLaws.{decides_by_counts}
 use Rattle.rate_budget.specs.Budget.{limiter_counts}
 use Rattle.rate_budget.specs.declared.count.LimiterCount.{LimiterCount}
-use Rattle.trace_buffer.specs.Buffer.{Episode, settled}
-use Rattle.shard_core.specs.Journal.{Entry, Settings, Journal, StoppedInTime, last_of, Opening, Decision, Notes, notes, notes_dealt, decided_as, due_now, decision, decisions_now, have_ended, askings_made, clock, spans_since}
+use Rattle.trace_buffer.specs.Buffer.{Episode, settled, settle_first, is_due_at, opened_by}
+use Rattle.shard_core.specs.Journal.{Entry, Settings, Journal, StoppedInTime, last_of, Opening, Decision, Notes, in_buffer, notes, notes_dealt, decided_as, due_now, decision, decisions_now, have_ended, askings_made, clock, spans_since}
 use Rattle.shard_core.specs.Standing.{Standing, standing, episode, cache, mark, ends, spans_left}
 use Rattle.span_ids.specs.declared.outcome.Verdict.{Verdict}
 use Rattle.span_ids.specs.declared.outcome.Verdict.TheVariants.{Sampled, NotSampled}
-use Rattle.shard_core.specs.Held.{is_due_by}
-use Rattle.shard_core.specs.Holding.{verdict_held, counts_asked}
-use Rattle.shard_core.specs.Keeping.{decide_first, is_due_held, DecidesNext, DecidesStanding}
-use Rattle.shard_core.proofs.Lists.{set_first, filter-from_find, find-each, find-passes, Each-weaken}
+use Rattle.span_ids.specs.declared.ids.TraceId.{TraceId}
+use Rattle.otlp_types.specs.declared.arrival.Arrival.{Arrival}
+use Rattle.shard_core.specs.Held.{Held, settings, StandsFor, has_due, is_finished, is_due_in, is_due_by, due_by}
+use Rattle.shard_core.specs.Taking.{waiting, Releases, Decides, DecidesFirst}
+use Rattle.shard_core.specs.Holding.{SettlesFirst, verdict_held, counts_asked}
+use Rattle.shard_core.specs.declared.answer.Decided.{Decided}
+use Rattle.shard_core.specs.declared.answer.Decided.TheVariants.{Nothing}
+use Rattle.shard_core.specs.Deciding.{decide_first, is_due_held, DecidesNext, DecidesStanding}
+use Rattle.shard_core.proofs.Lists.{set_first, filter-from_find, find-each, find-passes, Each-weaken, any-none}
 use Rattle.shard_core.proofs.ListFacts.{Each, Pairs as Apart}
 use Rattle.shard_core.proofs.Notes.{HasRoom}
 use Rattle.shard_core.proofs.Sound.{sound_item, sound_notes}
 use Rattle.shard_core.proofs.Due.{front, front-places, OtherPlace, eqb-same, open_due, decisions-item, known, stopped-before, item_notes, due_list, due-dealt, turn-next, turn-done, nothing_left, all_ended, find-episodes, DueIn}
+use Rattle.shard_core.proofs.Stands.{room_of}
 
 decided_as-own : (m noted : Notes) (d : Decision) (o : Opening) → m.decisions ≡ d ∷ noted.decisions → (d.opening.at == o.at) ≡ true → decided_as m o.at ≡ Some d.verdict
 decided_as-own m noted d o e h = rw (e, h) refl
@@ -120,16 +127,125 @@ module _ (s : Settings) (room : HasRoom s.limit) where
       let by_verdict = ap (λ (y : Verdict). H (set_first (is_due_by (have_ended past s.senders) (mark past) s.wait) (settled y) (map (episode past n) R)) C) (sym judgement) in
       (next.0.0, d, next.0.1, spans, judgement, into ∙ by_ends ∙ by_verdict ∙ ap (λ es. H es C) moved ∙ ap (H (map (episode past after) R)) asked ∙ ap (standing s past) (sym (take-one k)))
 
+-- ---- by what the code asks the buffer
+
+and-yes : (b : Bool) → (b && true) ≡ b
+and-yes true = refl
+and-yes false = refl
+
+add-none : (n : ℕ) → n + 0 ≡ n
+add-none n = omega arith
+
+due_each : (fin : Bool) (c m w : ℕ) (es : List Episode) → opened_by c es ≡ true → let d = cond {A = ℕ × ℕ} fin (c, 0) (m, w) in Each (λ (e : Episode). is_due_at d.0 d.1 e ≡ is_due_by fin m w e) es
+due_each fin c m w [] h = tt
+due_each true c m w (e ∷ es) h = go (nat_le e.moment c) refl h (due_each true c m w es)
+  where
+    go : (b : Bool) → nat_le e.moment c ≡ b → (b && opened_by c es) ≡ true → (opened_by c es ≡ true → Each (λ (e : Episode). is_due_at c 0 e ≡ is_due_by true m w e) es) → Each (λ (e : Episode). is_due_at c 0 e ≡ is_due_by true m w e) (e ∷ es)
+    go true k h f = (ap (λ n. is_none e.verdict && nat_le n c) (add-none e.moment) ∙ ap (λ b. is_none e.verdict && b) k, f h)
+    go false k h f = absurd (cc h)
+due_each false c m w (e ∷ es) h = (refl, due_rest (nat_le e.moment c) h (due_each false c m w es))
+  where
+    due_rest : (b : Bool) → (b && opened_by c es) ≡ true → (opened_by c es ≡ true → Each (λ (e : Episode). is_due_at m w e ≡ is_due_by false m w e) es) → Each (λ (e : Episode). is_due_at m w e ≡ is_due_by false m w e) es
+    due_rest true h f = f h
+    due_rest false h f = absurd (cc h)
+
+find_same : (p q : Episode → Bool) (es : List Episode) → Each (λ e. p e ≡ q e) es → find p es ≡ find q es
+find_same p q [] h = refl
+find_same p q (e ∷ es) h = rw (h.0) (ap (λ (r : Option Episode). cond (q e) (Some e) r) (find_same p q es h.1))
+
+settle_same : (m w : ℕ) (v : Verdict) (q : Episode → Bool) (es : List Episode) → Each (λ e. is_due_at m w e ≡ q e) es → settle_first m w v es ≡ set_first q (settled v) es
+settle_same m w v q [] h = refl
+settle_same m w v q (e ∷ es) h = rw (h.0) (ap (λ (r : List Episode). cond (q e) (settled v e ∷ es) (e ∷ r)) (settle_same m w v q es h.1))
+
+pub due_is : (h : Held) → opened_by h.standing.clock h.standing.episodes ≡ true → find (is_due_at (due_by h).0 (due_by h).1) h.standing.episodes ≡ find (is_due_in h) h.standing.episodes
+due_is h o = find_same (is_due_at (due_by h).0 (due_by h).1) (is_due_in h) h.standing.episodes (due_each (is_finished h) h.standing.clock h.standing.mark h.wait h.standing.episodes o)
+
+any_found : (q : Episode → Bool) (es : List Episode) → list_any q es ≡ is_some (find q es)
+any_found q [] = refl
+any_found q (e ∷ es) = (elim (q e) as (λ b. (b || list_any q es) ≡ is_some (cond b (Some e) (find q es))) [ | true ↦ refl | false ↦ any_found q es ])
+
+pub has_due_is : (h : Held) → opened_by h.standing.clock h.standing.episodes ≡ true → is_some (find (is_due_at (due_by h).0 (due_by h).1) h.standing.episodes) ≡ has_due h
+has_due_is h o = ap is_some (due_is h o) ∙ sym (any_found (is_due_in h) h.standing.episodes)
+
+pub nothing_due : (h : Held) → opened_by h.standing.clock h.standing.episodes ≡ true → find (is_due_at (due_by h).0 (due_by h).1) h.standing.episodes ≡ None → has_due h ≡ false
+nothing_due h o f = sym (has_due_is h o) ∙ ap is_some f
+
+nothing-decided : (s : Settings) (room : HasRoom s.limit) (past : Journal) (k : ℕ) → drop k (due_now s past) ≡ [] → drop k (decisions_now s past) ≡ []
+nothing-decided s room [] zero e = refl
+nothing-decided s room [] (suc k) e = refl
+nothing-decided s room (x ∷ before) k e = (turn-done s room (x ∷ before) k (due_list s room x before) (notes s before).decisions e).0
+
+pub decides_nothing : (h : Held) (past : Journal) (k : ℕ) → 0 < h.wait → 0 < h.limit → opened_by h.standing.clock h.standing.episodes ≡ true → find (is_due_at (due_by h).0 (due_by h).1) h.standing.episodes ≡ None → StandsFor h past k → Decides h h Nothing past k
+decides_nothing h past k w l o f s =
+    let room = room_of h l in
+    let left = nothing_left (settings h) room past k h.standing w s.0 s.1 in
+    let gone = left (sym (due_is h o) ∙ f) in
+    let P = λ (ds : List Decision). DecidesFirst h h Nothing past k ds in
+    subst P (sym (nothing-decided (settings h) room past k gone)) (refl, refl)
+
+decides-in : (h new : Held) (answer : Decided) (e : Episode) (x : Entry) (before : Journal) (k : ℕ) → let past : Journal = x ∷ before in 0 < h.wait → 0 < h.limit → opened_by h.standing.clock h.standing.episodes ≡ true → find (is_due_at (due_by h).0 (due_by h).1) h.standing.episodes ≡ Some e →
+    SettlesFirst h (due_by h).0 (due_by h).1 answer new → StandsFor h past k → Decides h new answer past k
+decides-in h new answer e x before k w l o f t s =
+    let past : Journal = x ∷ before in
+    let room = room_of h l in
+    let settle = t e f in
+    let v = settle.0 in
+    let step = decides-step (settings h) room x before k h.standing e v w s.0 s.1 (sym (due_is h o) ∙ f) settle.1 in
+    let d = step.1 in
+    let P = λ (ds : List Decision). DecidesFirst h new answer past k ds in
+    let Q = λ (n : Held). StandsFor n past (k + 1) in
+    let R = λ (spans : List Arrival). Releases answer spans v in
+    let IsAnswer = λ (y : Verdict). Releases answer d.spans y in
+    let due = settle_same (due_by h).0 (due_by h).1 v (is_due_in h) h.standing.episodes (due_each (is_finished h) h.standing.clock h.standing.mark h.wait h.standing.episodes o) in
+    let is : new ≡ record h { standing = deciding (settings h) room h.standing e v } = settle.3 ∙ ap (λ (es : List Episode). record h { standing = record h.standing { episodes = es; limiter_counts = counts_asked (settings h).policies h.standing e.spans } }) due in
+    subst P (sym step.2) (subst IsAnswer (sym step.4) (subst R (sym step.3) settle.2), subst Q (sym is) (s.0, step.5))
+
+pub decides_some : (h new : Held) (answer : Decided) (e : Episode) (past : Journal) (k : ℕ) → 0 < h.wait → 0 < h.limit → opened_by h.standing.clock h.standing.episodes ≡ true → find (is_due_at (due_by h).0 (due_by h).1) h.standing.episodes ≡ Some e →
+    SettlesFirst h (due_by h).0 (due_by h).1 answer new → StandsFor h past k → Decides h new answer past k
+decides_some h new answer e [] k w l o f t s =
+    let none : h.standing.episodes ≡ map (episode [] (notes_dealt (settings h) [] k)) (reverse (in_buffer (settings h) (notes_dealt (settings h) [] k))) = ap (λ (st : Standing). st.episodes) s.1 in
+    let P = λ (es : List Episode). find (is_due_at (due_by h).0 (due_by h).1) es ≡ Some e in
+    absurd (no_openings h.limit (subst P none f))
+  where
+    no_openings : (n : ℕ) → find (is_due_at (due_by h).0 (due_by h).1) (map (episode [] (notes_dealt (settings h) [] k)) (reverse (take n []))) ≡ Some e → ⊥
+    no_openings zero f = cc f
+    no_openings (suc n) f = cc f
+decides_some h new answer e (x ∷ before) k w l o f t s = decides-in h new answer e x before k w l o f t s
+
+-- ---- what is left to decide
+
+abbrev open_in : List Episode → ℕ
+open_in es = length (filter (λ (e : Episode). is_none e.verdict) es)
+
+less-head : (x : Episode) (es : List Episode) → is_none x.verdict ≡ true → open_in es < open_in (x ∷ es)
+less-head x es h = rw h (omega arith)
+
+less-tail : (x : Episode) (b : Bool) (es fs : List Episode) → is_none x.verdict ≡ b → open_in es < open_in fs → open_in (x ∷ es) < open_in (x ∷ fs)
+less-tail x true es fs h l = rw h (omega (arith, l))
+less-tail x false es fs h l = rw h l
+
+left-true : (a b : Bool) → (a && b) ≡ true → a ≡ true
+left-true true b h = refl
+left-true false b h = cc
+
+count-less : (m w : ℕ) (v : Verdict) (es : List Episode) (y : Episode) → find (is_due_at m w) es ≡ Some y → open_in (settle_first m w v es) < open_in es
+count-less m w v [] y e = cc
+count-less m w v (x ∷ es) y e = (elim (is_due_at m w x) as (λ b. is_due_at m w x ≡ b → cond b (Some x) (find (is_due_at m w) es) ≡ Some y → open_in (cond b (settled v x ∷ es) (x ∷ settle_first m w v es)) < open_in (x ∷ es)) [
+  | true ↦ λ h e. less-head x es (left-true (is_none x.verdict) _ h)
+  | false ↦ λ h e. less-tail x (is_none x.verdict) (settle_first m w v es) es refl (count-less m w v es y e)
+]) refl e
+
+pub waits_less : (h new : Held) (m w : ℕ) (e : Episode) (answer : Decided) → find (is_due_at m w) h.standing.episodes ≡ Some e → SettlesFirst h m w answer new → waiting new < waiting h
+waits_less h new m w e answer f t =
+    let s = t e f in
+    let P = λ (es : List Episode). open_in es < waiting h in
+    subst P (sym (ap (λ (n : Held). n.standing.episodes) s.3)) (count-less m w s.0 h.standing.episodes e f)
+
 -- ---- the next decision
 
 first_set : (p : Episode → Bool) (v : Verdict) (es : List Episode) → set_first p (settled v) es ≡ decide_first p v es
 first_set p v [] = refl
 first_set p v (e ∷ es) = ap (λ (r : List Episode). cond (p e) (settled v e ∷ es) (e ∷ r)) (first_set p v es)
-
-nothing_next : (s : Settings) (room : HasRoom s.limit) (past : Journal) (k : ℕ) → drop k (due_now s past) ≡ [] → drop k (decisions_now s past) ≡ []
-nothing_next s room [] zero e = refl
-nothing_next s room [] (suc k) e = refl
-nothing_next s room (x ∷ before) k e = (turn-done s room (x ∷ before) k (due_list s room x before) (notes s before).decisions e).0
 
 none_found : (s : Settings) (k : ℕ) (e : Episode) (limit : Option ℕ) → find (is_due_held s.wait (standing s [] k)) (map (episode [] (notes_dealt s [] k)) (reverse (last_of limit []))) ≡ Some e → ⊥
 none_found s k e None f = cc f
@@ -146,7 +262,7 @@ some_next s room w (x ∷ before) k h e f =
     (step.0, step.1, step.2, step.3, step.4, sym step.5 ∙ ap (λ (es : List Episode). record st { episodes = es; limiter_counts = counts_asked s.policies st e.spans }) first)
 
 next : (s : Settings) → HasRoom s.limit → 0 < s.wait → (past : Journal) (k : ℕ) → StoppedInTime s past → (r : Option Episode) → find (is_due_held s.wait (standing s past k)) (standing s past k).episodes ≡ r → DecidesNext s past k r
-next s room w past k h None f = nothing_next s room past k (nothing_left s room past k (standing s past k) w h refl f)
+next s room w past k h None f = nothing-decided s room past k (nothing_left s room past k (standing s past k) w h refl f)
 next s room w past k h (Some e) f = some_next s room w past k h e f
 
 pub decides_standing : DecidesStanding

@@ -1,12 +1,13 @@
 -- What the answers of a shard hand over and count is what the definitions release and count.
-use Rattle.std.proofs.Common.{◌≡◌, ℕ, zero, suc, ◌+◌, ◌<◌, Bool, true, false, cond, List, [], ◌∷◌, ◌++◌, map, length, take, drop, Option, Some, None, refl, sym, ap, subst, ◌∙◌, arith, append-nil, append_assoc, add-one, length-append}
+use Rattle.std.proofs.Common.{◌≡◌, ℕ, zero, suc, ◌+◌, ◌<◌, Bool, true, false, cond, List, [], ◌∷◌, ◌++◌, map, length, take, drop, Option, Some, None, option_map, refl, sym, ap, subst, ◌∙◌, arith, append-nil, append_assoc, add-one, length-append}
 use Rattle.std.specs.List.{filter}
 use Rattle.std.proofs.lemmas.List.{map-append}
 use Rattle.std.proofs.lemmas.List.Elements.{filter-append}
-use Rattle.shard_core.specs.Journal.{Entry, Settings, Journal, Decision, Notes, Finding, joins, meets, opens, notes, finding, due_now, decisions_now, has_finished}
-use Rattle.shard_core.specs.Fate.{DroppedSpan, Effect, counts, under, is_same_reason, effect, effect_dealt, effect_of_taking, effect_of_item, effect_of_span, effect_of_finding, effect_of_verdict, effect_of_decision, effect_of_decisions, released_dealt, dropped_dealt}
-use Rattle.shard_core.specs.Held.{Held, settings, settings_of, StandsFor, has_due, is_due_in}
-use Rattle.shard_core.specs.Taking.{entry, answer_to, answer_to_ids, answer_to_item, answer_to_finding, released_by, dropped_by, released_in, dropped_in, dealt_after, Releases, Decides, DecidesFirst}
+use Rattle.shard_core.specs.Journal.{Entry, Settings, Journal, Decision, Notes, Finding, joins, meets, opens, Opening, notes, finding, leaving, decided_as, spans_since, due_now, decisions_now, has_finished}
+use Rattle.shard_core.specs.Standing.{spans_left}
+use Rattle.shard_core.specs.Fate.{DroppedSpan, Effect, counts, under, is_same_reason, effect, effect_dealt, effect_of_taking, effect_of_item, effect_of_span, effect_of_finding, effect_of_leaving, effect_of_leaving_decided, effect_of_verdict, effect_of_decision, effect_of_decisions, released_dealt, dropped_dealt}
+use Rattle.shard_core.specs.Held.{Held, settings, StandsFor, has_due, is_due_in}
+use Rattle.shard_core.specs.Taking.{entry, answer_to, answer_to_ids, answer_to_item, answer_to_finding, evicted_of, spans_left_by, released_by, dropped_by, released_in, dropped_in, dealt_after, Releases, Decides, DecidesFirst}
 use Rattle.shard_core.specs.declared.answer.Taken.{Taken}
 use Rattle.shard_core.specs.declared.answer.Taken.TheVariants.{Ended, Finished}
 use Rattle.shard_core.specs.declared.answer.Decided.{Decided}
@@ -16,12 +17,14 @@ use Rattle.otlp_types.specs.declared.arrival.Arrival.{Arrival}
 use Rattle.otlp_types.specs.declared.arrival.Item.{Item}
 use Rattle.otlp_types.specs.declared.arrival.Item.TheVariants.{Span, Tick, End}
 use Rattle.span_ids.specs.declared.outcome.Reason.{Reason}
-use Rattle.span_ids.specs.declared.outcome.Reason.TheVariants.{NoMemory, LateNotSampled, NotSampled as NotSampledReason}
+use Rattle.span_ids.specs.declared.outcome.Reason.TheVariants.{NoMemory, LateNotSampled, Evicted as EvictedReason, NotSampled as NotSampledReason}
 use Rattle.span_ids.specs.declared.outcome.Verdict.{Verdict}
 use Rattle.span_ids.specs.declared.outcome.Verdict.TheVariants.{Sampled, NotSampled}
 use Rattle.policy_tree.specs.declared.policy.Policy.{Policy}
 use Rattle.shard_core.proofs.Lists.{find-from_any}
-use Rattle.shard_core.proofs.Journals.{nothing_left, turn-done, due_list}
+use Rattle.shard_core.proofs.Notes.{HasRoom}
+use Rattle.shard_core.proofs.Due.{nothing_left, turn-done, due_list}
+use Rattle.shard_core.proofs.Stands.{room_of}
 
 -- ---- how many are counted
 
@@ -43,31 +46,48 @@ number-counts reason r false h (a ∷ spans) = rw h (number-counts reason r fals
 
 -- ---- an item
 
-module _ (policies : List Policy) (wait senders : ℕ) where
-  abbrev s : Settings
-  s = settings_of policies wait senders
+module _ (s : Settings) (room : HasRoom s.limit) where
+  leaving-released : (before : Journal) (noted : Notes) (r : Option Opening) → (effect_of_leaving before noted r).released ≡ []
+  leaving-released before noted None = refl
+  leaving-released before noted (Some o) = go (decided_as noted o.at)
+    where
+      go : (d : Option Verdict) → (effect_of_leaving_decided EvictedReason (spans_since before o) d).released ≡ []
+      go None = refl
+      go (Some v) = refl
 
-  found-released : (a : Arrival) (before : Journal) (noted : Notes) (f : Finding) → (effect_of_finding s before noted a f).released ≡ released_by (answer_to_finding a f)
-  found-released a before noted (joins o) = refl
-  found-released a before noted (meets o Sampled) = refl
-  found-released a before noted (meets o NotSampled) = refl
-  found-released a before noted opens = refl
+  nothing-counted : (b : Bool) → ◌≡◌ {A = ℕ} 0 (cond b 0 0)
+  nothing-counted true = refl
+  nothing-counted false = refl
 
-  found-dropped : (reason : Reason) (a : Arrival) (before : Journal) (noted : Notes) (f : Finding) → number reason (effect_of_finding s before noted a f).counted ≡ dropped_by reason (answer_to_finding a f)
-  found-dropped reason a before noted (joins o) = refl
-  found-dropped reason a before noted (meets o Sampled) = refl
-  found-dropped reason a before noted (meets o NotSampled) = number-counts reason LateNotSampled (is_same_reason LateNotSampled reason) refl (a ∷ [])
-  found-dropped reason a before noted opens = refl
+  leaving-counted : (reason : Reason) (before : Journal) (noted : Notes) (r : Option Opening) → number reason (effect_of_leaving before noted r).counted ≡ cond (is_same_reason EvictedReason reason) (spans_left_by (option_map (evicted_of before noted) r)) 0
+  leaving-counted reason before noted None = nothing-counted (is_same_reason EvictedReason reason)
+  leaving-counted reason before noted (Some o) = go (decided_as noted o.at)
+    where
+      go : (d : Option Verdict) → number reason (effect_of_leaving_decided EvictedReason (spans_since before o) d).counted ≡ cond (is_same_reason EvictedReason reason) (length (spans_left (spans_since before o) d)) 0
+      go None = number-counts reason EvictedReason (is_same_reason EvictedReason reason) refl (spans_since before o)
+      go (Some v) = nothing-counted (is_same_reason EvictedReason reason)
 
-  ids-released : (refused : Bool) (a : Arrival) (before : Journal) (ids : Option Ids) → (effect_of_span s before refused a ids).released ≡ released_by (answer_to_ids s refused before a ids)
-  ids-released refused a before None = refl
-  ids-released true a before (Some ids) = refl
-  ids-released false a before (Some ids) = found-released a before (notes s before) (finding s (notes s before) ids.trace)
+  found-released : (lost : Bool) (a : Arrival) (before : Journal) (noted : Notes) (f : Finding) → (effect_of_finding s before noted a f).released ≡ released_by (answer_to_finding s lost before noted a f)
+  found-released lost a before noted (joins o) = refl
+  found-released lost a before noted (meets o Sampled) = refl
+  found-released lost a before noted (meets o NotSampled) = refl
+  found-released lost a before noted opens = leaving-released before noted (leaving s.limit noted.openings)
 
-  ids-dropped : (reason : Reason) (refused : Bool) (a : Arrival) (before : Journal) (ids : Option Ids) → number reason (effect_of_span s before refused a ids).counted ≡ dropped_by reason (answer_to_ids s refused before a ids)
-  ids-dropped reason refused a before None = refl
-  ids-dropped reason true a before (Some ids) = number-counts reason NoMemory (is_same_reason NoMemory reason) refl (a ∷ [])
-  ids-dropped reason false a before (Some ids) = found-dropped reason a before (notes s before) (finding s (notes s before) ids.trace)
+  found-dropped : (reason : Reason) (lost : Bool) (a : Arrival) (before : Journal) (noted : Notes) (f : Finding) → number reason (effect_of_finding s before noted a f).counted ≡ dropped_by reason (answer_to_finding s lost before noted a f)
+  found-dropped reason lost a before noted (joins o) = nothing-counted (is_same_reason EvictedReason reason)
+  found-dropped reason lost a before noted (meets o Sampled) = refl
+  found-dropped reason lost a before noted (meets o NotSampled) = number-counts reason LateNotSampled (is_same_reason LateNotSampled reason) refl (a ∷ [])
+  found-dropped reason lost a before noted opens = leaving-counted reason before noted (leaving s.limit noted.openings)
+
+  ids-released : (refused lost : Bool) (a : Arrival) (before : Journal) (ids : Option Ids) → (effect_of_span s before refused a ids).released ≡ released_by (answer_to_ids s refused lost before a ids)
+  ids-released refused lost a before None = refl
+  ids-released true lost a before (Some ids) = refl
+  ids-released false lost a before (Some ids) = found-released lost a before (notes s before) (finding s (notes s before) ids.trace)
+
+  ids-dropped : (reason : Reason) (refused lost : Bool) (a : Arrival) (before : Journal) (ids : Option Ids) → number reason (effect_of_span s before refused a ids).counted ≡ dropped_by reason (answer_to_ids s refused lost before a ids)
+  ids-dropped reason refused lost a before None = nothing-counted (is_same_reason EvictedReason reason)
+  ids-dropped reason true lost a before (Some ids) = number-counts reason NoMemory (is_same_reason NoMemory reason) refl (a ∷ [])
+  ids-dropped reason false lost a before (Some ids) = found-dropped reason lost a before (notes s before) (finding s (notes s before) ids.trace)
 
   ended-released : (b : Bool) → [] ≡ released_by (cond b Finished Ended)
   ended-released true = refl
@@ -78,12 +98,12 @@ module _ (policies : List Policy) (wait senders : ℕ) where
   ended-dropped reason false = refl
 
   item-released : (e : Entry) (before : Journal) (item : Item) → (effect_of_item s before e.refused item).released ≡ released_by (answer_to_item s e before item)
-  item-released e before (Span a) = ids-released e.refused a before a.rec.span.ids
+  item-released e before (Span a) = ids-released e.refused e.lost a before a.rec.span.ids
   item-released e before (Tick m) = refl
   item-released e before (End sender) = ended-released (has_finished s e before)
 
   item-dropped : (reason : Reason) (e : Entry) (before : Journal) (item : Item) → number reason (effect_of_item s before e.refused item).counted ≡ dropped_by reason (answer_to_item s e before item)
-  item-dropped reason e before (Span a) = ids-dropped reason e.refused a before a.rec.span.ids
+  item-dropped reason e before (Span a) = ids-dropped reason e.refused e.lost a before a.rec.span.ids
   item-dropped reason e before (Tick m) = refl
   item-dropped reason e before (End sender) = ended-dropped reason (has_finished s e before)
 
@@ -91,35 +111,35 @@ module _ (policies : List Policy) (wait senders : ℕ) where
   dealt-effect : (past : Journal) (k : ℕ) → drop k (due_now s past) ≡ [] → effect_dealt s past k ≡ effect s past
   dealt-effect [] k h = refl
   dealt-effect (e ∷ before) k h =
-      let t = turn-done policies wait senders (e ∷ before) k (due_list policies wait senders e before) (notes s before).decisions h in
+      let t = turn-done s room (e ∷ before) k (due_list s room e before) (notes s before).decisions h in
       let done = λ (ds : List Decision). let x : Effect = record { released = ((effect s before).released ++ (effect_of_taking s e before).released) ++ (effect_of_decisions ds).released; counted = ((effect s before).counted ++ (effect_of_taking s e before).counted) ++ (effect_of_decisions ds).counted } in x in
       ap done t.1
 
 -- a shard in which nothing is due has dealt with each decision
-pub all_dealt : (h : Held) (past : Journal) (k : ℕ) → 0 < h.wait → has_due h ≡ false → StandsFor h past k → effect_dealt (settings h) past k ≡ effect (settings h) past
-all_dealt h past k w d t =
-    let senders = length h.standing.ends in
-    dealt-effect h.policies h.wait senders past k (nothing_left h.policies h.wait senders past k h.standing w t.0 t.1 (find-from_any (is_due_in h) h.standing.episodes d))
+pub all_dealt : (h : Held) (past : Journal) (k : ℕ) → 0 < h.wait → 0 < h.limit → has_due h ≡ false → StandsFor h past k → effect_dealt (settings h) past k ≡ effect (settings h) past
+all_dealt h past k w l d t =
+    let room = room_of h l in
+    dealt-effect (settings h) room past k (nothing_left (settings h) room past k h.standing w t.0 t.1 (find-from_any (is_due_in h) h.standing.episodes d))
 
-pub take_released : (h : Held) (item : Item) (answer : Taken) (past : Journal) (k : ℕ) → 0 < h.wait → has_due h ≡ false → StandsFor h past k → answer ≡ answer_to (settings h) (entry item answer) past →
+pub take_released : (h : Held) (item : Item) (answer : Taken) (past : Journal) (k : ℕ) → 0 < h.wait → 0 < h.limit → has_due h ≡ false → StandsFor h past k → answer ≡ answer_to (settings h) (entry item answer) past →
     released_dealt (settings h) (entry item answer ∷ past) 0 ≡ released_dealt (settings h) past k ++ released_by answer
-take_released h item answer past k w d t a =
+take_released h item answer past k w l d t a =
     let x = effect (settings h) past in
-    let own = item-released h.policies h.wait (length h.standing.ends) (entry item answer) past item ∙ ap released_by (sym a) in
+    let own = item-released (settings h) (room_of h l) (entry item answer) past item ∙ ap released_by (sym a) in
     append-nil (x.released ++ (effect_of_taking (settings h) (entry item answer) past).released)
     ∙ ap (λ more. x.released ++ more) own
-    ∙ ap (λ (y : Effect). y.released ++ released_by answer) (sym (all_dealt h past k w d t))
+    ∙ ap (λ (y : Effect). y.released ++ released_by answer) (sym (all_dealt h past k w l d t))
 
-pub take_dropped : (h : Held) (item : Item) (answer : Taken) (past : Journal) (k : ℕ) (reason : Reason) → 0 < h.wait → has_due h ≡ false → StandsFor h past k → answer ≡ answer_to (settings h) (entry item answer) past →
+pub take_dropped : (h : Held) (item : Item) (answer : Taken) (past : Journal) (k : ℕ) (reason : Reason) → 0 < h.wait → 0 < h.limit → has_due h ≡ false → StandsFor h past k → answer ≡ answer_to (settings h) (entry item answer) past →
     dropped_dealt (settings h) (entry item answer ∷ past) 0 reason ≡ dropped_dealt (settings h) past k reason + dropped_by reason answer
-take_dropped h item answer past k reason w d t a =
+take_dropped h item answer past k reason w l d t a =
     let x = effect (settings h) past in
     let y = effect_of_taking (settings h) (entry item answer) past in
-    let own = item-dropped h.policies h.wait (length h.standing.ends) reason (entry item answer) past item ∙ ap (dropped_by reason) (sym a) in
+    let own = item-dropped (settings h) (room_of h l) reason (entry item answer) past item ∙ ap (dropped_by reason) (sym a) in
     ap (number reason) (append-nil (x.counted ++ y.counted))
     ∙ number-append reason x.counted y.counted
     ∙ ap (λ n. number reason x.counted + n) own
-    ∙ ap (λ (y : Effect). number reason y.counted + dropped_by reason answer) (sym (all_dealt h past k w d t))
+    ∙ ap (λ (y : Effect). number reason y.counted + dropped_by reason answer) (sym (all_dealt h past k w l d t))
 
 -- ---- a decision
 

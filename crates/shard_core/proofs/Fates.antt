@@ -1,9 +1,10 @@
 -- The fate of a span, right after it was taken.
-use Rattle.std.proofs.Common.{◌≡◌, ℕ, Bool, true, false, List, ◌∷◌, length, Option, Some, None, refl, sym, ap, subst, ◌∙◌}
-use Rattle.shard_core.specs.Journal.{Entry, Settings, Journal, Opening, Notes, Finding, meets, opens, notes, finding, latest_episode, decided_as, after_span, after_finding, clock}
-use Rattle.shard_core.specs.Fate.{fate, fate_of_finding, fate_of_member}
-use Rattle.shard_core.specs.Held.{Held, settings, settings_of}
-use Rattle.shard_core.specs.Taking.{entry, is_refusal, answer_to, answer_to_ids, answer_to_finding, fate_told, TellsFateOf, TellsFate}
+use Rattle.std.proofs.Common.{◌≡◌, ℕ, ◌<◌, Bool, true, false, cond, ◌||◌, ◌==◌, List, ◌∷◌, length, Option, Some, None, option_map, refl, sym, ap, subst, ◌∙◌, arith, ne_eqb, eq-eqb}
+use Rattle.std.specs.List.{list_any, find}
+use Rattle.shard_core.specs.Journal.{Entry, Settings, Journal, Opening, Decision, Notes, Finding, joins, meets, opens, notes, finding, finding_of, finding_at, in_buffer, is_in_buffer, is_remembered, latest_episode, decided_as, after_span, after_finding, clock}
+use Rattle.shard_core.specs.Fate.{Fate, waits, fate, fate_of_finding, fate_of_member, fate_of_member_decided}
+use Rattle.shard_core.specs.Held.{Held, settings}
+use Rattle.shard_core.specs.Taking.{entry, is_refusal, is_loss, answer_to, answer_to_ids, answer_to_finding, answer_to_late, fate_told, TellsFateOf, TellsFate}
 use Rattle.shard_core.specs.declared.answer.Taken.{Taken}
 use Rattle.otlp_types.specs.declared.span.Ids.{Ids}
 use Rattle.span_ids.specs.declared.ids.TraceId.{TraceId}
@@ -11,55 +12,70 @@ use Rattle.otlp_types.specs.declared.arrival.Arrival.{Arrival}
 use Rattle.otlp_types.specs.declared.arrival.Item.TheVariants.{Span}
 use Rattle.span_ids.specs.declared.outcome.Verdict.{Verdict}
 use Rattle.span_ids.specs.declared.outcome.Verdict.TheVariants.{Sampled, NotSampled}
-use Rattle.policy_tree.specs.declared.policy.Policy.{Policy}
-use Rattle.shard_core.proofs.Journals.{Noted, undecided_yet, eqb-same, in_buffer-latest, finds-none, finds-undecided, finds-decided}
-use Rattle.shard_core.proofs.Stands.{Ready}
+use Rattle.shard_core.proofs.ListFacts.{Each-weaker}
+use Rattle.shard_core.proofs.Find.{find_none}
+use Rattle.shard_core.proofs.Notes.{HasRoom}
+use Rattle.shard_core.proofs.Sound.{Makes, makes_room, sound_notes}
+use Rattle.shard_core.proofs.Stands.{room_of}
 
-module _ (policies : List Policy) (wait senders : ℕ) where
-  abbrev s : Settings
-  s = settings_of policies wait senders
-
+module _ (s : Settings) (room : HasRoom s.limit) where
   -- a span is followed by no decision
-  notes-span : (a : Arrival) (refused : Bool) (before : Journal) → let e : Entry = record { item = Span a; refused = refused; lost = false } in notes s (e ∷ before) ≡ after_span s a.rec.span.ids e before (notes s before)
+  notes-span : (a : Arrival) (refused lost : Bool) (before : Journal) → let e : Entry = record { item = Span a; refused = refused; lost = lost } in notes s (e ∷ before) ≡ after_span s a.rec.span.ids e before (notes s before)
   unfolding notes
-  notes-span a refused before = refl
+  notes-span a refused lost before = refl
 
-  told-late : (a : Arrival) (o : Opening) (noted : Notes) (n : ℕ) (v : Verdict) → fate_of_finding s noted n (meets o v) ≡ fate_told (answer_to_finding a (meets o v))
-  told-late a o noted n Sampled = refl
-  told-late a o noted n NotSampled = refl
+  -- a span joins an undecided episode of the buffer
+  joined : (noted : Notes) (t : TraceId) (o : Opening) → finding s noted t ≡ joins o → (is_in_buffer s noted o.at ≡ true) × (decided_as noted o.at ≡ None)
+  joined noted t o f = at_latest (latest_episode noted t) f
+    where
+      at_buffer : (x : Opening) → decided_as noted x.at ≡ None → (b : Bool) → is_in_buffer s noted x.at ≡ b → cond b (joins x) opens ≡ joins o → (is_in_buffer s noted o.at ≡ true) × (decided_as noted o.at ≡ None)
+      at_buffer x d true k e = let same : x ≡ o = cc e in (ap (λ (z : Opening). is_in_buffer s noted z.at) (sym same) ∙ k, ap (λ (z : Opening). decided_as noted z.at) (sym same) ∙ d)
+      at_buffer x d false k e = absurd (cc e)
 
-  told-opened : (a : Arrival) (noted m : Notes) (o : Opening) (rest : List Opening) (n : ℕ) → m.openings ≡ o ∷ rest → o.at ≡ n → m.decisions ≡ noted.decisions → decided_as noted n ≡ None → fate_of_member s m n ≡ fate_told (answer_to_finding a opens)
-  told-opened a noted m o rest n e at d w = rw (e, at, eqb-same n, d, w)
+      not_met : (x : Opening) (v : Verdict) (b : Bool) → cond b (meets x v) opens ≡ joins o → ⊥
+      not_met x v true e = cc e
+      not_met x v false e = cc e
 
-  module _ (a : Arrival) (t : TraceId) (before : Journal) (c : ℕ) (w : Noted (notes s before) (length before)) where
-    abbrev noted : Notes
-    noted = notes s before
+      at_verdict : (x : Opening) (d : Option Verdict) → decided_as noted x.at ≡ d → finding_at s noted x d ≡ joins o → (is_in_buffer s noted o.at ≡ true) × (decided_as noted o.at ≡ None)
+      at_verdict x None d e = at_buffer x d (is_in_buffer s noted x.at) refl e
+      at_verdict x (Some v) d e = absurd (not_met x v (is_remembered s noted x v) e)
 
-    abbrev Told : Finding → Type 0
-    Told f = fate_of_finding s (after_finding s t false (length before) c noted f) (length before) f ≡ fate_told (answer_to_finding a f)
+      at_latest : (l : Option Opening) → finding_of s noted l ≡ joins o → (is_in_buffer s noted o.at ≡ true) × (decided_as noted o.at ≡ None)
+      at_latest None e = absurd (cc e)
+      at_latest (Some x) e = at_verdict x (decided_as noted x.at) refl e
 
-    told-found : (p : Opening) (v : Option Verdict) → latest_episode noted t ≡ Some p → decided_as noted p.at ≡ v → Told (finding s noted t)
-    told-found p None l d = subst Told (sym (finds-undecided policies wait senders noted t p l d)) (rw (in_buffer-latest policies wait senders noted t p l, d))
-    told-found p (Some v) l d = subst Told (sym (finds-decided policies wait senders noted t p v l d)) (told-late a p (after_finding s t false (length before) c noted (meets p v)) (length before) v)
+  told-late : (a : Arrival) (v : Verdict) (o : Opening) (noted : Notes) (n : ℕ) → fate_of_finding s noted n (meets o v) ≡ fate_told (answer_to_late a v)
+  told-late a Sampled o noted n = refl
+  told-late a NotSampled o noted n = refl
 
-    told : (l : Option Opening) → latest_episode noted t ≡ l → Told (finding s noted t)
-    told None l = subst Told (sym (finds-none policies wait senders noted t l))
-        (told-opened a noted (after_finding s t false (length before) c noted opens) (record { at = length before; trace = t; moment = c }) noted.openings (length before) refl refl refl (undecided_yet noted (length before) w.decided))
-    told (Some p) l = told-found p (decided_as noted p.at) l refl
+  told : (a : Arrival) (t : TraceId) (lost : Bool) (before : Journal) (c : ℕ) (f : Finding) → finding s (notes s before) t ≡ f →
+      fate_of_finding s (after_finding s t lost (length before) c (notes s before) f) (length before) f ≡ fate_told (answer_to_finding s lost before (notes s before) a f)
+  told a t lost before c (joins o) f = let k = joined (notes s before) t o f in rw (k.0, k.1) refl
+  told a t lost before c (meets o v) f = told-late a v o (after_finding s t lost (length before) c (notes s before) (meets o v)) (length before)
+  told a t lost before c opens f =
+      let noted = notes s before in
+      let n = length before in
+      let m = after_finding s t lost n c noted opens in
+      let made = makes_room s.limit room noted.openings in
+      let new : Opening = record { at = n; trace = t; moment = c } in
+      let inside : is_in_buffer s m n ≡ true = ap (list_any (λ (o : Opening). o.at == n)) (made.with_next new) ∙ ap (λ b. b || list_any (λ (o : Opening). o.at == n) made.kept) (eq-eqb n n refl) in
+      let undecided : decided_as m n ≡ None = ap (option_map (λ (d : Decision). d.verdict)) (find_none (λ (d : Decision). d.opening.at == n) noted.decisions
+      (Each-weaker (λ (d : Decision). d.opening.at < n) (λ (d : Decision). (d.opening.at == n) ≡ false) noted.decisions (λ d h. ne_eqb d.opening.at n (λ e. omega (arith, h, e))) (sound_notes s room before).decided)) in
+      ap (λ b. fate_of_member_decided b (decided_as m n)) inside ∙ ap (fate_of_member_decided true) undecided
 
-  told-ids : (a : Arrival) (ids : Ids) (before : Journal) (refused : Bool) → a.rec.span.ids ≡ Some ids → Noted (notes s before) (length before) →
-      let e : Entry = record { item = Span a; refused = refused; lost = false } in fate s (e ∷ before) before refused ids ≡ fate_told (answer_to_ids s refused before a (Some ids))
-  told-ids a ids before true i w = refl
-  told-ids a ids before false i w =
-      let e : Entry = record { item = Span a; refused = false; lost = false } in
+  told-ids : (a : Arrival) (ids : Ids) (before : Journal) (refused lost : Bool) → a.rec.span.ids ≡ Some ids →
+      let e : Entry = record { item = Span a; refused = refused; lost = lost } in fate s (e ∷ before) before refused ids ≡ fate_told (answer_to_ids s refused lost before a (Some ids))
+  told-ids a ids before true lost i = refl
+  told-ids a ids before false lost i =
+      let e : Entry = record { item = Span a; refused = false; lost = lost } in
       let f = finding s (notes s before) ids.trace in
-      let here : notes s (e ∷ before) ≡ after_finding s ids.trace false (length before) (clock (e ∷ before)) (notes s before) f
-      = notes-span a false before ∙ ap (λ (o : Option Ids). after_span s o e before (notes s before)) i in
-      ap (λ (n : Notes). fate_of_finding s n (length before) f) here ∙ told a ids.trace before (clock (e ∷ before)) w (latest_episode (notes s before) ids.trace) refl
+      let here : notes s (e ∷ before) ≡ after_finding s ids.trace lost (length before) (clock (e ∷ before)) (notes s before) f
+      = notes-span a false lost before ∙ ap (λ (o : Option Ids). after_span s o e before (notes s before)) i in
+      ap (λ (n : Notes). fate_of_finding s n (length before) f) here ∙ told a ids.trace lost before (clock (e ∷ before)) f refl
 
-tells-ids : (h : Held) (a : Arrival) (ids : Option Ids) (past : Journal) (answer : Taken) → a.rec.span.ids ≡ ids → Ready h past → answer ≡ answer_to_ids (settings h) (is_refusal answer) past a ids → TellsFateOf (settings h) past a answer ids
-tells-ids h a None past answer i g e = tt
-tells-ids h a (Some ids) past answer i g e = told-ids h.policies h.wait (length h.standing.ends) a ids past (is_refusal answer) i g.noted ∙ ap fate_told (sym e)
+tells-ids : (h : Held) (a : Arrival) (ids : Option Ids) (past : Journal) (answer : Taken) → 0 < h.limit → a.rec.span.ids ≡ ids → answer ≡ answer_to_ids (settings h) (is_refusal answer) (is_loss answer) past a ids → TellsFateOf (settings h) past a answer ids
+tells-ids h a None past answer l i e = tt
+tells-ids h a (Some ids) past answer l i e = told-ids (settings h) (room_of h l) a ids past (is_refusal answer) (is_loss answer) i ∙ ap fate_told (sym e)
 
-pub tells_fate : (h : Held) (a : Arrival) (past : Journal) (answer : Taken) → Ready h past → answer ≡ answer_to (settings h) (entry (Span a) answer) past → TellsFate (settings h) past (Span a) answer
-tells_fate h a past answer g e = tells-ids h a a.rec.span.ids past answer refl g e
+pub tells_fate : (h : Held) (a : Arrival) (past : Journal) (answer : Taken) → 0 < h.limit → answer ≡ answer_to (settings h) (entry (Span a) answer) past → TellsFate (settings h) past (Span a) answer
+tells_fate h a past answer l e = tells-ids h a a.rec.span.ids past answer l refl e

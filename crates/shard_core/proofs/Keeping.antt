@@ -1,6 +1,6 @@
 -- What a shard holds after an item is computed from what it held before.
-use Rattle.std.proofs.Common.{◌≡◌, ℕ, zero, suc, ◌-◌, ◌<◌, ◌≤◌, max, nat_le, Bool, true, false, not, ◌&&◌, ◌||◌, cond, ◌==◌, List, [], ◌∷◌, ◌++◌, map, length, take, drop, reverse, find, slice_get, Option, Some, None, option_map, option_to_list, refl, ap, sym, ◌∙◌, arith, append-nil, ne_eqb, eq-eqb}
-use Rattle.std.specs.List.{list_any}
+use Rattle.std.proofs.Common.{◌≡◌, ◌≢◌, ℕ, zero, suc, ◌+◌, ◌-◌, ◌<◌, ◌≤◌, max, nat_le, Bool, true, false, not, ◌&&◌, ◌||◌, cond, ◌==◌, List, [], ◌∷◌, ◌++◌, map, length, take, drop, reverse, find, slice_get, Option, Some, None, option_map, option_to_list, refl, ap, sym, subst, ◌∙◌, arith, append-nil, ne_eqb, eq-eqb}
+use Rattle.std.specs.List.{list_any, slice_set}
 use Rattle.std.proofs.lemmas.List.{reverse-reverse, reverse-append, map-append, length-map, length-reverse}
 use Rattle.span_ids.specs.Same.{same_trace}
 use Rattle.span_ids.specs.declared.ids.TraceId.{TraceId}
@@ -10,24 +10,25 @@ use Rattle.otlp_types.specs.declared.span.Ids.{Ids}
 use Rattle.otlp_types.specs.declared.arrival.Arrival.{Arrival}
 use Rattle.otlp_types.specs.declared.arrival.Item.{Item}
 use Rattle.otlp_types.specs.declared.arrival.Item.TheVariants.{Span, Tick, End}
-use Rattle.trace_buffer.specs.Buffer.{Episode, append_first, with_span, episode_of, after_opening, opening_episode, leaves, evicted_as}
+use Rattle.trace_buffer.specs.Buffer.{Episode, Buffer, append_first, with_span, episode_of, after_opening, opening_episode, leaves, evicted_as}
+use Rattle.trace_buffer.specs.declared.episode.Evicted.{Evicted}
 use Rattle.decision_cache.specs.Lists.{CacheLists, TraceList, is_held, is_held_in_either, asked, after_asking, after_put, list_after_put, puts, renews, PutAs, Remembers}
-use Rattle.decision_cache.specs.Touches.{Touch, last_touched, StandsFor, touched_by, is_lost}
+use Rattle.decision_cache.specs.Touches.{Touch, last_touched, StandsFor, ListStandsFor, HeldAsTouched, touched_by, is_lost}
 use Rattle.decision_cache.specs.declared.traces.Remembered.{Remembered}
 use Rattle.decision_cache.specs.declared.traces.Remembered.TheVariants.{Kept, Off}
 use Rattle.decision_cache.proofs.Laws.{same-eq, same-sym}
 use Rattle.decision_cache.proofs.Stands.{stands-put, stands-asked}
-use Rattle.shard_core.specs.Journal.{Entry, Settings, Journal, Opening, Decision, Notes, Finding, joins, meets, opens, clock, finding, notes, in_buffer, is_in_buffer, last_of, leaving, decided_as, latest_episode, spans_since, item_spans, is_of_trace, ids_have_trace, askings_made, after_item, after_span, after_finding, touch, touch_of_leaving, touch_of_leaving_decided}
-use Rattle.shard_core.specs.Standing.{Standing, episode, episodes, cache, spans_left, mark, ends}
+use Rattle.shard_core.specs.Journal.{Entry, Settings, Journal, Opening, Decision, Notes, Finding, joins, meets, opens, clock, has_ended, finding, notes, notes_dealt, in_buffer, is_in_buffer, last_of, leaving, decided_as, latest_episode, cache_size, due_now, spans_since, item_spans, is_of_trace, ids_have_trace, askings_made, after_item, after_span, after_finding, touch, touch_of_leaving, touch_of_leaving_decided}
+use Rattle.shard_core.specs.Standing.{Standing, standing, episode, episodes, cache, spans_left, mark, mark_at, ends}
 use Rattle.rate_budget.specs.Budget.{limiter_counts}
 use Rattle.shard_core.specs.Keeping.{caches, with_caches, buffer, after_leaving_decided, after_leaving, after_opening_in, after_unknown, after_known, after_episode, after_span_of, after_span_in, after_entry, KeepsStanding}
 use Rattle.shard_core.specs.Laws.{state_cached, state_found}
-use Rattle.shard_core.specs.Taking.{has_ids}
-use Rattle.shard_core.proofs.ListFacts.{Each, Each-all, Each-weaker, Each-reverse, Each-left, Pairs, Pairs-reverse, Split}
-use Rattle.shard_core.proofs.Find.{found, not_found, find_none, find_front, any_split}
+use Rattle.shard_core.specs.Taking.{has_ids, evicted_of}
+use Rattle.shard_core.proofs.ListFacts.{Each, Each-append, Each-all, Each-weaker, Each-reverse, Each-left, Pairs, Pairs-reverse, Split}
+use Rattle.shard_core.proofs.Find.{Found, found, not_found, find_none, find_front, any_split}
 use Rattle.shard_core.proofs.Notes.{HasRoom, Sound, buffer_front, same_refl, spans_more, spans_before}
 use Rattle.shard_core.proofs.Sound.{sound_notes}
-use Rattle.shard_core.proofs.Remembering.{Remembering, OtherTrace, in_cache, remembering_notes, meets_latest, behind_buffer}
+use Rattle.shard_core.proofs.Remembering.{Remembering, Outside, OtherTrace, in_cache, LastWith, remembering_notes, meets_latest, behind_buffer}
 use Rattle.shard_core.proofs.FoundAsHeld.{find_reversed, find_episode, all_dealt, found_past, found_here}
 use Rattle.shard_core.proofs.Due.{ends-span, ends-tick, ends-end}
 
@@ -64,7 +65,7 @@ episode_decided later past noted o v d = rw d refl
 
 -- ---- a standing by its parts
 
-abbrev standing_by : Settings → Journal → Notes → Standing
+abbrev pub standing_by : Settings → Journal → Notes → Standing
 standing_by s past noted = record {
   episodes = episodes s past noted;
   sampled = cache s noted Sampled;
@@ -149,7 +150,7 @@ buffered_not_cached s noted n w p k v true e =
 
 -- ---- what the caches become
 
-sizes_asked : (t : TraceId) (c : CacheLists) → ((after_asking t c).sampled.size ≡ c.sampled.size) × ((after_asking t c).not_sampled.size ≡ c.not_sampled.size)
+pub sizes_asked : (t : TraceId) (c : CacheLists) → ((after_asking t c).sampled.size ≡ c.sampled.size) × ((after_asking t c).not_sampled.size ≡ c.not_sampled.size)
 sizes_asked t c = go (is_held t c.sampled.traces)
   where
     go : (b : Bool) → let x = cond b (record c { sampled = renews t c.sampled }) (record c { not_sampled = renews t c.not_sampled }) in (x.sampled.size ≡ c.sampled.size) × (x.not_sampled.size ≡ c.not_sampled.size)
@@ -176,7 +177,7 @@ sizes_put t NotSampled c = (refl, size_put t c.not_sampled (c.not_sampled.size =
 -- ---- a span of this trace
 
 -- the caches' answer, by how the trace stands in them
-state_asked : (t : TraceId) (c : CacheLists) → state_cached c.sampled.traces c.not_sampled.traces t ≡ option_map (λ (v : Verdict). Some v) (asked t c)
+pub state_asked : (t : TraceId) (c : CacheLists) → state_cached c.sampled.traces c.not_sampled.traces t ≡ option_map (λ (v : Verdict). Some v) (asked t c)
 state_asked t c = go (is_held t c.sampled.traces) (is_held t c.not_sampled.traces)
   where
     go : (a b : Bool) → cond a (Some (Some Sampled)) (cond b (Some (Some NotSampled)) None) ≡ option_map (λ (v : Verdict). Some v) (cond a (Some Sampled) (cond b (Some NotSampled) None))
@@ -252,19 +253,19 @@ module _ (s : Settings) (m : ℕ) (lim : s.limit ≡ Some (suc m)) (past : Journ
   appended lost o d [] l h e = absurd (cc e)
   appended lost o d (x ∷ os) l h e = (elim (same_trace x.trace t) as (λ b. same_trace x.trace t ≡ b → cond b (Some x) (find (λ (x : Opening). same_trace x.trace t) os) ≡ Some o →
       map (episode (entry_of false lost ∷ past) noted) (x ∷ os) ≡ cond b (with_span a (episode past noted x) ∷ map (episode past noted) os) (episode past noted x ∷ append_first t a (map (episode past noted) os))) [
-        | true ↦ λ k e.
-            let is : x ≡ o = cc e in
-            let undecided : decided_as noted x.at ≡ None = ap (λ (z : Opening). decided_as noted z.at) is ∙ d in
-            let spans = spans_own a ids lost past x i (let b : x.at < length past = l.0 in omega (arith, b)) k in
-            let first : episode (entry_of false lost ∷ past) noted x ≡ with_span a (episode past noted x) = rw (undecided, spans) refl in
-            let rest = others_same lost noted refl os (Each-weaker (λ (y : Opening). same_trace x.trace y.trace ≡ false) (λ (y : Opening). same_trace y.trace t ≡ false) os
-            (λ y f. same-sym y.trace t ∙ ap (λ (z : TraceId). same_trace z y.trace) (sym (same-eq x.trace t k)) ∙ f) h.0) in
-            cc (first, rest)
-        | false ↦ λ k e.
-            let first = episode_same (entry_of false lost ∷ past) past noted x (spans_same a ids false lost past x i (ap (λ b. b && true) k)) in
-            let rest = appended lost o d os l.1 h.1 e in
-            cc (first, rest)
-      ]) refl e
+    | true ↦ λ k e.
+        let is : x ≡ o = cc e in
+        let undecided : decided_as noted x.at ≡ None = ap (λ (z : Opening). decided_as noted z.at) is ∙ d in
+        let spans = spans_own a ids lost past x i (let b : x.at < length past = l.0 in omega (arith, b)) k in
+        let first : episode (entry_of false lost ∷ past) noted x ≡ with_span a (episode past noted x) = rw (undecided, spans) refl in
+        let rest = others_same lost noted refl os (Each-weaker (λ (y : Opening). same_trace x.trace y.trace ≡ false) (λ (y : Opening). same_trace y.trace t ≡ false) os
+        (λ y f. same-sym y.trace t ∙ ap (λ (z : TraceId). same_trace z y.trace) (sym (same-eq x.trace t k)) ∙ f) h.0) in
+        cc (first, rest)
+    | false ↦ λ k e.
+        let first = episode_same (entry_of false lost ∷ past) past noted x (spans_same a ids false lost past x i (ap (λ b. b && true) k)) in
+        let rest = appended lost o d os l.1 h.1 e in
+        cc (first, rest)
+  ]) refl e
 
   -- a span that is late for a decided episode of the buffer changes none
   late_same : (lost : Bool) (o : Opening) (v : Verdict) → decided_as noted o.at ≡ Some v → (os : List Opening) → Pairs (λ older newer. same_trace older.trace newer.trace ≡ false) os →
@@ -272,17 +273,17 @@ module _ (s : Settings) (m : ℕ) (lim : s.limit ≡ Some (suc m)) (past : Journ
   late_same lost o v d [] h e = absurd (cc e)
   late_same lost o v d (x ∷ os) h e = (elim (same_trace x.trace t) as (λ b. same_trace x.trace t ≡ b → cond b (Some x) (find (λ (x : Opening). same_trace x.trace t) os) ≡ Some o →
       map (episode (entry_of false lost ∷ past) noted) (x ∷ os) ≡ map (episode past noted) (x ∷ os)) [
-        | true ↦ λ k e.
-            let is : x ≡ o = cc e in
-            let first = episode_decided (entry_of false lost ∷ past) past noted x v (ap (λ (z : Opening). decided_as noted z.at) is ∙ d) in
-            let rest = others_same lost noted refl os (Each-weaker (λ (y : Opening). same_trace x.trace y.trace ≡ false) (λ (y : Opening). same_trace y.trace t ≡ false) os
-            (λ y f. same-sym y.trace t ∙ ap (λ (z : TraceId). same_trace z y.trace) (sym (same-eq x.trace t k)) ∙ f) h.0) in
-            cc (first, rest)
-        | false ↦ λ k e.
-            let first = episode_same (entry_of false lost ∷ past) past noted x (spans_same a ids false lost past x i (ap (λ b. b && true) k)) in
-            let rest = late_same lost o v d os h.1 e in
-            cc (first, rest)
-      ]) refl e
+    | true ↦ λ k e.
+        let is : x ≡ o = cc e in
+        let first = episode_decided (entry_of false lost ∷ past) past noted x v (ap (λ (z : Opening). decided_as noted z.at) is ∙ d) in
+        let rest = others_same lost noted refl os (Each-weaker (λ (y : Opening). same_trace x.trace y.trace ≡ false) (λ (y : Opening). same_trace y.trace t ≡ false) os
+        (λ y f. same-sym y.trace t ∙ ap (λ (z : TraceId). same_trace z y.trace) (sym (same-eq x.trace t k)) ∙ f) h.0) in
+        cc (first, rest)
+    | false ↦ λ k e.
+        let first = episode_same (entry_of false lost ∷ past) past noted x (spans_same a ids false lost past x i (ap (λ b. b && true) k)) in
+        let rest = late_same lost o v d os h.1 e in
+        cc (first, rest)
+  ]) refl e
 
   front_below : Each (λ (o : Opening). o.at < length past) front
   front_below = Each-reverse (λ (o : Opening). o.at < length past) (in_buffer s noted) below
@@ -406,6 +407,10 @@ module _ (s : Settings) (m : ℕ) (lim : s.limit ≡ Some (suc m)) (past : Journ
       let full : length (episode past noted p ∷ stay) ≡ suc m = ap suc (stay_length ∙ taken_full m noted.openings p e) in
       ap (λ (es : List Episode). cond (length es == suc m) (option_map evicted_as (slice_get es 0)) None) es
       ∙ ap (λ b. cond b (Some (evicted_as (episode past noted p))) None) (eq-eqb (length (episode past noted p ∷ stay)) (suc m) full)
+
+  -- what leaves the buffer is the oldest opening's episode, if the buffer is full
+  pub leaves_held : leaves (buffer (suc m) held) ≡ option_map (evicted_of past noted) (leaving s.limit noted.openings)
+  leaves_held = leaves_is (slice_get noted.openings m) refl ∙ ap (option_map (evicted_of past noted)) (sym leaving_is)
 
   -- the caches after the touches that an opening made
   abbrev caches_of : Notes → CacheLists

@@ -1,25 +1,42 @@
 -- What a caller sees of a shard, and when it stands for a journal.
-use Rattle.std.specs.Prelude.{ℕ, ◌+◌, ◌≡◌, Bool, ◌&&◌, ◌||◌, nat_le, is_none, List, length, None}
+use Rattle.std.specs.Prelude.{ℕ, ◌+◌, ◌≡◌, Bool, ◌&&◌, ◌||◌, nat_le, is_none, List, if◌then◌else◌, length, Some}
 use Rattle.std.specs.List.{list_any, list_all}
 use Rattle.shard_core.specs.Journal.{Settings, Journal, StoppedInTime}
 use Rattle.trace_buffer.specs.Buffer.{Episode}
 use Rattle.shard_core.specs.Standing.{Standing, standing}
+use Rattle.trace_buffer.specs.Buffer.{Buffer}
+use Rattle.decision_cache.specs.Lists.{CacheLists}
+use Rattle.rate_budget.specs.declared.count.LimiterCount.{LimiterCount}
 use Rattle.policy_tree.specs.Meaning.{meaning}
 use Rattle.policy_tree.specs.declared.policy.Policy.{Policy}
 
--- the policies and the wait that a shard was made with, and what it holds
+-- what a shard was made with, and what it holds: the limit is on the traces of the buffer, a cache of size 0 is off
 pub record Held : Type 0 where
   pub policies : List Policy
   pub wait : ℕ
+  pub limit : ℕ
+  pub sampled_size : ℕ
+  pub non_sampled_size : ℕ
   pub standing : Standing
 
--- the settings of a shard with no limit and no caches
-abbrev pub settings_of : List Policy → (wait senders : ℕ) → Settings
-settings_of policies wait senders = record { policies = meaning policies; wait = wait; limit = None; sampled_size = 0; non_sampled_size = 0; senders = senders }
+-- a shard by its parts
+abbrev pub held_of : List Policy → (wait : ℕ) → Buffer → CacheLists → List LimiterCount → (clock mark : ℕ) → List Bool → Held
+held_of policies wait b c counts clock mark ends = record {
+  policies = policies;
+  wait = wait;
+  limit = b.limit;
+  sampled_size = c.sampled.size;
+  non_sampled_size = c.not_sampled.size;
+  standing = record { episodes = b.episodes; sampled = c.sampled.traces; non_sampled = c.not_sampled.traces; limiter_counts = counts; clock = clock; mark = mark; ends = ends };
+}
+
+-- the settings of a shard
+abbrev pub settings_of : List Policy → (wait limit sampled_size non_sampled_size senders : ℕ) → Settings
+settings_of policies wait limit sampled_size non_sampled_size senders = record { policies = meaning policies; wait = wait; limit = Some limit; sampled_size = sampled_size; non_sampled_size = non_sampled_size; senders = senders }
 
 -- the settings that a shard was made with
 abbrev pub settings : Held → Settings
-settings h = settings_of h.policies h.wait (length h.standing.ends)
+settings h = settings_of h.policies h.wait h.limit h.sampled_size h.non_sampled_size (length h.standing.ends)
 
 -- every sender has ended
 abbrev pub is_finished : Held → Bool
@@ -36,6 +53,10 @@ is_due_in h e = is_due_by (is_finished h) h.standing.mark h.wait e
 -- some episode of the shard is due
 abbrev pub has_due : Held → Bool
 has_due h = list_any (is_due_in h) h.standing.episodes
+
+-- the moment by which, and the wait after which an undecided episode is due: at the end each is
+abbrev pub due_by : Held → ℕ × ℕ
+due_by h = if is_finished h then (h.standing.clock, 0) else (h.standing.mark, h.wait)
 
 -- the shard stands for the journal, where of the decisions at its last item the first `dealt` were dealt with
 abbrev pub StandsFor : Held → Journal → (dealt : ℕ) → Type 0

@@ -6,3 +6,5 @@ pub mod Taking
 pub mod Holding
 pub mod Laws
 pub mod Keeping
+pub mod Forgotten
+pub mod Deciding

@@ -1,6 +1,11 @@
 -- What `take` and `decide` answer.
-use Rattle.std.specs.Prelude.{ℕ, ◌+◌, ◌≡◌, max, Bool, true, false, not, ◌||◌, is_none, is_some, if◌then◌else◌, List, [], ◌∷◌, length, drop, filter, slice_set, Option, Some, None}
-use Rattle.shard_core.specs.Journal.{Settings, Journal, Finding, joins, meets, opens, Decision, notes, finding, has_finished, decisions_now, item_moment}
+use Rattle.std.specs.Prelude.{ℕ, ◌+◌, ◌≡◌, ◌==◌, nat_lt, max, Bool, true, false, not, ◌&&◌, ◌||◌, is_none, is_some, if◌then◌else◌, List, [], ◌∷◌, length, drop, filter, slice_set, Option, Some, None, option_map, option_and_then}
+use Rattle.shard_core.specs.Journal.{Settings, Journal, Opening, Notes, Finding, joins, meets, opens, Decision, notes, finding, leaving, decided_as, cache_size, has_finished, decisions_now, item_moment}
+use Rattle.shard_core.specs.Standing.{episode}
+use Rattle.trace_buffer.specs.Buffer.{evicted_as}
+use Rattle.trace_buffer.specs.declared.episode.Evicted.{Evicted}
+use Rattle.decision_cache.specs.declared.traces.Remembered.{Remembered}
+use Rattle.decision_cache.specs.declared.traces.Remembered.TheVariants.{Kept as InCache, Off, Lost}
 use Rattle.shard_core.specs.Fate.{Fate, waits, is_released, is_counted, fate, is_same_reason}
 use Rattle.otlp_types.specs.declared.span.Ids.{Ids}
 use Rattle.otlp_types.specs.declared.arrival.Arrival.{Arrival}
@@ -10,7 +15,7 @@ use Rattle.shard_core.specs.Journal.{Entry}
 use Rattle.span_ids.specs.declared.outcome.Verdict.{Verdict}
 use Rattle.span_ids.specs.declared.outcome.Verdict.TheVariants.{Sampled, NotSampled}
 use Rattle.span_ids.specs.declared.outcome.Reason.{Reason}
-use Rattle.span_ids.specs.declared.outcome.Reason.TheVariants.{NoMemory, LateNotSampled, NotSampled as NotSampledReason}
+use Rattle.span_ids.specs.declared.outcome.Reason.TheVariants.{NoMemory, LateNotSampled, NotSampled as NotSampledReason, Evicted as EvictedReason}
 use Rattle.shard_core.specs.Held.{Held, settings, StandsFor}
 use Rattle.shard_core.specs.declared.answer.Taken.{Taken}
 use Rattle.shard_core.specs.declared.answer.Taken.TheVariants.{Kept, Late, Dropped, Ticked, Ended, Finished}
@@ -24,30 +29,48 @@ abbrev pub is_refusal : Taken → Bool
 is_refusal (Dropped NoMemory) = true
 is_refusal _ = false
 
+-- memory was refused to the put of the decision that the opening evicted
+abbrev pub is_loss : Taken → Bool
+is_loss (Kept evicted (Some Lost)) = true
+is_loss _ = false
+
 -- the item as the shard's answer marks it
 abbrev pub entry : Item → Taken → Entry
-entry item answer = record { item = item; refused = is_refusal answer; lost = false }
+entry item answer = record { item = item; refused = is_refusal answer; lost = is_loss answer }
 
 -- the answer to a late span, by the verdict that it meets
 abbrev pub answer_to_late : Arrival → Verdict → Taken
 answer_to_late a Sampled = Late a
 answer_to_late a NotSampled = Dropped LateNotSampled
 
+-- what is told of the episode that leaves: its trace, how many spans it still holds, and its verdict
+abbrev pub evicted_of : (before : Journal) → Notes → Opening → Evicted
+evicted_of before noted o = evicted_as (episode before noted o)
+
+-- what became of a put, by the size of the cache
+abbrev pub put_in : (lost : Bool) → (size : ℕ) → Remembered
+put_in lost size = if lost then Lost else if size == 0 then Off else InCache
+
+-- what became of the verdict of the episode that left, if it was decided
+abbrev pub put_answer : Settings → (lost : Bool) → Option Evicted → Option Remembered
+put_answer s lost None = None
+put_answer s lost (Some e) = option_map (λ v. put_in lost (cache_size s v)) e.verdict
+
 -- the answer to a span, not refused, by what it finds
-abbrev pub answer_to_finding : Arrival → Finding → Taken
-answer_to_finding a (meets o v) = answer_to_late a v
-answer_to_finding a (joins o) = Kept
-answer_to_finding a opens = Kept
+abbrev pub answer_to_finding : Settings → (lost : Bool) → (before : Journal) → Notes → Arrival → Finding → Taken
+answer_to_finding s lost before noted a (meets o v) = answer_to_late a v
+answer_to_finding s lost before noted a (joins o) = Kept None None
+answer_to_finding s lost before noted a opens = let left = option_map (evicted_of before noted) (leaving s.limit noted.openings) in Kept left (put_answer s lost left)
 
 -- the answer to a span with these ids
-abbrev pub answer_to_ids : Settings → (refused : Bool) → Journal → Arrival → Option Ids → Taken
-answer_to_ids s refused before a None = Kept
-answer_to_ids s true before a (Some ids) = Dropped NoMemory
-answer_to_ids s false before a (Some ids) = answer_to_finding a (finding s (notes s before) ids.trace)
+abbrev pub answer_to_ids : Settings → (refused lost : Bool) → Journal → Arrival → Option Ids → Taken
+answer_to_ids s refused lost before a None = Kept None None
+answer_to_ids s true lost before a (Some ids) = Dropped NoMemory
+answer_to_ids s false lost before a (Some ids) = answer_to_finding s lost before (notes s before) a (finding s (notes s before) ids.trace)
 
 -- the answer to an item
 abbrev pub answer_to_item : Settings → Entry → (before : Journal) → Item → Taken
-answer_to_item s e before (Span a) = answer_to_ids s e.refused before a a.rec.span.ids
+answer_to_item s e before (Span a) = answer_to_ids s e.refused e.lost before a a.rec.span.ids
 answer_to_item s e before (Tick m) = Ticked
 answer_to_item s e before (End sender) = if has_finished s e before then Finished else Ended
 
@@ -61,20 +84,35 @@ refusal_applies (joins o) = true
 refusal_applies (meets o v) = false
 refusal_applies opens = true
 
--- the span with these ids may be refused
-abbrev pub marks_apply_to_ids : Settings → (before : Journal) → Option Ids → Bool
-marks_apply_to_ids s before None = false
-marks_apply_to_ids s before (Some ids) = refusal_applies (finding s (notes s before) ids.trace)
+-- a decided episode is put into a cache that isn't off
+abbrev pub cache_is_on : Settings → Option Verdict → Bool
+cache_is_on s None = false
+cache_is_on s (Some v) = nat_lt 0 (cache_size s v)
 
--- the item may be refused
-abbrev pub marks_apply_to : Settings → (before : Journal) → Item → Bool
-marks_apply_to s before (Span a) = marks_apply_to_ids s before a.rec.span.ids
-marks_apply_to s before (Tick m) = false
-marks_apply_to s before (End sender) = false
+-- a loss is of the put of a decided episode, evicted by an opening, whose cache isn't off
+abbrev pub loss_applies : Settings → Notes → Finding → Bool
+loss_applies s noted (joins o) = false
+loss_applies s noted (meets o v) = false
+loss_applies s noted opens = cache_is_on s (option_and_then (λ (o : Opening). decided_as noted o.at) (leaving s.limit noted.openings))
 
--- memory is refused at most to an append or an opening
+-- the marks are such as can apply to a span that finds this
+abbrev pub marks_apply_to : Settings → Notes → (refused lost : Bool) → Finding → Bool
+marks_apply_to s noted refused lost f = (not refused || refusal_applies f) && (not lost || (not refused && loss_applies s noted f))
+
+-- the marks are such as can apply to a span with these ids
+abbrev pub marks_apply_to_ids : Settings → (before : Journal) → (refused lost : Bool) → Option Ids → Bool
+marks_apply_to_ids s before refused lost None = false
+marks_apply_to_ids s before refused lost (Some ids) = marks_apply_to s (notes s before) refused lost (finding s (notes s before) ids.trace)
+
+-- the marks are such as can apply to the item
+abbrev pub marks_apply_to_item : Settings → (before : Journal) → (refused lost : Bool) → Item → Bool
+marks_apply_to_item s before refused lost (Span a) = marks_apply_to_ids s before refused lost a.rec.span.ids
+marks_apply_to_item s before refused lost (Tick m) = not refused && not lost
+marks_apply_to_item s before refused lost (End sender) = not refused && not lost
+
+-- memory is refused at most to an append or an opening, or to the put of a decision that an opening evicted
 abbrev pub marks_apply : Settings → Entry → (before : Journal) → Bool
-marks_apply s e before = not e.refused || marks_apply_to s before e.item
+marks_apply s e before = marks_apply_to_item s before e.refused e.lost e.item
 
 -- a span that a shard is handed has valid ids
 abbrev pub has_ids : Item → Bool
@@ -119,9 +157,15 @@ abbrev pub released_by : Taken → List Arrival
 released_by (Late a) = a ∷ []
 released_by _ = []
 
+-- how many spans left with an evicted episode
+abbrev pub spans_left_by : Option Evicted → ℕ
+spans_left_by None = 0
+spans_left_by (Some e) = e.spans
+
 -- how many spans an answer counts under a reason
 abbrev pub dropped_by : Reason → Taken → ℕ
 dropped_by reason (Dropped r) = if is_same_reason r reason then 1 else 0
+dropped_by reason (Kept evicted cache) = if is_same_reason EvictedReason reason then spans_left_by evicted else 0
 dropped_by reason _ = 0
 
 -- ---- what `decide` answers

@@ -1,11 +1,19 @@
+use decision_cache::Remembered;
 use otlp_types::Arrival;
 use span_ids::Reason;
+use trace_buffer::Evicted;
 
 /// What a shard did with an item.
 #[derive(Debug, Drop)]
 pub enum Taken {
-    /// The span waits for its trace's decision. (With a limit on the number of traces this will tell which trace left.)
-    Kept,
+    /// The span waits for its trace's decision.
+    Kept {
+        /// The episode that left a full buffer when this span opened one. Where it was undecided, its spans are counted
+        /// under `Evicted`.
+        evicted: Option<Evicted>,
+        /// What became of the verdict of the episode that left, if it was decided.
+        cache: Option<Remembered>,
+    },
     /// The span is late, and its trace was decided as sampled: it goes on at once.
     Late(Arrival),
     /// The span is counted under this reason: `LateNotSampled` where its trace was decided as not sampled,

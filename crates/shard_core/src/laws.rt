@@ -1,6 +1,7 @@
 //! What holds of every journal. Each function does nothing: its contract is the law.
 
-ghost use Rattle.shard_core.specs.Keeping.{DecidesStanding, KeepsStanding};
+ghost use Rattle.shard_core.specs.Deciding.{DecidesStanding};
+ghost use Rattle.shard_core.specs.Keeping.{KeepsStanding};
 ghost use Rattle.shard_core.specs.Laws.{FoundAsHeld};
 
 /// What a shard holds tells what a span finds: its trace's episode in the buffer, else the caches of decisions, answer

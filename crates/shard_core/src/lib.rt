@@ -3,12 +3,13 @@
 //!
 //! What a shard answers is a function of the list of items that it has taken, its journal, and of where memory was
 //! refused. No journal is stored: each clause speaks of every journal that the shard stands for.
-//! There is no limit on the number of traces and no cache of decisions yet: a decided trace is remembered for good.
+//! The buffer holds so many traces at most; the verdict of a decided trace that leaves it goes into a cache of decisions.
 #![tactic(auto)]
 
 mod answer;
-mod episode;
 pub mod laws;
+#[cfg(test)]
+mod looking_back;
 mod shard;
 #[cfg(test)]
 mod tests;

@@ -3,85 +3,92 @@ ghost use Rattle.span_ids.specs.declared.outcome.Reason.{Reason};
 ghost use Rattle.span_ids.specs.Same.{same_trace};
 ghost use Rattle.shard_core.specs.Journal.{Journal};
 ghost use Rattle.shard_core.specs.Fate.{effect, effect_dealt, output, released_dealt, dropped_dealt};
-ghost use Rattle.shard_core.specs.Taking.{Releases};
+ghost use Rattle.shard_core.specs.Taking.{Releases, answer_to_late};
+ghost use Rattle.shard_core.specs.Holding.{KeepsAs, leaves_forgotten};
 
 use crate::answer::{Decided, Taken};
-use crate::episode::Episode;
+use decision_cache::DecisionCache;
 use otlp_types::{Arrival, Ids, Item};
 use policy_eval::evaluate;
 use policy_tree::Policies;
 use rate_budget::Budgets;
-use span_ids::{Moment, Reason, TraceId, Verdict};
+use span_ids::{Moment, Reason, Verdict};
 use std::alloc::{AllocError, Global};
 use std::marker::Model;
+use trace_buffer::{Evicted, State, TraceBuffer};
 
 /// A shard.
 ///
 /// Its clock is the greatest moment of the spans and ticks that it has taken, 0 at first. Its mark is the clock at the
 /// last tick. A caller hands it an item by `take`, then calls `decide` until the answer is `Nothing`, and so on until
 /// `take` answers `Finished` and the last traces are decided.
-#[derive(Debug, Drop)]
+#[derive(Drop)]
 pub struct Shard {
-    alloc: Global,
     policies: Policies,
     wait: Moment,
+    buffer: TraceBuffer,
+    cache: DecisionCache,
     budgets: Budgets,
-    episodes: Vec<Episode>,
     clock: Moment,
     mark: Moment,
     ends: Vec<bool>,
 }
 
 impl Model for Shard {
-    ghost use Rattle.std.specs.Prelude.{[], ◌<◌};
-    ghost use Rattle.shard_core.specs.Held.{Held};
+    ghost use Rattle.std.specs.Prelude.{◌<◌, ◌≡◌, map, true};
+    ghost use Rattle.shard_core.specs.Held.{Held, held_of};
+    ghost use Rattle.shard_core.specs.Forgotten.{traces, AreForgotten};
+    ghost use Rattle.trace_buffer.specs.Buffer.{opened_by};
     ghost use Rattle.std.specs.Coded.{codes};
     ghost use Rattle.otlp_types.specs.contracts.value.AnyValue as any_value;
     ghost use Rattle.policy_tree.specs.contracts.policy.PolicyKind as kind;
+    ghost use Rattle.policy_tree.specs.Tree.{limiters};
+    ghost use Rattle.policy_tree.specs.Meaning.{meaning};
+    ghost use Rattle.rate_budget.specs.Budget.{limiter_of};
 
     ghost Value = { Held };
 
     ghost coded = { Prim.hlevel (codes, any_value.the_row.coded, kind.the_row.coded) };
 
-    ghost view = { λ s. record { policies = s.policies; wait = s.wait; standing = record { episodes = s.episodes.items; sampled = []; non_sampled = []; limiter_counts = s.budgets; clock = s.clock; mark = s.mark; ends = s.ends.items } } };
+    ghost view = { λ s. held_of s.policies s.wait s.buffer s.cache s.budgets s.clock s.mark s.ends.items };
 
-    ghost use Rattle.std.specs.Prelude.{◌≡◌, map};
-    ghost use Rattle.policy_tree.specs.Tree.{limiters};
-    ghost use Rattle.policy_tree.specs.Meaning.{meaning};
-    ghost use Rattle.rate_budget.specs.Budget.{limiter_of};
-
-    ghost invariant = { λ s. (0 < s.wait) × (map limiter_of s.budgets ≡ limiters (meaning s.policies)) };
+    ghost invariant = { λ s. (0 < s.wait) × (0 < s.buffer.limit) × (map limiter_of s.budgets ≡ limiters (meaning s.policies)) × (opened_by s.clock s.buffer.episodes ≡ true) × AreForgotten (traces s.buffer.episodes) s.cache };
 }
 
 impl Shard {
-    ghost use Rattle.shard_core.specs.Held.{StandsFor, has_due, is_finished, settings, settings_of, is_due_in};
+    ghost use Rattle.shard_core.specs.Held.{StandsFor, has_due, is_finished, due_by, settings, settings_of};
     ghost use Rattle.shard_core.specs.Taking.{entry, ends_after, answer_to, marks_apply, has_ids, is_refusal, only_clock, TellsFate, is_last, released_by, dropped_by, Decides, waiting, released_in, dropped_in, dealt_after};
-    ghost use Rattle.shard_core.specs.Holding.{first_due, held_after_tick, held_after_end, TakesSpan, Opens, Joins, SettlesAt};
+    ghost use Rattle.shard_core.specs.Holding.{held_after_tick, held_after_end, TakesSpan};
 
-    /// A shard that has taken nothing. `wait` is how long a trace waits for its decision, in milliseconds; senders
-    /// have the numbers below `senders`.
+    /// A shard that has taken nothing. `wait` is how long a trace waits for its decision, in milliseconds; `limit` is on
+    /// the number of traces in the buffer; the caches have room for so many traces decided as `sampled` and as
+    /// `non_sampled`, where 0 is off. Senders have the numbers below `senders`.
     pub fn new(
         alloc: Global,
         policies: Policies,
         wait: Moment,
+        limit: usize,
+        sampled: usize,
+        non_sampled: usize,
         senders: usize,
     ) -> Result<Shard, AllocError>
         requires waits { 0 < wait }
+        requires keeps_a_trace { 0 < limit }
         requires has_senders { 0 < senders }
         ensures stands { IfOk result (λ shard. StandsFor shard [] 0) }
         ensures policies { IfOk result (λ shard. shard.policies ≡ policies) }
-        ensures settings { IfOk result (λ shard. settings shard ≡ settings_of policies wait senders) }
+        ensures settings { IfOk result (λ shard. settings shard ≡ settings_of policies wait limit sampled non_sampled senders) }
         ensures nothing_due { IfOk result (λ shard. has_due shard ≡ false) }
         ensures running { IfOk result (λ shard. is_finished shard ≡ false) }
         ensures ends { IfOk result (λ shard. shard.standing.ends ≡ replicate senders false) }
     {
         let budgets = Budgets::new(alloc, &policies)?;
         Ok(Shard {
-            alloc,
             policies,
             wait,
+            buffer: TraceBuffer::new(alloc, limit)?,
+            cache: DecisionCache::new(alloc, sampled, non_sampled)?,
             budgets,
-            episodes: Vec::new(alloc),
             clock: 0,
             mark: 0,
             ends: vec![in alloc; false; senders]?,
@@ -92,12 +99,19 @@ impl Shard {
     pub fn has_due(&self) -> bool
         ensures { result ≡ has_due self.now }
     {
-        let all_ended = self.finished();
-        let mark = self.mark;
-        let wait = self.wait;
-        self.episodes
-            .iter()
-            .any(|episode| episode.is_due(all_ended, mark, wait))
+        let (mark, wait) = self.due_by();
+        self.buffer.next_due(mark, wait).is_some()
+    }
+
+    /// The mark by which, and the wait after which a trace is due: once all senders have ended, each is.
+    fn due_by(&self) -> (Moment, Moment)
+        ensures { result ≡ due_by self.now }
+    {
+        if self.finished() {
+            (self.clock, 0)
+        } else {
+            (self.mark, self.wait)
+        }
     }
 
     /// Whether every sender has ended.
@@ -109,7 +123,8 @@ impl Shard {
 
     /// Takes an item. A span has valid ids. An `End` taken before, or of no sender, changes nothing.
     ///
-    /// Memory is taken only to keep a span. A refusal changes the clock alone.
+    /// Memory is taken only to keep a span, and to remember the verdict of an episode that leaves. A span that is refused
+    /// changes the clock alone; a verdict that is lost changes nothing else.
     pub fn take(&mut self, item: Item) -> Taken
         requires nothing_due { has_due self.old ≡ false }
         requires running { is_finished self.old ≡ false }
@@ -126,7 +141,7 @@ impl Shard {
         ensures policies { self.new.policies ≡ self.old.policies }
         ensures settings { settings self.new ≡ settings self.old }
     {
-        let _ = &self.alloc;
+        let _ = &self.policies;
         match item {
             Item::Span(arrival) => self.take_span(arrival),
             Item::Tick(moment) => self.take_tick(moment),
@@ -140,37 +155,26 @@ impl Shard {
     {
         self.clock = arrival.moment.max(self.clock);
         let trace = ids_of(&arrival).unwrap().trace;
-        match self.find(trace) {
-            None => self.open(trace, arrival),
-            Some(i) => self.join(i, arrival),
+        match self.buffer.find(trace) {
+            Some(State::Undecided) => {
+                return match self.buffer.append(arrival) {
+                    Ok(()) => Taken::Kept {
+                        evicted: None,
+                        cache: None,
+                    },
+                    Err(_) => Taken::Dropped(Reason::NoMemory),
+                };
+            }
+            Some(State::Decided(verdict)) => return late(arrival, verdict),
+            None => {}
         }
-    }
-
-    fn find(&self, trace: TraceId) -> Option<usize>
-        ensures { result ≡ position (λ e. same_trace e.trace trace) self.now.standing.episodes }
-    {
-        self.episodes
-            .iter()
-            .position(|episode| episode.is_of(trace))
-    }
-
-    fn open(&mut self, trace: TraceId, first: Arrival) -> Taken
-        ensures { Opens self.old trace first result self.new }
-    {
-        let Ok(episode) = Episode::open(self.alloc, trace, self.clock, first) else {
+        if let Some(verdict) = self.cache.ask(trace) {
+            return late(arrival, verdict);
+        }
+        let Ok(evicted) = self.buffer.open(arrival, self.clock) else {
             return Taken::Dropped(Reason::NoMemory);
         };
-        match self.episodes.push(episode) {
-            Ok(()) => Taken::Kept,
-            Err(_) => Taken::Dropped(Reason::NoMemory),
-        }
-    }
-
-    fn join(&mut self, i: usize, arrival: Arrival) -> Taken
-        requires { i < length self.old.standing.episodes }
-        ensures { Joins self.old i arrival result self.new }
-    {
-        self.episodes[i].take(arrival)
+        keep(&mut self.cache, evicted)
     }
 
     fn take_tick(&mut self, moment: Moment) -> Taken
@@ -211,36 +215,49 @@ impl Shard {
         ensures policies { self.new.policies ≡ self.old.policies }
         ensures settings { settings self.new ≡ settings self.old }
     {
-        let _ = &self.alloc;
-        match self.first_due() {
-            None => Decided::Nothing,
-            Some(i) => self.settle(i),
-        }
-    }
-
-    fn first_due(&self) -> Option<usize>
-        ensures { result ≡ first_due self.now }
-    {
-        let all_ended = self.finished();
-        let mark = self.mark;
-        let wait = self.wait;
-        self.episodes
-            .iter()
-            .position(|episode| episode.is_due(all_ended, mark, wait))
-    }
-
-    fn settle(&mut self, i: usize) -> Decided
-        requires { i < length self.old.standing.episodes }
-        ensures settles { SettlesAt self.old i result self.new }
-        ensures ends { self.new.standing.ends ≡ self.old.standing.ends }
-        ensures policies { self.new.policies ≡ self.old.policies }
-        ensures wait { self.new.wait ≡ self.old.wait }
-    {
+        let (mark, wait) = self.due_by();
         let now = self.clock;
-        let episode = &mut self.episodes[i];
+        let Some(episode) = self.buffer.next_due(mark, wait) else {
+            return Decided::Nothing;
+        };
         let verdict = evaluate(&self.policies, episode.spans(), now, &mut self.budgets);
-        let spans = episode.settle(verdict);
+        let spans = self.buffer.settle(mark, wait, verdict);
         decided(verdict, spans)
+    }
+}
+
+/// What is answered to a late span, by the verdict of its trace.
+fn late(arrival: Arrival, verdict: Verdict) -> Taken
+    ensures { result ≡ answer_to_late arrival verdict }
+{
+    match verdict {
+        Verdict::Sampled => Taken::Late(arrival),
+        Verdict::NotSampled => Taken::Dropped(Reason::LateNotSampled),
+    }
+}
+
+/// What is answered to a span that opened an episode: the verdict of the episode that left is put, if one left that was
+/// decided.
+fn keep(cache: &mut DecisionCache, evicted: Option<Evicted>) -> Taken
+    requires { leaves_forgotten evicted cache.old ≡ true }
+    ensures { KeepsAs evicted cache.old result cache.new }
+{
+    let Some(left) = evicted else {
+        return Taken::Kept {
+            evicted: None,
+            cache: None,
+        };
+    };
+    let Some(verdict) = left.verdict else {
+        return Taken::Kept {
+            evicted: Some(left),
+            cache: None,
+        };
+    };
+    let put = cache.remember(left.trace, verdict);
+    Taken::Kept {
+        evicted: Some(left),
+        cache: Some(put),
     }
 }
 

@@ -27,7 +27,7 @@ fn span_item(rt: &impl Abort, alloc: Global, number: u64, moment: u64, code: i32
 }
 
 /// A span of a trace, by its number, its moment, its status code and its end in nanoseconds.
-fn span_of(
+pub fn span_of(
     rt: &impl Abort,
     alloc: Global,
     trace: &str,
@@ -94,20 +94,33 @@ fn record_of(alloc: Global, ids: Ids, code: i32, end: u64) -> Record
     }
 }
 
-/// A shard of two senders with a wait of ten seconds and one policy, on this status code or on none.
-fn shard_with(alloc: Global, code: Option<i32>) -> Result<Shard, Fail> {
-    let kind = match code {
-        None => PolicyKind::AlwaysSample,
-        Some(code) => PolicyKind::StatusCode {
+/// One policy on this status code.
+pub fn policies_on_code(alloc: Global, code: i32) -> Result<Policies, Fail> {
+    let policy = Policy {
+        name: Text::from_str(alloc, "one")?,
+        kind: PolicyKind::StatusCode {
             codes: List::from_vec(vec![in alloc; code]?),
         },
     };
+    Ok(Policies::new(alloc, vec![in alloc; policy]?)?)
+}
+
+/// One policy that samples each trace.
+fn policies_on_all(alloc: Global) -> Result<Policies, Fail> {
     let policy = Policy {
         name: Text::from_str(alloc, "one")?,
-        kind,
+        kind: PolicyKind::AlwaysSample,
     };
-    let policies = Policies::new(alloc, vec![in alloc; policy]?)?;
-    Ok(Shard::new(alloc, policies, 10_000, 2)?)
+    Ok(Policies::new(alloc, vec![in alloc; policy]?)?)
+}
+
+/// A shard of two senders with a wait of ten seconds and one policy, on this status code or on none.
+fn shard_with(alloc: Global, code: Option<i32>) -> Result<Shard, Fail> {
+    let policies = match code {
+        None => policies_on_all(alloc)?,
+        Some(code) => policies_on_code(alloc, code)?,
+    };
+    Ok(Shard::new(alloc, policies, 10_000, 100, 0, 0, 2)?)
 }
 
 /// Takes an item and decides once: the answer to the item, and how many spans were released.
@@ -117,7 +130,7 @@ fn play(rt: &impl Abort, shard: &mut Shard, item: Item) -> (&'static str, usize)
     assert!(rt; !shard.has_due());
     assert!(rt; !shard.finished());
     let taken = match shard.take(item) {
-        Taken::Kept => "kept",
+        Taken::Kept { .. } => "kept",
         Taken::Late(_) => "late",
         Taken::Dropped(_) => "dropped",
         Taken::Ticked => "ticked",
@@ -203,7 +216,7 @@ fn shard_of_slow_and_granted(alloc: Global) -> Result<Shard, Fail> {
         kind: PolicyKind::And { policies: parts },
     };
     let policies = Policies::new(alloc, vec![in alloc; policy]?)?;
-    Ok(Shard::new(alloc, policies, 10_000, 1)?)
+    Ok(Shard::new(alloc, policies, 10_000, 100, 0, 0, 1)?)
 }
 
 /// Decides once: the number of spans released, or of those that are not.

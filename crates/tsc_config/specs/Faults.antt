@@ -116,9 +116,19 @@ abbrev pub policies_fault : Data → Option ConfigFault
 policies_fault (array items) = policy_items_fault items
 policies_fault _ = Some WrongType
 
+-- the sizes of the caches of decisions are wanted
+abbrev pub cache_fault : Data → Option ConfigFault
+cache_fault (table members) =
+    least (unknown_fault table_is.DecisionCache members)
+    (least (optional (integer_fault (pos 0) (pos 1000000)) (get_member (codes "sampled_cache_size") members))
+    (optional (integer_fault (pos 0) (pos 1000000)) (get_member (codes "non_sampled_cache_size") members)))
+cache_fault _ = Some WrongType
+
 -- the rows of the whole table: a key more is a row more
 unfoldable pub table_fault : Members → Option ConfigFault
 table_fault members =
     least (unknown_fault table_is.Config members)
     (least (optional (integer_fault (pos 1) (pos 3600000)) (get_member (codes "decision_wait_ms") members))
-    (required policies_fault (get_member (codes "policies") members)))
+    (least (optional (integer_fault (pos 1) (pos 1000000)) (get_member (codes "num_traces") members))
+    (least (optional cache_fault (get_member (codes "decision_cache") members))
+    (required policies_fault (get_member (codes "policies") members)))))

@@ -9,7 +9,8 @@ use Rattle.tsc_config.specs.declared.kinds.TableKind.TheVariants as table_is
 
 -- the keys of a table of this kind
 unfoldable pub is_key : TableKind → List ℕ → Bool
-is_key table_is.Config key = bytes_eq key (codes "decision_wait_ms") || bytes_eq key (codes "policies")
+is_key table_is.Config key = bytes_eq key (codes "decision_wait_ms") || bytes_eq key (codes "num_traces") || bytes_eq key (codes "decision_cache") || bytes_eq key (codes "policies")
+is_key table_is.DecisionCache key = bytes_eq key (codes "sampled_cache_size") || bytes_eq key (codes "non_sampled_cache_size")
 is_key (table_is.Policy type_is.AlwaysSample) key = bytes_eq key (codes "name") || bytes_eq key (codes "type")
 is_key (table_is.Policy type_is.StatusCode) key = bytes_eq key (codes "name") || bytes_eq key (codes "type") || bytes_eq key (codes "status_code")
 is_key table_is.StatusCode key = bytes_eq key (codes "status_codes")

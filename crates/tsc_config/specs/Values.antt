@@ -13,15 +13,39 @@ use Rattle.tsc_config.specs.declared.config.Config.{Config}
 abbrev pub default_wait : ℕ
 default_wait = 30000
 
--- a number of milliseconds, at least 1
-abbrev pub wait_value : Data → ℕ
-wait_value (integer (pos (suc number))) = suc number
-wait_value _ = default_wait
+-- the number of traces that are kept where none is given
+abbrev pub default_traces : ℕ
+default_traces = 50000
 
--- the wait in milliseconds
-abbrev pub wait_of : Option Data → ℕ
-wait_of None = default_wait
-wait_of (Some value) = wait_value value
+-- a number that is at least 1
+abbrev pub positive_value : (default : ℕ) → Data → ℕ
+positive_value default (integer (pos (suc number))) = suc number
+positive_value default _ = default
+
+-- the number at a key, at least 1
+abbrev pub positive_of : (default : ℕ) → Option Data → ℕ
+positive_of default None = default
+positive_of default (Some value) = positive_value default value
+
+-- a size, where 0 is off
+abbrev pub size_value : Data → ℕ
+size_value (integer (pos number)) = number
+size_value _ = 0
+
+-- the size at a key
+abbrev pub size_of : Option Data → ℕ
+size_of None = 0
+size_of (Some value) = size_value value
+
+-- the size at a key of a table of sizes
+abbrev pub size_in : (key : List ℕ) → Data → ℕ
+size_in key (table members) = size_of (get_member key members)
+size_in key _ = 0
+
+-- the size at a key of the table of sizes at a key
+abbrev pub cache_size : (key : List ℕ) → Option Data → ℕ
+cache_size key None = 0
+cache_size key (Some value) = size_in key value
 
 -- the bytes of a text
 abbrev pub text_value : Data → List ℕ
@@ -99,6 +123,9 @@ policies_of (Some value) = policies_value value
 -- the configuration of a table
 abbrev pub config_of : Members → Config
 config_of members = record {
-  decision_wait = wait_of (get_member (codes "decision_wait_ms") members);
+  decision_wait = positive_of default_wait (get_member (codes "decision_wait_ms") members);
+  num_traces = positive_of default_traces (get_member (codes "num_traces") members);
+  sampled_cache_size = cache_size (codes "sampled_cache_size") (get_member (codes "decision_cache") members);
+  non_sampled_cache_size = cache_size (codes "non_sampled_cache_size") (get_member (codes "decision_cache") members);
   policies = policies_of (get_member (codes "policies") members);
 }

@@ -16,17 +16,43 @@ pub fn table_fault(table: &Table) -> Option<ConfigFault>
     ensures { result ≡ spec.table_fault (table_view table.now) }
 {
     let keys = unknown_fault(TableKind::Config, table);
-    let wait = wait_fault(table);
+    let wait = integer_at_fault(table, "decision_wait_ms", 1, 3_600_000);
+    let traces = integer_at_fault(table, "num_traces", 1, 1_000_000);
+    let cache = cache_at_fault(table);
     let policies = required_policies_fault(table);
-    least(keys, least(wait, policies))
+    least(keys, least(wait, least(traces, least(cache, policies))))
 }
 
-fn wait_fault(table: &Table) -> Option<ConfigFault>
-    ensures { result ≡ spec.optional (spec.integer_fault (pos 1) (pos 3600000)) (get_member (codes "decision_wait_ms") (table_view table.now)) }
+/// The fault of a whole number that may be missing.
+fn integer_at_fault(table: &Table, key: &str, lowest: i64, greatest: i64) -> Option<ConfigFault>
+    ensures { result ≡ spec.optional (spec.integer_fault lowest greatest) (get_member key.now (table_view table.now)) }
 {
-    match member(table, "decision_wait_ms") {
-        Some(value) => integer_fault(value, 1, 3_600_000),
+    match member(table, key) {
+        Some(value) => integer_fault(value, lowest, greatest),
         None => None,
+    }
+}
+
+fn cache_at_fault(table: &Table) -> Option<ConfigFault>
+    ensures { result ≡ spec.optional spec.cache_fault (get_member (codes "decision_cache") (table_view table.now)) }
+{
+    match member(table, "decision_cache") {
+        Some(value) => cache_fault(value),
+        None => None,
+    }
+}
+
+fn cache_fault(value: &Value) -> Option<ConfigFault>
+    ensures { result ≡ spec.cache_fault (view value.now) }
+{
+    match value {
+        Value::Table(table) => {
+            let keys = unknown_fault(TableKind::DecisionCache, table);
+            let sampled = integer_at_fault(table, "sampled_cache_size", 0, 1_000_000);
+            let non_sampled = integer_at_fault(table, "non_sampled_cache_size", 0, 1_000_000);
+            least(keys, least(sampled, non_sampled))
+        }
+        _ => Some(ConfigFault::WrongType),
     }
 }
 

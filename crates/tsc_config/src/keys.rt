@@ -22,7 +22,12 @@ fn is_key(kind: TableKind, key: &str) -> bool
     ensures { result ≡ spec.is_key kind key.now }
 {
     match kind {
-        TableKind::Config => key == "decision_wait_ms" || key == "policies",
+        TableKind::Config => key == "decision_wait_ms" || key == "num_traces"
+            || key == "decision_cache"
+            || key == "policies",
+        TableKind::DecisionCache => {
+            key == "sampled_cache_size" || key == "non_sampled_cache_size"
+        }
         TableKind::Policy(PolicyType::AlwaysSample) => key == "name" || key == "type",
         TableKind::Policy(PolicyType::StatusCode) => {
             key == "name" || key == "type" || key == "status_code"

@@ -10,6 +10,8 @@ pub enum PolicyType {
 pub enum TableKind {
     /// The whole text.
     Config,
+    /// The sizes of the caches of decisions.
+    DecisionCache,
     /// An element of `policies`.
     Policy(PolicyType),
     /// The settings of a `status_code` policy.

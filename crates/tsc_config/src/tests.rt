@@ -23,6 +23,26 @@ fn faults(rt: HostRuntime) -> Result<(), Fail> {
             "decision_wait_ms = \"1\"\npolicies = []",
             ConfigFault::WrongType,
         ),
+        ("num_traces = 0", ConfigFault::MissingKey),
+        ("num_traces = 0\npolicies = []", ConfigFault::OutOfRange),
+        (
+            "num_traces = 1000001\npolicies = []",
+            ConfigFault::OutOfRange,
+        ),
+        ("num_traces = 1.5\npolicies = []", ConfigFault::WrongType),
+        ("decision_cache = 1\npolicies = []", ConfigFault::WrongType),
+        (
+            "decision_cache = { sampled = 1 }\npolicies = []",
+            ConfigFault::UnknownKey,
+        ),
+        (
+            "decision_cache = { sampled_cache_size = 1000001 }\npolicies = []",
+            ConfigFault::OutOfRange,
+        ),
+        (
+            "decision_cache = { non_sampled_cache_size = -1 }\npolicies = []",
+            ConfigFault::OutOfRange,
+        ),
         (
             "policies = [{ name = \"a\", type = \"always_sample\", status_code = 1 }]",
             ConfigFault::UnknownKey,
@@ -48,5 +68,21 @@ fn whole_text(rt: HostRuntime) -> Result<(), Fail> {
     let config = read(rt.alloc(), GOOD)?;
     assert_eq!(rt; config.decision_wait, 10_000);
     assert_eq!(rt; config.policies.as_slice().len(), 1);
+    assert_eq!(rt; config.num_traces, 50_000);
+    assert_eq!(rt; config.sampled_cache_size, 0);
+    assert_eq!(rt; config.non_sampled_cache_size, 0);
+    Ok(())
+}
+
+#[test]
+fn sizes(rt: HostRuntime) -> Result<(), Fail> {
+    let config = read(
+        rt.alloc(),
+        "num_traces = 1000000\npolicies = [{ name = \"all\", type = \"always_sample\" }]\n[decision_cache]\nsampled_cache_size = 1000000\nnon_sampled_cache_size = 7\n",
+    )?;
+    assert_eq!(rt; config.decision_wait, 30_000);
+    assert_eq!(rt; config.num_traces, 1_000_000);
+    assert_eq!(rt; config.sampled_cache_size, 1_000_000);
+    assert_eq!(rt; config.non_sampled_cache_size, 7);
     Ok(())
 }

@@ -14,26 +14,84 @@ use toml::value::Array;
 use toml::{Table, Value};
 
 /// The wait where the text gives none, in milliseconds.
-const DEFAULT_WAIT: Moment = 30_000;
+const DEFAULT_WAIT: u64 = 30_000;
+
+/// The number of traces that are kept where the text gives none.
+const DEFAULT_TRACES: u64 = 50_000;
 
 /// The wait, in milliseconds.
 pub fn wait_at(table: &Table) -> Moment
-    ensures wait { result ≡ spec.wait_of (get_member (codes "decision_wait_ms") (table_view table.now)) }
+    ensures wait { result ≡ spec.positive_of spec.default_wait (get_member (codes "decision_wait_ms") (table_view table.now)) }
     ensures waits { 0 < result }
 {
-    match member(table, "decision_wait_ms") {
-        Some(value) => wait_of(value),
-        None => DEFAULT_WAIT,
+    positive_at(table, "decision_wait_ms", DEFAULT_WAIT)
+}
+
+/// The number of traces that are kept.
+pub fn traces_at(table: &Table) -> usize
+    ensures traces { result ≡ spec.positive_of spec.default_traces (get_member (codes "num_traces") (table_view table.now)) }
+    ensures keeps { 0 < result }
+{
+    positive_at(table, "num_traces", DEFAULT_TRACES) as usize
+}
+
+/// The number at a key, at least 1.
+fn positive_at(table: &Table, key: &str, default: u64) -> u64
+    requires { 0 < default }
+    ensures number { result ≡ spec.positive_of default (get_member key.now (table_view table.now)) }
+    ensures positive { 0 < result }
+{
+    match member(table, key) {
+        Some(value) => positive_of(value, default),
+        None => default,
     }
 }
 
-fn wait_of(value: &Value) -> Moment
-    ensures wait { result ≡ spec.wait_value (view value.now) }
-    ensures waits { 0 < result }
+fn positive_of(value: &Value, default: u64) -> u64
+    requires { 0 < default }
+    ensures number { result ≡ spec.positive_value default (view value.now) }
+    ensures positive { 0 < result }
 {
     match value {
         Value::Integer(number) if 1 <= *number => *number as u64,
-        _ => DEFAULT_WAIT,
+        _ => default,
+    }
+}
+
+/// The size of a cache of decisions, by its key in the table of the caches.
+pub fn cache_size_at(table: &Table, key: &str) -> usize
+    ensures { result ≡ spec.cache_size key.now (get_member (codes "decision_cache") (table_view table.now)) }
+{
+    match member(table, "decision_cache") {
+        Some(value) => size_in(value, key),
+        None => 0,
+    }
+}
+
+fn size_in(value: &Value, key: &str) -> usize
+    ensures { result ≡ spec.size_in key.now (view value.now) }
+{
+    match value {
+        Value::Table(sizes) => size_at(sizes, key),
+        _ => 0,
+    }
+}
+
+fn size_at(sizes: &Table, key: &str) -> usize
+    ensures { result ≡ spec.size_of (get_member key.now (table_view sizes.now)) }
+{
+    match member(sizes, key) {
+        Some(value) => size_of(value),
+        None => 0,
+    }
+}
+
+fn size_of(value: &Value) -> usize
+    ensures { result ≡ spec.size_value (view value.now) }
+{
+    match value {
+        Value::Integer(number) if 0 <= *number => *number as usize,
+        _ => 0,
     }
 }
 

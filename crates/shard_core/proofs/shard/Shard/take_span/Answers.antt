@@ -1,23 +1,78 @@
-use Rattle.std.proofs.Common.{ℕ, sym, subst, ◌∙◌, Option}
+use Rattle.std.proofs.Common.{◌≡◌, ℕ, ◌≤◌, max, Option, Some, None, sym, ap, subst, ◌∙◌, arith}
 use Rattle.otlp_types.specs.declared.span.Ids.{Ids}
-use Rattle.shard_core.specs.Held.{Held}
-use Rattle.shard_core.specs.Holding.{TakesSpan, Opens, Joins}
-use Rattle.shard_core.specs.contracts.shard.Shard.{the_view}
-use Rattle.shard_core.proofs.Codes.{opened_span, joined_span, clocked}
+use Rattle.std.proofs.Common.{Result, Ok, Err, false}
+use Rattle.otlp_types.specs.declared.arrival.Arrival.{Arrival}
+use Rattle.trace_buffer.specs.Buffer.{Buffer, Appended, AppendedTo, Opened, episode_of}
+use Rattle.trace_buffer.specs.declared.episode.Evicted.{Evicted}
+use Rattle.decision_cache.specs.Lists.{CacheLists, after_asking, is_held_in_either}
+use Rattle.shard_core.proofs.Forgetting.{IsKept, append_keeps, ask_keeps, later_keeps, open_keeps, asked-nothing}
+use Rattle.shard_core.proofs.Codes.{no_episode, keep_puts}
 use Rattle.shard_core.proofs.shard.Shard.take_span.Goals as goal
 
-pub returns-in-None : goal.returns-in-None
-returns-in-None c =
-    let h = the_view c.self.inside in
-    let P = λ (o : Option Ids). TakesSpan h c.args.arrival o c.open.result c.open.new.self in
-    let Q = λ (g : Held). TakesSpan g c.args.arrival c.args.arrival.rec.span.ids c.open.result c.open.new.self in
-    let R = λ (k : ℕ). Opens (clocked h k) c.unwrap-trace.result.trace c.args.arrival c.open.result c.open.new.self in
-    subst Q c.self.view_is (subst P (sym c.unwrap-trace.ensures ∙ c.ids_of.ensures) (opened_span h c.open.new.self c.unwrap-trace.result.trace c.args.arrival c.open.result (sym c.find.ensures ∙ c.in-None.is) (subst R c.max-self-inside.ensures c.open.ensures)))
+later : (moment clock now : ℕ) → now ≡ max moment clock → clock ≤ now
+later moment clock now e = omega (arith, e)
 
-pub returns-in-Some : goal.returns-in-Some
-returns-in-Some c =
-    let h = the_view c.self.inside in
-    let P = λ (o : Option Ids). TakesSpan h c.args.arrival o c.join.result c.join.new.self in
-    let Q = λ (g : Held). TakesSpan g c.args.arrival c.args.arrival.rec.span.ids c.join.result c.join.new.self in
-    let R = λ (k : ℕ). Joins (clocked h k) c.in-Some.i c.args.arrival c.join.result c.join.new.self in
-    subst Q c.self.view_is (subst P (sym c.unwrap-trace.ensures ∙ c.ids_of.ensures) (joined_span h c.join.new.self c.unwrap-trace.result.trace c.args.arrival c.join.result c.in-Some.i (sym c.find.ensures ∙ c.in-Some.is) (subst R c.max-self-inside.ensures c.join.ensures)))
+pub invariant_of-self : goal.invariant_of-self
+invariant_of-self c =
+    let i = c.self.inside in
+    let inv = c.self.invariant in
+    let now = c.max-self-inside.result in
+    let k = later_keeps i.clock now i.buffer i.cache (later c.args.arrival.moment i.clock now c.max-self-inside.ensures) (inv.1, inv.3, inv.4) in
+    let P = λ (o : Option Ids). Appended i.buffer c.args.arrival o c.append.result c.append.new.self in
+    let a = append_keeps now i.buffer c.append.new.self i.cache c.args.arrival c.unwrap-trace.result.trace c.append.result (subst P (sym c.ids_of.ensures ∙ c.unwrap-trace.ensures) c.append.ensures) k in
+    (inv.0, a.0, inv.2, a.1, a.2)
+
+pub invariant_of-self-in-Some-Decided : goal.invariant_of-self-in-Some-Decided
+invariant_of-self-in-Some-Decided c =
+    let i = c.self.inside in
+    let inv = c.self.invariant in
+    let now = c.max-self-inside.result in
+    let k = later_keeps i.clock now i.buffer i.cache (later c.args.arrival.moment i.clock now c.max-self-inside.ensures) (inv.1, inv.3, inv.4) in
+    (inv.0, k.0, inv.2, k.1, k.2)
+
+pub invariant_of-self-in-Some : goal.invariant_of-self-in-Some
+invariant_of-self-in-Some c =
+    let i = c.self.inside in
+    let inv = c.self.invariant in
+    let now = c.max-self-inside.result in
+    let k = later_keeps i.clock now i.buffer i.cache (later c.args.arrival.moment i.clock now c.max-self-inside.ensures) (inv.1, inv.3, inv.4) in
+    let a = ask_keeps now i.buffer c.unwrap-trace.result.trace i.cache c.ask.new.self c.ask.ensures.lists k in
+    (inv.0, a.0, inv.2, a.1, a.2)
+
+pub open-requires-clause-clock : goal.open-requires-clause-clock
+open-requires-clause-clock c =
+    let i = c.self.inside in
+    let inv = c.self.invariant in
+    let now = c.max-self-inside.result in
+    (later_keeps i.clock now i.buffer i.cache (later c.args.arrival.moment i.clock now c.max-self-inside.ensures) (inv.1, inv.3, inv.4)).1
+
+pub invariant_of-self-in_default-open : goal.invariant_of-self-in_default-open
+invariant_of-self-in_default-open c =
+    let i = c.self.inside in
+    let inv = c.self.invariant in
+    let now = c.max-self-inside.result in
+    let t = c.unwrap-trace.result.trace in
+    let k = later_keeps i.clock now i.buffer i.cache (later c.args.arrival.moment i.clock now c.max-self-inside.ensures) (inv.1, inv.3, inv.4) in
+    let a = ask_keeps now i.buffer t i.cache c.ask.new.self c.ask.ensures.lists k in
+    let P = λ (o : Option Ids). Opened i.buffer c.args.arrival o now (Err c.in_default-open.field-0) c.open.new.self in
+    let same = (subst P (sym c.ids_of.ensures ∙ c.unwrap-trace.ensures) c.in_default-open.ensures).1 in
+    let Q = λ (b : Buffer). IsKept now b c.ask.new.self in
+    let r = subst Q (sym same) a in
+    (inv.0, r.0, inv.2, r.1, r.2)
+
+pub invariant_of-self-2 : goal.invariant_of-self-2
+invariant_of-self-2 c =
+    let i = c.self.inside in
+    let inv = c.self.invariant in
+    let now = c.max-self-inside.result in
+    let t = c.unwrap-trace.result.trace in
+    let k = later_keeps i.clock now i.buffer i.cache (later c.args.arrival.moment i.clock now c.max-self-inside.ensures) (inv.1, inv.3, inv.4) in
+    let a = ask_keeps now i.buffer t i.cache c.ask.new.self c.ask.ensures.lists k in
+    let P = λ (o : Option Ids). Opened i.buffer c.args.arrival o now (Ok c.in-Ok-open.evicted) c.open.new.self in
+    let opened = subst P (sym c.ids_of.ensures ∙ c.unwrap-trace.ensures) c.in-Ok-open.ensures in
+    let none = no_episode (episode_of t i.buffer.episodes) (sym c.find.ensures ∙ c.in-None.is) in
+    let nothing = asked-nothing t i.cache (sym c.ask.ensures.verdict ∙ c.in_default.is) in
+    let out = λ (l : CacheLists). is_held_in_either t l ≡ false in
+    let puts = keep_puts c.in-Ok-open.evicted c.ask.new.self c.keep.new.cache c.keep.result c.keep.ensures in
+    let r = open_keeps now i.buffer c.open.new.self c.ask.new.self c.keep.new.cache c.args.arrival t c.in-Ok-open.evicted puts.0 opened.0 opened.1 puts.2 none (subst out (sym (c.ask.ensures.lists ∙ nothing.1)) nothing.0) a in
+    (inv.0, r.0, inv.2, r.1, r.2)

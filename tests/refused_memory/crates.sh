@@ -1,8 +1,8 @@
 #!/bin/sh
-# Runs each test of the policies' crates once for each allocation that it makes, and refuses that allocation. Each run
-# must answer as ever or end by the refusal: a test that fails at an assertion has met another answer in its place.
-# Build the tests first:
-#     (cd crates/policy_tree && rt test); (cd crates/rate_budget && rt test); (cd crates/policy_eval && rt test)
+# Runs each test of the crates that are named once for each allocation that it makes, and refuses that allocation. Each
+# run must answer as ever or end by the refusal: a test that fails at an assertion has met another answer in its place.
+# Build the tests of each crate first, and then name the crates:
+#     (cd crates/shard_core && rt test); tests/refused_memory/crates.sh shard_core
 # It needs a C compiler and is no part of the gate. It ends with status 0 where each run was as it must be.
 top=$(cd "$(dirname "$0")/../.." && pwd)
 work=$(mktemp -d) || exit 2
@@ -11,7 +11,7 @@ cc -shared -fPIC -O1 -o "$work/refuse.so" "$top/tests/refused_memory/refuse.c" -
 runs=0
 refusals=0
 wrong=0
-for crate in policy_tree rate_budget policy_eval; do
+for crate in "$@"; do
     tests="$top/crates/$crate/out/${crate}_tests"
     for name in $("$tests" --list | sed -n 's/: test$//p'); do
         number=1
