@@ -1,8 +1,8 @@
 #!/bin/sh
 # Runs each test of the crates that are named once for each allocation that it makes, and refuses that allocation. Each
 # run must answer as ever or end by the refusal: a test that fails at an assertion has met another answer in its place.
-# Build the tests of each crate first, and then name the crates:
-#     (cd crates/shard_core && rt test); tests/refused_memory/crates.sh shard_core
+# Build the tests of each crate first, and then name the crates, or CRATE/WORD for the tests with that word in their name:
+#     (cd crates/shard_core && rt test); tests/refused_memory/crates.sh policy_eval shard_core/random_items
 # It needs a C compiler and is no part of the gate. It ends with status 0 where each run was as it must be.
 top=$(cd "$(dirname "$0")/../.." && pwd)
 work=$(mktemp -d) || exit 2
@@ -11,9 +11,12 @@ cc -shared -fPIC -O1 -o "$work/refuse.so" "$top/tests/refused_memory/refuse.c" -
 runs=0
 refusals=0
 wrong=0
-for crate in "$@"; do
+for named in "$@"; do
+    crate=${named%%/*}
+    word=${named#"$crate"}
+    word=${word#/}
     tests="$top/crates/$crate/out/${crate}_tests"
-    for name in $("$tests" --list | sed -n 's/: test$//p'); do
+    for name in $("$tests" --list | sed -n 's/: test$//p' | grep -- "$word"); do
         number=1
         while :; do
             REFUSED_ALLOCATION=$number LD_PRELOAD="$work/refuse.so" "$tests" "$name" > "$work/out" 2>&1

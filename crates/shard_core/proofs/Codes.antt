@@ -87,7 +87,7 @@ module _ (p : List Policy) (w : ℕ) (b : Buffer) (c : CacheLists) (k : List Lim
   after_by : (lost : Bool) (o : Option Episode) → episode_of t b.episodes ≡ o → after_span_of s b.limit false lost t a st ≡ after_episode s b.limit lost t a st o
   after_by lost o h = ap (after_episode s b.limit lost t a st) h
 
-  pub appended : state_of (episode_of t b.episodes) ≡ Some Undecided → (d : Buffer) → d ≡ record b { episodes = append_first t a b.episodes } → TakesSpanOf old a t (Kept None None) (new_of d c)
+  pub appended : state_of (episode_of t b.episodes) ≡ Some Undecided → (d : Buffer) → d ≡ record b { episodes = append_first t st.clock a b.episodes } → TakesSpanOf old a t (Kept None None) (new_of d c)
   appended h d e =
       let x = undecided_episode (episode_of t b.episodes) h in
       by_state (Kept None None) (new_of d c) false false (Some None) refl refl (state_known x.0 x.1 ∙ ap (λ (v : Option Verdict). Some v) x.2)

@@ -39,11 +39,11 @@ opened-later c d (e ∷ es) l h = go (nat_le e.moment c) refl h (opened-later c 
     go true k h f = rw (at-most e.moment c d k l, f h) refl
     go false k h f = absurd (cc h)
 
-pub opened-append : (c : ℕ) (t : TraceId) (a : Arrival) (es : List Episode) → opened_by c (append_first t a es) ≡ opened_by c es
-opened-append c t a [] = refl
-opened-append c t a (e ∷ es) = (elim (same_trace e.trace t) as (λ b. opened_by c (cond b (with_span a e ∷ es) (e ∷ append_first t a es)) ≡ (nat_le e.moment c && opened_by c es)) [
+pub opened-append : (c : ℕ) (t : TraceId) (k : ℕ) (a : Arrival) (es : List Episode) → opened_by c (append_first t k a es) ≡ opened_by c es
+opened-append c t k a [] = refl
+opened-append c t k a (e ∷ es) = (elim (same_trace e.trace t) as (λ b. opened_by c (cond b (with_span k a e ∷ es) (e ∷ append_first t k a es)) ≡ (nat_le e.moment c && opened_by c es)) [
   | true ↦ refl
-  | false ↦ ap (λ b. nat_le e.moment c && b) (opened-append c t a es)
+  | false ↦ ap (λ b. nat_le e.moment c && b) (opened-append c t k a es)
 ])
 
 pub opened-settle : (c m w : ℕ) (v : Verdict) (es : List Episode) → opened_by c (settle_first m w v es) ≡ opened_by c es
@@ -81,11 +81,11 @@ opened-open c t a b h = go (length b.episodes == b.limit)
 
 -- ---- each trace once, and in no cache
 
-pub traces-append : (t : TraceId) (a : Arrival) (es : List Episode) → traces (append_first t a es) ≡ traces es
-traces-append t a [] = refl
-traces-append t a (e ∷ es) = (elim (same_trace e.trace t) as (λ b. traces (cond b (with_span a e ∷ es) (e ∷ append_first t a es)) ≡ e.trace ∷ traces es) [
+pub traces-append : (t : TraceId) (k : ℕ) (a : Arrival) (es : List Episode) → traces (append_first t k a es) ≡ traces es
+traces-append t k a [] = refl
+traces-append t k a (e ∷ es) = (elim (same_trace e.trace t) as (λ b. traces (cond b (with_span k a e ∷ es) (e ∷ append_first t k a es)) ≡ e.trace ∷ traces es) [
   | true ↦ refl
-  | false ↦ ap (λ (ts : List TraceId). e.trace ∷ ts) (traces-append t a es)
+  | false ↦ ap (λ (ts : List TraceId). e.trace ∷ ts) (traces-append t k a es)
 ])
 
 pub traces-settle : (m w : ℕ) (v : Verdict) (es : List Episode) → traces (settle_first m w v es) ≡ traces es
@@ -188,11 +188,11 @@ out-decided t (Some v) old new r x p k h = out-put t v old new p.0 x p.2 k h
 abbrev pub IsKept : (clock : ℕ) → Buffer → CacheLists → Type 0
 IsKept clock b c = (0 < b.limit) × (opened_by clock b.episodes ≡ true) × AreForgotten (traces b.episodes) c
 
-pub append_keeps : (clock : ℕ) (old new : Buffer) (c : CacheLists) (a : Arrival) (t : TraceId) {E : Type 0} (r : Result (Unit {0}) (Arrival × E)) → AppendedTo old a t r new → IsKept clock old c → IsKept clock new c
+pub append_keeps : (clock : ℕ) (old new : Buffer) (c : CacheLists) (a : Arrival) (t : TraceId) {E : Type 0} (r : Result (Unit {0}) (Arrival × E)) → AppendedTo old a clock t r new → IsKept clock old c → IsKept clock new c
 append_keeps clock old new c a t (Ok u) e k =
     let P = λ (b : Buffer). IsKept clock b c in
     let Q = λ (ts : List TraceId). AreForgotten ts c in
-    subst P (sym e) (k.0, opened-append clock t a old.episodes ∙ k.1, subst Q (sym (traces-append t a old.episodes)) k.2)
+    subst P (sym e) (k.0, opened-append clock t clock a old.episodes ∙ k.1, subst Q (sym (traces-append t clock a old.episodes)) k.2)
 append_keeps clock old new c a t (Err back) e k = let P = λ (b : Buffer). IsKept clock b c in subst P (sym e.1) k
 
 pub settle_keeps : (clock m w : ℕ) (v : Verdict) (old new : Buffer) (c : CacheLists) → new ≡ with_settled m w v old → IsKept clock old c → IsKept clock new c

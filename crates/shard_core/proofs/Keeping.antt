@@ -1,5 +1,5 @@
 -- What a shard holds after an item is computed from what it held before.
-use Rattle.std.proofs.Common.{◌≡◌, ◌≢◌, ℕ, zero, suc, ◌+◌, ◌-◌, ◌<◌, ◌≤◌, max, nat_le, Bool, true, false, not, ◌&&◌, ◌||◌, cond, ◌==◌, List, [], ◌∷◌, ◌++◌, map, length, take, drop, reverse, find, slice_get, Option, Some, None, option_map, option_to_list, refl, ap, sym, subst, ◌∙◌, arith, append-nil, ne_eqb, eq-eqb}
+use Rattle.std.proofs.Common.{le-leb, ◌≡◌, ◌≢◌, ℕ, zero, suc, ◌+◌, ◌-◌, ◌<◌, ◌≤◌, max, nat_le, Bool, true, false, not, ◌&&◌, ◌||◌, cond, ◌==◌, List, [], ◌∷◌, ◌++◌, map, length, take, drop, reverse, find, slice_get, Option, Some, None, option_map, option_to_list, refl, ap, sym, subst, ◌∙◌, arith, append-nil, ne_eqb, eq-eqb}
 use Rattle.std.specs.List.{list_any, slice_set}
 use Rattle.std.proofs.lemmas.List.{reverse-reverse, reverse-append, map-append, length-map, length-reverse}
 use Rattle.span_ids.specs.Same.{same_trace}
@@ -19,14 +19,14 @@ use Rattle.decision_cache.specs.declared.traces.Remembered.TheVariants.{Kept, Of
 use Rattle.decision_cache.proofs.Laws.{same-eq, same-sym}
 use Rattle.decision_cache.proofs.Stands.{stands-put, stands-asked}
 use Rattle.shard_core.specs.Journal.{Entry, Settings, Journal, Opening, Decision, Notes, Finding, joins, meets, opens, clock, has_ended, finding, notes, notes_dealt, in_buffer, is_in_buffer, last_of, leaving, decided_as, latest_episode, cache_size, due_now, spans_since, item_spans, is_of_trace, ids_have_trace, askings_made, after_item, after_span, after_finding, touch, touch_of_leaving, touch_of_leaving_decided}
-use Rattle.shard_core.specs.Standing.{Standing, standing, episode, episodes, cache, spans_left, mark, mark_at, ends}
+use Rattle.shard_core.specs.Standing.{Standing, standing, episode, episodes, cache, root_among, first_root_since, root_left, spans_left, mark, mark_at, ends}
 use Rattle.rate_budget.specs.Budget.{limiter_counts}
 use Rattle.shard_core.specs.Keeping.{caches, with_caches, buffer, after_leaving_decided, after_leaving, after_opening_in, after_unknown, after_known, after_episode, after_span_of, after_span_in, after_entry, KeepsStanding}
 use Rattle.shard_core.specs.Laws.{state_cached, state_found}
 use Rattle.shard_core.specs.Taking.{has_ids, evicted_of}
 use Rattle.shard_core.proofs.ListFacts.{Each, Each-append, Each-all, Each-weaker, Each-reverse, Each-left, Pairs, Pairs-reverse, Split}
 use Rattle.shard_core.proofs.Find.{Found, found, not_found, find_none, find_front, any_split}
-use Rattle.shard_core.proofs.Notes.{HasRoom, Sound, buffer_front, same_refl, spans_more, spans_before}
+use Rattle.shard_core.proofs.Notes.{HasRoom, Sound, buffer_front, same_refl, none_own, spans_before}
 use Rattle.shard_core.proofs.Sound.{sound_notes}
 use Rattle.shard_core.proofs.Remembering.{Remembering, Outside, OtherTrace, in_cache, LastWith, remembering_notes, meets_latest, behind_buffer}
 use Rattle.shard_core.proofs.FoundAsHeld.{find_reversed, find_episode, all_dealt, found_past, found_here}
@@ -35,29 +35,37 @@ use Rattle.shard_core.proofs.Due.{ends-span, ends-tick, ends-end}
 -- ---- an episode, one entry later
 
 -- a span that is refused, or of another trace, joins no episode
-spans_same : (a : Arrival) (ids : Ids) (refused lost : Bool) (past : Journal) (o : Opening) → a.rec.span.ids ≡ Some ids → (same_trace o.trace ids.trace && not refused) ≡ false
-    → spans_since (record { item = Span a; refused = refused; lost = lost } ∷ past) o ≡ spans_since past o
-spans_same a ids refused lost past o i h = go (nat_le o.at (length past))
+joins_none : (a : Arrival) (ids : Ids) (refused : Bool) (past : Journal) (o : Opening) → a.rec.span.ids ≡ Some ids → (same_trace o.trace ids.trace && not refused) ≡ false → item_spans o (length past) refused (Span a) ≡ []
+joins_none a ids refused past o i h = go (nat_le o.at (length past))
   where
     off : (is_of_trace o.trace a && not refused) ≡ false
     off = ap (λ (x : Option Ids). ids_have_trace o.trace x && not refused) i ∙ h
 
-    go : (b : Bool) → spans_since past o ++ cond (b && is_of_trace o.trace a && not refused) (a ∷ []) [] ≡ spans_since past o
-    go true = rw off (append-nil (spans_since past o))
-    go false = append-nil (spans_since past o)
+    go : (b : Bool) → cond (b && is_of_trace o.trace a && not refused) (a ∷ []) [] ≡ []
+    go true = rw off refl
+    go false = refl
 
-spans_own : (a : Arrival) (ids : Ids) (lost : Bool) (past : Journal) (o : Opening) → a.rec.span.ids ≡ Some ids → o.at ≤ length past → same_trace o.trace ids.trace ≡ true
-    → spans_since (record { item = Span a; refused = false; lost = lost } ∷ past) o ≡ spans_since past o ++ a ∷ []
-spans_own a ids lost past o i l h =
-    let on : is_of_trace o.trace a ≡ true = ap (λ (x : Option Ids). ids_have_trace o.trace x) i ∙ h in
-    spans_more past o (Span a) false lost l ∙ ap (λ b. spans_since past o ++ cond (b && true) (a ∷ []) []) on
+-- a span of the trace that is kept joins its episode
+joins_own : (a : Arrival) (ids : Ids) (past : Journal) (o : Opening) → a.rec.span.ids ≡ Some ids → o.at ≤ length past → same_trace o.trace ids.trace ≡ true → item_spans o (length past) false (Span a) ≡ a ∷ []
+joins_own a ids past o i l h = rw (le-leb o.at (length past) l, on) refl
+  where
+    on : is_of_trace o.trace a ≡ true
+    on = ap (λ (x : Option Ids). ids_have_trace o.trace x) i ∙ h
+
+-- a span before the opening is none of the episode
+roots_before : (past : Journal) (o : Opening) → length past ≤ o.at → first_root_since past o ≡ None
+roots_before [] o l = refl
+roots_before (e ∷ past) o l = ap (λ (xs : List Arrival). root_among (first_root_since past o) (clock (e ∷ past)) xs) (none_own o (length past) e.refused e.item (omega arith)) ∙ roots_before past o (omega arith)
 
 map_same : (f g : Opening → Episode) (os : List Opening) → Each (λ o. f o ≡ g o) os → map f os ≡ map g os
 map_same f g [] h = refl
 map_same f g (o ∷ os) h = rw (h.0) (ap (λ (es : List Episode). g o ∷ es) (map_same f g os h.1))
 
-episode_same : (later past : Journal) (noted : Notes) (o : Opening) → spans_since later o ≡ spans_since past o → episode later noted o ≡ episode past noted o
-episode_same later past noted o e = ap (λ (spans : List Arrival). record { trace = o.trace; moment = o.moment; spans = spans_left spans (decided_as noted o.at); verdict = decided_as noted o.at }) e
+-- an entry that joins no episode changes none
+episode_same : (e : Entry) (past : Journal) (noted : Notes) (o : Opening) → item_spans o (length past) e.refused e.item ≡ [] → episode (e ∷ past) noted o ≡ episode past noted o
+episode_same e past noted o none =
+    ap (λ (xs : List Arrival). record { trace = o.trace; moment = o.moment; first_root = root_left (root_among (first_root_since past o) (clock (e ∷ past)) xs) (decided_as noted o.at); spans = spans_left (spans_since past o ++ xs) (decided_as noted o.at); verdict = decided_as noted o.at }) none
+    ∙ ap (λ (spans : List Arrival). record { trace = o.trace; moment = o.moment; first_root = root_left (first_root_since past o) (decided_as noted o.at); spans = spans_left spans (decided_as noted o.at); verdict = decided_as noted o.at }) (append-nil (spans_since past o))
 
 -- a decided episode holds no spans
 episode_decided : (later past : Journal) (noted : Notes) (o : Opening) (v : Verdict) → decided_as noted o.at ≡ Some v → episode later noted o ≡ episode past noted o
@@ -235,7 +243,7 @@ module _ (s : Settings) (m : ℕ) (lim : s.limit ≡ Some (suc m)) (past : Journ
   refused_same : (lost : Bool) → standing_by s (entry_of true lost ∷ past) noted ≡ clocked
   refused_same lost = quiet true lost (map_same (episode (entry_of true lost ∷ past) noted) (episode past noted) front
       (Each-all (λ o. episode (entry_of true lost ∷ past) noted o ≡ episode past noted o) front
-      (λ o. episode_same (entry_of true lost ∷ past) past noted o (spans_same a ids true lost past o i (and-no (same_trace o.trace ids.trace))))))
+      (λ o. episode_same (entry_of true lost) past noted o (joins_none a ids true past o i (and-no (same_trace o.trace ids.trace))))))
     where
       and-no : (b : Bool) → (b && false) ≡ false
       and-no true = refl
@@ -245,24 +253,24 @@ module _ (s : Settings) (m : ℕ) (lim : s.limit ≡ Some (suc m)) (past : Journ
   others_same : (lost : Bool) (n : Notes) → n.decisions ≡ noted.decisions → (os : List Opening) → Each (λ (o : Opening). same_trace o.trace t ≡ false) os → map (episode (entry_of false lost ∷ past) n) os ≡ map (episode past noted) os
   others_same lost n d os h = map_same (episode (entry_of false lost ∷ past) n) (episode past noted) os
       (Each-weaker (λ (o : Opening). same_trace o.trace t ≡ false) (λ (o : Opening). episode (entry_of false lost ∷ past) n o ≡ episode past noted o) os
-      (λ o k. rw d (episode_same (entry_of false lost ∷ past) past noted o (spans_same a ids false lost past o i (ap (λ b. b && true) k)))) h)
+      (λ o k. rw d (episode_same (entry_of false lost) past noted o (joins_none a ids false past o i (ap (λ b. b && true) k)))) h)
 
   -- the span goes to the undecided episode of its trace, which is the only one
   appended : (lost : Bool) (o : Opening) → decided_as noted o.at ≡ None → (os : List Opening) → Each (λ (x : Opening). x.at < length past) os → Pairs (λ older newer. same_trace older.trace newer.trace ≡ false) os →
-      find (λ (x : Opening). same_trace x.trace t) os ≡ Some o → map (episode (entry_of false lost ∷ past) noted) os ≡ append_first t a (map (episode past noted) os)
+      find (λ (x : Opening). same_trace x.trace t) os ≡ Some o → map (episode (entry_of false lost ∷ past) noted) os ≡ append_first t (max a.moment (clock past)) a (map (episode past noted) os)
   appended lost o d [] l h e = absurd (cc e)
   appended lost o d (x ∷ os) l h e = (elim (same_trace x.trace t) as (λ b. same_trace x.trace t ≡ b → cond b (Some x) (find (λ (x : Opening). same_trace x.trace t) os) ≡ Some o →
-      map (episode (entry_of false lost ∷ past) noted) (x ∷ os) ≡ cond b (with_span a (episode past noted x) ∷ map (episode past noted) os) (episode past noted x ∷ append_first t a (map (episode past noted) os))) [
+      map (episode (entry_of false lost ∷ past) noted) (x ∷ os) ≡ cond b (with_span (max a.moment (clock past)) a (episode past noted x) ∷ map (episode past noted) os) (episode past noted x ∷ append_first t (max a.moment (clock past)) a (map (episode past noted) os))) [
     | true ↦ λ k e.
         let is : x ≡ o = cc e in
         let undecided : decided_as noted x.at ≡ None = ap (λ (z : Opening). decided_as noted z.at) is ∙ d in
-        let spans = spans_own a ids lost past x i (let b : x.at < length past = l.0 in omega (arith, b)) k in
-        let first : episode (entry_of false lost ∷ past) noted x ≡ with_span a (episode past noted x) = rw (undecided, spans) refl in
+        let own = joins_own a ids past x i (let b : x.at < length past = l.0 in omega (arith, b)) k in
+        let first : episode (entry_of false lost ∷ past) noted x ≡ with_span (max a.moment (clock past)) a (episode past noted x) = rw (undecided, own) refl in
         let rest = others_same lost noted refl os (Each-weaker (λ (y : Opening). same_trace x.trace y.trace ≡ false) (λ (y : Opening). same_trace y.trace t ≡ false) os
         (λ y f. same-sym y.trace t ∙ ap (λ (z : TraceId). same_trace z y.trace) (sym (same-eq x.trace t k)) ∙ f) h.0) in
         cc (first, rest)
     | false ↦ λ k e.
-        let first = episode_same (entry_of false lost ∷ past) past noted x (spans_same a ids false lost past x i (ap (λ b. b && true) k)) in
+        let first = episode_same (entry_of false lost) past noted x (joins_none a ids false past x i (ap (λ b. b && true) k)) in
         let rest = appended lost o d os l.1 h.1 e in
         cc (first, rest)
   ]) refl e
@@ -280,7 +288,7 @@ module _ (s : Settings) (m : ℕ) (lim : s.limit ≡ Some (suc m)) (past : Journ
         (λ y f. same-sym y.trace t ∙ ap (λ (z : TraceId). same_trace z y.trace) (sym (same-eq x.trace t k)) ∙ f) h.0) in
         cc (first, rest)
     | false ↦ λ k e.
-        let first = episode_same (entry_of false lost ∷ past) past noted x (spans_same a ids false lost past x i (ap (λ b. b && true) k)) in
+        let first = episode_same (entry_of false lost) past noted x (joins_none a ids false past x i (ap (λ b. b && true) k)) in
         let rest = late_same lost o v d os h.1 e in
         cc (first, rest)
   ]) refl e
@@ -351,8 +359,8 @@ module _ (s : Settings) (m : ℕ) (lim : s.limit ≡ Some (suc m)) (past : Journ
   new_episode lost touches =
       let undecided : decided_as noted (length past) ≡ None = ap (option_map (λ (d : Decision). d.verdict)) (find_none (λ (d : Decision). d.opening.at == length past) noted.decisions
       (Each-weaker (λ (d : Decision). d.opening.at < length past) (λ (d : Decision). (d.opening.at == length past) ≡ false) noted.decisions (λ d h. ne_eqb d.opening.at (length past) (λ e. omega (arith, h, e))) sound.decided)) in
-      let spans : spans_since (entry_of false lost ∷ past) new ≡ a ∷ [] = spans_own a ids lost past new i (omega arith) (same_refl t) ∙ ap (λ (xs : List Arrival). xs ++ a ∷ []) (spans_before past new (omega arith)) in
-      rw (undecided, spans) refl
+      let own = joins_own a ids past new i (omega arith) (same_refl t) in
+      rw (undecided, own, spans_before past new (omega arith), roots_before past new (omega arith)) refl
 
   -- the episodes that stay, and the new one
   abbrev stay : List Episode
@@ -523,7 +531,7 @@ module _ (s : Settings) (m : ℕ) (lim : s.limit ≡ Some (suc m)) (past : Journ
   no_spans : (later : Entry) → ((o : Opening) → item_spans o (length past) later.refused later.item ≡ []) → episodes s (later ∷ past) (notes s past) ≡ episodes s past (notes s past)
   no_spans later f = map_same (episode (later ∷ past) (notes s past)) (episode past (notes s past)) (reverse (in_buffer s (notes s past)))
       (Each-all (λ o. episode (later ∷ past) (notes s past) o ≡ episode past (notes s past) o) (reverse (in_buffer s (notes s past)))
-      (λ o. episode_same (later ∷ past) past (notes s past) o (ap (λ (xs : List Arrival). spans_since past o ++ xs) (f o) ∙ append-nil (spans_since past o))))
+      (λ o. episode_same later past (notes s past) o (f o)))
 
   item_holds : (item : Item) (refused lost : Bool) → has_ids item ≡ true → let e : Entry = record { item = item; refused = refused; lost = lost } in
       standing_by s (e ∷ past) (after_item s e past item (notes s past)) ≡ after_entry s (suc m) refused lost item (standing_by s past (notes s past))

@@ -51,7 +51,7 @@ own_is o at refused (Tick m) l = refl
 own_is o at refused (End i) l = refl
 own_is o at refused (Span a) l = ap (λ (b : Bool). cond (b && is_of_trace o.trace a && not refused) (a ∷ []) []) (le-leb o.at at l)
 
-none_own : (o : Opening) (at : ℕ) (refused : Bool) (item : Item) → at < o.at → item_spans o at refused item ≡ []
+pub none_own : (o : Opening) (at : ℕ) (refused : Bool) (item : Item) → at < o.at → item_spans o at refused item ≡ []
 none_own o at refused (Tick m) l = refl
 none_own o at refused (End i) l = refl
 none_own o at refused (Span a) l = ap (λ (b : Bool). cond (b && is_of_trace o.trace a && not refused) (a ∷ []) []) (lt-leb o.at at l)

@@ -290,3 +290,32 @@ mark_and_clock = refl
 pub ends_by_number : two_cached.ends ≡ false ∷ true ∷ []
 unfolding notes
 ends_by_number = refl
+
+-- ---- the clock at the first root
+
+abbrev pub child : (t n m : ℕ) → Entry
+child t n m =
+    let a = arrival t n m 0 0 0 in
+    took (Span (record a { rec = record a.rec { span = record a.rec.span { ids = Some (record (ids t n) { parent = Some (9 ∷ []) }) } } }))
+
+abbrev pub roots : List Entry → List (Option ℕ)
+unfolding notes
+roots items = map (λ (e : Episode). e.first_root) (standing (settings errors None 0 0) (reverse items) 0).episodes
+
+-- a root before a tick, and the same root behind it: its own moment is the same, the clock at it is not
+pub root_before_a_tick : roots (child 1 0 0 ∷ span 1 1 0 ∷ tick 5 ∷ []) ≡ Some 0 ∷ []
+unfolding notes
+root_before_a_tick = refl
+
+pub root_behind_a_tick : roots (child 1 0 0 ∷ tick 5 ∷ span 1 1 0 ∷ []) ≡ Some 5 ∷ []
+unfolding notes
+root_behind_a_tick = refl
+
+-- the first root counts; a trace of children has none, and a decided one keeps none
+pub first_of_two_roots : roots (span 1 0 3 ∷ child 2 1 4 ∷ span 1 2 7 ∷ []) ≡ Some 3 ∷ None ∷ []
+unfolding notes
+first_of_two_roots = refl
+
+pub decided_keeps_none : map (λ (e : Episode). e.first_root) (standing (settings errors None 0 0) (tick 10000 ∷ span 1 0 0 ∷ []) 1).episodes ≡ None ∷ []
+unfolding notes
+decided_keeps_none = refl

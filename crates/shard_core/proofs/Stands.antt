@@ -194,7 +194,7 @@ new_stands policies wait n b c counts ended e x y q f =
         let c = none_taken {X = TraceId} j in
         let st = λ (es : List Episode) (ss ns : List TraceId) (ks : List LimiterCount) (xs : List Bool). (let r : Standing = record { episodes = es; sampled = ss; non_sampled = ns; limiter_counts = ks; clock = 0; mark = 0; ends = xs } in r) in
         ap (λ es. st es ss ns ks en) e ∙ ap (λ ss. st [] ss ns ks en) (x ∙ sym b) ∙ ap (λ ns. st [] (take i []) ns ks en) (y ∙ sym c) ∙ ap (λ ks. st [] (take i []) (take j []) ks en) q ∙ ap (st [] (take i []) (take j []) (limiter_counts (meaning policies) [])) z
-        ∙ ap (λ (os : List Opening). st (map (λ o. record { trace = o.trace; moment = o.moment; spans = []; verdict = None }) (reverse os)) (take i []) (take j []) (limiter_counts (meaning policies) []) (ends [] (length en))) (sym a)
+        ∙ ap (λ (os : List Opening). st (map (λ o. record { trace = o.trace; moment = o.moment; first_root = None; spans = []; verdict = None }) (reverse os)) (take i []) (take j []) (limiter_counts (meaning policies) []) (ends [] (length en))) (sym a)
 
 -- a new shard has a sender that has not ended
 pub new_runs : (n : ℕ) (ended : List Bool) → ended ≡ replicate n false → 0 < n → list_all (λ b. b) ended ≡ false

@@ -48,7 +48,7 @@ after_unknown s limit lost t a st None = after_opening_in s limit lost t a st
 
 -- a span of a trace in the buffer: appended where that is undecided, else late
 abbrev pub after_known : TraceId → Arrival → Standing → Option Verdict → Standing
-after_known t a st None = record st { episodes = append_first t a st.episodes }
+after_known t a st None = record st { episodes = append_first t st.clock a st.episodes }
 after_known t a st (Some v) = st
 
 -- a span, not refused, by the trace's episode in the buffer

@@ -1,10 +1,10 @@
 -- What a shard holds that stands for a journal.
-use Rattle.std.specs.Prelude.{ℕ, zero, suc, Bool, List, [], ◌∷◌, ◌++◌, map, reverse, take, Option, Some, None}
+use Rattle.std.specs.Prelude.{ℕ, zero, suc, Bool, List, [], ◌∷◌, ◌++◌, length, map, reverse, take, Option, Some, None}
 use Rattle.rate_budget.specs.Budget.{limiter_counts}
 use Rattle.rate_budget.specs.declared.count.LimiterCount.{LimiterCount}
 use Rattle.decision_cache.specs.Touches.{last_touched}
-use Rattle.shard_core.specs.Journal.{Settings, Journal, Opening, Notes, clock, has_ended, in_buffer, decided_as, cache_size, spans_since, askings_made, notes_dealt}
-use Rattle.trace_buffer.specs.Buffer.{Episode}
+use Rattle.shard_core.specs.Journal.{Settings, Journal, Opening, Notes, clock, has_ended, in_buffer, decided_as, cache_size, item_spans, spans_since, askings_made, notes_dealt}
+use Rattle.trace_buffer.specs.Buffer.{Episode, root_before}
 use Rattle.span_ids.specs.declared.ids.TraceId.{TraceId}
 use Rattle.otlp_types.specs.declared.arrival.Arrival.{Arrival}
 use Rattle.otlp_types.specs.declared.arrival.Item.{Item}
@@ -28,10 +28,25 @@ abbrev pub spans_left : List Arrival → Option Verdict → List Arrival
 spans_left spans None = spans
 spans_left spans (Some v) = []
 
+-- the clock at the first root, with these spans behind that were taken at this clock
+abbrev pub root_among : Option ℕ → (clock : ℕ) → List Arrival → Option ℕ
+root_among root clock [] = root
+root_among root clock (a ∷ rest) = root_among (root_before root clock a) clock rest
+
+-- the clock at the first root among the spans of an opening's episode
+abbrev pub first_root_since : Journal → Opening → Option ℕ
+first_root_since [] o = None
+first_root_since (e ∷ before) o = root_among (first_root_since before o) (clock (e ∷ before)) (item_spans o (length before) e.refused e.item)
+
+-- the clock at the first root that an episode holds: none once it is decided
+abbrev pub root_left : Option ℕ → Option Verdict → Option ℕ
+root_left root None = root
+root_left root (Some v) = None
+
 -- the episode of an opening
 abbrev pub episode : Journal → Notes → Opening → Episode
 episode past noted o = let verdict = decided_as noted o.at in
-    record { trace = o.trace; moment = o.moment; spans = spans_left (spans_since past o) verdict; verdict = verdict }
+    record { trace = o.trace; moment = o.moment; first_root = root_left (first_root_since past o) verdict; spans = spans_left (spans_since past o) verdict; verdict = verdict }
 
 -- the episodes in the buffer, in order of opening
 abbrev pub episodes : Settings → Journal → Notes → List Episode

@@ -157,7 +157,7 @@ impl Shard {
         let trace = ids_of(&arrival).unwrap().trace;
         match self.buffer.find(trace) {
             Some(State::Undecided) => {
-                return match self.buffer.append(arrival) {
+                return match self.buffer.append(arrival, self.clock) {
                     Ok(()) => Taken::Kept {
                         evicted: None,
                         cache: None,

@@ -39,12 +39,12 @@ settle-all mark wait v old new i spans h s l =
 
 -- ---- appending
 
-append-at : (t : TraceId) (a : Arrival) (es : List Episode) (y : Episode) → find (λ (e : Episode). same_trace e.trace t) es ≡ Some y → slice_set es (position_or_len (λ (e : Episode). same_trace e.trace t) es) (with_span a y) ≡ append_first t a es
-append-at t a [] y e = cc
-append-at t a (x ∷ es) y e = (elim (same_trace x.trace t) as (λ b. cond b (Some x) (find (λ (e : Episode). same_trace e.trace t) es) ≡ Some y →
-    slice_set (x ∷ es) (cond (not b) (1 + position_or_len (λ (e : Episode). same_trace e.trace t) es) 0) (with_span a y) ≡ cond b (with_span a x ∷ es) (x ∷ append_first t a es)) [
-      | true ↦ λ e. let same : y ≡ x = cc in ap (λ (z : Episode). with_span a z ∷ es) same
-      | false ↦ λ e. rw (one-add (position_or_len (λ (e : Episode). same_trace e.trace t) es)) (ap (λ zs. x ∷ zs) (append-at t a es y e))
+append-at : (t : TraceId) (c : ℕ) (a : Arrival) (es : List Episode) (y : Episode) → find (λ (e : Episode). same_trace e.trace t) es ≡ Some y → slice_set es (position_or_len (λ (e : Episode). same_trace e.trace t) es) (with_span c a y) ≡ append_first t c a es
+append-at t c a [] y e = cc
+append-at t c a (x ∷ es) y e = (elim (same_trace x.trace t) as (λ b. cond b (Some x) (find (λ (e : Episode). same_trace e.trace t) es) ≡ Some y →
+    slice_set (x ∷ es) (cond (not b) (1 + position_or_len (λ (e : Episode). same_trace e.trace t) es) 0) (with_span c a y) ≡ cond b (with_span c a x ∷ es) (x ∷ append_first t c a es)) [
+      | true ↦ λ e. let same : y ≡ x = cc in ap (λ (z : Episode). with_span c a z ∷ es) same
+      | false ↦ λ e. rw (one-add (position_or_len (λ (e : Episode). same_trace e.trace t) es)) (ap (λ zs. x ∷ zs) (append-at t c a es y e))
     ]) e
 
 same-at : (t : TraceId) (es : List Episode) (y : Episode) → find (λ (e : Episode). same_trace e.trace t) es ≡ Some y → slice_set es (position_or_len (λ (e : Episode). same_trace e.trace t) es) y ≡ es
@@ -55,12 +55,12 @@ same-at t (x ∷ es) y e = (elim (same_trace x.trace t) as (λ b. cond b (Some x
       | false ↦ λ e. rw (one-add (position_or_len (λ (e : Episode). same_trace e.trace t) es)) (ap (λ zs. x ∷ zs) (same-at t es y e))
     ]) e
 
-pub appended : {E : Type 0} (t : TraceId) (a : Arrival) (old new : Buffer) (i : ℕ) (r : Result (Unit {0}) (Arrival × E)) → position (λ (e : Episode). same_trace e.trace t) old.episodes ≡ Some i → AppendsAt old.episodes i a (is_ok r) new.episodes → new.limit ≡ old.limit → IfErr r (λ back. back.0 ≡ a) →
-    AppendedTo old a t r new
-appended t a old new i (Ok u) h s l b =
+pub appended : {E : Type 0} (t : TraceId) (c : ℕ) (a : Arrival) (old new : Buffer) (i : ℕ) (r : Result (Unit {0}) (Arrival × E)) → position (λ (e : Episode). same_trace e.trace t) old.episodes ≡ Some i → AppendsAt old.episodes i c a (is_ok r) new.episodes → new.limit ≡ old.limit → IfErr r (λ back. back.0 ≡ a) →
+    AppendedTo old a c t r new
+appended t c a old new i (Ok u) h s l b =
     let w = (position-found (λ (e : Episode). same_trace e.trace t) old.episodes i h).1 in
-    same_buffer new (record old { episodes = append_first t a old.episodes }) (s w.0 w.1 ∙ ap (λ k. slice_set old.episodes k (with_span a w.0)) (sym w.3) ∙ append-at t a old.episodes w.0 w.2) l
-appended t a old new i (Err back) h s l b =
+    same_buffer new (record old { episodes = append_first t c a old.episodes }) (s w.0 w.1 ∙ ap (λ k. slice_set old.episodes k (with_span c a w.0)) (sym w.3) ∙ append-at t c a old.episodes w.0 w.2) l
+appended t c a old new i (Err back) h s l b =
     let w = (position-found (λ (e : Episode). same_trace e.trace t) old.episodes i h).1 in
     (b, same_buffer new old (s w.0 w.1 ∙ ap (λ k. slice_set old.episodes k w.0) (sym w.3) ∙ same-at t old.episodes w.0 w.2) l)
 

@@ -10,10 +10,11 @@ use Rattle.trace_buffer.specs.declared.episode.State.{State}
 use Rattle.trace_buffer.specs.declared.episode.State.TheVariants.{Undecided, Decided}
 use Rattle.trace_buffer.specs.declared.episode.Evicted.{Evicted}
 
--- an episode in the buffer: its spans until it is decided, and then its verdict
+-- an episode in the buffer: the clock at its first root and its spans until it is decided, and then its verdict
 pub record Episode : Type 0 where
   pub trace : TraceId
   pub moment : ℕ
+  pub first_root : Option ℕ
   pub spans : List Arrival
   pub verdict : Option Verdict
 
@@ -43,9 +44,23 @@ is_due_at mark wait e = is_none e.verdict && nat_le (e.moment + wait) mark
 abbrev pub evicted_as : Episode → Evicted
 evicted_as e = record { trace = e.trace; spans = length e.spans; verdict = e.verdict }
 
+-- ids are those of a span without a parent
+abbrev pub are_of_root : Option Ids → Bool
+are_of_root None = false
+are_of_root (Some ids) = is_none ids.parent
+
+-- the clock at which a span is taken, if it is a root
+abbrev pub root_at : (clock : ℕ) → Arrival → Option ℕ
+root_at clock a = if are_of_root a.rec.span.ids then Some clock else None
+
+-- the clock at the first root, before one more span
+abbrev pub root_before : Option ℕ → (clock : ℕ) → Arrival → Option ℕ
+root_before None clock a = root_at clock a
+root_before (Some first) clock a = Some first
+
 -- an episode that opens with this span
 abbrev pub opening_episode : TraceId → Arrival → (clock : ℕ) → Episode
-opening_episode t a clock = record { trace = t; moment = clock; spans = a ∷ []; verdict = None }
+opening_episode t a clock = record { trace = t; moment = clock; first_root = root_at clock a; spans = a ∷ []; verdict = None }
 
 -- the oldest leaves a full buffer
 abbrev pub after_opening : Buffer → Episode → Buffer
@@ -63,7 +78,7 @@ Opened old a (Some ids) clock (Err back) new = (back.0 ≡ a) × (new ≡ old)
 
 -- an episode once it is decided
 abbrev pub settled : Verdict → Episode → Episode
-settled v e = record e { spans = []; verdict = Some v }
+settled v e = record e { first_root = None; spans = []; verdict = Some v }
 
 -- the first that is due is decided
 abbrev pub settle_first : (mark wait : ℕ) → Verdict → List Episode → List Episode
@@ -83,14 +98,14 @@ abbrev pub Puts : (old : Buffer) → Episode → {E : Type 0} → Result (Option
 Puts old e (Ok evicted) new = (evicted ≡ leaves old) × (new ≡ after_opening old e)
 Puts old e (Err back) new = (e.spans ≡ back.0 ∷ []) × (new ≡ old)
 
--- an episode with one more span
-abbrev pub with_span : Arrival → Episode → Episode
-with_span a e = record e { spans = e.spans ++ a ∷ [] }
+-- an episode with one more span, taken at this clock
+abbrev pub with_span : (clock : ℕ) → Arrival → Episode → Episode
+with_span clock a e = record e { first_root = root_before e.first_root clock a; spans = e.spans ++ a ∷ [] }
 
 -- the span goes to the first episode of its trace
-abbrev pub append_first : TraceId → Arrival → List Episode → List Episode
-append_first t a [] = []
-append_first t a (e ∷ rest) = if same_trace e.trace t then with_span a e ∷ rest else e ∷ append_first t a rest
+abbrev pub append_first : TraceId → (clock : ℕ) → Arrival → List Episode → List Episode
+append_first t clock a [] = []
+append_first t clock a (e ∷ rest) = if same_trace e.trace t then with_span clock a e ∷ rest else e ∷ append_first t clock a rest
 
 -- there is an episode, and it is undecided
 abbrev pub is_undecided : Option Episode → Bool
@@ -103,23 +118,23 @@ stands_undecided None episodes = false
 stands_undecided (Some ids) episodes = is_undecided (episode_of ids.trace episodes)
 
 -- an append to the episode of this trace: the span is last in it, or it comes back and all is as before
-abbrev pub AppendedTo : (old : Buffer) → Arrival → TraceId → {E : Type 0} → Result (Unit {0}) (Arrival × E) → (new : Buffer) → Type 0
-AppendedTo old a t (Ok u) new = new ≡ record old { episodes = append_first t a old.episodes }
-AppendedTo old a t (Err back) new = (back.0 ≡ a) × (new ≡ old)
+abbrev pub AppendedTo : (old : Buffer) → Arrival → (clock : ℕ) → TraceId → {E : Type 0} → Result (Unit {0}) (Arrival × E) → (new : Buffer) → Type 0
+AppendedTo old a clock t (Ok u) new = new ≡ record old { episodes = append_first t clock a old.episodes }
+AppendedTo old a clock t (Err back) new = (back.0 ≡ a) × (new ≡ old)
 
 -- an append of a span with these ids
-abbrev pub Appended : (old : Buffer) → Arrival → Option Ids → {E : Type 0} → Result (Unit {0}) (Arrival × E) → (new : Buffer) → Type 0
-Appended old a None r new = Unit {0}
-Appended old a (Some ids) r new = AppendedTo old a ids.trace r new
+abbrev pub Appended : (old : Buffer) → Arrival → Option Ids → (clock : ℕ) → {E : Type 0} → Result (Unit {0}) (Arrival × E) → (new : Buffer) → Type 0
+Appended old a None clock r new = Unit {0}
+Appended old a (Some ids) clock r new = AppendedTo old a clock ids.trace r new
 
 -- an episode with one more span, where that is kept
-abbrev pub with_span_if : Bool → Arrival → Episode → Episode
-with_span_if true a e = with_span a e
-with_span_if false a e = e
+abbrev pub with_span_if : Bool → (clock : ℕ) → Arrival → Episode → Episode
+with_span_if true clock a e = with_span clock a e
+with_span_if false clock a e = e
 
 -- the episode at i gets the span, where that is kept
-abbrev pub AppendsAt : (old : List Episode) → ℕ → Arrival → (is_kept : Bool) → (new : List Episode) → Type 0
-AppendsAt old i a is_kept new = (e : Episode) → slice_get old i ≡ Some e → new ≡ slice_set old i (with_span_if is_kept a e)
+abbrev pub AppendsAt : (old : List Episode) → ℕ → (clock : ℕ) → Arrival → (is_kept : Bool) → (new : List Episode) → Type 0
+AppendsAt old i clock a is_kept new = (e : Episode) → slice_get old i ≡ Some e → new ≡ slice_set old i (with_span_if is_kept clock a e)
 
 -- no episode is of the trace of these ids
 abbrev pub is_new : Option Ids → List Episode → Bool

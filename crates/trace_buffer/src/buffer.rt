@@ -95,15 +95,19 @@ impl TraceBuffer {
         }
     }
 
-    /// Appends a span to its trace's episode, which stands undecided. A refusal of memory leaves all as before and
-    /// hands the span back.
-    pub fn append(&mut self, arrival: Arrival) -> Result<(), (Arrival, AllocError)>
+    /// Appends a span to its trace's episode, which stands undecided, at this clock, in milliseconds. A refusal of memory
+    /// leaves all as before and hands the span back.
+    pub fn append(
+        &mut self,
+        arrival: Arrival,
+        clock: Moment,
+    ) -> Result<(), (Arrival, AllocError)>
         requires { stands_undecided arrival.rec.span.ids self.old.episodes ≡ true }
-        ensures { Appended self.old arrival arrival.rec.span.ids result self.new }
+        ensures { Appended self.old arrival arrival.rec.span.ids clock result self.new }
     {
         let trace = ids_of(&arrival).unwrap().trace;
         let place = self.place(trace).unwrap();
-        self.append_at(place, arrival)
+        self.append_at(place, arrival, clock)
     }
 
     fn place(&self, trace: TraceId) -> Option<usize>
@@ -114,13 +118,18 @@ impl TraceBuffer {
             .position(|episode| episode.is_of(trace))
     }
 
-    fn append_at(&mut self, i: usize, arrival: Arrival) -> Result<(), (Arrival, AllocError)>
+    fn append_at(
+        &mut self,
+        i: usize,
+        arrival: Arrival,
+        clock: Moment,
+    ) -> Result<(), (Arrival, AllocError)>
         requires { i < length self.old.episodes }
-        ensures appends { AppendsAt self.old.episodes i arrival (is_ok result) self.new.episodes }
+        ensures appends { AppendsAt self.old.episodes i clock arrival (is_ok result) self.new.episodes }
         ensures back { IfErr result (λ back. back.0 ≡ arrival) }
         ensures limit { self.new.limit ≡ self.old.limit }
     {
-        self.episodes[i].append(arrival)
+        self.episodes[i].append(arrival, clock)
     }
 
     /// The episode that opened first of those that are undecided and had waited at least `wait` milliseconds at the

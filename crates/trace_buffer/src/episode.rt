@@ -1,5 +1,6 @@
 ghost use Rattle.std.specs.Prelude.{◌≡◌, [], ◌∷◌, ◌++◌, None, Some, length, is_ok, IfOk, IfErr};
 ghost use Rattle.span_ids.specs.Same.{same_trace};
+ghost use Rattle.trace_buffer.specs.Buffer.{root_at};
 
 use otlp_types::Arrival;
 use span_ids::{Moment, TraceId, Verdict};
@@ -31,6 +32,7 @@ pub struct Episode {
     alloc: Global,
     trace: TraceId,
     moment: Moment,
+    first_root: Option<Moment>,
     spans: Vec<Arrival>,
     verdict: Option<Verdict>,
 }
@@ -44,11 +46,11 @@ impl Model for Episode {
 
     ghost coded = { Prim.hlevel (codes, any_value.the_row.coded) };
 
-    ghost view = { λ e. record { trace = e.trace; moment = e.moment; spans = e.spans.items; verdict = e.verdict } };
+    ghost view = { λ e. record { trace = e.trace; moment = e.moment; first_root = e.first_root; spans = e.spans.items; verdict = e.verdict } };
 }
 
 impl Episode {
-    ghost use Rattle.trace_buffer.specs.Buffer.{evicted_as, with_span_if};
+    ghost use Rattle.trace_buffer.specs.Buffer.{evicted_as, opening_episode, settled, with_span_if};
 
     /// Opens an episode at this moment of the clock with its first span, which comes back where memory is refused.
     pub(crate) fn open(
@@ -57,15 +59,17 @@ impl Episode {
         moment: Moment,
         first: Arrival,
     ) -> Result<Episode, (Arrival, AllocError)>
-        ensures ok { IfOk result (λ e. e ≡ record { trace = trace; moment = moment; spans = first ∷ []; verdict = None }) }
+        ensures ok { IfOk result (λ e. e ≡ opening_episode trace first moment) }
         ensures back { IfErr result (λ back. back.0 ≡ first) }
     {
+        let first_root = root_at(moment, &first);
         let mut spans = Vec::new(alloc);
         match spans.push(first) {
             Ok(()) => Ok(Episode {
                 alloc,
                 trace,
                 moment,
+                first_root,
                 spans,
                 verdict: None,
             }),
@@ -105,6 +109,13 @@ impl Episode {
         self.moment
     }
 
+    /// The clock at its first span without a parent, in milliseconds, if one waits for the decision.
+    pub fn first_root(&self) -> Option<Moment>
+        ensures { result ≡ self.now.first_root }
+    {
+        self.first_root
+    }
+
     /// The verdict, once it is decided.
     pub fn verdict(&self) -> Option<Verdict>
         ensures { result ≡ self.now.verdict }
@@ -119,13 +130,21 @@ impl Episode {
         self.spans.as_slice()
     }
 
-    /// Takes a span, which comes back where memory is refused.
-    pub(crate) fn append(&mut self, arrival: Arrival) -> Result<(), (Arrival, AllocError)>
-        ensures after { self.new ≡ with_span_if (is_ok result) arrival self.old }
+    /// Takes a span at this clock. It comes back where memory is refused.
+    pub(crate) fn append(
+        &mut self,
+        arrival: Arrival,
+        clock: Moment,
+    ) -> Result<(), (Arrival, AllocError)>
+        ensures after { self.new ≡ with_span_if (is_ok result) clock arrival self.old }
         ensures back { IfErr result (λ back. back.0 ≡ arrival) }
     {
+        let root = root_at(clock, &arrival);
         match self.spans.push(arrival) {
-            Ok(()) => Ok(()),
+            Ok(()) => {
+                self.first_root = self.first_root.or(root);
+                Ok(())
+            }
             Err(failed) => Err((failed.value, AllocError)),
         }
     }
@@ -133,9 +152,20 @@ impl Episode {
     /// Decides it, and hands its spans out. It takes no memory.
     pub(crate) fn settle(&mut self, verdict: Verdict) -> Vec<Arrival>
         ensures spans { result.items ≡ self.old.spans }
-        ensures settled { self.new ≡ record self.old { spans = []; verdict = Some verdict } }
+        ensures settled { self.new ≡ settled verdict self.old }
     {
+        self.first_root = None;
         self.verdict = Some(verdict);
         std::mem::replace(&mut self.spans, Vec::new(self.alloc))
+    }
+}
+
+/// The clock, where the span that is taken at it has no parent.
+fn root_at(clock: Moment, arrival: &Arrival) -> Option<Moment>
+    ensures { result ≡ root_at clock arrival.now }
+{
+    match arrival.rec.span.ids {
+        Some(ids) if ids.parent.is_none() => Some(clock),
+        _ => None,
     }
 }

@@ -18,7 +18,7 @@ invariant_of-self c =
     let inv = c.self.invariant in
     let now = c.max-self-inside.result in
     let k = later_keeps i.clock now i.buffer i.cache (later c.args.arrival.moment i.clock now c.max-self-inside.ensures) (inv.1, inv.3, inv.4) in
-    let P = λ (o : Option Ids). Appended i.buffer c.args.arrival o c.append.result c.append.new.self in
+    let P = λ (o : Option Ids). Appended i.buffer c.args.arrival o now c.append.result c.append.new.self in
     let a = append_keeps now i.buffer c.append.new.self i.cache c.args.arrival c.unwrap-trace.result.trace c.append.result (subst P (sym c.ids_of.ensures ∙ c.unwrap-trace.ensures) c.append.ensures) k in
     (inv.0, a.0, inv.2, a.1, a.2)
 

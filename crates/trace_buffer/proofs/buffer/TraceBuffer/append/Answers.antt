@@ -11,5 +11,5 @@ unwrap-place-requires c =
 
 pub returns : goal.returns
 returns c =
-    let P = λ (o : Option Ids). Appended c.args.self.now c.args.arrival o c.append_at.result c.append_at.new.self in
-    subst P (sym c.unwrap-trace.ensures ∙ c.ids_of.ensures) (appended c.unwrap-trace.result.trace c.args.arrival c.args.self.now c.append_at.new.self c.unwrap-place.result c.append_at.result (sym c.place.ensures ∙ c.unwrap-place.ensures) c.append_at.ensures.appends c.append_at.ensures.limit c.append_at.ensures.back)
+    let P = λ (o : Option Ids). Appended c.args.self.now c.args.arrival o c.args.clock c.append_at.result c.append_at.new.self in
+    subst P (sym c.unwrap-trace.ensures ∙ c.ids_of.ensures) (appended c.unwrap-trace.result.trace c.args.clock c.args.arrival c.args.self.now c.append_at.new.self c.unwrap-place.result c.append_at.result (sym c.place.ensures ∙ c.unwrap-place.ensures) c.append_at.ensures.appends c.append_at.ensures.limit c.append_at.ensures.back)
