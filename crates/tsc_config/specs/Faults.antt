@@ -1,7 +1,8 @@
 -- What is wrong with the table of a configuration: the fault of least number among those of all its rows.
 use Rattle.std.specs.Prelude.{ℕ, ℤ, pos, ◌&&◌, codes, Option, None, Some, if◌then◌else◌, int_le, nat_lt}
-use Rattle.toml.specs.Data.{Data, string, integer, array, table, Items, no_items, item, Members, get_member}
-use Rattle.tsc_config.specs.Keys.{has_unknown_key, type_of, type_at, code_of}
+use Rattle.std.specs.Str.{bytes_eq}
+use Rattle.toml.specs.Data.{Data, string, integer, boolean, array, table, Items, no_items, item, Members, no_members, member, get_member}
+use Rattle.tsc_config.specs.Keys.{has_unknown_key, type_name, type_of, type_at, code_of}
 use Rattle.tsc_config.specs.declared.fault.ConfigFault.{ConfigFault}
 use Rattle.tsc_config.specs.declared.fault.ConfigFault.TheVariants.{NotToml, UnknownKey, MissingKey, WrongType, OutOfRange, TooFewTraces, Policy, NoMemory}
 use Rattle.tsc_config.specs.declared.kinds.PolicyType.{PolicyType}
@@ -75,46 +76,111 @@ abbrev pub codes_fault : Data → Option ConfigFault
 codes_fault (array items) = code_items_fault items
 codes_fault _ = Some WrongType
 
--- the settings of a `status_code` policy are wanted
-abbrev pub status_code_fault : Data → Option ConfigFault
-status_code_fault (table members) =
-    least (unknown_fault table_is.StatusCode members)
-    (required codes_fault (get_member (codes "status_codes") members))
-status_code_fault _ = Some WrongType
+-- the least fault among some items
+abbrev pub text_items_fault : Items → Option ConfigFault
+text_items_fault no_items = None
+text_items_fault (item value rest) = least (text_fault value) (text_items_fault rest)
+
+-- an array of texts is wanted
+abbrev pub texts_fault : Data → Option ConfigFault
+texts_fault (array items) = text_items_fault items
+texts_fault _ = Some WrongType
+
+-- a truth value is wanted
+abbrev pub truth_fault : Data → Option ConfigFault
+truth_fault (boolean value) = None
+truth_fault _ = Some WrongType
+
+-- a whole number is wanted
+abbrev pub whole_fault : Data → Option ConfigFault
+whole_fault (integer number) = None
+whole_fault _ = Some WrongType
+
+-- a whole number from 0 to 2^63-1 is wanted
+abbrev pub natural_fault : Data → Option ConfigFault
+natural_fault value = integer_fault (pos 0) (pos 9223372036854775807) value
+
+-- the rows of the settings of an attribute policy, where this is the fault of what is wanted of the value
+abbrev pub attribute_fault : Members → (wanted : Option ConfigFault) → Option ConfigFault
+attribute_fault members wanted =
+    least (required text_fault (get_member (codes "key") members))
+    (least wanted (optional truth_fault (get_member (codes "invert_match") members)))
+
+-- the rows of the settings of a policy of this type, but for the policies of an `and`
+unfoldable pub rows_fault : PolicyType → Members → Option ConfigFault
+rows_fault type_is.AlwaysSample _ = None
+rows_fault type_is.Latency members =
+    least (required natural_fault (get_member (codes "threshold_ms") members))
+    (optional natural_fault (get_member (codes "upper_threshold_ms") members))
+rows_fault type_is.StatusCode members = required codes_fault (get_member (codes "status_codes") members)
+rows_fault type_is.StringAttribute members = attribute_fault members (required texts_fault (get_member (codes "values") members))
+rows_fault type_is.NumericAttribute members =
+    attribute_fault members (least (optional whole_fault (get_member (codes "min_value") members))
+    (optional whole_fault (get_member (codes "max_value") members)))
+rows_fault type_is.BooleanAttribute members = attribute_fault members (required truth_fault (get_member (codes "value") members))
+rows_fault type_is.SpanCount members =
+    least (required natural_fault (get_member (codes "min_spans") members))
+    (optional natural_fault (get_member (codes "max_spans") members))
+rows_fault type_is.RateLimiting members = required natural_fault (get_member (codes "spans_per_second") members)
+rows_fault type_is.And _ = None
+
+-- the settings of a policy of this type are wanted
+abbrev pub settings_fault : PolicyType → Data → Option ConfigFault
+settings_fault kind (table members) = least (unknown_fault (table_is.Settings kind) members) (rows_fault kind members)
+settings_fault kind _ = Some WrongType
+
+-- the settings of a policy table of this type: `nested` is the fault of those of an `and`
+abbrev pub settings_at_fault : PolicyType → Members → (nested : Option ConfigFault) → Option ConfigFault
+settings_at_fault type_is.AlwaysSample _ nested = None
+settings_at_fault type_is.And _ nested = nested
+settings_at_fault kind members nested = required (settings_fault kind) (get_member (type_name kind) members)
 
 -- the rows of a policy table of a known type, beside `name` and `type`
-abbrev pub typed_fault : PolicyType → Members → Option ConfigFault
-typed_fault type_is.AlwaysSample members = unknown_fault (table_is.Policy type_is.AlwaysSample) members
-typed_fault type_is.StatusCode members =
-    least (unknown_fault (table_is.Policy type_is.StatusCode) members)
-    (required status_code_fault (get_member (codes "status_code") members))
+abbrev pub typed_fault : PolicyType → Members → (nested : Option ConfigFault) → Option ConfigFault
+typed_fault kind members nested = least (unknown_fault (table_is.Policy kind) members) (settings_at_fault kind members nested)
 
 -- those rows where the type is known; else nothing more is looked at
-abbrev pub typed_fault_where : Option PolicyType → Members → Option ConfigFault
-typed_fault_where None _ = None
-typed_fault_where (Some kind) members = typed_fault kind members
+abbrev pub typed_fault_where : Option PolicyType → Members → (nested : Option ConfigFault) → Option ConfigFault
+typed_fault_where None _ nested = None
+typed_fault_where (Some kind) members nested = typed_fault kind members nested
 
 -- the rows of a policy table
-unfoldable pub policy_table_fault : Members → Option ConfigFault
-policy_table_fault members =
+unfoldable pub policy_table_fault : Members → (nested : Option ConfigFault) → Option ConfigFault
+policy_table_fault members nested =
     least (least (required text_fault (get_member (codes "name") members))
     (required type_fault (get_member (codes "type") members)))
-    (typed_fault_where (type_at members) members)
+    (typed_fault_where (type_at members) members nested)
 
--- a policy table is wanted
-abbrev pub policy_fault : Data → Option ConfigFault
-policy_fault (table members) = policy_table_fault members
-policy_fault _ = Some WrongType
+abbrev mutual
+  -- an array of policy tables is wanted
+  pub policies_fault : Data → Option ConfigFault
+  policies_fault (array items) = policy_items_fault items
+  policies_fault _ = Some WrongType
 
--- the least fault among some policies
-abbrev pub policy_items_fault : Items → Option ConfigFault
-policy_items_fault no_items = None
-policy_items_fault (item value rest) = least (policy_fault value) (policy_items_fault rest)
+  -- the least fault among some policies
+  pub policy_items_fault : Items → Option ConfigFault
+  policy_items_fault no_items = None
+  policy_items_fault (item value rest) = least (policy_fault value) (policy_items_fault rest)
 
--- an array of policy tables is wanted
-abbrev pub policies_fault : Data → Option ConfigFault
-policies_fault (array items) = policy_items_fault items
-policies_fault _ = Some WrongType
+  -- a policy table is wanted
+  pub policy_fault : Data → Option ConfigFault
+  policy_fault (table members) = policy_table_fault members (and_fault members)
+  policy_fault _ = Some WrongType
+
+  -- the settings of an `and` are wanted in a policy table
+  pub and_fault : Members → Option ConfigFault
+  and_fault no_members = Some MissingKey
+  and_fault (member key value rest) = if bytes_eq key (codes "and") then and_settings_fault value else and_fault rest
+
+  -- the settings of an `and` are wanted
+  pub and_settings_fault : Data → Option ConfigFault
+  and_settings_fault (table members) = least (unknown_fault (table_is.Settings type_is.And) members) (sub_policies_fault members)
+  and_settings_fault _ = Some WrongType
+
+  -- the policies of an `and` are wanted in its settings
+  pub sub_policies_fault : Members → Option ConfigFault
+  sub_policies_fault no_members = Some MissingKey
+  sub_policies_fault (member key value rest) = if bytes_eq key (codes "and_sub_policy") then policies_fault value else sub_policies_fault rest
 
 -- the sizes of the caches of decisions are wanted
 abbrev pub cache_fault : Data → Option ConfigFault

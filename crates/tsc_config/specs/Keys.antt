@@ -1,5 +1,5 @@
 -- The keys of each kind of table, and the texts that `type` and `status_codes` take.
-use Rattle.std.specs.Prelude.{ℕ, ℤ, pos, Bool, false, not, ◌||◌, List, codes, Option, Some, None, if◌then◌else◌}
+use Rattle.std.specs.Prelude.{ℕ, ℤ, pos, Bool, true, false, not, ◌&&◌, ◌||◌, List, codes, Option, Some, None, if◌then◌else◌}
 use Rattle.std.specs.Str.{bytes_eq}
 use Rattle.toml.specs.Data.{Data, string, Members, no_members, member, get_member}
 use Rattle.tsc_config.specs.declared.kinds.PolicyType.{PolicyType}
@@ -7,13 +7,41 @@ use Rattle.tsc_config.specs.declared.kinds.PolicyType.TheVariants as type_is
 use Rattle.tsc_config.specs.declared.kinds.TableKind.{TableKind}
 use Rattle.tsc_config.specs.declared.kinds.TableKind.TheVariants as table_is
 
+-- the text that names a type of policy, and the key of its settings
+abbrev pub type_name : PolicyType → List ℕ
+type_name type_is.AlwaysSample = codes "always_sample"
+type_name type_is.Latency = codes "latency"
+type_name type_is.StatusCode = codes "status_code"
+type_name type_is.StringAttribute = codes "string_attribute"
+type_name type_is.NumericAttribute = codes "numeric_attribute"
+type_name type_is.BooleanAttribute = codes "boolean_attribute"
+type_name type_is.SpanCount = codes "span_count"
+type_name type_is.RateLimiting = codes "rate_limiting"
+type_name type_is.And = codes "and"
+
+-- a policy of this type has settings
+abbrev pub has_settings : PolicyType → Bool
+has_settings type_is.AlwaysSample = false
+has_settings _ = true
+
+-- the keys of the settings of a policy of this type
+unfoldable pub is_setting : PolicyType → List ℕ → Bool
+is_setting type_is.AlwaysSample key = false
+is_setting type_is.Latency key = bytes_eq key (codes "threshold_ms") || bytes_eq key (codes "upper_threshold_ms")
+is_setting type_is.StatusCode key = bytes_eq key (codes "status_codes")
+is_setting type_is.StringAttribute key = bytes_eq key (codes "key") || bytes_eq key (codes "values") || bytes_eq key (codes "invert_match")
+is_setting type_is.NumericAttribute key = bytes_eq key (codes "key") || bytes_eq key (codes "min_value") || bytes_eq key (codes "max_value") || bytes_eq key (codes "invert_match")
+is_setting type_is.BooleanAttribute key = bytes_eq key (codes "key") || bytes_eq key (codes "value") || bytes_eq key (codes "invert_match")
+is_setting type_is.SpanCount key = bytes_eq key (codes "min_spans") || bytes_eq key (codes "max_spans")
+is_setting type_is.RateLimiting key = bytes_eq key (codes "spans_per_second")
+is_setting type_is.And key = bytes_eq key (codes "and_sub_policy")
+
 -- the keys of a table of this kind
 unfoldable pub is_key : TableKind → List ℕ → Bool
 is_key table_is.Config key = bytes_eq key (codes "decision_wait_ms") || bytes_eq key (codes "num_traces") || bytes_eq key (codes "decision_cache") || bytes_eq key (codes "policies")
 is_key table_is.DecisionCache key = bytes_eq key (codes "sampled_cache_size") || bytes_eq key (codes "non_sampled_cache_size")
-is_key (table_is.Policy type_is.AlwaysSample) key = bytes_eq key (codes "name") || bytes_eq key (codes "type")
-is_key (table_is.Policy type_is.StatusCode) key = bytes_eq key (codes "name") || bytes_eq key (codes "type") || bytes_eq key (codes "status_code")
-is_key table_is.StatusCode key = bytes_eq key (codes "status_codes")
+is_key (table_is.Policy kind) key = bytes_eq key (codes "name") || bytes_eq key (codes "type") || has_settings kind && bytes_eq key (type_name kind)
+is_key (table_is.Settings kind) key = is_setting kind key
 
 -- some key isn't one of the keys of a table of this kind
 abbrev pub has_unknown_key : TableKind → Members → Bool
@@ -24,7 +52,14 @@ has_unknown_key kind (member key value rest) = not (is_key kind key) || has_unkn
 unfoldable pub type_named : List ℕ → Option PolicyType
 type_named text =
     if bytes_eq text (codes "always_sample") then Some type_is.AlwaysSample
+    else if bytes_eq text (codes "latency") then Some type_is.Latency
     else if bytes_eq text (codes "status_code") then Some type_is.StatusCode
+    else if bytes_eq text (codes "string_attribute") then Some type_is.StringAttribute
+    else if bytes_eq text (codes "numeric_attribute") then Some type_is.NumericAttribute
+    else if bytes_eq text (codes "boolean_attribute") then Some type_is.BooleanAttribute
+    else if bytes_eq text (codes "span_count") then Some type_is.SpanCount
+    else if bytes_eq text (codes "rate_limiting") then Some type_is.RateLimiting
+    else if bytes_eq text (codes "and") then Some type_is.And
     else None
 
 -- the type of policy that a value names

@@ -1,10 +1,13 @@
 -- What the table of a configuration gives. Of a table with a fault this says nothing that counts.
-use Rattle.std.specs.Prelude.{suc, ℕ, ℤ, pos, List, [], ◌∷◌, codes, Option, Some, None}
-use Rattle.toml.specs.Data.{Data, string, integer, array, table, Items, no_items, item, Members, get_member}
+use Rattle.std.specs.Prelude.{suc, ℕ, ℤ, pos, negsuc, Bool, false, List, [], ◌∷◌, codes, Option, Some, None, if◌then◌else◌}
+use Rattle.std.specs.Str.{bytes_eq}
+use Rattle.toml.specs.Data.{Data, string, integer, boolean, array, table, Items, no_items, item, Members, no_members, member, get_member}
 use Rattle.policy_tree.specs.declared.policy.Policy.{Policy}
 use Rattle.policy_tree.specs.declared.policy.PolicyKind.{PolicyKind}
 use Rattle.policy_tree.specs.declared.policy.PolicyKind.TheVariants as kind_is
-use Rattle.tsc_config.specs.Keys.{type_at, code_of}
+use Rattle.policy_tree.specs.declared.policy.Wanted.{Wanted}
+use Rattle.policy_tree.specs.declared.policy.Wanted.TheVariants.{StringAmong, NumberWithin, Boolean}
+use Rattle.tsc_config.specs.Keys.{type_name, type_at, code_of}
 use Rattle.tsc_config.specs.declared.kinds.PolicyType.{PolicyType}
 use Rattle.tsc_config.specs.declared.kinds.PolicyType.TheVariants as type_is
 use Rattle.tsc_config.specs.declared.config.Config.{Config}
@@ -27,19 +30,19 @@ abbrev pub positive_of : (default : ℕ) → Option Data → ℕ
 positive_of default None = default
 positive_of default (Some value) = positive_value default value
 
--- a size, where 0 is off
-abbrev pub size_value : Data → ℕ
-size_value (integer (pos number)) = number
-size_value _ = 0
+-- a number that is at least 0
+abbrev pub natural_value : Data → ℕ
+natural_value (integer (pos number)) = number
+natural_value _ = 0
 
--- the size at a key
-abbrev pub size_of : Option Data → ℕ
-size_of None = 0
-size_of (Some value) = size_value value
+-- the number at a key, at least 0
+abbrev pub natural_of : Option Data → ℕ
+natural_of None = 0
+natural_of (Some value) = natural_value value
 
 -- the size at a key of a table of sizes
 abbrev pub size_in : (key : List ℕ) → Data → ℕ
-size_in key (table members) = size_of (get_member key members)
+size_in key (table members) = natural_of (get_member key members)
 size_in key _ = 0
 
 -- the size at a key of the table of sizes at a key
@@ -77,43 +80,112 @@ abbrev pub codes_of : Option Data → List ℤ
 codes_of None = []
 codes_of (Some value) = codes_value value
 
--- the status codes of settings
-abbrev pub settings_value : Data → List ℤ
-settings_value (table members) = codes_of (get_member (codes "status_codes") members)
-settings_value _ = []
+-- a whole number
+abbrev pub whole_value : (default : ℤ) → Data → ℤ
+whole_value default (integer number) = number
+whole_value default _ = default
 
--- the status codes of the settings at a key
-abbrev pub settings_codes : Option Data → List ℤ
-settings_codes None = []
-settings_codes (Some value) = settings_value value
+-- the whole number at a key
+abbrev pub whole_of : (default : ℤ) → Option Data → ℤ
+whole_of default None = default
+whole_of default (Some value) = whole_value default value
 
--- what a policy of this type samples
-abbrev pub kind_typed : Option PolicyType → Members → PolicyKind
-kind_typed (Some type_is.StatusCode) members = kind_is.StatusCode (settings_codes (get_member (codes "status_code") members))
-kind_typed _ _ = kind_is.AlwaysSample
+-- a truth value
+abbrev pub truth_value : Data → Bool
+truth_value (boolean value) = value
+truth_value _ = false
 
--- what the policy of a table samples
-abbrev pub kind_of : Members → PolicyKind
-kind_of members = kind_typed (type_at members) members
+-- the truth value at a key
+abbrev pub truth_of : Option Data → Bool
+truth_of None = false
+truth_of (Some value) = truth_value value
 
--- the policy of a table
-unfoldable pub policy_of : Members → Policy
-policy_of members = record { name = text_of (get_member (codes "name") members); kind = kind_of members }
+-- a text, if it is one
+abbrev pub text_found : Data → Option (List ℕ)
+text_found (string text) = Some text
+text_found _ = None
 
--- the policy of a value that is a table
-abbrev pub policy_value : Data → Option Policy
-policy_value (table members) = Some (policy_of members)
-policy_value _ = None
+-- the texts among items, in order
+abbrev pub item_texts : Items → List (List ℕ)
+item_texts no_items = []
+item_texts (item value rest) = found_before (text_found value) (item_texts rest)
 
--- the policies of items, in order
-abbrev pub item_policies : Items → List Policy
-item_policies no_items = []
-item_policies (item value rest) = found_before (policy_value value) (item_policies rest)
+-- the texts of an array
+abbrev pub texts_value : Data → List (List ℕ)
+texts_value (array items) = item_texts items
+texts_value _ = []
 
--- the policies of an array
-abbrev pub policies_value : Data → List Policy
-policies_value (array items) = item_policies items
-policies_value _ = []
+-- the texts of the array at a key
+abbrev pub texts_of : Option Data → List (List ℕ)
+texts_of None = []
+texts_of (Some value) = texts_value value
+
+-- the attribute policy of settings, with what is wanted of the value
+abbrev pub attribute : Members → Wanted → PolicyKind
+attribute members wanted = kind_is.Attribute (text_of (get_member (codes "key") members)) wanted (truth_of (get_member (codes "invert_match") members))
+
+-- what a policy of this type samples by its settings
+unfoldable pub kind_in : PolicyType → Members → PolicyKind
+kind_in type_is.Latency members = kind_is.Latency (natural_of (get_member (codes "threshold_ms") members)) (natural_of (get_member (codes "upper_threshold_ms") members))
+kind_in type_is.StatusCode members = kind_is.StatusCode (codes_of (get_member (codes "status_codes") members))
+kind_in type_is.StringAttribute members = attribute members (StringAmong (texts_of (get_member (codes "values") members)))
+kind_in type_is.NumericAttribute members =
+    attribute members (NumberWithin (whole_of (negsuc 9223372036854775807) (get_member (codes "min_value") members)) (whole_of (pos 9223372036854775807) (get_member (codes "max_value") members)))
+kind_in type_is.BooleanAttribute members = attribute members (Boolean (truth_of (get_member (codes "value") members)))
+kind_in type_is.SpanCount members = kind_is.SpanCount (natural_of (get_member (codes "min_spans") members)) (natural_of (get_member (codes "max_spans") members))
+kind_in type_is.RateLimiting members = kind_is.RateLimiting (natural_of (get_member (codes "spans_per_second") members))
+kind_in _ _ = kind_is.AlwaysSample
+
+-- what it samples by its settings, where they are a table
+abbrev pub kind_of : PolicyType → Data → PolicyKind
+kind_of kind (table members) = kind_in kind members
+kind_of kind _ = kind_is.AlwaysSample
+
+-- what it samples by the value at the key of its settings
+abbrev pub kind_by : PolicyType → Option Data → PolicyKind
+kind_by kind None = kind_is.AlwaysSample
+kind_by kind (Some value) = kind_of kind value
+
+-- what a policy of this type samples, with these policies in an `and`
+abbrev pub kind_typed : Option PolicyType → Members → (nested : List Policy) → PolicyKind
+kind_typed None _ nested = kind_is.AlwaysSample
+kind_typed (Some type_is.And) _ nested = kind_is.And nested
+kind_typed (Some kind) members nested = kind_by kind (get_member (type_name kind) members)
+
+-- the policy of a table, with these policies in an `and`
+unfoldable pub policy_of : Members → (nested : List Policy) → Policy
+policy_of members nested = record { name = text_of (get_member (codes "name") members); kind = kind_typed (type_at members) members nested }
+
+abbrev mutual
+  -- the policies of an array
+  pub policies_value : Data → List Policy
+  policies_value (array items) = item_policies items
+  policies_value _ = []
+
+  -- the policies of items, in order
+  pub item_policies : Items → List Policy
+  item_policies no_items = []
+  item_policies (item value rest) = found_before (policy_value value) (item_policies rest)
+
+  -- the policy of a value that is a table
+  pub policy_value : Data → Option Policy
+  policy_value (table members) = Some (policy_of members (and_policies members))
+  policy_value _ = None
+
+  -- the policies of the `and` of a policy table
+  pub and_policies : Members → List Policy
+  and_policies no_members = []
+  and_policies (member key value rest) = if bytes_eq key (codes "and") then and_settings value else and_policies rest
+
+  -- the policies of the settings of an `and`
+  pub and_settings : Data → List Policy
+  and_settings (table members) = sub_policies members
+  and_settings _ = []
+
+  -- the policies at their key in the settings of an `and`
+  pub sub_policies : Members → List Policy
+  sub_policies no_members = []
+  sub_policies (member key value rest) = if bytes_eq key (codes "and_sub_policy") then policies_value value else sub_policies rest
 
 -- the policies of the array at a key
 abbrev pub policies_of : Option Data → List Policy

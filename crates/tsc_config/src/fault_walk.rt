@@ -56,7 +56,8 @@ fn cache_fault(value: &Value) -> Option<ConfigFault>
     }
 }
 
-fn integer_fault(value: &Value, least: i64, greatest: i64) -> Option<ConfigFault>
+/// The fault of a whole number within these bounds.
+pub fn integer_fault(value: &Value, least: i64, greatest: i64) -> Option<ConfigFault>
     ensures { result ≡ spec.integer_fault least greatest (view value.now) }
 {
     match value {

@@ -16,6 +16,24 @@ pub fn member<'a>(table: &'a Table, key: &str) -> Option<&'a Value>
     table.get(key)
 }
 
+/// Whether the settings of a policy of this type have this key.
+#[tactic(auto, unfolding(crate::specs::Keys::is_setting))]
+fn is_setting(kind: PolicyType, key: &str) -> bool
+    ensures { result ≡ spec.is_setting kind key.now }
+{
+    match kind {
+        PolicyType::AlwaysSample => false,
+        PolicyType::Latency => key == "threshold_ms" || key == "upper_threshold_ms",
+        PolicyType::StatusCode => key == "status_codes",
+        PolicyType::StringAttribute => key == "key" || key == "values" || key == "invert_match",
+        PolicyType::NumericAttribute => key == "key" || key == "min_value" || key == "max_value" || key == "invert_match",
+        PolicyType::BooleanAttribute => key == "key" || key == "value" || key == "invert_match",
+        PolicyType::SpanCount => key == "min_spans" || key == "max_spans",
+        PolicyType::RateLimiting => key == "spans_per_second",
+        PolicyType::And => key == "and_sub_policy",
+    }
+}
+
 /// Whether a table of this kind has this key.
 #[tactic(auto, unfolding(crate::specs::Keys::is_key))]
 fn is_key(kind: TableKind, key: &str) -> bool
@@ -28,11 +46,20 @@ fn is_key(kind: TableKind, key: &str) -> bool
         TableKind::DecisionCache => {
             key == "sampled_cache_size" || key == "non_sampled_cache_size"
         }
-        TableKind::Policy(PolicyType::AlwaysSample) => key == "name" || key == "type",
-        TableKind::Policy(PolicyType::StatusCode) => {
-            key == "name" || key == "type" || key == "status_code"
+        TableKind::Policy(kind) => {
+            key == "name" || key == "type" || has_settings(kind) && key == kind.name()
         }
-        TableKind::StatusCode => key == "status_codes",
+        TableKind::Settings(kind) => is_setting(kind, key),
+    }
+}
+
+/// Whether a policy of this type has settings.
+fn has_settings(kind: PolicyType) -> bool
+    ensures { result ≡ spec.has_settings kind }
+{
+    match kind {
+        PolicyType::AlwaysSample => false,
+        _ => true,
     }
 }
 
@@ -66,8 +93,22 @@ fn type_named(text: &str) -> Option<PolicyType>
 {
     if text == "always_sample" {
         Some(PolicyType::AlwaysSample)
+    } else if text == "latency" {
+        Some(PolicyType::Latency)
     } else if text == "status_code" {
         Some(PolicyType::StatusCode)
+    } else if text == "string_attribute" {
+        Some(PolicyType::StringAttribute)
+    } else if text == "numeric_attribute" {
+        Some(PolicyType::NumericAttribute)
+    } else if text == "boolean_attribute" {
+        Some(PolicyType::BooleanAttribute)
+    } else if text == "span_count" {
+        Some(PolicyType::SpanCount)
+    } else if text == "rate_limiting" {
+        Some(PolicyType::RateLimiting)
+    } else if text == "and" {
+        Some(PolicyType::And)
     } else {
         None
     }

@@ -1,6 +1,5 @@
-//! The configuration of the collector: a TOML text, read into a wait and its policies, or one numbered fault
-//! (tailsamplingprocessor README, "decision_wait", "policies"). Of the policy types only `always_sample` and
-//! `status_code` are read so far.
+//! The configuration of the collector: a TOML text, read into its settings and policies, or one numbered fault
+//! (tailsamplingprocessor README, "decision_wait", "num_traces", "decision_cache", "policies").
 //!
 //! The faults of the table are looked for first, in a walk that takes no memory; what the table gives is made only where
 //! there is none. No contract keeps [`read`] from answering that it found no memory, except for a text without keys:
@@ -13,9 +12,11 @@ mod fault_walk;
 mod keys;
 mod kinds;
 mod policy_faults;
+mod settings_faults;
 #[cfg(test)]
 mod tests;
 mod values;
+mod settings_values;
 
 pub use config::{Config, read};
 pub use fault::ConfigFault;

@@ -2,15 +2,18 @@
 ghost use Rattle.std.specs.Prelude.{◌≡◌, codes};
 ghost use Rattle.toml.specs.Data.{get_member};
 ghost use Rattle.toml.specs.View.{view, table_view, array_view};
+ghost use Rattle.tsc_config.specs.Keys.{type_name};
 ghost use Rattle.tsc_config.specs.Faults as spec;
 
 use crate::fault::{ConfigFault, least};
-use crate::keys::{code_of, member, type_at, type_of, unknown_fault};
+use crate::keys::{member, type_at, type_of, unknown_fault};
 use crate::kinds::{PolicyType, TableKind};
+use crate::settings_faults::{settings_fault, text_fault};
 use toml::value::Array;
 use toml::{Table, Value};
 
 /// The fault of a list of policy tables.
+#[cycle(policies)]
 pub fn policies_fault(value: &Value) -> Option<ConfigFault>
     ensures { result ≡ spec.policies_fault (view value.now) }
 {
@@ -20,6 +23,7 @@ pub fn policies_fault(value: &Value) -> Option<ConfigFault>
     }
 }
 
+#[cycle(policies)]
 fn policy_items_fault(items: &Array) -> Option<ConfigFault>
     ensures { result ≡ spec.policy_items_fault (array_view items.now) }
 {
@@ -30,24 +34,64 @@ fn policy_items_fault(items: &Array) -> Option<ConfigFault>
     fault
 }
 
+#[cycle(policies)]
 fn policy_fault(value: &Value) -> Option<ConfigFault>
     ensures { result ≡ spec.policy_fault (view value.now) }
 {
     match value {
-        Value::Table(table) => policy_table_fault(table),
+        Value::Table(table) => policy_table_fault(table, and_fault(table)),
         _ => Some(ConfigFault::WrongType),
     }
 }
 
+/// The fault of the settings of an `and` in a policy table.
+#[cycle(policies)]
+fn and_fault(table: &Table) -> Option<ConfigFault>
+    ensures { result ≡ spec.and_fault (table_view table.now) }
+{
+    for (key, value) in table {
+        if key.as_str() == "and" {
+            return and_settings_fault(value);
+        }
+    }
+    Some(ConfigFault::MissingKey)
+}
+
+#[cycle(policies)]
+fn and_settings_fault(value: &Value) -> Option<ConfigFault>
+    ensures { result ≡ spec.and_settings_fault (view value.now) }
+{
+    match value {
+        Value::Table(table) => {
+            let keys = unknown_fault(TableKind::Settings(PolicyType::And), table);
+            least(keys, sub_policies_fault(table))
+        }
+        _ => Some(ConfigFault::WrongType),
+    }
+}
+
+#[cycle(policies)]
+fn sub_policies_fault(table: &Table) -> Option<ConfigFault>
+    ensures { result ≡ spec.sub_policies_fault (table_view table.now) }
+{
+    for (key, value) in table {
+        if key.as_str() == "and_sub_policy" {
+            return policies_fault(value);
+        }
+    }
+    Some(ConfigFault::MissingKey)
+}
+
+/// The fault of a policy table: `nested` is that of the settings of an `and`.
 #[tactic(auto, unfolding(crate::specs::Faults::policy_table_fault))]
-fn policy_table_fault(table: &Table) -> Option<ConfigFault>
-    ensures { result ≡ spec.policy_table_fault (table_view table.now) }
+fn policy_table_fault(table: &Table, nested: Option<ConfigFault>) -> Option<ConfigFault>
+    ensures { result ≡ spec.policy_table_fault (table_view table.now) nested }
 {
     let name = name_fault(table);
     let (kind, of_type) = (type_at(table), type_fault(table));
     let head = least(name, of_type);
     match kind {
-        Some(kind) => least(head, typed_fault(kind, table)),
+        Some(kind) => least(head, typed_fault(kind, table, nested)),
         None => head,
     }
 }
@@ -58,15 +102,6 @@ fn name_fault(table: &Table) -> Option<ConfigFault>
     match member(table, "name") {
         Some(value) => text_fault(value),
         None => Some(ConfigFault::MissingKey),
-    }
-}
-
-fn text_fault(value: &Value) -> Option<ConfigFault>
-    ensures { result ≡ spec.text_fault (view value.now) }
-{
-    match value {
-        Value::String(_) => None,
-        _ => Some(ConfigFault::WrongType),
     }
 }
 
@@ -92,73 +127,32 @@ fn type_value_fault(value: &Value) -> Option<ConfigFault>
 }
 
 /// The fault of a policy table beside its name and type.
-fn typed_fault(kind: PolicyType, table: &Table) -> Option<ConfigFault>
-    ensures { result ≡ spec.typed_fault kind (table_view table.now) }
+fn typed_fault(kind: PolicyType, table: &Table, nested: Option<ConfigFault>) -> Option<ConfigFault>
+    ensures { result ≡ spec.typed_fault kind (table_view table.now) nested }
 {
     let keys = unknown_fault(TableKind::Policy(kind), table);
+    least(keys, settings_at_fault(kind, table, nested))
+}
+
+fn settings_at_fault(
+    kind: PolicyType,
+    table: &Table,
+    nested: Option<ConfigFault>,
+) -> Option<ConfigFault>
+    ensures { result ≡ spec.settings_at_fault kind (table_view table.now) nested }
+{
     match kind {
-        PolicyType::AlwaysSample => keys,
-        PolicyType::StatusCode => least(keys, status_code_fault(table)),
+        PolicyType::AlwaysSample => None,
+        PolicyType::And => nested,
+        _ => required_settings_fault(kind, table),
     }
 }
 
-fn status_code_fault(table: &Table) -> Option<ConfigFault>
-    ensures { result ≡ spec.required spec.status_code_fault (get_member (codes "status_code") (table_view table.now)) }
+fn required_settings_fault(kind: PolicyType, table: &Table) -> Option<ConfigFault>
+    ensures { result ≡ spec.required (spec.settings_fault kind) (get_member (type_name kind) (table_view table.now)) }
 {
-    match member(table, "status_code") {
-        Some(value) => status_code_value_fault(value),
+    match member(table, kind.name()) {
+        Some(value) => settings_fault(kind, value),
         None => Some(ConfigFault::MissingKey),
-    }
-}
-
-fn status_code_value_fault(value: &Value) -> Option<ConfigFault>
-    ensures { result ≡ spec.status_code_fault (view value.now) }
-{
-    match value {
-        Value::Table(table) => {
-            let keys = unknown_fault(TableKind::StatusCode, table);
-            least(keys, codes_fault(table))
-        }
-        _ => Some(ConfigFault::WrongType),
-    }
-}
-
-fn codes_fault(table: &Table) -> Option<ConfigFault>
-    ensures { result ≡ spec.required spec.codes_fault (get_member (codes "status_codes") (table_view table.now)) }
-{
-    match member(table, "status_codes") {
-        Some(value) => codes_value_fault(value),
-        None => Some(ConfigFault::MissingKey),
-    }
-}
-
-fn codes_value_fault(value: &Value) -> Option<ConfigFault>
-    ensures { result ≡ spec.codes_fault (view value.now) }
-{
-    match value {
-        Value::Array(items) => code_items_fault(items),
-        _ => Some(ConfigFault::WrongType),
-    }
-}
-
-fn code_items_fault(items: &Array) -> Option<ConfigFault>
-    ensures { result ≡ spec.code_items_fault (array_view items.now) }
-{
-    let mut fault = None;
-    for item in items {
-        fault = least(fault, code_fault(item));
-    }
-    fault
-}
-
-fn code_fault(value: &Value) -> Option<ConfigFault>
-    ensures { result ≡ spec.code_fault (view value.now) }
-{
-    match value {
-        Value::String(_) => match code_of(value) {
-            Some(_) => None,
-            None => Some(ConfigFault::OutOfRange),
-        },
-        _ => Some(ConfigFault::WrongType),
     }
 }

@@ -2,11 +2,13 @@
 ghost use Rattle.std.specs.Prelude.{◌≡◌, ◌<◌, IfOk, codes};
 ghost use Rattle.toml.specs.Data.{get_member};
 ghost use Rattle.toml.specs.View.{view, table_view, array_view};
+ghost use Rattle.tsc_config.specs.Keys.{type_name};
 ghost use Rattle.tsc_config.specs.Values as spec;
 
-use crate::keys::{code_of, member, type_at};
+use crate::keys::{member, type_at};
 use crate::kinds::PolicyType;
-use otlp_types::{List, Text};
+use crate::settings_values::{kind_in, natural_at, text_at};
+use otlp_types::List;
 use policy_tree::{Policy, PolicyKind};
 use span_ids::Moment;
 use std::alloc::{AllocError, Global};
@@ -72,25 +74,7 @@ fn size_in(value: &Value, key: &str) -> usize
     ensures { result ≡ spec.size_in key.now (view value.now) }
 {
     match value {
-        Value::Table(sizes) => size_at(sizes, key),
-        _ => 0,
-    }
-}
-
-fn size_at(sizes: &Table, key: &str) -> usize
-    ensures { result ≡ spec.size_of (get_member key.now (table_view sizes.now)) }
-{
-    match member(sizes, key) {
-        Some(value) => size_of(value),
-        None => 0,
-    }
-}
-
-fn size_of(value: &Value) -> usize
-    ensures { result ≡ spec.size_value (view value.now) }
-{
-    match value {
-        Value::Integer(number) if 0 <= *number => *number as usize,
+        Value::Table(sizes) => natural_at(sizes, key) as usize,
         _ => 0,
     }
 }
@@ -100,24 +84,26 @@ pub fn policies_at(alloc: Global, table: &Table) -> Result<Vec<Policy>, AllocErr
     ensures { IfOk result (λ list. list.items ≡ spec.policies_of (get_member (codes "policies") (table_view table.now))) }
 {
     match member(table, "policies") {
-        Some(value) => policies_of(alloc, value),
+        Some(value) => Ok(policies_value(alloc, value)?.into_vec()),
         None => Ok(Vec::new(alloc)),
     }
 }
 
-fn policies_of(alloc: Global, value: &Value) -> Result<Vec<Policy>, AllocError>
-    ensures { IfOk result (λ list. list.items ≡ spec.policies_value (view value.now)) }
+#[cycle(policies)]
+fn policies_value(alloc: Global, value: &Value) -> Result<List<Policy>, AllocError>
+    ensures { IfOk result (λ list. list ≡ spec.policies_value (view value.now)) }
 {
     match value {
         Value::Array(items) => item_policies(alloc, items),
-        _ => Ok(Vec::new(alloc)),
+        _ => Ok(List::new(alloc)),
     }
 }
 
-fn item_policies(alloc: Global, items: &Array) -> Result<Vec<Policy>, AllocError>
-    ensures { IfOk result (λ list. list.items ≡ spec.item_policies (array_view items.now)) }
+#[cycle(policies)]
+fn item_policies(alloc: Global, items: &Array) -> Result<List<Policy>, AllocError>
+    ensures { IfOk result (λ list. list ≡ spec.item_policies (array_view items.now)) }
 {
-    let mut list = Vec::new(alloc);
+    let mut list = List::new(alloc);
     for item in items {
         if let Some(policy) = policy_value(alloc, item)? {
             list.push(policy)?;
@@ -126,98 +112,94 @@ fn item_policies(alloc: Global, items: &Array) -> Result<Vec<Policy>, AllocError
     Ok(list)
 }
 
+#[cycle(policies)]
 fn policy_value(alloc: Global, value: &Value) -> Result<Option<Policy>, AllocError>
     ensures { IfOk result (λ found. found ≡ spec.policy_value (view value.now)) }
 {
     match value {
-        Value::Table(table) => Ok(Some(policy_of(alloc, table)?)),
+        Value::Table(table) => {
+            let nested = and_policies(alloc, table)?;
+            Ok(Some(policy_of(alloc, table, nested)?))
+        }
         _ => Ok(None),
     }
 }
 
+/// The policies of the `and` of a policy table.
+#[cycle(policies)]
+fn and_policies(alloc: Global, table: &Table) -> Result<List<Policy>, AllocError>
+    ensures { IfOk result (λ list. list ≡ spec.and_policies (table_view table.now)) }
+{
+    for (key, value) in table {
+        if key.as_str() == "and" {
+            return and_settings(alloc, value);
+        }
+    }
+    Ok(List::new(alloc))
+}
+
+#[cycle(policies)]
+fn and_settings(alloc: Global, value: &Value) -> Result<List<Policy>, AllocError>
+    ensures { IfOk result (λ list. list ≡ spec.and_settings (view value.now)) }
+{
+    match value {
+        Value::Table(settings) => sub_policies(alloc, settings),
+        _ => Ok(List::new(alloc)),
+    }
+}
+
+#[cycle(policies)]
+fn sub_policies(alloc: Global, table: &Table) -> Result<List<Policy>, AllocError>
+    ensures { IfOk result (λ list. list ≡ spec.sub_policies (table_view table.now)) }
+{
+    for (key, value) in table {
+        if key.as_str() == "and_sub_policy" {
+            return policies_value(alloc, value);
+        }
+    }
+    Ok(List::new(alloc))
+}
+
+/// The policy of a table, with these policies in an `and`.
 #[tactic(auto, unfolding(crate::specs::Values::policy_of))]
-fn policy_of(alloc: Global, table: &Table) -> Result<Policy, AllocError>
-    ensures { IfOk result (λ policy. policy ≡ spec.policy_of (table_view table.now)) }
+fn policy_of(alloc: Global, table: &Table, nested: List<Policy>) -> Result<Policy, AllocError>
+    ensures { IfOk result (λ policy. policy ≡ spec.policy_of (table_view table.now) nested) }
 {
     Ok(Policy {
-        name: name_at(alloc, table)?,
-        kind: kind_at(alloc, table)?,
+        name: text_at(alloc, table, "name")?,
+        kind: kind_typed(alloc, type_at(table), table, nested)?,
     })
 }
 
-fn name_at(alloc: Global, table: &Table) -> Result<Text, AllocError>
-    ensures { IfOk result (λ name. name ≡ spec.text_of (get_member (codes "name") (table_view table.now))) }
+fn kind_typed(
+    alloc: Global,
+    kind: Option<PolicyType>,
+    table: &Table,
+    nested: List<Policy>,
+) -> Result<PolicyKind, AllocError>
+    ensures { IfOk result (λ found. found ≡ spec.kind_typed kind (table_view table.now) nested) }
 {
-    match member(table, "name") {
-        Some(value) => text_of(alloc, value),
-        None => Ok(Text::new(alloc)),
+    match kind {
+        None => Ok(PolicyKind::AlwaysSample),
+        Some(PolicyType::And) => Ok(PolicyKind::And { policies: nested }),
+        Some(kind) => kind_by(alloc, kind, table),
     }
 }
 
-fn text_of(alloc: Global, value: &Value) -> Result<Text, AllocError>
-    ensures { IfOk result (λ text. text ≡ spec.text_value (view value.now)) }
+fn kind_by(alloc: Global, kind: PolicyType, table: &Table) -> Result<PolicyKind, AllocError>
+    ensures { IfOk result (λ found. found ≡ spec.kind_by kind (get_member (type_name kind) (table_view table.now))) }
+{
+    match member(table, kind.name()) {
+        Some(value) => kind_of(alloc, kind, value),
+        None => Ok(PolicyKind::AlwaysSample),
+    }
+}
+
+fn kind_of(alloc: Global, kind: PolicyType, value: &Value) -> Result<PolicyKind, AllocError>
+    ensures { IfOk result (λ found. found ≡ spec.kind_of kind (view value.now)) }
 {
     match value {
-        Value::String(text) => Text::from_str(alloc, text.as_str()),
-        _ => Ok(Text::new(alloc)),
-    }
-}
-
-fn kind_at(alloc: Global, table: &Table) -> Result<PolicyKind, AllocError>
-    ensures { IfOk result (λ kind. kind ≡ spec.kind_of (table_view table.now)) }
-{
-    match type_at(table) {
-        Some(PolicyType::StatusCode) => Ok(PolicyKind::StatusCode {
-            codes: settings_codes(alloc, table)?,
-        }),
+        Value::Table(settings) => kind_in(alloc, kind, settings),
         _ => Ok(PolicyKind::AlwaysSample),
     }
-}
-
-fn settings_codes(alloc: Global, table: &Table) -> Result<List<i32>, AllocError>
-    ensures { IfOk result (λ list. list ≡ spec.settings_codes (get_member (codes "status_code") (table_view table.now))) }
-{
-    match member(table, "status_code") {
-        Some(value) => settings_value(alloc, value),
-        None => Ok(List::new(alloc)),
-    }
-}
-
-fn settings_value(alloc: Global, value: &Value) -> Result<List<i32>, AllocError>
-    ensures { IfOk result (λ list. list ≡ spec.settings_value (view value.now)) }
-{
-    match value {
-        Value::Table(settings) => codes_at(alloc, settings),
-        _ => Ok(List::new(alloc)),
-    }
-}
-
-fn codes_at(alloc: Global, settings: &Table) -> Result<List<i32>, AllocError>
-    ensures { IfOk result (λ list. list ≡ spec.codes_of (get_member (codes "status_codes") (table_view settings.now))) }
-{
-    match member(settings, "status_codes") {
-        Some(value) => codes_value(alloc, value),
-        None => Ok(List::new(alloc)),
-    }
-}
-
-fn codes_value(alloc: Global, value: &Value) -> Result<List<i32>, AllocError>
-    ensures { IfOk result (λ list. list ≡ spec.codes_value (view value.now)) }
-{
-    match value {
-        Value::Array(items) => item_codes(alloc, items),
-        _ => Ok(List::new(alloc)),
-    }
-}
-
-fn item_codes(alloc: Global, items: &Array) -> Result<List<i32>, AllocError>
-    ensures { IfOk result (λ list. list ≡ spec.item_codes (array_view items.now)) }
-{
-    let mut list = List::new(alloc);
-    for item in items {
-        if let Some(code) = code_of(item) {
-            list.push(code)?;
-        }
-    }
-    Ok(list)
 }

@@ -1,7 +1,7 @@
 use Rattle.std.proofs.Common.{◌≡◌, drop}
 use Rattle.toml.specs.View.{items_view, array_view}
 use Rattle.tsc_config.specs.Faults.{least, code_items_fault}
-use Rattle.tsc_config.proofs.policy_faults.code_items_fault.Given as goal
+use Rattle.tsc_config.proofs.settings_faults.code_items_fault.Given as goal
 
 -- the least so far and the least of those that are left make the least of all
 abbrev pub invariant-loop-item : goal.invariant-loop-item

@@ -1,7 +1,7 @@
 use Rattle.std.proofs.Common.{◌≡◌, ◌++◌, drop}
 use Rattle.toml.specs.View.{items_view, array_view}
 use Rattle.tsc_config.specs.Values.{item_codes}
-use Rattle.tsc_config.proofs.values.item_codes.Given as goal
+use Rattle.tsc_config.proofs.settings_values.item_codes.Given as goal
 
 -- those so far, and those of the items that are left
 abbrev pub invariant-loop-item : goal.invariant-loop-item

@@ -1,0 +1,206 @@
+//! What the settings of a policy give.
+ghost use Rattle.std.specs.Prelude.{◌≡◌, IfOk, codes};
+ghost use Rattle.toml.specs.Data.{get_member};
+ghost use Rattle.toml.specs.View.{view, table_view, array_view};
+ghost use Rattle.tsc_config.specs.Values as spec;
+
+use crate::keys::{code_of, member};
+use crate::kinds::PolicyType;
+use otlp_types::{List, Text};
+use policy_tree::{PolicyKind, Wanted};
+use std::alloc::{AllocError, Global};
+use toml::value::Array;
+use toml::{Table, Value};
+
+/// What a policy of this type samples by its settings.
+#[tactic(auto, unfolding(crate::specs::Values::kind_in))]
+pub fn kind_in(alloc: Global, kind: PolicyType, settings: &Table) -> Result<PolicyKind, AllocError>
+    ensures { IfOk result (λ found. found ≡ spec.kind_in kind (table_view settings.now)) }
+{
+    match kind {
+        PolicyType::Latency => Ok(PolicyKind::Latency {
+            threshold_ms: natural_at(settings, "threshold_ms"),
+            upper_threshold_ms: natural_at(settings, "upper_threshold_ms"),
+        }),
+        PolicyType::StatusCode => Ok(PolicyKind::StatusCode {
+            codes: codes_at(alloc, settings)?,
+        }),
+        PolicyType::StringAttribute => {
+            let values = texts_at(alloc, settings)?;
+            attribute(alloc, settings, Wanted::StringAmong(values))
+        }
+        PolicyType::NumericAttribute => {
+            let wanted = Wanted::NumberWithin {
+                min_value: whole_at(settings, "min_value", i64::MIN),
+                max_value: whole_at(settings, "max_value", i64::MAX),
+            };
+            attribute(alloc, settings, wanted)
+        }
+        PolicyType::BooleanAttribute => {
+            let value = truth_at(settings, "value");
+            attribute(alloc, settings, Wanted::Boolean(value))
+        }
+        PolicyType::SpanCount => Ok(PolicyKind::SpanCount {
+            min_spans: natural_at(settings, "min_spans"),
+            max_spans: natural_at(settings, "max_spans"),
+        }),
+        PolicyType::RateLimiting => Ok(PolicyKind::RateLimiting {
+            spans_per_second: natural_at(settings, "spans_per_second"),
+        }),
+        PolicyType::AlwaysSample | PolicyType::And => Ok(PolicyKind::AlwaysSample),
+    }
+}
+
+/// The attribute policy of settings, with what is wanted of the value.
+fn attribute(alloc: Global, settings: &Table, wanted: Wanted) -> Result<PolicyKind, AllocError>
+    ensures { IfOk result (λ found. found ≡ spec.attribute (table_view settings.now) wanted) }
+{
+    Ok(PolicyKind::Attribute {
+        key: text_at(alloc, settings, "key")?,
+        wanted,
+        invert_match: truth_at(settings, "invert_match"),
+    })
+}
+
+/// The number at a key, at least 0, and 0 where there is none.
+pub fn natural_at(settings: &Table, key: &str) -> u64
+    ensures { result ≡ spec.natural_of (get_member key.now (table_view settings.now)) }
+{
+    match member(settings, key) {
+        Some(value) => natural_of(value),
+        None => 0,
+    }
+}
+
+fn natural_of(value: &Value) -> u64
+    ensures { result ≡ spec.natural_value (view value.now) }
+{
+    match value {
+        Value::Integer(number) if 0 <= *number => *number as u64,
+        _ => 0,
+    }
+}
+
+fn whole_at(settings: &Table, key: &str, default: i64) -> i64
+    ensures { result ≡ spec.whole_of default (get_member key.now (table_view settings.now)) }
+{
+    match member(settings, key) {
+        Some(value) => whole_of(value, default),
+        None => default,
+    }
+}
+
+fn whole_of(value: &Value, default: i64) -> i64
+    ensures { result ≡ spec.whole_value default (view value.now) }
+{
+    match value {
+        Value::Integer(number) => *number,
+        _ => default,
+    }
+}
+
+fn truth_at(settings: &Table, key: &str) -> bool
+    ensures { result ≡ spec.truth_of (get_member key.now (table_view settings.now)) }
+{
+    match member(settings, key) {
+        Some(value) => truth_of(value),
+        None => false,
+    }
+}
+
+fn truth_of(value: &Value) -> bool
+    ensures { result ≡ spec.truth_value (view value.now) }
+{
+    match value {
+        Value::Boolean(truth) => *truth,
+        _ => false,
+    }
+}
+
+/// The text at a key, empty where there is none.
+pub fn text_at(alloc: Global, table: &Table, key: &str) -> Result<Text, AllocError>
+    ensures { IfOk result (λ text. text ≡ spec.text_of (get_member key.now (table_view table.now))) }
+{
+    match member(table, key) {
+        Some(value) => text_of(alloc, value),
+        None => Ok(Text::new(alloc)),
+    }
+}
+
+fn text_of(alloc: Global, value: &Value) -> Result<Text, AllocError>
+    ensures { IfOk result (λ text. text ≡ spec.text_value (view value.now)) }
+{
+    match value {
+        Value::String(text) => Text::from_str(alloc, text.as_str()),
+        _ => Ok(Text::new(alloc)),
+    }
+}
+
+fn codes_at(alloc: Global, settings: &Table) -> Result<List<i32>, AllocError>
+    ensures { IfOk result (λ list. list ≡ spec.codes_of (get_member (codes "status_codes") (table_view settings.now))) }
+{
+    match member(settings, "status_codes") {
+        Some(value) => codes_value(alloc, value),
+        None => Ok(List::new(alloc)),
+    }
+}
+
+fn codes_value(alloc: Global, value: &Value) -> Result<List<i32>, AllocError>
+    ensures { IfOk result (λ list. list ≡ spec.codes_value (view value.now)) }
+{
+    match value {
+        Value::Array(items) => item_codes(alloc, items),
+        _ => Ok(List::new(alloc)),
+    }
+}
+
+fn item_codes(alloc: Global, items: &Array) -> Result<List<i32>, AllocError>
+    ensures { IfOk result (λ list. list ≡ spec.item_codes (array_view items.now)) }
+{
+    let mut list = List::new(alloc);
+    for item in items {
+        if let Some(code) = code_of(item) {
+            list.push(code)?;
+        }
+    }
+    Ok(list)
+}
+
+fn texts_at(alloc: Global, settings: &Table) -> Result<List<Text>, AllocError>
+    ensures { IfOk result (λ list. list ≡ spec.texts_of (get_member (codes "values") (table_view settings.now))) }
+{
+    match member(settings, "values") {
+        Some(value) => texts_value(alloc, value),
+        None => Ok(List::new(alloc)),
+    }
+}
+
+fn texts_value(alloc: Global, value: &Value) -> Result<List<Text>, AllocError>
+    ensures { IfOk result (λ list. list ≡ spec.texts_value (view value.now)) }
+{
+    match value {
+        Value::Array(items) => item_texts(alloc, items),
+        _ => Ok(List::new(alloc)),
+    }
+}
+
+fn item_texts(alloc: Global, items: &Array) -> Result<List<Text>, AllocError>
+    ensures { IfOk result (λ list. list ≡ spec.item_texts (array_view items.now)) }
+{
+    let mut list = List::new(alloc);
+    for item in items {
+        if let Some(text) = text_found(alloc, item)? {
+            list.push(text)?;
+        }
+    }
+    Ok(list)
+}
+
+fn text_found(alloc: Global, value: &Value) -> Result<Option<Text>, AllocError>
+    ensures { IfOk result (λ found. found ≡ spec.text_found (view value.now)) }
+{
+    match value {
+        Value::String(text) => Ok(Some(Text::from_str(alloc, text.as_str())?)),
+        _ => Ok(None),
+    }
+}
