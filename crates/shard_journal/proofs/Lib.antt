@@ -1,0 +1,5 @@
+pub mod Newest
+pub mod Touching
+pub mod Filtering
+pub mod Short
+pub mod Turns

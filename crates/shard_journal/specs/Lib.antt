@@ -1,0 +1,4 @@
+pub mod Settings
+pub mod Touched
+pub mod Found
+pub mod Ledger

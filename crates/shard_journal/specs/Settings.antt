@@ -1,0 +1,8 @@
+-- The settings of a shard, as its definitions see them.
+use Rattle.policy_tree.specs.Meaning.{meaning}
+use Rattle.shard_core.specs.Journal.{Settings as SettingsData}
+use Rattle.shard_journal.specs.declared.settings.Settings.{Settings}
+
+-- the settings, with what the policies mean
+abbrev pub settings_of : Settings → SettingsData
+settings_of s = record { policies = meaning s.policies; wait = s.wait; limit = s.limit; sampled_size = s.sampled_size; non_sampled_size = s.non_sampled_size; senders = s.senders }

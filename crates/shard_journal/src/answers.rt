@@ -1,0 +1,254 @@
+//! What a journal says, for those who hold it.
+ghost use Rattle.std.specs.Prelude.{◌≡◌, ◌∷◌, [], map, reverse, length, slice_get, option_map, IfOk};
+ghost use Rattle.shard_core.specs.Journal.{due_now, decisions_now, leaving};
+ghost use Rattle.shard_core.specs.Fate.{no_effect, counts, effect_of_verdict, effect_of_leaving, effect_of_span, effect_of_finding, effect_of_taking, effect_of_decision};
+ghost use Rattle.shard_core.specs.Taking.{refusal_applies, cache_is_on, loss_applies, marks_apply_to, marks_apply_to_ids};
+ghost use Rattle.shard_journal.specs.Settings.{settings_of};
+ghost use Rattle.shard_journal.specs.Found.{the_finding};
+
+use crate::deciding::{decide, decide_each};
+use crate::due::due_at;
+use crate::entry::{DroppedSpan, Effect, Entry};
+use crate::finding::{Found, cache_size, finding};
+use crate::noted::{Notes, leaving};
+use crate::noting::ledger_of;
+use crate::settings::Settings;
+use crate::spans::spans_since;
+use otlp_types::{Arrival, Ids, Item, TryClone};
+use span_ids::{Reason, Verdict};
+use std::alloc::{AllocError, Global};
+
+/// How many episodes are due at the journal's last item.
+pub fn due_count(alloc: Global, settings: &Settings, journal: &[Entry]) -> Result<usize, AllocError>
+    ensures { IfOk result (λ n. n ≡ length (due_now (settings_of settings.now) (reverse journal.now))) }
+{
+    let Some((entry, before)) = journal.split_last() else {
+        return Ok(0);
+    };
+    let ledger = ledger_of(alloc, settings, before)?;
+    let due = due_at(alloc, settings, journal, entry, before, &ledger.noted)?;
+    Ok(due.len())
+}
+
+/// Whether these marks can apply to a span with these ids that is taken after the journal: memory is refused at most to
+/// an append or an opening, and lost at most by the put of a decision that an opening evicts.
+pub fn marks_apply(
+    alloc: Global,
+    settings: &Settings,
+    journal: &[Entry],
+    refused: bool,
+    lost: bool,
+    ids: Option<Ids>,
+) -> Result<bool, AllocError>
+    ensures { IfOk result (λ b. b ≡ marks_apply_to_ids (settings_of settings.now) (reverse journal.now) refused lost ids) }
+{
+    let Some(ids) = ids else {
+        return Ok(false);
+    };
+    let ledger = ledger_of(alloc, settings, journal)?;
+    let found = finding(settings, &ledger.noted, ids.trace);
+    Ok(marks_apply_to(settings, &ledger.noted, refused, lost, found))
+}
+
+fn marks_apply_to(
+    settings: &Settings,
+    noted: &Notes,
+    refused: bool,
+    lost: bool,
+    found: Found,
+) -> bool
+    ensures { result ≡ marks_apply_to (settings_of settings.now) noted.now refused lost (the_finding found) }
+{
+    let refusal = refusal_applies(&found);
+    let loss = loss_applies(settings, noted, &found);
+    (!refused || refusal) && (!lost || !refused && loss)
+}
+
+fn refusal_applies(found: &Found) -> bool
+    ensures { result ≡ refusal_applies (the_finding found.now) }
+{
+    match found {
+        Found::Joins(_) => true,
+        Found::Meets(_, _) => false,
+        Found::Opens => true,
+    }
+}
+
+fn loss_applies(settings: &Settings, noted: &Notes, found: &Found) -> bool
+    ensures { result ≡ loss_applies (settings_of settings.now) noted.now (the_finding found.now) }
+{
+    match found {
+        Found::Joins(_) => false,
+        Found::Meets(_, _) => false,
+        Found::Opens => match leaving(settings.limit, noted.openings()) {
+            None => false,
+            Some(opening) => match noted.decided_as(opening.at()) {
+                None => false,
+                Some(verdict) => 0 < cache_size(settings, verdict),
+            },
+        },
+    }
+}
+
+/// What taking this entry after the journal does, before any decision.
+pub fn effect_of_taking(
+    alloc: Global,
+    settings: &Settings,
+    journal: &[Entry],
+    entry: &Entry,
+) -> Result<Effect, AllocError>
+    ensures { IfOk result (λ effect. effect ≡ effect_of_taking (settings_of settings.now) entry.now (reverse journal.now)) }
+{
+    match &entry.item {
+        Item::Span(arrival) => effect_of_span(alloc, settings, journal, entry.refused, arrival),
+        Item::Tick(_) => Ok(no_effect(alloc)),
+        Item::End(_) => Ok(no_effect(alloc)),
+    }
+}
+
+fn effect_of_span(
+    alloc: Global,
+    settings: &Settings,
+    before: &[Entry],
+    refused: bool,
+    arrival: &Arrival,
+) -> Result<Effect, AllocError>
+    ensures { IfOk result (λ effect. effect ≡ effect_of_span (settings_of settings.now) (reverse before.now) refused arrival.now arrival.now.rec.span.ids) }
+{
+    let Some(ids) = arrival.rec.span.ids else {
+        return Ok(no_effect(alloc));
+    };
+    if refused {
+        let spans = one_span(alloc, arrival)?;
+        return counted(alloc, Reason::NoMemory, spans.as_slice());
+    }
+    let ledger = ledger_of(alloc, settings, before)?;
+    let found = finding(settings, &ledger.noted, ids.trace);
+    effect_of_finding(alloc, settings, before, &ledger.noted, arrival, found)
+}
+
+fn effect_of_finding(
+    alloc: Global,
+    settings: &Settings,
+    before: &[Entry],
+    noted: &Notes,
+    arrival: &Arrival,
+    found: Found,
+) -> Result<Effect, AllocError>
+    ensures { IfOk result (λ effect. effect ≡ effect_of_finding (settings_of settings.now) (reverse before.now) noted.now arrival.now (the_finding found)) }
+{
+    match found {
+        Found::Joins(_) => Ok(no_effect(alloc)),
+        Found::Meets(_, verdict) => {
+            let spans = one_span(alloc, arrival)?;
+            effect_of_verdict(alloc, Reason::LateNotSampled, spans, verdict)
+        }
+        Found::Opens => effect_of_leaving(alloc, settings, before, noted),
+    }
+}
+
+/// What the leaving of an episode does, where the next opening puts one out of a full buffer.
+fn effect_of_leaving(
+    alloc: Global,
+    settings: &Settings,
+    before: &[Entry],
+    noted: &Notes,
+) -> Result<Effect, AllocError>
+    ensures { IfOk result (λ effect. effect ≡ effect_of_leaving (reverse before.now) noted.now (leaving settings.now.limit noted.now.openings)) }
+{
+    let Some(opening) = leaving(settings.limit, noted.openings()) else {
+        return Ok(no_effect(alloc));
+    };
+    match noted.decided_as(opening.at()) {
+        Some(_) => Ok(no_effect(alloc)),
+        None => {
+            let spans = spans_since(alloc, before, &opening)?;
+            counted(alloc, Reason::Evicted, spans.as_slice())
+        }
+    }
+}
+
+/// What the decision at this place does, of the decisions at the journal's last item in order of opening.
+pub fn decision_at(
+    alloc: Global,
+    settings: &Settings,
+    journal: &[Entry],
+    place: usize,
+) -> Result<Option<Effect>, AllocError>
+    ensures { IfOk result (λ effect. effect ≡ option_map effect_of_decision (slice_get (decisions_now (settings_of settings.now) (reverse journal.now)) place)) }
+{
+    let Some((entry, before)) = journal.split_last() else {
+        return Ok(None);
+    };
+    let mut ledger = ledger_of(alloc, settings, before)?;
+    let due = due_at(alloc, settings, journal, entry, before, &ledger.noted)?;
+    if place >= due.len() {
+        return Ok(None);
+    }
+    decide_each(alloc, settings, journal, &due[..place], &mut ledger)?;
+    let decided = decide(alloc, settings, journal, &due[place], &mut ledger)?;
+    let effect = effect_of_verdict(alloc, Reason::NotSampled, decided.spans, decided.verdict)?;
+    Ok(Some(effect))
+}
+
+/// Spans are released, or counted under the reason against them.
+fn effect_of_verdict(
+    alloc: Global,
+    against: Reason,
+    spans: Vec<Arrival>,
+    verdict: Verdict,
+) -> Result<Effect, AllocError>
+    ensures { IfOk result (λ effect. effect ≡ effect_of_verdict against spans.items verdict) }
+{
+    match verdict {
+        Verdict::Sampled => Ok(Effect {
+            released: spans,
+            counted: Vec::new(alloc),
+        }),
+        Verdict::NotSampled => counted(alloc, against, spans.as_slice()),
+    }
+}
+
+/// These spans are counted under a reason.
+fn counted(alloc: Global, reason: Reason, spans: &[Arrival]) -> Result<Effect, AllocError>
+    ensures { IfOk result (λ effect. effect ≡ record { released = []; counted = counts reason spans.now }) }
+{
+    Ok(Effect {
+        released: Vec::new(alloc),
+        counted: count_each(alloc, reason, spans)?,
+    })
+}
+
+fn count_each(
+    alloc: Global,
+    reason: Reason,
+    spans: &[Arrival],
+) -> Result<Vec<DroppedSpan>, AllocError>
+    ensures { IfOk result (λ counted. counted.items ≡ counts reason spans.now) }
+{
+    spans
+        .iter()
+        .map(|span| DroppedSpan {
+            reason,
+            key: span.key,
+        })
+        .collect(alloc)
+}
+
+/// Nothing is released or counted.
+fn no_effect(alloc: Global) -> Effect
+    ensures { result ≡ no_effect }
+{
+    Effect {
+        released: Vec::new(alloc),
+        counted: Vec::new(alloc),
+    }
+}
+
+fn one_span(alloc: Global, arrival: &Arrival) -> Result<Vec<Arrival>, AllocError>
+    ensures { IfOk result (λ spans. spans.items ≡ arrival.now ∷ []) }
+{
+    let mut spans = Vec::new(alloc);
+    spans.push(arrival.try_clone(alloc)?)?;
+    Ok(spans)
+}

@@ -1,0 +1,63 @@
+use otlp_types::{Arrival, Item};
+use span_ids::{ArrivalKey, Reason};
+use std::marker::Model;
+
+/// An item that a shard took, with its marks.
+#[derive(Debug, Drop)]
+pub struct Entry {
+    pub item: Item,
+    /// Memory was refused to the span itself.
+    pub refused: bool,
+    /// Memory was refused to the put of the decision that its opening evicted.
+    pub lost: bool,
+}
+
+impl Model for Entry {
+    ghost use Rattle.shard_core.specs.Journal.{Entry as EntryData};
+    ghost use Rattle.std.specs.Coded.{codes};
+    ghost use Rattle.otlp_types.specs.contracts.value.AnyValue as any_value;
+
+    ghost Value = { EntryData };
+
+    ghost coded = { Prim.hlevel (codes, any_value.the_row.coded) };
+
+    ghost view = { λ e. record { item = e.item; refused = e.refused; lost = e.lost } };
+}
+
+/// A span counted under a reason, by its key.
+#[derive(Clone, Copy, Debug)]
+pub struct DroppedSpan {
+    pub reason: Reason,
+    pub key: ArrivalKey,
+}
+
+impl Model for DroppedSpan {
+    ghost use Rattle.shard_core.specs.Fate.{DroppedSpan as DroppedSpanData};
+
+    ghost Value = { DroppedSpanData };
+
+    ghost view = { λ d. record { reason = d.reason; key = d.key } };
+
+    ghost inverse = { λ d. record { reason = d.reason; key = d.key } };
+}
+
+/// What an item or a decision does at once.
+#[derive(Debug, Drop)]
+pub struct Effect {
+    /// The spans that are released, in order.
+    pub released: Vec<Arrival>,
+    /// The spans that are counted.
+    pub counted: Vec<DroppedSpan>,
+}
+
+impl Model for Effect {
+    ghost use Rattle.shard_core.specs.Fate.{Effect as EffectData};
+    ghost use Rattle.std.specs.Coded.{codes};
+    ghost use Rattle.otlp_types.specs.contracts.value.AnyValue as any_value;
+
+    ghost Value = { EffectData };
+
+    ghost coded = { Prim.hlevel (codes, any_value.the_row.coded) };
+
+    ghost view = { λ e. record { released = e.released.items; counted = e.counted.items } };
+}

@@ -1,0 +1,27 @@
+//! What a shard's journal says, computed by looking back over the items that the shard took.
+//!
+//! It holds no buffer and no cache: each answer is read off the list of items, as the definitions of `shard_core` say.
+//! It is slow, and serves as the plain form against which a shard is compared. In a slice of entries the oldest stands
+//! first. Memory is refused by an `Err`; nothing that was handed in changes.
+#![tactic(auto)]
+
+mod answers;
+mod asked;
+mod deciding;
+mod due;
+mod entry;
+mod finding;
+mod ledger;
+mod moments;
+mod noted;
+mod noting;
+mod settings;
+mod spans;
+#[cfg(test)]
+mod tests;
+
+pub use answers::{decision_at, due_count, effect_of_taking, marks_apply};
+pub use asked::{Finding, finding_of, remembered};
+pub use entry::{DroppedSpan, Effect, Entry};
+pub use moments::{clock, has_ended, have_ended};
+pub use settings::Settings;

@@ -1,0 +1,139 @@
+//! What is noted of a journal, entry by entry.
+ghost use Rattle.std.specs.Prelude.{◌≡◌, ◌∷◌, reverse, IfOk, OnOk, option_to_list};
+ghost use Rattle.shard_core.specs.Journal.{opens, finding, leaving, touch_of_leaving, after_finding, after_item, notes};
+ghost use Rattle.shard_journal.specs.Settings.{settings_of};
+ghost use Rattle.shard_journal.specs.Ledger.{ledger_of};
+
+use crate::deciding::decide_each;
+use crate::due::due_at;
+use crate::entry::Entry;
+use crate::finding::{Found, finding, is_in_buffer};
+use crate::ledger::Ledger;
+use crate::moments::clock;
+use crate::noted::{Notes, Opening, Touch, leaving};
+use crate::settings::Settings;
+use otlp_types::Item;
+use rate_budget::Budgets;
+use span_ids::{Moment, TraceId};
+use std::alloc::{AllocError, Global};
+
+/// What is noted of a journal, each due episode decided.
+#[tactic(auto, using(crate::proofs::Newest::newest_more))]
+pub fn ledger_of(
+    alloc: Global,
+    settings: &Settings,
+    journal: &[Entry],
+) -> Result<Ledger, AllocError>
+    ensures { IfOk result (λ ledger. ledger ≡ ledger_of (settings_of settings.now) (notes (settings_of settings.now) (reverse journal.now))) }
+{
+    let mut ledger = Ledger {
+        noted: Notes::new(alloc),
+        budgets: Budgets::new(alloc, &settings.policies)?,
+    };
+    for at in 0..journal.len() {
+        let past = &journal[..at + 1];
+        let before = &journal[..at];
+        note_entry(alloc, settings, past, &journal[at], before, &mut ledger)?;
+    }
+    Ok(ledger)
+}
+
+/// Notes an entry, and decides what is due at it: `past` is `before` and that entry.
+fn note_entry(
+    alloc: Global,
+    settings: &Settings,
+    past: &[Entry],
+    entry: &Entry,
+    before: &[Entry],
+    ledger: &mut Ledger,
+) -> Result<(), AllocError>
+    requires past { reverse past.now ≡ entry.now ∷ reverse before.now }
+    requires noted { ledger.old ≡ ledger_of (settings_of settings.now) (notes (settings_of settings.now) (reverse before.now)) }
+    ensures { OnOk result (ledger.new ≡ ledger_of (settings_of settings.now) (notes (settings_of settings.now) (reverse past.now))) }
+{
+    let due = due_at(alloc, settings, past, entry, before, &ledger.noted)?;
+    note_item(settings, past, entry, before, &mut ledger.noted)?;
+    decide_each(alloc, settings, past, due.as_slice(), ledger)
+}
+
+/// Notes an entry, before any decision.
+fn note_item(
+    settings: &Settings,
+    past: &[Entry],
+    entry: &Entry,
+    before: &[Entry],
+    noted: &mut Notes,
+) -> Result<(), AllocError>
+    requires { reverse past.now ≡ entry.now ∷ reverse before.now }
+    ensures { OnOk result (noted.new ≡ after_item (settings_of settings.now) entry.now (reverse before.now) entry.now.item noted.old) }
+{
+    match &entry.item {
+        Item::Span(arrival) => match arrival.rec.span.ids {
+            None => Ok(()),
+            Some(ids) => {
+                if entry.refused {
+                    Ok(())
+                } else {
+                    let at = before.len();
+                    note_span(settings, ids.trace, entry.lost, at, clock(past), noted)
+                }
+            }
+        },
+        Item::Tick(_) => Ok(()),
+        Item::End(_) => Ok(()),
+    }
+}
+
+/// Notes a span of this trace, not refused, at its position and the clock after it.
+fn note_span(
+    settings: &Settings,
+    trace: TraceId,
+    lost: bool,
+    at: usize,
+    clock: Moment,
+    noted: &mut Notes,
+) -> Result<(), AllocError>
+    ensures { OnOk result (noted.new ≡ after_finding (settings_of settings.now) trace lost at clock noted.old (finding (settings_of settings.now) noted.old trace)) }
+{
+    match finding(settings, noted, trace) {
+        Found::Joins(_) => Ok(()),
+        Found::Meets(opening, verdict) => {
+            if is_in_buffer(settings, noted, opening.at()) {
+                Ok(())
+            } else {
+                noted.touch(Touch::new(&opening, verdict))
+            }
+        }
+        Found::Opens => note_opening(settings, Opening::new(at, trace, clock), lost, noted),
+    }
+}
+
+/// Notes an opening, and the touch where it puts a decided episode out of a full buffer.
+fn note_opening(
+    settings: &Settings,
+    opening: Opening,
+    lost: bool,
+    noted: &mut Notes,
+) -> Result<(), AllocError>
+    ensures { OnOk result (noted.new ≡ after_finding (settings_of settings.now) opening.trace lost opening.at opening.moment noted.old opens) }
+{
+    let touch = if lost {
+        None
+    } else {
+        touch_of_leaving(settings, noted)
+    };
+    noted.open(opening)?;
+    match touch {
+        None => Ok(()),
+        Some(touch) => noted.touch(touch),
+    }
+}
+
+/// The touch where a decided episode leaves by the next opening.
+fn touch_of_leaving(settings: &Settings, noted: &Notes) -> Option<Touch>
+    ensures { option_to_list result ≡ touch_of_leaving noted.now (leaving settings.now.limit noted.now.openings) }
+{
+    let opening = leaving(settings.limit, noted.openings())?;
+    let verdict = noted.decided_as(opening.at())?;
+    Some(Touch::new(&opening, verdict))
+}

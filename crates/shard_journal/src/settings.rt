@@ -1,0 +1,18 @@
+use policy_tree::Policies;
+use span_ids::Moment;
+
+/// The settings of a shard.
+#[derive(Debug, Drop)]
+pub struct Settings {
+    pub policies: Policies,
+    /// How long a trace waits for its decision, in milliseconds.
+    pub wait: Moment,
+    /// On the number of traces in the buffer: `None` is no limit.
+    pub limit: Option<usize>,
+    /// For how many traces decided as sampled the cache has room: 0 is off.
+    pub sampled_size: usize,
+    /// For how many traces decided as not sampled the cache has room: 0 is off.
+    pub non_sampled_size: usize,
+    /// The senders have the numbers below.
+    pub senders: usize,
+}
