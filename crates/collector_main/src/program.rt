@@ -120,12 +120,7 @@ fn run<T: Files, R: Read, W: Write>(
         Ok(config) => config,
         Err(outcome) => return (writer, outcome),
     };
-    let (sink, answer) = replay_run(
-        alloc,
-        config,
-        reader,
-        WriteSink::new(writer),
-    );
+    let (sink, answer) = replay_run(alloc, config, reader, WriteSink::new(writer));
     (sink.end(), outcome_of(answer))
 }
 

@@ -99,12 +99,7 @@ fn check(
         bytes: Vec::new(rt.alloc()),
     };
     let mut reader = script;
-    let (sink, answer) = replay_run(
-        rt.alloc(),
-        config,
-        &mut reader,
-        WriteSink::new(page),
-    );
+    let (sink, answer) = replay_run(rt.alloc(), config, &mut reader, WriteSink::new(page));
     let page = sink.end();
     assert_eq!(rt; page.bytes.as_slice(), output);
     assert_eq!(rt; numbers(&answer?), counts);
@@ -401,12 +396,7 @@ fn failing_reader(rt: HostRuntime) -> Result<(), Fail> {
     let page = Page {
         bytes: Vec::new(rt.alloc()),
     };
-    let (sink, answer) = replay_run(
-        rt.alloc(),
-        config,
-        &mut reader,
-        WriteSink::new(page),
-    );
+    let (sink, answer) = replay_run(rt.alloc(), config, &mut reader, WriteSink::new(page));
     assert_eq!(rt; sink.end().bytes.as_slice(), b"reply 200 {}\n".as_slice());
     assert_eq!(rt; answer, Err(RunFault::Fault(2)));
     Ok(())

@@ -1,1 +1,4 @@
+pub mod ListPushes
 pub mod Numbering
+pub mod PushSteps
+mod Rows

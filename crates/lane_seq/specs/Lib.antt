@@ -1,2 +1,5 @@
+pub mod Lends
+pub mod Lists
 pub mod Numbers
+pub mod Pushes
 pub mod Replies

@@ -1,5 +1,5 @@
 -- Replies to requests, as HTTP statuses and JSON bodies.
-use Rattle.std.specs.Prelude.{ℕ, ◌+◌, List, ◌++◌, codes, decimal}
+use Rattle.std.specs.Prelude.{◌≡◌, ℕ, ◌+◌, ◌<◌, List, ◌++◌, codes, decimal}
 use Rattle.lane_seq.specs.declared.reply.Reply.{Reply}
 use Rattle.lane_seq.specs.declared.reply.Reply.TheVariants.{Done, Partial, BadData, Busy}
 use Rattle.lane_seq.specs.declared.reply.BadData.TheVariants.{Json, Shape}
@@ -32,3 +32,17 @@ IsRefusal (Done spans) = ⊥
 IsRefusal (Partial spans rejected) = ⊥
 IsRefusal (BadData cause) = Unit {0}
 IsRefusal Busy = Unit {0}
+
+-- this fact, where the request's spans were received
+abbrev pub OnReceived : Reply → Type 0 → Type 0
+OnReceived (Done spans) fact = fact
+OnReceived (Partial spans rejected) fact = fact
+OnReceived (BadData cause) fact = Unit {0}
+OnReceived Busy fact = Unit {0}
+
+-- the reply to a request of so many spans, of which so many have invalid ids and so many found their queue full
+abbrev pub IsReplyTo : (spans invalid full : ℕ) → Reply → Type 0
+IsReplyTo spans invalid full (Done n) = (n ≡ spans) × (invalid + full ≡ 0)
+IsReplyTo spans invalid full (Partial n rejected) = (n ≡ spans) × (rejected.invalid ≡ invalid) × (rejected.full ≡ full) × (0 < invalid + full)
+IsReplyTo spans invalid full (BadData cause) = ⊥
+IsReplyTo spans invalid full Busy = ⊥

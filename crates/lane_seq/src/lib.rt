@@ -1,10 +1,21 @@
-//! What a lane makes of a request: arrivals with their numbers, and a reply.
+//! What a lane makes of a request: arrivals with their numbers and routes, pushes to the shards' queues, and a reply.
+//!
+//! A [`Lane`] has a port for each shard. It numbers its connections, and the spans that come on each of them.
 #![tactic(auto)]
 
+mod lane;
+mod law;
 mod preparing;
+mod pushing;
 mod rejected;
 mod reply;
+mod routing;
+#[cfg(test)]
+mod tests;
 
+pub use lane::{Lane, LaneEnd};
+pub use law::list_pushes_are_determined;
 pub use preparing::{Conn, Prepared, count_invalid, prepare};
 pub use rejected::Rejected;
 pub use reply::{BadData, MAX_BODY_LEN, Reply, put};
+pub use routing::route;

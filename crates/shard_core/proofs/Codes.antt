@@ -1,8 +1,6 @@
 -- What the code of `take` does to what a shard holds, beside the definitions.
-use Rattle.std.proofs.Common.{◌≡◌, ℕ, ◌<◌, max, Bool, true, false, not, ◌&&◌, ◌||◌, cond, ◌==◌, nat_lt, List, [], ◌∷◌, find, Option, Some, None, option_map, refl, sym, ap, subst, ◌∙◌, arith, ne_eqb, eq-eqb}
-use Rattle.std.specs.Option.{is_none}
+use Rattle.std.proofs.Common.{◌≡◌, ℕ, ◌<◌, max, Bool, true, false, not, ◌||◌, cond, ◌==◌, nat_lt, List, Option, Some, None, option_map, refl, sym, ap, subst, ◌∙◌, arith, ne_eqb, eq-eqb}
 use Rattle.std.proofs.lemmas.Bool.Decides.{nat_tests}
-use Rattle.span_ids.specs.Same.{same_trace}
 use Rattle.span_ids.specs.declared.ids.TraceId.{TraceId}
 use Rattle.span_ids.specs.declared.outcome.Verdict.{Verdict}
 use Rattle.span_ids.specs.declared.outcome.Verdict.TheVariants.{Sampled, NotSampled}
@@ -11,19 +9,18 @@ use Rattle.otlp_types.specs.declared.arrival.Arrival.{Arrival}
 use Rattle.policy_tree.specs.declared.policy.Policy.{Policy}
 use Rattle.rate_budget.specs.declared.count.LimiterCount.{LimiterCount}
 use Rattle.trace_buffer.specs.Buffer.{Episode, Buffer, append_first, episode_of, state_of, state_of_verdict, after_opening, opening_episode, leaves}
-use Rattle.trace_buffer.specs.declared.episode.State.{State as Stand}
 use Rattle.trace_buffer.specs.declared.episode.State.TheVariants.{Undecided, Decided}
 use Rattle.trace_buffer.specs.declared.episode.Evicted.{Evicted}
-use Rattle.decision_cache.specs.Lists.{CacheLists, TraceList, asked, after_asking, after_put, list_after_put, puts, PutAs, Remembers}
+use Rattle.decision_cache.specs.Lists.{CacheLists, TraceList, asked, after_asking, list_after_put, puts, PutAs, Remembers}
 use Rattle.decision_cache.specs.declared.traces.Remembered.{Remembered}
 use Rattle.decision_cache.specs.declared.traces.Remembered.TheVariants.{Kept as InCache, Off, Lost}
 use Rattle.shard_core.specs.Journal.{Settings, cache_size}
 use Rattle.shard_core.specs.Standing.{Standing}
 use Rattle.shard_core.specs.Held.{Held, held_of, settings}
-use Rattle.shard_core.specs.Keeping.{buffer, after_span_of, after_episode, after_known, after_unknown, after_opening_in, after_leaving, after_leaving_decided, with_caches}
-use Rattle.shard_core.specs.Laws.{State, state_in, state_by, state_cached}
+use Rattle.shard_core.specs.Keeping.{after_span_of, after_episode, after_known, after_unknown, after_leaving, after_leaving_decided, with_caches}
+use Rattle.shard_core.specs.Laws.{State, state_in, state_by}
 use Rattle.shard_core.specs.Taking.{is_refusal, is_loss, answer_to_late, put_answer, put_in, cache_is_on}
-use Rattle.shard_core.specs.Holding.{answer_by_state, answer_held, verdict_leaving, may_refuse, may_lose, marks_held, at_clock, TakesSpanOf, Puts, PutsDecided, KeepsAs}
+use Rattle.shard_core.specs.Holding.{answer_held, verdict_leaving, marks_held, at_clock, TakesSpanOf, Puts, PutsDecided, KeepsAs}
 use Rattle.shard_core.specs.declared.answer.Taken.{Taken}
 use Rattle.shard_core.specs.declared.answer.Taken.TheVariants.{Kept, Dropped, Late, Ticked, Ended, Finished}
 use Rattle.decision_cache.specs.Touches.{is_lost}
@@ -121,7 +118,7 @@ module _ (p : List Policy) (w : ℕ) (b : Buffer) (c : CacheLists) (k : List Lim
       let z = sizes_asked t c in
       by_state answer (new_of b e) false false (Some (Some v)) (ap is_refusal r ∙ late_refusal a v) (ap is_loss r ∙ late_loss a v) (state_unknown n ∙ ap (option_map (λ (v : Verdict). Some v)) g)
       (resized b e refl (ap (λ (l : CacheLists). l.sampled.size) q ∙ z.0) (ap (λ (l : CacheLists). l.not_sampled.size) q ∙ z.1)
-        ∙ ap (λ (z : Standing). record old { standing = z }) (ap (λ (l : CacheLists). with_caches l st) q ∙ sym (after_by false None n ∙ ap (after_unknown s b.limit false t a st) g))) r refl
+      ∙ ap (λ (z : Standing). record old { standing = z }) (ap (λ (l : CacheLists). with_caches l st) q ∙ sym (after_by false None n ∙ ap (after_unknown s b.limit false t a st) g))) r refl
 
   pub refused_opening : (answer : Taken) → answer ≡ Dropped NoMemory → state_of (episode_of t b.episodes) ≡ None → asked t c ≡ None → (d : Buffer) (e : CacheLists) → d ≡ b → e ≡ c → TakesSpanOf old a t answer (new_of d e)
   refused_opening answer r h g d e q z =
@@ -246,12 +243,12 @@ module _ (p : List Policy) (w : ℕ) (b : Buffer) (c : CacheLists) (k : List Lim
       let P = λ (y : Taken). TakesSpanOf old a t y (new_of d e) in
       let lost = is_loss (Kept left r) in
       subst P (sym x) (by_state (Kept left r) (new_of d e) false lost None refl refl (state_unknown n ∙ ap (option_map (λ (v : Verdict). Some v)) g)
-        (resized d e (ap (λ (y : Buffer). y.limit) z) done.size done.other_size
-          ∙ ap (λ (y : CacheLists). record old { standing = record (with_caches y st) { episodes = d.episodes } }) (done.caches ∙ ap (λ (y : Option Evicted). after_leaving lost y c) l)
-          ∙ ap (λ (y : Buffer). record old { standing = record (with_caches (after_leaving lost (leaves b) c) st) { episodes = y.episodes } }) z
-          ∙ ap (λ (y : Standing). record old { standing = y }) (sym (after_by lost None n ∙ ap (after_unknown s b.limit lost t a st) g)))
-        (ap (Kept left) done.answer ∙ ap (λ (y : Option Evicted). Kept y (put_answer s lost y)) l)
-        (ap (λ (y : Option Evicted). not lost || cache_is_on s (verdict_leaving y)) (sym l) ∙ done.mark))
+      (resized d e (ap (λ (y : Buffer). y.limit) z) done.size done.other_size
+      ∙ ap (λ (y : CacheLists). record old { standing = record (with_caches y st) { episodes = d.episodes } }) (done.caches ∙ ap (λ (y : Option Evicted). after_leaving lost y c) l)
+      ∙ ap (λ (y : Buffer). record old { standing = record (with_caches (after_leaving lost (leaves b) c) st) { episodes = y.episodes } }) z
+      ∙ ap (λ (y : Standing). record old { standing = y }) (sym (after_by lost None n ∙ ap (after_unknown s b.limit lost t a st) g)))
+      (ap (Kept left) done.answer ∙ ap (λ (y : Option Evicted). Kept y (put_answer s lost y)) l)
+      (ap (λ (y : Option Evicted). not lost || cache_is_on s (verdict_leaving y)) (sym l) ∙ done.mark))
 
 -- what is answered to an opening, by the put
 pub keep_puts : (left : Option Evicted) (old new : CacheLists) (answer : Taken) → KeepsAs left old answer new → (r : Option Remembered) × (answer ≡ Kept left r) × Puts left old r new

@@ -1,8 +1,7 @@
 -- What a shard that stands for a journal stands for after it decided an episode.
-use Rattle.std.proofs.Common.{◌≡◌, ℕ, zero, suc, ◌+◌, ◌/◌, ◌<◌, ◌≤◌, nat_le, ◌==◌, Bool, true, false, ◌&&◌, ◌||◌, cond, List, [], ◌∷◌, ◌++◌, map, reverse, length, take, drop, Option, Some, None, option_map, refl, sym, ap, subst, ◌∙◌, arith, add-one}
+use Rattle.std.proofs.Common.{◌≡◌, ℕ, zero, suc, ◌+◌, ◌/◌, ◌<◌, nat_le, ◌==◌, Bool, true, false, ◌&&◌, ◌||◌, cond, List, [], ◌∷◌, ◌++◌, map, reverse, length, take, drop, Option, Some, None, option_map, refl, sym, ap, subst, ◌∙◌, arith, add-one}
 use Rattle.std.specs.List.{list_all, list_any, find, filter}
 use Rattle.std.specs.Option.{is_none, is_some}
-use Rattle.std.proofs.lemmas.Bool.Decides.{nat_tests}
 use Rattle.policy_eval.specs.AskingLaws.{decides_by_counts}
 use Rattle.rate_budget.specs.Budget.{limiter_counts}
 use Rattle.rate_budget.specs.declared.count.LimiterCount.{LimiterCount}
@@ -11,7 +10,6 @@ use Rattle.shard_core.specs.Journal.{Entry, Settings, Journal, StoppedInTime, la
 use Rattle.shard_core.specs.Standing.{Standing, standing, episode, cache, mark, ends, spans_left}
 use Rattle.span_ids.specs.declared.outcome.Verdict.{Verdict}
 use Rattle.span_ids.specs.declared.outcome.Verdict.TheVariants.{Sampled, NotSampled}
-use Rattle.span_ids.specs.declared.ids.TraceId.{TraceId}
 use Rattle.otlp_types.specs.declared.arrival.Arrival.{Arrival}
 use Rattle.shard_core.specs.Held.{Held, settings, StandsFor, has_due, is_finished, is_due_in, is_due_by, due_by}
 use Rattle.shard_core.specs.Taking.{waiting, Releases, Decides, DecidesFirst}
@@ -19,7 +17,7 @@ use Rattle.shard_core.specs.Holding.{SettlesFirst, verdict_held, counts_asked}
 use Rattle.shard_core.specs.declared.answer.Decided.{Decided}
 use Rattle.shard_core.specs.declared.answer.Decided.TheVariants.{Nothing}
 use Rattle.shard_core.specs.Deciding.{decide_first, is_due_held, DecidesNext, DecidesStanding}
-use Rattle.shard_core.proofs.Lists.{set_first, filter-from_find, find-each, find-passes, Each-weaken, any-none}
+use Rattle.shard_core.proofs.Lists.{set_first, filter-from_find, find-each, find-passes, Each-weaken}
 use Rattle.shard_core.proofs.ListFacts.{Each, Pairs as Apart}
 use Rattle.shard_core.proofs.Notes.{HasRoom}
 use Rattle.shard_core.proofs.Sound.{sound_item, sound_notes}
@@ -162,7 +160,7 @@ due_is h o = find_same (is_due_at (due_by h).0 (due_by h).1) (is_due_in h) h.sta
 
 any_found : (q : Episode → Bool) (es : List Episode) → list_any q es ≡ is_some (find q es)
 any_found q [] = refl
-any_found q (e ∷ es) = (elim (q e) as (λ b. (b || list_any q es) ≡ is_some (cond b (Some e) (find q es))) [ | true ↦ refl | false ↦ any_found q es ])
+any_found q (e ∷ es) = (elim (q e) as (λ b. (b || list_any q es) ≡ is_some (cond b (Some e) (find q es))) [ true ↦ refl | false ↦ any_found q es ])
 
 pub has_due_is : (h : Held) → opened_by h.standing.clock h.standing.episodes ≡ true → is_some (find (is_due_at (due_by h).0 (due_by h).1) h.standing.episodes) ≡ has_due h
 has_due_is h o = ap is_some (due_is h o) ∙ sym (any_found (is_due_in h) h.standing.episodes)

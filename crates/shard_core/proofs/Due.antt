@@ -1,27 +1,24 @@
 -- What is due in every journal, and how it is decided in turn.
-use Rattle.std.proofs.Common.{◌≡◌, ◌≢◌, ℕ, zero, suc, ◌+◌, ◌<◌, ◌≤◌, max, ◌==◌, nat_lt, nat_le, Bool, true, false, not, ◌&&◌, ◌||◌, cond, List, [], ◌∷◌, ◌++◌, map, reverse, length, take, drop, Option, Some, None, option_to_list, refl, sym, ap, subst, ◌∙◌, arith, append-nil, append_assoc, add-one, ne_eqb}
+use Rattle.std.proofs.Common.{◌≡◌, ℕ, zero, suc, ◌+◌, ◌<◌, ◌≤◌, ◌==◌, nat_lt, nat_le, Bool, true, false, ◌&&◌, ◌||◌, cond, List, [], ◌∷◌, ◌++◌, map, reverse, length, take, drop, Option, Some, None, option_to_list, refl, sym, ap, subst, ◌∙◌, arith, append_assoc, add-one}
 use Rattle.std.specs.List.{list_any, list_all, filter, find, slice_set}
 use Rattle.std.specs.Option.{option_map, is_none}
-use Rattle.std.proofs.lemmas.Slice.Eq.{bytes_eq-Decides}
-use Rattle.std.proofs.lemmas.List.{reverse-reverse, map-append, length_push, set-append_left, set_past}
+use Rattle.std.proofs.lemmas.List.{reverse-reverse, length_push, set-append_left, set_past}
 use Rattle.std.proofs.lemmas.List.Folds.{list_all-append}
 use Rattle.std.proofs.Math.Seq.{set-append_seam}
 use Rattle.std.proofs.lemmas.Bool.Decides.{nat_tests}
-use Rattle.span_ids.specs.Same.{same_trace}
 use Rattle.trace_buffer.specs.Buffer.{Episode}
-use Rattle.shard_core.specs.Journal.{Entry, StoppedInTime, Settings, Journal, Opening, Decision, Notes, Finding, joins, meets, opens, in_buffer, last_of, leaving, notes, notes_dealt, finding, latest_episode, decided_as, is_in_buffer, is_due, due_at, due_now, have_ended, has_ended, decisions_in_turn, decision, after_item, after_span, after_finding, after_decisions, no_notes, clock}
+use Rattle.shard_core.specs.Journal.{Entry, StoppedInTime, Settings, Journal, Opening, Decision, Notes, Finding, joins, meets, opens, in_buffer, last_of, leaving, notes, notes_dealt, finding, decided_as, is_due, due_at, due_now, have_ended, has_ended, decisions_in_turn, decision, after_item, after_span, after_finding, after_decisions, no_notes, clock}
 use Rattle.shard_core.specs.Standing.{Standing, episode, standing, mark, ends}
 use Rattle.otlp_types.specs.declared.span.Ids.{Ids}
 use Rattle.span_ids.specs.declared.ids.TraceId.{TraceId}
 use Rattle.otlp_types.specs.declared.arrival.Arrival.{Arrival}
 use Rattle.otlp_types.specs.declared.arrival.Item.{Item}
 use Rattle.otlp_types.specs.declared.arrival.Item.TheVariants.{Span, Tick, End}
-use Rattle.span_ids.specs.declared.outcome.Verdict.{Verdict}
 use Rattle.shard_core.specs.Held.{is_due_by}
-use Rattle.shard_core.proofs.Lists.{Each-append, Each-weaken, Each-all, reverse-cons, filter-reverse, filter-same, filter-none, Each-from_none, filter-filter, Each-filter, find-none, or-true, and-false, Each-reverse, drop-length, none-from_find}
+use Rattle.shard_core.proofs.Lists.{Each-weaken, Each-all, reverse-cons, filter-reverse, filter-same, filter-none, Each-from_none, filter-filter, or-true, Each-reverse, drop-length, none-from_find}
 use Rattle.shard_core.proofs.ListFacts.{Each, Each-left, Pairs as Apart, Pairs-left, Pairs-reverse, Pairs-weaker}
 use Rattle.shard_core.proofs.Notes.{HasRoom, IsOlder, Sound, buffer_front}
-use Rattle.shard_core.proofs.Sound.{Makes, makes_room, sound_item, sound_notes}
+use Rattle.shard_core.proofs.Sound.{makes_room, sound_item, sound_notes}
 
 -- ---- tests
 
@@ -422,4 +419,3 @@ module _ (s : Settings) (room : HasRoom s.limit) where
   unfolding notes
   dealt-notes [] k h = refl
   dealt-notes (e ∷ before) k h = all-dealt e before k h
-

@@ -20,7 +20,6 @@ use Rattle.span_ids.specs.declared.outcome.Reason.{Reason}
 use Rattle.span_ids.specs.declared.outcome.Reason.TheVariants.{NoMemory, LateNotSampled, Evicted as EvictedReason, NotSampled as NotSampledReason}
 use Rattle.span_ids.specs.declared.outcome.Verdict.{Verdict}
 use Rattle.span_ids.specs.declared.outcome.Verdict.TheVariants.{Sampled, NotSampled}
-use Rattle.policy_tree.specs.declared.policy.Policy.{Policy}
 use Rattle.shard_core.proofs.Lists.{find-from_any}
 use Rattle.shard_core.proofs.Notes.{HasRoom}
 use Rattle.shard_core.proofs.Due.{nothing_left, turn-done, due_list}

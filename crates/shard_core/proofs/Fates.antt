@@ -1,8 +1,8 @@
 -- The fate of a span, right after it was taken.
-use Rattle.std.proofs.Common.{◌≡◌, ℕ, ◌<◌, Bool, true, false, cond, ◌||◌, ◌==◌, List, ◌∷◌, length, Option, Some, None, option_map, refl, sym, ap, subst, ◌∙◌, arith, ne_eqb, eq-eqb}
-use Rattle.std.specs.List.{list_any, find}
-use Rattle.shard_core.specs.Journal.{Entry, Settings, Journal, Opening, Decision, Notes, Finding, joins, meets, opens, notes, finding, finding_of, finding_at, in_buffer, is_in_buffer, is_remembered, latest_episode, decided_as, after_span, after_finding, clock}
-use Rattle.shard_core.specs.Fate.{Fate, waits, fate, fate_of_finding, fate_of_member, fate_of_member_decided}
+use Rattle.std.proofs.Common.{◌≡◌, ℕ, ◌<◌, Bool, true, false, cond, ◌||◌, ◌==◌, ◌∷◌, length, Option, Some, None, option_map, refl, sym, ap, ◌∙◌, arith, ne_eqb, eq-eqb}
+use Rattle.std.specs.List.{list_any}
+use Rattle.shard_core.specs.Journal.{Entry, Settings, Journal, Opening, Decision, Notes, Finding, joins, meets, opens, notes, finding, finding_of, finding_at, is_in_buffer, is_remembered, latest_episode, decided_as, after_span, after_finding, clock}
+use Rattle.shard_core.specs.Fate.{fate, fate_of_finding, fate_of_member_decided}
 use Rattle.shard_core.specs.Held.{Held, settings}
 use Rattle.shard_core.specs.Taking.{entry, is_refusal, is_loss, answer_to, answer_to_ids, answer_to_finding, answer_to_late, fate_told, TellsFateOf, TellsFate}
 use Rattle.shard_core.specs.declared.answer.Taken.{Taken}
@@ -15,7 +15,7 @@ use Rattle.span_ids.specs.declared.outcome.Verdict.TheVariants.{Sampled, NotSamp
 use Rattle.shard_core.proofs.ListFacts.{Each-weaker}
 use Rattle.shard_core.proofs.Find.{find_none}
 use Rattle.shard_core.proofs.Notes.{HasRoom}
-use Rattle.shard_core.proofs.Sound.{Makes, makes_room, sound_notes}
+use Rattle.shard_core.proofs.Sound.{makes_room, sound_notes}
 use Rattle.shard_core.proofs.Stands.{room_of}
 
 module _ (s : Settings) (room : HasRoom s.limit) where

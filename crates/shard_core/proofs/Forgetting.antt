@@ -1,10 +1,8 @@
 -- The code's steps keep each trace once in the buffer, out of the caches, and opened by the clock.
-use Rattle.std.proofs.Common.{◌≡◌, ℕ, zero, suc, ◌+◌, ◌-◌, ◌<◌, ◌≤◌, max, nat_le, nat_lt, ◌==◌, Bool, true, false, ◌&&◌, ◌||◌, cond, List, [], ◌∷◌, ◌++◌, map, length, take, drop, find, slice_get, Option, Some, None, option_map, Result, Ok, Err, not, refl, sym, ap, subst, ◌∙◌, arith}
-use Rattle.std.specs.List.{list_any, list_all}
+use Rattle.std.proofs.Common.{◌≡◌, ℕ, zero, suc, ◌-◌, ◌<◌, ◌≤◌, nat_le, ◌==◌, Bool, true, false, ◌&&◌, ◌||◌, cond, List, [], ◌∷◌, ◌++◌, length, take, drop, slice_get, Option, Some, None, option_map, Result, Ok, Err, not, refl, sym, ap, subst, ◌∙◌, arith}
 use Rattle.std.specs.Option.{is_none}
 use Rattle.std.proofs.lemmas.Bool.Decides.{nat_tests}
 use Rattle.std.proofs.lemmas.List.{map-append}
-use Rattle.std.proofs.lemmas.List.Folds.{list_all-append}
 use Rattle.span_ids.specs.Same.{same_trace}
 use Rattle.span_ids.specs.declared.ids.TraceId.{TraceId}
 use Rattle.span_ids.specs.declared.outcome.Verdict.{Verdict}
@@ -12,10 +10,10 @@ use Rattle.span_ids.specs.declared.outcome.Verdict.TheVariants.{Sampled, NotSamp
 use Rattle.otlp_types.specs.declared.arrival.Arrival.{Arrival}
 use Rattle.trace_buffer.specs.Buffer.{Episode, Buffer, append_first, with_span, episode_of, after_opening, opening_episode, leaves, evicted_as, opened_by, settle_first, settled, is_due_at, with_settled, AppendedTo}
 use Rattle.trace_buffer.specs.declared.episode.Evicted.{Evicted}
-use Rattle.decision_cache.specs.Lists.{CacheLists, TraceList, is_held, is_held_in_either, asked, after_asking, renewed, renewed_if, renews, without, puts, PutAs, Remembers}
+use Rattle.decision_cache.specs.Lists.{CacheLists, TraceList, is_held, is_held_in_either, asked, after_asking, renewed, renewed_if, renews, without, PutAs, Remembers}
 use Rattle.decision_cache.specs.declared.traces.Remembered.{Remembered}
 use Rattle.decision_cache.specs.declared.traces.Remembered.TheVariants.{Kept, Off, Lost}
-use Rattle.decision_cache.proofs.Laws.{same-eq, same-sym, same-refl}
+use Rattle.decision_cache.proofs.Laws.{same-eq, same-sym}
 use Rattle.shard_core.specs.Forgotten.{traces, AreForgotten}
 use Rattle.shard_core.specs.Holding.{Puts, PutsDecided, leaves_forgotten}
 
@@ -269,8 +267,12 @@ open_keeps clock old new c d a t left r l e q n h k =
     let out = episode-none t old.episodes n in
     let full = length old.episodes == old.limit in
     let w = opening_caches old c d left r l q k.2 t out h in
-    subst P (sym e) (k.0, opened-open clock t a old k.1, subst Q (sym (traces-open full (opening_episode t a clock) old.episodes))
-      (forgotten-push t (cond full (drop 1 (traces old.episodes)) (traces old.episodes)) d (held-cond full t (traces old.episodes) out) w.1 w.0))
+    subst P (sym e) (
+      k.0,
+      opened-open clock t a old k.1,
+      subst Q (sym (traces-open full (opening_episode t a clock) old.episodes))
+          (forgotten-push t (cond full (drop 1 (traces old.episodes)) (traces old.episodes)) d (held-cond full t (traces old.episodes) out) w.1 w.0),
+    )
 
 -- the trace of the episode that leaves is in no cache
 pub leaves_out : (b : Buffer) (c : CacheLists) → AreForgotten (traces b.episodes) c → leaves_forgotten (leaves b) c ≡ true

@@ -1,5 +1,5 @@
 -- What a span finds is what the buffer and the caches tell.
-use Rattle.std.proofs.Common.{◌≡◌, ℕ, zero, suc, ◌≤◌, Bool, true, false, cond, ◌||◌, ◌==◌, nat_lt, List, [], ◌∷◌, ◌++◌, map, length, take, reverse, find, Option, Some, None, option_map, refl, ap, sym, subst, ◌∙◌, arith, eq-eqb}
+use Rattle.std.proofs.Common.{◌≡◌, ℕ, zero, suc, ◌≤◌, Bool, true, false, cond, ◌||◌, ◌==◌, nat_lt, List, [], ◌∷◌, ◌++◌, map, length, take, reverse, find, Option, Some, None, option_map, refl, ap, sym, ◌∙◌, arith, eq-eqb}
 use Rattle.std.specs.List.{list_any}
 use Rattle.std.proofs.lemmas.List.{reverse-append}
 use Rattle.span_ids.specs.Same.{same_trace}
@@ -8,12 +8,12 @@ use Rattle.span_ids.specs.declared.outcome.Verdict.{Verdict}
 use Rattle.span_ids.specs.declared.outcome.Verdict.TheVariants.{Sampled, NotSampled}
 use Rattle.trace_buffer.specs.Buffer.{Episode}
 use Rattle.decision_cache.specs.Touches.{last_touched, touches_since}
-use Rattle.decision_cache.proofs.Laws.{same-eq, same-sym, holds_where_remembered}
-use Rattle.shard_core.specs.Journal.{Entry, Settings, Journal, Opening, Decision, Notes, Finding, joins, meets, opens, finding, finding_of, finding_at, notes, notes_dealt, in_buffer, is_in_buffer, decided_as, latest_episode, is_cached, is_remembered, cache_size, due_now, due_at, decisions_at, decisions_in_turn, decision, after_item, after_decisions}
-use Rattle.shard_core.specs.Standing.{Standing, standing, episode}
+use Rattle.decision_cache.proofs.Laws.{same-eq, holds_where_remembered}
+use Rattle.shard_core.specs.Journal.{Settings, Journal, Opening, Decision, Notes, joins, meets, opens, finding, finding_of, finding_at, notes, notes_dealt, in_buffer, is_in_buffer, decided_as, latest_episode, is_cached, is_remembered, cache_size, due_now, due_at, decisions_at, decisions_in_turn, decision, after_item, after_decisions}
+use Rattle.shard_core.specs.Standing.{standing, episode}
 use Rattle.shard_core.specs.Laws.{State, state_found, state_cached, state_by, state_in, FoundAsHeld}
 use Rattle.shard_core.proofs.ListFacts.{Each, Each-weaker, Each-reverse, Pairs, Pairs-right}
-use Rattle.shard_core.proofs.Find.{Found, found, not_found, find_past, find_none, find_front, any_split}
+use Rattle.shard_core.proofs.Find.{found, not_found, find_past, find_none, find_front, any_split}
 use Rattle.shard_core.proofs.Notes.{HasRoom, buffer_front, Sound}
 use Rattle.shard_core.proofs.Sound.{sound_notes}
 use Rattle.shard_core.proofs.Remembering.{Remembering, Outside, OtherTrace, in_cache, was_touched, remembering_notes, behind_buffer}
@@ -88,7 +88,7 @@ module _ (s : Settings) (past : Journal) (noted : Notes) (n : ℕ) (t : TraceId)
   -- where the latest episode has this verdict, the other cache doesn't hold the trace
   only_cached : (v : Verdict) (b : Bool) → ((u : Verdict) → Outside s noted t u → v ≡ u) → in_cache s noted v t ≡ b → cached ≡ cond b (Some (Some v)) None
   only_cached Sampled b f e = cached_by b false e (not_cached NotSampled (in_cache s noted NotSampled t) refl (λ a. cc (f NotSampled a)))
-      ∙ (elim b as (λ c. cond c (Some (Some Sampled)) (cond false (Some (Some NotSampled)) None) ≡ cond c (Some (Some Sampled)) None) [ | true ↦ refl | false ↦ refl ])
+      ∙ (elim b as (λ c. cond c (Some (Some Sampled)) (cond false (Some (Some NotSampled)) None) ≡ cond c (Some (Some Sampled)) None) [ true ↦ refl | false ↦ refl ])
   only_cached NotSampled b f e = cached_by false b (not_cached Sampled (in_cache s noted Sampled t) refl (λ a. cc (f Sampled a))) e
 
   decided_out : (o : Opening) (v : Verdict) → latest_episode noted t ≡ Some o → is_in_buffer s noted o.at ≡ false → decided_as noted o.at ≡ Some v → (b : Bool) → was_touched noted o.at ≡ b → state_found (finding s noted t) ≡ cached
@@ -102,7 +102,7 @@ module _ (s : Settings) (past : Journal) (noted : Notes) (n : ℕ) (t : TraceId)
       let remembered : is_remembered s noted o v ≡ few = rw (out, k, same) refl in
       let verdicts : (x : Verdict) → Outside s noted t x → v ≡ x = λ x b. let is : o ≡ b.opening = cc (l, b.latest) in cc (d, ap (decided_as noted) (ap (λ (z : Opening). z.at) is), b.decided) in
       let finds : finding s noted t ≡ cond few (meets o v) opens = ap (finding_of s noted) l ∙ ap (finding_at s noted o) d ∙ ap (λ b. cond b (meets o v) opens) remembered in
-      let branch : (b : Bool) → state_found (cond b (meets o v) opens) ≡ cond b (Some (Some v)) None = λ b. (elim b as (λ c. state_found (cond c (meets o v) opens) ≡ cond c (Some (Some v)) None) [ | true ↦ refl | false ↦ refl ]) in
+      let branch : (b : Bool) → state_found (cond b (meets o v) opens) ≡ cond b (Some (Some v)) None = λ b. (elim b as (λ c. state_found (cond c (meets o v) opens) ≡ cond c (Some (Some v)) None) [ true ↦ refl | false ↦ refl ]) in
       ap state_found finds ∙ branch few ∙ sym (only_cached v few verdicts held)
   decided_out o v l out d false k =
       let finds : finding s noted t ≡ opens = ap (finding_of s noted) l ∙ ap (finding_at s noted o) d ∙ rw (out, k) refl in
@@ -118,7 +118,7 @@ module _ (s : Settings) (past : Journal) (noted : Notes) (n : ℕ) (t : TraceId)
   found_past None l e = ap (λ (r : Option Opening). state_found (finding_of s noted r)) l ∙ sym (none_cached (λ x b. cc (l, b.latest)))
   found_past (Some o) l e = found_out o l (behind_buffer s noted past sound t o l e) (decided_as noted o.at) refl
 
-  pub state_is : (r : Option Opening) → find own (in_buffer s noted) ≡ r → state_found (finding s noted t) ≡ (elim r [ | None ↦ cached | Some o ↦ Some (decided_as noted o.at) ])
+  pub state_is : (r : Option Opening) → find own (in_buffer s noted) ≡ r → state_found (finding s noted t) ≡ (elim r [ None ↦ cached | Some o ↦ Some (decided_as noted o.at) ])
   state_is None e = found_past (latest_episode noted t) refl e
   state_is (Some o) e =
       let front = buffer_front s.limit noted.openings in
@@ -138,7 +138,7 @@ by_episode s past dealt t room n r e =
     = ap (state_by (standing s past dealt) t) (find_episode past noted t (reverse (in_buffer s noted)) ∙ ap (option_map (episode past noted)) (find_reversed t (in_buffer s noted) w.apart r e)) in
     state_is s past noted (length past) t sound w r e ∙ finish r ∙ sym here ∙ sym (ap at n)
   where
-    finish : (r : Option Opening) → (elim r [ | None ↦ cached s past (notes s past) (length past) t (sound_notes s room past) (remembering_notes s room past) | Some o ↦ Some (decided_as (notes s past) o.at) ]) ≡ state_by (standing s past dealt) t (option_map (episode past (notes s past)) r)
+    finish : (r : Option Opening) → (elim r [ None ↦ cached s past (notes s past) (length past) t (sound_notes s room past) (remembering_notes s room past) | Some o ↦ Some (decided_as (notes s past) o.at) ]) ≡ state_by (standing s past dealt) t (option_map (episode past (notes s past)) r)
     finish None = ap (λ (m : Notes). state_cached (take (cache_size s Sampled) (last_touched Sampled m.touches)) (take (cache_size s NotSampled) (last_touched NotSampled m.touches)) t) (sym n)
     finish (Some o) = refl
 

@@ -1,6 +1,6 @@
 -- What a shard holds after an item is computed from what it held before.
-use Rattle.std.proofs.Common.{le-leb, ◌≡◌, ◌≢◌, ℕ, zero, suc, ◌+◌, ◌-◌, ◌<◌, ◌≤◌, max, nat_le, Bool, true, false, not, ◌&&◌, ◌||◌, cond, ◌==◌, List, [], ◌∷◌, ◌++◌, map, length, take, drop, reverse, find, slice_get, Option, Some, None, option_map, option_to_list, refl, ap, sym, subst, ◌∙◌, arith, append-nil, ne_eqb, eq-eqb}
-use Rattle.std.specs.List.{list_any, slice_set}
+use Rattle.std.proofs.Common.{le-leb, ◌≡◌, ℕ, zero, suc, ◌-◌, ◌<◌, ◌≤◌, max, nat_le, Bool, true, false, not, ◌&&◌, ◌||◌, cond, ◌==◌, List, [], ◌∷◌, ◌++◌, map, length, take, drop, reverse, find, slice_get, Option, Some, None, option_map, option_to_list, refl, ap, sym, ◌∙◌, arith, append-nil, ne_eqb, eq-eqb}
+use Rattle.std.specs.List.{list_any}
 use Rattle.std.proofs.lemmas.List.{reverse-reverse, reverse-append, map-append, length-map, length-reverse}
 use Rattle.span_ids.specs.Same.{same_trace}
 use Rattle.span_ids.specs.declared.ids.TraceId.{TraceId}
@@ -10,25 +10,24 @@ use Rattle.otlp_types.specs.declared.span.Ids.{Ids}
 use Rattle.otlp_types.specs.declared.arrival.Arrival.{Arrival}
 use Rattle.otlp_types.specs.declared.arrival.Item.{Item}
 use Rattle.otlp_types.specs.declared.arrival.Item.TheVariants.{Span, Tick, End}
-use Rattle.trace_buffer.specs.Buffer.{Episode, Buffer, append_first, with_span, episode_of, after_opening, opening_episode, leaves, evicted_as}
-use Rattle.trace_buffer.specs.declared.episode.Evicted.{Evicted}
+use Rattle.trace_buffer.specs.Buffer.{Episode, append_first, with_span, episode_of, after_opening, opening_episode, leaves, evicted_as}
 use Rattle.decision_cache.specs.Lists.{CacheLists, TraceList, is_held, is_held_in_either, asked, after_asking, after_put, list_after_put, puts, renews, PutAs, Remembers}
-use Rattle.decision_cache.specs.Touches.{Touch, last_touched, StandsFor, ListStandsFor, HeldAsTouched, touched_by, is_lost}
+use Rattle.decision_cache.specs.Touches.{Touch, last_touched, StandsFor, touched_by, is_lost}
 use Rattle.decision_cache.specs.declared.traces.Remembered.{Remembered}
 use Rattle.decision_cache.specs.declared.traces.Remembered.TheVariants.{Kept, Off}
 use Rattle.decision_cache.proofs.Laws.{same-eq, same-sym}
 use Rattle.decision_cache.proofs.Stands.{stands-put, stands-asked}
-use Rattle.shard_core.specs.Journal.{Entry, Settings, Journal, Opening, Decision, Notes, Finding, joins, meets, opens, clock, has_ended, finding, notes, notes_dealt, in_buffer, is_in_buffer, last_of, leaving, decided_as, latest_episode, cache_size, due_now, spans_since, item_spans, is_of_trace, ids_have_trace, askings_made, after_item, after_span, after_finding, touch, touch_of_leaving, touch_of_leaving_decided}
-use Rattle.shard_core.specs.Standing.{Standing, standing, episode, episodes, cache, root_among, first_root_since, root_left, spans_left, mark, mark_at, ends}
+use Rattle.shard_core.specs.Journal.{Entry, Settings, Journal, Opening, Decision, Notes, Finding, joins, meets, opens, clock, finding, notes, in_buffer, is_in_buffer, last_of, leaving, decided_as, latest_episode, spans_since, item_spans, is_of_trace, ids_have_trace, askings_made, after_item, after_span, after_finding, touch, touch_of_leaving, touch_of_leaving_decided}
+use Rattle.shard_core.specs.Standing.{Standing, episode, episodes, cache, root_among, first_root_since, root_left, spans_left, mark, ends}
 use Rattle.rate_budget.specs.Budget.{limiter_counts}
 use Rattle.shard_core.specs.Keeping.{caches, with_caches, buffer, after_leaving_decided, after_leaving, after_opening_in, after_unknown, after_known, after_episode, after_span_of, after_span_in, after_entry, KeepsStanding}
 use Rattle.shard_core.specs.Laws.{state_cached, state_found}
 use Rattle.shard_core.specs.Taking.{has_ids, evicted_of}
-use Rattle.shard_core.proofs.ListFacts.{Each, Each-append, Each-all, Each-weaker, Each-reverse, Each-left, Pairs, Pairs-reverse, Split}
-use Rattle.shard_core.proofs.Find.{Found, found, not_found, find_none, find_front, any_split}
+use Rattle.shard_core.proofs.ListFacts.{Each, Each-all, Each-weaker, Each-reverse, Each-left, Pairs, Pairs-reverse, Split}
+use Rattle.shard_core.proofs.Find.{found, not_found, find_none, find_front, any_split}
 use Rattle.shard_core.proofs.Notes.{HasRoom, Sound, buffer_front, same_refl, none_own, spans_before}
 use Rattle.shard_core.proofs.Sound.{sound_notes}
-use Rattle.shard_core.proofs.Remembering.{Remembering, Outside, OtherTrace, in_cache, LastWith, remembering_notes, meets_latest, behind_buffer}
+use Rattle.shard_core.proofs.Remembering.{Remembering, OtherTrace, in_cache, remembering_notes, meets_latest, behind_buffer}
 use Rattle.shard_core.proofs.FoundAsHeld.{find_reversed, find_episode, all_dealt, found_past, found_here}
 use Rattle.shard_core.proofs.Due.{ends-span, ends-tick, ends-end}
 
@@ -261,19 +260,19 @@ module _ (s : Settings) (m : ℕ) (lim : s.limit ≡ Some (suc m)) (past : Journ
   appended lost o d [] l h e = absurd (cc e)
   appended lost o d (x ∷ os) l h e = (elim (same_trace x.trace t) as (λ b. same_trace x.trace t ≡ b → cond b (Some x) (find (λ (x : Opening). same_trace x.trace t) os) ≡ Some o →
       map (episode (entry_of false lost ∷ past) noted) (x ∷ os) ≡ cond b (with_span (max a.moment (clock past)) a (episode past noted x) ∷ map (episode past noted) os) (episode past noted x ∷ append_first t (max a.moment (clock past)) a (map (episode past noted) os))) [
-    | true ↦ λ k e.
-        let is : x ≡ o = cc e in
-        let undecided : decided_as noted x.at ≡ None = ap (λ (z : Opening). decided_as noted z.at) is ∙ d in
-        let own = joins_own a ids past x i (let b : x.at < length past = l.0 in omega (arith, b)) k in
-        let first : episode (entry_of false lost ∷ past) noted x ≡ with_span (max a.moment (clock past)) a (episode past noted x) = rw (undecided, own) refl in
-        let rest = others_same lost noted refl os (Each-weaker (λ (y : Opening). same_trace x.trace y.trace ≡ false) (λ (y : Opening). same_trace y.trace t ≡ false) os
-        (λ y f. same-sym y.trace t ∙ ap (λ (z : TraceId). same_trace z y.trace) (sym (same-eq x.trace t k)) ∙ f) h.0) in
-        cc (first, rest)
-    | false ↦ λ k e.
-        let first = episode_same (entry_of false lost) past noted x (joins_none a ids false past x i (ap (λ b. b && true) k)) in
-        let rest = appended lost o d os l.1 h.1 e in
-        cc (first, rest)
-  ]) refl e
+        | true ↦ λ k e.
+            let is : x ≡ o = cc e in
+            let undecided : decided_as noted x.at ≡ None = ap (λ (z : Opening). decided_as noted z.at) is ∙ d in
+            let own = joins_own a ids past x i (let b : x.at < length past = l.0 in omega (arith, b)) k in
+            let first : episode (entry_of false lost ∷ past) noted x ≡ with_span (max a.moment (clock past)) a (episode past noted x) = rw (undecided, own) refl in
+            let rest = others_same lost noted refl os (Each-weaker (λ (y : Opening). same_trace x.trace y.trace ≡ false) (λ (y : Opening). same_trace y.trace t ≡ false) os
+            (λ y f. same-sym y.trace t ∙ ap (λ (z : TraceId). same_trace z y.trace) (sym (same-eq x.trace t k)) ∙ f) h.0) in
+            cc (first, rest)
+        | false ↦ λ k e.
+            let first = episode_same (entry_of false lost) past noted x (joins_none a ids false past x i (ap (λ b. b && true) k)) in
+            let rest = appended lost o d os l.1 h.1 e in
+            cc (first, rest)
+      ]) refl e
 
   -- a span that is late for a decided episode of the buffer changes none
   late_same : (lost : Bool) (o : Opening) (v : Verdict) → decided_as noted o.at ≡ Some v → (os : List Opening) → Pairs (λ older newer. same_trace older.trace newer.trace ≡ false) os →
@@ -281,17 +280,17 @@ module _ (s : Settings) (m : ℕ) (lim : s.limit ≡ Some (suc m)) (past : Journ
   late_same lost o v d [] h e = absurd (cc e)
   late_same lost o v d (x ∷ os) h e = (elim (same_trace x.trace t) as (λ b. same_trace x.trace t ≡ b → cond b (Some x) (find (λ (x : Opening). same_trace x.trace t) os) ≡ Some o →
       map (episode (entry_of false lost ∷ past) noted) (x ∷ os) ≡ map (episode past noted) (x ∷ os)) [
-    | true ↦ λ k e.
-        let is : x ≡ o = cc e in
-        let first = episode_decided (entry_of false lost ∷ past) past noted x v (ap (λ (z : Opening). decided_as noted z.at) is ∙ d) in
-        let rest = others_same lost noted refl os (Each-weaker (λ (y : Opening). same_trace x.trace y.trace ≡ false) (λ (y : Opening). same_trace y.trace t ≡ false) os
-        (λ y f. same-sym y.trace t ∙ ap (λ (z : TraceId). same_trace z y.trace) (sym (same-eq x.trace t k)) ∙ f) h.0) in
-        cc (first, rest)
-    | false ↦ λ k e.
-        let first = episode_same (entry_of false lost) past noted x (joins_none a ids false past x i (ap (λ b. b && true) k)) in
-        let rest = late_same lost o v d os h.1 e in
-        cc (first, rest)
-  ]) refl e
+        | true ↦ λ k e.
+            let is : x ≡ o = cc e in
+            let first = episode_decided (entry_of false lost ∷ past) past noted x v (ap (λ (z : Opening). decided_as noted z.at) is ∙ d) in
+            let rest = others_same lost noted refl os (Each-weaker (λ (y : Opening). same_trace x.trace y.trace ≡ false) (λ (y : Opening). same_trace y.trace t ≡ false) os
+            (λ y f. same-sym y.trace t ∙ ap (λ (z : TraceId). same_trace z y.trace) (sym (same-eq x.trace t k)) ∙ f) h.0) in
+            cc (first, rest)
+        | false ↦ λ k e.
+            let first = episode_same (entry_of false lost) past noted x (joins_none a ids false past x i (ap (λ b. b && true) k)) in
+            let rest = late_same lost o v d os h.1 e in
+            cc (first, rest)
+      ]) refl e
 
   front_below : Each (λ (o : Opening). o.at < length past) front
   front_below = Each-reverse (λ (o : Opening). o.at < length past) (in_buffer s noted) below

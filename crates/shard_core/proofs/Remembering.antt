@@ -1,5 +1,5 @@
 -- What the caches hold after every journal: a trace that the definitions remember outside the buffer, with the verdict of its latest episode.
-use Rattle.std.proofs.Common.{◌≡◌, ℕ, zero, suc, ◌<◌, Bool, true, false, cond, ◌||◌, ◌==◌, nat_lt, List, [], ◌∷◌, ◌++◌, length, take, reverse, find, Option, Some, None, option_map, option_to_list, refl, ap, sym, subst, ◌∙◌, arith, append_assoc, ne_eqb, eq-eqb}
+use Rattle.std.proofs.Common.{◌≡◌, ℕ, zero, suc, ◌<◌, Bool, true, false, cond, ◌||◌, ◌==◌, nat_lt, List, [], ◌∷◌, ◌++◌, length, take, reverse, find, Option, Some, None, option_map, option_to_list, refl, ap, sym, ◌∙◌, arith, append_assoc, ne_eqb, eq-eqb}
 use Rattle.std.specs.List.{list_any}
 use Rattle.span_ids.specs.Same.{same_trace}
 use Rattle.span_ids.specs.declared.ids.TraceId.{TraceId}
@@ -12,10 +12,10 @@ use Rattle.decision_cache.specs.Lists.{is_held}
 use Rattle.decision_cache.specs.Touches.{Touch, is_same_verdict, last_touched, last_touch, touches_since}
 use Rattle.decision_cache.proofs.Laws.{same-eq, same-sym, verdict-refl, touched-other, not_brought_in, holds_where_remembered}
 use Rattle.shard_core.specs.Journal.{Entry, Settings, Journal, Opening, Decision, Notes, Finding, joins, meets, opens, clock, in_buffer, is_in_buffer, last_of, leaving, decided_as, latest_episode, cache_size, is_cached, is_remembered, finding, finding_of, finding_at, touch, touch_of_leaving, touch_of_leaving_decided, after_finding, after_span, after_item, after_decisions, no_notes, notes, decisions_at, decisions_in_turn, decision, due_at}
-use Rattle.shard_core.proofs.ListFacts.{Each, Each-append, Each-left, Each-right, Each-weaker, Each-reverse, Each-filter, Pairs, Pairs-left, Pairs-right, Pairs-across, Split, Each-split}
-use Rattle.shard_core.proofs.Find.{Found, found, not_found, find_past, find_none, find_front, any_none, any_split}
+use Rattle.shard_core.proofs.ListFacts.{Each, Each-left, Each-right, Each-weaker, Each-reverse, Pairs, Pairs-left, Pairs-across, Each-split}
+use Rattle.shard_core.proofs.Find.{found, not_found, find_past, find_front, any_none, any_split}
 use Rattle.shard_core.proofs.Notes.{HasRoom, IsOlder, Sound, buffer_front, same_refl}
-use Rattle.shard_core.proofs.Sound.{Makes, makes_room, sound_item, sound_notes, Each-due}
+use Rattle.shard_core.proofs.Sound.{Makes, makes_room, sound_notes, Each-due}
 
 -- ---- tests
 
@@ -205,14 +205,14 @@ module _ (s : Settings) (noted : Notes) (n : ℕ) (J : Journal) (sound : Sound s
   held_met : (v2 : Verdict) (x : TraceId) → in_cache s met v2 x ≡ true → Outside s met x v2
   held_met v2 x h = either o.trace x (λ e. held_own (is_same_verdict v v2) v2 x refl e h)
       (λ e. let old = w.held v2 x (still_in s noted met (touch o v) v2 x refl (is_same_verdict v v2) refl (λ _. e) h) in
-        record { opening = old.opening; latest = old.latest; out = old.out; decided = old.decided; touched = or-right (o.at == old.opening.at) (was_touched noted old.opening.at) old.touched })
+      record { opening = old.opening; latest = old.latest; out = old.out; decided = old.decided; touched = or-right (o.at == old.opening.at) (was_touched noted old.opening.at) old.touched })
 
   last_met : (v2 : Verdict) (x : TraceId) → Outside s met x v2 → LastWith met.touches x v2
   last_met v2 x a = either o.trace x
       (λ e. let is : o ≡ a.opening = cc (latest_own x e, a.latest) in
-        (touch o v, last_own x (touch o v) noted.touches e, cc (d, ap (decided_as noted) (ap (λ (z : Opening). z.at) is), a.decided)))
+      (touch o v, last_own x (touch o v) noted.touches e, cc (d, ap (decided_as noted) (ap (λ (z : Opening). z.at) is), a.decided)))
       (λ e. let u = w.last v2 x (record { opening = a.opening; latest = a.latest; out = a.out; decided = a.decided; touched = old_touch e (o.at == a.opening.at) refl a.touched }) in
-        (u.0, last_other x (touch o v) noted.touches e ∙ u.1, u.2))
+      (u.0, last_other x (touch o v) noted.touches e ∙ u.1, u.2))
     where
       old_touch : same_trace o.trace x ≡ false → (b : Bool) → (o.at == a.opening.at) ≡ b → (b || was_touched noted a.opening.at) ≡ true → was_touched noted a.opening.at ≡ true
       old_touch e true k h =
@@ -317,7 +317,7 @@ module _ (s : Settings) (noted : Notes) (n : ℕ) (J : Journal) (sound : Sound s
     not_new : (touches : List Touch) (x : TraceId) (v : Verdict) → Outside s (opened touches) x v → same_trace t x ≡ false
     not_new touches x v a = either t x
         (λ e. let is : new ≡ a.opening = cc (latest_new touches x e, a.latest) in
-          clash (sym (new_inside touches) ∙ ap (λ (o : Opening). is_in_buffer s (opened touches) o.at) is ∙ a.out))
+        clash (sym (new_inside touches) ∙ ap (λ (o : Opening). is_in_buffer s (opened touches) o.at) is ∙ a.out))
         (λ e. e)
 
     -- a trace in a cache isn't the opening's
@@ -424,13 +424,13 @@ module _ (s : Settings) (noted : Notes) (n : ℕ) (J : Journal) (sound : Sound s
       held_moved : (v2 : Verdict) (x : TraceId) → in_cache s moved v2 x ≡ true → Outside s moved x v2
       held_moved v2 x h = either p.trace x (λ e. held_left (is_same_verdict v v2) v2 x refl e h)
           (λ e. let was : in_cache s noted v2 x ≡ true = still_in s noted moved (touch p v) v2 x refl (is_same_verdict v v2) refl (λ _. e) h in
-            let old = w.held v2 x was in record {
-              opening = old.opening;
-              latest = latest_other moved.touches x (not_own v2 x was) ∙ old.latest;
-              out = stays_out moved.touches old.opening.at (below_of x old.opening old.latest) old.out;
-              decided = old.decided;
-              touched = or-right (p.at == old.opening.at) (was_touched noted old.opening.at) old.touched;
-            })
+          let old = w.held v2 x was in record {
+            opening = old.opening;
+            latest = latest_other moved.touches x (not_own v2 x was) ∙ old.latest;
+            out = stays_out moved.touches old.opening.at (below_of x old.opening old.latest) old.out;
+            decided = old.decided;
+            touched = or-right (p.at == old.opening.at) (was_touched noted old.opening.at) old.touched;
+          })
 
       last_moved : (v2 : Verdict) (x : TraceId) → Outside s moved x v2 → LastWith moved.touches x v2
       last_moved v2 x a = go (p.at == a.opening.at) refl a.touched

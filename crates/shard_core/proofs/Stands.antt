@@ -1,30 +1,28 @@
 -- What a shard that stands for a journal stands for after it took an item.
-use Rattle.std.proofs.Common.{◌≡◌, ℕ, zero, suc, ◌<◌, ◌≤◌, max, Bool, true, false, not, ◌&&◌, ◌||◌, cond, if◌then◌else◌, List, [], ◌∷◌, length, take, drop, map, reverse, replicate, ◌++◌, Option, Some, None, option_map, refl, sym, ap, subst, ◌∙◌, arith}
-use Rattle.std.specs.List.{list_all, find, slice_set}
+use Rattle.std.proofs.Common.{◌≡◌, ℕ, zero, suc, ◌<◌, ◌≤◌, Bool, true, false, not, ◌&&◌, ◌||◌, if◌then◌else◌, List, [], ◌∷◌, length, take, drop, map, reverse, replicate, ◌++◌, Option, Some, None, option_map, refl, sym, ap, subst, ◌∙◌, arith}
+use Rattle.std.specs.List.{list_all}
 use Rattle.std.specs.Option.{is_some, option_and_then}
-use Rattle.std.proofs.lemmas.List.{length-set, length-replicate}
+use Rattle.std.proofs.lemmas.List.{length-replicate}
 use Rattle.otlp_types.specs.declared.span.Ids.{Ids}
 use Rattle.otlp_types.specs.declared.arrival.Arrival.{Arrival}
-use Rattle.otlp_types.specs.declared.arrival.Item.{Item}
 use Rattle.otlp_types.specs.declared.arrival.Item.TheVariants.{Span, Tick, End}
 use Rattle.span_ids.specs.declared.ids.TraceId.{TraceId}
-use Rattle.span_ids.specs.declared.outcome.Reason.TheVariants.{NoMemory}
 use Rattle.policy_tree.specs.declared.policy.Policy.{Policy}
 use Rattle.policy_tree.specs.Meaning.{meaning}
 use Rattle.rate_budget.specs.Budget.{limiter_counts}
 use Rattle.rate_budget.specs.declared.count.LimiterCount.{LimiterCount}
 use Rattle.trace_buffer.specs.Buffer.{Episode, Buffer, leaves}
 use Rattle.trace_buffer.specs.declared.episode.Evicted.{Evicted}
-use Rattle.decision_cache.specs.Lists.{CacheLists, empty_lists}
-use Rattle.shard_core.specs.Journal.{Entry, Settings, Journal, StoppedInTime, Opening, Notes, Finding, joins, meets, opens, notes, notes_dealt, finding, leaving, decided_as, due_now, have_ended}
+use Rattle.decision_cache.specs.Lists.{CacheLists}
+use Rattle.shard_core.specs.Journal.{Entry, Settings, Journal, StoppedInTime, Opening, Notes, Finding, joins, meets, opens, notes, finding, leaving, decided_as, due_now, have_ended}
 use Rattle.shard_core.specs.Standing.{Standing, standing, ends}
 use Rattle.shard_core.specs.Held.{Held, held_of, settings, settings_of, StandsFor, has_due, is_finished, is_due_in}
 use Rattle.shard_core.specs.Keeping.{buffer, after_span_of, after_span_in, after_entry}
-use Rattle.shard_core.specs.Laws.{State, state_found, state_in}
-use Rattle.shard_core.specs.Taking.{entry, is_refusal, is_loss, answer_to, answer_to_ids, answer_to_finding, evicted_of, put_answer, cache_is_on, loss_applies, marks_apply, marks_apply_to, marks_apply_to_ids}
-use Rattle.shard_core.specs.Holding.{answer_by_state, answer_held, verdict_leaving, may_lose, marks_held, at_clock, TakesSpan, TakesSpanOf, held_after_tick, held_after_end}
+use Rattle.shard_core.specs.Laws.{state_found, state_in}
+use Rattle.shard_core.specs.Taking.{entry, is_refusal, is_loss, answer_to, answer_to_ids, answer_to_finding, evicted_of, put_answer, cache_is_on, marks_apply, marks_apply_to, marks_apply_to_ids}
+use Rattle.shard_core.specs.Holding.{answer_by_state, answer_held, verdict_leaving, marks_held, at_clock, TakesSpan, TakesSpanOf, held_after_tick, held_after_end}
 use Rattle.shard_core.specs.declared.answer.Taken.{Taken}
-use Rattle.shard_core.specs.declared.answer.Taken.TheVariants.{Kept, Dropped, Ticked, Ended, Finished}
+use Rattle.shard_core.specs.declared.answer.Taken.TheVariants.{Kept, Ticked, Ended, Finished}
 use Rattle.shard_core.proofs.Lists.{find-from_any}
 use Rattle.shard_core.proofs.Notes.{HasRoom}
 use Rattle.shard_core.proofs.Due.{nothing_left, all_ended, length-ends}
@@ -90,8 +88,8 @@ module _ (h : Held) (a : Arrival) (ids : Ids) (past : Journal) (k : ℕ) (i : a.
   span_held refused lost =
       let e : Entry = record { item = Span a; refused = refused; lost = lost } in
       sym (keeps_standing s h.limit past k e refl l g.dealt (ap is_some i)
-        ∙ ap (λ (x : Standing). after_entry s h.limit refused lost (Span a) x) (sym g.stands)
-        ∙ ap (λ (o : Option Ids). after_span_in s h.limit refused lost a o st) i)
+      ∙ ap (λ (x : Standing). after_entry s h.limit refused lost (Span a) x) (sym g.stands)
+      ∙ ap (λ (o : Option Ids). after_span_in s h.limit refused lost a o st) i)
 
   state_is : state_in st ids.trace ≡ state_found f
   state_is = ap (λ (x : Standing). state_in x ids.trace) g.stands ∙ sym (found_as_held s past k ids.trace (room_of h l) g.dealt)

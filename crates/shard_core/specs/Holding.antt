@@ -1,7 +1,7 @@
 -- What the code of a shard does to what it holds: words of its private functions, beside the definitions.
 use Rattle.std.specs.Prelude.{ℕ, ◌/◌, ◌≡◌, max, length, Bool, true, false, not, ◌&&◌, ◌||◌, is_none, if◌then◌else◌, List, slice_set, find, Option, Some, None}
 use Rattle.shard_core.specs.Standing.{Standing}
-use Rattle.trace_buffer.specs.Buffer.{Episode, Buffer, leaves, settle_first, is_due_at}
+use Rattle.trace_buffer.specs.Buffer.{Episode, leaves, settle_first, is_due_at}
 use Rattle.trace_buffer.specs.declared.episode.Evicted.{Evicted}
 use Rattle.decision_cache.specs.Lists.{CacheLists, Remembers, is_held_in_either}
 use Rattle.decision_cache.specs.declared.traces.Remembered.{Remembered}

@@ -1,6 +1,6 @@
 -- What a shard has done, looking back over the items that it has taken (tailsamplingprocessor README: `decision_wait`, `num_traces`, `decision_cache`).
 -- A journal is a list of entries, the newest first: the journal before an entry is the list behind it, whose length is the entry's position.
-use Rattle.std.specs.Prelude.{ℕ, zero, suc, ◌+◌, ◌-◌, ◌/◌, max, Bool, true, false, not, ◌&&◌, ◌||◌, if◌then◌else◌, ◌==◌, nat_lt, nat_le, is_none, List, [], ◌∷◌, ◌++◌, map, reverse, length, take, slice_get, filter, find, take_while, Option, Some, None, option_map, bytes_eq, ◌≡◌}
+use Rattle.std.specs.Prelude.{ℕ, zero, suc, ◌+◌, ◌-◌, ◌/◌, max, Bool, true, false, not, ◌&&◌, ◌||◌, if◌then◌else◌, ◌==◌, nat_lt, nat_le, is_none, List, [], ◌∷◌, ◌++◌, map, reverse, length, take, slice_get, filter, find, Option, Some, None, option_map, ◌≡◌}
 use Rattle.std.specs.List.{list_any}
 use Rattle.policy_tree.specs.Tree.{Policies}
 use Rattle.policy_eval.specs.Policies.{verdict, asked_nodes}

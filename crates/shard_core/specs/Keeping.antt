@@ -1,5 +1,5 @@
 -- What a shard holds after an item, by what it held before: no journal is needed to say it.
-use Rattle.std.specs.Prelude.{◌≡◌, ◌≤◌, ◌<◌, ℕ, max, Bool, true, if◌then◌else◌, List, ◌∷◌, length, slice_set, Option, Some, None}
+use Rattle.std.specs.Prelude.{◌≡◌, ◌≤◌, ◌<◌, ℕ, max, Bool, true, if◌then◌else◌, ◌∷◌, length, slice_set, Option, Some, None}
 use Rattle.decision_cache.specs.Lists.{CacheLists, asked, after_asking, after_put}
 use Rattle.trace_buffer.specs.Buffer.{Episode, Buffer, episode_of, append_first, after_opening, opening_episode, leaves}
 use Rattle.trace_buffer.specs.declared.episode.Evicted.{Evicted}

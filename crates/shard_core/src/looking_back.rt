@@ -239,7 +239,10 @@ impl Past<'_> {
     fn are_spans(&self, trace: usize, opening: usize, spans: &[Arrival]) -> bool {
         let mut numbers = spans.iter().map(|arrival| arrival.key.number);
         for (at, entry) in self.entries.iter().enumerate() {
-            if opening <= at && trace_of(entry) == Some(trace) && numbers.next() != Some(at as u64) {
+            if opening <= at
+                && trace_of(entry) == Some(trace)
+                && numbers.next() != Some(at as u64)
+            {
                 return false;
             }
         }
@@ -249,7 +252,9 @@ impl Past<'_> {
     /// Whether an opening behind all items may answer so of the episode that leaves.
     fn may_leave(&self, evicted: Option<Evicted>, cache: Option<Remembered>) -> bool {
         let (Some(left), Some(told)) = (self.leaving(self.entries.len()), evicted) else {
-            return self.leaving(self.entries.len()).is_none() && evicted.is_none() && cache.is_none();
+            return self.leaving(self.entries.len()).is_none()
+                && evicted.is_none()
+                && cache.is_none();
         };
         let Some(trace) = self.entries.get(left).and_then(opened) else {
             return false;
@@ -275,7 +280,8 @@ impl Past<'_> {
             }
             (Finding::Opens, Taken::Kept { evicted, cache }) => self.may_leave(*evicted, *cache),
             (Finding::Meets(_, Verdict::Sampled), Taken::Late(_)) => true,
-            (Finding::Meets(_, Verdict::NotSampled), Taken::Dropped(Reason::LateNotSampled)) => true,
+            (Finding::Meets(_, Verdict::NotSampled), Taken::Dropped(Reason::LateNotSampled)) =>
+                true,
             (Finding::Joins(_) | Finding::Opens, Taken::Dropped(Reason::NoMemory)) => true,
             _ => false,
         }
@@ -327,7 +333,13 @@ fn entry_of(kind: Kind, moment: u64, taken: &Taken) -> Entry {
         kind,
         moment,
         refused: matches!(taken, Taken::Dropped(Reason::NoMemory)),
-        lost: matches!(taken, Taken::Kept { cache: Some(Remembered::Lost), .. }),
+        lost: matches!(
+            taken,
+            Taken::Kept {
+                cache: Some(Remembered::Lost),
+                ..
+            }
+        ),
     }
 }
 
@@ -346,7 +358,14 @@ fn item_of(rt: &impl Abort, alloc: Global, kind: Kind, moment: u64, place: u64) 
 }
 
 /// Takes an item, and compares what is answered.
-fn take(rt: &impl Abort, alloc: Global, shard: &mut Shard, past: &Past<'_>, kind: Kind, moment: u64) -> Entry {
+fn take(
+    rt: &impl Abort,
+    alloc: Global,
+    shard: &mut Shard,
+    past: &Past<'_>,
+    kind: Kind,
+    moment: u64,
+) -> Entry {
     let item = item_of(rt, alloc, kind, moment, past.entries.len() as u64);
     assert!(rt; !shard.has_due());
     assert!(rt; !shard.finished());
@@ -369,13 +388,23 @@ fn decide(rt: &impl Abort, shard: &mut Shard, past: &Past<'_>) {
             assert!(rt; matches!(decided, Decided::Nothing), "{decided:?}");
             return;
         };
-        assert!(rt; past.may_decide(opening, &decided), "{opening}: {decided:?}");
+        assert!(rt;
+            past.may_decide(opening, &decided),
+            "{opening}: {decided:?}"
+        );
         start = opening.saturating_add(1);
     }
 }
 
 /// Runs random items through a shard with these settings.
-fn run(rt: &impl Abort, alloc: Global, seed: u64, limit: usize, sampled: usize, non_sampled: usize) -> Result<(), Fail>
+fn run(
+    rt: &impl Abort,
+    alloc: Global,
+    seed: u64,
+    limit: usize,
+    sampled: usize,
+    non_sampled: usize,
+) -> Result<(), Fail>
     requires { 0 < limit }
 {
     let policies = policies_on_code(alloc, 2)?;
@@ -386,7 +415,12 @@ fn run(rt: &impl Abort, alloc: Global, seed: u64, limit: usize, sampled: usize, 
         number = further(number);
         let random = number >> 33;
         let moment = place as u64 * 2 + random / 64 % 5;
-        let past = Past { entries: entries.as_slice(), limit, sampled, non_sampled };
+        let past = Past {
+            entries: entries.as_slice(),
+            limit,
+            sampled,
+            non_sampled,
+        };
         let trace = (random / 8 % 4) as usize;
         let kind = if place + 1 == ITEMS {
             Kind::End
@@ -398,7 +432,16 @@ fn run(rt: &impl Abort, alloc: Global, seed: u64, limit: usize, sampled: usize, 
         let moment = if kind == Kind::End { 0 } else { moment };
         let entry = take(rt, alloc, &mut shard, &past, kind, moment);
         entries.push(entry)?;
-        decide(rt, &mut shard, &Past { entries: entries.as_slice(), limit, sampled, non_sampled });
+        decide(
+            rt,
+            &mut shard,
+            &Past {
+                entries: entries.as_slice(),
+                limit,
+                sampled,
+                non_sampled,
+            },
+        );
     }
     assert!(rt; shard.finished());
     Ok(())

@@ -1,5 +1,5 @@
 -- What a ledger stands for, decision by decision and entry by entry.
-use Rattle.std.proofs.Common.{◌≡◌, ℕ, zero, suc, ◌+◌, ◌<◌, ◌≤◌, ◌/◌, Bool, false, Option, Some, None, option_map, slice_get, List, [], ◌∷◌, ◌++◌, map, take, reverse, length, get_or, refl, ap, sym, ◌∙◌, append_assoc}
+use Rattle.std.proofs.Common.{◌≡◌, ℕ, zero, suc, ◌+◌, ◌<◌, ◌≤◌, ◌/◌, Bool, false, Some, None, option_map, slice_get, List, [], ◌∷◌, ◌++◌, map, take, reverse, length, get_or, refl, ap, sym, ◌∙◌, append_assoc}
 use Rattle.std.proofs.lemmas.List.{take_more, reverse-append}
 use Rattle.rate_budget.specs.Budget.{limiter_counts, limiter_of, grants_at, after}
 use Rattle.rate_budget.specs.BudgetLaws.{limits-of-counts}
@@ -8,7 +8,7 @@ use Rattle.policy_tree.specs.Tree.{limiters}
 use Rattle.policy_eval.specs.Policies.{verdict, asked_nodes}
 use Rattle.policy_eval.specs.Meaning.{after_asking}
 use Rattle.policy_eval.specs.AskingLaws.{decides_by_counts}
-use Rattle.shard_core.specs.Journal.{Settings, Entry, Journal, Opening, Decision, Notes, askings_made, clock, spans_since, decision, decisions_in_turn, due_at, due_now, decisions_now, Finding, finding, leaving, after_item, after_decisions, no_notes, notes}
+use Rattle.shard_core.specs.Journal.{Settings, Entry, Journal, Opening, Decision, Notes, askings_made, clock, spans_since, decision, decisions_in_turn, due_at, due_now, decisions_now, Finding, finding, after_item, after_decisions, no_notes, notes}
 use Rattle.std.proofs.lemmas.Option.{slice_get_past, slice_get_read}
 use Rattle.shard_core.specs.Fate.{Effect, effect_of_verdict, effect_of_decision, effect_of_finding, effect_of_span}
 use Rattle.shard_core.specs.Taking.{marks_apply_to, marks_apply_to_ids}
@@ -20,7 +20,7 @@ use Rattle.span_ids.specs.declared.outcome.Verdict.{Verdict}
 use Rattle.shard_journal.specs.Found.{kind_of}
 use Rattle.shard_journal.specs.declared.ledger.Ledger.{Ledger}
 use Rattle.shard_journal.specs.Ledger.{short_notes, ledger_of, IsFor, with_decision}
-use Rattle.shard_journal.proofs.Short.{after_item_short, item_keeps, due_short, decided_short, finding_short, effect_short, marks_short}
+use Rattle.shard_journal.proofs.Short.{after_item_short, item_keeps, due_short, finding_short, effect_short, marks_short}
 
 -- the parts of a ledger
 ledger_is : (s : Settings) (noted : Notes) (n : Notes) (counts : List LimiterCount) → n ≡ short_notes noted → counts ≡ limiter_counts s.policies (askings_made noted.decisions) → let l : Ledger = record { noted = n; budgets = counts } in l ≡ ledger_of s noted

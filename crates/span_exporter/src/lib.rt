@@ -8,8 +8,10 @@
 
 mod answer;
 mod exporter;
+mod law;
 #[cfg(test)]
 mod tests;
 
 pub use answer::{Flushed, Pulled};
 pub use exporter::Exporter;
+pub use law::{sink_takes_lines, spans_are_kept};

@@ -3,6 +3,7 @@ ghost use Rattle.std.specs.Prelude.{◌≡◌, ℕ, ◌+◌, ◌-◌, ◌^◌, �
 ghost use Rattle.std.specs.Result.{IsErrOf};
 ghost use Rattle.std.specs.Io.KnownBytes.{Appends, Keeps};
 ghost use Rattle.span_sink.specs.LineSinks.{LineSinkState, up_state, down_state, TakesWhole, FailsInside};
+ghost use Rattle.span_sink.specs.Hands.{HandsOne};
 
 use crate::sink::{Sink, SinkFault};
 use std::marker::Model;
@@ -56,6 +57,8 @@ impl<S: Sink> LineSink<S> {
         ensures handed { OnOk result (TakesWhole self.old line.now self.new) }
         ensures failed { IsErrOf result SinkFault.Failed → FailsInside self.old line.now self.new }
         ensures down { IsErrOf result SinkFault.Down → (self.old.is_down ≡ true) × (self.new ≡ self.old) }
+        // The three above in one, as the law of many calls takes it.
+        ensures hands { HandsOne self.old line.now result self.new }
     {
         if self.is_down {
             return Err(SinkFault::Down);

@@ -13,7 +13,8 @@ use Rattle.span_ids.specs.declared.outcome.Verdict.TheVariants.{Sampled, NotSamp
 use Rattle.span_ids.specs.declared.outcome.Reason.{Reason}
 use Rattle.span_ids.specs.declared.outcome.Reason.TheVariants.{InvalidId, QueueFull, Evicted, NotSampled as DecidedAgainst}
 use Rattle.span_world.specs.World.{Config, Lane, Shard, World, settings, settings_for, has_due, same_key}
-use Rattle.span_world.specs.Step.{is_of_conn, arrivals, has_ids, marks_apply}
+use Rattle.span_world.specs.Step.{is_of_conn, arrivals, has_ids}
+use Rattle.shard_core.specs.Taking.{marks_apply_to_ids}
 use Rattle.span_world.specs.Places.{HeldKey, unrouted, queued, buffered, unshipped, exported, in_batch, handed, counted_under, held_at, buffered_spans, held_by_lanes, held_by_shard, held_by_shards, held, places}
 use Rattle.shard_core.proofs.Notes.{HasRoom}
 use Rattle.shard_core.proofs.ListFacts.{tally, tally-append, tally-map, tally-flat_map_map, tally-halves, total, total-set, length_filter, length-slice_set, flat_map-append'}
@@ -119,7 +120,7 @@ module _ (k : ArrivalKey) (c : Config) (room : HasRoom c.limit) (w : World) wher
   queue_is : (sh : Shard) (a : Arrival) (rest : List Arrival) → sh.queue ≡ a ∷ rest → occ k sh.queue ≡ occ k (a ∷ []) + occ k rest
   queue_is sh a rest e = ap (occ k) e ∙ omega arith
 
-  pub has_valid : (J : Journal) (refused lost : Bool) (ids : Option Ids) → marks_apply s J refused lost ids ≡ true → (i : Ids) × (ids ≡ Some i)
+  pub has_valid : (J : Journal) (refused lost : Bool) (ids : Option Ids) → marks_apply_to_ids s J refused lost ids ≡ true → (i : Ids) × (ids ≡ Some i)
   has_valid J refused lost None e = absurd (cc e)
   has_valid J refused lost (Some i) e = (i, refl)
 

@@ -27,3 +27,8 @@ pub mod Parts
 pub mod Samples
 pub mod Rows
 pub mod WrongTables
+pub mod Arriving
+pub mod Firsts
+pub mod Routing
+pub mod Items
+pub mod Replaying

@@ -12,7 +12,8 @@ use Rattle.otlp_types.specs.declared.arrival.Arrival.{Arrival}
 use Rattle.span_ids.specs.declared.outcome.Verdict.{Verdict}
 use Rattle.span_ids.specs.declared.outcome.Verdict.TheVariants.{Sampled, NotSampled}
 use Rattle.span_ids.specs.declared.outcome.Reason.TheVariants.{NotSampled as DecidedAgainst}
-use Rattle.span_world.specs.World.{Lane, Shard, goes_to, ids_go_to, shard_of, is_same_conn}
+use Rattle.span_ids.specs.Route.{shard_of}
+use Rattle.span_world.specs.World.{Lane, Shard, goes_to, ids_go_to, is_same_conn}
 use Rattle.span_world.specs.Headline.{ComesFirst, have_same_trace}
 use Rattle.shard_core.proofs.ListFacts.{Each, Each-append, Each-weaker, Pairs, Across, Pairs-append, Pairs-right}
 use Rattle.shard_core.proofs.Notes.{same_right}

@@ -4,7 +4,7 @@ use Rattle.shard_core.specs.Journal.{Entry, Settings, Journal}
 use Rattle.otlp_types.specs.declared.arrival.Item.{Item}
 use Rattle.otlp_types.specs.declared.arrival.Item.TheVariants.{Span, Tick, End}
 use Rattle.span_world.specs.World.{Config, Shard, World, new_world, new_shard, settings}
-use Rattle.span_world.specs.Step.{marks_apply}
+use Rattle.shard_core.specs.Taking.{marks_apply_to_ids}
 use Rattle.span_world.proofs.Lined.{at_each}
 use Rattle.span_world.proofs.Order.{replicated}
 use Rattle.span_world.proofs.Balance.{same_settings}
@@ -12,7 +12,7 @@ use Rattle.span_world.proofs.Steps.{Stepped, received_by, routed, refused_by, to
 
 -- the marks of an item could apply to it
 abbrev pub IsMarked : Settings → (before : Journal) → (refused lost : Bool) → Item → Type 0
-IsMarked s before refused lost (Span a) = marks_apply s before refused lost a.rec.span.ids ≡ true
+IsMarked s before refused lost (Span a) = marks_apply_to_ids s before refused lost a.rec.span.ids ≡ true
 IsMarked s before refused lost (Tick m) = Unit {0}
 IsMarked s before refused lost (End sender) = Unit {0}
 

@@ -12,7 +12,7 @@ use Rattle.span_ids.specs.declared.outcome.Verdict.TheVariants.{Sampled, NotSamp
 use Rattle.span_ids.specs.declared.outcome.Reason.{Reason}
 use Rattle.span_ids.specs.declared.outcome.Reason.TheVariants.{InvalidId, QueueFull, NoMemory, Evicted, LateNotSampled, ExporterDown, NotSampled as DecidedAgainst}
 use Rattle.span_world.specs.World.{Config, Lane, Shard, World, settings, has_due, same_key}
-use Rattle.span_world.specs.Step.{marks_apply, marks_apply_to}
+use Rattle.shard_core.specs.Taking.{marks_apply_to_ids, marks_apply_to}
 use Rattle.span_world.specs.Places.{Place, buffered, counted_under}
 use Rattle.span_world.specs.Headline.{Taken, fate_of, HasFate, HasCause, WasReceived, is_past_release, is_where, is_where_late, is_buffered, is_span_with, was_taken, handed_spans, PlaceFitsFate, CountedWithCause, MeetsRemembered, OnlyReleased, ShipsOutput, EndsLast, EachPlaceFitsFate, EachCountedWithCause, EachMeetsRemembered, EachOnlyReleased, EachShipsOutput, EachEndsLast, Headline}
 use Rattle.span_world.proofs.OnePlace.{in_one_place}
@@ -73,8 +73,8 @@ met (joins o) v e = absurd (cc e)
 met opens v e = absurd (cc e)
 met (meets o u) v e = let q : u ≡ v = cc e in (o, ap (meets o) q)
 
-not_refused : (s : Settings) (J : Journal) (refused lost : Bool) (ids : Option Ids) (i : Ids) (o : Opening) (v : Verdict) → ids ≡ Some i → finding s (notes s J) i.trace ≡ meets o v → marks_apply s J refused lost ids ≡ true → refused ≡ false
-not_refused s J refused lost ids i o v e f m = go refused (subst (λ (x : Finding). marks_apply_to s (notes s J) refused lost x ≡ true) f (subst (λ (x : Option Ids). marks_apply s J refused lost x ≡ true) e m))
+not_refused : (s : Settings) (J : Journal) (refused lost : Bool) (ids : Option Ids) (i : Ids) (o : Opening) (v : Verdict) → ids ≡ Some i → finding s (notes s J) i.trace ≡ meets o v → marks_apply_to_ids s J refused lost ids ≡ true → refused ≡ false
+not_refused s J refused lost ids i o v e f m = go refused (subst (λ (x : Finding). marks_apply_to s (notes s J) refused lost x ≡ true) f (subst (λ (x : Option Ids). marks_apply_to_ids s J refused lost x ≡ true) e m))
   where
     go : (refused : Bool) → marks_apply_to s (notes s J) refused lost (meets o v) ≡ true → refused ≡ false
     go false e = refl

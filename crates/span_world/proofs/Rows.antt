@@ -3,7 +3,8 @@ use Rattle.std.specs.Prelude.{◌≡◌, ℕ, true, false, List, [], ◌∷◌, 
 use Rattle.shard_core.specs.Journal.{notes}
 use Rattle.span_ids.specs.declared.ids.TraceId.{TraceId}
 use Rattle.span_ids.specs.declared.outcome.Reason.TheVariants.{InvalidId, QueueFull, NoMemory, ExporterDown, Evicted}
-use Rattle.span_world.specs.World.{Config, shard_of}
+use Rattle.span_ids.specs.Route.{shard_of}
+use Rattle.span_world.specs.World.{Config}
 use Rattle.span_world.specs.Step.{Step, receive, route, refuse, take, tick, close, end, decide, ship, pull, hand, fail, spoil, run}
 use Rattle.span_world.specs.Places.{places, buffered, counted_under, queued, unshipped}
 use Rattle.span_world.proofs.Samples.{always, errors, configured, error, plain, invalid, key, send, is_enabled_after, numbers_under, handed_numbers, is_closed}

@@ -9,7 +9,8 @@ use Rattle.otlp_types.specs.declared.arrival.Item.TheVariants.{Span, Tick, End}
 use Rattle.span_ids.specs.declared.outcome.Reason.{Reason}
 use Rattle.span_ids.specs.declared.outcome.Reason.TheVariants.{QueueFull}
 use Rattle.span_world.specs.World.{Config, Lane, Shard, World, settings, ticker, has_due, goes_to}
-use Rattle.span_world.specs.Step.{Step, receive, route, refuse, take as take_step, tick, close, end, decide, ship, pull, hand, fail, spoil, is_of_conn, arrivals, with_lane, after_receive, take_first, next_for, after_taking, marks_apply, take_on, sender_is_done, after_decision, ship_on, pull_from, spoil_applies, is_empty, step}
+use Rattle.span_world.specs.Step.{Step, receive, route, refuse, take as take_step, tick, close, end, decide, ship, pull, hand, fail, spoil, is_of_conn, arrivals, with_lane, after_receive, take_first, next_for, after_taking, take_on, sender_is_done, after_decision, ship_on, pull_from, spoil_applies, is_empty, step}
+use Rattle.shard_core.specs.Taking.{marks_apply_to_ids}
 use Rattle.shard_core.proofs.ListFacts.{Each}
 
 -- ---- options
@@ -63,7 +64,7 @@ pub data Stepped (c : Config) (w next : World) : Type 0 where
       → TakenOut (goes_to (length w.shards) shard) l.unrouted a rest
       → record w { lanes = slice_set w.lanes lane (record l { unrouted = rest }); counted = w.counted ++ counts QueueFull (a ∷ []) } ≡ next → Stepped c w next
   took_span : (shard : ℕ) (refused lost : Bool) (sh : Shard) (a : Arrival) (rest : List Arrival) → slice_get w.shards shard ≡ Some sh → sh.queue ≡ a ∷ rest
-      → has_due (settings c w) sh ≡ false → marks_apply (settings c w) sh.journal refused lost a.rec.span.ids ≡ true
+      → has_due (settings c w) sh ≡ false → marks_apply_to_ids (settings c w) sh.journal refused lost a.rec.span.ids ≡ true
       → after_taking c w shard sh (record { item = Span a; refused = refused; lost = lost }) rest ≡ next → Stepped c w next
   took_tick : (shard moment : ℕ) (sh : Shard) → slice_get w.shards shard ≡ Some sh → has_due (settings c w) sh ≡ false → has_ended sh.journal (ticker w) ≡ false
       → after_taking c w shard sh (record { item = Tick moment; refused = false; lost = false }) sh.queue ≡ next → Stepped c w next
@@ -109,8 +110,8 @@ stepped c w next (take_step shard refused lost) e =
     go : (sh : Shard) → slice_get w.shards shard ≡ Some sh → (q : List Arrival) → sh.queue ≡ q → take_on c w shard refused lost sh q ≡ Some next → Stepped c w next
     go sh g [] q e = absurd (cc e)
     go sh g (a ∷ rest) q e =
-        let m = some_if (not (has_due (settings c w) sh) && marks_apply (settings c w) sh.journal refused lost a.rec.span.ids) _ next e in
-        let b = and_parts (not (has_due (settings c w) sh)) (marks_apply (settings c w) sh.journal refused lost a.rec.span.ids) m.0 in
+        let m = some_if (not (has_due (settings c w) sh) && marks_apply_to_ids (settings c w) sh.journal refused lost a.rec.span.ids) _ next e in
+        let b = and_parts (not (has_due (settings c w) sh)) (marks_apply_to_ids (settings c w) sh.journal refused lost a.rec.span.ids) m.0 in
         took_span shard refused lost sh a rest g q (not-true (has_due (settings c w) sh) b.0) b.1 m.1
 stepped c w next (tick shard moment) e =
     let k = and_then_some _ (slice_get w.shards shard) next e in

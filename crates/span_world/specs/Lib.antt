@@ -2,3 +2,5 @@ pub mod World
 pub mod Step
 pub mod Places
 pub mod Headline
+pub mod Core
+pub mod Answers

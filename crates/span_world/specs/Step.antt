@@ -2,15 +2,13 @@
 -- A step that names a lane, a shard or a sender that the world doesn't have isn't enabled.
 use Rattle.std.specs.Prelude.{ℕ, ◌+◌, Bool, true, false, not, ◌&&◌, ◌||◌, if◌then◌else◌, ◌==◌, nat_lt, is_some, List, [], ◌∷◌, ◌++◌, length, filter, count_by, slice_get, slice_set, Option, Some, None, option_map, option_and_then}
 use Rattle.std.specs.List.{list_any}
-use Rattle.shard_core.specs.Journal.{Entry, Settings, Journal, Opening, Notes, Finding, joins, meets, opens, notes, finding, leaving, decided_as, cache_size, decisions_now, has_ended}
+use Rattle.shard_core.specs.Journal.{Entry, decisions_now, has_ended}
 use Rattle.shard_core.specs.Fate.{Effect, effect_of_taking, effect_of_decision, counts}
-use Rattle.shard_core.specs.Taking.{refusal_applies}
-use Rattle.otlp_types.specs.declared.span.Ids.{Ids}
+use Rattle.shard_core.specs.Taking.{marks_apply_to_ids}
 use Rattle.otlp_types.specs.declared.arrival.Arrival.{Arrival}
 use Rattle.otlp_types.specs.declared.arrival.Record.{Record}
 use Rattle.otlp_types.specs.declared.arrival.Item.TheVariants.{Span, Tick, End}
 use Rattle.span_ids.specs.declared.keys.ConnKey.{ConnKey}
-use Rattle.span_ids.specs.declared.outcome.Verdict.{Verdict}
 use Rattle.span_ids.specs.declared.outcome.Reason.{Reason}
 use Rattle.span_ids.specs.declared.outcome.Reason.TheVariants.{InvalidId, QueueFull, NoMemory, ExporterDown}
 use Rattle.span_world.specs.World.{Config, Lane, Shard, World, new_world, settings, ticker, has_due, is_same_conn, goes_to}
@@ -110,31 +108,11 @@ after_taking c w shard sh e queue =
       counted = w.counted ++ did.counted;
     }
 
--- a decided episode is put into a cache that isn't off
-abbrev pub cache_is_on : Settings → Option Verdict → Bool
-cache_is_on s None = false
-cache_is_on s (Some v) = nat_lt 0 (cache_size s v)
-
--- a put may be lost at an opening that evicts a decided episode whose cache isn't off
-abbrev pub loss_applies : Settings → Notes → Finding → Bool
-loss_applies s noted (joins o) = false
-loss_applies s noted (meets o v) = false
-loss_applies s noted opens = cache_is_on s (option_and_then (λ (o : Opening). decided_as noted o.at) (leaving s.limit noted.openings))
-
--- the marks are such as can apply to a span that finds this
-abbrev pub marks_apply_to : Settings → Notes → (refused lost : Bool) → Finding → Bool
-marks_apply_to s noted refused lost f = (not refused || refusal_applies f) && (not lost || (not refused && loss_applies s noted f))
-
--- the marks are such as can apply to a span with these ids
-abbrev pub marks_apply : Settings → Journal → (refused lost : Bool) → Option Ids → Bool
-marks_apply s past refused lost None = false
-marks_apply s past refused lost (Some ids) = marks_apply_to s (notes s past) refused lost (finding s (notes s past) ids.trace)
-
 -- the shard takes the first span of its queue, where nothing is due and the marks can apply
 abbrev pub take_on : Config → World → (shard : ℕ) → (refused lost : Bool) → Shard → List Arrival → Option World
 take_on c w shard refused lost sh [] = None
 take_on c w shard refused lost sh (a ∷ rest) =
-    if not (has_due (settings c w) sh) && marks_apply (settings c w) sh.journal refused lost a.rec.span.ids
+    if not (has_due (settings c w) sh) && marks_apply_to_ids (settings c w) sh.journal refused lost a.rec.span.ids
     then Some (after_taking c w shard sh (record { item = Span a; refused = refused; lost = lost }) rest) else None
 
 -- the shard takes a tick, where nothing is due and the ticker's End was not taken

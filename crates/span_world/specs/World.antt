@@ -1,13 +1,12 @@
 -- The core's world: lanes, shards and the exporter as plain lists.
 -- The queues have no limit here: that a queue was full is an input of the step `refuse`.
-use Rattle.std.specs.Prelude.{◌≢◌, ℕ, ◌+◌, ◌%◌, Bool, false, ◌&&◌, ◌==◌, nat_lt, List, [], length, drop, replicate, Option, Some, None}
-use Rattle.std.specs.Int.{from_be_bytes, w64}
+use Rattle.std.specs.Prelude.{◌≢◌, ℕ, ◌+◌, Bool, false, ◌&&◌, ◌==◌, nat_lt, List, [], length, replicate, Option, Some, None}
 use Rattle.policy_tree.specs.Tree.{Policies}
 use Rattle.shard_core.specs.Journal.{Settings, Journal, due_now}
 use Rattle.shard_core.specs.Fate.{DroppedSpan}
 use Rattle.otlp_types.specs.declared.span.Ids.{Ids}
 use Rattle.otlp_types.specs.declared.arrival.Arrival.{Arrival}
-use Rattle.span_ids.specs.declared.ids.TraceId.{TraceId}
+use Rattle.span_ids.specs.Route.{shard_of}
 use Rattle.span_ids.specs.declared.keys.ConnKey.{ConnKey}
 use Rattle.span_ids.specs.declared.keys.ArrivalKey.{ArrivalKey}
 
@@ -86,10 +85,6 @@ is_same_conn c d = (c.lane == d.lane) && (c.ordinal == d.ordinal)
 -- two arrival keys are the same
 abbrev pub same_key : ArrivalKey → ArrivalKey → Bool
 same_key j k = (j.conn.lane == k.conn.lane) && (j.conn.ordinal == k.conn.ordinal) && (j.number == k.number)
-
--- the shard of a trace, of so many: the last 8 bytes of its id read big-endian, modulo the number of shards
-abbrev pub shard_of : TraceId → (shards : ℕ) → ℕ
-shard_of t shards = from_be_bytes w64 (drop 8 t) % shards
 
 -- the ids are valid and their trace goes to this of so many shards
 abbrev pub ids_go_to : (shards shard : ℕ) → Option Ids → Bool

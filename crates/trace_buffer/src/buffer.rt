@@ -97,11 +97,7 @@ impl TraceBuffer {
 
     /// Appends a span to its trace's episode, which stands undecided, at this clock, in milliseconds. A refusal of memory
     /// leaves all as before and hands the span back.
-    pub fn append(
-        &mut self,
-        arrival: Arrival,
-        clock: Moment,
-    ) -> Result<(), (Arrival, AllocError)>
+    pub fn append(&mut self, arrival: Arrival, clock: Moment) -> Result<(), (Arrival, AllocError)>
         requires { stands_undecided arrival.rec.span.ids self.old.episodes ≡ true }
         ensures { Appended self.old arrival arrival.rec.span.ids clock result self.new }
     {

@@ -26,7 +26,10 @@ fn is_setting(kind: PolicyType, key: &str) -> bool
         PolicyType::Latency => key == "threshold_ms" || key == "upper_threshold_ms",
         PolicyType::StatusCode => key == "status_codes",
         PolicyType::StringAttribute => key == "key" || key == "values" || key == "invert_match",
-        PolicyType::NumericAttribute => key == "key" || key == "min_value" || key == "max_value" || key == "invert_match",
+        PolicyType::NumericAttribute => key == "key"
+            || key == "min_value"
+            || key == "max_value"
+            || key == "invert_match",
         PolicyType::BooleanAttribute => key == "key" || key == "value" || key == "invert_match",
         PolicyType::SpanCount => key == "min_spans" || key == "max_spans",
         PolicyType::RateLimiting => key == "spans_per_second",
@@ -40,7 +43,8 @@ fn is_key(kind: TableKind, key: &str) -> bool
     ensures { result ≡ spec.is_key kind key.now }
 {
     match kind {
-        TableKind::Config => key == "decision_wait_ms" || key == "num_traces"
+        TableKind::Config => key == "decision_wait_ms"
+            || key == "num_traces"
             || key == "decision_cache"
             || key == "policies",
         TableKind::DecisionCache => {

@@ -13,10 +13,10 @@ mod keys;
 mod kinds;
 mod policy_faults;
 mod settings_faults;
+mod settings_values;
 #[cfg(test)]
 mod tests;
 mod values;
-mod settings_values;
 
 pub use config::{Config, read};
 pub use fault::ConfigFault;

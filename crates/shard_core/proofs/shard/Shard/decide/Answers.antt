@@ -1,4 +1,4 @@
-use Rattle.std.proofs.Common.{◌≡◌, ℕ, ◌/◌, ◌<◌, true, false, Some, None, List, map, option_map, length, sym, ap, subst, ◌∙◌, inr, refl}
+use Rattle.std.proofs.Common.{◌≡◌, ℕ, ◌/◌, ◌<◌, false, Some, List, map, option_map, length, sym, ap, subst, ◌∙◌, inr}
 use Rattle.std.specs.List.{find}
 use Rattle.policy_tree.specs.Meaning.{meaning}
 use Rattle.policy_eval.specs.Policies.{asked_nodes}

@@ -1,4 +1,4 @@
-use Rattle.std.proofs.Common.{◌≡◌, List, sym, ap, subst, ◌∙◌, map, [], ◌<◌}
+use Rattle.std.proofs.Common.{List, sym, ap, ◌∙◌, map, []}
 use Rattle.policy_tree.specs.declared.policy.Policy.{Policy}
 use Rattle.policy_tree.specs.Tree.{limiters}
 use Rattle.policy_tree.specs.Meaning.{meaning}
@@ -6,7 +6,7 @@ use Rattle.rate_budget.specs.Budget.{limiter_of, limiter_counts}
 use Rattle.rate_budget.specs.BudgetLaws.{limits-of-counts}
 use Rattle.trace_buffer.specs.Buffer.{Buffer}
 use Rattle.decision_cache.specs.Lists.{CacheLists}
-use Rattle.shard_core.proofs.Forgetting.{IsKept, new_keeps}
+use Rattle.shard_core.proofs.Forgetting.{new_keeps}
 use Rattle.shard_core.proofs.Stands.{new_stands, new_runs}
 use Rattle.shard_core.proofs.shard.Shard.new.Goals as goal
 

@@ -1,10 +1,8 @@
-use Rattle.std.proofs.Common.{◌≡◌, ℕ, ◌≤◌, max, Option, Some, None, sym, ap, subst, ◌∙◌, arith}
+use Rattle.std.proofs.Common.{◌≡◌, ℕ, ◌≤◌, max, Option, sym, subst, ◌∙◌, arith}
 use Rattle.otlp_types.specs.declared.span.Ids.{Ids}
-use Rattle.std.proofs.Common.{Result, Ok, Err, false}
-use Rattle.otlp_types.specs.declared.arrival.Arrival.{Arrival}
-use Rattle.trace_buffer.specs.Buffer.{Buffer, Appended, AppendedTo, Opened, episode_of}
-use Rattle.trace_buffer.specs.declared.episode.Evicted.{Evicted}
-use Rattle.decision_cache.specs.Lists.{CacheLists, after_asking, is_held_in_either}
+use Rattle.std.proofs.Common.{Ok, Err, false}
+use Rattle.trace_buffer.specs.Buffer.{Buffer, Appended, Opened, episode_of}
+use Rattle.decision_cache.specs.Lists.{CacheLists, is_held_in_either}
 use Rattle.shard_core.proofs.Forgetting.{IsKept, append_keeps, ask_keeps, later_keeps, open_keeps, asked-nothing}
 use Rattle.shard_core.proofs.Codes.{no_episode, keep_puts}
 use Rattle.shard_core.proofs.shard.Shard.take_span.Goals as goal

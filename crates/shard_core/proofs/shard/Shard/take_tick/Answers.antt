@@ -1,5 +1,4 @@
-use Rattle.std.proofs.Common.{◌≤◌, sym, subst, arith}
-use Rattle.trace_buffer.specs.Buffer.{opened_by}
+use Rattle.std.proofs.Common.{◌≤◌, arith}
 use Rattle.shard_core.proofs.Forgetting.{opened-later}
 use Rattle.shard_core.proofs.shard.Shard.take_tick.Goals as goal
 

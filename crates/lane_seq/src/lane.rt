@@ -1,0 +1,157 @@
+//! A lane: the one place at which the spans of its connections are numbered, routed and pushed.
+ghost use Rattle.std.specs.Prelude.{◌≡◌, ℕ, ◌+◌, ◌-◌, ◌^◌, ◌<◌, ◌≤◌, Some, None, length, slice_get, IsTrue};
+ghost use Rattle.std.specs.Result.{IsErrOf};
+ghost use Rattle.serde_json.specs.Data.{Data};
+ghost use Rattle.otlp_json.specs.Decoding.{IsJson};
+ghost use Rattle.otlp_json.specs.Reading.{request_of};
+ghost use Rattle.otlp_flatten.specs.Flat.{records_of};
+ghost use Rattle.otlp_types.specs.declared.request.Request.{Request};
+ghost use Rattle.lane_seq.specs.Numbers.{arrivals_from};
+ghost use Rattle.lane_seq.specs.Replies.{IsRefusal, OnReceived};
+ghost use Rattle.lane_seq.specs.Pushes.{LaneState, Receives};
+
+use crate::preparing::{Conn, Prepared, count_invalid, prepare};
+use crate::pushing::{push_all, reply_to};
+use crate::reply::{BadData, Reply};
+use lane_queue::Port;
+use otlp_types::Item;
+use span_ids::{ConnKey, Moment};
+use std::alloc::Global;
+use std::marker::Model;
+
+/// A lane, with one port to the queue of each shard. It serves one connection after the other.
+#[derive(Drop)]
+pub struct Lane<P> {
+    number: u16,
+    connected: u64,
+    ports: Vec<P>,
+}
+
+impl<P> Model for Lane<P> {
+    ghost use Rattle.std.specs.Prelude.{◌<◌, length};
+    ghost use Rattle.lane_seq.specs.Pushes.{LaneState};
+
+    ghost Value = { LaneState P };
+
+    ghost view = { λ l. record { number = l.number; connected = l.connected; ports = l.ports.items } };
+
+    ghost invariant = { λ l. 0 < length l.ports.items };
+}
+
+/// What is left of a lane that has ended.
+#[derive(Drop)]
+pub struct LaneEnd<P> {
+    /// Its number, by which the shards know it as a sender.
+    pub number: u16,
+    /// Its ports by shard, for its `End`.
+    pub ports: Vec<P>,
+}
+
+impl<P> Lane<P> {
+    ghost use Rattle.std.specs.Borrow.{sem};
+    ghost use Rattle.lane_seq.specs.Lends.{LendsPort};
+
+    /// The lane of this number, with a port for each shard in their order, of which no connection has come yet.
+    pub fn new(number: u16, ports: Vec<P>) -> Self
+        requires { 0 < length ports.items }
+        ensures { result ≡ record { number = number; connected = 0; ports = ports.items } }
+    {
+        Lane {
+            number,
+            connected: 0,
+            ports,
+        }
+    }
+
+    /// How many connections have come.
+    pub fn connected(&self) -> u64
+        ensures { result ≡ self.now.connected }
+    {
+        self.connected
+    }
+
+    /// Lends the port to a shard.
+    pub fn port(&mut self, shard: usize) -> &mut P
+        requires { shard < length self.old.ports }
+        ensures* writes_back { sem 𝓛 (LendsPort P.row self.entry shard result) }
+        ensures port { slice_get self.old.ports shard ≡ Some result.now }
+    {
+        &mut self.ports[shard]
+    }
+
+    /// A new connection, of which no span has been received. Connections are numbered from 0. It takes no memory.
+    pub fn connect(&mut self) -> Conn
+        requires { self.old.connected < 2 ^ 64 - 1 }
+        ensures conn { result ≡ record {
+          key = record { lane = self.old.number; ordinal = self.old.connected };
+          next = 0;
+        } }
+        ensures counted { self.new ≡ record self.old { connected = self.old.connected + 1 } }
+    {
+        let ordinal = self.connected;
+        self.connected += 1;
+        Conn {
+            key: ConnKey {
+                lane: self.number,
+                ordinal,
+            },
+            next: 0,
+        }
+    }
+
+    /// Ends the lane and gives its ports back. The caller pushes the lane's `End` on each.
+    pub fn end(self) -> LaneEnd<P>
+        ensures number { result.number ≡ self.number }
+        ensures ports { result.ports.items ≡ self.ports }
+    {
+        let Lane {
+            number,
+            connected: _,
+            ports,
+        } = self;
+        LaneEnd { number, ports }
+    }
+}
+
+impl<P: Port<Item>> Lane<P> {
+    /// Takes a request that came on a connection at a moment: its spans get the connection's next numbers, and each
+    /// that has valid ids is pushed once, in document order, to the port of its route. After `BadData` and `Busy`
+    /// nothing was pushed and no number was used.
+    pub fn submit(&mut self, alloc: Global, conn: &mut Conn, body: &[u8], moment: Moment) -> Reply
+        ensures received { OnReceived result ((d : Data) × (request : Request) × IsJson body.now d
+            × (request_of d ≡ Some request)
+            × Receives P.takes P.refuses (arrivals_from conn.old.key conn.old.next moment (records_of request))
+            self.old.ports result self.new.ports
+            × (conn.new ≡ record conn.old {
+              next = conn.old.next
+                  + length (arrivals_from conn.old.key conn.old.next moment (records_of request));
+            })) }
+        ensures lane { self.new ≡ record self.old { ports = self.new.ports } }
+        ensures ports { length self.new.ports ≡ length self.old.ports }
+        ensures json { result ≡ Reply.BadData BadData.Json → (d : Data) → IsJson body.now d → ⊥ }
+        ensures shape { result ≡ Reply.BadData BadData.Shape
+            → (d : Data) × IsJson body.now d × (request_of d ≡ None) }
+        ensures refused { IsRefusal result → (self.new ≡ self.old) × (conn.new ≡ conn.old) }
+    {
+        match prepare(alloc, conn, body, moment) {
+            Ok(prepared) => self.receive(conn, prepared),
+            Err(refusal) => refusal,
+        }
+    }
+
+    /// Pushes what a request brought, and answers it.
+    fn receive(&mut self, conn: &mut Conn, prepared: Prepared) -> Reply
+        requires { conn.old.next + length prepared.arrivals.items < 2 ^ 64 }
+        ensures pushed { Receives P.takes P.refuses prepared.arrivals.items self.old.ports result self.new.ports }
+        ensures lane { self.new ≡ record self.old { ports = self.new.ports } }
+        ensures ports { length self.new.ports ≡ length self.old.ports }
+        ensures next { conn.new ≡ record conn.old { next = conn.old.next + length prepared.arrivals.items } }
+    {
+        let arrivals = prepared.arrivals;
+        let spans = arrivals.len() as u64;
+        let invalid = count_invalid(&arrivals) as u64;
+        conn.next += spans;
+        let full = push_all(&mut self.ports, arrivals);
+        reply_to(spans, invalid, full)
+    }
+}

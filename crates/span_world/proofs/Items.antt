@@ -1,0 +1,100 @@
+-- What a shard takes and decides, by the shard read at its place.
+use Rattle.std.proofs.Common.{◌≡◌, ℕ, zero, suc, ◌≤◌, Bool, true, false, not, ◌&&◌, cond, List, [], ◌∷◌, ◌++◌, length, drop, slice_get, slice_set, Option, Some, None, option_map, refl, ap, sym, subst, ◌∙◌, arith}
+use Rattle.std.specs.Prelude.{Result, Ok, Err}
+use Rattle.otlp_types.specs.declared.arrival.Arrival.{Arrival}
+use Rattle.otlp_types.specs.declared.arrival.Item.{Item}
+use Rattle.otlp_types.specs.declared.arrival.Item.TheVariants.{Span, Tick, End}
+use Rattle.shard_core.specs.Journal.{Entry, Settings, Journal, Opening, Decision, decision, decisions_in_turn, decisions_now, due_at, due_now, notes}
+use Rattle.shard_core.specs.Fate.{DroppedSpan, Effect, effect_of_decision, effect_of_taking}
+use Rattle.shard_core.specs.Taking.{marks_apply_to_ids}
+use Rattle.span_world.specs.World.{Config, Shard, World, settings, ticker, has_due}
+use Rattle.span_world.specs.Step.{Step, take_on, take, tick, end, decide, step, after_taking, after_decision, sender_is_done}
+use Rattle.span_world.specs.Answers.{looks_back, next_of, may_take, entry_of_first, next_decision, KeepsItem, StepsTo}
+use Rattle.span_world.specs.Core.{config_of, Core}
+use Rattle.span_world.specs.declared.step.Refusal.{Refusal}
+use Rattle.span_world.specs.declared.step.Refusal.TheVariants.{NotEnabled, NoMemory}
+
+length_turns : (s : Settings) (J : Journal) (os : List Opening) (earlier : List Decision) → length (decisions_in_turn s J os earlier) ≡ length os
+length_turns s J [] earlier = refl
+length_turns s J (o ∷ rest) earlier = ap suc (length_turns s J rest (decision s J o earlier ∷ earlier))
+
+past_end : {X : Type 0} (xs : List X) (i : ℕ) → length xs ≤ i → slice_get xs i ≡ None
+past_end [] i l = refl
+past_end (x ∷ xs) zero l = absurd (omega arith)
+past_end (x ∷ xs) (suc i) l = past_end xs i (omega arith)
+
+pub none_due : (s : Settings) (J : Journal) (dealt : ℕ) → length (due_now s J) ≤ dealt → slice_get (decisions_now s J) dealt ≡ None
+none_due s [] dealt l = refl
+none_due s (e ∷ J) dealt l = past_end _ dealt (subst (λ (n : ℕ). n ≤ dealt) (sym (length_turns s (e ∷ J) (due_at s e J e.item (notes s J)) (notes s J).decisions)) l)
+
+if_map : {X Y : Type 0} (f : X → Y) (x : X) (b : Bool) → cond b (Some (f x)) None ≡ option_map f (cond b (Some x) None)
+if_map f x true = refl
+if_map f x false = refl
+
+module _ (c : Config) (w : World) (shard : ℕ) (sh : Shard) (g : slice_get w.shards shard ≡ Some sh) where
+  take_is : (refused lost : Bool) (q : List Arrival) → take_on c w shard refused lost sh q ≡ option_map (λ (e : Entry). after_taking c w shard sh e (drop 1 q)) (entry_of_first (settings c w) sh refused lost q)
+  take_is refused lost [] = refl
+  take_is refused lost (a ∷ rest) = if_map (λ (e : Entry). after_taking c w shard sh e rest) (record { item = Span a; refused = refused; lost = lost }) (not (has_due (settings c w) sh) && marks_apply_to_ids (settings c w) sh.journal refused lost a.rec.span.ids)
+
+  pub no_take : (refused lost : Bool) → entry_of_first (settings c w) sh refused lost sh.queue ≡ None → step c w (take shard refused lost) ≡ None
+  no_take refused lost e = rw g (take_is refused lost sh.queue ∙ ap (option_map (λ (e : Entry). after_taking c w shard sh e (drop 1 sh.queue))) e)
+
+  pub takes : (refused lost : Bool) (e : Entry) → entry_of_first (settings c w) sh refused lost sh.queue ≡ Some e → step c w (take shard refused lost) ≡ Some (after_taking c w shard sh e (drop 1 sh.queue))
+  takes refused lost e f = rw g (take_is refused lost sh.queue ∙ ap (option_map (λ (e : Entry). after_taking c w shard sh e (drop 1 sh.queue))) f)
+
+  pub no_tick : (moment : ℕ) → may_take (settings c w) sh (ticker w) ≡ false → step c w (tick shard moment) ≡ None
+  no_tick moment e = rw (g, e) refl
+
+  pub ticks : (moment : ℕ) → may_take (settings c w) sh (ticker w) ≡ true → step c w (tick shard moment) ≡ Some (after_taking c w shard sh (record { item = Tick moment; refused = false; lost = false }) sh.queue)
+  ticks moment e = rw (g, e) refl
+
+  pub no_end : (sender : ℕ) → may_take (settings c w) sh sender ≡ false → step c w (end shard sender) ≡ None
+  no_end sender e = rw (g, e) refl
+
+  pub not_done : (sender : ℕ) → sender_is_done w shard sh sender (slice_get w.lanes sender) ≡ false → step c w (end shard sender) ≡ None
+  not_done sender e = rw (g, e) (pick (may_take (settings c w) sh sender))
+    where
+      pick : (b : Bool) → cond (b && false) (Some (after_taking c w shard sh (record { item = End sender; refused = false; lost = false }) sh.queue)) None ≡ None
+      pick true = refl
+      pick false = refl
+
+  pub ends : (sender : ℕ) → may_take (settings c w) sh sender ≡ true → sender_is_done w shard sh sender (slice_get w.lanes sender) ≡ true
+      → step c w (end shard sender) ≡ Some (after_taking c w shard sh (record { item = End sender; refused = false; lost = false }) sh.queue)
+  ends sender e f = rw (g, e, f) refl
+
+  decide_is : step c w (decide shard) ≡ option_map (after_decision w shard sh) (next_decision (settings c w) sh)
+  decide_is = rw g (go (slice_get (decisions_now (settings c w) sh.journal) sh.dealt))
+    where
+      go : (o : Option Decision) → option_map (λ (d : Decision). after_decision w shard sh (effect_of_decision d)) o ≡ option_map (after_decision w shard sh) (option_map effect_of_decision o)
+      go None = refl
+      go (Some d) = refl
+
+  pub no_decision : next_decision (settings c w) sh ≡ None → step c w (decide shard) ≡ None
+  no_decision e = decide_is ∙ ap (option_map (after_decision w shard sh)) e
+
+  pub decides : (did : Effect) → next_decision (settings c w) sh ≡ Some did → step c w (decide shard) ≡ Some (after_decision w shard sh did)
+  decides did e = decide_is ∙ ap (option_map (after_decision w shard sh)) e
+
+-- the world where this is in place of a shard, and this is counted
+pub kept_is : (c : Config) (w : World) (shard : ℕ) (sh : Shard) (e : Entry) (queue : List Arrival) (s : Settings) (new : Shard) (counted : List DroppedSpan) → s ≡ settings c w
+    → new ≡ record { queue = queue; journal = e ∷ sh.journal; dealt = 0; unshipped = sh.unshipped ++ (effect_of_taking s e sh.journal).released }
+    → counted ≡ w.counted ++ (effect_of_taking s e sh.journal).counted
+    → record w { shards = slice_set w.shards shard new; counted = counted } ≡ after_taking c w shard sh e queue
+kept_is c w shard sh e queue s new counted is f h = rw (f, h, is) refl
+
+module _ (before : Core) (shard : ℕ) (sh : Shard) (g : slice_get before.world.shards shard ≡ Some sh) where
+  -- an unmarked item that the shard may take, and what the step says
+  keeps : (s : Step) (item : Item) → looks_back s ≡ true
+      → next_of before s ≡ Some (after_taking (config_of before.config) before.world shard sh (record { item = item; refused = false; lost = false }) sh.queue)
+      → (r : Result (Unit {0}) Refusal) (after : Core) → KeepsItem before shard item r after → StepsTo before s r after
+  keeps s item looks e (Ok u) after h = (h.0, e ∙ ap (λ (z : World). Some z) (sym (h.1 sh g)))
+  keeps s item looks e (Err NotEnabled) after h = absurd (cc h.1)
+  keeps s item looks e (Err NoMemory) after h = (h.0, λ q. absurd (cc (sym looks ∙ q)))
+
+  pub tick_steps : (moment : ℕ) → may_take (settings (config_of before.config) before.world) sh (ticker before.world) ≡ true
+      → (r : Result (Unit {0}) Refusal) (after : Core) → KeepsItem before shard (Tick moment) r after → StepsTo before (tick shard moment) r after
+  tick_steps moment e = keeps (tick shard moment) (Tick moment) refl (ticks (config_of before.config) before.world shard sh g moment e)
+
+  pub end_steps : (sender : ℕ) → may_take (settings (config_of before.config) before.world) sh sender ≡ true → sender_is_done before.world shard sh sender (slice_get before.world.lanes sender) ≡ true
+      → (r : Result (Unit {0}) Refusal) (after : Core) → KeepsItem before shard (End sender) r after → StepsTo before (end shard sender) r after
+  end_steps sender e f = keeps (end shard sender) (End sender) refl (ends (config_of before.config) before.world shard sh g sender e f)

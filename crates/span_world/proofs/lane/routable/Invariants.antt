@@ -1,0 +1,6 @@
+use Rattle.std.proofs.Common.{◌≡◌, filter, take}
+use Rattle.span_world.specs.Step.{has_ids}
+use Rattle.span_world.proofs.lane.routable.Given as goal
+
+abbrev pub invariant-loop-arrival : goal.invariant-loop-arrival
+invariant-loop-arrival l = l.routable.items ≡ filter has_ids (take l.arrival-index l.new)

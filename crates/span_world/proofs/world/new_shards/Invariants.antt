@@ -1,0 +1,6 @@
+use Rattle.std.proofs.Common.{◌≡◌, replicate}
+use Rattle.span_world.specs.World.{new_shard}
+use Rattle.span_world.proofs.world.new_shards.Given as goal
+
+abbrev pub invariant-loop-i : goal.invariant-loop-i
+invariant-loop-i l = l.shards.items ≡ replicate l._i new_shard

@@ -1,0 +1,79 @@
+-- What the program answers to a step, and to a list of steps.
+use Rattle.std.specs.Prelude.{◌≡◌, ℕ, ◌+◌, ◌<◌, ◌≤◌, Bool, true, false, not, ◌&&◌, if◌then◌else◌, is_some, List, [], ◌∷◌, length, take, slice_get, Option, Some, None, option_map, Result, Ok, Err}
+use Rattle.shard_core.specs.Journal.{Entry, Settings, decisions_now, has_ended}
+use Rattle.shard_core.specs.Fate.{Effect, effect_of_decision}
+use Rattle.shard_core.specs.Taking.{marks_apply_to_ids}
+use Rattle.otlp_types.specs.declared.arrival.Arrival.{Arrival}
+use Rattle.otlp_types.specs.declared.arrival.Item.{Item}
+use Rattle.otlp_types.specs.declared.arrival.Item.TheVariants.{Span}
+use Rattle.span_world.specs.World.{Config, Shard, World, has_due}
+use Rattle.span_world.specs.Step.{Step, receive, route, refuse, take as take_step, tick, close, end, decide, ship, pull, hand, fail, spoil, step, run, after_taking}
+use Rattle.span_world.specs.Core.{config_of, Core}
+use Rattle.span_world.specs.declared.step.Step.{Step as Asked}
+use Rattle.span_world.specs.declared.step.Step.TheVariants.{Receive, Route, Refuse, Take, Tick, Close, End, Decide, Ship, Pull, Hand, Fail, Spoil}
+use Rattle.span_world.specs.declared.step.Refusal.{Refusal}
+use Rattle.span_world.specs.declared.step.Refusal.TheVariants.{NotEnabled, NoMemory}
+
+-- the step that the program's step stands for
+abbrev pub the_step : Asked → Step
+the_step (Receive lane ordinal moment records) = receive lane ordinal moment records.items
+the_step (Route lane shard) = route lane shard
+the_step (Refuse lane shard) = refuse lane shard
+the_step (Take shard refused lost) = take_step shard refused lost
+the_step (Tick shard moment) = tick shard moment
+the_step (Close lane) = close lane
+the_step (End shard sender) = end shard sender
+the_step (Decide shard) = decide shard
+the_step (Ship shard) = ship shard
+the_step Pull = pull
+the_step Hand = hand
+the_step Fail = fail
+the_step (Spoil reason) = spoil reason
+
+-- the step asks what a shard's journal says, for which the program takes memory
+abbrev pub looks_back : Step → Bool
+looks_back (take_step shard refused lost) = true
+looks_back (tick shard moment) = true
+looks_back (end shard sender) = true
+looks_back (decide shard) = true
+looks_back _ = false
+
+-- what a step gives in a world, by its configuration
+abbrev pub next_of : Core → Step → Option World
+next_of before s = step (config_of before.config) before.world s
+
+-- The step was made; or it isn't enabled, or memory was refused, and nothing changed. Where memory is refused the step is enabled, unless that is what memory was refused to find out.
+abbrev pub StepsTo : Core → Step → Result (Unit {0}) Refusal → Core → Type 0
+StepsTo before s (Ok u) after = (after.config ≡ before.config) × (next_of before s ≡ Some after.world)
+StepsTo before s (Err NotEnabled) after = (after ≡ before) × (next_of before s ≡ None)
+StepsTo before s (Err NoMemory) after = (after ≡ before) × (looks_back s ≡ false → is_some (next_of before s) ≡ true)
+
+-- these steps run from the new world
+abbrev pub Runs : Config → (lanes shards : ℕ) → List Step → Type 0
+Runs c lanes shards steps = is_some (run c lanes shards steps) ≡ true
+
+-- the steps before place `n` run, and the one at `n` isn't enabled then; or memory was refused there
+abbrev pub StopsAt : Config → (lanes shards : ℕ) → List Step → ℕ → Refusal → Type 0
+StopsAt c lanes shards steps n NotEnabled = (n < length steps) × Runs c lanes shards (take n steps) × (run c lanes shards (take (n + 1) steps) ≡ None)
+StopsAt c lanes shards steps n NoMemory = (n ≤ length steps) × Runs c lanes shards (take n steps)
+
+-- ---- what a shard may take
+
+-- nothing is due, and the sender's End was not taken
+abbrev pub may_take : Settings → Shard → (sender : ℕ) → Bool
+may_take s sh sender = not (has_due s sh) && not (has_ended sh.journal sender)
+
+-- the entry of the first of these queued spans, where nothing is due and the marks can apply
+abbrev pub entry_of_first : Settings → Shard → (refused lost : Bool) → List Arrival → Option Entry
+entry_of_first s sh refused lost [] = None
+entry_of_first s sh refused lost (a ∷ rest) = if not (has_due s sh) && marks_apply_to_ids s sh.journal refused lost a.rec.span.ids then Some (record { item = Span a; refused = refused; lost = lost }) else None
+
+-- what the shard's next decision does, where something is due
+abbrev pub next_decision : Settings → Shard → Option Effect
+next_decision s sh = option_map effect_of_decision (slice_get (decisions_now s sh.journal) sh.dealt)
+
+-- the item goes to the shard's journal, unmarked; or memory was refused, and nothing changed
+abbrev pub KeepsItem : Core → (shard : ℕ) → Item → Result (Unit {0}) Refusal → Core → Type 0
+KeepsItem before shard item (Ok u) after = (after.config ≡ before.config)
+    × ((sh : Shard) → slice_get before.world.shards shard ≡ Some sh → after.world ≡ after_taking (config_of before.config) before.world shard sh (record { item = item; refused = false; lost = false }) sh.queue)
+KeepsItem before shard item (Err r) after = (after ≡ before) × (r ≡ NoMemory)

@@ -1,0 +1,223 @@
+//! A shard of the world.
+ghost use Rattle.std.specs.Prelude.{◌≡◌, ◌++◌, ◌∷◌, [], ◌+◌, ◌<◌, ◌==◌, ◌^◌, length, drop, not, slice_index_or, IfOk, IfSome, OnOk, OnErr, false};
+ghost use Rattle.std.specs.List.{remove, list_any};
+ghost use Rattle.otlp_types.specs.declared.arrival.Arrival.{Arrival};
+ghost use Rattle.shard_core.specs.Journal.{has_ended};
+ghost use Rattle.shard_core.specs.Fate.{effect_of_taking};
+ghost use Rattle.shard_journal.specs.Settings.{settings_of};
+ghost use Rattle.span_world.specs.World.{new_shard};
+ghost use Rattle.span_world.specs.Step.{is_empty};
+ghost use Rattle.span_world.specs.Answers.{may_take, entry_of_first, next_decision};
+
+use crate::lane::Lane;
+use otlp_types::{Arrival, Item, TryClone};
+use shard_journal::{
+    DroppedSpan, Effect, Entry, Settings, decision_at, due_count, effect_of_taking, has_ended,
+    marks_apply,
+};
+use std::alloc::{AllocError, Global};
+use std::collections::VecDeque;
+use std::marker::Model;
+
+/// A shard: its queue, its journal with the oldest entry first, how many of the decisions at the journal's last item
+/// were dealt with, and what it released and has not shipped.
+#[derive(Drop)]
+pub struct Shard {
+    queue: VecDeque<Arrival>,
+    journal: Vec<Entry>,
+    dealt: usize,
+    unshipped: Vec<Arrival>,
+}
+
+impl Model for Shard {
+    ghost use Rattle.std.specs.Prelude.{reverse};
+    ghost use Rattle.span_world.specs.World.{Shard as ShardData};
+    ghost use Rattle.std.specs.Coded.{codes};
+    ghost use Rattle.otlp_types.specs.contracts.value.AnyValue as any_value;
+
+    ghost Value = { ShardData };
+
+    ghost coded = { Prim.hlevel (codes, any_value.the_row.coded) };
+
+    ghost view = { λ s. record { queue = s.queue.items; journal = reverse s.journal.items; dealt = s.dealt; unshipped = s.unshipped.items } };
+}
+
+impl Shard {
+    /// A shard that has taken nothing.
+    pub fn new(alloc: Global) -> Shard
+        ensures { result ≡ new_shard }
+    {
+        Shard {
+            queue: VecDeque::new(alloc),
+            journal: Vec::new(alloc),
+            dealt: 0,
+            unshipped: Vec::new(alloc),
+        }
+    }
+
+    /// The span at this place of the lane's unrouted ones goes to the end of the queue. Where memory is refused nothing
+    /// changes.
+    pub fn queue_from(&mut self, lane: &mut Lane, place: usize) -> Result<(), AllocError>
+        requires { place < length lane.old.unrouted }
+        ensures lane { OnOk result (lane.new ≡ record lane.old { unrouted = remove lane.old.unrouted place }) }
+        ensures queue { OnOk result ((a : Arrival) → self.new ≡ record self.old { queue = self.old.queue ++ slice_index_or lane.old.unrouted place a ∷ [] }) }
+        ensures err { OnErr result ((lane.new ≡ lane.old) × (self.new ≡ self.old)) }
+    {
+        self.queue.try_reserve(1)?;
+        self.queue.push_back_reserved(lane.take_out(place));
+        Ok(())
+    }
+
+    /// Whether some span of the lane is queued.
+    pub fn has_queued(&self, lane: usize) -> bool
+        ensures { result ≡ list_any (λ a. a.key.conn.lane == lane) self.now.queue }
+    {
+        self.queue.iter().any(|a| a.key.conn.lane as usize == lane)
+    }
+
+    /// Whether nothing is due, and the sender's End was not taken.
+    pub fn may_take(
+        &self,
+        alloc: Global,
+        settings: &Settings,
+        sender: usize,
+    ) -> Result<bool, AllocError>
+        ensures { IfOk result (λ b. b ≡ may_take (settings_of settings.now) self.now sender) }
+    {
+        let due = due_count(alloc, settings, &self.journal)?;
+        Ok(self.dealt >= due && !has_ended(&self.journal, sender))
+    }
+
+    /// The entry of the first queued span, where nothing is due and the marks can apply.
+    pub fn next_entry(
+        &self,
+        alloc: Global,
+        settings: &Settings,
+        refused: bool,
+        lost: bool,
+    ) -> Result<Option<Entry>, AllocError>
+        ensures { IfOk result (λ e. e ≡ entry_of_first (settings_of settings.now) self.now refused lost self.now.queue) }
+    {
+        let Some(first) = self.queue.front() else {
+            return Ok(None);
+        };
+        let due = due_count(alloc, settings, &self.journal)?;
+        if self.dealt < due
+            || !marks_apply(
+                alloc,
+                settings,
+                &self.journal,
+                refused,
+                lost,
+                first.rec.span.ids,
+            )?
+        {
+            return Ok(None);
+        }
+        Ok(Some(Entry {
+            item: Item::Span(first.try_clone(alloc)?),
+            refused,
+            lost,
+        }))
+    }
+
+    /// The entry goes to the journal: what that releases is to be shipped, and what it counts is counted. Where memory is
+    /// refused nothing changes.
+    pub fn keep_entry(
+        &mut self,
+        alloc: Global,
+        settings: &Settings,
+        entry: Entry,
+        counted: &mut Vec<DroppedSpan>,
+    ) -> Result<(), AllocError>
+        ensures shard { OnOk result (self.new ≡ record self.old { journal = entry ∷ self.old.journal; dealt = 0; unshipped = self.old.unshipped ++ (effect_of_taking (settings_of settings.now) entry self.old.journal).released }) }
+        ensures counted { OnOk result (counted.new.items ≡ counted.old.items ++ (effect_of_taking (settings_of settings.now) entry self.old.journal).counted) }
+        ensures err { OnErr result ((self.new ≡ self.old) × (counted.new.items ≡ counted.old.items)) }
+    {
+        let effect = effect_of_taking(alloc, settings, &self.journal, &entry)?;
+        self.journal.try_reserve(1)?;
+        put(effect, &mut self.unshipped, counted)?;
+        self.journal.push_reserved(entry);
+        self.dealt = 0;
+        Ok(())
+    }
+
+    /// The entry of the first queued span goes to the journal, and that span leaves the queue.
+    pub fn take(
+        &mut self,
+        alloc: Global,
+        settings: &Settings,
+        entry: Entry,
+        counted: &mut Vec<DroppedSpan>,
+    ) -> Result<(), AllocError>
+        ensures shard { OnOk result (self.new ≡ record { queue = drop 1 self.old.queue; journal = entry ∷ self.old.journal; dealt = 0; unshipped = self.old.unshipped ++ (effect_of_taking (settings_of settings.now) entry self.old.journal).released }) }
+        ensures counted { OnOk result (counted.new.items ≡ counted.old.items ++ (effect_of_taking (settings_of settings.now) entry self.old.journal).counted) }
+        ensures err { OnErr result ((self.new ≡ self.old) × (counted.new.items ≡ counted.old.items)) }
+    {
+        self.keep_entry(alloc, settings, entry, counted)?;
+        let _ = self.queue.pop_front();
+        Ok(())
+    }
+
+    /// What the next decision does, where something is due.
+    pub fn next_decision(
+        &self,
+        alloc: Global,
+        settings: &Settings,
+    ) -> Result<Option<Effect>, AllocError>
+        ensures effect { IfOk result (λ e. e ≡ next_decision (settings_of settings.now) self.now) }
+        ensures fits { IfOk result (λ e. IfSome e (λ _. self.now.dealt + 1 < 2 ^ 64)) }
+    {
+        let due = due_count(alloc, settings, &self.journal)?;
+        if self.dealt >= due {
+            return Ok(None);
+        }
+        decision_at(alloc, settings, &self.journal, self.dealt)
+    }
+
+    /// One decision more was dealt with: what it releases is to be shipped, and what it counts is counted. Where memory
+    /// is refused nothing changes.
+    pub fn deal(&mut self, effect: Effect, counted: &mut Vec<DroppedSpan>) -> Result<(), AllocError>
+        requires { self.old.dealt + 1 < 2 ^ 64 }
+        ensures shard { OnOk result (self.new ≡ record self.old { dealt = self.old.dealt + 1; unshipped = self.old.unshipped ++ effect.released }) }
+        ensures counted { OnOk result (counted.new.items ≡ counted.old.items ++ effect.counted) }
+        ensures err { OnErr result ((self.new ≡ self.old) × (counted.new.items ≡ counted.old.items)) }
+    {
+        put(effect, &mut self.unshipped, counted)?;
+        self.dealt += 1;
+        Ok(())
+    }
+
+    /// Whether it has released what it has not shipped.
+    pub fn has_unshipped(&self) -> bool
+        ensures { result ≡ not (is_empty self.now.unshipped) }
+    {
+        !self.unshipped.is_empty()
+    }
+
+    /// Its first unshipped span, taken out.
+    pub fn ship(&mut self) -> Arrival
+        requires { is_empty self.old.unshipped ≡ false }
+        ensures span { self.old.unshipped ≡ result ∷ self.new.unshipped }
+        ensures rest { self.new ≡ record self.old { unshipped = self.new.unshipped } }
+    {
+        self.unshipped.remove(0)
+    }
+}
+
+/// Puts what an effect releases and what it counts at the end of these lists. Where memory is refused nothing changes.
+fn put(
+    effect: Effect,
+    released: &mut Vec<Arrival>,
+    counted: &mut Vec<DroppedSpan>,
+) -> Result<(), AllocError>
+    ensures released { OnOk result (released.new.items ≡ released.old.items ++ effect.released) }
+    ensures counted { OnOk result (counted.new.items ≡ counted.old.items ++ effect.counted) }
+    ensures err { OnErr result ((released.new.items ≡ released.old.items) × (counted.new.items ≡ counted.old.items)) }
+{
+    let mut effect = effect;
+    counted.try_reserve(effect.counted.len())?;
+    released.append(&mut effect.released)?;
+    let _ = counted.append(&mut effect.counted);
+    Ok(())
+}

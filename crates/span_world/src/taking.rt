@@ -1,0 +1,120 @@
+//! The steps of the shards.
+ghost use Rattle.std.specs.Prelude.{◌≡◌, ◌<◌, length, slice_get, Some, IfOk};
+ghost use Rattle.span_world.specs.World.{Shard, settings};
+ghost use Rattle.span_world.specs.Step.{take as take_step, tick, end, decide, sender_is_done};
+ghost use Rattle.span_world.specs.Core.{config_of};
+ghost use Rattle.span_world.specs.Answers.{StepsTo, KeepsItem};
+
+use crate::step::Refusal;
+use crate::world::World;
+use otlp_types::Item;
+use shard_journal::Entry;
+use span_ids::Moment;
+
+impl World {
+    /// The shard takes the first span of its queue, where nothing is due and the marks can apply.
+    pub(crate) fn take(&mut self, shard: usize, refused: bool, lost: bool) -> Result<(), Refusal>
+        ensures { StepsTo self.old (take_step shard refused lost) result self.new }
+    {
+        if shard >= self.shards.len() {
+            return Err(Refusal::NotEnabled);
+        }
+        let entry = match self.shards[shard].next_entry(self.alloc, &self.settings, refused, lost) {
+            Err(_) => return Err(Refusal::NoMemory),
+            Ok(None) => return Err(Refusal::NotEnabled),
+            Ok(Some(entry)) => entry,
+        };
+        if self.shards[shard]
+            .take(self.alloc, &self.settings, entry, &mut self.counted)
+            .is_err()
+        {
+            return Err(Refusal::NoMemory);
+        }
+        Ok(())
+    }
+
+    /// The shard takes a tick, where nothing is due and the ticker's End was not taken.
+    pub(crate) fn tick(&mut self, shard: usize, moment: Moment) -> Result<(), Refusal>
+        ensures { StepsTo self.old (tick shard moment) result self.new }
+    {
+        if shard >= self.shards.len() {
+            return Err(Refusal::NotEnabled);
+        }
+        match self.shards[shard].may_take(self.alloc, &self.settings, self.lanes.len()) {
+            Err(_) => return Err(Refusal::NoMemory),
+            Ok(false) => return Err(Refusal::NotEnabled),
+            Ok(true) => {}
+        }
+        self.keep_item(shard, Item::Tick(moment))
+    }
+
+    /// The shard takes a sender's End, where nothing is due, it was not taken before, and the sender may send it.
+    pub(crate) fn end(&mut self, shard: usize, sender: u16) -> Result<(), Refusal>
+        ensures { StepsTo self.old (end shard sender) result self.new }
+    {
+        if shard >= self.shards.len() {
+            return Err(Refusal::NotEnabled);
+        }
+        if !self.sender_is_done(shard, sender as usize) {
+            return Err(Refusal::NotEnabled);
+        }
+        match self.shards[shard].may_take(self.alloc, &self.settings, sender as usize) {
+            Err(_) => return Err(Refusal::NoMemory),
+            Ok(false) => return Err(Refusal::NotEnabled),
+            Ok(true) => {}
+        }
+        self.keep_item(shard, Item::End(sender))
+    }
+
+    /// The oldest due episode of the shard is decided.
+    pub(crate) fn decide(&mut self, shard: usize) -> Result<(), Refusal>
+        ensures { StepsTo self.old (decide shard) result self.new }
+    {
+        if shard >= self.shards.len() {
+            return Err(Refusal::NotEnabled);
+        }
+        let effect = match self.shards[shard].next_decision(self.alloc, &self.settings) {
+            Err(_) => return Err(Refusal::NoMemory),
+            Ok(None) => return Err(Refusal::NotEnabled),
+            Ok(Some(effect)) => effect,
+        };
+        if self.shards[shard].deal(effect, &mut self.counted).is_err() {
+            return Err(Refusal::NoMemory);
+        }
+        Ok(())
+    }
+
+    /// The item goes to the shard's journal, unmarked.
+    fn keep_item(&mut self, shard: usize, item: Item) -> Result<(), Refusal>
+        requires { shard < length self.old.world.shards }
+        ensures { KeepsItem self.old shard item result self.new }
+    {
+        let entry = Entry {
+            item,
+            refused: false,
+            lost: false,
+        };
+        if self.shards[shard]
+            .keep_entry(self.alloc, &self.settings, entry, &mut self.counted)
+            .is_err()
+        {
+            return Err(Refusal::NoMemory);
+        }
+        Ok(())
+    }
+
+    /// Whether the sender may send its End: a lane that has ended and has no span for the shard that is unrouted or
+    /// queued, or the ticker.
+    fn sender_is_done(&self, shard: usize, sender: usize) -> bool
+        requires { shard < length self.now.world.shards }
+        ensures { (sh : Shard) → slice_get self.now.world.shards shard ≡ Some sh → result ≡ sender_is_done self.now.world shard sh sender (slice_get self.now.world.lanes sender) }
+    {
+        if sender >= self.lanes.len() {
+            return sender == self.lanes.len();
+        }
+        let lane = &self.lanes[sender];
+        lane.has_ended()
+            && !lane.has_for(shard, self.shards.len())
+            && !self.shards[shard].has_queued(sender)
+    }
+}

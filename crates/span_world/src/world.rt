@@ -1,0 +1,118 @@
+ghost use Rattle.std.specs.Prelude.{◌≡◌, ◌≢◌, ◌∷◌, [], replicate, Some, IfOk};
+ghost use Rattle.span_world.specs.World.{new_world, new_lane, new_shard, KeepsATrace};
+ghost use Rattle.span_world.specs.Core.{config_of};
+
+use crate::config::Config;
+use crate::lane::Lane;
+use crate::shard::Shard;
+use otlp_types::{Arrival, List};
+use shard_journal::{DroppedSpan, Settings};
+use std::alloc::{AllocError, Global};
+use std::collections::VecDeque;
+use std::marker::Model;
+
+/// The world of the core: its lanes, its shards, and the exporter. It keeps the lists of the definition, and looks back
+/// over a shard's journal for what the shard does.
+#[derive(Drop)]
+pub struct World {
+    pub(crate) alloc: Global,
+    pub(crate) settings: Settings,
+    pub(crate) batch_size: usize,
+    pub(crate) lanes: Vec<Lane>,
+    pub(crate) shards: Vec<Shard>,
+    pub(crate) exported: VecDeque<Arrival>,
+    pub(crate) batch: Vec<Arrival>,
+    pub(crate) handed: Vec<List<Arrival>>,
+    pub(crate) counted: Vec<DroppedSpan>,
+    pub(crate) down: bool,
+}
+
+impl Model for World {
+    ghost use Rattle.std.specs.Prelude.{◌≡◌, ◌+◌, length};
+    ghost use Rattle.span_world.specs.Core.{Core};
+    ghost use Rattle.std.specs.Coded.{codes};
+    ghost use Rattle.otlp_types.specs.contracts.value.AnyValue as any_value;
+    ghost use Rattle.policy_tree.specs.contracts.policy.PolicyKind as kind;
+
+    ghost Value = { Core };
+
+    ghost coded = { Prim.hlevel (codes, any_value.the_row.coded, kind.the_row.coded) };
+
+    ghost view = { λ w. record {
+      config = record { policies = w.settings.policies; wait = w.settings.wait; limit = w.settings.limit; sampled_size = w.settings.sampled_size; non_sampled_size = w.settings.non_sampled_size; batch_size = w.batch_size };
+      world = record { lanes = w.lanes.items; shards = w.shards.items; exported = w.exported.items; batch = w.batch.items; handed = w.handed.items; counted = w.counted.items; down = w.down };
+    } };
+
+    ghost invariant = { λ w. w.settings.senders ≡ length w.lanes.items + 1 };
+}
+
+impl World {
+    /// A world that has made no step, with so many lanes and shards. A configuration keeps a trace where its limit is at
+    /// least 1.
+    pub fn new(
+        alloc: Global,
+        lanes: u16,
+        shards: usize,
+        config: Config,
+    ) -> Result<World, AllocError>
+        requires { KeepsATrace (config_of config) }
+        ensures config { IfOk result (λ w. w.config ≡ config) }
+        ensures world { IfOk result (λ w. w.world ≡ new_world lanes shards) }
+    {
+        Ok(World {
+            alloc,
+            settings: Settings {
+                policies: config.policies,
+                wait: config.wait,
+                limit: config.limit,
+                sampled_size: config.sampled_size,
+                non_sampled_size: config.non_sampled_size,
+                senders: lanes as usize + 1,
+            },
+            batch_size: config.batch_size,
+            lanes: new_lanes(alloc, lanes as usize)?,
+            shards: new_shards(alloc, shards)?,
+            exported: VecDeque::new(alloc),
+            batch: Vec::new(alloc),
+            handed: Vec::new(alloc),
+            counted: Vec::new(alloc),
+            down: false,
+        })
+    }
+
+    /// The batches that were handed over, in order.
+    pub fn handed(&self) -> &[List<Arrival>]
+        ensures { result.now ≡ self.now.world.handed }
+    {
+        self.handed.as_slice()
+    }
+
+    /// The spans that were counted, in order, each with its reason.
+    pub fn counted(&self) -> &[DroppedSpan]
+        ensures { result.now ≡ self.now.world.counted }
+    {
+        self.counted.as_slice()
+    }
+}
+
+/// So many lanes that have received nothing.
+fn new_lanes(alloc: Global, number: usize) -> Result<Vec<Lane>, AllocError>
+    ensures { IfOk result (λ lanes. lanes.items ≡ replicate number new_lane) }
+{
+    let mut lanes = Vec::with_capacity(alloc, number)?;
+    for _i in 0..number {
+        lanes.push(Lane::new(alloc))?;
+    }
+    Ok(lanes)
+}
+
+/// So many shards that have taken nothing.
+fn new_shards(alloc: Global, number: usize) -> Result<Vec<Shard>, AllocError>
+    ensures { IfOk result (λ shards. shards.items ≡ replicate number new_shard) }
+{
+    let mut shards = Vec::with_capacity(alloc, number)?;
+    for _i in 0..number {
+        shards.push(Shard::new(alloc))?;
+    }
+    Ok(shards)
+}
