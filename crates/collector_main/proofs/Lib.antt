@@ -1,5 +1,9 @@
 pub mod Replies
 pub mod Pulls
 pub mod Runs
+pub mod Several
+pub mod Submitted
+pub mod Queues
+pub mod Starts
 pub mod Quiet
 pub mod Finish

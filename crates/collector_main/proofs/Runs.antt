@@ -1,9 +1,7 @@
 -- The shard takes items and decides, and what that releases is pulled.
-use Rattle.std.proofs.Common.{◌≡◌, ℕ, Bool, true, false, List, [], ◌∷◌, ◌++◌, Option, Some, None, refl, sym, ap, subst, ◌∙◌, append_assoc, append-nil}
-use Rattle.std.specs.Prelude.{not, is_none, is_some}
+use Rattle.std.proofs.Common.{◌≡◌, ℕ, true, List, [], ◌∷◌, ◌++◌, refl, sym, ap, subst, ◌∙◌, append_assoc, append-nil}
 use Rattle.otlp_types.specs.declared.arrival.Arrival.{Arrival}
 use Rattle.otlp_types.specs.declared.arrival.Item.{Item}
-use Rattle.otlp_types.specs.declared.arrival.Item.TheVariants.{Span}
 use Rattle.shard_core.specs.Journal.{Settings, Journal}
 use Rattle.shard_core.specs.Fate.{output, released_dealt}
 use Rattle.shard_core.specs.Held.{Held, StandsFor, settings}
@@ -11,9 +9,7 @@ use Rattle.shard_core.specs.Taking.{entry, is_refusal, is_loss, marks_apply, rel
 use Rattle.shard_core.specs.declared.answer.Taken.{Taken}
 use Rattle.shard_core.specs.declared.answer.Decided.{Decided}
 use Rattle.span_exporter.specs.Exports.{ExporterState}
-use Rattle.lane_seq.specs.Numbers.{is_invalid}
 use Rattle.collector_main.specs.World.{Takes}
-use Rattle.collector_main.specs.Requests.{items_of}
 use Rattle.collector_main.specs.Pulling.{PullsAll, HasReleasedAll, TakesAndPulls, TakesItems, DecidesAll}
 use Rattle.collector_main.proofs.Pulls.{PullsAll-none, PullsAll-append}
 
@@ -22,14 +18,13 @@ Takes-append s a b c [] ys p q = let P = λ (j : Journal). Takes s j ys c in sub
 Takes-append s a b c (x ∷ xs) ys p q = (p.0, p.1, p.2, Takes-append s (record { item = x; refused = p.0; lost = p.1 } ∷ a) b c xs ys p.3 q)
 
 pub TakesAndPulls-none : (s : Settings) (past : Journal) (e : ExporterState) → TakesAndPulls s past [] e past e
-TakesAndPulls-none s past e = record { takes = refl; released = []; releases = sym (append-nil (output s past)); pulls = PullsAll-none e }
+TakesAndPulls-none s past e = record { released = []; takes = (refl, sym (append-nil (output s past))); pulls = PullsAll-none e }
 
 pub TakesAndPulls-append : (s : Settings) (a b c : Journal) (xs ys : List Item) (d e f : ExporterState) → TakesAndPulls s a xs d b e → TakesAndPulls s b ys e c f
     → TakesAndPulls s a (xs ++ ys) d c f
 TakesAndPulls-append s a b c xs ys d e f p q = record {
-  takes = Takes-append s a b c xs ys p.takes q.takes;
   released = p.released ++ q.released;
-  releases = q.releases ∙ ap (λ zs. zs ++ q.released) p.releases ∙ append_assoc (output s a) p.released q.released;
+  takes = (Takes-append s a b c xs ys p.takes.0 q.takes.0, q.takes.1 ∙ ap (λ zs. zs ++ q.released) p.takes.1 ∙ append_assoc (output s a) p.released q.released);
   pulls = PullsAll-append d e f p.released q.released p.pulls q.pulls;
 }
 
@@ -96,35 +91,17 @@ takes-one old mid new past item taken before between after marks to_mid to_new h
       now,
       record { dealt = decides.dealt_now; stands = decides.stands; released_all = subst P (sym to_new) decides.released_all },
       record {
-        takes = (is_refusal taken, is_loss taken, marks, refl);
         released = released_by taken ++ decides.released;
-        releases = sym all_old ∙ more_old ∙ ap (λ zs. zs ++ decides.released) (releases ∙ ap (λ zs. zs ++ released_by taken) has.released_all)
-            ∙ append_assoc (output (settings old) past) (released_by taken) decides.released;
+        takes = (
+          (is_refusal taken, is_loss taken, marks, refl),
+          sym all_old ∙ more_old ∙ ap (λ zs. zs ++ decides.released) (releases ∙ ap (λ zs. zs ++ released_by taken) has.released_all)
+              ∙ append_assoc (output (settings old) past) (released_by taken) decides.released,
+        );
         pulls = PullsAll-append before between after (released_by taken) decides.released pulls decides.pulls;
       },
     )
 
--- ---- the arrivals with valid ids
-
-items_of-cons : (b : Bool) (x : Arrival) (xs ys : List Arrival) → not (is_invalid x) ≡ b → items_of (xs ++ ys) ≡ items_of xs ++ items_of ys
-    → items_of (x ∷ (xs ++ ys)) ≡ items_of (x ∷ xs) ++ items_of ys
-items_of-cons true x xs ys e rest = rw e (ap (λ zs. Span x ∷ zs) rest)
-items_of-cons false x xs ys e rest = rw e rest
-
-pub items_of-append : (xs ys : List Arrival) → items_of (xs ++ ys) ≡ items_of xs ++ items_of ys
-items_of-append [] ys = refl
-items_of-append (x ∷ xs) ys = items_of-cons (not (is_invalid x)) x xs ys refl (items_of-append xs ys)
-
-some_not_none : {A : Type 0} (o : Option A) → true ≡ is_some o → is_none o ≡ false
-some_not_none None e = cc
-some_not_none (Some x) e = refl
-
-items_of-known : (a : Arrival) → is_none a.rec.span.ids ≡ false → items_of (a ∷ []) ≡ Span a ∷ []
-items_of-known a e = rw e refl
-
--- an arrival with valid ids goes to the shard
-pub items_of-valid : (a : Arrival) → true ≡ is_some a.rec.span.ids → items_of (a ∷ []) ≡ Span a ∷ []
-items_of-valid a e = items_of-known a (some_not_none a.rec.span.ids e)
+-- ---- several items
 
 pub TakesItems-none : (h : Held) (e : ExporterState) → TakesItems h e [] h e
 TakesItems-none h e = record { takes = λ past has. (past, has, TakesAndPulls-none (settings h) past e) }

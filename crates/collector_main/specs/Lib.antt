@@ -6,3 +6,6 @@ pub mod World
 pub mod Replay
 pub mod Answers
 pub mod Outcomes
+pub mod Signals
+pub mod Submitting
+pub mod Starting

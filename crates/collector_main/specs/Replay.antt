@@ -1,5 +1,5 @@
 -- What a run over a script leaves of its sink.
-use Rattle.std.specs.Prelude.{◌≡◌, ◌⊎◌, ℕ, true, List, Option, Result, Ok, Err, IfSome}
+use Rattle.std.specs.Prelude.{◌≡◌, ◌⊎◌, ◌+◌, ◌/◌, ℕ, true, List, Option, Result, Ok, Err, IfSome}
 use Rattle.shard_core.specs.Journal.{Settings}
 use Rattle.shard_core.specs.Held.{settings_of}
 use Rattle.tsc_config.specs.declared.config.Config.{Config}
@@ -10,20 +10,22 @@ use Rattle.tsc_script.specs.Script.{instructions_of}
 use Rattle.tsc_script.specs.Progress.{Ends, StopsAt, GoesDown}
 use Rattle.collector_main.specs.declared.fault.RunFault.{RunFault}
 use Rattle.collector_main.specs.declared.fault.RunFault.TheVariants.{NoMemory, Refused, Fault, BookFull, SinkDown}
-use Rattle.collector_main.specs.World.{World, new_world, PlaysAll}
+use Rattle.collector_main.specs.World.{World, Sizes, new_world, PlaysAll}
 
--- the settings of the shard of a run: its senders are the lane and the ticker
+-- the settings of each shard of a run: its share of the traces and of the caches; its senders are the lanes and the ticker
 abbrev pub settings_by : Config → Settings
-settings_by config = settings_of config.policies config.decision_wait config.num_traces config.sampled_cache_size config.non_sampled_cache_size 2
+settings_by config = settings_of config.policies config.decision_wait (config.num_traces / config.shards) (config.sampled_cache_size / config.shards) (config.non_sampled_cache_size / config.shards) (config.lanes + 1)
 
 -- from the first state of the sink, these instructions lead to this one
-abbrev pub Leads : Settings → (size : ℕ) → LineSinkState → List Instruction → LineSinkState → Type 0
-Leads s size first instructions last = (after : World) × PlaysAll s size (new_world first) instructions after × (after.sink ≡ last)
+abbrev pub Leads : Settings → Sizes → (lanes shards : ℕ) → LineSinkState → List Instruction → LineSinkState → Type 0
+Leads s sizes lanes shards first instructions last = (after : World) × PlaysAll s sizes (new_world lanes shards first) instructions after × (after.sink ≡ last)
 
--- what the run knows: the sink's bytes and failures before and after, and what the reader had left
+-- what the run knows: its settings, the sink's bytes and failures before and after, and what the reader had left
 pub record Run : Type 0 where
   pub settings : Settings
-  pub size : ℕ
+  pub sizes : Sizes
+  pub lanes : ℕ
+  pub shards : ℕ
   pub taken : Option (List ℕ)
   pub failures : ℕ
   pub taken_after : Option (List ℕ)
@@ -37,15 +39,15 @@ first_state run = up_state run.taken run.failures
 
 -- the instructions led to the sink as it is, and no write failed
 abbrev pub Played : Run → List Instruction → Type 0
-Played run done = Leads run.settings run.size (first_state run) done (up_state run.taken_after run.failures_after)
+Played run done = Leads run.settings run.sizes run.lanes run.shards (first_state run) done (up_state run.taken_after run.failures_after)
 
 -- the instructions led to the sink as it is, and a write failed
 abbrev pub PlayedDown : Run → List Instruction → Type 0
-PlayedDown run done = Leads run.settings run.size (first_state run) done (down_state run.taken_after run.failures_after)
+PlayedDown run done = Leads run.settings run.sizes run.lanes run.shards (first_state run) done (down_state run.taken_after run.failures_after)
 
 -- a write had failed when these instructions had been played
 abbrev pub Fell : Run → List Instruction → Type 0
-Fell run done = (last : LineSinkState) × Leads run.settings run.size (first_state run) done last × (last.is_down ≡ true)
+Fell run done = (last : LineSinkState) × Leads run.settings run.sizes run.lanes run.shards (first_state run) done last × (last.is_down ≡ true)
 
 -- the reader was read to its end, and all that the script says was played
 abbrev pub PlayedWhole : Run → Type 0

@@ -1,10 +1,11 @@
 -- What a script run does.
-use Rattle.std.specs.Prelude.{◌≡◌, ℕ, ◌++◌, ◌⊎◌, Bool, true, nat_eq, None, List, [], ◌∷◌, length, filter}
+use Rattle.std.specs.Prelude.{◌≡◌, ℕ, zero, suc, ◌+◌, ◌++◌, ◌⊎◌, Bool, true, nat_eq, None, List, [], ◌∷◌, map, length, replicate}
 use Rattle.std.specs.Map.{lookup}
 use Rattle.otlp_types.specs.declared.arrival.Arrival.{Arrival}
 use Rattle.otlp_types.specs.declared.arrival.Item.{Item}
 use Rattle.otlp_types.specs.declared.arrival.Item.TheVariants.{Tick, End}
-use Rattle.lane_seq.specs.Numbers.{is_invalid}
+use Rattle.lane_queue.specs.Queues.{QueueState, TakesLast, IsFull}
+use Rattle.lane_seq.specs.Pushes.{Receives as IsPushed}
 use Rattle.lane_seq.specs.declared.reply.Reply.{Reply}
 use Rattle.lane_seq.specs.declared.reply.Reply.TheVariants.{Busy}
 use Rattle.shard_core.specs.Journal.{Settings, Journal, Entry}
@@ -13,19 +14,24 @@ use Rattle.shard_core.specs.Taking.{marks_apply}
 use Rattle.span_sink.specs.LineSinks.{LineSinkState}
 use Rattle.span_exporter.specs.Exports.{WritesLine}
 use Rattle.tsc_script.specs.Instructions.{Instruction, receive, tick, close}
-use Rattle.collector_main.specs.Connections.{Connections, connection_of, with_connection, with_received}
-use Rattle.collector_main.specs.Requests.{Reading, reads, refuses, IsTakenFor, arrivals_of, items_of, reply_line, IsReplyTo}
+use Rattle.collector_main.specs.Connections.{Contacts, connection_of, with_connection, with_received}
+use Rattle.collector_main.specs.Requests.{Reading, reads, refuses, IsTakenFor, arrivals_of, reply_line}
 use Rattle.collector_main.specs.Sending.{SendsInBatches}
 
--- between two lines of a script: the connections, what the shard has taken, and the sink. All that was due is decided, and all that was released has gone to the sink.
+-- between two lines of a script: the connections, what each shard has taken, and the sink. All that was due is decided, and all that was released has gone to the sink.
 pub record World : Type 0 where
-  pub connections : Connections
-  pub journal : Journal
+  pub contacts : Contacts
+  pub journals : List Journal
   pub sink : LineSinkState
 
--- before the first line
-abbrev pub new_world : LineSinkState → World
-new_world sink = record { connections = []; journal = []; sink = sink }
+-- before the first line, with so many lanes and shards
+abbrev pub new_world : (lanes shards : ℕ) → LineSinkState → World
+new_world lanes shards sink = record { contacts = record { connections = []; connected = replicate lanes 0 }; journals = replicate shards []; sink = sink }
+
+-- how many spans a batch holds, and a queue to a shard
+pub record Sizes : Type 0 where
+  pub batch : ℕ
+  pub queue : ℕ
 
 -- an item as it stands in the journal: whether memory was refused to it, or to the decision that its opening put out of the buffer
 abbrev pub entry_of : Item → (refused lost : Bool) → Entry
@@ -37,41 +43,71 @@ Takes s before [] after = after ≡ before
 Takes s before (item ∷ more) after = (refused lost : Bool) × (marks_apply s (entry_of item refused lost) before ≡ true)
     × Takes s (entry_of item refused lost ∷ before) more after
 
--- The shard takes these items and decides all that is due. What that releases goes to the sink in batches.
-pub record RunsToQuiet (s : Settings) (size : ℕ) (old : World) (items : List Item) (new : World) : Type 0 where
-  pub connections : new.connections ≡ old.connections
-  pub takes : Takes s old.journal items new.journal
+-- the shard takes these items and decides all that is due, which releases these spans
+abbrev pub TakesFor : Settings → Journal → List Item → Journal → (released : List Arrival) → Type 0
+TakesFor s before items after released = Takes s before items after × (output s after ≡ output s before ++ released)
+
+-- each shard in its turn takes its items; what the first one releases comes first
+abbrev pub TakesEach : Settings → (before : List Journal) → (items : List (List Item)) → (after : List Journal) → (released : List Arrival) → Type 0
+TakesEach s [] [] [] released = released ≡ []
+TakesEach s (j ∷ js) (own ∷ others) (k ∷ ks) released = (first : List Arrival) × (rest : List Arrival)
+    × TakesFor s j own k first × TakesEach s js others ks rest × (released ≡ first ++ rest)
+TakesEach s _ _ _ released = ⊥
+
+-- several rounds, one after the other: in each, each shard takes its items
+abbrev pub TakesRounds : Settings → (before : List Journal) → (rounds : List (List (List Item))) → (after : List Journal) → (released : List Arrival) → Type 0
+TakesRounds s before [] after released = (after ≡ before) × (released ≡ [])
+TakesRounds s before (items ∷ more) after released = (between : List Journal) × (first : List Arrival) × (rest : List Arrival)
+    × TakesEach s before items between first × TakesRounds s between more after rest × (released ≡ first ++ rest)
+
+-- The shards take these items in rounds and decide all that is due. What that releases goes to the sink in batches.
+pub record RunsToQuiet (s : Settings) (sizes : Sizes) (old : World) (rounds : List (List (List Item))) (new : World) : Type 0 where
+  pub contacts : new.contacts ≡ old.contacts
   pub released : List Arrival
-  pub releases : output s new.journal ≡ output s old.journal ++ released
-  pub sends : SendsInBatches size old.sink released new.sink
+  pub takes : TakesRounds s old.journals rounds new.journals released
+  pub sends : SendsInBatches sizes.batch old.sink released new.sink
 
--- the reply is written, and then the shard takes these items
-abbrev pub RepliesAndRuns : Settings → (size : ℕ) → World → Reply → List Item → World → Type 0
-RepliesAndRuns s size old reply items new = (sink : LineSinkState) × WritesLine old.sink (reply_line reply) sink
-    × RunsToQuiet s size (record old { sink = sink }) items new
+-- the reply is written, and then the shards take these items
+abbrev pub RepliesAndRuns : Settings → Sizes → World → Reply → (rounds : List (List (List Item))) → World → Type 0
+RepliesAndRuns s sizes old reply rounds new = (sink : LineSinkState) × WritesLine old.sink (reply_line reply) sink
+    × RunsToQuiet s sizes (record old { sink = sink }) rounds new
 
--- A request that was refused gives no span. One that was read gives its spans to the connection, and those with valid ids to the shard.
-abbrev pub Answers : Settings → (size : ℕ) → World → (number moment : ℕ) → Reading → World → Type 0
-Answers s size old number moment (refuses reply) new =
-    RepliesAndRuns s size (record old { connections = with_connection number old.connections }) reply [] new
-Answers s size old number moment (reads request) new =
-    let arrivals = arrivals_of (connection_of number old.connections) moment request in
-    (reply : Reply) × IsReplyTo (length arrivals) (length (filter is_invalid arrivals)) reply
-    × RepliesAndRuns s size (record old { connections = with_received number (length arrivals) old.connections }) reply (items_of arrivals) new
+-- a queue without an item for each of so many shards
+abbrev pub empty_queues : (capacity shards : ℕ) → List (QueueState Item)
+empty_queues capacity shards = replicate shards (record { items = []; capacity = capacity })
+
+-- A request that was refused gives no span. One that was read gives its spans to the connection; those with valid ids are pushed to the empty queues of their shards, as far as these have room.
+abbrev pub Answers : Settings → Sizes → World → (number moment : ℕ) → Reading → World → Type 0
+Answers s sizes old number moment (refuses reply) new =
+    RepliesAndRuns s sizes (record old { contacts = with_connection number old.contacts }) reply [] new
+Answers s sizes old number moment (reads request) new =
+    let arrivals = arrivals_of (connection_of number old.contacts) moment request in
+    (reply : Reply) × (queues : List (QueueState Item))
+    × IsPushed TakesLast IsFull arrivals (empty_queues sizes.queue (length old.journals)) reply queues
+    × RepliesAndRuns s sizes (record old { contacts = with_received number (length arrivals) old.contacts }) reply (map (λ q. q.items) queues ∷ []) new
 
 -- A request comes on the connection with this number. Where memory was refused to a new connection the reply is busy, and there is no such connection.
-abbrev pub Receives : Settings → (size : ℕ) → World → (number moment : ℕ) → (body : List ℕ) → World → Type 0
-Receives s size old number moment body new =
-    ((lookup (nat_eq number) old.connections ≡ None) × RepliesAndRuns s size old Busy [] new)
-    ⊎ ((reading : Reading) × IsTakenFor body reading × Answers s size old number moment reading new)
+abbrev pub Receives : Settings → Sizes → World → (number moment : ℕ) → (body : List ℕ) → World → Type 0
+Receives s sizes old number moment body new =
+    ((lookup (nat_eq number) old.contacts.connections ≡ None) × RepliesAndRuns s sizes old Busy [] new)
+    ⊎ ((reading : Reading) × IsTakenFor body reading × Answers s sizes old number moment reading new)
 
--- what an instruction does; at a close both senders, the lane and the ticker, end
-abbrev pub Plays : Settings → (size : ℕ) → World → Instruction → World → Type 0
-Plays s size old (receive number moment body) new = Receives s size old number moment body new
-Plays s size old (tick moment) new = RunsToQuiet s size old (Tick moment ∷ []) new
-Plays s size old close new = RunsToQuiet s size old (End 0 ∷ End 1 ∷ []) new
+-- this item for each of these
+abbrev pub to_each : {A : Type 0} → Item → List A → List (List Item)
+to_each item each = map (λ one. item ∷ []) each
+
+-- the Ends of so many senders beginning with this one, in turn, each for each of these
+abbrev pub ends_from : {A : Type 0} → (sender senders : ℕ) → List A → List (List (List Item))
+ends_from sender zero each = []
+ends_from sender (suc more) each = to_each (End sender) each ∷ ends_from (sender + 1) more each
+
+-- what an instruction does; at a close the lanes end, and then the ticker
+abbrev pub Plays : Settings → Sizes → World → Instruction → World → Type 0
+Plays s sizes old (receive number moment body) new = Receives s sizes old number moment body new
+Plays s sizes old (tick moment) new = RunsToQuiet s sizes old (to_each (Tick moment) old.journals ∷ []) new
+Plays s sizes old close new = RunsToQuiet s sizes old (ends_from 0 (length old.contacts.connected + 1) old.journals) new
 
 -- what several instructions do in turn
-abbrev pub PlaysAll : Settings → (size : ℕ) → World → List Instruction → World → Type 0
-PlaysAll s size old [] new = new ≡ old
-PlaysAll s size old (instruction ∷ more) new = (mid : World) × Plays s size old instruction mid × PlaysAll s size mid more new
+abbrev pub PlaysAll : Settings → Sizes → World → List Instruction → World → Type 0
+PlaysAll s sizes old [] new = new ≡ old
+PlaysAll s sizes old (instruction ∷ more) new = (mid : World) × Plays s sizes old instruction mid × PlaysAll s sizes mid more new

@@ -1,6 +1,7 @@
-ghost use Rattle.std.specs.Prelude.{◌≡◌, ◌+◌, ◌^◌, ◌<◌, [], None, nat_eq, IsSome, IfOk, OnOk, OnErr};
+ghost use Rattle.std.specs.Prelude.{◌≡◌, ◌<◌, [], None, nat_eq, IsSome, IfOk, OnOk, OnErr, replicate, length};
 ghost use Rattle.std.specs.Map.{lookup};
-ghost use Rattle.collector_main.specs.Connections.{connection_of, with_connection, with_spans};
+ghost use Rattle.indexmap.specs.IndexMap.{insert_entry};
+ghost use Rattle.collector_main.specs.Connections.{connection_of, with_connection};
 
 use indexmap::IndexMap;
 use lane_seq::Conn;
@@ -8,73 +9,82 @@ use span_ids::ConnKey;
 use std::alloc::{AllocError, Global};
 use std::marker::Model;
 
-/// The connections of a script, by the numbers that the script gives them. All of them are of lane 0.
+/// The connections of a script, by the numbers that the script gives them, and how many each lane has had.
 #[derive(Drop)]
 pub struct Connections {
     map: IndexMap<u64, Conn>,
+    connected: Vec<u64>,
 }
 
 impl Model for Connections {
-    ghost use Rattle.std.specs.Prelude.{ℕ, List};
-    ghost use Rattle.lane_seq.specs.declared.preparing.Conn.{Conn};
+    ghost use Rattle.std.specs.Prelude.{◌<◌, length};
+    ghost use Rattle.collector_main.specs.Connections.{Contacts};
 
-    ghost Value = { List (ℕ × Conn) };
+    ghost Value = { Contacts };
 
-    ghost view = { λ c. c.map.entries };
+    ghost view = { λ c. record { connections = c.map.entries; connected = c.connected.items } };
+
+    ghost invariant = { λ c. (0 < length c.connected.items) × (length c.connected.items < 65536) };
 }
 
 impl Connections {
-    /// No connection was used. It takes no memory.
-    pub fn new(alloc: Global) -> Connections
-        ensures { result ≡ [] }
+    /// No connection was used, of so many lanes.
+    pub fn new(alloc: Global, lanes: u16) -> Result<Connections, AllocError>
+        requires { 0 < lanes }
+        ensures { IfOk result (λ c. c ≡ record { connections = []; connected = replicate lanes 0 }) }
     {
-        Connections {
+        Ok(Connections {
             map: IndexMap::new(alloc),
-        }
+            connected: vec![in alloc; 0; lanes as usize]?,
+        })
     }
 
-    /// The connection with this number, which is made where it is new. Memory is refused only to a new connection,
-    /// and nothing changes then.
+    /// How many lanes there are.
+    pub fn lanes(&self) -> u16
+        ensures lanes { result ≡ length self.now.connected }
+        ensures some { 0 < result }
+    {
+        self.connected.len() as u16
+    }
+
+    /// The connection with this number, which is made where it is new: it is the next one of its lane. Memory is
+    /// refused only to a new connection, and nothing changes then.
     pub fn connect(&mut self, number: u64) -> Result<Conn, AllocError>
         ensures conn { IfOk result (λ conn. conn ≡ connection_of number self.old) }
         ensures connected { OnOk result (self.new ≡ with_connection number self.old) }
-        ensures there { OnOk result (IsSome (lookup (nat_eq number) self.new)) }
-        ensures refused { OnErr result (lookup (nat_eq number) self.old ≡ None) }
+        ensures there { OnOk result (IsSome (lookup (nat_eq number) self.new.connections)) }
+        ensures refused { OnErr result (lookup (nat_eq number) self.old.connections ≡ None) }
         ensures unchanged { OnErr result (self.new ≡ self.old) }
+        ensures lanes { length self.new.connected ≡ length self.old.connected }
     {
-        let conn = self.known_or_new(number);
-        match self.map.insert(number, conn) {
-            Ok(_) => Ok(conn),
-            Err(_) => Err(AllocError),
+        if let Some(conn) = self.map.get(&number) {
+            return Ok(*conn);
         }
-    }
-
-    fn known_or_new(&self, number: u64) -> Conn
-        ensures { result ≡ connection_of number self.now }
-    {
-        match self.map.get(&number) {
-            Some(conn) => *conn,
-            None => Conn {
-                key: ConnKey {
-                    lane: 0,
-                    ordinal: self.map.len() as u64,
-                },
-                next: 0,
-            },
-        }
-    }
-
-    /// The connection with this number, which is there, has received so many more spans.
-    pub fn receive(&mut self, number: u64, conn: Conn, spans: u64)
-        requires there { IsSome (lookup (nat_eq number) self.old) }
-        requires fits { conn.next + spans < 2 ^ 64 }
-        ensures { self.new ≡ with_spans number conn spans self.old }
-    {
-        let after = Conn {
-            key: conn.key,
-            next: conn.next + spans,
+        let lane = (number % self.connected.len() as u64) as usize;
+        let ordinal = self.connected[lane];
+        let Some(next) = ordinal.checked_add(1) else {
+            return Err(AllocError);
         };
-        if self.map.insert(number, after).is_err() {
+        let conn = Conn {
+            key: ConnKey {
+                lane: lane as u16,
+                ordinal,
+            },
+            next: 0,
+        };
+        if self.map.insert(number, conn).is_err() {
+            return Err(AllocError);
+        }
+        self.connected[lane] = next;
+        Ok(conn)
+    }
+
+    /// The connection with this number, which is there, is now this one.
+    pub fn put(&mut self, number: u64, conn: Conn)
+        requires { IsSome (lookup (nat_eq number) self.old.connections) }
+        ensures { self.new ≡ record self.old { connections = insert_entry nat_eq self.old.connections number conn } }
+    {
+        if self.map.insert(number, conn).is_err() {
             unreachable!();
         }
     }

@@ -3,6 +3,7 @@
 #![tactic(auto)]
 
 mod connections;
+mod ending;
 mod fault;
 mod program;
 mod pulling;
@@ -10,6 +11,7 @@ mod receiving;
 mod replay;
 mod replying;
 mod session;
+mod signal;
 mod taking;
 #[cfg(test)]
 mod tests;

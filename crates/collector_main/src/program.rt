@@ -140,7 +140,11 @@ fn outcome_of(answer: Result<Report, RunFault>) -> Outcome
 /// Reads the configuration from its file.
 fn load<T: Files>(rt: &T, alloc: Global, path: &str) -> Result<Config, Outcome>
     ensures waits { IfOk result (λ config. 0 < config.decision_wait) }
-    ensures keeps { IfOk result (λ config. 0 < config.num_traces) }
+    ensures lanes { IfOk result (λ config. 0 < config.lanes) }
+    ensures shards { IfOk result (λ config. 0 < config.shards) }
+    ensures traces { IfOk result (λ config. config.shards ≤ config.num_traces) }
+    ensures queue { IfOk result (λ config. 0 < config.queue_capacity) }
+    ensures batch { IfOk result (λ config. 0 < config.send_batch_size) }
 {
     let bytes = read_file(rt, alloc, path)?;
     let Ok(text) = String::from_utf8(bytes) else {

@@ -1,46 +1,63 @@
-ghost use Rattle.std.specs.Prelude.{◌^◌, ◌<◌, length, filter, IfOk, IfErr};
-ghost use Rattle.lane_seq.specs.Numbers.{is_invalid};
-ghost use Rattle.collector_main.specs.Requests.{Accepts, Declines, IsReplyTo};
+ghost use Rattle.std.specs.Prelude.{◌≡◌, ◌<◌, length};
+ghost use Rattle.collector_main.specs.Submitting.{Submits, is_received};
 
 use crate::connections::Connections;
-use lane_seq::{Prepared, Rejected, Reply, count_invalid, prepare};
-use otlp_types::Arrival;
-use span_ids::Moment;
+use crate::pulling::count;
+use drop_ledger::{Count, Report};
+use lane_queue::ListPort;
+use lane_seq::{Lane, Reply};
+use otlp_types::Item;
+use span_ids::{Moment, Reason};
 use std::alloc::Global;
 
-/// Reads a request, and gives its spans their numbers on its connection. The reply tells a refusal.
-pub fn accept(
+/// Reads a request on the lane of its connection: its spans get their numbers and go to the queues of their shards, one
+/// for each. The reply tells what became of it. The queues come back.
+pub fn submit(
     alloc: Global,
     connections: &mut Connections,
+    queues: Vec<ListPort<Item>>,
     number: u64,
     moment: Moment,
     body: &[u8],
-) -> Result<Prepared, Reply>
-    ensures accepted { IfOk result (λ prepared. Accepts connections.old number moment body.now prepared.arrivals.items connections.new) }
-    ensures refused { IfErr result (λ reply. Declines connections.old number body.now reply connections.new) }
-    ensures fits { IfOk result (λ prepared. length prepared.arrivals.items < 2 ^ 64) }
+) -> (Reply, Vec<ListPort<Item>>)
+    requires some { 0 < length queues.items }
+    ensures submits { Submits connections.old number moment body.now queues.items result.0 result.1.items connections.new }
+    ensures length { length result.1.items ≡ length queues.items }
+    ensures lanes { length connections.new.connected ≡ length connections.old.connected }
 {
     let Ok(conn) = connections.connect(number) else {
-        return Err(Reply::Busy);
+        return (Reply::Busy, queues);
     };
-    let prepared = prepare(alloc, &conn, body, moment)?;
-    connections.receive(number, conn, prepared.arrivals.len() as u64);
-    Ok(prepared)
+    let mut after = conn;
+    let mut lane = Lane::new(conn.key.lane, queues);
+    let reply = lane.submit(alloc, &mut after, body, moment);
+    if is_received(&reply) {
+        connections.put(number, after);
+    }
+    (reply, lane.end().ports)
 }
 
-/// The reply to a request with these spans, none of which is refused for a full queue.
-pub fn reply_to(arrivals: &[Arrival]) -> Reply
-    requires { length arrivals.now < 2 ^ 64 }
-    ensures { IsReplyTo (length arrivals.now) (length (filter is_invalid arrivals.now)) result }
+/// Whether the spans of the request were received.
+pub fn is_received(reply: &Reply) -> bool
+    ensures { result ≡ is_received reply.now }
 {
-    let spans = arrivals.len() as u64;
-    let invalid = count_invalid(arrivals) as u64;
-    if invalid == 0 {
-        Reply::Done { spans }
-    } else {
-        Reply::Partial {
-            spans,
-            rejected: Rejected { invalid, full: 0 },
+    match reply {
+        Reply::Done { .. } => true,
+        Reply::Partial { .. } => true,
+        Reply::BadData(_) => false,
+        Reply::Busy => false,
+    }
+}
+
+/// Counts the spans of a request, and those of them that go to no shard.
+pub fn count_received(report: &mut Option<Report>, reply: &Reply) {
+    match reply {
+        Reply::Done { spans } => count(report, Count::Received, *spans),
+        Reply::Partial { spans, rejected } => {
+            count(report, Count::Received, *spans);
+            count(report, Count::Dropped(Reason::InvalidId), rejected.invalid);
+            count(report, Count::Dropped(Reason::QueueFull), rejected.full);
         }
+        Reply::BadData(_) | Reply::Busy => {}
     }
 }

@@ -1,7 +1,9 @@
 //! A script is run in one thread.
-ghost use Rattle.std.specs.Prelude.{◌≡◌, ◌-◌, ◌^◌, ◌<◌, [], false, IfOk};
-ghost use Rattle.shard_core.specs.Held.{has_due, settings};
-ghost use Rattle.collector_main.specs.Pulling.{HasReleasedAll, ends_of};
+ghost use Rattle.std.specs.Prelude.{◌≡◌, ◌-◌, ◌^◌, ◌<◌, ◌≤◌, [], false, IfOk, replicate, vec_capacity};
+ghost use Rattle.tsc_config.specs.declared.config.Config.{Config};
+ghost use Rattle.collector_main.specs.declared.replying.TheConstants.{MAX_REPLY_LINE};
+ghost use Rattle.collector_main.specs.World.{empty_queues};
+ghost use Rattle.collector_main.specs.Starting.{IsNew, AreNew};
 ghost use Rattle.collector_main.specs.Replay.{RunEnds, settings_by};
 
 use crate::connections::Connections;
@@ -9,18 +11,17 @@ use crate::fault::RunFault;
 use crate::replying::MAX_REPLY_LINE;
 use crate::session::Session;
 use drop_ledger::Report;
+use lane_queue::ListPort;
+use otlp_types::{Item, TryClone};
 use shard_core::Shard;
 use span_exporter::Exporter;
 use span_sink::{LineSink, Sink};
 use std::alloc::{AllocError, Global};
 use std::io::Read;
 use tsc_config::Config;
-use tsc_script::{Stop, play_script};
+use tsc_script::play_script;
 
-/// How many spans a batch holds at most.
-pub const BATCH_SIZE: usize = 512;
-
-/// Runs a script, and gives the sink back.
+/// Runs a script, and gives the sink back. A connection is served by the lane of its number modulo the number of lanes.
 ///
 /// A reply line and the lines of batches go to the sink, line by line as the script goes on.
 pub fn replay_run<R: Read, S: Sink>(
@@ -30,11 +31,17 @@ pub fn replay_run<R: Read, S: Sink>(
     sink: S,
 ) -> (S, Result<Report, RunFault>)
     requires waits { 0 < config.decision_wait }
-    requires keeps_a_trace { 0 < config.num_traces }
+    requires lanes { 0 < config.lanes }
+    requires shards { 0 < config.shards }
+    requires traces { config.shards ≤ config.num_traces }
+    requires queue { 0 < config.queue_capacity }
+    requires batch { 0 < config.send_batch_size }
     requires failures { S.failures sink < 2 ^ 64 - 1 }
     ensures { RunEnds (record {
       settings = settings_by config;
-      size = BATCH_SIZE;
+      sizes = record { batch = config.send_batch_size; queue = config.queue_capacity };
+      lanes = config.lanes;
+      shards = config.shards;
       taken = S.taken sink;
       failures = S.failures sink;
       taken_after = S.taken result.0;
@@ -44,20 +51,25 @@ pub fn replay_run<R: Read, S: Sink>(
     }) result.1 }
 {
     let lines = LineSink::new(sink);
-    let Ok(text) = Vec::with_capacity(alloc, MAX_REPLY_LINE) else {
+    let Ok(parts) = parts_of(alloc, &config) else {
         return (lines.end(), Err(RunFault::NoMemory));
     };
-    let Ok(shard) = shard_of(alloc, config) else {
-        return (lines.end(), Err(RunFault::NoMemory));
-    };
-    let exporter = match Exporter::new(alloc, BATCH_SIZE, 1, lines) {
+    let exporter = match Exporter::new(alloc, config.send_batch_size, 1, lines) {
         Ok(exporter) => exporter,
         Err((lines, _)) => return (lines.end(), Err(RunFault::NoMemory)),
     };
+    let Parts {
+        connections,
+        queues,
+        shards,
+        text,
+    } = parts;
     let session = Session {
         alloc,
-        connections: Connections::new(alloc),
-        shard,
+        connections,
+        queues,
+        queue_capacity: config.queue_capacity,
+        shards,
         exporter,
         text,
         report: Some(Report::new()),
@@ -66,23 +78,80 @@ pub fn replay_run<R: Read, S: Sink>(
     run_session(alloc, reader, session)
 }
 
-/// A shard with these settings and two senders, the lane and the ticker.
-fn shard_of(alloc: Global, config: Config) -> Result<Shard, AllocError>
-    requires waits { 0 < config.decision_wait }
-    requires keeps_a_trace { 0 < config.num_traces }
-    ensures released { IfOk result (λ shard. HasReleasedAll shard []) }
-    ensures settings { IfOk result (λ shard. settings shard ≡ settings_by config) }
-    ensures nothing_due { IfOk result (λ shard. has_due shard ≡ false) }
-    ensures ends { IfOk result (λ shard. shard.standing.ends ≡ ends_of false) }
+/// What a run needs at its start, beside the exporter.
+#[derive(Drop)]
+struct Parts {
+    connections: Connections,
+    queues: Vec<ListPort<Item>>,
+    shards: Vec<Shard>,
+    text: Vec<u8>,
+}
+
+/// The parts of a run that has seen no line.
+fn parts_of(alloc: Global, config: &Config) -> Result<Parts, AllocError>
+    requires waits { 0 < config.now.decision_wait }
+    requires lanes { 0 < config.now.lanes }
+    requires shards { 0 < config.now.shards }
+    requires traces { config.now.shards ≤ config.now.num_traces }
+    requires queue { 0 < config.now.queue_capacity }
+    ensures connections { IfOk result (λ parts. parts.connections ≡ record { connections = []; connected = replicate config.now.lanes 0 }) }
+    ensures queues { IfOk result (λ parts. parts.queues.items ≡ empty_queues config.now.queue_capacity config.now.shards) }
+    ensures shards { IfOk result (λ parts. AreNew config.now config.now.shards parts.shards.items) }
+    ensures text { IfOk result (λ parts. MAX_REPLY_LINE ≤ vec_capacity parts.text) }
+{
+    Ok(Parts {
+        connections: Connections::new(alloc, config.lanes)?,
+        queues: new_queues(alloc, config.queue_capacity, config.shards)?,
+        shards: new_shards(alloc, config, config.shards)?,
+        text: Vec::with_capacity(alloc, MAX_REPLY_LINE)?,
+    })
+}
+
+fn new_queues(
+    alloc: Global,
+    capacity: usize,
+    shards: usize,
+) -> Result<Vec<ListPort<Item>>, AllocError>
+    requires { 0 < capacity }
+    ensures { IfOk result (λ queues. queues.items ≡ empty_queues capacity shards) }
+{
+    let mut queues = Vec::with_capacity(alloc, shards)?;
+    for _shard in 0..shards {
+        queues.push(ListPort::new(alloc, capacity)?)?;
+    }
+    Ok(queues)
+}
+
+fn new_shards(alloc: Global, config: &Config, shards: usize) -> Result<Vec<Shard>, AllocError>
+    requires waits { 0 < config.now.decision_wait }
+    requires lanes { 0 < config.now.lanes }
+    requires shards { 0 < config.now.shards }
+    requires traces { config.now.shards ≤ config.now.num_traces }
+    ensures { IfOk result (λ made. AreNew config.now shards made.items) }
+{
+    let mut made = Vec::with_capacity(alloc, shards)?;
+    for _shard in 0..shards {
+        made.push(new_shard(alloc, config)?)?;
+    }
+    Ok(made)
+}
+
+/// A shard with its share of the traces and of the caches. Its senders are the lanes and the ticker.
+fn new_shard(alloc: Global, config: &Config) -> Result<Shard, AllocError>
+    requires waits { 0 < config.now.decision_wait }
+    requires lanes { 0 < config.now.lanes }
+    requires shards { 0 < config.now.shards }
+    requires traces { config.now.shards ≤ config.now.num_traces }
+    ensures { IfOk result (λ shard. IsNew config.now shard) }
 {
     Shard::new(
         alloc,
-        config.policies,
+        config.policies.try_clone(alloc)?,
         config.decision_wait,
-        config.num_traces,
-        config.sampled_cache_size,
-        config.non_sampled_cache_size,
-        2,
+        config.traces_per_shard(),
+        config.sampled_cache_per_shard(),
+        config.non_sampled_cache_per_shard(),
+        config.lanes as usize + 1,
     )
 }
 
@@ -92,20 +161,22 @@ fn run_session<R: Read, S: Sink>(
     reader: &mut R,
     session: Session<S>,
 ) -> (S, Result<Report, RunFault>)
-    requires unused { session.connections ≡ [] }
-    requires nothing_taken { HasReleasedAll session.shard [] }
     requires open { session.closed ≡ false }
     requires up { session.exporter.sink.is_down ≡ false }
-    ensures { RunEnds (record {
-      settings = settings session.shard;
-      size = session.exporter.size;
-      taken = session.exporter.sink.taken;
-      failures = session.exporter.sink.failures;
-      taken_after = S.taken result.0;
-      failures_after = S.failures result.0;
-      unread = R.remaining reader.old;
-      unread_after = R.remaining reader.new;
-    }) result.1 }
+    ensures { (config : Config) → session.connections ≡ record { connections = []; connected = replicate config.lanes 0 }
+        → AreNew config config.shards session.shards.items
+        → RunEnds (record {
+          settings = settings_by config;
+          sizes = record { batch = session.exporter.size; queue = session.queue_capacity };
+          lanes = config.lanes;
+          shards = config.shards;
+          taken = session.exporter.sink.taken;
+          failures = session.exporter.sink.failures;
+          taken_after = S.taken result.0;
+          failures_after = S.failures result.0;
+          unread = R.remaining reader.old;
+          unread_after = R.remaining reader.new;
+        }) result.1 }
 {
     let mut session = session;
     let played = play_script(alloc, reader, &mut session);

@@ -1,21 +1,24 @@
 //! The parts of the collector, driven by a script.
-ghost use Rattle.std.specs.Prelude.{◌≡◌, ◌<◌, ◌≤◌, [], ◌++◌, true, false, not, length, vec_capacity};
-ghost use Rattle.shard_core.specs.Held.{has_due, settings};
+ghost use Rattle.std.specs.Prelude.{◌≡◌, ◌<◌, ◌≤◌, [], ◌++◌, true, false, not, map, length, vec_capacity};
+ghost use Rattle.shard_core.specs.Journal.{Settings};
 ghost use Rattle.tsc_script.specs.Instructions.{instruction_of_command, is_close, tick, close};
 ghost use Rattle.span_exporter.specs.Exports.{WritesLine};
 ghost use Rattle.collector_main.specs.declared.replying.TheConstants.{MAX_REPLY_LINE};
 ghost use Rattle.collector_main.specs.Requests.{reply_line};
-ghost use Rattle.collector_main.specs.World.{World, Plays, PlaysAll, Receives};
-ghost use Rattle.collector_main.specs.Pulling.{AreOf, ends_of};
+ghost use Rattle.collector_main.specs.World.{World, Plays, PlaysAll, Receives, empty_queues};
+ghost use Rattle.collector_main.specs.Pulling.{AreOf, has_none_due, ends_in, ends_of};
 ghost use Rattle.collector_main.specs.Answers.{AnswersStop};
 
 use crate::connections::Connections;
+use crate::ending::end_all;
 use crate::fault::RunFault;
-use crate::pulling::{count, send};
-use crate::receiving::{accept, reply_to};
+use crate::pulling::send;
+use crate::receiving::{count_received, is_received, submit};
 use crate::replying::{MAX_REPLY_LINE, write_reply_line};
-use crate::taking::{take_arrivals, take_item};
-use drop_ledger::{Count, Report};
+use crate::signal::Signal;
+use crate::taking::{take_received, tell_each};
+use drop_ledger::Report;
+use lane_queue::ListPort;
 use lane_seq::Reply;
 use otlp_types::Item;
 use shard_core::Shard;
@@ -23,24 +26,31 @@ use span_exporter::Exporter;
 use span_ids::Moment;
 use span_sink::Sink;
 use std::alloc::Global;
+use std::mem;
 use tsc_script::{Command, Machine, Stop};
 
-/// One lane, one shard and the exporter, between two lines of a script: all that was due is decided, and all that was
-/// released has gone to the sink.
+/// The connections, the shards and the exporter, between two lines of a script: the queues are empty, all that was due is
+/// decided, and all that was released has gone to the sink.
 #[derive(Drop)]
 pub struct Session<S: Sink> {
     pub alloc: Global,
     pub connections: Connections,
-    pub shard: Shard,
+    /// The queue of each shard.
+    pub queues: Vec<ListPort<Item>>,
+    /// How many spans the queue of a shard holds.
+    pub queue_capacity: usize,
+    pub shards: Vec<Shard>,
     pub exporter: Exporter<S>,
     /// Room for a reply line.
     pub text: Vec<u8>,
     /// The counts, or `None` once a count would have passed 2^64-1.
     pub report: Option<Report>,
-    /// Whether the lane and the ticker have ended.
+    /// Whether the lanes and the ticker have ended.
     pub closed: bool,
-    ghost nothing_due: { has_due shard ≡ false },
-    ghost ends: { shard.standing.ends ≡ ends_of closed },
+    ghost none_due: { has_none_due shards.items ≡ true },
+    ghost ends: { ends_in shards.items ≡ map (λ _. ends_of (length connections.connected) closed) shards.items },
+    ghost some: { 0 < length shards.items },
+    ghost empty: { queues.items ≡ empty_queues queue_capacity (length shards.items) },
     ghost sent: { length exporter.batch ≡ 0 },
     ghost batches: { 0 < exporter.size },
     ghost room: { MAX_REPLY_LINE ≤ vec_capacity text },
@@ -56,7 +66,9 @@ impl<S: Sink> Session<S> {
         let Session {
             alloc: _,
             connections: _,
-            shard: _,
+            queues: _,
+            queue_capacity: _,
+            shards: _,
             exporter,
             text: _,
             report,
@@ -65,80 +77,75 @@ impl<S: Sink> Session<S> {
         (exporter.end().end(), answer_of(played, report))
     }
 
-    /// Answers a request, and gives its spans to the shard.
+    /// Answers a request, and gives its spans to the shards.
     fn receive(&mut self, number: u64, moment: Moment, body: &[u8])
         requires { self.old.closed ≡ false }
-        ensures plays { (w : World) → AreOf w self.old.connections self.old.shard self.old.exporter
-            → (after : World) × Receives (settings self.old.shard) self.old.exporter.size w number moment body.now after
-            × AreOf after self.new.connections self.new.shard self.new.exporter }
-        ensures settings { settings self.new.shard ≡ settings self.old.shard }
+        ensures plays { (s : Settings) (w : World) → AreOf s w self.old.connections self.old.shards.items self.old.exporter
+            → (after : World) × Receives s (record { batch = self.old.exporter.size; queue = self.old.queue_capacity }) w number moment body.now after
+            × AreOf s after self.new.connections self.new.shards.items self.new.exporter }
         ensures size { self.new.exporter.size ≡ self.old.exporter.size }
+        ensures queue { self.new.queue_capacity ≡ self.old.queue_capacity }
         ensures stays_open { self.new.closed ≡ false }
         ensures stays_down { self.old.exporter.sink.is_down ≡ true → self.new.exporter.sink.is_down ≡ true }
     {
-        match accept(self.alloc, &mut self.connections, number, moment, body) {
-            Ok(prepared) => {
-                let reply = reply_to(&prepared.arrivals);
-                count(
-                    &mut self.report,
-                    Count::Received,
-                    prepared.arrivals.len() as u64,
-                );
-                hand_reply(&mut self.text, &mut self.exporter, &reply);
-                take_arrivals(
-                    &mut self.shard,
-                    &mut self.exporter,
-                    &mut self.report,
-                    prepared.arrivals,
-                );
-                send(&mut self.exporter, &mut self.report);
-            }
-            Err(reply) => hand_reply(&mut self.text, &mut self.exporter, &reply),
-        }
+        let queues = mem::replace(&mut self.queues, Vec::new(self.alloc));
+        let (reply, queues) = submit(
+            self.alloc,
+            &mut self.connections,
+            queues,
+            number,
+            moment,
+            body,
+        );
+        self.queues = queues;
+        count_received(&mut self.report, &reply);
+        hand_reply(&mut self.text, &mut self.exporter, &reply);
+        take_received(
+            is_received(&reply),
+            &mut self.shards,
+            &mut self.queues,
+            &mut self.exporter,
+            &mut self.report,
+        );
+        send(&mut self.exporter, &mut self.report);
     }
 
     /// Takes a moment.
     fn tick(&mut self, moment: Moment)
         requires { self.old.closed ≡ false }
-        ensures plays { (w : World) → AreOf w self.old.connections self.old.shard self.old.exporter
-            → (after : World) × Plays (settings self.old.shard) self.old.exporter.size w (tick moment) after
-            × AreOf after self.new.connections self.new.shard self.new.exporter }
-        ensures settings { settings self.new.shard ≡ settings self.old.shard }
+        ensures plays { (s : Settings) (w : World) → AreOf s w self.old.connections self.old.shards.items self.old.exporter
+            → (after : World) × Plays s (record { batch = self.old.exporter.size; queue = self.old.queue_capacity }) w (tick moment) after
+            × AreOf s after self.new.connections self.new.shards.items self.new.exporter }
         ensures size { self.new.exporter.size ≡ self.old.exporter.size }
+        ensures queue { self.new.queue_capacity ≡ self.old.queue_capacity }
         ensures stays_open { self.new.closed ≡ false }
         ensures stays_down { self.old.exporter.sink.is_down ≡ true → self.new.exporter.sink.is_down ≡ true }
     {
-        take_item(
-            &mut self.shard,
+        tell_each(
+            &mut self.shards,
             &mut self.exporter,
             &mut self.report,
-            Item::Tick(moment),
+            Signal::Tick(moment),
         );
         send(&mut self.exporter, &mut self.report);
     }
 
-    /// Ends both senders, the lane and the ticker.
+    /// Ends the lanes, and then the ticker.
     fn close(&mut self)
         requires { self.old.closed ≡ false }
-        ensures plays { (w : World) → AreOf w self.old.connections self.old.shard self.old.exporter
-            → (after : World) × Plays (settings self.old.shard) self.old.exporter.size w close after
-            × AreOf after self.new.connections self.new.shard self.new.exporter }
-        ensures settings { settings self.new.shard ≡ settings self.old.shard }
+        ensures plays { (s : Settings) (w : World) → AreOf s w self.old.connections self.old.shards.items self.old.exporter
+            → (after : World) × Plays s (record { batch = self.old.exporter.size; queue = self.old.queue_capacity }) w close after
+            × AreOf s after self.new.connections self.new.shards.items self.new.exporter }
         ensures size { self.new.exporter.size ≡ self.old.exporter.size }
+        ensures queue { self.new.queue_capacity ≡ self.old.queue_capacity }
         ensures closes { self.new.closed ≡ true }
         ensures stays_down { self.old.exporter.sink.is_down ≡ true → self.new.exporter.sink.is_down ≡ true }
     {
-        take_item(
-            &mut self.shard,
+        end_all(
+            &mut self.shards,
             &mut self.exporter,
             &mut self.report,
-            Item::End(0),
-        );
-        take_item(
-            &mut self.shard,
-            &mut self.exporter,
-            &mut self.report,
-            Item::End(1),
+            self.connections.lanes(),
         );
         send(&mut self.exporter, &mut self.report);
         self.closed = true;
@@ -147,11 +154,11 @@ impl<S: Sink> Session<S> {
     /// Does what a command says.
     fn obey(&mut self, command: Command<'_>)
         requires { self.old.closed ≡ false }
-        ensures plays { (w : World) → AreOf w self.old.connections self.old.shard self.old.exporter
-            → (after : World) × Plays (settings self.old.shard) self.old.exporter.size w (instruction_of_command command.entry) after
-            × AreOf after self.new.connections self.new.shard self.new.exporter }
-        ensures settings { settings self.new.shard ≡ settings self.old.shard }
+        ensures plays { (s : Settings) (w : World) → AreOf s w self.old.connections self.old.shards.items self.old.exporter
+            → (after : World) × Plays s (record { batch = self.old.exporter.size; queue = self.old.queue_capacity }) w (instruction_of_command command.entry) after
+            × AreOf s after self.new.connections self.new.shards.items self.new.exporter }
         ensures size { self.new.exporter.size ≡ self.old.exporter.size }
+        ensures queue { self.new.queue_capacity ≡ self.old.queue_capacity }
         ensures closed { self.new.closed ≡ is_close (instruction_of_command command.entry) }
         ensures stays_down { self.old.exporter.sink.is_down ≡ true → self.new.exporter.sink.is_down ≡ true }
     {
@@ -168,10 +175,10 @@ impl<S: Sink> Session<S> {
 }
 
 impl<S: Sink> Machine for Session<S> {
-    ghost leads = { λ start instructions now. (settings now.shard ≡ settings start.shard) × (now.exporter.size ≡ start.exporter.size)
-        × ((w : World) → AreOf w start.connections start.shard start.exporter
-        → (after : World) × PlaysAll (settings start.shard) start.exporter.size w instructions after
-        × AreOf after now.connections now.shard now.exporter) };
+    ghost leads = { λ start instructions now. (now.exporter.size ≡ start.exporter.size) × (now.queue_capacity ≡ start.queue_capacity)
+        × ((s : Settings) (w : World) → AreOf s w start.connections start.shards.items start.exporter
+        → (after : World) × PlaysAll s (record { batch = start.exporter.size; queue = start.queue_capacity }) w instructions after
+        × AreOf s after now.connections now.shards.items now.exporter) };
 
     ghost is_up = { λ now. not now.exporter.sink.is_down };
 

@@ -1,13 +1,17 @@
-ghost use Rattle.std.specs.Prelude.{◌≡◌, ℕ, ◌<◌, [], ◌∷◌, true, false, length};
-ghost use Rattle.shard_core.specs.Journal.{Journal};
+ghost use Rattle.std.specs.Prelude.{◌≡◌, ℕ, ◌<◌, List, [], ◌∷◌, Bool, true, false, length, map, if◌then◌else◌};
+ghost use Rattle.std.specs.List.{AllByRecursion, list_all};
+ghost use Rattle.shard_core.specs.Journal.{Journal, Settings};
 ghost use Rattle.shard_core.specs.Held.{StandsFor, has_due, is_finished, settings};
 ghost use Rattle.shard_core.specs.Taking.{has_ids, ends_after, released_by, released_in};
-ghost use Rattle.collector_main.specs.Pulling.{PullsAll, TakesItems, DecidesAll};
-ghost use Rattle.collector_main.specs.Requests.{items_of};
+ghost use Rattle.collector_main.specs.World.{to_each};
+ghost use Rattle.collector_main.specs.Signals.{item_of};
+ghost use Rattle.collector_main.specs.Pulling.{PullsAll, TakesItems, DecidesAll, AreOpen, AreQuiet, HaveSettings, EachTakes, RoundsTaken, rounds_of, is_queued, emptied, items_in, HoldsQueued};
 
 use crate::pulling::{count, pull, pull_all};
+use crate::signal::Signal;
 use drop_ledger::{Count, Report};
-use otlp_types::{Arrival, Item};
+use lane_queue::ListPort;
+use otlp_types::Item;
 use shard_core::{Decided, Shard, Taken};
 use span_exporter::Exporter;
 use span_ids::Reason;
@@ -90,17 +94,19 @@ fn pull_decided<S: Sink>(exporter: &mut Exporter<S>, report: &mut Option<Report>
     }
 }
 
-/// Takes the arrivals with valid ids in turn, and counts the others.
-pub fn take_arrivals<S: Sink>(
+/// Takes what a queue holds, in order.
+pub fn drain<S: Sink>(
     shard: &mut Shard,
+    queue: &mut ListPort<Item>,
     exporter: &mut Exporter<S>,
     report: &mut Option<Report>,
-    arrivals: Vec<Arrival>,
 )
     requires nothing_due { has_due shard.old ≡ false }
     requires running { is_finished shard.old ≡ false }
+    requires queued { list_all is_queued queue.old.items ≡ true }
     requires room { length exporter.old.batch < exporter.old.size }
-    ensures takes { TakesItems shard.old exporter.old (items_of arrivals.items) shard.new exporter.new }
+    ensures takes { TakesItems shard.old exporter.old queue.old.items shard.new exporter.new }
+    ensures emptied { queue.new ≡ record queue.old { items = [] } }
     ensures nothing_due { has_due shard.new ≡ false }
     ensures ends { shard.new.standing.ends ≡ shard.old.standing.ends }
     ensures settings { settings shard.new ≡ settings shard.old }
@@ -108,32 +114,90 @@ pub fn take_arrivals<S: Sink>(
     ensures size { exporter.new.size ≡ exporter.old.size }
     ensures stays_down { exporter.old.sink.is_down ≡ true → exporter.new.sink.is_down ≡ true }
 {
-    for arrival in arrivals {
-        take_arrival(shard, exporter, report, arrival);
+    'draining: loop {
+        let Some(item) = queue.pop() else {
+            return;
+        };
+        take_item(shard, exporter, report, item);
     }
 }
 
-/// Takes an arrival with valid ids, or counts it.
-fn take_arrival<S: Sink>(
-    shard: &mut Shard,
+/// Each shard in its turn takes what its queue holds.
+pub fn take_queued<S: Sink>(
+    shards: &mut [Shard],
+    queues: &mut [ListPort<Item>],
     exporter: &mut Exporter<S>,
     report: &mut Option<Report>,
-    arrival: Arrival,
 )
-    requires nothing_due { has_due shard.old ≡ false }
-    requires running { is_finished shard.old ≡ false }
+    requires same { length queues.old ≡ length shards.old }
+    requires open { AreOpen shards.old }
+    requires queued { AllByRecursion HoldsQueued queues.old }
     requires room { length exporter.old.batch < exporter.old.size }
-    ensures takes { TakesItems shard.old exporter.old (items_of (arrival ∷ [])) shard.new exporter.new }
-    ensures nothing_due { has_due shard.new ≡ false }
-    ensures ends { shard.new.standing.ends ≡ shard.old.standing.ends }
-    ensures settings { settings shard.new ≡ settings shard.old }
+    ensures takes { EachTakes shards.old exporter.old (items_in queues.old) shards.new exporter.new }
+    ensures emptied { queues.new ≡ map emptied queues.old }
+    ensures quiet { (ends : List Bool) → AreQuiet ends shards.old → AreQuiet ends shards.new }
+    ensures settings { (s : Settings) → HaveSettings s shards.old → HaveSettings s shards.new }
+    ensures length { length shards.new ≡ length shards.old }
     ensures room { length exporter.new.batch < exporter.new.size }
     ensures size { exporter.new.size ≡ exporter.old.size }
     ensures stays_down { exporter.old.sink.is_down ≡ true → exporter.new.sink.is_down ≡ true }
 {
-    if arrival.rec.span.ids.is_some() {
-        take_item(shard, exporter, report, Item::Span(arrival));
-    } else {
-        count(report, Count::Dropped(Reason::InvalidId), 1);
+    let Some((shard, others)) = shards.split_first_mut() else {
+        return;
+    };
+    let Some((queue, rest)) = queues.split_first_mut() else {
+        return;
+    };
+    drain(shard, queue, exporter, report);
+    take_queued(others, rest, exporter, report);
+}
+
+/// Where a request's spans were received, each shard in its turn takes what its queue holds.
+pub fn take_received<S: Sink>(
+    received: bool,
+    shards: &mut Vec<Shard>,
+    queues: &mut Vec<ListPort<Item>>,
+    exporter: &mut Exporter<S>,
+    report: &mut Option<Report>,
+)
+    requires same { length queues.old.items ≡ length shards.old.items }
+    requires open { AreOpen shards.old.items }
+    requires queued { AllByRecursion HoldsQueued queues.old.items }
+    requires room { length exporter.old.batch < exporter.old.size }
+    ensures takes { RoundsTaken shards.old.items exporter.old (rounds_of received queues.old.items) shards.new.items exporter.new }
+    ensures emptied { queues.new.items ≡ (if received then map emptied queues.old.items else queues.old.items) }
+    ensures quiet { (ends : List Bool) → AreQuiet ends shards.old.items → AreQuiet ends shards.new.items }
+    ensures settings { (s : Settings) → HaveSettings s shards.old.items → HaveSettings s shards.new.items }
+    ensures length { length shards.new.items ≡ length shards.old.items }
+    ensures room { length exporter.new.batch < exporter.new.size }
+    ensures size { exporter.new.size ≡ exporter.old.size }
+    ensures stays_down { exporter.old.sink.is_down ≡ true → exporter.new.sink.is_down ≡ true }
+{
+    if received {
+        take_queued(shards, queues, exporter, report);
     }
+}
+
+/// Each shard in its turn is told the same.
+pub fn tell_each<S: Sink>(
+    shards: &mut [Shard],
+    exporter: &mut Exporter<S>,
+    report: &mut Option<Report>,
+    signal: Signal,
+)
+    requires open { AreOpen shards.old }
+    requires room { length exporter.old.batch < exporter.old.size }
+    ensures takes { EachTakes shards.old exporter.old (to_each (item_of signal) shards.old) shards.new exporter.new }
+    ensures quiet { (ends : List Bool) → AreQuiet ends shards.old → AreQuiet (ends_after (item_of signal) ends) shards.new }
+    ensures settings { (s : Settings) → HaveSettings s shards.old → HaveSettings s shards.new }
+    ensures length { length shards.new ≡ length shards.old }
+    ensures room { length exporter.new.batch < exporter.new.size }
+    ensures size { exporter.new.size ≡ exporter.old.size }
+    ensures stays_down { exporter.old.sink.is_down ≡ true → exporter.new.sink.is_down ≡ true }
+{
+    let Some((shard, others)) = shards.split_first_mut() else {
+        return;
+    };
+    take_item(shard, exporter, report, signal.item());
+    tell_each(others, exporter, report, signal);
 }

@@ -36,6 +36,18 @@ const CACHE_OF_ONE: &str =
 const CACHE_OF_TWO: &str =
     "decision_wait_ms = 10000\nnum_traces = 1\ndecision_cache = { sampled_cache_size = 2, non_sampled_cache_size = 2 }\npolicies = [{ name = \"errors\", type = \"status_code\", status_code = { status_codes = [\"ERROR\"] } }]\n";
 
+/// Every trace is kept, in batches of two spans.
+const BATCHES_OF_TWO: &str =
+    "decision_wait_ms = 10000\nsend_batch_size = 2\npolicies = [{ name = \"all\", type = \"always_sample\" }]\n";
+
+/// Every trace is kept, on two lanes and two shards.
+const TWO_SHARDS: &str =
+    "decision_wait_ms = 10000\nlanes = 2\nshards = 2\npolicies = [{ name = \"all\", type = \"always_sample\" }]\n";
+
+/// Every trace is kept, and a shard's queue holds one span.
+const QUEUE_OF_ONE: &str =
+    "decision_wait_ms = 10000\nqueue_capacity = 1\npolicies = [{ name = \"all\", type = \"always_sample\" }]\n";
+
 /// A writer into memory.
 #[derive(Drop)]
 struct Page {
@@ -259,6 +271,42 @@ fn no_cache_forgets(rt: HostRuntime) -> Result<(), Fail> {
         b"recv 1 0 {\"resourceSpans\":[{\"scopeSpans\":[{\"spans\":[{\"traceId\":\"5b8efff798038103d269b633813fc60c\",\"spanId\":\"eee19b7ec3c1b174\",\"status\":{\"code\":2}}]}]}]}\ntick 10000\nrecv 1 10000 {\"resourceSpans\":[{\"scopeSpans\":[{\"spans\":[{\"traceId\":\"5b8efff798038103d269b633813fc60d\",\"spanId\":\"eee19b7ec3c1b175\",\"status\":{\"code\":2}}]}]}]}\nrecv 1 15000 {\"resourceSpans\":[{\"scopeSpans\":[{\"spans\":[{\"traceId\":\"5b8efff798038103d269b633813fc60c\",\"spanId\":\"eee19b7ec3c1b176\"}]}]}]}\nclose\n",
         b"reply 200 {}\n{\"resourceSpans\":[{\"scopeSpans\":[{\"spans\":[{\"spanId\":\"eee19b7ec3c1b174\",\"status\":{\"code\":2},\"traceId\":\"5b8efff798038103d269b633813fc60c\"}]}]}]}\nreply 200 {}\nreply 200 {}\n",
         [3, 1, 0, 0, 0, 1, 1, 0, 0],
+    )
+}
+
+/// Batches of two spans: the last one of a line may be shorter.
+#[test]
+fn batches_of_two(rt: HostRuntime) -> Result<(), Fail> {
+    check(
+        &rt,
+        BATCHES_OF_TWO,
+        b"recv 1 0 {\"resourceSpans\":[{\"scopeSpans\":[{\"spans\":[{\"traceId\":\"5b8efff798038103d269b633813fc60c\",\"spanId\":\"eee19b7ec3c1b174\"},{\"traceId\":\"5b8efff798038103d269b633813fc60c\",\"spanId\":\"eee19b7ec3c1b175\"},{\"traceId\":\"5b8efff798038103d269b633813fc60c\",\"spanId\":\"eee19b7ec3c1b176\"}]}]}]}\nclose\n",
+        b"reply 200 {}\n{\"resourceSpans\":[{\"scopeSpans\":[{\"spans\":[{\"spanId\":\"eee19b7ec3c1b174\",\"traceId\":\"5b8efff798038103d269b633813fc60c\"},{\"spanId\":\"eee19b7ec3c1b175\",\"traceId\":\"5b8efff798038103d269b633813fc60c\"}]}]}]}\n{\"resourceSpans\":[{\"scopeSpans\":[{\"spans\":[{\"spanId\":\"eee19b7ec3c1b176\",\"traceId\":\"5b8efff798038103d269b633813fc60c\"}]}]}]}\n",
+        [3, 3, 0, 0, 0, 0, 0, 0, 0],
+    )
+}
+
+/// Two shards: what shard 0 releases at a tick comes first.
+#[test]
+fn shard_zero_first(rt: HostRuntime) -> Result<(), Fail> {
+    check(
+        &rt,
+        TWO_SHARDS,
+        b"recv 1 0 {\"resourceSpans\":[{\"scopeSpans\":[{\"spans\":[{\"traceId\":\"5b8efff798038103d269b633813fc60d\",\"spanId\":\"eee19b7ec3c1b175\"},{\"traceId\":\"5b8efff798038103d269b633813fc60c\",\"spanId\":\"eee19b7ec3c1b174\"}]}]}]}\ntick 10000\n",
+        b"reply 200 {}\n{\"resourceSpans\":[{\"scopeSpans\":[{\"spans\":[{\"spanId\":\"eee19b7ec3c1b174\",\"traceId\":\"5b8efff798038103d269b633813fc60c\"},{\"spanId\":\"eee19b7ec3c1b175\",\"traceId\":\"5b8efff798038103d269b633813fc60d\"}]}]}]}\n",
+        [2, 2, 0, 0, 0, 0, 0, 0, 0],
+    )
+}
+
+/// A queue of one span: the others of a request find it full.
+#[test]
+fn queue_of_one(rt: HostRuntime) -> Result<(), Fail> {
+    check(
+        &rt,
+        QUEUE_OF_ONE,
+        b"recv 1 0 {\"resourceSpans\":[{\"scopeSpans\":[{\"spans\":[{\"traceId\":\"5b8efff798038103d269b633813fc60c\",\"spanId\":\"eee19b7ec3c1b174\"},{\"traceId\":\"5b8efff798038103d269b633813fc60c\",\"spanId\":\"eee19b7ec3c1b175\"},{\"traceId\":\"5b8efff798038103d269b633813fc60c\",\"spanId\":\"eee19b7ec3c1b176\"}]}]}]}\nclose\n",
+        b"reply 200 {\"partialSuccess\":{\"errorMessage\":\"invalid id: 0, queue full: 2\",\"rejectedSpans\":\"2\"}}\n{\"resourceSpans\":[{\"scopeSpans\":[{\"spans\":[{\"spanId\":\"eee19b7ec3c1b174\",\"traceId\":\"5b8efff798038103d269b633813fc60c\"}]}]}]}\n",
+        [3, 1, 0, 2, 0, 0, 0, 0, 0],
     )
 }
 

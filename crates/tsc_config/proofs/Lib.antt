@@ -1,2 +1,5 @@
 mod Least
 mod Blank
+mod FaultSets
+mod Bounds
+mod Whole

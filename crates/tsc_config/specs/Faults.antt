@@ -190,11 +190,28 @@ cache_fault (table members) =
     (optional (integer_fault (pos 0) (pos 1000000)) (get_member (codes "non_sampled_cache_size") members)))
 cache_fault _ = Some WrongType
 
+-- the rows of the numbers: how many traces, lanes and shards there are, and for how long they wait
+abbrev pub numbers_fault : Members → Option ConfigFault
+numbers_fault members =
+    least (optional (integer_fault (pos 1) (pos 3600000)) (get_member (codes "decision_wait_ms") members))
+    (least (optional (integer_fault (pos 1) (pos 1000000)) (get_member (codes "num_traces") members))
+    (least (optional (integer_fault (pos 1) (pos 64)) (get_member (codes "lanes") members))
+    (least (optional (integer_fault (pos 1) (pos 64)) (get_member (codes "shards") members))
+    (optional (integer_fault (pos 1) (pos 60000)) (get_member (codes "tick_ms") members)))))
+
+-- the rows of the sizes of queues and batches
+abbrev pub sizes_fault : Members → Option ConfigFault
+sizes_fault members =
+    least (optional (integer_fault (pos 1) (pos 65536)) (get_member (codes "queue_capacity") members))
+    (least (optional (integer_fault (pos 1) (pos 65536)) (get_member (codes "export_capacity") members))
+    (optional (integer_fault (pos 1) (pos 8192)) (get_member (codes "send_batch_size") members)))
+
 -- the rows of the whole table: a key more is a row more
 unfoldable pub table_fault : Members → Option ConfigFault
 table_fault members =
     least (unknown_fault table_is.Config members)
-    (least (optional (integer_fault (pos 1) (pos 3600000)) (get_member (codes "decision_wait_ms") members))
-    (least (optional (integer_fault (pos 1) (pos 1000000)) (get_member (codes "num_traces") members))
+    (least (numbers_fault members)
+    (least (sizes_fault members)
+    (least (optional text_fault (get_member (codes "listen") members))
     (least (optional cache_fault (get_member (codes "decision_cache") members))
-    (required policies_fault (get_member (codes "policies") members)))))
+    (required policies_fault (get_member (codes "policies") members))))))

@@ -38,7 +38,13 @@ is_setting type_is.And key = bytes_eq key (codes "and_sub_policy")
 
 -- the keys of a table of this kind
 unfoldable pub is_key : TableKind → List ℕ → Bool
-is_key table_is.Config key = bytes_eq key (codes "decision_wait_ms") || bytes_eq key (codes "num_traces") || bytes_eq key (codes "decision_cache") || bytes_eq key (codes "policies")
+is_key table_is.Config key =
+    bytes_eq key (codes "decision_wait_ms") || bytes_eq key (codes "num_traces")
+    || bytes_eq key (codes "decision_cache") || bytes_eq key (codes "policies")
+    || bytes_eq key (codes "lanes") || bytes_eq key (codes "shards")
+    || bytes_eq key (codes "queue_capacity") || bytes_eq key (codes "export_capacity")
+    || bytes_eq key (codes "send_batch_size") || bytes_eq key (codes "tick_ms")
+    || bytes_eq key (codes "listen")
 is_key table_is.DecisionCache key = bytes_eq key (codes "sampled_cache_size") || bytes_eq key (codes "non_sampled_cache_size")
 is_key (table_is.Policy kind) key = bytes_eq key (codes "name") || bytes_eq key (codes "type") || has_settings kind && bytes_eq key (type_name kind)
 is_key (table_is.Settings kind) key = is_setting kind key

@@ -1,3 +1,4 @@
+pub mod FaultSets
 pub mod Faults
 pub mod Keys
 pub mod Reading

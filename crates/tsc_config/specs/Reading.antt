@@ -1,5 +1,5 @@
 -- What a text is read as: a configuration, or the fault of least number that it has.
-use Rattle.std.specs.Prelude.{ℕ, List, Option, Some, None, Result, Ok, Err}
+use Rattle.std.specs.Prelude.{ℕ, List, Option, Some, None, Result, Ok, Err, if◌then◌else◌, nat_lt}
 use Rattle.toml.specs.Data.{Members}
 use Rattle.toml.specs.Parse.{parse_document}
 use Rattle.policy_tree.specs.Faults.{fault_of_policies}
@@ -8,17 +8,21 @@ use Rattle.tsc_config.specs.Faults.{table_fault}
 use Rattle.tsc_config.specs.Values.{config_of}
 use Rattle.tsc_config.specs.declared.config.Config.{Config}
 use Rattle.tsc_config.specs.declared.fault.ConfigFault.{ConfigFault}
-use Rattle.tsc_config.specs.declared.fault.ConfigFault.TheVariants.{NotToml, Policy}
+use Rattle.tsc_config.specs.declared.fault.ConfigFault.TheVariants.{NotToml, TooFewTraces, Policy}
 
 -- the configuration where its policies have no fault
 abbrev pub reading_where : Option PolicyFault → Config → Result Config ConfigFault
 reading_where (Some fault) config = Err (Policy fault)
 reading_where None config = Ok config
 
+-- the configuration where there is a trace for each shard and its policies have no fault
+abbrev pub reading_with : Config → Result Config ConfigFault
+reading_with config = if nat_lt config.num_traces config.shards then Err TooFewTraces else reading_where (fault_of_policies config.policies) config
+
 -- the configuration where its table has no fault
 abbrev pub reading_unless : Option ConfigFault → Config → Result Config ConfigFault
 reading_unless (Some fault) config = Err fault
-reading_unless None config = reading_where (fault_of_policies config.policies) config
+reading_unless None config = reading_with config
 
 -- what a table is read as
 abbrev pub reading_of_table : Members → Result Config ConfigFault

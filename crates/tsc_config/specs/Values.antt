@@ -1,5 +1,5 @@
 -- What the table of a configuration gives. Of a table with a fault this says nothing that counts.
-use Rattle.std.specs.Prelude.{suc, ℕ, ℤ, pos, negsuc, Bool, false, List, [], ◌∷◌, codes, Option, Some, None, if◌then◌else◌}
+use Rattle.std.specs.Prelude.{suc, ℕ, ℤ, pos, negsuc, Bool, false, List, [], ◌∷◌, codes, Option, Some, None, if◌then◌else◌, nat_lt, ◌<◌, ◌≤◌}
 use Rattle.std.specs.Str.{bytes_eq}
 use Rattle.toml.specs.Data.{Data, string, integer, boolean, array, table, Items, no_items, item, Members, no_members, member, get_member}
 use Rattle.policy_tree.specs.declared.policy.Policy.{Policy}
@@ -12,23 +12,15 @@ use Rattle.tsc_config.specs.declared.kinds.PolicyType.{PolicyType}
 use Rattle.tsc_config.specs.declared.kinds.PolicyType.TheVariants as type_is
 use Rattle.tsc_config.specs.declared.config.Config.{Config}
 
--- the wait in milliseconds where none is given
-abbrev pub default_wait : ℕ
-default_wait = 30000
+-- a number from 1 to the greatest; any other value counts as absent
+abbrev pub positive_value : (default greatest : ℕ) → Data → ℕ
+positive_value default greatest (integer (pos (suc number))) = if nat_lt number greatest then suc number else default
+positive_value default greatest _ = default
 
--- the number of traces that are kept where none is given
-abbrev pub default_traces : ℕ
-default_traces = 50000
-
--- a number that is at least 1
-abbrev pub positive_value : (default : ℕ) → Data → ℕ
-positive_value default (integer (pos (suc number))) = suc number
-positive_value default _ = default
-
--- the number at a key, at least 1
-abbrev pub positive_of : (default : ℕ) → Option Data → ℕ
-positive_of default None = default
-positive_of default (Some value) = positive_value default value
+-- the number at a key, from 1 to the greatest
+abbrev pub positive_of : (default greatest : ℕ) → Option Data → ℕ
+positive_of default greatest None = default
+positive_of default greatest (Some value) = positive_value default greatest value
 
 -- a number that is at least 0
 abbrev pub natural_value : Data → ℕ
@@ -59,6 +51,11 @@ text_value _ = []
 abbrev pub text_of : Option Data → List ℕ
 text_of None = []
 text_of (Some value) = text_value value
+
+-- the bytes of the text at `listen`
+abbrev pub listen_of : Option Data → List ℕ
+listen_of None = codes "127.0.0.1:4318"
+listen_of (Some value) = text_value value
 
 -- one element or none, before others
 abbrev pub found_before : {A : Type 0} → Option A → List A → List A
@@ -192,12 +189,35 @@ abbrev pub policies_of : Option Data → List Policy
 policies_of None = []
 policies_of (Some value) = policies_value value
 
+-- the numbers of a configuration are of use: none is 0, there is a trace for each shard, and lanes and shards are few
+abbrev pub InRange : Config → Type 0
+InRange config = record {
+  waits : 0 < config.decision_wait;
+  keeps : 0 < config.num_traces;
+  some_lane : 0 < config.lanes;
+  few_lanes : config.lanes ≤ 64;
+  some_shard : 0 < config.shards;
+  few_shards : config.shards ≤ 64;
+  each_keeps : config.shards ≤ config.num_traces;
+  queue : 0 < config.queue_capacity;
+  export : 0 < config.export_capacity;
+  batch : 0 < config.send_batch_size;
+  ticks : 0 < config.tick;
+}
+
 -- the configuration of a table
 abbrev pub config_of : Members → Config
 config_of members = record {
-  decision_wait = positive_of default_wait (get_member (codes "decision_wait_ms") members);
-  num_traces = positive_of default_traces (get_member (codes "num_traces") members);
+  decision_wait = positive_of 30000 3600000 (get_member (codes "decision_wait_ms") members);
+  num_traces = positive_of 50000 1000000 (get_member (codes "num_traces") members);
   sampled_cache_size = cache_size (codes "sampled_cache_size") (get_member (codes "decision_cache") members);
   non_sampled_cache_size = cache_size (codes "non_sampled_cache_size") (get_member (codes "decision_cache") members);
   policies = policies_of (get_member (codes "policies") members);
+  lanes = positive_of 1 64 (get_member (codes "lanes") members);
+  shards = positive_of 1 64 (get_member (codes "shards") members);
+  queue_capacity = positive_of 1024 65536 (get_member (codes "queue_capacity") members);
+  export_capacity = positive_of 1024 65536 (get_member (codes "export_capacity") members);
+  send_batch_size = positive_of 512 8192 (get_member (codes "send_batch_size") members);
+  tick = positive_of 1000 60000 (get_member (codes "tick_ms") members);
+  listen = listen_of (get_member (codes "listen") members);
 }

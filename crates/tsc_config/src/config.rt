@@ -1,14 +1,16 @@
-ghost use Rattle.std.specs.Prelude.{◌≡◌, ◌≢◌, ◌<◌, Some, Ok, Err, IfOk, IfErr};
+ghost use Rattle.std.specs.Prelude.{◌≡◌, ◌≢◌, ◌<◌, ◌≤◌, ◌/◌, Some, Ok, Err, IfOk, IfErr};
 ghost use Rattle.toml.specs.Errors.{IsBlank};
 ghost use Rattle.toml.specs.View.{table_view};
 ghost use Rattle.tsc_config.specs.Faults.{table_fault};
 ghost use Rattle.tsc_config.specs.Reading.{reading, reading_of_table};
+ghost use Rattle.tsc_config.specs.Values.{InRange};
 ghost use Rattle.tsc_config.specs.declared.fault.ConfigFault.{ConfigFault};
 ghost use Rattle.tsc_config.specs.declared.fault.ConfigFault.TheVariants.{NoMemory};
 
 use crate::fault::ConfigFault;
 use crate::fault_walk::table_fault;
-use crate::values::{cache_size_at, policies_at, traces_at, wait_at};
+use crate::values::{cache_size_at, listen_at, policies_at, positive_at};
+use otlp_types::Text;
 use policy_tree::Policies;
 use span_ids::Moment;
 use std::alloc::Global;
@@ -29,21 +31,79 @@ pub struct Config {
     pub non_sampled_cache_size: usize,
     /// What is sampled (tailsamplingprocessor README, `policies`).
     pub policies: Policies,
+    /// How many lanes take requests, from 1 to 64 (this project's option `lanes`).
+    pub lanes: u16,
+    /// Over how many shards the traces are spread, from 1 to 64 and at most `num_traces` (this project's option
+    /// `shards`).
+    pub shards: usize,
+    /// How many spans wait at most between a lane and a shard, from 1 to 65536 (this project's option
+    /// `queue_capacity`).
+    pub queue_capacity: usize,
+    /// How many spans wait at most for the exporter, from 1 to 65536 (this project's option `export_capacity`).
+    pub export_capacity: usize,
+    /// How many spans a batch has at most, from 1 to 8192 (batchprocessor README, `send_batch_size`).
+    pub send_batch_size: usize,
+    /// The time between two ticks, at which it is looked for what is due, in milliseconds, from 1 to 60000 (this
+    /// project's option `tick_ms`).
+    pub tick: u64,
+    /// The address on which requests are taken, as `address:port` (otlpreceiver README, `endpoint`). It is not looked
+    /// at here.
+    pub listen: Text,
+}
+
+impl Config {
+    /// How many traces each shard keeps at most.
+    pub fn traces_per_shard(&self) -> usize
+        requires some_shard { 0 < self.now.shards }
+        requires each_keeps { self.now.shards ≤ self.now.num_traces }
+        ensures share { result ≡ self.now.num_traces / self.now.shards }
+        ensures keeps { 0 < result }
+    {
+        self.num_traces / self.shards
+    }
+
+    /// For how many traces decided as sampled each shard remembers the decision at most, where 0 is off.
+    pub fn sampled_cache_per_shard(&self) -> usize
+        requires some_shard { 0 < self.now.shards }
+        ensures share { result ≡ self.now.sampled_cache_size / self.now.shards }
+    {
+        self.sampled_cache_size / self.shards
+    }
+
+    /// The same for traces that were decided as not sampled.
+    pub fn non_sampled_cache_per_shard(&self) -> usize
+        requires some_shard { 0 < self.now.shards }
+        ensures share { result ≡ self.now.non_sampled_cache_size / self.now.shards }
+    {
+        self.non_sampled_cache_size / self.shards
+    }
 }
 
 /// Reads a configuration from a TOML text: `decision_wait_ms`, a whole number from 1 to 3600000, else 30000;
 /// `num_traces`, from 1 to 1000000, else 50000; `decision_cache`, a table of `sampled_cache_size` and
-/// `non_sampled_cache_size`, each from 0 to 1000000, else 0; and `policies`, a required array of policy tables with
-/// `name`, `type` and the settings of that type.
+/// `non_sampled_cache_size`, each from 0 to 1000000, else 0; `policies`, a required array of policy tables with
+/// `name`, `type` and the settings of that type; `lanes` and `shards`, from 1 to 64, else 1; `queue_capacity` and
+/// `export_capacity`, from 1 to 65536, else 1024; `send_batch_size`, from 1 to 8192, else 512; `tick_ms`, from 1 to
+/// 60000, else 1000; and `listen`, a text, else `127.0.0.1:4318`.
 ///
-/// `Err` is the fault of least number that the text has, or `NoMemory` where memory was refused. For a text of
-/// blanks and comments alone that is never so: it is answered that `policies` is missing.
+/// `Err` is the fault of least number that the text has ([`crate::laws::answers_least_fault`]), or `NoMemory` where
+/// memory was refused. For a text of blanks and comments alone that is never so: it is answered that `policies` is
+/// missing.
 #[tactic(auto, using(crate::proofs::Blank::blank_has_fault))]
 pub fn read(alloc: Global, text: &str) -> Result<Config, ConfigFault>
     ensures config { IfOk result (λ config. reading text.now ≡ Ok config) }
     ensures fault { IfErr result (λ fault. fault ≢ NoMemory → reading text.now ≡ Err fault) }
     ensures waits { IfOk result (λ config. 0 < config.decision_wait) }
     ensures keeps { IfOk result (λ config. 0 < config.num_traces) }
+    ensures some_lane { IfOk result (λ config. 0 < config.lanes) }
+    ensures few_lanes { IfOk result (λ config. config.lanes ≤ 64) }
+    ensures some_shard { IfOk result (λ config. 0 < config.shards) }
+    ensures few_shards { IfOk result (λ config. config.shards ≤ 64) }
+    ensures each_keeps { IfOk result (λ config. config.shards ≤ config.num_traces) }
+    ensures queue { IfOk result (λ config. 0 < config.queue_capacity) }
+    ensures export { IfOk result (λ config. 0 < config.export_capacity) }
+    ensures batch { IfOk result (λ config. 0 < config.send_batch_size) }
+    ensures ticks { IfOk result (λ config. 0 < config.tick) }
     ensures memory { IfErr result (λ fault. fault ≡ NoMemory → ¬ IsBlank text.now) }
 {
     match toml::table_from_str(alloc, text) {
@@ -56,24 +116,39 @@ pub fn read(alloc: Global, text: &str) -> Result<Config, ConfigFault>
 fn config_of(alloc: Global, table: &Table) -> Result<Config, ConfigFault>
     ensures config { IfOk result (λ config. reading_of_table (table_view table.now) ≡ Ok config) }
     ensures fault { IfErr result (λ fault. fault ≢ NoMemory → reading_of_table (table_view table.now) ≡ Err fault) }
-    ensures waits { IfOk result (λ config. 0 < config.decision_wait) }
-    ensures keeps { IfOk result (λ config. 0 < config.num_traces) }
+    ensures ranges { IfOk result InRange }
     ensures of_table { IfErr result (λ fault. (found : ConfigFault) → table_fault (table_view table.now) ≡ Some found → fault ≡ found) }
 {
     if let Some(fault) = table_fault(table) {
         return Err(fault);
     }
+    let num_traces = positive_at(table, "num_traces", 50_000, 1_000_000) as usize;
+    let shards = positive_at(table, "shards", 1, 64) as usize;
+    if num_traces < shards {
+        return Err(ConfigFault::TooFewTraces);
+    }
     let Ok(list) = policies_at(alloc, table) else {
         return Err(ConfigFault::NoMemory);
     };
-    match Policies::new(alloc, list) {
-        Ok(policies) => Ok(Config {
-            decision_wait: wait_at(table),
-            num_traces: traces_at(table),
-            sampled_cache_size: cache_size_at(table, "sampled_cache_size"),
-            non_sampled_cache_size: cache_size_at(table, "non_sampled_cache_size"),
-            policies,
-        }),
-        Err(fault) => Err(ConfigFault::Policy(fault)),
-    }
+    let policies = match Policies::new(alloc, list) {
+        Ok(policies) => policies,
+        Err(fault) => return Err(ConfigFault::Policy(fault)),
+    };
+    let Ok(listen) = listen_at(alloc, table) else {
+        return Err(ConfigFault::NoMemory);
+    };
+    Ok(Config {
+        decision_wait: positive_at(table, "decision_wait_ms", 30_000, 3_600_000),
+        num_traces,
+        sampled_cache_size: cache_size_at(table, "sampled_cache_size"),
+        non_sampled_cache_size: cache_size_at(table, "non_sampled_cache_size"),
+        policies,
+        lanes: positive_at(table, "lanes", 1, 64) as u16,
+        shards,
+        queue_capacity: positive_at(table, "queue_capacity", 1024, 65_536) as usize,
+        export_capacity: positive_at(table, "export_capacity", 1024, 65_536) as usize,
+        send_batch_size: positive_at(table, "send_batch_size", 512, 8192) as usize,
+        tick: positive_at(table, "tick_ms", 1000, 60_000),
+        listen,
+    })
 }

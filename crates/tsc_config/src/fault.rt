@@ -17,7 +17,7 @@ pub enum ConfigFault {
     WrongType,
     /// 5: a number is out of its range, or a text is none of those that its key takes.
     OutOfRange,
-    /// 6: there are fewer traces than shards. The keys of both are not read yet, so it is not answered.
+    /// 6: there are fewer traces than shards (`num_traces`, `shards`), so that some shard would keep none.
     TooFewTraces,
     /// 7: the policies are refused, for the reason inside.
     Policy(PolicyFault),

@@ -8,6 +8,7 @@ use crate::fault::{ConfigFault, least};
 use crate::keys::{member, unknown_fault};
 use crate::kinds::TableKind;
 use crate::policy_faults::policies_fault;
+use crate::settings_faults::text_fault;
 use toml::{Table, Value};
 
 /// The least fault of the table of a configuration, up to 5. It takes no memory.
@@ -16,11 +17,43 @@ pub fn table_fault(table: &Table) -> Option<ConfigFault>
     ensures { result ≡ spec.table_fault (table_view table.now) }
 {
     let keys = unknown_fault(TableKind::Config, table);
+    let numbers = numbers_fault(table);
+    let sizes = sizes_fault(table);
+    let listen = listen_fault(table);
+    let cache = cache_at_fault(table);
+    let rest = least(listen, least(cache, required_policies_fault(table)));
+    least(keys, least(numbers, least(sizes, rest)))
+}
+
+/// The fault of how many traces, lanes and shards there are, and of how long they wait.
+fn numbers_fault(table: &Table) -> Option<ConfigFault>
+    ensures { result ≡ spec.numbers_fault (table_view table.now) }
+{
     let wait = integer_at_fault(table, "decision_wait_ms", 1, 3_600_000);
     let traces = integer_at_fault(table, "num_traces", 1, 1_000_000);
-    let cache = cache_at_fault(table);
-    let policies = required_policies_fault(table);
-    least(keys, least(wait, least(traces, least(cache, policies))))
+    let lanes = integer_at_fault(table, "lanes", 1, 64);
+    let shards = integer_at_fault(table, "shards", 1, 64);
+    let tick = integer_at_fault(table, "tick_ms", 1, 60_000);
+    least(wait, least(traces, least(lanes, least(shards, tick))))
+}
+
+/// The fault of the sizes of queues and batches.
+fn sizes_fault(table: &Table) -> Option<ConfigFault>
+    ensures { result ≡ spec.sizes_fault (table_view table.now) }
+{
+    let queue = integer_at_fault(table, "queue_capacity", 1, 65_536);
+    let export = integer_at_fault(table, "export_capacity", 1, 65_536);
+    let batch = integer_at_fault(table, "send_batch_size", 1, 8192);
+    least(queue, least(export, batch))
+}
+
+fn listen_fault(table: &Table) -> Option<ConfigFault>
+    ensures { result ≡ spec.optional spec.text_fault (get_member (codes "listen") (table_view table.now)) }
+{
+    match member(table, "listen") {
+        Some(value) => text_fault(value),
+        None => None,
+    }
 }
 
 /// The fault of a whole number that may be missing.

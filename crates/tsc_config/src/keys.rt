@@ -46,7 +46,14 @@ fn is_key(kind: TableKind, key: &str) -> bool
         TableKind::Config => key == "decision_wait_ms"
             || key == "num_traces"
             || key == "decision_cache"
-            || key == "policies",
+            || key == "policies"
+            || key == "lanes"
+            || key == "shards"
+            || key == "queue_capacity"
+            || key == "export_capacity"
+            || key == "send_batch_size"
+            || key == "tick_ms"
+            || key == "listen",
         TableKind::DecisionCache => {
             key == "sampled_cache_size" || key == "non_sampled_cache_size"
         }

@@ -1,5 +1,6 @@
 //! The configuration of the collector: a TOML text, read into its settings and policies, or one numbered fault
-//! (tailsamplingprocessor README, "decision_wait", "num_traces", "decision_cache", "policies").
+//! (tailsamplingprocessor README, "decision_wait", "num_traces", "decision_cache", "policies"; batchprocessor README,
+//! "send_batch_size"; the other keys are this project's own).
 //!
 //! The faults of the table are looked for first, in a walk that takes no memory; what the table gives is made only where
 //! there is none. No contract keeps [`read`] from answering that it found no memory, except for a text without keys:
@@ -11,6 +12,7 @@ mod fault;
 mod fault_walk;
 mod keys;
 mod kinds;
+pub mod laws;
 mod policy_faults;
 mod settings_faults;
 mod settings_values;

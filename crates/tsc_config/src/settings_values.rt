@@ -127,7 +127,8 @@ pub fn text_at(alloc: Global, table: &Table, key: &str) -> Result<Text, AllocErr
     }
 }
 
-fn text_of(alloc: Global, value: &Value) -> Result<Text, AllocError>
+/// A text, empty where it is none.
+pub fn text_of(alloc: Global, value: &Value) -> Result<Text, AllocError>
     ensures { IfOk result (λ text. text ≡ spec.text_value (view value.now)) }
 {
     match value {

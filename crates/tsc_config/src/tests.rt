@@ -16,21 +16,12 @@ fn faults(rt: HostRuntime) -> Result<(), Fail> {
         ("polices = []", ConfigFault::UnknownKey),
         ("policies = []", ConfigFault::Policy(PolicyFault::EmptyList)),
         ("policies = [1]", ConfigFault::WrongType),
-        (
-            "decision_wait_ms = 0\npolicies = []",
-            ConfigFault::OutOfRange,
-        ),
-        (
-            "decision_wait_ms = \"1\"\npolicies = []",
-            ConfigFault::WrongType,
-        ),
         ("num_traces = 0", ConfigFault::MissingKey),
-        ("num_traces = 0\npolicies = []", ConfigFault::OutOfRange),
         (
-            "num_traces = 1000001\npolicies = []",
-            ConfigFault::OutOfRange,
+            "num_traces = 1\nshards = 2\npolicies = []",
+            ConfigFault::TooFewTraces,
         ),
-        ("num_traces = 1.5\npolicies = []", ConfigFault::WrongType),
+        ("lanes = 65\npolicies = []", ConfigFault::OutOfRange),
         ("decision_cache = 1\npolicies = []", ConfigFault::WrongType),
         (
             "decision_cache = { sampled = 1 }\npolicies = []",
@@ -374,26 +365,179 @@ fn depth_and_number_of_policies(rt: HostRuntime) -> Result<(), Fail> {
     Ok(())
 }
 
+/// A policy that samples each trace.
+const ALL: &str = "{ name = \"all\", type = \"always_sample\" }";
+
+/// The keys of whole numbers, each with the greatest that it takes; the least is 1.
+const NUMBERS: [(&str, u64); 8] = [
+    ("decision_wait_ms", 3_600_000),
+    ("num_traces", 1_000_000),
+    ("lanes", 64),
+    ("shards", 64),
+    ("queue_capacity", 65_536),
+    ("export_capacity", 65_536),
+    ("send_batch_size", 8192),
+    ("tick_ms", 60_000),
+];
+
 #[test]
-fn whole_text(rt: HostRuntime) -> Result<(), Fail> {
+fn ranges(rt: HostRuntime) -> Result<(), Fail> {
+    for (key, greatest) in NUMBERS {
+        let beyond = greatest + 1;
+        let cases = [
+            (format!(in rt.alloc(); "{key} = 1")?, None),
+            (format!(in rt.alloc(); "{key} = {greatest}")?, None),
+            (
+                format!(in rt.alloc(); "{key} = 0")?,
+                Some(ConfigFault::OutOfRange),
+            ),
+            (
+                format!(in rt.alloc(); "{key} = {beyond}")?,
+                Some(ConfigFault::OutOfRange),
+            ),
+            (
+                format!(in rt.alloc(); "{key} = -1")?,
+                Some(ConfigFault::OutOfRange),
+            ),
+            (
+                format!(in rt.alloc(); "{key} = 1.0")?,
+                Some(ConfigFault::WrongType),
+            ),
+            (
+                format!(in rt.alloc(); "{key} = \"1\"")?,
+                Some(ConfigFault::WrongType),
+            ),
+            (
+                format!(in rt.alloc(); "{key} = 1\n{key} = 1")?,
+                Some(ConfigFault::NotToml),
+            ),
+        ];
+        for (line, fault) in cases {
+            let text = format!(in rt.alloc(); "{line}\npolicies = [{ALL}]")?;
+            let found = read(rt.alloc(), text.as_str()).err();
+            assert_eq!(rt; found, fault, "{text}");
+        }
+    }
+    Ok(())
+}
+
+#[test]
+fn address(rt: HostRuntime) -> Result<(), Fail> {
+    let cases = [
+        ("listen = \"\"", None),
+        ("listen = \"[::1]:0\"", None),
+        ("listen = 4318", Some(ConfigFault::WrongType)),
+        (
+            "listen = [\"127.0.0.1:4318\"]",
+            Some(ConfigFault::WrongType),
+        ),
+        ("listen = \"a\"\nlisten = \"a\"", Some(ConfigFault::NotToml)),
+        ("root_wait_ms = 0", Some(ConfigFault::UnknownKey)),
+    ];
+    for (line, fault) in cases {
+        let text = format!(in rt.alloc(); "{line}\npolicies = [{ALL}]")?;
+        let found = read(rt.alloc(), text.as_str()).err();
+        assert_eq!(rt; found, fault, "{text}");
+    }
+    Ok(())
+}
+
+/// For each fault a line and the beginning of a list of policies that has it.
+const FAULTY: [(&str, &str, ConfigFault); 7] = [
+    ("lanes =\n", "", ConfigFault::NotToml),
+    ("polices = []\n", "", ConfigFault::UnknownKey),
+    (
+        "",
+        "{ type = \"always_sample\" }, ",
+        ConfigFault::MissingKey,
+    ),
+    ("tick_ms = true\n", "", ConfigFault::WrongType),
+    ("queue_capacity = 0\n", "", ConfigFault::OutOfRange),
+    (
+        "num_traces = 1\nshards = 2\n",
+        "",
+        ConfigFault::TooFewTraces,
+    ),
+    (
+        "",
+        "{ name = \"all\", type = \"always_sample\" }, ",
+        ConfigFault::Policy(PolicyFault::SameName),
+    ),
+];
+
+#[test]
+fn least_of_two_faults(rt: HostRuntime) -> Result<(), Fail> {
+    for (line, policy, fault) in FAULTY {
+        for (other_line, other_policy, other) in FAULTY {
+            let text = if other.number() == fault.number() {
+                format!(in rt.alloc(); "{line}policies = [{policy}{ALL}]")?
+            } else {
+                format!(in rt.alloc();
+                    "{line}{other_line}policies = [{policy}{other_policy}{ALL}]"
+                )?
+            };
+            let least = if other.number() < fault.number() {
+                other
+            } else {
+                fault
+            };
+            let found = read(rt.alloc(), text.as_str()).err();
+            assert_eq!(rt; found, Some(least), "{text}");
+        }
+    }
+    Ok(())
+}
+
+#[test]
+fn defaults(rt: HostRuntime) -> Result<(), Fail> {
     let config = read(rt.alloc(), GOOD)?;
     assert_eq!(rt; config.decision_wait, 10_000);
     assert_eq!(rt; config.policies.as_slice().len(), 1);
     assert_eq!(rt; config.num_traces, 50_000);
     assert_eq!(rt; config.sampled_cache_size, 0);
     assert_eq!(rt; config.non_sampled_cache_size, 0);
+    assert_eq!(rt; config.lanes, 1);
+    assert_eq!(rt; config.shards, 1);
+    assert_eq!(rt; config.queue_capacity, 1024);
+    assert_eq!(rt; config.export_capacity, 1024);
+    assert_eq!(rt; config.send_batch_size, 512);
+    assert_eq!(rt; config.tick, 1000);
+    assert_eq!(rt; config.listen.as_str(), "127.0.0.1:4318");
     Ok(())
 }
 
+/// A text with every key.
+const WHOLE: &str = r#"
+num_traces = 15
+lanes = 64
+shards = 4
+queue_capacity = 2
+export_capacity = 3
+send_batch_size = 8192
+tick_ms = 60000
+listen = "0.0.0.0:80"
+policies = [{ name = "all", type = "always_sample" }]
+[decision_cache]
+sampled_cache_size = 1000000
+non_sampled_cache_size = 3
+"#;
+
 #[test]
-fn sizes(rt: HostRuntime) -> Result<(), Fail> {
-    let config = read(
-        rt.alloc(),
-        "num_traces = 1000000\npolicies = [{ name = \"all\", type = \"always_sample\" }]\n[decision_cache]\nsampled_cache_size = 1000000\nnon_sampled_cache_size = 7\n",
-    )?;
+fn every_key(rt: HostRuntime) -> Result<(), Fail> {
+    let config = read(rt.alloc(), WHOLE)?;
     assert_eq!(rt; config.decision_wait, 30_000);
-    assert_eq!(rt; config.num_traces, 1_000_000);
+    assert_eq!(rt; config.num_traces, 15);
     assert_eq!(rt; config.sampled_cache_size, 1_000_000);
-    assert_eq!(rt; config.non_sampled_cache_size, 7);
+    assert_eq!(rt; config.non_sampled_cache_size, 3);
+    assert_eq!(rt; config.lanes, 64);
+    assert_eq!(rt; config.shards, 4);
+    assert_eq!(rt; config.queue_capacity, 2);
+    assert_eq!(rt; config.export_capacity, 3);
+    assert_eq!(rt; config.send_batch_size, 8192);
+    assert_eq!(rt; config.tick, 60_000);
+    assert_eq!(rt; config.listen.as_str(), "0.0.0.0:80");
+    assert_eq!(rt; config.traces_per_shard(), 3);
+    assert_eq!(rt; config.sampled_cache_per_shard(), 250_000);
+    assert_eq!(rt; config.non_sampled_cache_per_shard(), 0);
     Ok(())
 }

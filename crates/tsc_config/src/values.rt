@@ -1,5 +1,5 @@
 //! What a table without a fault gives.
-ghost use Rattle.std.specs.Prelude.{◌≡◌, ◌<◌, IfOk, codes};
+ghost use Rattle.std.specs.Prelude.{◌≡◌, ◌<◌, ◌≤◌, IfOk, codes};
 ghost use Rattle.toml.specs.Data.{get_member};
 ghost use Rattle.toml.specs.View.{view, table_view, array_view};
 ghost use Rattle.tsc_config.specs.Keys.{type_name};
@@ -7,56 +7,47 @@ ghost use Rattle.tsc_config.specs.Values as spec;
 
 use crate::keys::{member, type_at};
 use crate::kinds::PolicyType;
-use crate::settings_values::{kind_in, natural_at, text_at};
-use otlp_types::List;
+use crate::settings_values::{kind_in, natural_at, text_at, text_of};
+use otlp_types::{List, Text};
 use policy_tree::{Policy, PolicyKind};
-use span_ids::Moment;
 use std::alloc::{AllocError, Global};
 use toml::value::Array;
 use toml::{Table, Value};
 
-/// The wait where the text gives none, in milliseconds.
-const DEFAULT_WAIT: u64 = 30_000;
-
-/// The number of traces that are kept where the text gives none.
-const DEFAULT_TRACES: u64 = 50_000;
-
-/// The wait, in milliseconds.
-pub fn wait_at(table: &Table) -> Moment
-    ensures wait { result ≡ spec.positive_of spec.default_wait (get_member (codes "decision_wait_ms") (table_view table.now)) }
-    ensures waits { 0 < result }
-{
-    positive_at(table, "decision_wait_ms", DEFAULT_WAIT)
-}
-
-/// The number of traces that are kept.
-pub fn traces_at(table: &Table) -> usize
-    ensures traces { result ≡ spec.positive_of spec.default_traces (get_member (codes "num_traces") (table_view table.now)) }
-    ensures keeps { 0 < result }
-{
-    positive_at(table, "num_traces", DEFAULT_TRACES) as usize
-}
-
-/// The number at a key, at least 1.
-fn positive_at(table: &Table, key: &str, default: u64) -> u64
-    requires { 0 < default }
-    ensures number { result ≡ spec.positive_of default (get_member key.now (table_view table.now)) }
+/// The number at a key, from 1 to the greatest.
+pub fn positive_at(table: &Table, key: &str, default: u64, greatest: u64) -> u64
+    requires positive { 0 < default }
+    requires within { default ≤ greatest }
+    ensures number { result ≡ spec.positive_of default greatest (get_member key.now (table_view table.now)) }
     ensures positive { 0 < result }
+    ensures within { result ≤ greatest }
 {
     match member(table, key) {
-        Some(value) => positive_of(value, default),
+        Some(value) => positive_of(value, default, greatest),
         None => default,
     }
 }
 
-fn positive_of(value: &Value, default: u64) -> u64
-    requires { 0 < default }
-    ensures number { result ≡ spec.positive_value default (view value.now) }
+fn positive_of(value: &Value, default: u64, greatest: u64) -> u64
+    requires positive { 0 < default }
+    requires within { default ≤ greatest }
+    ensures number { result ≡ spec.positive_value default greatest (view value.now) }
     ensures positive { 0 < result }
+    ensures within { result ≤ greatest }
 {
     match value {
-        Value::Integer(number) if 1 <= *number => *number as u64,
+        Value::Integer(number) if 1 <= *number && *number as u64 <= greatest => *number as u64,
         _ => default,
+    }
+}
+
+/// The text at `listen`.
+pub fn listen_at(alloc: Global, table: &Table) -> Result<Text, AllocError>
+    ensures { IfOk result (λ text. text ≡ spec.listen_of (get_member (codes "listen") (table_view table.now))) }
+{
+    match member(table, "listen") {
+        Some(value) => text_of(alloc, value),
+        None => Text::from_str(alloc, "127.0.0.1:4318"),
     }
 }
 

@@ -1,25 +1,25 @@
-use Rattle.std.proofs.Common.{[], ◌∷◌, false, subst}
-use Rattle.shard_core.specs.Journal.{Settings}
-use Rattle.span_sink.specs.LineSinks.{LineSinkState}
-use Rattle.span_exporter.specs.Exports.{ExporterState}
-use Rattle.collector_main.specs.Replay.{Run, RunEnds, settings_by}
+use Rattle.std.proofs.Common.{ℕ, false, length, refl, sym, ap, subst, ◌∙◌, arith}
+use Rattle.std.proofs.lemmas.List.{length-replicate}
+use Rattle.collector_main.specs.Connections.{Contacts}
+use Rattle.collector_main.specs.World.{empty_queues}
+use Rattle.collector_main.specs.Pulling.{AreQuiet, ends_of}
+use Rattle.collector_main.proofs.Quiet.{none-due-now, ends-now}
 use Rattle.collector_main.proofs.replay.replay_run.Goals as goal
 
-pub returns : goal.returns
-returns g c =
-    let run_at = λ (s : Settings). λ (e : ExporterState). let run : Run = record {
-      settings = s;
-      size = e.size;
-      taken = e.sink.taken;
-      failures = e.sink.failures;
-      taken_after = g.S.Sink.taken c.run_session.result.0;
-      failures_after = g.S.Sink.failures c.run_session.result.0;
-      unread = g.R.Read.remaining c.args.reader.now;
-      unread_after = g.R.Read.remaining c.run_session.new.reader;
-    } in run in
-    let empty = λ (l : LineSinkState). let e : ExporterState = record { batch = []; size = 512; ends = false ∷ []; sink = l } in e in
-    let s = settings_by c.args.config in
-    let P = λ (t : Settings). RunEnds (run_at t c.in-Ok-new.exporter) c.run_session.result.1 in
-    let Q = λ (e : ExporterState). RunEnds (run_at s e) c.run_session.result.1 in
-    let R = λ (l : LineSinkState). RunEnds (run_at s (empty l)) c.run_session.result.1 in
-    subst R c.new-lines.ensures (subst Q c.in-Ok-new.ensures.made (subst P c.in-Ok-shard_of.ensures.settings c.run_session.ensures))
+pub invariant_of-session-clause-none_due : goal.invariant_of-session-clause-none_due
+invariant_of-session-clause-none_due g c =
+    let made = c.in-Ok.ensures.shards in
+    none-due-now (ends_of c.args.config.lanes false) _ _ refl made.2
+
+pub invariant_of-session-clause-ends : goal.invariant_of-session-clause-ends
+invariant_of-session-clause-ends g c =
+    let made = c.in-Ok.ensures.shards in
+    let lanes = ap (λ (k : Contacts). length k.connected) c.in-Ok.ensures.connections ∙ length-replicate c.args.config.lanes 0 in
+    let P = λ (n : ℕ). AreQuiet (ends_of n false) c.in-Ok.parts.shards.items in
+    ends-now (length c.in-Ok.parts.connections.connected) false false _ _ refl refl (subst P (sym lanes) made.2)
+
+pub invariant_of-session-clause-some : goal.invariant_of-session-clause-some
+invariant_of-session-clause-some g c = let made = c.in-Ok.ensures.shards in omega (arith, made.0, c.requires.shards)
+
+pub invariant_of-session-clause-empty : goal.invariant_of-session-clause-empty
+invariant_of-session-clause-empty g c = let made = c.in-Ok.ensures.shards in c.in-Ok.ensures.queues ∙ ap (empty_queues c.args.config.queue_capacity) (sym made.0)

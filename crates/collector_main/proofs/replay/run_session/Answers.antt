@@ -1,22 +1,24 @@
 use Rattle.std.proofs.Common.{Bool, sym, ap, ◌∙◌}
 use Rattle.std.specs.Prelude.{not}
-use Rattle.shard_core.specs.Held.{settings}
 use Rattle.span_sink.specs.LineSinks.{LineSinkState, up_state}
 use Rattle.collector_main.specs.declared.session.Session.{Session}
 use Rattle.collector_main.specs.World.{new_world}
-use Rattle.collector_main.specs.Replay.{Run}
+use Rattle.collector_main.specs.Replay.{Run, settings_by}
 use Rattle.collector_main.specs.Pulling.{AreOf}
 use Rattle.collector_main.proofs.Finish.{run-ends, is_up_state, is_down_state, not-false}
 use Rattle.collector_main.proofs.replay.run_session.Goals as goal
 
 pub returns : goal.returns
-returns g c =
+returns g c = λ config unused new.
     let session = c.args.session in
     let now = c.play_script-played.new.machine in
     let script = c.play_script-played.ensures in
+    let s = settings_by config in
     let run : Run = record {
-      settings = settings session.shard;
-      size = session.exporter.size;
+      settings = s;
+      sizes = record { batch = session.exporter.size; queue = session.queue_capacity };
+      lanes = config.lanes;
+      shards = config.shards;
       taken = session.exporter.sink.taken;
       failures = session.exporter.sink.failures;
       taken_after = g.S.Sink.taken c.end.result.0;
@@ -25,18 +27,20 @@ returns g c =
       unread_after = g.R.Read.remaining c.play_script-played.new.reader;
     } in
     let first : LineSinkState = up_state session.exporter.sink.taken session.exporter.sink.failures in
-    let starts : AreOf (new_world first) session.connections session.shard session.exporter = record {
-      connections_are = c.requires.unused;
-      released_all = c.requires.nothing_taken;
-      sink_is = ap (λ (b : Bool). let s : LineSinkState = record session.exporter.sink { is_down = b } in s) c.requires.up;
+    let start = new_world config.lanes config.shards first in
+    let starts : AreOf s start session.connections session.shards.items session.exporter = record {
+      contacts_are = unused;
+      settings_are = new.1;
+      released_all = new.3;
+      sink_is = ap (λ (b : Bool). let k : LineSinkState = record session.exporter.sink { is_down = b } in k) c.requires.up;
     } in
     run-ends run c.play_script-played.result (not now.exporter.sink.is_down) _ _ script.whole script.stopped script.refused script.up
     (λ e. let same = (script.no_memory e).0 in
     (c.end.ensures.taken ∙ ap (λ (m : Session g.row.S.Denot g.S.Sink). m.exporter.sink.taken) same, c.end.ensures.failures ∙ ap (λ (m : Session g.row.S.Denot g.S.Sink). m.exporter.sink.failures) same))
-    (λ up done leads. let r = leads.2 (new_world first) starts in
+    (λ up done leads. let r = leads.2 s start starts in
     (r.0, r.1, sym r.2.sink_is ∙ is_up_state now.exporter.sink run.taken_after run.failures_after c.end.ensures.taken c.end.ensures.failures up))
-    (λ down done leads. let r = leads.2 (new_world first) starts in
+    (λ down done leads. let r = leads.2 s start starts in
     (r.0, r.1, sym r.2.sink_is ∙ is_down_state now.exporter.sink run.taken_after run.failures_after c.end.ensures.taken c.end.ensures.failures down))
-    (λ done fell. let r = fell.1.2 (new_world first) starts in
+    (λ done fell. let r = fell.1.2 s start starts in
     (fell.0.exporter.sink, (r.0, r.1, sym r.2.sink_is), not-false fell.0.exporter.sink.is_down fell.2))
     c.end.result.1 c.end.ensures.answer

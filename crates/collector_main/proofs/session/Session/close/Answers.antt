@@ -1,13 +1,64 @@
-use Rattle.std.proofs.Common.{[], ◌∷◌}
-use Rattle.otlp_types.specs.declared.arrival.Item.TheVariants.{End}
-use Rattle.collector_main.proofs.Runs.{TakesItems-append}
-use Rattle.collector_main.proofs.Quiet.{quiets, AreOf-known}
+use Rattle.std.proofs.Common.{◌≡◌, ◌<◌, ℕ, ◌+◌, List, length, refl, sym, ap, subst, ◌∙◌, arith, false, true}
+use Rattle.std.proofs.lemmas.List.{with_items_is}
+use Rattle.otlp_types.specs.declared.arrival.Item.{Item}
+use Rattle.shard_core.specs.Held.{Held}
+use Rattle.collector_main.specs.Connections.{Contacts}
+use Rattle.collector_main.specs.World.{ends_from, empty_queues}
+use Rattle.collector_main.specs.Pulling.{RoundsTaken, HaveSettings, AreQuiet, ends_of}
+use Rattle.collector_main.proofs.Several.{ends_from-same}
+use Rattle.collector_main.proofs.Quiet.{quiets, released-length, quiet-now, none-due-now, ends-now}
 use Rattle.collector_main.proofs.session.Session.close.Goals as goal
 
+pub end_all-requires-clause-quiet : goal.end_all-requires-clause-quiet
+end_all-requires-clause-quiet g c =
+    let self = c.args.self.now in
+    let P = λ (n : ℕ). AreQuiet (ends_of n false) c.deref_mut.result.now in
+    subst P (sym c.lanes.ensures.lanes) (quiet-now (length self.connections.connected) self.closed self.shards.items c.deref_mut.result.now c.deref_mut.ensures.value c.requires self.none_due self.ends)
+
 pub returns-clause-plays : goal.returns-clause-plays
-returns-clause-plays g c = λ w are.
-    let both = TakesItems-append c.args.self.now.shard c.take_item.new.shard c.take_item-2.new.shard (End 0 ∷ []) (End 1 ∷ []) c.args.self.now.exporter c.take_item.new.exporter c.take_item-2.new.exporter
-    c.take_item.ensures.settings c.take_item.ensures.takes c.take_item-2.ensures.takes in
-    let done = quiets w c.args.self.now.shard c.take_item-2.new.shard c.args.self.now.exporter c.take_item-2.new.exporter c.send.new.exporter (End 0 ∷ End 1 ∷ []) are.released_all are.sink_is
-    c.args.self.now.sent both c.take_item-2.ensures.room c.send.ensures.sent in
-    (done.0, done.1, AreOf-known done.0 w.connections c.args.self.now.connections c.take_item-2.new.shard c.send.new.exporter are.connections_are done.2)
+returns-clause-plays g c = λ s w are.
+    let self = c.args.self.now in
+    let new = c.end_all.new.shards in
+    let is = with_items_is self.shards new (omega (arith, c.end_all.ensures.length, ap length c.deref_mut.ensures.value, c.deref_mut.ensures.len)) in
+    let old_is = c.deref_mut.ensures.value in
+    let lanes : c.lanes.result ≡ length w.contacts.connected = c.lanes.ensures.lanes ∙ ap (λ (k : Contacts). length k.connected) are.contacts_are in
+    let same = ends_from-same 0 (c.lanes.result + 1) c.deref_mut.result.now w.journals (ap length old_is ∙ released-length self.shards.items w.journals are.released_all) ∙ ap (λ (n : ℕ). ends_from 0 (n + 1) w.journals) lanes in
+    let P = λ (rounds : List (List (List Item))). RoundsTaken c.deref_mut.result.now self.exporter rounds new c.end_all.new.exporter in
+    let Q = λ (hs : List Held). RoundsTaken hs self.exporter (ends_from 0 (length w.contacts.connected + 1) w.journals) new c.end_all.new.exporter in
+    let took = subst Q old_is (subst P same c.end_all.ensures.takes) in
+    let N = λ (hs : List Held). RoundsTaken self.shards.items self.exporter (ends_from 0 (length w.contacts.connected + 1) w.journals) hs c.end_all.new.exporter in
+    let H = λ (hs : List Held). HaveSettings s hs in
+    let alike = subst H (sym is) (c.end_all.ensures.settings s (subst H (sym old_is) are.settings_are)) in
+    quiets s _ w self.connections self.shards.items _ self.exporter c.end_all.new.exporter c.send.new.exporter _ are.contacts_are are.settings_are are.released_all are.sink_is refl self.sent
+    (subst N (sym is) took) alike c.end_all.ensures.room c.send.ensures.sent
+
+pub invariant_of-self-clause-none_due : goal.invariant_of-self-clause-none_due
+invariant_of-self-clause-none_due g c =
+    let self = c.args.self.now in
+    let new = c.end_all.new.shards in
+    let is = with_items_is self.shards new (omega (arith, c.end_all.ensures.length, ap length c.deref_mut.ensures.value, c.deref_mut.ensures.len)) in
+    none-due-now (ends_of c.lanes.result true) new _ is c.end_all.ensures.quiet
+
+pub invariant_of-self-clause-ends : goal.invariant_of-self-clause-ends
+invariant_of-self-clause-ends g c =
+    let self = c.args.self.now in
+    let new = c.end_all.new.shards in
+    let is = with_items_is self.shards new (omega (arith, c.end_all.ensures.length, ap length c.deref_mut.ensures.value, c.deref_mut.ensures.len)) in
+    let P = λ (n : ℕ). AreQuiet (ends_of n true) new in
+    ends-now (length self.connections.connected) true true new _ is refl (subst P c.lanes.ensures.lanes c.end_all.ensures.quiet)
+
+pub invariant_of-self-clause-some : goal.invariant_of-self-clause-some
+invariant_of-self-clause-some g c =
+    let self = c.args.self.now in
+    let new = c.end_all.new.shards in
+    let is = with_items_is self.shards new (omega (arith, c.end_all.ensures.length, ap length c.deref_mut.ensures.value, c.deref_mut.ensures.len)) in
+    let some : 0 < length new = omega (arith, c.end_all.ensures.length, ap length c.deref_mut.ensures.value, self.some) in
+    let P = λ (hs : List Held). 0 < length hs in
+    subst P (sym is) some
+
+pub invariant_of-self-clause-empty : goal.invariant_of-self-clause-empty
+invariant_of-self-clause-empty g c =
+    let self = c.args.self.now in
+    let new = c.end_all.new.shards in
+    let is = with_items_is self.shards new (omega (arith, c.end_all.ensures.length, ap length c.deref_mut.ensures.value, c.deref_mut.ensures.len)) in
+    self.empty ∙ ap (empty_queues self.queue_capacity) (sym (c.end_all.ensures.length ∙ ap length c.deref_mut.ensures.value) ∙ ap length (sym is))

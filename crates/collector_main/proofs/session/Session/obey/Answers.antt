@@ -1,5 +1,4 @@
 use Rattle.std.proofs.Common.{sym, subst}
-use Rattle.shard_core.specs.Held.{settings}
 use Rattle.tsc_script.specs.declared.command.Command.{Command}
 use Rattle.tsc_script.specs.Instructions.{instruction_of_command}
 use Rattle.collector_main.specs.World.{World, Plays}
@@ -7,19 +6,19 @@ use Rattle.collector_main.specs.Pulling.{AreOf}
 use Rattle.collector_main.proofs.session.Session.obey.Goals as goal
 
 pub returns-in-Receive-clause-plays : goal.returns-in-Receive-clause-plays
-returns-in-Receive-clause-plays g c = λ w are.
-    let P = λ (command : Command). (after : World) × Plays (settings c.args.self.now.shard) c.args.self.now.exporter.size w (instruction_of_command command) after
-    × AreOf after c.receive.new.self.connections c.receive.new.self.shard c.receive.new.self.exporter in
-    subst P (sym c.in-Receive.is) (c.receive.ensures.plays w are)
+returns-in-Receive-clause-plays g c = λ s w are.
+    let P = λ (command : Command). (after : World) × Plays s (record { batch = c.args.self.now.exporter.size; queue = c.args.self.now.queue_capacity }) w (instruction_of_command command) after
+    × AreOf s after c.receive.new.self.connections c.receive.new.self.shards.items c.receive.new.self.exporter in
+    subst P (sym c.in-Receive.is) (c.receive.ensures.plays s w are)
 
 pub returns-in-Tick-clause-plays : goal.returns-in-Tick-clause-plays
-returns-in-Tick-clause-plays g c = λ w are.
-    let P = λ (command : Command). (after : World) × Plays (settings c.args.self.now.shard) c.args.self.now.exporter.size w (instruction_of_command command) after
-    × AreOf after c.tick.new.self.connections c.tick.new.self.shard c.tick.new.self.exporter in
-    subst P (sym c.in-Tick.is) (c.tick.ensures.plays w are)
+returns-in-Tick-clause-plays g c = λ s w are.
+    let P = λ (command : Command). (after : World) × Plays s (record { batch = c.args.self.now.exporter.size; queue = c.args.self.now.queue_capacity }) w (instruction_of_command command) after
+    × AreOf s after c.tick.new.self.connections c.tick.new.self.shards.items c.tick.new.self.exporter in
+    subst P (sym c.in-Tick.is) (c.tick.ensures.plays s w are)
 
 pub returns-in-Close-clause-plays : goal.returns-in-Close-clause-plays
-returns-in-Close-clause-plays g c = λ w are.
-    let P = λ (command : Command). (after : World) × Plays (settings c.args.self.now.shard) c.args.self.now.exporter.size w (instruction_of_command command) after
-    × AreOf after c.close.new.self.connections c.close.new.self.shard c.close.new.self.exporter in
-    subst P (sym c.in-Close.is) (c.close.ensures.plays w are)
+returns-in-Close-clause-plays g c = λ s w are.
+    let P = λ (command : Command). (after : World) × Plays s (record { batch = c.args.self.now.exporter.size; queue = c.args.self.now.queue_capacity }) w (instruction_of_command command) after
+    × AreOf s after c.close.new.self.connections c.close.new.self.shards.items c.close.new.self.exporter in
+    subst P (sym c.in-Close.is) (c.close.ensures.plays s w are)

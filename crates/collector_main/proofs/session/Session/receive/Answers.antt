@@ -1,32 +1,56 @@
-use Rattle.std.proofs.Common.{ℕ, List, length, refl, ap, subst, ◌∙◌}
-use Rattle.std.specs.Prelude.{filter}
-use Rattle.otlp_types.specs.declared.arrival.Arrival.{Arrival}
-use Rattle.lane_seq.specs.Numbers.{is_invalid}
-use Rattle.shard_core.specs.Held.{settings}
-use Rattle.collector_main.specs.Requests.{items_of, IsReplyTo}
-use Rattle.collector_main.specs.World.{World, RunsToQuiet}
-use Rattle.collector_main.specs.Pulling.{AreOf}
-use Rattle.collector_main.proofs.Quiet.{quiets, receives-read, receives-refused}
+use Rattle.std.proofs.Common.{ℕ, List, length, refl, sym, ap, subst, ◌∙◌, false}
+use Rattle.std.specs.List.{AllByRecursion}
+use Rattle.otlp_types.specs.declared.arrival.Item.{Item}
+use Rattle.lane_queue.specs.Queues.{QueueState}
+use Rattle.collector_main.specs.World.{World, empty_queues}
+use Rattle.collector_main.specs.Pulling.{AreOf, AreQuiet, HoldsQueued, ends_of, rounds_of}
+use Rattle.collector_main.proofs.Queues.{submits-kept, empty-queued, queues-left}
+use Rattle.collector_main.proofs.Quiet.{quiets, receives, released-length, quiet-now, open-now, none-due-now, ends-now}
 use Rattle.collector_main.proofs.session.Session.receive.Goals as goal
 
-pub returns-in-Ok-clause-plays : goal.returns-in-Ok-clause-plays
-returns-in-Ok-clause-plays g c = λ w are.
+pub take_received-requires-clause-open : goal.take_received-requires-clause-open
+take_received-requires-clause-open g c =
     let self = c.args.self.now in
-    let spans = c.in-Ok.prepared.arrivals.items in
-    let mid : World = record { connections = c.accept.new.connections; journal = w.journal; sink = c.hand_reply.new.exporter.sink } in
-    let done = quiets mid self.shard c.take_arrivals.new.shard c.hand_reply.new.exporter c.take_arrivals.new.exporter c.send.new.exporter (items_of spans) are.released_all refl
-    (ap length c.hand_reply.ensures.batch ∙ self.sent) c.take_arrivals.ensures.takes c.take_arrivals.ensures.room c.send.ensures.sent in
-    let N = λ (n : ℕ). RunsToQuiet (settings self.shard) n mid (items_of spans) done.0 in
-    let I = λ (arrivals : List Arrival). IsReplyTo (length arrivals) (length (filter is_invalid arrivals)) c.reply_to-reply.result in
-    receives-read (settings self.shard) self.exporter.size w c.args.number c.args.moment c.args.body.now self.connections c.accept.new.connections spans c.reply_to-reply.result self.exporter.sink
-    c.hand_reply.new.exporter.sink (λ after. AreOf after c.accept.new.connections c.take_arrivals.new.shard c.send.new.exporter) are.connections_are are.sink_is c.in-Ok.ensures.accepted
-    (subst I c.deref.ensures.value c.reply_to-reply.ensures) c.hand_reply.ensures.written (done.0, subst N c.hand_reply.ensures.size done.1, done.2)
+    open-now (length self.connections.connected) self.closed self.shards.items self.shards.items refl c.requires self.none_due self.ends
 
-pub returns-in-Err-clause-plays : goal.returns-in-Err-clause-plays
-returns-in-Err-clause-plays g c = λ w are. let a = c.hand_reply-in-Err in
-    let self = c.args.self.now in (
-      record { connections = c.accept.new.connections; journal = w.journal; sink = c.hand_reply-in-Err.new.exporter.sink },
-      receives-refused (settings self.shard) self.exporter.size w c.args.number c.args.moment c.args.body.now self.connections c.accept.new.connections c.in-Err.reply self.exporter.sink
-          c.hand_reply-in-Err.new.exporter.sink are.connections_are are.sink_is c.in-Err.ensures.refused c.hand_reply-in-Err.ensures.written,
-      record { connections_are = refl; released_all = are.released_all; sink_is = refl },
-    )
+pub take_received-requires-clause-queued : goal.take_received-requires-clause-queued
+take_received-requires-clause-queued g c =
+    let self = c.args.self.now in
+    let P = λ (qs : List (QueueState Item)). AllByRecursion HoldsQueued qs in
+    let empty = ap (λ v. v.items) c.replace-queues.ensures.value ∙ self.empty in
+    (submits-kept _ _ _ _ _ _ _ _ c.submit-reply.ensures.submits).0 (subst P (sym empty) (empty-queued self.queue_capacity (length self.shards.items)))
+
+pub returns-clause-plays : goal.returns-clause-plays
+returns-clause-plays g c = λ s w are.
+    let self = c.args.self.now in
+    let reply = c.submit-reply.result.0 in
+    let after = c.submit-reply.result.1.items in
+    let later = c.submit-reply.new.connections in
+    let noted = c.hand_reply.new.exporter in
+    let rounds = rounds_of c.is_received.result after in
+    let empty = ap (λ v. v.items) c.replace-queues.ensures.value ∙ self.empty ∙ ap (empty_queues self.queue_capacity) (released-length self.shards.items w.journals are.released_all) in
+    let mid : World = record { contacts = later; journals = w.journals; sink = noted.sink } in
+    receives s _ w c.args.number c.args.moment c.args.body.now self.connections later _ after reply self.exporter.sink noted.sink rounds (λ end. AreOf s end later c.take_received.new.shards.items c.send.new.exporter)
+    are.contacts_are are.sink_is empty c.submit-reply.ensures.submits (λ e. ap (λ b. rounds_of b after) (c.is_received.ensures ∙ e)) (λ e. ap (λ b. rounds_of b after) (c.is_received.ensures ∙ e)) c.hand_reply.ensures.written
+    (quiets s _ mid later self.shards.items c.take_received.new.shards.items noted c.take_received.new.exporter c.send.new.exporter rounds refl are.settings_are are.released_all refl c.hand_reply.ensures.size
+    (ap length c.hand_reply.ensures.batch ∙ self.sent) c.take_received.ensures.takes (c.take_received.ensures.settings s are.settings_are) c.take_received.ensures.room c.send.ensures.sent)
+
+pub invariant_of-self-clause-none_due : goal.invariant_of-self-clause-none_due
+invariant_of-self-clause-none_due g c =
+    let self = c.args.self.now in
+    let quiet = quiet-now (length self.connections.connected) self.closed self.shards.items self.shards.items refl c.requires self.none_due self.ends in
+    none-due-now (ends_of (length self.connections.connected) false) _ _ refl (c.take_received.ensures.quiet _ quiet)
+
+pub invariant_of-self-clause-ends : goal.invariant_of-self-clause-ends
+invariant_of-self-clause-ends g c =
+    let self = c.args.self.now in
+    let quiet = quiet-now (length self.connections.connected) self.closed self.shards.items self.shards.items refl c.requires self.none_due self.ends in
+    let P = λ (n : ℕ). AreQuiet (ends_of n false) c.take_received.new.shards.items in
+    ends-now (length c.submit-reply.new.connections.connected) false self.closed _ _ refl c.requires (subst P (sym c.submit-reply.ensures.lanes) (c.take_received.ensures.quiet _ quiet))
+
+pub invariant_of-self-clause-empty : goal.invariant_of-self-clause-empty
+invariant_of-self-clause-empty g c =
+    let self = c.args.self.now in
+    let empty = ap (λ v. v.items) c.replace-queues.ensures.value ∙ self.empty in
+    c.take_received.ensures.emptied ∙ queues-left _ _ _ _ _ _ _ _ self.queue_capacity (length self.shards.items) c.is_received.result c.submit-reply.ensures.submits c.is_received.ensures empty
+    ∙ ap (empty_queues self.queue_capacity) (sym c.take_received.ensures.length)

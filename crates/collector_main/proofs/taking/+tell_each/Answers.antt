@@ -1,0 +1,31 @@
+use Rattle.std.proofs.Common.{List, [], ◌∷◌, ap, sym, subst, ◌∙◌}
+use Rattle.otlp_types.specs.declared.arrival.Item.{Item}
+use Rattle.shard_core.specs.Held.{Held}
+use Rattle.shard_core.specs.Taking.{ends_after}
+use Rattle.collector_main.specs.World.{to_each}
+use Rattle.collector_main.specs.Signals.{item_of}
+use Rattle.collector_main.specs.Pulling.{EachTakes, TakesItems, AreQuiet, HaveSettings}
+use Rattle.collector_main.proofs.Several.{EachTakes-cons, AreQuiet-cons}
+use Rattle.collector_main.proofs.taking.+tell_each.Goals as goal
+
+pub returns-clause-takes : goal.returns-clause-takes
+returns-clause-takes g t c =
+    let item = item_of c.args.signal in
+    let P = λ (old : List Held). EachTakes old c.args.exporter.now (to_each item old) (c.take_item.new.shard ∷ c.tell_each.new.shards) c.tell_each.new.exporter in
+    let Q = λ (one : Item). TakesItems c.in-Some.shard.now c.args.exporter.now (one ∷ []) c.take_item.new.shard c.take_item.new.exporter in
+    subst P (sym c.in-Some.ensures.cases.0) (EachTakes-cons c.in-Some.shard.now c.take_item.new.shard c.in-Some.others.now c.tell_each.new.shards (item ∷ []) (to_each item c.in-Some.others.now)
+    c.args.exporter.now c.take_item.new.exporter c.tell_each.new.exporter (subst Q c.item.ensures.item c.take_item.ensures.takes) c.tell_each.ensures.takes)
+
+pub returns-clause-quiet : goal.returns-clause-quiet
+returns-clause-quiet g t c = λ ends quiet.
+    let item = item_of c.args.signal in
+    let P = λ (old : List Held). AreQuiet ends old in
+    let ended = c.take_item.ensures.ends ∙ ap (λ (one : Item). ends_after one c.in-Some.shard.now.standing.ends) c.item.ensures.item in
+    AreQuiet-cons item c.in-Some.shard.now c.take_item.new.shard c.in-Some.others.now c.tell_each.new.shards ended c.take_item.ensures.nothing_due c.tell_each.ensures.quiet ends
+    (subst P c.in-Some.ensures.cases.0 quiet)
+
+pub returns-clause-settings : goal.returns-clause-settings
+returns-clause-settings g t c = λ s alike.
+    let P = λ (old : List Held). HaveSettings s old in
+    let q = subst P c.in-Some.ensures.cases.0 alike in
+    (c.take_item.ensures.settings ∙ q.0, c.tell_each.ensures.settings s q.1)

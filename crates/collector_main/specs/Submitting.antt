@@ -1,0 +1,27 @@
+-- What submitting a request does to the connections and the queues: words of private functions.
+use Rattle.std.specs.Prelude.{◌≡◌, ◌⊎◌, ℕ, Bool, true, false, nat_eq, List, length, None}
+use Rattle.std.specs.Map.{lookup}
+use Rattle.lane_queue.specs.Queues.{QueueState, TakesLast, IsFull}
+use Rattle.lane_seq.specs.Pushes.{Receives as IsPushed}
+use Rattle.lane_seq.specs.declared.reply.Reply.{Reply}
+use Rattle.lane_seq.specs.declared.reply.Reply.TheVariants.{Done, Partial, BadData, Busy}
+use Rattle.otlp_types.specs.declared.request.Request.{Request}
+use Rattle.otlp_types.specs.declared.arrival.Item.{Item}
+use Rattle.collector_main.specs.Connections.{Contacts, connection_of, with_connection, with_received}
+use Rattle.collector_main.specs.Requests.{reads, refuses, IsTakenFor, arrivals_of}
+
+-- the request's spans were received
+abbrev pub is_received : Reply → Bool
+is_received (Done spans) = true
+is_received (Partial spans rejected) = true
+is_received (BadData cause) = false
+is_received Busy = false
+
+-- A request was refused, at a new connection for want of memory or by its body, or it was read: its spans were pushed to the queues of their shards.
+abbrev pub Submits : Contacts → (number moment : ℕ) → (body : List ℕ) → (before : List (QueueState Item)) → Reply → (after : List (QueueState Item)) → Contacts → Type 0
+Submits old number moment body before reply after new =
+    ((lookup (nat_eq number) old.connections ≡ None) × (reply ≡ Busy) × (after ≡ before) × (new ≡ old))
+    ⊎ ((IsTakenFor body (refuses reply) × (after ≡ before) × (new ≡ with_connection number old))
+    ⊎ ((request : Request) × IsTakenFor body (reads request)
+    × IsPushed TakesLast IsFull (arrivals_of (connection_of number old) moment request) before reply after
+    × (new ≡ with_received number (length (arrivals_of (connection_of number old) moment request)) old)))

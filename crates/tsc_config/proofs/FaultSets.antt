@@ -1,0 +1,214 @@
+-- The walk answers the least of the faults that the table has.
+use Rattle.std.proofs.Common.{◌≡◌, ℕ, ◌≤◌, pos, Bool, true, false, ◌⊎◌, inl, inr, refl, ap, arith, codes, Option, None, Some, if◌then◌else◌, nat_lt}
+use Rattle.std.proofs.lemmas.Bool.Decides.{nat_tests}
+use Rattle.std.specs.Str.{bytes_eq}
+use Rattle.toml.specs.Data.{Data, array, table, Items, no_items, item, Members, no_members, member, get_member}
+use Rattle.tsc_config.specs.Keys.{type_name, type_at}
+use Rattle.tsc_config.specs.Faults.{number_of, least, optional, required, unknown_fault, integer_fault, natural_fault, whole_fault, truth_fault, text_fault, type_fault, code_fault}
+use Rattle.tsc_config.specs.Faults as spec
+use Rattle.tsc_config.specs.FaultSets.{IsLeastOf, OptionalHas, RequiredHas, SomeItemHas, ArrayHas, AttributeHas, RowsHave, SettingsHave, SettingsAtHave, TypedHas, PolicyTableHas, PoliciesHave, SomePolicyHas, PolicyHas, AndHas, AndSettingsHave, SubPoliciesHave, CacheHas, NumbersHave, SizesHave, HasFault}
+use Rattle.tsc_config.specs.declared.fault.ConfigFault.{ConfigFault}
+use Rattle.tsc_config.specs.declared.kinds.PolicyType.{PolicyType}
+use Rattle.tsc_config.specs.declared.kinds.PolicyType.TheVariants as type_is
+use Rattle.tsc_config.specs.declared.kinds.TableKind.TheVariants as table_is
+use Rattle.tsc_config.specs.declared.fault.ConfigFault.TheVariants.{MissingKey, WrongType}
+
+-- one of the two
+pub least_is_one : (a b : Option ConfigFault) (fault : ConfigFault) → least a b ≡ Some fault → (a ≡ Some fault) ⊎ (b ≡ Some fault)
+least_is_one None b fault e = inr e
+least_is_one (Some x) None fault e = inl e
+least_is_one (Some x) (Some y) fault e = grind (arith, nat_tests)
+
+pick_first : (a b : ConfigFault) (r : Bool) → nat_lt (number_of b) (number_of a) ≡ r → (found : ConfigFault) × ((if r then Some b else Some a) ≡ Some found) × (number_of found ≤ number_of a)
+pick_first a b true e = (b, refl, grind (arith, nat_tests))
+pick_first a b false e = (a, refl, omega arith)
+
+pick_second : (a b : ConfigFault) (r : Bool) → nat_lt (number_of b) (number_of a) ≡ r → (found : ConfigFault) × ((if r then Some b else Some a) ≡ Some found) × (number_of found ≤ number_of b)
+pick_second a b true e = (b, refl, omega arith)
+pick_second a b false e = (a, refl, grind (arith, nat_tests))
+
+-- no greater than the first
+least_first : (a : ConfigFault) (b : Option ConfigFault) → (found : ConfigFault) × (least (Some a) b ≡ Some found) × (number_of found ≤ number_of a)
+least_first a None = (a, refl, omega arith)
+least_first a (Some b) = pick_first a b (nat_lt (number_of b) (number_of a)) refl
+
+-- no greater than the second
+least_second : (a : Option ConfigFault) (b : ConfigFault) → (found : ConfigFault) × (least a (Some b) ≡ Some found) × (number_of found ≤ number_of b)
+least_second None b = (b, refl, omega arith)
+least_second (Some a) b = pick_second a b (nat_lt (number_of b) (number_of a)) refl
+
+below_first : (a b : Option ConfigFault) (n : ℕ) → (found : ConfigFault) × (a ≡ Some found) × (number_of found ≤ n) → (found : ConfigFault) × (least a b ≡ Some found) × (number_of found ≤ n)
+below_first a b n (x, e, h) =
+    let f : (found : ConfigFault) × (least (Some x) b ≡ Some found) × (number_of found ≤ number_of x) = least_first x b in
+    rw e (f.0, f.1, omega (arith, f.2, h))
+
+below_second : (a b : Option ConfigFault) (n : ℕ) → (found : ConfigFault) × (b ≡ Some found) × (number_of found ≤ n) → (found : ConfigFault) × (least a b ≡ Some found) × (number_of found ≤ n)
+below_second a b n (y, e, h) =
+    let f : (found : ConfigFault) × (least a (Some y) ≡ Some found) × (number_of found ≤ number_of y) = least_second a y in
+    rw e (f.0, f.1, omega (arith, f.2, h))
+
+-- the least of two sets is the least of both
+both : (P Q : ConfigFault → Type 0) (a b : Option ConfigFault) → IsLeastOf P a → IsLeastOf Q b → IsLeastOf (λ fault. P fault ⊎ Q fault) (least a b)
+both P Q a b p q = record { is_one = λ fault e. one fault (least_is_one a b fault e); is_least = no_lesser }
+  where
+    one : (fault : ConfigFault) → (a ≡ Some fault) ⊎ (b ≡ Some fault) → P fault ⊎ Q fault
+    one fault (inl e) = inl (p.is_one fault e)
+    one fault (inr e) = inr (q.is_one fault e)
+
+    no_lesser : (fault : ConfigFault) → P fault ⊎ Q fault → (found : ConfigFault) × (least a b ≡ Some found) × (number_of found ≤ number_of fault)
+    no_lesser fault (inl h) = below_first a b (number_of fault) (p.is_least fault h)
+    no_lesser fault (inr h) = below_second a b (number_of fault) (q.is_least fault h)
+
+-- a row with one fault at most
+row : (a : Option ConfigFault) → IsLeastOf (λ fault. a ≡ Some fault) a
+row a = record { is_one = λ fault e. e; is_least = λ fault e. (fault, e, omega arith) }
+
+-- one fault alone
+pub alone : (found : ConfigFault) → IsLeastOf (λ fault. fault ≡ found) (Some found)
+alone found = record { is_one = λ fault e. cc; is_least = λ fault e. (found, refl, omega (arith, ap number_of e)) }
+
+-- no fault
+none : IsLeastOf (λ fault. ⊥) None
+none = record { is_one = λ fault e. cc; is_least = λ fault h. elim h [ ] }
+
+-- of a value that is looked at only where a key has this value
+branch : (P Q : ConfigFault → Type 0) (r : Bool) (a b : Option ConfigFault) → IsLeastOf P a → IsLeastOf Q b
+    → IsLeastOf (λ fault. ((r ≡ true) × P fault) ⊎ ((r ≡ false) × Q fault)) (if r then a else b)
+branch P Q true a b p q = record { is_one = λ fault e. inl (refl, p.is_one fault e); is_least = no_lesser }
+  where
+    no_lesser : (fault : ConfigFault) → ((true ≡ true) × P fault) ⊎ ((true ≡ false) × Q fault) → (found : ConfigFault) × (a ≡ Some found) × (number_of found ≤ number_of fault)
+    no_lesser fault (inl (e, h)) = p.is_least fault h
+    no_lesser fault (inr (e, h)) = cc
+branch P Q false a b p q = record { is_one = λ fault e. inr (refl, q.is_one fault e); is_least = no_lesser }
+  where
+    no_lesser : (fault : ConfigFault) → ((false ≡ true) × P fault) ⊎ ((false ≡ false) × Q fault) → (found : ConfigFault) × (b ≡ Some found) × (number_of found ≤ number_of fault)
+    no_lesser fault (inl (e, h)) = cc
+    no_lesser fault (inr (e, h)) = q.is_least fault h
+
+optional_least : (Has : Data → ConfigFault → Type 0) (f : Data → Option ConfigFault) → ((value : Data) → IsLeastOf (Has value) (f value)) → (at : Option Data) → IsLeastOf (OptionalHas Has at) (optional f at)
+optional_least Has f each None = none
+optional_least Has f each (Some value) = each value
+
+required_least : (Has : Data → ConfigFault → Type 0) (f : Data → Option ConfigFault) → ((value : Data) → IsLeastOf (Has value) (f value)) → (at : Option Data) → IsLeastOf (RequiredHas Has at) (required f at)
+required_least Has f each None = alone MissingKey
+required_least Has f each (Some value) = each value
+
+code_items_least : (items : Items) → IsLeastOf (SomeItemHas code_fault items) (spec.code_items_fault items)
+code_items_least no_items = none
+code_items_least (item value rest) = both (λ fault. code_fault value ≡ Some fault) (SomeItemHas code_fault rest) _ _ (row (code_fault value)) (code_items_least rest)
+
+codes_least : (value : Data) → IsLeastOf (ArrayHas code_fault value) (spec.codes_fault value)
+codes_least (array items) = code_items_least items
+codes_least _ = alone WrongType
+
+text_items_least : (items : Items) → IsLeastOf (SomeItemHas text_fault items) (spec.text_items_fault items)
+text_items_least no_items = none
+text_items_least (item value rest) = both (λ fault. text_fault value ≡ Some fault) (SomeItemHas text_fault rest) _ _ (row (text_fault value)) (text_items_least rest)
+
+texts_least : (value : Data) → IsLeastOf (ArrayHas text_fault value) (spec.texts_fault value)
+texts_least (array items) = text_items_least items
+texts_least _ = alone WrongType
+
+-- two rows with one fault at most each
+rows : (a b : Option ConfigFault) → IsLeastOf (λ fault. (a ≡ Some fault) ⊎ (b ≡ Some fault)) (least a b)
+rows a b = both (λ fault. a ≡ Some fault) (λ fault. b ≡ Some fault) a b (row a) (row b)
+
+attribute_least : (members : Members) (Wanted : ConfigFault → Type 0) (wanted : Option ConfigFault) → IsLeastOf Wanted wanted → IsLeastOf (AttributeHas members Wanted) (spec.attribute_fault members wanted)
+attribute_least members Wanted wanted w =
+    let key : Option ConfigFault = required text_fault (get_member (codes "key") members) in
+    let invert : Option ConfigFault = optional truth_fault (get_member (codes "invert_match") members) in
+    both (λ fault. key ≡ Some fault) (λ fault. Wanted fault ⊎ (invert ≡ Some fault)) key (least wanted invert) (row key)
+    (both Wanted (λ fault. invert ≡ Some fault) wanted invert w (row invert))
+
+rows_least : (kind : PolicyType) (members : Members) → IsLeastOf (RowsHave kind members) (spec.rows_fault kind members)
+unfolding spec.rows_fault
+rows_least type_is.Latency members = rows _ _
+rows_least type_is.StatusCode members = required_least (ArrayHas code_fault) spec.codes_fault codes_least _
+rows_least type_is.StringAttribute members = attribute_least members _ _ (required_least (ArrayHas text_fault) spec.texts_fault texts_least (get_member (codes "values") members))
+rows_least type_is.NumericAttribute members =
+    attribute_least members _ _ (rows (optional whole_fault (get_member (codes "min_value") members)) (optional whole_fault (get_member (codes "max_value") members)))
+rows_least type_is.BooleanAttribute members = attribute_least members _ _ (row (required truth_fault (get_member (codes "value") members)))
+rows_least type_is.SpanCount members = rows _ _
+rows_least type_is.RateLimiting members = row _
+rows_least type_is.AlwaysSample members = none
+rows_least type_is.And members = none
+
+settings_least : (kind : PolicyType) (value : Data) → IsLeastOf (SettingsHave kind value) (spec.settings_fault kind value)
+settings_least kind (table members) = both (λ fault. unknown_fault (table_is.Settings kind) members ≡ Some fault) (RowsHave kind members) _ _ (row _) (rows_least kind members)
+settings_least kind _ = alone WrongType
+
+settings_at_least : (kind : PolicyType) (members : Members) (Nested : ConfigFault → Type 0) (nested : Option ConfigFault) → IsLeastOf Nested nested → IsLeastOf (SettingsAtHave kind members Nested) (spec.settings_at_fault kind members nested)
+settings_at_least type_is.AlwaysSample members Nested nested n = none
+settings_at_least type_is.And members Nested nested n = n
+settings_at_least kind members Nested nested n = required_least (SettingsHave kind) (spec.settings_fault kind) (settings_least kind) (get_member (type_name kind) members)
+
+typed_least : (found : Option PolicyType) (members : Members) (Nested : ConfigFault → Type 0) (nested : Option ConfigFault) → IsLeastOf Nested nested → IsLeastOf (TypedHas found members Nested) (spec.typed_fault_where found members nested)
+typed_least None members Nested nested n = none
+typed_least (Some kind) members Nested nested n =
+    both (λ fault. unknown_fault (table_is.Policy kind) members ≡ Some fault) (SettingsAtHave kind members Nested) _ _ (row _) (settings_at_least kind members Nested nested n)
+
+policy_table_least : (members : Members) (Nested : ConfigFault → Type 0) (nested : Option ConfigFault) → IsLeastOf Nested nested → IsLeastOf (PolicyTableHas members Nested) (spec.policy_table_fault members nested)
+unfolding spec.policy_table_fault
+policy_table_least members Nested nested n =
+    let name : Option ConfigFault = required text_fault (get_member (codes "name") members) in
+    let kind : Option ConfigFault = required type_fault (get_member (codes "type") members) in
+    both (λ fault. (name ≡ Some fault) ⊎ (kind ≡ Some fault)) (TypedHas (type_at members) members Nested) _ _
+    (rows name kind) (typed_least (type_at members) members Nested nested n)
+
+mutual
+  policies_least : (value : Data) → IsLeastOf (PoliciesHave value) (spec.policies_fault value)
+  policies_least (array items) = policy_items_least items
+  policies_least _ = alone WrongType
+
+  policy_items_least : (items : Items) → IsLeastOf (SomePolicyHas items) (spec.policy_items_fault items)
+  policy_items_least no_items = none
+  policy_items_least (item value rest) = both (PolicyHas value) (SomePolicyHas rest) _ _ (policy_least value) (policy_items_least rest)
+
+  policy_least : (value : Data) → IsLeastOf (PolicyHas value) (spec.policy_fault value)
+  policy_least (table members) = policy_table_least members (AndHas members) (spec.and_fault members) (and_least members)
+  policy_least _ = alone WrongType
+
+  and_least : (members : Members) → IsLeastOf (AndHas members) (spec.and_fault members)
+  and_least no_members = alone MissingKey
+  and_least (member key value rest) =
+      branch (AndSettingsHave value) (AndHas rest) (bytes_eq key (codes "and")) _ _ (and_settings_least value) (and_least rest)
+
+  and_settings_least : (value : Data) → IsLeastOf (AndSettingsHave value) (spec.and_settings_fault value)
+  and_settings_least (table members) =
+      both (λ fault. unknown_fault (table_is.Settings type_is.And) members ≡ Some fault) (SubPoliciesHave members) _ _ (row _) (sub_policies_least members)
+  and_settings_least _ = alone WrongType
+
+  sub_policies_least : (members : Members) → IsLeastOf (SubPoliciesHave members) (spec.sub_policies_fault members)
+  sub_policies_least no_members = alone MissingKey
+  sub_policies_least (member key value rest) =
+      branch (PoliciesHave value) (SubPoliciesHave rest) (bytes_eq key (codes "and_sub_policy")) _ _ (policies_least value) (sub_policies_least rest)
+
+cache_least : (value : Data) → IsLeastOf (CacheHas value) (spec.cache_fault value)
+cache_least (table members) =
+    let keys : Option ConfigFault = unknown_fault table_is.DecisionCache members in
+    let sampled : Option ConfigFault = optional (integer_fault (pos 0) (pos 1000000)) (get_member (codes "sampled_cache_size") members) in
+    let non_sampled : Option ConfigFault = optional (integer_fault (pos 0) (pos 1000000)) (get_member (codes "non_sampled_cache_size") members) in
+    both (λ fault. keys ≡ Some fault) (λ fault. (sampled ≡ Some fault) ⊎ (non_sampled ≡ Some fault)) _ _ (row keys) (rows sampled non_sampled)
+cache_least _ = alone WrongType
+
+three_rows : (a b c : Option ConfigFault) → IsLeastOf (λ fault. (a ≡ Some fault) ⊎ ((b ≡ Some fault) ⊎ (c ≡ Some fault))) (least a (least b c))
+three_rows a b c = both (λ fault. a ≡ Some fault) (λ fault. (b ≡ Some fault) ⊎ (c ≡ Some fault)) _ _ (row a) (rows b c)
+
+five_rows : (a b c d e : Option ConfigFault)
+    → IsLeastOf (λ fault. (a ≡ Some fault) ⊎ ((b ≡ Some fault) ⊎ ((c ≡ Some fault) ⊎ ((d ≡ Some fault) ⊎ (e ≡ Some fault))))) (least a (least b (least c (least d e))))
+five_rows a b c d e =
+    both (λ fault. a ≡ Some fault) (λ fault. (b ≡ Some fault) ⊎ ((c ≡ Some fault) ⊎ ((d ≡ Some fault) ⊎ (e ≡ Some fault)))) _ _ (row a)
+    (both (λ fault. b ≡ Some fault) (λ fault. (c ≡ Some fault) ⊎ ((d ≡ Some fault) ⊎ (e ≡ Some fault))) _ _ (row b) (three_rows c d e))
+
+pub table_least : (members : Members) → IsLeastOf (HasFault members) (spec.table_fault members)
+unfolding spec.table_fault
+table_least members =
+    let keys : Option ConfigFault = unknown_fault table_is.Config members in
+    let listen : Option ConfigFault = optional text_fault (get_member (codes "listen") members) in
+    let cache : IsLeastOf (OptionalHas CacheHas (get_member (codes "decision_cache") members)) (optional spec.cache_fault (get_member (codes "decision_cache") members)) = optional_least CacheHas spec.cache_fault cache_least (get_member (codes "decision_cache") members) in
+    let policies : IsLeastOf (RequiredHas PoliciesHave (get_member (codes "policies") members)) (required spec.policies_fault (get_member (codes "policies") members)) = required_least PoliciesHave spec.policies_fault policies_least (get_member (codes "policies") members) in
+    both (λ fault. keys ≡ Some fault) _ _ _ (row keys)
+    (both (NumbersHave members) _ _ _ (five_rows _ _ _ _ _)
+    (both (SizesHave members) _ _ _ (three_rows _ _ _)
+    (both (λ fault. listen ≡ Some fault) _ _ _ (row listen)
+    (both (OptionalHas CacheHas (get_member (codes "decision_cache") members)) (RequiredHas PoliciesHave (get_member (codes "policies") members)) _ _ cache policies))))
