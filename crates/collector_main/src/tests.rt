@@ -48,6 +48,18 @@ const TWO_SHARDS: &str =
 const QUEUE_OF_ONE: &str =
     "decision_wait_ms = 10000\nqueue_capacity = 1\npolicies = [{ name = \"all\", type = \"always_sample\" }]\n";
 
+/// Traces without a development span are kept.
+const INVERTED: &str =
+    "decision_wait_ms = 10000\npolicies = [{ name = \"dev\", type = \"string_attribute\", string_attribute = { key = \"env\", values = [\"dev\"], invert_match = true } }, { name = \"all\", type = \"always_sample\" }]\n";
+
+/// Slow traces are kept, up to three spans a second.
+const SLOW_AND_GRANTED: &str =
+    "decision_wait_ms = 10000\npolicies = [{ name = \"both\", type = \"and\", and = { and_sub_policy = [{ name = \"slow\", type = \"latency\", latency = { threshold_ms = 500 } }, { name = \"few\", type = \"rate_limiting\", rate_limiting = { spans_per_second = 3 } }] } }]\n";
+
+/// Three spans a second are kept by each of two shards.
+const GRANTED: &str =
+    "decision_wait_ms = 10000\nshards = 2\npolicies = [{ name = \"few\", type = \"rate_limiting\", rate_limiting = { spans_per_second = 3 } }]\n";
+
 /// A writer into memory.
 #[derive(Drop)]
 struct Page {
@@ -307,6 +319,42 @@ fn queue_of_one(rt: HostRuntime) -> Result<(), Fail> {
         b"recv 1 0 {\"resourceSpans\":[{\"scopeSpans\":[{\"spans\":[{\"traceId\":\"5b8efff798038103d269b633813fc60c\",\"spanId\":\"eee19b7ec3c1b174\"},{\"traceId\":\"5b8efff798038103d269b633813fc60c\",\"spanId\":\"eee19b7ec3c1b175\"},{\"traceId\":\"5b8efff798038103d269b633813fc60c\",\"spanId\":\"eee19b7ec3c1b176\"}]}]}]}\nclose\n",
         b"reply 200 {\"partialSuccess\":{\"errorMessage\":\"invalid id: 0, queue full: 2\",\"rejectedSpans\":\"2\"}}\n{\"resourceSpans\":[{\"scopeSpans\":[{\"spans\":[{\"spanId\":\"eee19b7ec3c1b174\",\"traceId\":\"5b8efff798038103d269b633813fc60c\"}]}]}]}\n",
         [3, 1, 0, 2, 0, 0, 0, 0, 0],
+    )
+}
+
+/// An inverted match decides against a trace that another policy would keep.
+#[test]
+fn inverted_match_wins(rt: HostRuntime) -> Result<(), Fail> {
+    check(
+        &rt,
+        INVERTED,
+        b"recv 1 0 {\"resourceSpans\":[{\"scopeSpans\":[{\"spans\":[{\"traceId\":\"5b8efff798038103d269b633813fc60c\",\"spanId\":\"eee19b7ec3c1b174\",\"attributes\":[{\"key\":\"env\",\"value\":{\"stringValue\":\"dev\"}}]}]}]}]}\nclose\n",
+        b"reply 200 {}\n",
+        [1, 0, 0, 0, 0, 0, 1, 0, 0],
+    )
+}
+
+/// The limiter of an `and` is asked only for traces that are slow.
+#[test]
+fn and_of_latency_and_rate(rt: HostRuntime) -> Result<(), Fail> {
+    check(
+        &rt,
+        SLOW_AND_GRANTED,
+        b"recv 1 1000 {\"resourceSpans\":[{\"scopeSpans\":[{\"spans\":[{\"traceId\":\"5b8efff798038103d269b633813fc60c\",\"spanId\":\"eee19b7ec3c1b174\",\"endTimeUnixNano\":\"499999999\"},{\"traceId\":\"5b8efff798038103d269b633813fc60c\",\"spanId\":\"eee19b7ec3c1b175\",\"endTimeUnixNano\":\"499999999\"},{\"traceId\":\"5b8efff798038103d269b633813fc60d\",\"spanId\":\"eee19b7ec3c1b176\",\"endTimeUnixNano\":\"500000000\"},{\"traceId\":\"5b8efff798038103d269b633813fc60d\",\"spanId\":\"eee19b7ec3c1b177\",\"endTimeUnixNano\":\"500000000\"},{\"traceId\":\"5b8efff798038103d269b633813fc60e\",\"spanId\":\"eee19b7ec3c1b178\",\"endTimeUnixNano\":\"500000000\"}]}]}]}\ntick 11000\n",
+        b"reply 200 {}\n{\"resourceSpans\":[{\"scopeSpans\":[{\"spans\":[{\"endTimeUnixNano\":\"500000000\",\"spanId\":\"eee19b7ec3c1b176\",\"traceId\":\"5b8efff798038103d269b633813fc60d\"},{\"endTimeUnixNano\":\"500000000\",\"spanId\":\"eee19b7ec3c1b177\",\"traceId\":\"5b8efff798038103d269b633813fc60d\"},{\"endTimeUnixNano\":\"500000000\",\"spanId\":\"eee19b7ec3c1b178\",\"traceId\":\"5b8efff798038103d269b633813fc60e\"}]}]}]}\n",
+        [5, 3, 0, 0, 0, 0, 2, 0, 0],
+    )
+}
+
+/// Each shard has a limiter of its own.
+#[test]
+fn limiter_over_shards(rt: HostRuntime) -> Result<(), Fail> {
+    check(
+        &rt,
+        GRANTED,
+        b"recv 1 0 {\"resourceSpans\":[{\"scopeSpans\":[{\"spans\":[{\"traceId\":\"5b8efff798038103d269b633813fc60c\",\"spanId\":\"eee19b7ec3c1b174\"},{\"traceId\":\"5b8efff798038103d269b633813fc60c\",\"spanId\":\"eee19b7ec3c1b175\"},{\"traceId\":\"5b8efff798038103d269b633813fc60d\",\"spanId\":\"eee19b7ec3c1b176\"},{\"traceId\":\"5b8efff798038103d269b633813fc60d\",\"spanId\":\"eee19b7ec3c1b177\"}]}]}]}\ntick 10000\n",
+        b"reply 200 {}\n{\"resourceSpans\":[{\"scopeSpans\":[{\"spans\":[{\"spanId\":\"eee19b7ec3c1b174\",\"traceId\":\"5b8efff798038103d269b633813fc60c\"},{\"spanId\":\"eee19b7ec3c1b175\",\"traceId\":\"5b8efff798038103d269b633813fc60c\"},{\"spanId\":\"eee19b7ec3c1b176\",\"traceId\":\"5b8efff798038103d269b633813fc60d\"},{\"spanId\":\"eee19b7ec3c1b177\",\"traceId\":\"5b8efff798038103d269b633813fc60d\"}]}]}]}\n",
+        [4, 4, 0, 0, 0, 0, 0, 0, 0],
     )
 }
 
