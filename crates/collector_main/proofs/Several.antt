@@ -6,7 +6,7 @@ use Rattle.otlp_types.specs.declared.arrival.Item.{Item}
 use Rattle.otlp_types.specs.declared.arrival.Item.TheVariants.{Span, Tick, End}
 use Rattle.shard_core.specs.Journal.{Settings, Journal}
 use Rattle.shard_core.specs.Held.{Held, has_due}
-use Rattle.shard_core.specs.Taking.{ends_after, has_ids}
+use Rattle.shard_core.specs.Taking.{ends_after}
 use Rattle.span_exporter.specs.Exports.{ExporterState}
 use Rattle.collector_main.specs.World.{TakesFor, TakesEach, TakesRounds, to_each, ends_from}
 use Rattle.collector_main.specs.Pulling.{PullsAll, TakesItems, HaveSettings, AreQuiet, HaveReleased, EachTakes, RoundsTaken, is_queued}
@@ -32,11 +32,6 @@ pub queued-keeps_ends : (item : Item) (ends : List Bool) → is_queued item ≡ 
 queued-keeps_ends (Span a) ends h = refl
 queued-keeps_ends (Tick m) ends h = absurd (cc h)
 queued-keeps_ends (End sender) ends h = absurd (cc h)
-
-pub queued-has_ids : (item : Item) → is_queued item ≡ true → has_ids item ≡ true
-queued-has_ids (Span a) h = h
-queued-has_ids (Tick m) h = absurd (cc h)
-queued-has_ids (End sender) h = absurd (cc h)
 
 -- ---- the first shard, and the others
 

@@ -86,7 +86,7 @@ Answers s sizes old number moment (reads request) new =
     × IsPushed TakesLast IsFull arrivals (empty_queues sizes.queue (length old.journals)) reply queues
     × RepliesAndRuns s sizes (record old { contacts = with_received number (length arrivals) old.contacts }) reply (map (λ q. q.items) queues ∷ []) new
 
--- A request comes on the connection with this number. Where memory was refused to a new connection the reply is busy, and there is no such connection.
+-- A request comes on the connection with this number. Where a new connection was refused the reply is busy, and there is no such connection.
 abbrev pub Receives : Settings → Sizes → World → (number moment : ℕ) → (body : List ℕ) → World → Type 0
 Receives s sizes old number moment body new =
     ((lookup (nat_eq number) old.contacts.connections ≡ None) × RepliesAndRuns s sizes old Busy [] new)

@@ -47,8 +47,8 @@ impl Connections {
         self.connected.len() as u16
     }
 
-    /// The connection with this number, which is made where it is new: it is the next one of its lane. Memory is
-    /// refused only to a new connection, and nothing changes then.
+    /// The connection with this number, which is made where it is new: it is the next one of its lane. Only a new
+    /// connection is refused, where memory was, or where its lane has had 2^64-1; nothing changes then.
     pub fn connect(&mut self, number: u64) -> Result<Conn, AllocError>
         ensures conn { IfOk result (λ conn. conn ≡ connection_of number self.old) }
         ensures connected { OnOk result (self.new ≡ with_connection number self.old) }
