@@ -1,5 +1,5 @@
 -- What a script run does.
-use Rattle.std.specs.Prelude.{◌≡◌, ℕ, zero, suc, ◌+◌, ◌++◌, ◌⊎◌, Bool, true, nat_eq, None, List, [], ◌∷◌, map, length, replicate}
+use Rattle.std.specs.Prelude.{◌≡◌, ℕ, zero, suc, ◌+◌, ◌++◌, ◌⊎◌, Bool, true, false, nat_eq, None, List, [], ◌∷◌, map, length, replicate}
 use Rattle.std.specs.Map.{lookup}
 use Rattle.otlp_types.specs.declared.arrival.Arrival.{Arrival}
 use Rattle.otlp_types.specs.declared.arrival.Item.{Item}
@@ -14,19 +14,36 @@ use Rattle.shard_core.specs.Taking.{marks_apply}
 use Rattle.span_sink.specs.LineSinks.{LineSinkState}
 use Rattle.span_exporter.specs.Exports.{WritesLine}
 use Rattle.tsc_script.specs.Instructions.{Instruction, receive, tick, close}
-use Rattle.collector_main.specs.Connections.{Contacts, connection_of, with_connection, with_received}
-use Rattle.collector_main.specs.Requests.{Reading, reads, refuses, IsTakenFor, arrivals_of, reply_line}
-use Rattle.collector_main.specs.Sending.{SendsInBatches}
+use Rattle.script_run.specs.Connections.{Contacts, connection_of, with_connection, with_received}
+use Rattle.script_run.specs.Requests.{Reading, reads, refuses, IsTakenFor, arrivals_of, reply_line}
+use Rattle.script_run.specs.Sending.{Sent, SendsInBatches}
 
--- between two lines of a script: the connections, what each shard has taken, and the sink. All that was due is decided, and all that was released has gone to the sink.
+-- what was written: a reply, or a batch, which was handed over or given up
+pub data Event : Type 0 where
+  replied : Reply → Event
+  was_sent : Sent → Event
+
+-- Between two lines of a script: the connections, the spans that were received and how many of them found their queue full, what each shard has taken, what was written in turn, what that left of the sink, and whether the script was closed. All that was due is decided, and all that was released was sent.
 pub record World : Type 0 where
   pub contacts : Contacts
+  pub received : List Arrival
+  pub full : ℕ
   pub journals : List Journal
+  pub events : List Event
   pub sink : LineSinkState
+  pub closed : Bool
 
 -- before the first line, with so many lanes and shards
 abbrev pub new_world : (lanes shards : ℕ) → LineSinkState → World
-new_world lanes shards sink = record { contacts = record { connections = []; connected = replicate lanes 0 }; journals = replicate shards []; sink = sink }
+new_world lanes shards sink = record {
+  contacts = record { connections = []; connected = replicate lanes 0 };
+  received = [];
+  full = 0;
+  journals = replicate shards [];
+  events = [];
+  sink = sink;
+  closed = false;
+}
 
 -- how many spans a batch holds, and a queue to a shard
 pub record Sizes : Type 0 where
@@ -60,21 +77,34 @@ TakesRounds s before [] after released = (after ≡ before) × (released ≡ [])
 TakesRounds s before (items ∷ more) after released = (between : List Journal) × (first : List Arrival) × (rest : List Arrival)
     × TakesEach s before items between first × TakesRounds s between more after rest × (released ≡ first ++ rest)
 
--- The shards take these items in rounds and decide all that is due. What that releases goes to the sink in batches.
+-- The shards take these items in rounds and decide all that is due. What that releases is sent in batches.
 pub record RunsToQuiet (s : Settings) (sizes : Sizes) (old : World) (rounds : List (List (List Item))) (new : World) : Type 0 where
-  pub contacts : new.contacts ≡ old.contacts
   pub released : List Arrival
   pub takes : TakesRounds s old.journals rounds new.journals released
-  pub sends : SendsInBatches sizes.batch old.sink released new.sink
+  pub batches : List Sent
+  pub sends : SendsInBatches sizes.batch old.sink released batches new.sink
+  pub becomes : new ≡ record old { journals = new.journals; events = old.events ++ map was_sent batches; sink = new.sink }
+
+-- the world after a reply, which left this of the sink
+abbrev pub after_reply : Reply → LineSinkState → World → World
+after_reply reply sink old = record old { events = old.events ++ replied reply ∷ []; sink = sink }
 
 -- the reply is written, and then the shards take these items
 abbrev pub RepliesAndRuns : Settings → Sizes → World → Reply → (rounds : List (List (List Item))) → World → Type 0
 RepliesAndRuns s sizes old reply rounds new = (sink : LineSinkState) × WritesLine old.sink (reply_line reply) sink
-    × RunsToQuiet s sizes (record old { sink = sink }) rounds new
+    × RunsToQuiet s sizes (after_reply reply sink old) rounds new
 
 -- a queue without an item for each of so many shards
 abbrev pub empty_queues : (capacity shards : ℕ) → List (QueueState Item)
 empty_queues capacity shards = replicate shards (record { items = []; capacity = capacity })
+
+-- the world where the connection with this number has received these spans, of which so many found their queue full
+abbrev pub after_receiving : (number : ℕ) → List Arrival → (full : ℕ) → World → World
+after_receiving number arrivals full old = record old {
+  contacts = with_received number (length arrivals) old.contacts;
+  received = old.received ++ arrivals;
+  full = old.full + full;
+}
 
 -- A request that was refused gives no span. One that was read gives its spans to the connection; those with valid ids are pushed to the empty queues of their shards, as far as these have room.
 abbrev pub Answers : Settings → Sizes → World → (number moment : ℕ) → Reading → World → Type 0
@@ -83,8 +113,8 @@ Answers s sizes old number moment (refuses reply) new =
 Answers s sizes old number moment (reads request) new =
     let arrivals = arrivals_of (connection_of number old.contacts) moment request in
     (reply : Reply) × (queues : List (QueueState Item))
-    × IsPushed TakesLast IsFull arrivals (empty_queues sizes.queue (length old.journals)) reply queues
-    × RepliesAndRuns s sizes (record old { contacts = with_received number (length arrivals) old.contacts }) reply (map (λ q. q.items) queues ∷ []) new
+    × (pushed : IsPushed TakesLast IsFull arrivals (empty_queues sizes.queue (length old.journals)) reply queues)
+    × RepliesAndRuns s sizes (after_receiving number arrivals pushed.refused old) reply (map (λ q. q.items) queues ∷ []) new
 
 -- A request comes on the connection with this number. Where a new connection was refused the reply is busy, and there is no such connection.
 abbrev pub Receives : Settings → Sizes → World → (number moment : ℕ) → (body : List ℕ) → World → Type 0
@@ -101,11 +131,11 @@ abbrev pub ends_from : {A : Type 0} → (sender senders : ℕ) → List A → Li
 ends_from sender zero each = []
 ends_from sender (suc more) each = to_each (End sender) each ∷ ends_from (sender + 1) more each
 
--- what an instruction does; at a close the lanes end, and then the ticker
+-- what an instruction does, where the script was not closed; at a close the lanes end, and then the ticker
 abbrev pub Plays : Settings → Sizes → World → Instruction → World → Type 0
-Plays s sizes old (receive number moment body) new = Receives s sizes old number moment body new
-Plays s sizes old (tick moment) new = RunsToQuiet s sizes old (to_each (Tick moment) old.journals ∷ []) new
-Plays s sizes old close new = RunsToQuiet s sizes old (ends_from 0 (length old.contacts.connected + 1) old.journals) new
+Plays s sizes old (receive number moment body) new = (old.closed ≡ false) × Receives s sizes old number moment body new
+Plays s sizes old (tick moment) new = (old.closed ≡ false) × RunsToQuiet s sizes old (to_each (Tick moment) old.journals ∷ []) new
+Plays s sizes old close new = (old.closed ≡ false) × RunsToQuiet s sizes (record old { closed = true }) (ends_from 0 (length old.contacts.connected + 1) old.journals) new
 
 -- what several instructions do in turn
 abbrev pub PlaysAll : Settings → Sizes → World → List Instruction → World → Type 0

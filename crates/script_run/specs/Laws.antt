@@ -1,0 +1,29 @@
+-- What holds of every script that is played.
+use Rattle.std.specs.Prelude.{◌≡◌, ℕ, ◌+◌, ◌<◌, false, List}
+use Rattle.shard_core.specs.Journal.{Settings}
+use Rattle.span_sink.specs.LineSinks.{LineSinkState}
+use Rattle.span_world.specs.World.{KeepsATrace}
+use Rattle.tsc_script.specs.Instructions.{Instruction}
+use Rattle.script_run.specs.World.{World, Sizes, new_world, PlaysAll}
+use Rattle.script_run.specs.Writing.{WritesAll, FailedOnce}
+use Rattle.script_run.specs.CoreRun.{core_config, IsRunOfCore}
+
+-- settings and sizes with which a script can be played over so many lanes: the senders are the lanes and the ticker, and a batch, a queue and a limit hold something
+pub record CanPlay (s : Settings) (sizes : Sizes) (lanes : ℕ) : Type 0 where
+  pub lanes : 0 < lanes
+  pub senders : s.senders ≡ lanes + 1
+  pub batch : 0 < sizes.batch
+  pub keeps : KeepsATrace (core_config s sizes)
+
+-- this holds of each world to which a script leads, where its sink was up at first
+abbrev pub OfEachScript : (Settings → Sizes → (lanes shards : ℕ) → (first : LineSinkState) → World → Type 0) → Type 0
+OfEachScript P = (s : Settings) (sizes : Sizes) (lanes shards : ℕ) (first : LineSinkState) (played : List Instruction) (after : World)
+    → CanPlay s sizes lanes → first.is_down ≡ false → PlaysAll s sizes (new_world lanes shards first) played after → P s sizes lanes shards first after
+
+-- each script that is played is a run of the core
+abbrev pub EachIsARunOfCore : Type 0
+EachIsARunOfCore = OfEachScript (λ s sizes lanes shards first after. IsRunOfCore s sizes lanes shards after)
+
+-- the sink has the lines of the events, and has failed once where it is down
+abbrev pub EachWritesItsEvents : Type 0
+EachWritesItsEvents = OfEachScript (λ s sizes lanes shards first after. WritesAll first after.events after.sink × FailedOnce first after.sink)
