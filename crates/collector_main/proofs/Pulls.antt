@@ -11,7 +11,7 @@ use Rattle.span_exporter.specs.declared.answer.Flushed.TheVariants.{Handed, Spoi
 use Rattle.span_exporter.specs.declared.answer.Pulled.{Pulled}
 use Rattle.span_exporter.specs.declared.answer.Pulled.TheVariants.{Added, AddedFull}
 use Rattle.span_exporter.specs.Exports.{ExporterState, with_shipment, answer_to, Sends}
-use Rattle.collector_main.specs.Sending.{spans_of, AreBatches, SendsAll, SendsInBatches}
+use Rattle.script_run.specs.Sending.{spans_of, AreBatches, SendsAll, SendsInBatches}
 use Rattle.collector_main.specs.Pulling.{PullsAll}
 
 pub SendsAll-append : (old mid new : LineSinkState) (xs ys : List (List Arrival)) → SendsAll old xs mid → SendsAll mid ys new → SendsAll old (xs ++ ys) new

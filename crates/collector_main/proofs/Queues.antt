@@ -11,8 +11,8 @@ use Rattle.otlp_types.specs.declared.span.Ids.{Ids}
 use Rattle.otlp_types.specs.declared.arrival.Arrival.{Arrival}
 use Rattle.otlp_types.specs.declared.arrival.Item.{Item}
 use Rattle.otlp_types.specs.declared.arrival.Item.TheVariants.{Span}
-use Rattle.collector_main.specs.Connections.{Contacts}
-use Rattle.collector_main.specs.World.{empty_queues}
+use Rattle.script_run.specs.Connections.{Contacts}
+use Rattle.script_run.specs.World.{empty_queues}
 use Rattle.collector_main.specs.Submitting.{Submits, is_received}
 use Rattle.collector_main.specs.Pulling.{is_queued, emptied, HoldsQueued}
 

@@ -12,12 +12,12 @@ use Rattle.span_sink.specs.LineSinks.{LineSinkState}
 use Rattle.span_exporter.specs.declared.answer.Flushed.{Flushed}
 use Rattle.span_exporter.specs.Exports.{ExporterState, Sends, WritesLine}
 use Rattle.tsc_script.specs.Instructions.{Instruction}
-use Rattle.collector_main.specs.Connections.{Contacts}
+use Rattle.script_run.specs.Connections.{Contacts}
 use Rattle.lane_seq.specs.Replies.{IsReplyTo}
-use Rattle.collector_main.specs.Requests.{IsTakenFor, reply_line, reads, refuses}
-use Rattle.collector_main.specs.Sending.{SendsInBatches}
+use Rattle.script_run.specs.Requests.{IsTakenFor, reply_line, reads, refuses}
+use Rattle.script_run.specs.Sending.{SendsInBatches}
 use Rattle.collector_main.specs.Submitting.{Submits, is_received}
-use Rattle.collector_main.specs.World.{World, Sizes, RunsToQuiet, RepliesAndRuns, Receives, Plays, PlaysAll, empty_queues}
+use Rattle.script_run.specs.World.{World, Sizes, RunsToQuiet, RepliesAndRuns, Receives, Plays, PlaysAll, empty_queues}
 use Rattle.collector_main.specs.Pulling.{HaveReleased, HaveSettings, AreQuiet, AreOpen, ends_of, has_none_due, ends_in, EachTakes, RoundsTaken, AreOf, items_in}
 use Rattle.collector_main.proofs.Pulls.{sent-in_batches}
 use Rattle.collector_main.proofs.Several.{RoundsTaken-none, RoundsTaken-push}

@@ -9,7 +9,7 @@ use Rattle.shard_core.specs.Taking.{entry, is_refusal, is_loss, marks_apply, rel
 use Rattle.shard_core.specs.declared.answer.Taken.{Taken}
 use Rattle.shard_core.specs.declared.answer.Decided.{Decided}
 use Rattle.span_exporter.specs.Exports.{ExporterState}
-use Rattle.collector_main.specs.World.{Takes}
+use Rattle.script_run.specs.World.{Takes}
 use Rattle.collector_main.specs.Pulling.{PullsAll, HasReleasedAll, TakesAndPulls, TakesItems, DecidesAll}
 use Rattle.collector_main.proofs.Pulls.{PullsAll-none, PullsAll-append}
 

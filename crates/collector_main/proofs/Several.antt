@@ -8,7 +8,7 @@ use Rattle.shard_core.specs.Journal.{Settings, Journal}
 use Rattle.shard_core.specs.Held.{Held, has_due}
 use Rattle.shard_core.specs.Taking.{ends_after}
 use Rattle.span_exporter.specs.Exports.{ExporterState}
-use Rattle.collector_main.specs.World.{TakesFor, TakesEach, TakesRounds, to_each, ends_from}
+use Rattle.script_run.specs.World.{TakesFor, TakesEach, TakesRounds, to_each, ends_from}
 use Rattle.collector_main.specs.Pulling.{PullsAll, TakesItems, HaveSettings, AreQuiet, HaveReleased, EachTakes, RoundsTaken, is_queued}
 use Rattle.collector_main.proofs.Pulls.{PullsAll-none, PullsAll-append}
 

@@ -9,7 +9,7 @@ use Rattle.lane_seq.specs.declared.preparing.Conn.{Conn}
 use Rattle.otlp_flatten.specs.Flat.{records_of}
 use Rattle.otlp_types.specs.declared.request.Request.{Request}
 use Rattle.otlp_types.specs.declared.arrival.Item.{Item}
-use Rattle.collector_main.specs.Connections.{Contacts, connection_of, with_connection, with_spans}
+use Rattle.script_run.specs.Connections.{Contacts, connection_of, with_connection, with_spans}
 use Rattle.serde_json.specs.Data.{Data}
 use Rattle.otlp_json.specs.Decoding.{IsJson}
 use Rattle.otlp_json.specs.Reading.{request_of}
@@ -17,7 +17,7 @@ use Rattle.lane_seq.specs.declared.reply.Reply.{Reply}
 use Rattle.lane_seq.specs.declared.reply.Reply.TheVariants.{Done, Partial, BadData as BadRequest, Busy}
 use Rattle.lane_seq.specs.declared.reply.BadData.TheVariants.{Json, Shape}
 use Rattle.lane_seq.specs.Replies.{IsRefusal, OnReceived}
-use Rattle.collector_main.specs.Requests.{IsTakenFor, refuses, arrivals_of}
+use Rattle.script_run.specs.Requests.{IsTakenFor, refuses, arrivals_of}
 use Rattle.collector_main.specs.Submitting.{Submits, is_received}
 
 -- what holds where the spans were received

@@ -9,9 +9,9 @@ use Rattle.shard_core.specs.Journal.{Settings, Journal}
 use Rattle.shard_core.specs.Fate.{output, released_dealt}
 use Rattle.shard_core.specs.Held.{Held, StandsFor, settings, has_due}
 use Rattle.span_exporter.specs.Exports.{ExporterState}
-use Rattle.collector_main.specs.Sending.{spans_of, SendsAll}
-use Rattle.collector_main.specs.World.{World, TakesFor, TakesEach, TakesRounds}
-use Rattle.collector_main.specs.Connections.{Contacts}
+use Rattle.script_run.specs.Sending.{spans_of, SendsAll}
+use Rattle.script_run.specs.World.{World, TakesFor, TakesEach, TakesRounds}
+use Rattle.script_run.specs.Connections.{Contacts}
 
 -- the spans went into the batch in turn, which was sent each time that it was full
 pub record PullsAll (old : ExporterState) (spans : List Arrival) (new : ExporterState) : Type 0 where

@@ -1,5 +1,5 @@
 -- What a run over a script leaves of its sink.
-use Rattle.std.specs.Prelude.{◌≡◌, ◌⊎◌, ◌+◌, ◌/◌, ℕ, true, List, Option, Result, Ok, Err, IfSome}
+use Rattle.std.specs.Prelude.{◌≡◌, ◌⊎◌, ◌+◌, ◌/◌, ℕ, true, List, Option, Some, None, Result, Ok, Err, IfSome}
 use Rattle.shard_core.specs.Journal.{Settings}
 use Rattle.shard_core.specs.Held.{settings_of}
 use Rattle.tsc_config.specs.declared.config.Config.{Config}
@@ -10,15 +10,19 @@ use Rattle.tsc_script.specs.Script.{instructions_of}
 use Rattle.tsc_script.specs.Progress.{Ends, StopsAt, GoesDown}
 use Rattle.collector_main.specs.declared.fault.RunFault.{RunFault}
 use Rattle.collector_main.specs.declared.fault.RunFault.TheVariants.{NoMemory, Refused, Fault, BookFull, SinkDown}
-use Rattle.collector_main.specs.World.{World, Sizes, new_world, PlaysAll}
+use Rattle.script_run.specs.World.{World, Sizes, new_world, PlaysAll}
+use Rattle.script_run.specs.Counts.{Reports}
 
 -- the settings of each shard of a run: its share of the traces and of the caches; its senders are the lanes and the ticker
 abbrev pub settings_by : Config → Settings
 settings_by config = settings_of config.policies config.decision_wait (config.num_traces / config.shards) (config.sampled_cache_size / config.shards) (config.non_sampled_cache_size / config.shards) (config.lanes + 1)
 
--- from the first state of the sink, these instructions lead to this one
-abbrev pub Leads : Settings → Sizes → (lanes shards : ℕ) → LineSinkState → List Instruction → LineSinkState → Type 0
-Leads s sizes lanes shards first instructions last = (after : World) × PlaysAll s sizes (new_world lanes shards first) instructions after × (after.sink ≡ last)
+-- From the first state of the sink, these instructions lead to this one, and to these counts.
+pub record Leads (s : Settings) (sizes : Sizes) (lanes shards : ℕ) (first : LineSinkState) (played : List Instruction) (last : LineSinkState) (report : Option (List ℕ)) : Type 0 where
+  pub after : World
+  pub plays : PlaysAll s sizes (new_world lanes shards first) played after
+  pub sink : after.sink ≡ last
+  pub reports : Reports s after report
 
 -- what the run knows: its settings, the sink's bytes and failures before and after, and what the reader had left
 pub record Run : Type 0 where
@@ -37,32 +41,37 @@ pub record Run : Type 0 where
 abbrev pub first_state : Run → LineSinkState
 first_state run = up_state run.taken run.failures
 
+-- what these instructions lead to in this run
+abbrev pub LeadsIn : Run → List Instruction → LineSinkState → Option (List ℕ) → Type 0
+LeadsIn run played last report = Leads run.settings run.sizes run.lanes run.shards (first_state run) played last report
+
 -- the instructions led to the sink as it is, and no write failed
 abbrev pub Played : Run → List Instruction → Type 0
-Played run done = Leads run.settings run.sizes run.lanes run.shards (first_state run) done (up_state run.taken_after run.failures_after)
+Played run played = (report : Option (List ℕ)) × LeadsIn run played (up_state run.taken_after run.failures_after) report
 
--- the instructions led to the sink as it is, and a write failed
-abbrev pub PlayedDown : Run → List Instruction → Type 0
-PlayedDown run done = Leads run.settings run.sizes run.lanes run.shards (first_state run) done (down_state run.taken_after run.failures_after)
+-- the instructions led to this state of the sink and these counts, and the script is closed
+abbrev pub ClosesWith : Run → LineSinkState → Option (List ℕ) → List Instruction → Type 0
+ClosesWith run last report played = (leads : LeadsIn run played last report) × (leads.after.closed ≡ true)
 
 -- a write had failed when these instructions had been played
 abbrev pub Fell : Run → List Instruction → Type 0
-Fell run done = (last : LineSinkState) × Leads run.settings run.sizes run.lanes run.shards (first_state run) done last × (last.is_down ≡ true)
+Fell run played = (last : LineSinkState) × (report : Option (List ℕ)) × LeadsIn run played last report × (last.is_down ≡ true)
 
--- the reader was read to its end, and all that the script says was played
-abbrev pub PlayedWhole : Run → Type 0
-PlayedWhole run = (instructions : List Instruction) × Ends run.unread run.unread_after instructions × Played run instructions
+-- the reader was read to its end, all that the script says was played, and no write failed
+abbrev pub PlayedWhole : Run → Option (List ℕ) → Type 0
+PlayedWhole run report = (played : List Instruction) × Ends run.unread run.unread_after played
+    × ClosesWith run (up_state run.taken_after run.failures_after) report played
 
 -- a write failed: the lines up to then were played, and a close behind them
-abbrev pub StoppedDown : Run → Type 0
-StoppedDown run = GoesDown (PlayedDown run) (Fell run) run.unread run.unread_after
+abbrev pub StoppedDown : Run → Option (List ℕ) → Type 0
+StoppedDown run report = GoesDown (ClosesWith run (down_state run.taken_after run.failures_after) report) (Fell run) run.unread run.unread_after
 
--- what each answer says of the sink
+-- what each answer says of the sink and of the counts
 abbrev pub RunEnds : Run → Result Report RunFault → Type 0
-RunEnds run (Ok report) = PlayedWhole run
+RunEnds run (Ok report) = PlayedWhole run (Some report)
 RunEnds run (Err NoMemory) = (run.taken_after ≡ run.taken) × (run.failures_after ≡ run.failures)
 RunEnds run (Err (Refused line)) = StopsAt (Played run) run.unread run.unread_after line
     × IfSome run.unread (λ script. instructions_of script ≡ Err line)
 RunEnds run (Err (Fault line)) = StopsAt (Played run) run.unread run.unread_after line
-RunEnds run (Err BookFull) = PlayedWhole run ⊎ StoppedDown run
-RunEnds run (Err (SinkDown report)) = StoppedDown run
+RunEnds run (Err BookFull) = PlayedWhole run None ⊎ StoppedDown run None
+RunEnds run (Err (SinkDown report)) = StoppedDown run (Some report)

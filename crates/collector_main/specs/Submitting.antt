@@ -7,8 +7,8 @@ use Rattle.lane_seq.specs.declared.reply.Reply.{Reply}
 use Rattle.lane_seq.specs.declared.reply.Reply.TheVariants.{Done, Partial, BadData, Busy}
 use Rattle.otlp_types.specs.declared.request.Request.{Request}
 use Rattle.otlp_types.specs.declared.arrival.Item.{Item}
-use Rattle.collector_main.specs.Connections.{Contacts, connection_of, with_connection, with_received}
-use Rattle.collector_main.specs.Requests.{reads, refuses, IsTakenFor, arrivals_of}
+use Rattle.script_run.specs.Connections.{Contacts, connection_of, with_connection, with_received}
+use Rattle.script_run.specs.Requests.{reads, refuses, IsTakenFor, arrivals_of}
 
 -- the request's spans were received
 abbrev pub is_received : Reply → Bool

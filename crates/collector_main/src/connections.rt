@@ -1,7 +1,7 @@
 ghost use Rattle.std.specs.Prelude.{◌≡◌, ◌<◌, [], None, nat_eq, IsSome, IfOk, OnOk, OnErr, replicate, length};
 ghost use Rattle.std.specs.Map.{lookup};
 ghost use Rattle.indexmap.specs.IndexMap.{insert_entry};
-ghost use Rattle.collector_main.specs.Connections.{connection_of, with_connection};
+ghost use Rattle.script_run.specs.Connections.{connection_of, with_connection};
 
 use indexmap::IndexMap;
 use lane_seq::Conn;
@@ -18,7 +18,7 @@ pub struct Connections {
 
 impl Model for Connections {
     ghost use Rattle.std.specs.Prelude.{◌<◌, length};
-    ghost use Rattle.collector_main.specs.Connections.{Contacts};
+    ghost use Rattle.script_run.specs.Connections.{Contacts};
 
     ghost Value = { Contacts };
 

@@ -1,7 +1,7 @@
 //! The senders end one after the other.
 ghost use Rattle.std.specs.Prelude.{◌≡◌, ◌+◌, ◌<◌, true, false, length};
 ghost use Rattle.shard_core.specs.Journal.{Settings};
-ghost use Rattle.collector_main.specs.World.{ends_from};
+ghost use Rattle.script_run.specs.World.{ends_from};
 ghost use Rattle.collector_main.specs.Pulling.{AreQuiet, HaveSettings, RoundsTaken, ends_of};
 
 use crate::signal::Signal;

@@ -2,7 +2,7 @@
 ghost use Rattle.std.specs.Prelude.{◌≡◌, ◌-◌, ◌^◌, ◌<◌, ◌≤◌, [], false, IfOk, replicate, vec_capacity};
 ghost use Rattle.tsc_config.specs.declared.config.Config.{Config};
 ghost use Rattle.collector_main.specs.declared.replying.TheConstants.{MAX_REPLY_LINE};
-ghost use Rattle.collector_main.specs.World.{empty_queues};
+ghost use Rattle.script_run.specs.World.{empty_queues};
 ghost use Rattle.collector_main.specs.Starting.{IsNew, AreNew};
 ghost use Rattle.collector_main.specs.Replay.{RunEnds, settings_by};
 

@@ -1,5 +1,5 @@
 ghost use Rattle.std.specs.Prelude.{◌≡◌, ◌+◌, ◌≤◌, ◌++◌, length, vec_capacity};
-ghost use Rattle.collector_main.specs.Requests.{reply_line};
+ghost use Rattle.script_run.specs.Requests.{reply_line};
 
 use itoa::Buffer;
 use lane_seq::{Reply, put};

@@ -4,8 +4,8 @@ ghost use Rattle.shard_core.specs.Journal.{Settings};
 ghost use Rattle.tsc_script.specs.Instructions.{instruction_of_command, is_close, tick, close};
 ghost use Rattle.span_exporter.specs.Exports.{WritesLine};
 ghost use Rattle.collector_main.specs.declared.replying.TheConstants.{MAX_REPLY_LINE};
-ghost use Rattle.collector_main.specs.Requests.{reply_line};
-ghost use Rattle.collector_main.specs.World.{World, Plays, PlaysAll, Receives, empty_queues};
+ghost use Rattle.script_run.specs.Requests.{reply_line};
+ghost use Rattle.script_run.specs.World.{World, Plays, PlaysAll, Receives, empty_queues};
 ghost use Rattle.collector_main.specs.Pulling.{AreOf, has_none_due, ends_in, ends_of};
 ghost use Rattle.collector_main.specs.Answers.{AnswersStop};
 

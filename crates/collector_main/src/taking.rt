@@ -3,7 +3,7 @@ ghost use Rattle.std.specs.List.{AllByRecursion, list_all};
 ghost use Rattle.shard_core.specs.Journal.{Journal, Settings};
 ghost use Rattle.shard_core.specs.Held.{StandsFor, has_due, is_finished, settings};
 ghost use Rattle.shard_core.specs.Taking.{has_ids, ends_after, released_by, released_in};
-ghost use Rattle.collector_main.specs.World.{to_each};
+ghost use Rattle.script_run.specs.World.{to_each};
 ghost use Rattle.collector_main.specs.Signals.{item_of};
 ghost use Rattle.collector_main.specs.Pulling.{PullsAll, TakesItems, DecidesAll, AreOpen, AreQuiet, HaveSettings, EachTakes, RoundsTaken, rounds_of, is_queued, emptied, items_in, HoldsQueued};
 

@@ -5,7 +5,7 @@ use Rattle.otlp_types.specs.declared.arrival.Item.TheVariants.{End}
 use Rattle.shard_core.specs.Journal.{Settings}
 use Rattle.shard_core.specs.Held.{Held}
 use Rattle.span_exporter.specs.Exports.{ExporterState}
-use Rattle.collector_main.specs.World.{ends_from, to_each}
+use Rattle.script_run.specs.World.{ends_from, to_each}
 use Rattle.collector_main.specs.Pulling.{AreQuiet, HaveSettings, AreOpen, RoundsTaken, EachTakes}
 use Rattle.collector_main.proofs.Several.{RoundsTaken-none, RoundsTaken-push, ends_from-next, to_each-same, ended, ended-next, ended-open, ended-all}
 use Rattle.collector_main.proofs.ending.end_all.Goals as goal

@@ -1,6 +1,6 @@
 use Rattle.std.proofs.Common.{◌≡◌, ◌<◌, ◌+◌, ◌-◌, ◌≤◌, true, length}
 use Rattle.shard_core.specs.Journal.{Settings}
-use Rattle.collector_main.specs.World.{ends_from}
+use Rattle.script_run.specs.World.{ends_from}
 use Rattle.collector_main.specs.Pulling.{AreQuiet, HaveSettings, RoundsTaken}
 use Rattle.collector_main.proofs.Several.{ended}
 use Rattle.collector_main.proofs.ending.end_all.Given as goal

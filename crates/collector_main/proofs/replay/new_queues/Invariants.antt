@@ -1,5 +1,5 @@
 use Rattle.std.proofs.Common.{◌≡◌}
-use Rattle.collector_main.specs.World.{empty_queues}
+use Rattle.script_run.specs.World.{empty_queues}
 use Rattle.collector_main.proofs.replay.new_queues.Given as goal
 
 abbrev pub invariant-loop-shard : goal.invariant-loop-shard

@@ -1,7 +1,7 @@
 use Rattle.std.proofs.Common.{ℕ, false, length, refl, sym, ap, subst, ◌∙◌, arith}
 use Rattle.std.proofs.lemmas.List.{length-replicate}
-use Rattle.collector_main.specs.Connections.{Contacts}
-use Rattle.collector_main.specs.World.{empty_queues}
+use Rattle.script_run.specs.Connections.{Contacts}
+use Rattle.script_run.specs.World.{empty_queues}
 use Rattle.collector_main.specs.Pulling.{AreQuiet, ends_of}
 use Rattle.collector_main.proofs.Quiet.{none-due-now, ends-now}
 use Rattle.collector_main.proofs.replay.replay_run.Goals as goal

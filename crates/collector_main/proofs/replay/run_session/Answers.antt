@@ -2,7 +2,7 @@ use Rattle.std.proofs.Common.{Bool, sym, ap, ◌∙◌}
 use Rattle.std.specs.Prelude.{not}
 use Rattle.span_sink.specs.LineSinks.{LineSinkState, up_state}
 use Rattle.collector_main.specs.declared.session.Session.{Session}
-use Rattle.collector_main.specs.World.{new_world}
+use Rattle.script_run.specs.World.{new_world}
 use Rattle.collector_main.specs.Replay.{Run, settings_by}
 use Rattle.collector_main.specs.Pulling.{AreOf}
 use Rattle.collector_main.proofs.Finish.{run-ends, is_up_state, is_down_state, not-false}

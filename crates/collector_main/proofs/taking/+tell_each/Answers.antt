@@ -2,7 +2,7 @@ use Rattle.std.proofs.Common.{List, [], ◌∷◌, ap, sym, subst, ◌∙◌}
 use Rattle.otlp_types.specs.declared.arrival.Item.{Item}
 use Rattle.shard_core.specs.Held.{Held}
 use Rattle.shard_core.specs.Taking.{ends_after}
-use Rattle.collector_main.specs.World.{to_each}
+use Rattle.script_run.specs.World.{to_each}
 use Rattle.collector_main.specs.Signals.{item_of}
 use Rattle.collector_main.specs.Pulling.{EachTakes, TakesItems, AreQuiet, HaveSettings}
 use Rattle.collector_main.proofs.Several.{EachTakes-cons, AreQuiet-cons}

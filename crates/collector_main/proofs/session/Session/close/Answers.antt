@@ -2,8 +2,8 @@ use Rattle.std.proofs.Common.{◌≡◌, ◌<◌, ℕ, ◌+◌, List, length, re
 use Rattle.std.proofs.lemmas.List.{with_items_is}
 use Rattle.otlp_types.specs.declared.arrival.Item.{Item}
 use Rattle.shard_core.specs.Held.{Held}
-use Rattle.collector_main.specs.Connections.{Contacts}
-use Rattle.collector_main.specs.World.{ends_from, empty_queues}
+use Rattle.script_run.specs.Connections.{Contacts}
+use Rattle.script_run.specs.World.{ends_from, empty_queues}
 use Rattle.collector_main.specs.Pulling.{RoundsTaken, HaveSettings, AreQuiet, ends_of}
 use Rattle.collector_main.proofs.Several.{ends_from-same}
 use Rattle.collector_main.proofs.Quiet.{quiets, released-length, quiet-now, none-due-now, ends-now}

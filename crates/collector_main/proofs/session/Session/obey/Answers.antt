@@ -1,7 +1,7 @@
 use Rattle.std.proofs.Common.{sym, subst}
 use Rattle.tsc_script.specs.declared.command.Command.{Command}
 use Rattle.tsc_script.specs.Instructions.{instruction_of_command}
-use Rattle.collector_main.specs.World.{World, Plays}
+use Rattle.script_run.specs.World.{World, Plays}
 use Rattle.collector_main.specs.Pulling.{AreOf}
 use Rattle.collector_main.proofs.session.Session.obey.Goals as goal
 

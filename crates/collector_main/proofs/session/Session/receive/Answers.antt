@@ -2,7 +2,7 @@ use Rattle.std.proofs.Common.{ℕ, List, length, refl, sym, ap, subst, ◌∙◌
 use Rattle.std.specs.List.{AllByRecursion}
 use Rattle.otlp_types.specs.declared.arrival.Item.{Item}
 use Rattle.lane_queue.specs.Queues.{QueueState}
-use Rattle.collector_main.specs.World.{World, empty_queues}
+use Rattle.script_run.specs.World.{World, empty_queues}
 use Rattle.collector_main.specs.Pulling.{AreOf, AreQuiet, HoldsQueued, ends_of, rounds_of}
 use Rattle.collector_main.proofs.Queues.{submits-kept, empty-queued, queues-left}
 use Rattle.collector_main.proofs.Quiet.{quiets, receives, released-length, quiet-now, open-now, none-due-now, ends-now}

@@ -3,7 +3,7 @@ use Rattle.std.proofs.lemmas.List.{with_items_is}
 use Rattle.otlp_types.specs.declared.arrival.Item.{Item}
 use Rattle.otlp_types.specs.declared.arrival.Item.TheVariants.{Tick}
 use Rattle.shard_core.specs.Held.{Held}
-use Rattle.collector_main.specs.World.{to_each, empty_queues}
+use Rattle.script_run.specs.World.{to_each, empty_queues}
 use Rattle.collector_main.specs.Pulling.{EachTakes, HaveSettings, ends_of}
 use Rattle.collector_main.proofs.Several.{to_each-same}
 use Rattle.collector_main.proofs.Quiet.{quiets, one-round, released-length, quiet-now, open-now, none-due-now, ends-now}

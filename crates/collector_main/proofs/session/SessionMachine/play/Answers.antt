@@ -1,6 +1,6 @@
 use Rattle.std.proofs.Common.{◌∙◌, ℕ, subst}
 use Rattle.tsc_script.specs.Instructions.{instruction_of_command}
-use Rattle.collector_main.specs.World.{Plays}
+use Rattle.script_run.specs.World.{Plays}
 use Rattle.collector_main.proofs.Quiet.{PlaysAll-push}
 use Rattle.collector_main.proofs.session.SessionMachine.play.Goals as goal
 
