@@ -10,7 +10,7 @@ use Rattle.script_run.specs.CoreRun.{core_config, IsRunOfCore}
 
 -- settings and sizes with which a script can be played over so many lanes: the senders are the lanes and the ticker, and a batch, a queue and a limit hold something
 pub record CanPlay (s : Settings) (sizes : Sizes) (lanes : ℕ) : Type 0 where
-  pub lanes : 0 < lanes
+  pub some_lane : 0 < lanes
   pub senders : s.senders ≡ lanes + 1
   pub batch : 0 < sizes.batch
   pub keeps : KeepsATrace (core_config s sizes)
