@@ -1,3 +1,6 @@
 pub mod Stands
 pub mod Writing
 pub mod Numbering
+pub mod Lanes
+pub mod Routing
+pub mod Receiving
