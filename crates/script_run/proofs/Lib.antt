@@ -4,3 +4,5 @@ pub mod Numbering
 pub mod Lanes
 pub mod Routing
 pub mod Receiving
+pub mod Playing
+pub mod Whole
