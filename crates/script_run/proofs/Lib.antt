@@ -6,3 +6,4 @@ pub mod Routing
 pub mod Receiving
 pub mod Playing
 pub mod Whole
+pub mod Calm

@@ -5,4 +5,5 @@ pub mod World
 pub mod Counts
 pub mod Writing
 pub mod CoreRun
+pub mod Calm
 pub mod Laws

@@ -1,0 +1,136 @@
+-- What was calm at the end was calm before.
+use Rattle.std.proofs.Common.{◌≡◌, ℕ, ◌+◌, ◌<◌, ◌≤◌, Bool, true, false, List, [], ◌∷◌, ◌++◌, length, map, refl, ap, sym, subst, ◌∙◌, arith, inl, inr}
+use Rattle.std.specs.List.{AllByRecursion}
+use Rattle.otlp_types.specs.declared.arrival.Arrival.{Arrival}
+use Rattle.otlp_types.specs.declared.arrival.Item.{Item}
+use Rattle.span_ids.specs.declared.outcome.Reason.{Reason}
+use Rattle.span_ids.specs.declared.outcome.Reason.TheVariants.{InvalidId, QueueFull, NoMemory, Evicted, NotSampled, LateNotSampled, ExporterDown}
+use Rattle.shard_core.specs.Journal.{Settings, Journal}
+use Rattle.span_sink.specs.LineSinks.{LineSinkState, TakesWhole, FailsInside}
+use Rattle.span_exporter.specs.Exports.{Sends, Spoils, WritesLine}
+use Rattle.span_exporter.specs.declared.answer.Flushed.{Flushed}
+use Rattle.span_exporter.specs.declared.answer.Flushed.TheVariants.{Handed, Spoiled, Empty}
+use Rattle.lane_seq.specs.declared.reply.Reply.{Reply}
+use Rattle.lane_seq.specs.declared.reply.Reply.TheVariants.{Busy}
+use Rattle.tsc_script.specs.Instructions.{Instruction, receive, tick, close}
+use Rattle.script_run.specs.Requests.{Reading, reads, refuses, reply_line}
+use Rattle.script_run.specs.World.{World, Sizes, Event, replied, was_sent, Takes, TakesEach, TakesRounds, RunsToQuiet, RepliesAndRuns, Answers, Plays, PlaysAll, after_reply, entry_of}
+use Rattle.script_run.specs.Writing.{Writes, WritesAll}
+use Rattle.script_run.specs.Calm.{is_refusal, is_marked, IsUnmarked, Calm}
+use Rattle.script_run.proofs.Writing.{sends_writes}
+
+-- what holds of each of these and more holds of these, and of the others
+pub all_left : {X : Type 0} (P : X → Type 0) (xs ys : List X) → AllByRecursion P (xs ++ ys) → AllByRecursion P xs
+all_left P [] ys h = tt
+all_left P (x ∷ xs) ys h = (h.0, all_left P xs ys h.1)
+
+pub all_right : {X : Type 0} (P : X → Type 0) (xs ys : List X) → AllByRecursion P (xs ++ ys) → AllByRecursion P ys
+all_right P [] ys h = h
+all_right P (x ∷ xs) ys h = all_right P xs ys h.1
+
+-- ---- the sink
+
+module _ (old new : LineSinkState) (up : new.is_down ≡ false) where
+  was_up : new ≡ old → old.is_down ≡ false
+  was_up e = ap (λ (z : LineSinkState). z.is_down) (sym e) ∙ up
+
+  up_before_spoiled : (reason : Reason) (batch : List Arrival) → Spoils reason old batch new → old.is_down ≡ false
+  up_before_spoiled NoMemory batch h = h.0
+  up_before_spoiled ExporterDown batch (inl h) = h.2.was_up
+  up_before_spoiled ExporterDown batch (inr h) = was_up h.1
+  up_before_spoiled InvalidId batch h = absurd h
+  up_before_spoiled QueueFull batch h = absurd h
+  up_before_spoiled Evicted batch h = absurd h
+  up_before_spoiled NotSampled batch h = absurd h
+  up_before_spoiled LateNotSampled batch h = absurd h
+
+  up_before_sent : (batch : List Arrival) (flushed : Flushed) → Sends old batch flushed new → old.is_down ≡ false
+  up_before_sent batch Empty h = was_up h.1
+  up_before_sent batch (Handed n) h = h.2.2.was_up
+  up_before_sent batch (Spoiled n reason) h = up_before_spoiled reason batch h.2
+
+  up_before_line : (line : List ℕ) → WritesLine old line new → old.is_down ≡ false
+  up_before_line line (inl h) = h.was_up
+  up_before_line line (inr (inl h)) = h.was_up
+  up_before_line line (inr (inr h)) = was_up h.1
+
+  -- a sink that is up was up before an event
+  pub up_before : (event : Event) → Writes old event new → old.is_down ≡ false
+  up_before (replied reply) h = up_before_line (reply_line reply) h
+  up_before (was_sent sent) h = up_before_sent sent.batch sent.flushed h
+
+-- and before several
+pub up_before_all : (events : List Event) (old new : LineSinkState) → new.is_down ≡ false → WritesAll old events new → old.is_down ≡ false
+up_before_all [] old new up h = was_up old new up h
+up_before_all (event ∷ more) old new up h = up_before old h.0 (up_before_all more h.0 new up h.2) event h.1
+
+-- ---- the journals
+
+unmarked_before : (s : Settings) (items : List Item) (before after : Journal) → Takes s before items after → IsUnmarked after → IsUnmarked before
+unmarked_before s [] before after h u = subst IsUnmarked h u
+unmarked_before s (item ∷ more) before after h u = (unmarked_before s more (entry_of item h.0 h.1 ∷ before) after h.3 u).1
+
+-- an entry that was taken is unmarked
+pub unmarked_entry : (s : Settings) (item : Item) (more : List Item) (before after : Journal) → (h : Takes s before (item ∷ more) after) → IsUnmarked after → is_marked (entry_of item h.0 h.1) ≡ false
+unmarked_entry s item more before after h u = (unmarked_before s more (entry_of item h.0 h.1 ∷ before) after h.3 u).0
+
+each_before : (s : Settings) (before : List Journal) (items : List (List Item)) (after : List Journal) (released : List Arrival) → TakesEach s before items after released
+    → AllByRecursion IsUnmarked after → AllByRecursion IsUnmarked before
+each_before s [] items after released h u = tt
+each_before s (j ∷ js) [] after released h u = absurd h
+each_before s (j ∷ js) (own ∷ others) [] released h u = absurd h
+each_before s (j ∷ js) (own ∷ others) (k ∷ ks) released h u = (unmarked_before s own j k h.2.0 u.0, each_before s js others ks h.1 h.3 u.1)
+
+-- journals that are unmarked were so before several rounds
+pub rounds_before : (s : Settings) (before : List Journal) (rounds : List (List (List Item))) (after : List Journal) (released : List Arrival) → TakesRounds s before rounds after released
+    → AllByRecursion IsUnmarked after → AllByRecursion IsUnmarked before
+rounds_before s before [] after released h u = subst (AllByRecursion IsUnmarked) h.0 u
+rounds_before s before (items ∷ more) after released h u = each_before s before items h.0 h.1 h.3 (rounds_before s h.0 more after h.2 h.4 u)
+
+-- ---- the world
+
+module _ (s : Settings) (sizes : Sizes) where
+  pub calm_before_runs : (old new : World) (rounds : List (List (List Item))) → RunsToQuiet s sizes old rounds new → Calm new → Calm old
+  calm_before_runs old new rounds r c = record {
+    events = all_left (λ event. is_refusal event ≡ false) old.events (map was_sent r.batches) (subst (AllByRecursion (λ event. is_refusal event ≡ false)) (ap (λ (z : World). z.events) r.becomes) c.events);
+    journals = rounds_before s old.journals rounds new.journals r.released r.takes c.journals;
+    up = up_before_all (map was_sent r.batches) old.sink new.sink c.up (sends_writes r.batches old.sink new.sink r.sends.sends);
+  }
+
+  -- a reply is no refusal where all was calm
+  pub calm_reply : (old new : World) (reply : Reply) (rounds : List (List (List Item))) → RepliesAndRuns s sizes old reply rounds new → Calm new → is_refusal (replied reply) ≡ false
+  calm_reply old new reply rounds r c =
+      let after = calm_before_runs (after_reply reply r.0 old) new rounds r.2 c in
+      (all_right (λ event. is_refusal event ≡ false) old.events (replied reply ∷ []) after.events).0
+
+  pub calm_before_replies : (old new : World) (reply : Reply) (rounds : List (List (List Item))) → RepliesAndRuns s sizes old reply rounds new → Calm new → Calm old
+  calm_before_replies old new reply rounds r c =
+      let after = calm_before_runs (after_reply reply r.0 old) new rounds r.2 c in
+      record {
+        events = all_left (λ event. is_refusal event ≡ false) old.events (replied reply ∷ []) after.events;
+        journals = after.journals;
+        up = up_before_line old.sink r.0 after.up (reply_line reply) r.1;
+      }
+
+  -- what the request changes of a world isn't what makes it calm
+  as_calm : (old with_it : World) → old.events ≡ with_it.events → old.journals ≡ with_it.journals → old.sink ≡ with_it.sink → Calm with_it → Calm old
+  as_calm old with_it e f g c = record {
+    events = subst (AllByRecursion (λ event. is_refusal event ≡ false)) (sym e) c.events;
+    journals = subst (AllByRecursion IsUnmarked) (sym f) c.journals;
+    up = ap (λ (z : LineSinkState). z.is_down) g ∙ c.up;
+  }
+
+  calm_before_answers : (old new : World) (number moment : ℕ) (reading : Reading) → Answers s sizes old number moment reading new → Calm new → Calm old
+  calm_before_answers old new number moment (refuses reply) r c = as_calm old _ refl refl refl (calm_before_replies _ new reply [] r c)
+  calm_before_answers old new number moment (reads request) r c = as_calm old _ refl refl refl (calm_before_replies _ new r.0 _ r.3 c)
+
+  calm_before_one : (old new : World) (instruction : Instruction) → Plays s sizes old instruction new → Calm new → Calm old
+  calm_before_one old new (receive number moment body) (is_open, inl r) c = calm_before_replies old new Busy [] r.1 c
+  calm_before_one old new (receive number moment body) (is_open, inr r) c = calm_before_answers old new number moment r.0 r.2 c
+  calm_before_one old new (tick moment) r c = calm_before_runs old new _ r.1 c
+  calm_before_one old new close r c = as_calm old _ refl refl refl (calm_before_runs (record old { closed = true }) new _ r.1 c)
+
+  -- what is calm after instructions was calm before them
+  pub calm_before : (played : List Instruction) (old new : World) → PlaysAll s sizes old played new → Calm new → Calm old
+  calm_before [] old new r c = subst Calm r c
+  calm_before (instruction ∷ more) old new r c = calm_before_one old r.0 instruction r.1 (calm_before more r.0 new r.2 c)
