@@ -53,7 +53,7 @@ pub record Stands (s : Settings) (sizes : Sizes) (w : World) (queues : List (Lis
   pub down : k.down ≡ w.sink.is_down
   pub dropped : (reason : Reason) → length (under reason k.counted) ≡ number_of s w (Dropped reason)
   pub handed_over : length (handed_spans k) ≡ number_of s w Handed
-  pub open : w.closed ≡ false → AllByRecursion HasNoEnd w.journals
+  pub «open» : w.closed ≡ false → AllByRecursion HasNoEnd w.journals
   pub closed : w.closed ≡ true → IsClosed (core_config s sizes) k
 
 -- steps lead from this state of the core to one that stands so
