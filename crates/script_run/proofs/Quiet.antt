@@ -1,7 +1,7 @@
 -- What a script's instructions do once the queues are filled: the core takes, decides, ships and sends until all is quiet.
-use Rattle.std.proofs.Common.{◌≡◌, ℕ, ◌+◌, ◌<◌, Bool, true, false, List, [], ◌∷◌, ◌++◌, map, length, Some, ◌⊎◌, inl, inr, refl, ap, sym, subst, ◌∙◌, arith, append-nil}
+use Rattle.std.proofs.Common.{◌≡◌, ℕ, ◌+◌, ◌<◌, Bool, true, false, cond, List, [], ◌∷◌, ◌++◌, map, length, Some, None, option_and_then, ◌⊎◌, inl, inr, refl, ap, sym, subst, ◌∙◌, arith, append-nil}
 use Rattle.std.specs.List.{sum_by, AllByRecursion}
-use Rattle.std.proofs.lemmas.List.Sums.{sum_by-append}
+use Rattle.std.proofs.lemmas.List.Sums.{sum_by_push}
 use Rattle.otlp_types.specs.declared.arrival.Arrival.{Arrival}
 use Rattle.otlp_types.specs.declared.arrival.Item.{Item}
 use Rattle.otlp_types.specs.declared.arrival.Item.TheVariants.{Span, Tick}
@@ -12,7 +12,7 @@ use Rattle.span_exporter.specs.Exports.{WritesLine}
 use Rattle.drop_ledger.specs.declared.count.Count.{Count}
 use Rattle.drop_ledger.specs.declared.count.Count.TheVariants.{Handed, Dropped}
 use Rattle.span_world.specs.World.{World as Core}
-use Rattle.span_world.specs.Step.{fail}
+use Rattle.span_world.specs.Step.{fail, run_from}
 use Rattle.script_run.specs.World.{World, Sizes, TakesEach, RunsToQuiet, was_sent, replied, after_reply, to_each, ends_from}
 use Rattle.script_run.specs.Counts.{number_of, counted_at}
 use Rattle.script_run.specs.Writing.{handed_in}
@@ -28,13 +28,37 @@ use Rattle.script_run.proofs.QuietStands.{lanes_count, lanes_same, Finished, Shi
 
 -- where the sink is as the reply left it, the core stands so
 replied_stands : (s : Settings) (sizes : Sizes) (old : World) (queues : List (List Arrival)) (k : Core) (reply : Reply) (sink : LineSinkState) (down : Bool)
-    → Stands s sizes old queues k → down ≡ sink.is_down → (old.closed ≡ true → down ≡ k.down) → Stands s sizes (after_reply reply sink old) queues (record k { down = down })
-replied_stands s sizes old queues k reply sink down h e closed = ?
+    → Stands s sizes old queues k → down ≡ sink.is_down → Stands s sizes (after_reply reply sink old) queues (record k { down = down })
+replied_stands s sizes old queues k reply sink down h e = record {
+  lanes = h.lanes ∙ lanes_same old new refl refl 0 (length old.contacts.connected);
+  senders = h.senders;
+  same = h.same;
+  shards = h.shards;
+  exported = h.exported;
+  batch = h.batch;
+  handed = h.handed ∙ sym (handed_append old.events (replied reply ∷ []) ∙ append-nil (handed_in old.events));
+  down = e;
+  dropped = λ reason. h.dropped reason ∙ sym (same_number (Dropped reason));
+  handed_over = h.handed_over ∙ sym (same_number Handed);
+  «open» = h.«open»;
+  closed = λ f. let g = h.closed f in record { lanes_ended = g.lanes_ended; ends_taken = g.ends_taken; nothing_waits = g.nothing_waits };
+}
+  where
+    new : World
+    new = after_reply reply sink old
+
+    same_number : (count : Count) → number_of s (after_reply reply sink old) count ≡ number_of s old count
+    same_number count = omega (arith, lanes_count (after_reply reply sink old) old refl refl count, sum_by_push (counted_at count) old.events (replied reply))
 
 -- a reply that is written changes nothing but the sink
 pub writes_reply : (s : Settings) (sizes : Sizes) (old : World) (queues : List (List Arrival)) (k : Core) (reply : Reply) (line : List ℕ) (sink : LineSinkState)
     → Stands s sizes old queues k → WritesLine old.sink line sink → Reaches s sizes k (after_reply reply sink old) queues
-writes_reply s sizes old queues k reply line sink h written = ?
+writes_reply s sizes old queues k reply line sink h (inl whole) = ([], k, refl, replied_stands s sizes old queues k reply sink k.down h (h.down ∙ (whole.was_up ∙ sym whole.stays_up)))
+writes_reply s sizes old queues k reply line sink h (inr (inl part)) = (fail ∷ [], record k { down = true }, failed, replied_stands s sizes old queues k reply sink true h (sym part.goes_down))
+  where
+    failed : run_from (core_config s sizes) k (fail ∷ []) ≡ Some (record k { down = true })
+    failed = ap (λ (b : Bool). option_and_then (λ (w : Core). Some w) (cond b None (Some (record k { down = true })))) (h.down ∙ part.was_up)
+writes_reply s sizes old queues k reply line sink h (inr (inr nothing)) = ([], k, refl, replied_stands s sizes old queues k reply sink k.down h (h.down ∙ ap (λ (z : LineSinkState). z.is_down) (sym nothing.1)))
 
 -- ---- a round of items
 
