@@ -5,4 +5,7 @@ pub mod TakingRounds
 pub mod TakingItems
 pub mod SendingBatches
 pub mod QuietStands
+pub mod ClosingLanes
+pub mod ClosingDecided
+pub mod ClosingEnds
 pub mod Quiet

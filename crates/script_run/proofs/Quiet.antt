@@ -11,7 +11,7 @@ use Rattle.span_sink.specs.LineSinks.{LineSinkState}
 use Rattle.span_exporter.specs.Exports.{WritesLine}
 use Rattle.drop_ledger.specs.declared.count.Count.{Count}
 use Rattle.drop_ledger.specs.declared.count.Count.TheVariants.{Handed, Dropped}
-use Rattle.span_world.specs.World.{World as Core}
+use Rattle.span_world.specs.World.{Config, World as Core}
 use Rattle.span_world.specs.Step.{fail, run_from}
 use Rattle.script_run.specs.World.{World, Sizes, TakesEach, RunsToQuiet, was_sent, replied, after_reply, to_each, ends_from}
 use Rattle.script_run.specs.Counts.{number_of, counted_at}
@@ -23,6 +23,8 @@ use Rattle.script_run.proofs.TakingRounds.{AllTakable}
 use Rattle.script_run.proofs.TakingItems.{may_take_queues, may_take_ticks, IsNoEnd, takes_no_ends, queues_no_end, ticks_no_end}
 use Rattle.script_run.proofs.SendingBatches.{handed_append}
 use Rattle.script_run.proofs.QuietStands.{lanes_count, lanes_same, Finished, Shipped, shipped_nothing, ships_round, sends_released, reaches_after}
+use Rattle.script_run.proofs.ClosingLanes.{with_lanes, closes_lanes}
+use Rattle.script_run.proofs.ClosingEnds.{Ended, none_ended, all_finished, takes_all_ends}
 
 -- ---- a reply
 
@@ -114,4 +116,39 @@ takes_tick s sizes moment old new k holds h is_open runs = takes_round s sizes o
 pub closes : (s : Settings) (sizes : Sizes) (old new : World) (k : Core) → 0 < sizes.batch
     → Stands s sizes old (no_queues old.journals) k → old.closed ≡ false
     → RunsToQuiet s sizes (record old { closed = true }) (ends_from 0 (length old.contacts.connected + 1) old.journals) new → Reaches s sizes k new (no_queues new.journals)
-closes s sizes old new k holds h is_open runs = ?
+closes s sizes old new k holds h is_open runs = subst (λ (z : World). Reaches s sizes k z (no_queues z.journals)) (sym runs.becomes)
+    (reaches_after s sizes k all.0 (record w { journals = new.journals; events = old.events ++ map was_sent runs.batches; sink = new.sink }) (no_queues new.journals)
+    (leads_then c k k_closed all.0 ends all.1)
+    (sends_released s sizes w new.journals runs.released all.0 runs.batches new.sink holds all.2 (λ e. absurd (cc e)) (λ e. all_finished s new.journals all.3) runs.sends))
+  where
+    c : Config
+    c = core_config s sizes
+
+    w : World
+    w = record old { closed = true }
+
+    lanes : ℕ
+    lanes = length old.contacts.connected
+
+    k_closed : Core
+    k_closed = with_lanes k (lanes_from w 0 lanes)
+
+    ends : Leads c k k_closed
+    ends = leads_then c k (with_lanes k (lanes_from old 0 lanes)) k_closed (leads_same c _ _ (ap (with_lanes k) h.lanes)) (closes_lanes c k old is_open lanes 0 [] refl)
+
+    ships : Shipped s w (no_queues old.journals) old.journals [] k_closed
+    ships = record {
+      lanes = refl;
+      senders = h.senders;
+      shards = h.shards;
+      exported = h.exported;
+      batch = h.batch;
+      handed = h.handed;
+      down = h.down;
+      dropped = λ reason. omega (arith, h.dropped reason, lanes_count old (record w { journals = old.journals }) refl refl (Dropped reason));
+      handed_over = h.handed_over;
+    }
+
+    all : (after : Core) × Leads c k_closed after × Shipped s w (no_queues new.journals) new.journals runs.released after × AllByRecursion (Ended s s.senders) new.journals
+    all = takes_all_ends s sizes w (lanes + 1) 0 old.journals old.journals new.journals [] runs.released k_closed refl (omega (arith, h.senders)) ships
+        (none_ended s old.journals (omega (arith, h.senders)) (h.«open» is_open)) runs.takes

@@ -62,7 +62,7 @@ pub then_none : (a : Effect) → a then no_effect ≡ a
 then_none a = same_effect _ _ _ _ (append-nil a.released) (append-nil a.counted)
 
 -- as many decisions as episodes are due
-length_decisions : (s : Settings) (J : Journal) → length (decisions_now s J) ≡ length (due_now s J)
+pub length_decisions : (s : Settings) (J : Journal) → length (decisions_now s J) ≡ length (due_now s J)
 length_decisions s [] = refl
 length_decisions s (e ∷ J) = length_in_turn s (e ∷ J) (due_at s e J e.item (notes s J)) (notes s J).decisions
 
