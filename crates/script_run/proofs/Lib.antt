@@ -7,3 +7,13 @@ pub mod Receiving
 pub mod Playing
 pub mod Whole
 pub mod Calm
+pub mod QuietRuns
+pub mod TakingOne
+pub mod TakingRounds
+pub mod TakingItems
+pub mod SendingBatches
+pub mod QuietStands
+pub mod ClosingLanes
+pub mod ClosingDecided
+pub mod ClosingEnds
+pub mod Quiet

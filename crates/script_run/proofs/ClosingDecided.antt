@@ -1,0 +1,101 @@
+-- At the last End each episode that stands undecided is decided.
+use Rattle.std.proofs.Common.{◌≡◌, ℕ, Bool, true, false, cond, not, ◌&&◌, ◌||◌, ◌==◌, List, [], ◌∷◌, ◌++◌, length, filter, flat_map, find, reverse, take, Option, Some, None, option_map, is_none, refl, ap, sym, subst, ◌∙◌, arith, append_assoc, eq-eqb}
+use Rattle.std.specs.List.{list_any}
+use Rattle.std.proofs.lemmas.List.{reverse-append, reverse-reverse}
+use Rattle.std.proofs.lemmas.List.Elements.{filter-append}
+use Rattle.otlp_types.specs.declared.arrival.Item.TheVariants.{End}
+use Rattle.shard_core.specs.Journal.{Settings, Entry, Journal, Opening, Decision, Notes, in_buffer, undecided, spans_since, decision, decisions_in_turn, decisions_at, due_at, due_now, after_decisions, notes, notes_dealt, has_finished, have_ended}
+use Rattle.span_world.specs.Places.{buffered_spans}
+use Rattle.shard_core.proofs.ListFacts.{Each, Each-left, Each-weaker, Each-reverse, Split}
+use Rattle.shard_core.proofs.Find.{not_found, any_none, any_split}
+use Rattle.shard_core.proofs.Notes.{is_open}
+use Rattle.shard_core.proofs.Sound.{open_before}
+use Rattle.span_world.proofs.Content.{take_whole}
+use Rattle.span_world.proofs.Dealing.{Split-each}
+use Rattle.script_run.specs.World.{entry_of}
+use Rattle.script_run.proofs.TakingOne.{length_decisions}
+
+-- ---- lists
+
+split_filter : {X : Type 0} (p : X → Bool) (x : X) (xs : List X) → Split x xs → p x ≡ true → Split x (filter p xs)
+split_filter p x xs k e = record {
+  front = filter p k.front;
+  back = filter p k.back;
+  is = ap (filter p) k.is ∙ (filter-append p k.front (x ∷ k.back) ∙ ap (λ b. filter p k.front ++ cond b (x ∷ filter p k.back) (filter p k.back)) e);
+}
+
+split_reverse : {X : Type 0} (x : X) (xs : List X) → Split x xs → Split x (reverse xs)
+split_reverse {X} x xs k = record {
+  front = reverse k.back;
+  back = reverse k.front;
+  is = ap (λ (z : List X). reverse z) k.is ∙ (reverse-append k.front (x ∷ k.back)
+      ∙ (ap (λ (z : List X). z ++ reverse k.front) (reverse-append (x ∷ []) k.back) ∙ append_assoc (reverse k.back) (x ∷ []) (reverse k.front)));
+}
+
+none_passes : {X : Type 0} (p : X → Bool) (xs : List X) → Each (λ x. p x ≡ false) xs → filter p xs ≡ []
+none_passes p [] h = refl
+none_passes p (x ∷ xs) h = rw (h.0) (none_passes p xs h.1)
+
+none_of_map : {X Y : Type 0} (f : X → Y) (o : Option X) → is_none (option_map f o) ≡ true → o ≡ None
+none_of_map f None e = refl
+none_of_map f (Some x) e = absurd (cc e)
+
+never_both : (b : Bool) → b ≡ true → b ≡ false → ⊥
+never_both b e f = cc (e, f)
+
+-- ---- decisions on all that is undecided
+
+any_decided : (s : Settings) (past : Journal) (os : List Opening) (earlier : List Decision) (place : ℕ)
+    → list_any (λ (d : Decision). d.opening.at == place) (decisions_in_turn s past os earlier) ≡ list_any (λ (o : Opening). o.at == place) os
+any_decided s past [] earlier place = refl
+any_decided s past (o ∷ os) earlier place = ap (λ b. (o.at == place) || b) (any_decided s past os (decision s past o earlier ∷ earlier) place)
+
+module _ (s : Settings) (past : Journal) (noted : Notes) (earlier : List Decision) where
+  abbrev all_decided : List Decision
+  all_decided = decisions_in_turn s past (undecided s noted) earlier
+
+  -- an episode that is open yet was among those that were decided
+  not_open : (o : Opening) → Split o (in_buffer s noted) → is_open (after_decisions all_decided noted) o ≡ true → ⊥
+  not_open o k e = never_both (list_any (λ (d : Decision). d.opening.at == o.at) all_decided) (any_decided s past (undecided s noted) earlier o.at ∙ was_due)
+      (any_none (λ (d : Decision). d.opening.at == o.at) all_decided none_decided)
+    where
+      place : Split o (undecided s noted)
+      place = split_reverse o (filter (is_open noted) (in_buffer s noted)) (split_filter (is_open noted) o (in_buffer s noted) k (open_before noted all_decided o e))
+
+      was_due : list_any (λ (x : Opening). x.at == o.at) (undecided s noted) ≡ true
+      was_due = subst (λ (z : List Opening). list_any (λ (x : Opening). x.at == o.at) z ≡ true) (sym place.is) (any_split (λ (x : Opening). x.at == o.at) place.front place.back o (eq-eqb o.at o.at refl))
+
+      none_found : Each (λ (d : Decision). (d.opening.at == o.at) ≡ false) (reverse all_decided ++ noted.decisions)
+      none_found = not_found (λ (d : Decision). d.opening.at == o.at) (reverse all_decided ++ noted.decisions)
+          (none_of_map (λ (d : Decision). d.verdict) (find (λ (d : Decision). d.opening.at == o.at) (reverse all_decided ++ noted.decisions)) e)
+
+      none_decided : Each (λ (d : Decision). (d.opening.at == o.at) ≡ false) all_decided
+      none_decided = subst (λ (z : List Decision). Each (λ (d : Decision). (d.opening.at == o.at) ≡ false) z) (reverse-reverse all_decided)
+          (Each-reverse (λ (d : Decision). (d.opening.at == o.at) ≡ false) (reverse all_decided) (Each-left (λ (d : Decision). (d.opening.at == o.at) ≡ false) (reverse all_decided) noted.decisions none_found))
+
+  none_undecided : undecided s (after_decisions all_decided noted) ≡ []
+  none_undecided = ap (λ (z : List Opening). reverse z) (none_passes (is_open (after_decisions all_decided noted)) (in_buffer s noted)
+      (Each-weaker (λ (o : Opening). Split o (in_buffer s noted)) (λ (o : Opening). is_open (after_decisions all_decided noted) o ≡ false) (in_buffer s noted)
+      (λ o k. if_not (is_open (after_decisions all_decided noted) o) (not_open o k)) (Split-each (in_buffer s noted))))
+    where
+      if_not : (b : Bool) → (b ≡ true → ⊥) → b ≡ false
+      if_not true f = absurd (f refl)
+      if_not false f = refl
+
+-- the End with which all senders have ended leaves nothing in the buffer that waits
+pub nothing_buffered : (s : Settings) (sender : ℕ) (refused lost : Bool) (before : Journal) → have_ended (entry_of (End sender) refused lost ∷ before) s.senders ≡ true → have_ended before s.senders ≡ false
+    → buffered_spans s (entry_of (End sender) refused lost ∷ before) (length (due_now s (entry_of (End sender) refused lost ∷ before))) ≡ []
+nothing_buffered s sender refused lost before h n = ap (λ (z : List Decision). flat_map (spans_since (e ∷ before)) (undecided s (after_decisions z (notes s before)))) (dealt ∙ due)
+    ∙ ap (flat_map (spans_since (e ∷ before))) (none_undecided s (e ∷ before) (notes s before) (notes s before).decisions)
+  where
+    e : Entry
+    e = entry_of (End sender) refused lost
+
+    finished : has_finished s e before ≡ true
+    finished = ap (λ b. b && not (have_ended before s.senders)) h ∙ ap (λ b. true && not b) n
+
+    dealt : take (length (due_now s (e ∷ before))) (decisions_at s e before (notes s before)) ≡ decisions_at s e before (notes s before)
+    dealt = take_whole (length (due_now s (e ∷ before))) (decisions_at s e before (notes s before)) (omega (arith, length_decisions s (e ∷ before)))
+
+    due : decisions_at s e before (notes s before) ≡ decisions_in_turn s (e ∷ before) (undecided s (notes s before)) (notes s before).decisions
+    due = ap (λ b. decisions_in_turn s (e ∷ before) (cond b (undecided s (notes s before)) []) (notes s before).decisions) finished

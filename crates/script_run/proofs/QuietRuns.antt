@@ -1,0 +1,30 @@
+-- Runs of the core's steps, one after the other.
+use Rattle.std.proofs.Common.{◌≡◌, List, [], ◌∷◌, ◌++◌, Option, Some, None, option_and_then, refl, ap, ◌∙◌, subst}
+use Rattle.span_world.specs.World.{Config, World as Core}
+use Rattle.span_world.specs.Step.{Step, step, run_from}
+
+-- steps lead from one state of the core to another
+abbrev pub Leads : Config → Core → Core → Type 0
+Leads c k after = (steps : List Step) × (run_from c k steps ≡ Some after)
+
+-- no step leads to the same state
+pub leads_same : (c : Config) (k after : Core) → k ≡ after → Leads c k after
+leads_same c k after e = ([], ap (λ (z : Core). Some z) e)
+
+-- one step leads to what it gives
+pub leads_one : (c : Config) (k after : Core) (s : Step) → step c k s ≡ Some after → Leads c k after
+leads_one c k after s e = (s ∷ [], ap (option_and_then (λ (w : Core). Some w)) e)
+
+-- steps and then further ones are a run
+run_append : (c : Config) (k : Core) (xs ys : List Step) → run_from c k (xs ++ ys) ≡ option_and_then (λ (w : Core). run_from c w ys) (run_from c k xs)
+run_append c k [] ys = refl
+run_append c k (x ∷ xs) ys = go (step c k x) (λ n. run_append c n xs ys)
+  where
+    go : (o : Option Core) → ((n : Core) → run_from c n (xs ++ ys) ≡ option_and_then (λ (w : Core). run_from c w ys) (run_from c n xs))
+        → option_and_then (λ (n : Core). run_from c n (xs ++ ys)) o ≡ option_and_then (λ (w : Core). run_from c w ys) (option_and_then (λ (n : Core). run_from c n xs) o)
+    go None h = refl
+    go (Some n) h = h n
+
+-- one run after another
+pub leads_then : (c : Config) (k mid after : Core) → Leads c k mid → Leads c mid after → Leads c k after
+leads_then c k mid after h g = (h.0 ++ g.0, run_append c k h.0 g.0 ∙ (ap (option_and_then (λ (w : Core). run_from c w g.0)) h.1 ∙ g.1))

@@ -1,0 +1,207 @@
+-- One shard of the core takes an item, decides all that is due and ships all that it released.
+use Rattle.std.proofs.Common.{◌≡◌, ℕ, zero, suc, ◌+◌, Bool, true, false, cond, not, ◌&&◌, ◌==◌, nat_lt, List, [], ◌∷◌, ◌++◌, map, length, slice_get, slice_set, Option, Some, None, option_map, option_and_then, refl, ap, sym, subst, ◌∙◌, arith, append_assoc, append-nil, length-append}
+use Rattle.std.proofs.lemmas.Bool.Decides.{nat_tests}
+use Rattle.otlp_types.specs.declared.arrival.Arrival.{Arrival}
+use Rattle.otlp_types.specs.declared.arrival.Item.{Item}
+use Rattle.otlp_types.specs.declared.arrival.Item.TheVariants.{Span, Tick, End}
+use Rattle.shard_core.specs.Journal.{Settings, Entry, Journal, Decision, due_now, due_at, decisions_now, notes, has_ended}
+use Rattle.shard_core.specs.Fate.{Effect, no_effect, ◌then◌, DroppedSpan, effect, effect_of_taking, effect_of_decision, effect_of_decisions}
+use Rattle.shard_core.specs.Taking.{marks_apply_to_ids}
+use Rattle.span_world.specs.World.{Config, Shard, World as Core, settings, ticker, has_due}
+use Rattle.span_world.specs.Step.{take as take_step, tick, end, decide, ship, take_on, tick_on, end_on, decide_on, ship_on, sender_is_done, after_decision}
+use Rattle.span_world.proofs.Content.{length_in_turn}
+use Rattle.script_run.specs.World.{entry_of, Takes}
+use Rattle.script_run.proofs.Stands.{quiet_shard}
+use Rattle.script_run.proofs.QuietRuns.{Leads, leads_same, leads_one, leads_then}
+
+-- ---- lists, tests and effects
+
+-- what stands behind a front
+pub mid_get : {X : Type 0} (front : List X) (x : X) (back : List X) → slice_get (front ++ x ∷ back) (length front) ≡ Some x
+mid_get [] x back = refl
+mid_get (y ∷ front) x back = mid_get front x back
+
+-- what stands behind a front is replaced
+pub mid_set : {X : Type 0} (front : List X) (x y : X) (back : List X) → slice_set (front ++ x ∷ back) (length front) y ≡ front ++ y ∷ back
+mid_set [] x y back = refl
+mid_set {X} (z ∷ front) x y back = ap (λ (l : List X). z ∷ l) (mid_set front x y back)
+
+-- where the first test fails and the second holds
+passes : {X : Type 0} (a b : Bool) (x : X) → a ≡ false → b ≡ true → cond (not a && b) (Some x) None ≡ Some x
+passes true b x e f = absurd (cc e)
+passes false true x e f = refl
+passes false false x e f = absurd (cc f)
+
+-- where two tests fail
+passes_none : {X : Type 0} (a b : Bool) (x : X) → a ≡ false → b ≡ false → cond (not a && not b) (Some x) None ≡ Some x
+passes_none true b x e f = absurd (cc e)
+passes_none false true x e f = absurd (cc f)
+passes_none false false x e f = refl
+
+-- where two tests fail and the third holds
+passes_third : {X : Type 0} (a b d : Bool) (x : X) → a ≡ false → b ≡ false → d ≡ true → cond (not a && not b && d) (Some x) None ≡ Some x
+passes_third true b d x e f g = absurd (cc e)
+passes_third false true d x e f g = absurd (cc f)
+passes_third false false true x e f g = refl
+passes_third false false false x e f g = absurd (cc g)
+
+-- no number is below itself
+not_below_itself : (n : ℕ) → nat_lt n n ≡ false
+not_below_itself n = grind (arith, nat_tests)
+
+-- an effect by its parts
+same_effect : (r q : List Arrival) (n m : List DroppedSpan) → r ≡ q → n ≡ m → (let a : Effect = record { released = r; counted = n } in a) ≡ record { released = q; counted = m }
+same_effect r q n m e f = cc (e, f)
+
+-- effects one after the other, however they are put together
+pub then_assoc : (a b d : Effect) → (a then b) then d ≡ a then (b then d)
+then_assoc a b d = same_effect _ _ _ _ (append_assoc a.released b.released d.released) (append_assoc a.counted b.counted d.counted)
+
+-- an effect and then none
+pub then_none : (a : Effect) → a then no_effect ≡ a
+then_none a = same_effect _ _ _ _ (append-nil a.released) (append-nil a.counted)
+
+-- as many decisions as episodes are due
+pub length_decisions : (s : Settings) (J : Journal) → length (decisions_now s J) ≡ length (due_now s J)
+length_decisions s [] = refl
+length_decisions s (e ∷ J) = length_in_turn s (e ∷ J) (due_at s e J e.item (notes s J)) (notes s J).decisions
+
+-- what an entry does: taking it, and then the decisions at it
+abbrev pub gain : Settings → Entry → Journal → Effect
+gain s e J = effect_of_taking s e J then effect_of_decisions (decisions_now s (e ∷ J))
+
+-- a journal's effect with one more entry
+pub effect_more : (s : Settings) (e : Entry) (J : Journal) → effect s (e ∷ J) ≡ effect s J then gain s e J
+effect_more s e J = then_assoc (effect s J) (effect_of_taking s e J) (effect_of_decisions (decisions_now s (e ∷ J)))
+
+-- ---- one shard of many
+
+module _ (c : Config) (k : Core) where
+  -- the settings of each shard
+  abbrev pub own : Settings
+  own = settings c k
+
+  -- the core where the shards, what they shipped and what is counted are these
+  abbrev pub with_shards : List Shard → (exported : List Arrival) → (counted : List DroppedSpan) → Core
+  with_shards shards exported counted = record k { shards = shards; exported = exported; counted = counted }
+
+  -- a shard by its parts
+  abbrev shard : (queue : List Arrival) → Journal → (dealt : ℕ) → (unshipped : List Arrival) → Shard
+  shard queue J dealt unshipped = record { queue = queue; journal = J; dealt = dealt; unshipped = unshipped }
+
+  module _ (front rest : List Shard) where
+    -- the core with this shard among the others
+    abbrev pub among : Shard → (exported : List Arrival) → (counted : List DroppedSpan) → Core
+    among sh exported counted = with_shards (front ++ sh ∷ rest) exported counted
+
+    decides_one : (q u X : List Arrival) (J : Journal) (n : ℕ) (C : List DroppedSpan) (d : Decision) → slice_get (decisions_now own J) n ≡ Some d
+        → Leads c (among (shard q J n u) X C) (among (shard q J (n + 1) (u ++ (effect_of_decision d).released)) X (C ++ (effect_of_decision d).counted))
+    decides_one q u X J n C d e = leads_one c _ _ (decide (length front)) (ap (option_and_then (decide_on c w (length front))) (mid_get front sh rest)
+        ∙ (ap (option_map (λ (d : Decision). after_decision w (length front) sh (effect_of_decision d))) e
+        ∙ ap (λ (z : List Shard). Some (with_shards z X (C ++ (effect_of_decision d).counted))) (mid_set front sh (shard q J (n + 1) (u ++ (effect_of_decision d).released)) rest)))
+      where
+        sh : Shard
+        sh = shard q J n u
+
+        w : Core
+        w = among (shard q J n u) X C
+
+    decides_all : (q u X : List Arrival) (J : Journal) (C : List DroppedSpan) (dealt ds : List Decision) → decisions_now own J ≡ dealt ++ ds
+        → Leads c (among (shard q J (length dealt) u) X C)
+        (among (shard q J (length (due_now own J)) (u ++ (effect_of_decisions ds).released)) X (C ++ (effect_of_decisions ds).counted))
+    decides_all q u X J C dealt [] e = leads_same c _ _ (cc (append-nil u, append-nil C, all))
+      where
+        all : length dealt ≡ length (due_now own J)
+        all = sym (ap (λ (z : List Decision). length z) (e ∙ append-nil dealt)) ∙ length_decisions own J
+    decides_all q u X J C dealt (d ∷ ds) e = leads_then c _ _ _ (decides_one q u X J (length dealt) C d (ap (λ (z : List Decision). slice_get z (length dealt)) e ∙ mid_get dealt d ds))
+        (leads_then c _ _ _ (leads_same c _ _ (ap (λ (n : ℕ). among (shard q J n (u ++ one.released)) X (C ++ one.counted)) longer))
+        (leads_then c _ _ _ (decides_all q (u ++ one.released) X J (C ++ one.counted) (dealt ++ d ∷ []) ds (e ∙ sym (append_assoc dealt (d ∷ []) ds)))
+        (leads_same c _ _ (cc (append_assoc u one.released (effect_of_decisions ds).released, append_assoc C one.counted (effect_of_decisions ds).counted)))))
+      where
+        one : Effect
+        one = effect_of_decision d
+
+        longer : length dealt + 1 ≡ length (dealt ++ d ∷ [])
+        longer = omega (arith, length-append dealt (d ∷ []))
+
+    ships_all : (q u X : List Arrival) (J : Journal) (n : ℕ) (C : List DroppedSpan) → Leads c (among (shard q J n u) X C) (among (shard q J n []) (X ++ u) C)
+    ships_all q [] X J n C = leads_same c _ _ (ap (λ (z : List Arrival). among (shard q J n []) z C) (sym (append-nil X)))
+    ships_all q (a ∷ u) X J n C = leads_then c _ (among (shard q J n u) (X ++ a ∷ []) C) _ (leads_one c _ _ (ship (length front)) one)
+        (leads_then c _ _ _ (ships_all q u (X ++ a ∷ []) J n C) (leads_same c _ _ (ap (λ (z : List Arrival). among (shard q J n []) z C) (append_assoc X (a ∷ []) u))))
+      where
+        w : Core
+        w = among (shard q J n (a ∷ u)) X C
+
+        one : option_and_then (λ (sh : Shard). ship_on w (length front) sh sh.unshipped) (slice_get (front ++ shard q J n (a ∷ u) ∷ rest) (length front)) ≡ Some (among (shard q J n u) (X ++ a ∷ []) C)
+        one = ap (option_and_then (λ (sh : Shard). ship_on w (length front) sh sh.unshipped)) (mid_get front (shard q J n (a ∷ u)) rest)
+            ∙ ap (λ (z : List Shard). Some (with_shards z (X ++ a ∷ []) C)) (mid_set front (shard q J n (a ∷ u)) (shard q J n u) rest)
+
+    -- once an entry was taken, all that is due is decided and all that was released is shipped
+    settles : (q X : List Arrival) (J : Journal) (e : Entry) (C : List DroppedSpan)
+        → Leads c (among (shard q (e ∷ J) 0 (effect_of_taking own e J).released) X (C ++ (effect_of_taking own e J).counted))
+        (among (quiet_shard own q (e ∷ J)) (X ++ (gain own e J).released) (C ++ (gain own e J).counted))
+    settles q X J e C = leads_then c _ _ _ (decides_all q did.released X (e ∷ J) (C ++ did.counted) [] (decisions_now own (e ∷ J)) refl)
+        (leads_then c _ _ _ (leads_same c _ _ (ap (λ (z : List DroppedSpan). among (shard q (e ∷ J) (length (due_now own (e ∷ J))) (gain own e J).released) X z) (append_assoc C did.counted ds.counted)))
+        (ships_all q (gain own e J).released X (e ∷ J) (length (due_now own (e ∷ J))) (C ++ (gain own e J).counted)))
+      where
+        did : Effect
+        did = effect_of_taking own e J
+
+        ds : Effect
+        ds = effect_of_decisions (decisions_now own (e ∷ J))
+
+    nothing_due : (q : List Arrival) (J : Journal) → has_due own (quiet_shard own q J) ≡ false
+    nothing_due q J = not_below_itself (length (due_now own J))
+
+    -- a quiet shard takes an entry, and is quiet again
+    abbrev pub TakesQuietly : (before after : List Arrival) (J : Journal) (e : Entry) → Type 0
+    TakesQuietly before after J e = (X : List Arrival) (C : List DroppedSpan)
+        → Leads c (among (quiet_shard own before J) X C) (among (quiet_shard own after (e ∷ J)) (X ++ (gain own e J).released) (C ++ (gain own e J).counted))
+
+    pub takes_span : (a : Arrival) (q : List Arrival) (J : Journal) (refused lost : Bool) → marks_apply_to_ids own J refused lost a.rec.span.ids ≡ true
+        → TakesQuietly (a ∷ q) q J (entry_of (Span a) refused lost)
+    takes_span a q J refused lost marks X C = leads_then c _ _ _ (leads_one c _ _ (take_step (length front) refused lost) one) (settles q X J e C)
+      where
+        e : Entry
+        e = entry_of (Span a) refused lost
+
+        w : Core
+        w = among (quiet_shard own (a ∷ q) J) X C
+
+        one : option_and_then (λ (sh : Shard). take_on c w (length front) refused lost sh sh.queue) (slice_get (front ++ quiet_shard own (a ∷ q) J ∷ rest) (length front))
+            ≡ Some (among (shard q (e ∷ J) 0 (effect_of_taking own e J).released) X (C ++ (effect_of_taking own e J).counted))
+        one = ap (option_and_then (λ (sh : Shard). take_on c w (length front) refused lost sh sh.queue)) (mid_get front (quiet_shard own (a ∷ q) J) rest)
+            ∙ (passes (has_due own (quiet_shard own (a ∷ q) J)) (marks_apply_to_ids own J refused lost a.rec.span.ids) _ (nothing_due (a ∷ q) J) marks
+            ∙ ap (λ (z : List Shard). Some (with_shards z X (C ++ (effect_of_taking own e J).counted))) (mid_set front (quiet_shard own (a ∷ q) J) (shard q (e ∷ J) 0 (effect_of_taking own e J).released) rest))
+
+    pub takes_tick : (moment : ℕ) (q : List Arrival) (J : Journal) → has_ended J (ticker k) ≡ false → TakesQuietly q q J (entry_of (Tick moment) false false)
+    takes_tick moment q J runs X C = leads_then c _ _ _ (leads_one c _ _ (tick (length front) moment) one) (settles q X J e C)
+      where
+        e : Entry
+        e = entry_of (Tick moment) false false
+
+        w : Core
+        w = among (quiet_shard own q J) X C
+
+        one : option_and_then (tick_on c w (length front) moment) (slice_get (front ++ quiet_shard own q J ∷ rest) (length front))
+            ≡ Some (among (shard q (e ∷ J) 0 (effect_of_taking own e J).released) X (C ++ (effect_of_taking own e J).counted))
+        one = ap (option_and_then (tick_on c w (length front) moment)) (mid_get front (quiet_shard own q J) rest)
+            ∙ (passes_none (has_due own (quiet_shard own q J)) (has_ended J (ticker k)) _ (nothing_due q J) runs
+            ∙ ap (λ (z : List Shard). Some (with_shards z X (C ++ (effect_of_taking own e J).counted))) (mid_set front (quiet_shard own q J) (shard q (e ∷ J) 0 (effect_of_taking own e J).released) rest))
+
+    pub takes_end : (sender : ℕ) (q : List Arrival) (J : Journal) → has_ended J sender ≡ false
+        → ((X : List Arrival) (C : List DroppedSpan) → sender_is_done (among (quiet_shard own q J) X C) (length front) (quiet_shard own q J) sender (slice_get k.lanes sender) ≡ true)
+        → TakesQuietly q q J (entry_of (End sender) false false)
+    takes_end sender q J runs done X C = leads_then c _ _ _ (leads_one c _ _ (end (length front) sender) one) (settles q X J e C)
+      where
+        e : Entry
+        e = entry_of (End sender) false false
+
+        w : Core
+        w = among (quiet_shard own q J) X C
+
+        one : option_and_then (end_on c w (length front) sender) (slice_get (front ++ quiet_shard own q J ∷ rest) (length front))
+            ≡ Some (among (shard q (e ∷ J) 0 (effect_of_taking own e J).released) X (C ++ (effect_of_taking own e J).counted))
+        one = ap (option_and_then (end_on c w (length front) sender)) (mid_get front (quiet_shard own q J) rest)
+            ∙ (passes_third (has_due own (quiet_shard own q J)) (has_ended J sender) (sender_is_done w (length front) (quiet_shard own q J) sender (slice_get k.lanes sender)) _ (nothing_due q J) runs (done X C)
+            ∙ ap (λ (z : List Shard). Some (with_shards z X (C ++ (effect_of_taking own e J).counted))) (mid_set front (quiet_shard own q J) (shard q (e ∷ J) 0 (effect_of_taking own e J).released) rest))
