@@ -17,3 +17,4 @@ pub mod ClosingLanes
 pub mod ClosingDecided
 pub mod ClosingEnds
 pub mod Quiet
+pub mod Runs

@@ -5,10 +5,18 @@
 //! is a law of all scripts.
 #![tactic(auto)]
 
-ghost use Rattle.script_run.specs.Laws.{EachWritesItsEvents};
+ghost use Rattle.script_run.specs.Laws.{EachIsARunOfCore, EachWritesItsEvents};
 
 /// The sink has the lines of the replies and of the batches that were handed over, in turn, and after a failed write
 /// nothing more.
 pub fn writes_its_events()
     ensures { EachWritesItsEvents }
+{}
+
+/// Each script that is played is a run of the core from its new world: the lanes received what the script's connections
+/// did, the shards have the script's journals, the batches that were handed over and the counts are the same, and the
+/// headline of the core holds. Between two lines each span that waits is in a shard's buffer, and once the script is
+/// closed so is the core.
+pub fn scripts_are_runs_of_the_core()
+    ensures { EachIsARunOfCore }
 {}
