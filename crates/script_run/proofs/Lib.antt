@@ -18,3 +18,4 @@ pub mod ClosingDecided
 pub mod ClosingEnds
 pub mod Quiet
 pub mod Runs
+pub mod Agreeing
