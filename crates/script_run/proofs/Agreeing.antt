@@ -1,8 +1,8 @@
 -- What two calm runs of one script take, send and reply is the same.
-use Rattle.std.proofs.Common.{◌≡◌, ℕ, ◌+◌, ◌^◌, ◌<◌, ◌≤◌, Bool, true, false, ◌||◌, List, [], ◌∷◌, ◌++◌, length, map, filter, Some, None, refl, ap, sym, subst, ◌∙◌, arith, inl, inr}
+use Rattle.std.proofs.Common.{◌≡◌, ℕ, ◌+◌, ◌^◌, ◌<◌, Bool, true, false, ◌||◌, List, [], ◌∷◌, ◌++◌, length, map, filter, Some, None, refl, ap, sym, subst, ◌∙◌, arith, inl, inr}
 use Rattle.std.specs.Coded.{le_prop}
 use mathlib.Core.HLevel.{is_prop→PathP}
-use Rattle.std.specs.List.{AllByRecursion, flat_map}
+use Rattle.std.specs.List.{AllByRecursion}
 use Rattle.std.proofs.lemmas.List.{append-nil, length-append}
 use Rattle.serde_json.specs.Data.{Data}
 use Rattle.otlp_json.specs.Decoding.{IsJson}
@@ -29,8 +29,8 @@ use Rattle.span_exporter.specs.declared.answer.Flushed.{Flushed}
 use Rattle.span_exporter.specs.declared.answer.Flushed.TheVariants.{Handed, Spoiled, Empty}
 use Rattle.script_run.specs.Requests.{Reading, reads, refuses, IsTakenFor}
 use Rattle.script_run.specs.Sending.{Sent, spans_of, AreBatches, SendsAll}
-use Rattle.script_run.specs.World.{Event, was_sent, Takes, TakesFor, TakesEach, TakesRounds, entry_of}
-use Rattle.script_run.specs.Calm.{is_for_memory, is_refusal, is_marked, IsUnmarked}
+use Rattle.script_run.specs.World.{was_sent, Takes, TakesEach, TakesRounds, entry_of}
+use Rattle.script_run.specs.Calm.{is_for_memory, is_refusal, IsUnmarked}
 use Rattle.script_run.proofs.Writing.{sends_writes}
 use Rattle.script_run.proofs.Calm.{up_before_all, unmarked_entry, rounds_before}
 
@@ -73,8 +73,7 @@ each_same s (j ∷ js) (own ∷ others) (k ∷ ks) [] x y h g u v = absurd g
 each_same s (j ∷ js) (own ∷ others) (k ∷ ks) (l ∷ ls) x y h g u v =
     let first = takes_same s own j k l h.2.0 g.2.0 u.0 v.0 in
     let rest = each_same s js others ks ls h.1 g.1 h.3 g.3 u.1 v.1 in
-    let out = parts_same (output s j) (output s j) h.0 g.0 refl (sym h.2.1 ∙ (ap (output s) first ∙ g.2.1)) in
-    (
+    let out = parts_same (output s j) (output s j) h.0 g.0 refl (sym h.2.1 ∙ (ap (output s) first ∙ g.2.1)) in (
       ap (λ (z : Journal). z ∷ ks) first ∙ ap (λ (z : List Journal). l ∷ z) rest.0,
       h.4 ∙ (ap (λ (z : List Arrival). z ++ h.1) out.1 ∙ (ap (λ (z : List Arrival). g.0 ++ z) rest.1 ∙ sym g.4)),
     )
@@ -129,9 +128,9 @@ pub all_handed : (size : ℕ) (old new : LineSinkState) (batches : List Sent) �
     → AllByRecursion (λ event. is_refusal event ≡ false) (map was_sent batches) → AllByRecursion IsHanded batches
 all_handed size old new [] are h up calm = tt
 all_handed size old new (one ∷ more) are h up calm = (
-    handed_one old h.0 one (some_spans size one more are) h.1 (up_before_all (map was_sent more) h.0 new up (sends_writes more h.0 new h.2)) calm.0,
-    all_handed size h.0 new more (more_batches size one more are) h.2 up calm.1,
-  )
+  handed_one old h.0 one (some_spans size one more are) h.1 (up_before_all (map was_sent more) h.0 new up (sends_writes more h.0 new h.2)) calm.0,
+  all_handed size h.0 new more (more_batches size one more are) h.2 up calm.1,
+)
 
 handed_same : (x y : Sent) → x.batch ≡ y.batch → IsHanded x → IsHanded y → x ≡ y
 handed_same x y e h g =

@@ -19,3 +19,4 @@ pub mod ClosingEnds
 pub mod Quiet
 pub mod Runs
 pub mod Agreeing
+pub mod CalmRuns

@@ -1,5 +1,5 @@
 -- The sink has the lines of the events, by induction over a script.
-use Rattle.std.proofs.Common.{◌≡◌, ℕ, ◌+◌, Bool, cond, List, [], ◌∷◌, ◌++◌, map, refl, ap, sym, subst, ◌∙◌, arith, inl, inr}
+use Rattle.std.proofs.Common.{◌≡◌, ℕ, ◌+◌, Bool, false, cond, List, [], ◌∷◌, ◌++◌, map, refl, ap, sym, subst, ◌∙◌, arith, inl, inr}
 use Rattle.otlp_types.specs.declared.arrival.Arrival.{Arrival}
 use Rattle.shard_core.specs.Journal.{Settings}
 use Rattle.span_ids.specs.declared.outcome.Reason.{Reason}
@@ -108,8 +108,12 @@ module _ (s : Settings) (sizes : Sizes) (first : LineSinkState) where
   plays_all [] old new h r = subst (λ (z : World). HasWritten first z) (sym r) h
   plays_all (instruction ∷ more) old new h r = plays_all more r.0 new (plays old r.0 instruction h r.1) r.2
 
--- the law
-pub each_writes_its_events : EachWritesItsEvents
-each_writes_its_events s sizes lanes shards first played after can up r =
+-- what is played from the new world writes its events
+pub has_written : (s : Settings) (sizes : Sizes) (first : LineSinkState) (played : List Instruction) (lanes shards : ℕ) (after : World) → first.is_down ≡ false → PlaysAll s sizes (new_world lanes shards first) played after → HasWritten first after
+has_written s sizes first played lanes shards after up r =
     let start : FailedOnce first first = subst (λ (b : Bool). first.failures ≡ first.failures + cond {A = ℕ} b 1 0) (sym up) (omega arith) in
     plays_all s sizes first played (new_world lanes shards first) after (refl, start) r
+
+-- the law
+pub each_writes_its_events : EachWritesItsEvents
+each_writes_its_events s sizes lanes shards first played after can up r = has_written s sizes first played lanes shards after up r

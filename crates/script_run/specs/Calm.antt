@@ -1,5 +1,5 @@
 -- A script run in which no memory was refused and no write failed.
-use Rattle.std.specs.Prelude.{◌≡◌, Bool, true, false, ◌||◌, List}
+use Rattle.std.specs.Prelude.{◌≡◌, Bool, true, false, ◌||◌}
 use Rattle.std.specs.List.{AllByRecursion}
 use Rattle.span_ids.specs.declared.outcome.Reason.TheVariants.{NoMemory}
 use Rattle.lane_seq.specs.declared.reply.Reply.TheVariants.{Busy}

@@ -1,5 +1,5 @@
 -- What holds of every script that is played.
-use Rattle.std.specs.Prelude.{◌≡◌, ℕ, ◌+◌, ◌<◌, false, List}
+use Rattle.std.specs.Prelude.{◌≡◌, ℕ, ◌+◌, ◌<◌, false, List, Some}
 use Rattle.shard_core.specs.Journal.{Settings}
 use Rattle.span_sink.specs.LineSinks.{LineSinkState}
 use Rattle.span_world.specs.World.{KeepsATrace}
@@ -7,6 +7,7 @@ use Rattle.tsc_script.specs.Instructions.{Instruction}
 use Rattle.script_run.specs.World.{World, Sizes, new_world, PlaysAll}
 use Rattle.script_run.specs.Writing.{WritesAll, FailedOnce}
 use Rattle.script_run.specs.CoreRun.{core_config, IsRunOfCore}
+use Rattle.script_run.specs.Calm.{Calm}
 
 -- settings and sizes with which a script can be played over so many lanes: the senders are the lanes and the ticker, and a batch, a queue and a limit hold something
 pub record CanPlay (s : Settings) (sizes : Sizes) (lanes : ℕ) : Type 0 where
@@ -27,3 +28,18 @@ EachIsARunOfCore = OfEachScript (λ s sizes lanes shards first after. IsRunOfCor
 -- the sink has the lines of the events, and has failed once where it is down
 abbrev pub EachWritesItsEvents : Type 0
 EachWritesItsEvents = OfEachScript (λ s sizes lanes shards first after. WritesAll first after.events after.sink × FailedOnce first after.sink)
+
+-- two runs did the same: they received the same spans on the same connections, their shards took the same and their events are the same; where the bytes of the sink are known at first, they are the same at last
+pub record Agrees (first : LineSinkState) (a b : World) : Type 0 where
+  pub contacts : a.contacts ≡ b.contacts
+  pub received : a.received ≡ b.received
+  pub full : a.full ≡ b.full
+  pub journals : a.journals ≡ b.journals
+  pub events : a.events ≡ b.events
+  pub closed : a.closed ≡ b.closed
+  pub sink : (bytes : List ℕ) → first.taken ≡ Some bytes → a.sink ≡ b.sink
+
+-- two runs of one script do the same, where in neither memory was refused or a write failed
+abbrev pub CalmRunsAgree : Type 0
+CalmRunsAgree = (s : Settings) (sizes : Sizes) (lanes shards : ℕ) (first : LineSinkState) (played : List Instruction) (a b : World)
+    → PlaysAll s sizes (new_world lanes shards first) played a → PlaysAll s sizes (new_world lanes shards first) played b → Calm a → Calm b → Agrees first a b

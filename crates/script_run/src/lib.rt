@@ -1,11 +1,11 @@
 //! What a script means, and that each script that is played is a run of the core.
 //!
 //! The definitions are in `specs/`, to be read in this order: `Connections`, `Requests`, `Sending`, `World` (what an
-//! instruction does), `Counts`, `Writing`, `CoreRun`, `Laws`. The functions of this crate do nothing: the contract of each
-//! is a law of all scripts.
+//! instruction does), `Counts`, `Writing`, `CoreRun`, `Calm`, `Laws`. The functions of this crate do nothing: the contract
+//! of each is a law of all scripts.
 #![tactic(auto)]
 
-ghost use Rattle.script_run.specs.Laws.{EachIsARunOfCore, EachWritesItsEvents};
+ghost use Rattle.script_run.specs.Laws.{CalmRunsAgree, EachIsARunOfCore, EachWritesItsEvents};
 
 /// The sink has the lines of the replies and of the batches that were handed over, in turn, and after a failed write
 /// nothing more.
@@ -20,3 +20,11 @@ pub fn writes_its_events()
 pub fn scripts_are_runs_of_the_core()
     ensures { EachIsARunOfCore }
 {}
+
+/// Two runs of one script receive, take and write the same, where in neither memory was refused or a write failed; where
+/// the bytes of the sink are known at first, the runs leave the same bytes.
+pub fn calm_runs_agree()
+    ensures { CalmRunsAgree }
+{
+    span_batch::line_is_unique();
+}
