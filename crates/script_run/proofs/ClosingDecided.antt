@@ -4,7 +4,7 @@ use Rattle.std.specs.List.{list_any}
 use Rattle.std.proofs.lemmas.List.{reverse-append, reverse-reverse}
 use Rattle.std.proofs.lemmas.List.Elements.{filter-append}
 use Rattle.otlp_types.specs.declared.arrival.Item.TheVariants.{End}
-use Rattle.shard_core.specs.Journal.{Settings, Entry, Journal, Opening, Decision, Notes, in_buffer, undecided, spans_since, decision, decisions_in_turn, decisions_at, due_at, due_now, after_decisions, notes, notes_dealt, has_finished, have_ended}
+use Rattle.shard_core.specs.Journal.{Settings, Entry, Journal, Opening, Decision, Notes, in_buffer, undecided, spans_since, decision, decisions_in_turn, decisions_at, due_now, after_decisions, notes, has_finished, have_ended}
 use Rattle.span_world.specs.Places.{buffered_spans}
 use Rattle.shard_core.proofs.ListFacts.{Each, Each-left, Each-weaker, Each-reverse, Split}
 use Rattle.shard_core.proofs.Find.{not_found, any_none, any_split}

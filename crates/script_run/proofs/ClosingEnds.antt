@@ -1,12 +1,11 @@
 -- Each shard of the core takes the End of each sender in turn.
-use Rattle.std.proofs.Common.{◌≡◌, ℕ, zero, suc, ◌+◌, ◌<◌, ◌≤◌, Bool, true, false, not, ◌&&◌, ◌||◌, ◌==◌, List, [], ◌∷◌, ◌++◌, length, slice_get, Option, Some, None, ◌⊎◌, inl, inr, refl, ap, sym, subst, ◌∙◌, arith, append_assoc, append-nil, eq-eqb, ne_eqb, add-one}
+use Rattle.std.proofs.Common.{◌≡◌, ℕ, zero, suc, ◌+◌, ◌<◌, ◌≤◌, Bool, true, false, ◌&&◌, ◌||◌, List, [], ◌∷◌, ◌++◌, length, slice_get, Option, Some, None, refl, ap, sym, subst, ◌∙◌, arith, append_assoc, append-nil, eq-eqb, ne_eqb, add-one}
 use Rattle.std.specs.List.{AllByRecursion}
 use Rattle.std.proofs.lemmas.Bool.{and_parts}
 use Rattle.otlp_types.specs.declared.arrival.Arrival.{Arrival}
 use Rattle.otlp_types.specs.declared.arrival.Item.TheVariants.{End}
 use Rattle.shard_core.specs.Journal.{Settings, Entry, Journal, due_now, is_end_of, has_ended, have_ended}
-use Rattle.shard_core.specs.Fate.{DroppedSpan}
-use Rattle.span_world.specs.World.{Config, Lane, Shard, World as Core}
+use Rattle.span_world.specs.World.{Config, Lane, World as Core}
 use Rattle.span_world.specs.Step.{sender_is_done}
 use Rattle.span_world.specs.Places.{buffered_spans}
 use Rattle.script_run.specs.World.{World, Sizes, entry_of, TakesEach, TakesRounds, to_each, ends_from}
@@ -62,8 +61,10 @@ next_ended s sender refused lost past h = record {
 takes_ends : (s : Settings) (sender : ℕ) (pasts each nexts : List Journal) (released : List Arrival) → TakesEach s pasts (to_each (End sender) each) nexts released
     → AllByRecursion (Ended s sender) pasts → AllByRecursion (Ended s (sender + 1)) nexts
 takes_ends s sender [] [] [] released h o = tt
-takes_ends s sender (past ∷ pasts) (one ∷ each) (next ∷ nexts) released h o = (subst (Ended s (sender + 1)) (sym h.2.0.3) (subst (λ n. Ended s n (entry_of (End sender) h.2.0.0 h.2.0.1 ∷ past)) (sym (add-one sender)) (next_ended s sender h.2.0.0 h.2.0.1 past o.0)),
-    takes_ends s sender pasts each nexts h.1 h.3 o.1)
+takes_ends s sender (past ∷ pasts) (one ∷ each) (next ∷ nexts) released h o = (
+  subst (Ended s (sender + 1)) (sym h.2.0.3) (subst (λ n. Ended s n (entry_of (End sender) h.2.0.0 h.2.0.1 ∷ past)) (sym (add-one sender)) (next_ended s sender h.2.0.0 h.2.0.1 past o.0)),
+  takes_ends s sender pasts each nexts h.1 h.3 o.1,
+)
 takes_ends s sender [] [] (next ∷ nexts) released h o = absurd h
 takes_ends s sender [] (one ∷ each) nexts released h o = absurd h
 takes_ends s sender (past ∷ pasts) [] nexts released h o = absurd h
@@ -119,7 +120,10 @@ takes_all_ends s sizes w zero sender pasts each nexts before released k closed n
     ships = subst (λ (z : List Journal). Shipped s w (no_queues z) z (before ++ released) k) (sym t.0) (subst (λ (z : List Arrival). Shipped s w (no_queues pasts) pasts z k) (sym (ap (λ (z : List Arrival). before ++ z) t.1 ∙ append-nil before)) h)
 takes_all_ends s sizes w (suc senders) sender pasts each nexts before released k closed n h o t =
     let one = ships_round s sizes w k (no_queues pasts) pasts t.0 (to_each (End sender) each) before t.1 h
-        (may_take_ends (core_config s sizes) k s sender pasts each t.0 t.1 (sender_done (core_config s sizes) k w (length w.contacts.connected) sender closed h.lanes (omega (arith, n, h.senders))) t.3 o) t.3 in
-    let more = takes_all_ends s sizes w senders (sender + 1) t.0 each nexts (before ++ t.1) t.2 one.0 closed (omega (arith, n)) one.2 (takes_ends s sender pasts each t.0 t.1 t.3 o) t.4 in
-    (more.0, leads_then (core_config s sizes) k one.0 more.0 one.1 more.1,
-    subst (λ (z : List Arrival). Shipped s w (no_queues nexts) nexts z more.0) (append_assoc before t.1 t.2 ∙ ap (λ (z : List Arrival). before ++ z) (sym t.5)) more.2, more.3)
+    (may_take_ends (core_config s sizes) k s sender pasts each t.0 t.1 (sender_done (core_config s sizes) k w (length w.contacts.connected) sender closed h.lanes (omega (arith, n, h.senders))) t.3 o) t.3 in
+    let more = takes_all_ends s sizes w senders (sender + 1) t.0 each nexts (before ++ t.1) t.2 one.0 closed (omega (arith, n)) one.2 (takes_ends s sender pasts each t.0 t.1 t.3 o) t.4 in (
+      more.0,
+      leads_then (core_config s sizes) k one.0 more.0 one.1 more.1,
+      subst (λ (z : List Arrival). Shipped s w (no_queues nexts) nexts z more.0) (append_assoc before t.1 t.2 ∙ ap (λ (z : List Arrival). before ++ z) (sym t.5)) more.2,
+      more.3,
+    )

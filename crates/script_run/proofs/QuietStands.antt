@@ -1,5 +1,5 @@
 -- How the core stands once all that the shards released has been sent.
-use Rattle.std.proofs.Common.{◌≡◌, ℕ, zero, suc, ◌+◌, ◌<◌, Bool, true, false, cond, List, [], ◌∷◌, ◌++◌, map, filter, flat_map, length, Some, refl, ap, sym, subst, ◌∙◌, arith}
+use Rattle.std.proofs.Common.{◌≡◌, ℕ, zero, suc, ◌+◌, ◌<◌, true, false, List, [], ◌∷◌, ◌++◌, map, filter, flat_map, length, refl, ap, sym, subst, ◌∙◌, arith}
 use Rattle.std.specs.List.{sum_by, list_all, AllByRecursion}
 use Rattle.std.proofs.lemmas.List.Sums.{sum_by-append}
 use Rattle.otlp_types.specs.declared.arrival.Arrival.{Arrival}
@@ -13,14 +13,14 @@ use Rattle.span_sink.specs.LineSinks.{LineSinkState}
 use Rattle.drop_ledger.specs.declared.count.Count.{Count}
 use Rattle.drop_ledger.specs.declared.count.Count.TheVariants.{Received, Handed, Dropped}
 use Rattle.span_world.specs.World.{Config, Lane, Shard, World as Core, settings}
-use Rattle.span_world.specs.Places.{HeldKey, handed, counted_under, exported, in_batch, held_at, held_by_lanes, held_by_shards, held, is_waiting, buffered_spans, waiting, IsClosed}
+use Rattle.span_world.specs.Places.{HeldKey, handed, counted_under, exported, held_at, held_by_lanes, held_by_shards, held, is_waiting, buffered_spans, IsClosed}
 use Rattle.span_world.specs.Headline.{handed_spans}
 use Rattle.script_run.specs.Sending.{Sent, spans_of, SendsInBatches}
 use Rattle.script_run.specs.World.{World, Sizes, was_sent, TakesEach}
 use Rattle.script_run.specs.Counts.{counted_at_lanes, counted_at, dropped_by_journal, number_of}
 use Rattle.script_run.specs.Writing.{handed_in}
 use Rattle.script_run.specs.CoreRun.{core_config}
-use Rattle.script_run.proofs.Stands.{shards_with, routed_lane, lanes_from, no_queues, HasNoEnd, Stands, Reaches}
+use Rattle.script_run.proofs.Stands.{shards_with, lanes_from, no_queues, HasNoEnd, Stands, Reaches}
 use Rattle.script_run.proofs.QuietRuns.{Leads, leads_same, leads_then}
 use Rattle.script_run.proofs.TakingOne.{own, with_shards}
 use Rattle.script_run.proofs.TakingRounds.{AllTakable, Rounded, rounds}

@@ -1,5 +1,5 @@
 -- The exporter of the core pulls the spans of batches, and hands each batch over or gives it up.
-use Rattle.std.proofs.Common.{◌≡◌, ℕ, zero, ◌+◌, ◌<◌, ◌≤◌, Bool, true, false, cond, not, ◌||◌, nat_lt, List, [], ◌∷◌, ◌++◌, map, filter, flat_map, length, Some, None, ◌⊎◌, inl, inr, refl, ap, sym, subst, ◌∙◌, arith, append_assoc, append-nil, length-append}
+use Rattle.std.proofs.Common.{◌≡◌, ℕ, zero, ◌+◌, ◌<◌, ◌≤◌, Bool, true, false, cond, not, ◌||◌, nat_lt, List, [], ◌∷◌, ◌++◌, map, filter, flat_map, length, Some, None, inl, inr, refl, ap, sym, ◌∙◌, arith, append_assoc, append-nil, length-append}
 use Rattle.std.specs.List.{sum_by}
 use Rattle.std.proofs.lemmas.Bool.Decides.{nat_tests}
 use Rattle.std.proofs.lemmas.List.Sums.{sum_by-cons}
@@ -89,8 +89,12 @@ one_handed Empty batch rest old new h = omega arith
 pub handed_counted : (batches : List Sent) (old new : LineSinkState) → SendsAll old batches new
     → length (flat_map (λ (b : List Arrival). b) (handed_in (map was_sent batches))) ≡ sum_by (counted_at Handed) (map was_sent batches)
 handed_counted [] old new h = refl
-handed_counted (one ∷ more) old new h = omega (arith, one_handed one.flushed one.batch (handed_in (map was_sent more)) old h.0 h.1, handed_counted more h.0 new h.2,
-    sum_by-cons (counted_at Handed) (was_sent one) (map was_sent more))
+handed_counted (one ∷ more) old new h = omega (
+  arith,
+  one_handed one.flushed one.batch (handed_in (map was_sent more)) old h.0 h.1,
+  handed_counted more h.0 new h.2,
+  sum_by-cons (counted_at Handed) (was_sent one) (map was_sent more),
+)
 
 -- ---- the steps
 

@@ -9,8 +9,7 @@ use Rattle.otlp_types.specs.declared.arrival.Item.TheVariants.{Span, Tick, End}
 use Rattle.span_ids.specs.declared.outcome.Reason.{Reason}
 use Rattle.shard_core.specs.Journal.{Journal, has_ended}
 use Rattle.shard_core.specs.Fate.{Effect, no_effect, ◌then◌, DroppedSpan, effect, is_same_reason, under}
-use Rattle.shard_core.specs.Taking.{marks_apply}
-use Rattle.span_world.specs.World.{Config, Shard, World as Core, settings, ticker}
+use Rattle.span_world.specs.World.{Config, Shard, World as Core, ticker}
 use Rattle.span_world.specs.Step.{sender_is_done}
 use Rattle.script_run.specs.World.{entry_of, Takes, TakesEach}
 use Rattle.script_run.specs.Counts.{dropped_by_journal}
@@ -116,8 +115,14 @@ module _ (c : Config) (k : Core) where
       → Rounded (front ++ quiet_shard (own c k) [] next ∷ []) queues pasts nexts (X ++ one.did.released) rest (C ++ one.did.counted) → Rounded front (queue ∷ queues) (past ∷ pasts) (next ∷ nexts) X released C
   rounded_more front queue queues past next pasts nexts X first rest released C e f one more = record {
     counted = more.counted;
-    counts = λ reason. omega (arith, more.counts reason, under_append reason C one.did.counted, own_counts reason,
-        sum_by-cons (dropped_by_journal (own c k) reason) past pasts, sum_by-cons (dropped_by_journal (own c k) reason) next nexts);
+    counts = λ reason. omega (
+      arith,
+      more.counts reason,
+      under_append reason C one.did.counted,
+      own_counts reason,
+      sum_by-cons (dropped_by_journal (own c k) reason) past pasts,
+      sum_by-cons (dropped_by_journal (own c k) reason) next nexts,
+    );
     leads = leads_then c _ _ _ one.leads (leads_then c _ _ _ (leads_same c _ _ (ap (λ (z : List Shard). with_shards c k z (X ++ one.did.released) (C ++ one.did.counted)) (sym (append_assoc front (done ∷ []) (shards_with (own c k) queues pasts)))))
         (leads_then c _ _ _ more.leads (leads_same c _ _ (ap (λ (z : List Shard). with_shards c k z ((X ++ one.did.released) ++ rest) more.counted) (append_assoc front (done ∷ []) (shards_with (own c k) (no_queues nexts) nexts))
         ∙ ap (λ (z : List Arrival). with_shards c k (front ++ done ∷ shards_with (own c k) (no_queues nexts) nexts) z more.counted) joined))));
