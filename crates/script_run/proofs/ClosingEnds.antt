@@ -35,6 +35,7 @@ pub all_finished : (s : Settings) (pasts : List Journal) → AllByRecursion (End
 all_finished s [] h = tt
 all_finished s (past ∷ pasts) h = ((h.0.before, h.0.last refl), all_finished s pasts h.1)
 
+-- senders that have ended stay so
 ended_more : (e : Entry) (past : Journal) (n : ℕ) → have_ended past n ≡ true → have_ended (e ∷ past) n ≡ true
 ended_more e past zero h = refl
 ended_more e past (suc n) h = let p = and_parts (has_ended past n) (have_ended past n) h in both (is_end_of n e.item) (has_ended past n) (have_ended (e ∷ past) n) p.0 (ended_more e past n p.1)
@@ -45,6 +46,7 @@ ended_more e past (suc n) h = let p = and_parts (has_ended past n) (have_ended p
     both a false d f g = absurd (cc f)
     both a true false f g = absurd (cc g)
 
+-- the End of the next sender is taken
 next_ended : (s : Settings) (sender : ℕ) (refused lost : Bool) (past : Journal) → Ended s sender past → Ended s (suc sender) (entry_of (End sender) refused lost ∷ past)
 next_ended s sender refused lost past h = record {
   before = all;
@@ -58,6 +60,7 @@ next_ended s sender refused lost past h = record {
     all : have_ended (e ∷ past) (suc sender) ≡ true
     all = ap (λ b. (b || has_ended past sender) && have_ended (e ∷ past) sender) (eq-eqb sender sender refl) ∙ ended_more e past sender h.before
 
+-- each shard takes the End of the next sender
 takes_ends : (s : Settings) (sender : ℕ) (pasts each nexts : List Journal) (released : List Arrival) → TakesEach s pasts (to_each (End sender) each) nexts released
     → AllByRecursion (Ended s sender) pasts → AllByRecursion (Ended s (sender + 1)) nexts
 takes_ends s sender [] [] [] released h o = tt
@@ -77,6 +80,7 @@ data LaneAt (w : World) (number : ℕ) (found : Option Lane) (lanes : ℕ) : Typ
   is_lane : (l : Lane) → found ≡ Some l → l.unrouted ≡ [] → l.ended ≡ w.closed → LaneAt w number found lanes
   is_past : found ≡ None → lanes ≤ number → LaneAt w number found lanes
 
+-- what stands at a number among the lanes
 lane_at : (w : World) (lane lanes number : ℕ) → LaneAt w number (slice_get (lanes_from w lane lanes) number) lanes
 lane_at w lane zero number = is_past refl (omega arith)
 lane_at w lane (suc lanes) zero = is_lane _ refl refl refl
@@ -86,6 +90,7 @@ lane_at w lane (suc lanes) (suc number) = go (lane_at w (lane + 1) lanes number)
     go (is_lane l f u e) = is_lane l f u e
     go (is_past f n) = is_past f (omega (arith, n))
 
+-- a lane of a closed script may send its End to a shard whose queue is empty, and so may the ticker
 sender_done : (c : Config) (k : Core) (w : World) (lanes sender : ℕ) → w.closed ≡ true → k.lanes ≡ lanes_from w 0 lanes → sender < lanes + 1 → IsDone c k sender
 sender_done c k w lanes sender closed l n shards exported counted place J = subst (λ (z : Option Lane). sender_is_done world place (quiet_shard (own c k) [] J) sender z ≡ true)
     (sym (ap (λ (z : List Lane). slice_get z sender) l)) (go (slice_get (lanes_from w 0 lanes) sender) (lane_at w 0 lanes sender))
@@ -97,6 +102,7 @@ sender_done c k w lanes sender closed l n shards exported counted place J = subs
     go found (is_lane x f u e) = rw (f, u, e ∙ closed) refl
     go found (is_past f p) = rw f (eq-eqb sender (length k.lanes) (omega (arith, n, p, ap (λ (z : List Lane). length z) l, length_lanes w 0 lanes)))
 
+-- each shard may take the End of the next sender
 may_take_ends : (c : Config) (k : Core) (s : Settings) (sender : ℕ) (pasts each nexts : List Journal) (released : List Arrival) → IsDone c k sender
     → TakesEach s pasts (to_each (End sender) each) nexts released → AllByRecursion (Ended s sender) pasts → AllTakable c k (no_queues pasts) pasts (to_each (End sender) each)
 may_take_ends c k s sender [] [] nexts released d h o = tt

@@ -64,6 +64,7 @@ writes_reply s sizes old queues k reply line sink h (inr (inr nothing)) = ([], k
 
 -- ---- a round of items
 
+-- no test is both false and true
 both_values : {A : Type 0} (b : Bool) → b ≡ false → b ≡ true → A
 both_values true e f = absurd (cc e)
 both_values false e f = absurd (cc f)
