@@ -4,7 +4,7 @@ use Rattle.std.specs.List.{list_any}
 use Rattle.std.proofs.lemmas.List.{reverse-append, reverse-reverse}
 use Rattle.std.proofs.lemmas.List.Elements.{filter-append}
 use Rattle.otlp_types.specs.declared.arrival.Item.TheVariants.{End}
-use Rattle.shard_core.specs.Journal.{Settings, Entry, Journal, Opening, Decision, Notes, in_buffer, undecided, spans_since, decision, decisions_in_turn, decisions_at, due_at, due_now, after_decisions, notes, notes_dealt, has_finished, have_ended}
+use Rattle.shard_core.specs.Journal.{Settings, Entry, Journal, Opening, Decision, Notes, in_buffer, undecided, spans_since, decision, decisions_in_turn, decisions_at, due_now, after_decisions, notes, has_finished, have_ended}
 use Rattle.span_world.specs.Places.{buffered_spans}
 use Rattle.shard_core.proofs.ListFacts.{Each, Each-left, Each-weaker, Each-reverse, Split}
 use Rattle.shard_core.proofs.Find.{not_found, any_none, any_split}
@@ -17,6 +17,7 @@ use Rattle.script_run.proofs.TakingOne.{length_decisions}
 
 -- ---- lists
 
+-- an element that passes stands among those that pass
 split_filter : {X : Type 0} (p : X → Bool) (x : X) (xs : List X) → Split x xs → p x ≡ true → Split x (filter p xs)
 split_filter p x xs k e = record {
   front = filter p k.front;
@@ -24,6 +25,7 @@ split_filter p x xs k e = record {
   is = ap (filter p) k.is ∙ (filter-append p k.front (x ∷ k.back) ∙ ap (λ b. filter p k.front ++ cond b (x ∷ filter p k.back) (filter p k.back)) e);
 }
 
+-- an element of a list is one of its reverse
 split_reverse : {X : Type 0} (x : X) (xs : List X) → Split x xs → Split x (reverse xs)
 split_reverse {X} x xs k = record {
   front = reverse k.back;
@@ -32,25 +34,30 @@ split_reverse {X} x xs k = record {
       ∙ (ap (λ (z : List X). z ++ reverse k.front) (reverse-append (x ∷ []) k.back) ∙ append_assoc (reverse k.back) (x ∷ []) (reverse k.front)));
 }
 
+-- where none passes the filter leaves nothing
 none_passes : {X : Type 0} (p : X → Bool) (xs : List X) → Each (λ x. p x ≡ false) xs → filter p xs ≡ []
 none_passes p [] h = refl
 none_passes p (x ∷ xs) h = rw (h.0) (none_passes p xs h.1)
 
+-- an option is none where its image is
 none_of_map : {X Y : Type 0} (f : X → Y) (o : Option X) → is_none (option_map f o) ≡ true → o ≡ None
 none_of_map f None e = refl
 none_of_map f (Some x) e = absurd (cc e)
 
+-- no test is both true and false
 never_both : (b : Bool) → b ≡ true → b ≡ false → ⊥
 never_both b e f = cc (e, f)
 
 -- ---- decisions on all that is undecided
 
+-- the decisions on some episodes are at their places
 any_decided : (s : Settings) (past : Journal) (os : List Opening) (earlier : List Decision) (place : ℕ)
     → list_any (λ (d : Decision). d.opening.at == place) (decisions_in_turn s past os earlier) ≡ list_any (λ (o : Opening). o.at == place) os
 any_decided s past [] earlier place = refl
 any_decided s past (o ∷ os) earlier place = ap (λ b. (o.at == place) || b) (any_decided s past os (decision s past o earlier ∷ earlier) place)
 
 module _ (s : Settings) (past : Journal) (noted : Notes) (earlier : List Decision) where
+  -- the decisions on all episodes that are undecided
   abbrev all_decided : List Decision
   all_decided = decisions_in_turn s past (undecided s noted) earlier
 
@@ -73,6 +80,7 @@ module _ (s : Settings) (past : Journal) (noted : Notes) (earlier : List Decisio
       none_decided = subst (λ (z : List Decision). Each (λ (d : Decision). (d.opening.at == o.at) ≡ false) z) (reverse-reverse all_decided)
           (Each-reverse (λ (d : Decision). (d.opening.at == o.at) ≡ false) (reverse all_decided) (Each-left (λ (d : Decision). (d.opening.at == o.at) ≡ false) (reverse all_decided) noted.decisions none_found))
 
+  -- after these decisions no episode is undecided
   none_undecided : undecided s (after_decisions all_decided noted) ≡ []
   none_undecided = ap (λ (z : List Opening). reverse z) (none_passes (is_open (after_decisions all_decided noted)) (in_buffer s noted)
       (Each-weaker (λ (o : Opening). Split o (in_buffer s noted)) (λ (o : Opening). is_open (after_decisions all_decided noted) o ≡ false) (in_buffer s noted)

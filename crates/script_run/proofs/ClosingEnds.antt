@@ -1,12 +1,11 @@
 -- Each shard of the core takes the End of each sender in turn.
-use Rattle.std.proofs.Common.{◌≡◌, ℕ, zero, suc, ◌+◌, ◌<◌, ◌≤◌, Bool, true, false, not, ◌&&◌, ◌||◌, ◌==◌, List, [], ◌∷◌, ◌++◌, length, slice_get, Option, Some, None, ◌⊎◌, inl, inr, refl, ap, sym, subst, ◌∙◌, arith, append_assoc, append-nil, eq-eqb, ne_eqb, add-one}
+use Rattle.std.proofs.Common.{◌≡◌, ℕ, zero, suc, ◌+◌, ◌<◌, ◌≤◌, Bool, true, false, ◌&&◌, ◌||◌, List, [], ◌∷◌, ◌++◌, length, slice_get, Option, Some, None, refl, ap, sym, subst, ◌∙◌, arith, append_assoc, append-nil, eq-eqb, ne_eqb, add-one}
 use Rattle.std.specs.List.{AllByRecursion}
 use Rattle.std.proofs.lemmas.Bool.{and_parts}
 use Rattle.otlp_types.specs.declared.arrival.Arrival.{Arrival}
 use Rattle.otlp_types.specs.declared.arrival.Item.TheVariants.{End}
 use Rattle.shard_core.specs.Journal.{Settings, Entry, Journal, due_now, is_end_of, has_ended, have_ended}
-use Rattle.shard_core.specs.Fate.{DroppedSpan}
-use Rattle.span_world.specs.World.{Config, Lane, Shard, World as Core}
+use Rattle.span_world.specs.World.{Config, Lane, World as Core}
 use Rattle.span_world.specs.Step.{sender_is_done}
 use Rattle.span_world.specs.Places.{buffered_spans}
 use Rattle.script_run.specs.World.{World, Sizes, entry_of, TakesEach, TakesRounds, to_each, ends_from}
@@ -36,6 +35,7 @@ pub all_finished : (s : Settings) (pasts : List Journal) → AllByRecursion (End
 all_finished s [] h = tt
 all_finished s (past ∷ pasts) h = ((h.0.before, h.0.last refl), all_finished s pasts h.1)
 
+-- senders that have ended stay so
 ended_more : (e : Entry) (past : Journal) (n : ℕ) → have_ended past n ≡ true → have_ended (e ∷ past) n ≡ true
 ended_more e past zero h = refl
 ended_more e past (suc n) h = let p = and_parts (has_ended past n) (have_ended past n) h in both (is_end_of n e.item) (has_ended past n) (have_ended (e ∷ past) n) p.0 (ended_more e past n p.1)
@@ -46,6 +46,7 @@ ended_more e past (suc n) h = let p = and_parts (has_ended past n) (have_ended p
     both a false d f g = absurd (cc f)
     both a true false f g = absurd (cc g)
 
+-- the End of the next sender is taken
 next_ended : (s : Settings) (sender : ℕ) (refused lost : Bool) (past : Journal) → Ended s sender past → Ended s (suc sender) (entry_of (End sender) refused lost ∷ past)
 next_ended s sender refused lost past h = record {
   before = all;
@@ -59,11 +60,14 @@ next_ended s sender refused lost past h = record {
     all : have_ended (e ∷ past) (suc sender) ≡ true
     all = ap (λ b. (b || has_ended past sender) && have_ended (e ∷ past) sender) (eq-eqb sender sender refl) ∙ ended_more e past sender h.before
 
+-- each shard takes the End of the next sender
 takes_ends : (s : Settings) (sender : ℕ) (pasts each nexts : List Journal) (released : List Arrival) → TakesEach s pasts (to_each (End sender) each) nexts released
     → AllByRecursion (Ended s sender) pasts → AllByRecursion (Ended s (sender + 1)) nexts
 takes_ends s sender [] [] [] released h o = tt
-takes_ends s sender (past ∷ pasts) (one ∷ each) (next ∷ nexts) released h o = (subst (Ended s (sender + 1)) (sym h.2.0.3) (subst (λ n. Ended s n (entry_of (End sender) h.2.0.0 h.2.0.1 ∷ past)) (sym (add-one sender)) (next_ended s sender h.2.0.0 h.2.0.1 past o.0)),
-    takes_ends s sender pasts each nexts h.1 h.3 o.1)
+takes_ends s sender (past ∷ pasts) (one ∷ each) (next ∷ nexts) released h o = (
+  subst (Ended s (sender + 1)) (sym h.2.0.3) (subst (λ n. Ended s n (entry_of (End sender) h.2.0.0 h.2.0.1 ∷ past)) (sym (add-one sender)) (next_ended s sender h.2.0.0 h.2.0.1 past o.0)),
+  takes_ends s sender pasts each nexts h.1 h.3 o.1,
+)
 takes_ends s sender [] [] (next ∷ nexts) released h o = absurd h
 takes_ends s sender [] (one ∷ each) nexts released h o = absurd h
 takes_ends s sender (past ∷ pasts) [] nexts released h o = absurd h
@@ -76,6 +80,7 @@ data LaneAt (w : World) (number : ℕ) (found : Option Lane) (lanes : ℕ) : Typ
   is_lane : (l : Lane) → found ≡ Some l → l.unrouted ≡ [] → l.ended ≡ w.closed → LaneAt w number found lanes
   is_past : found ≡ None → lanes ≤ number → LaneAt w number found lanes
 
+-- what stands at a number among the lanes
 lane_at : (w : World) (lane lanes number : ℕ) → LaneAt w number (slice_get (lanes_from w lane lanes) number) lanes
 lane_at w lane zero number = is_past refl (omega arith)
 lane_at w lane (suc lanes) zero = is_lane _ refl refl refl
@@ -85,6 +90,7 @@ lane_at w lane (suc lanes) (suc number) = go (lane_at w (lane + 1) lanes number)
     go (is_lane l f u e) = is_lane l f u e
     go (is_past f n) = is_past f (omega (arith, n))
 
+-- a lane of a closed script may send its End to a shard whose queue is empty, and so may the ticker
 sender_done : (c : Config) (k : Core) (w : World) (lanes sender : ℕ) → w.closed ≡ true → k.lanes ≡ lanes_from w 0 lanes → sender < lanes + 1 → IsDone c k sender
 sender_done c k w lanes sender closed l n shards exported counted place J = subst (λ (z : Option Lane). sender_is_done world place (quiet_shard (own c k) [] J) sender z ≡ true)
     (sym (ap (λ (z : List Lane). slice_get z sender) l)) (go (slice_get (lanes_from w 0 lanes) sender) (lane_at w 0 lanes sender))
@@ -96,6 +102,7 @@ sender_done c k w lanes sender closed l n shards exported counted place J = subs
     go found (is_lane x f u e) = rw (f, u, e ∙ closed) refl
     go found (is_past f p) = rw f (eq-eqb sender (length k.lanes) (omega (arith, n, p, ap (λ (z : List Lane). length z) l, length_lanes w 0 lanes)))
 
+-- each shard may take the End of the next sender
 may_take_ends : (c : Config) (k : Core) (s : Settings) (sender : ℕ) (pasts each nexts : List Journal) (released : List Arrival) → IsDone c k sender
     → TakesEach s pasts (to_each (End sender) each) nexts released → AllByRecursion (Ended s sender) pasts → AllTakable c k (no_queues pasts) pasts (to_each (End sender) each)
 may_take_ends c k s sender [] [] nexts released d h o = tt
@@ -119,7 +126,10 @@ takes_all_ends s sizes w zero sender pasts each nexts before released k closed n
     ships = subst (λ (z : List Journal). Shipped s w (no_queues z) z (before ++ released) k) (sym t.0) (subst (λ (z : List Arrival). Shipped s w (no_queues pasts) pasts z k) (sym (ap (λ (z : List Arrival). before ++ z) t.1 ∙ append-nil before)) h)
 takes_all_ends s sizes w (suc senders) sender pasts each nexts before released k closed n h o t =
     let one = ships_round s sizes w k (no_queues pasts) pasts t.0 (to_each (End sender) each) before t.1 h
-        (may_take_ends (core_config s sizes) k s sender pasts each t.0 t.1 (sender_done (core_config s sizes) k w (length w.contacts.connected) sender closed h.lanes (omega (arith, n, h.senders))) t.3 o) t.3 in
-    let more = takes_all_ends s sizes w senders (sender + 1) t.0 each nexts (before ++ t.1) t.2 one.0 closed (omega (arith, n)) one.2 (takes_ends s sender pasts each t.0 t.1 t.3 o) t.4 in
-    (more.0, leads_then (core_config s sizes) k one.0 more.0 one.1 more.1,
-    subst (λ (z : List Arrival). Shipped s w (no_queues nexts) nexts z more.0) (append_assoc before t.1 t.2 ∙ ap (λ (z : List Arrival). before ++ z) (sym t.5)) more.2, more.3)
+    (may_take_ends (core_config s sizes) k s sender pasts each t.0 t.1 (sender_done (core_config s sizes) k w (length w.contacts.connected) sender closed h.lanes (omega (arith, n, h.senders))) t.3 o) t.3 in
+    let more = takes_all_ends s sizes w senders (sender + 1) t.0 each nexts (before ++ t.1) t.2 one.0 closed (omega (arith, n)) one.2 (takes_ends s sender pasts each t.0 t.1 t.3 o) t.4 in (
+      more.0,
+      leads_then (core_config s sizes) k one.0 more.0 one.1 more.1,
+      subst (λ (z : List Arrival). Shipped s w (no_queues nexts) nexts z more.0) (append_assoc before t.1 t.2 ∙ ap (λ (z : List Arrival). before ++ z) (sym t.5)) more.2,
+      more.3,
+    )

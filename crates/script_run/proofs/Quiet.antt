@@ -1,6 +1,6 @@
 -- What a script's instructions do once the queues are filled: the core takes, decides, ships and sends until all is quiet.
-use Rattle.std.proofs.Common.{◌≡◌, ℕ, ◌+◌, ◌<◌, Bool, true, false, cond, List, [], ◌∷◌, ◌++◌, map, length, Some, None, option_and_then, ◌⊎◌, inl, inr, refl, ap, sym, subst, ◌∙◌, arith, append-nil}
-use Rattle.std.specs.List.{sum_by, AllByRecursion}
+use Rattle.std.proofs.Common.{◌≡◌, ℕ, ◌+◌, ◌<◌, Bool, true, false, cond, List, [], ◌∷◌, ◌++◌, map, length, Some, None, option_and_then, inl, inr, refl, ap, sym, subst, ◌∙◌, arith, append-nil}
+use Rattle.std.specs.List.{AllByRecursion}
 use Rattle.std.proofs.lemmas.List.Sums.{sum_by_push}
 use Rattle.otlp_types.specs.declared.arrival.Arrival.{Arrival}
 use Rattle.otlp_types.specs.declared.arrival.Item.{Item}
@@ -18,11 +18,11 @@ use Rattle.script_run.specs.Counts.{number_of, counted_at}
 use Rattle.script_run.specs.Writing.{handed_in}
 use Rattle.script_run.specs.CoreRun.{core_config}
 use Rattle.script_run.proofs.Stands.{Stands, Reaches, no_queues, HasNoEnd, lanes_from}
-use Rattle.script_run.proofs.QuietRuns.{Leads, leads_same, leads_one, leads_then}
+use Rattle.script_run.proofs.QuietRuns.{Leads, leads_same, leads_then}
 use Rattle.script_run.proofs.TakingRounds.{AllTakable}
 use Rattle.script_run.proofs.TakingItems.{may_take_queues, may_take_ticks, IsNoEnd, takes_no_ends, queues_no_end, ticks_no_end}
 use Rattle.script_run.proofs.SendingBatches.{handed_append}
-use Rattle.script_run.proofs.QuietStands.{lanes_count, lanes_same, Finished, Shipped, shipped_nothing, ships_round, sends_released, reaches_after}
+use Rattle.script_run.proofs.QuietStands.{lanes_count, lanes_same, Shipped, shipped_nothing, ships_round, sends_released, reaches_after}
 use Rattle.script_run.proofs.ClosingLanes.{with_lanes, closes_lanes}
 use Rattle.script_run.proofs.ClosingEnds.{Ended, none_ended, all_finished, takes_all_ends}
 
@@ -64,6 +64,7 @@ writes_reply s sizes old queues k reply line sink h (inr (inr nothing)) = ([], k
 
 -- ---- a round of items
 
+-- no test is both false and true
 both_values : {A : Type 0} (b : Bool) → b ≡ false → b ≡ true → A
 both_values true e f = absurd (cc e)
 both_values false e f = absurd (cc f)

@@ -1,5 +1,5 @@
 -- Runs of the core's steps, one after the other.
-use Rattle.std.proofs.Common.{◌≡◌, List, [], ◌∷◌, ◌++◌, Option, Some, None, option_and_then, refl, ap, ◌∙◌, subst}
+use Rattle.std.proofs.Common.{◌≡◌, List, [], ◌∷◌, ◌++◌, Option, Some, None, option_and_then, refl, ap, ◌∙◌}
 use Rattle.span_world.specs.World.{Config, World as Core}
 use Rattle.span_world.specs.Step.{Step, step, run_from}
 

@@ -1,5 +1,5 @@
 -- How the core stands once all that the shards released has been sent.
-use Rattle.std.proofs.Common.{◌≡◌, ℕ, zero, suc, ◌+◌, ◌<◌, Bool, true, false, cond, List, [], ◌∷◌, ◌++◌, map, filter, flat_map, length, Some, refl, ap, sym, subst, ◌∙◌, arith}
+use Rattle.std.proofs.Common.{◌≡◌, ℕ, zero, suc, ◌+◌, ◌<◌, true, false, List, [], ◌∷◌, ◌++◌, map, filter, flat_map, length, refl, ap, sym, subst, ◌∙◌, arith}
 use Rattle.std.specs.List.{sum_by, list_all, AllByRecursion}
 use Rattle.std.proofs.lemmas.List.Sums.{sum_by-append}
 use Rattle.otlp_types.specs.declared.arrival.Arrival.{Arrival}
@@ -13,14 +13,14 @@ use Rattle.span_sink.specs.LineSinks.{LineSinkState}
 use Rattle.drop_ledger.specs.declared.count.Count.{Count}
 use Rattle.drop_ledger.specs.declared.count.Count.TheVariants.{Received, Handed, Dropped}
 use Rattle.span_world.specs.World.{Config, Lane, Shard, World as Core, settings}
-use Rattle.span_world.specs.Places.{HeldKey, handed, counted_under, exported, in_batch, held_at, held_by_lanes, held_by_shards, held, is_waiting, buffered_spans, waiting, IsClosed}
+use Rattle.span_world.specs.Places.{HeldKey, handed, counted_under, exported, held_at, held_by_lanes, held_by_shards, held, is_waiting, buffered_spans, IsClosed}
 use Rattle.span_world.specs.Headline.{handed_spans}
 use Rattle.script_run.specs.Sending.{Sent, spans_of, SendsInBatches}
 use Rattle.script_run.specs.World.{World, Sizes, was_sent, TakesEach}
 use Rattle.script_run.specs.Counts.{counted_at_lanes, counted_at, dropped_by_journal, number_of}
 use Rattle.script_run.specs.Writing.{handed_in}
 use Rattle.script_run.specs.CoreRun.{core_config}
-use Rattle.script_run.proofs.Stands.{shards_with, routed_lane, lanes_from, no_queues, HasNoEnd, Stands, Reaches}
+use Rattle.script_run.proofs.Stands.{shards_with, lanes_from, no_queues, HasNoEnd, Stands, Reaches}
 use Rattle.script_run.proofs.QuietRuns.{Leads, leads_same, leads_then}
 use Rattle.script_run.proofs.TakingOne.{own, with_shards}
 use Rattle.script_run.proofs.TakingRounds.{AllTakable, Rounded, rounds}
@@ -56,31 +56,38 @@ length_lanes w lane (suc lanes) = ap suc (length_lanes w (lane + 1) lanes)
 abbrev pub Finished : Settings → Journal → Type 0
 Finished s past = (have_ended past s.senders ≡ true) × (buffered_spans s past (length (due_now s past)) ≡ [])
 
+-- the lanes hold nothing that is still to be routed
 none_routed : (w : World) (number lane lanes : ℕ) → held_by_lanes number (lanes_from w lane lanes) ≡ []
 none_routed w number lane zero = refl
 none_routed w number lane (suc lanes) = none_routed w (number + 1) (lane + 1) lanes
 
+-- the lanes of a closed script have ended
 all_lanes_ended : (w : World) → w.closed ≡ true → (lane lanes : ℕ) → list_all (λ (l : Lane). l.ended) (lanes_from w lane lanes) ≡ true
 all_lanes_ended w e lane zero = refl
 all_lanes_ended w e lane (suc lanes) = rw e (all_lanes_ended w e (lane + 1) lanes)
 
+-- shards that have finished hold nothing
 none_held : (s : Settings) (number : ℕ) (pasts : List Journal) → AllByRecursion (Finished s) pasts → held_by_shards s number (shards_with s (no_queues pasts) pasts) ≡ []
 none_held s number [] h = refl
 none_held s number (past ∷ pasts) h = rw (h.0.1) (none_held s (number + 1) pasts h.1)
 
+-- shards that have finished have taken all Ends
 all_ends_taken : (s : Settings) (pasts : List Journal) → AllByRecursion (Finished s) pasts → list_all (λ (sh : Shard). have_ended sh.journal s.senders) (shards_with s (no_queues pasts) pasts) ≡ true
 all_ends_taken s [] h = refl
 all_ends_taken s (past ∷ pasts) h = rw (h.0.0) (all_ends_taken s pasts h.1)
 
+-- nothing that is counted waits
 none_waits_counted : (counted : List DroppedSpan) → filter (λ (h : HeldKey). is_waiting h.place) (map (λ (n : DroppedSpan). record { place = counted_under n.reason; key = n.key }) counted) ≡ []
 none_waits_counted [] = refl
 none_waits_counted (n ∷ counted) = none_waits_counted counted
 
+-- nothing that was handed over waits
 none_waits_handed : (batches : List (List Arrival)) (rest : List HeldKey) → filter (λ (h : HeldKey). is_waiting h.place) (flat_map (held_at handed) batches ++ rest) ≡ filter (λ (h : HeldKey). is_waiting h.place) rest
 none_waits_handed [] rest = refl
 none_waits_handed ([] ∷ batches) rest = none_waits_handed batches rest
 none_waits_handed ((a ∷ batch) ∷ batches) rest = none_waits_handed (batch ∷ batches) rest
 
+-- the core is closed where the lanes have ended, the shards have finished, and nothing is left to send
 is_closed : (c : Config) (s : Settings) (w : World) (k : Core) (pasts : List Journal) (lanes : ℕ) → settings c k ≡ s → w.closed ≡ true → k.lanes ≡ lanes_from w 0 lanes
     → k.shards ≡ shards_with s (no_queues pasts) pasts → k.exported ≡ [] → k.batch ≡ [] → AllByRecursion (Finished s) pasts → IsClosed c k
 is_closed c s w k pasts lanes same e l sh x b h = record {
@@ -169,6 +176,7 @@ ships_round s sizes w k queues pasts nexts items before released h t e = (after,
       handed_over = h.handed_over;
     }
 
+-- there are as many empty queues as journals
 same_queues : (pasts : List Journal) → length (no_queues pasts) ≡ length pasts
 same_queues [] = refl
 same_queues (past ∷ pasts) = ap suc (same_queues pasts)

@@ -1,5 +1,5 @@
 -- The exporter of the core pulls the spans of batches, and hands each batch over or gives it up.
-use Rattle.std.proofs.Common.{◌≡◌, ℕ, zero, ◌+◌, ◌<◌, ◌≤◌, Bool, true, false, cond, not, ◌||◌, nat_lt, List, [], ◌∷◌, ◌++◌, map, filter, flat_map, length, Some, None, ◌⊎◌, inl, inr, refl, ap, sym, subst, ◌∙◌, arith, append_assoc, append-nil, length-append}
+use Rattle.std.proofs.Common.{◌≡◌, ℕ, zero, ◌+◌, ◌<◌, ◌≤◌, Bool, true, false, cond, not, ◌||◌, nat_lt, List, [], ◌∷◌, ◌++◌, map, filter, flat_map, length, Some, None, inl, inr, refl, ap, sym, ◌∙◌, arith, append_assoc, append-nil, length-append}
 use Rattle.std.specs.List.{sum_by}
 use Rattle.std.proofs.lemmas.Bool.Decides.{nat_tests}
 use Rattle.std.proofs.lemmas.List.Sums.{sum_by-cons}
@@ -29,10 +29,12 @@ unless_either true b x e f = absurd (cc e)
 unless_either false true x e f = absurd (cc f)
 unless_either false false x e f = refl
 
+-- what holds something is not empty
 not_empty : (spans : List Arrival) → 0 < length spans → is_empty spans ≡ false
 not_empty [] h = absurd (omega (arith, h))
 not_empty (a ∷ spans) h = refl
 
+-- the test of an order that holds
 lt_true : (m n : ℕ) → m < n → nat_lt m n ≡ true
 lt_true m n h = grind (arith, nat_tests)
 
@@ -58,11 +60,13 @@ abbrev pub AllFit : (size : ℕ) → List Sent → Type 0
 AllFit size [] = Unit {0}
 AllFit size (one ∷ more) = (0 < length one.batch) × (length one.batch ≤ size) × AllFit size more
 
+-- batches of a size that is not 0 fit
 pub batches_fit : (size : ℕ) (batches : List Sent) → 0 < size → AreBatches size batches → AllFit size batches
 batches_fit size [] l h = tt
 batches_fit size (last ∷ []) l h = (h.0, h.1, tt)
 batches_fit size (one ∷ next ∷ more) l h = (omega (arith, l, h.0), omega (arith, h.0), batches_fit size (next ∷ more) l h.1)
 
+-- a batch is handed over before others
 handed_more : (flushed : Flushed) (batch : List Arrival) (xs ys : List (List Arrival)) → handed_with flushed batch (xs ++ ys) ≡ handed_with flushed batch xs ++ ys
 handed_more (WasHanded n) batch xs ys = refl
 handed_more (Spoiled n why) batch xs ys = refl
@@ -79,6 +83,7 @@ pub spans_append : (xs ys : List (List Arrival)) → length (flat_map (λ (b : L
 spans_append [] ys = omega arith
 spans_append (x ∷ xs) ys = omega (arith, spans_append xs ys, length-append x (flat_map (λ (b : List Arrival). b) (xs ++ ys)), length-append x (flat_map (λ (b : List Arrival). b) xs))
 
+-- the spans of one batch are handed over as it is counted
 one_handed : (flushed : Flushed) (batch : List Arrival) (rest : List (List Arrival)) (old new : LineSinkState) → Sends old batch flushed new
     → length (flat_map (λ (b : List Arrival). b) (handed_with flushed batch rest)) ≡ counted_for Handed flushed + length (flat_map (λ (b : List Arrival). b) rest)
 one_handed (WasHanded n) batch rest old new h = omega (arith, h.1, length-append batch (flat_map (λ (b : List Arrival). b) rest))
@@ -89,8 +94,12 @@ one_handed Empty batch rest old new h = omega arith
 pub handed_counted : (batches : List Sent) (old new : LineSinkState) → SendsAll old batches new
     → length (flat_map (λ (b : List Arrival). b) (handed_in (map was_sent batches))) ≡ sum_by (counted_at Handed) (map was_sent batches)
 handed_counted [] old new h = refl
-handed_counted (one ∷ more) old new h = omega (arith, one_handed one.flushed one.batch (handed_in (map was_sent more)) old h.0 h.1, handed_counted more h.0 new h.2,
-    sum_by-cons (counted_at Handed) (was_sent one) (map was_sent more))
+handed_counted (one ∷ more) old new h = omega (
+  arith,
+  one_handed one.flushed one.batch (handed_in (map was_sent more)) old h.0 h.1,
+  handed_counted more h.0 new h.2,
+  sum_by-cons (counted_at Handed) (was_sent one) (map was_sent more),
+)
 
 -- ---- the steps
 
@@ -99,6 +108,7 @@ module _ (c : Config) (k : Core) where
   abbrev pub sending : (exported batch : List Arrival) → (handed : List (List Arrival)) → (counted : List DroppedSpan) → (down : Bool) → Core
   sending X B H C down = record k { exported = X; batch = B; handed = H; counted = C; down = down }
 
+  -- the exporter pulls these spans into the open batch
   pulls_all : (xs more B : List Arrival) (H : List (List Arrival)) (C : List DroppedSpan) (down : Bool) → length B + length xs ≤ c.batch_size
       → Leads c (sending (xs ++ more) B H C down) (sending more (B ++ xs) H C down)
   pulls_all [] more B H C down l = leads_same c _ _ (ap (λ (z : List Arrival). sending more z H C down) (sym (append-nil B)))
@@ -123,6 +133,7 @@ module _ (c : Config) (k : Core) where
   gives_up batch X H C down why l applies = leads_then c _ _ _ (leads_one c _ _ (spoil why) (unless_either (is_empty batch) (not (spoil_applies (sending X batch H C down) why)) (sending X [] H (C ++ counts why batch) down) (not_empty batch l) (ap not applies)))
       (leads_same c _ _ (ap (λ (z : List (List Arrival)). sending X [] z (C ++ counts why batch) down) (sym (append-nil H))))
 
+  -- a batch that is given up is counted under the reason
   given_up : (batch : List Arrival) (n : ℕ) (why : Reason) (old new : LineSinkState) (X : List Arrival) (H : List (List Arrival)) (C : List DroppedSpan) → n ≡ length batch
       → Leads c (sending X batch H C old.is_down) (sending X [] (H ++ []) (C ++ counts why batch) new.is_down) → SentOne batch (Spoiled n why) old new X H C
   given_up batch n why old new X H C e h = record {
@@ -131,6 +142,7 @@ module _ (c : Config) (k : Core) where
     leads = h;
   }
 
+  -- the open batch is given up for one of the reasons that apply
   spoils_one : (batch : List Arrival) (n : ℕ) (why : Reason) (old new : LineSinkState) (X : List Arrival) (H : List (List Arrival)) (C : List DroppedSpan) → 0 < length batch → n ≡ length batch
       → Spoils why old batch new → SentOne batch (Spoiled n why) old new X H C
   spoils_one batch n NoMemory old new X H C l e h = given_up batch n NoMemory old new X H C e
@@ -146,6 +158,7 @@ module _ (c : Config) (k : Core) where
   spoils_one batch n NotSampled old new X H C l e h = absurd h
   spoils_one batch n LateNotSampled old new X H C l e h = absurd h
 
+  -- the open batch is handed over or given up
   sends_one : (batch : List Arrival) (flushed : Flushed) (old new : LineSinkState) (X : List Arrival) (H : List (List Arrival)) (C : List DroppedSpan) → 0 < length batch → Sends old batch flushed new → SentOne batch flushed old new X H C
   sends_one batch (WasHanded n) old new X H C l h = record {
     counted = C;
@@ -162,6 +175,7 @@ module _ (c : Config) (k : Core) where
     pub counts_more : (reason : Reason) → length (under reason counted) ≡ length (under reason C) + sum_by (counted_at (Dropped reason)) (map was_sent batches)
     pub leads : Leads c (sending (spans_of batches) [] H C old.is_down) (sending [] [] (H ++ handed_in (map was_sent batches)) counted new.is_down)
 
+  -- one batch and then the others
   sent_more : (one : Sent) (more : List Sent) (old mid new : LineSinkState) (H : List (List Arrival)) (C : List DroppedSpan) → length one.batch ≤ c.batch_size
       → (first : SentOne one.batch one.flushed old mid (spans_of more) H C) → SentAll more mid new (H ++ handed_with one.flushed one.batch []) first.counted → SentAll (one ∷ more) old new H C
   sent_more one more old mid new H C fits first rest = record {
@@ -172,6 +186,7 @@ module _ (c : Config) (k : Core) where
         (append_assoc H (handed_with one.flushed one.batch []) (handed_in (map was_sent more)) ∙ ap (λ (z : List (List Arrival)). H ++ z) (sym (handed_more one.flushed one.batch [] (handed_in (map was_sent more)))))))));
   }
 
+  -- the batches are handed over or given up in turn
   pub sends_all : (batches : List Sent) (old new : LineSinkState) (H : List (List Arrival)) (C : List DroppedSpan) → AllFit c.batch_size batches → SendsAll old batches new → SentAll batches old new H C
   sends_all [] old new H C fit h = record {
     counted = C;

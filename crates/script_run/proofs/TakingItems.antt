@@ -30,6 +30,7 @@ may_take_ticks c k moment (past ∷ pasts) h = (ticked moment refl refl (h.0 (ti
 abbrev pub IsNoEnd : Item → Type 0
 IsNoEnd item = (sender : ℕ) → is_end_of sender item ≡ false
 
+-- a shard that takes no End has none in its journal
 takes_no_end : (s : Settings) (items : List Item) (past next : Journal) → AllByRecursion IsNoEnd items → Takes s past items next → HasNoEnd past → HasNoEnd next
 takes_no_end s [] past next n h o = subst HasNoEnd (sym h) o
 takes_no_end s (item ∷ items) past next n h o = takes_no_end s items (entry_of item h.0 h.1 ∷ past) next n.1 h.3 (λ sender. neither (is_end_of sender item) (has_ended past sender) (n.0 sender) (o sender))
@@ -48,6 +49,7 @@ takes_no_ends s [] (own ∷ items) nexts released n h o = absurd h
 takes_no_ends s (past ∷ pasts) [] nexts released n h o = absurd h
 takes_no_ends s (past ∷ pasts) (own ∷ items) [] released n h o = absurd h
 
+-- the spans of a queue are no Ends
 spans_no_end : (queue : List Arrival) → AllByRecursion IsNoEnd (map Span queue)
 spans_no_end [] = tt
 spans_no_end (a ∷ queue) = ((λ sender. refl), spans_no_end queue)

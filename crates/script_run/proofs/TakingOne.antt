@@ -1,8 +1,7 @@
 -- One shard of the core takes an item, decides all that is due and ships all that it released.
-use Rattle.std.proofs.Common.{◌≡◌, ℕ, zero, suc, ◌+◌, Bool, true, false, cond, not, ◌&&◌, ◌==◌, nat_lt, List, [], ◌∷◌, ◌++◌, map, length, slice_get, slice_set, Option, Some, None, option_map, option_and_then, refl, ap, sym, subst, ◌∙◌, arith, append_assoc, append-nil, length-append}
+use Rattle.std.proofs.Common.{◌≡◌, ℕ, ◌+◌, Bool, true, false, cond, not, ◌&&◌, nat_lt, List, [], ◌∷◌, ◌++◌, length, slice_get, slice_set, Some, None, option_map, option_and_then, refl, ap, sym, ◌∙◌, arith, append_assoc, append-nil, length-append}
 use Rattle.std.proofs.lemmas.Bool.Decides.{nat_tests}
 use Rattle.otlp_types.specs.declared.arrival.Arrival.{Arrival}
-use Rattle.otlp_types.specs.declared.arrival.Item.{Item}
 use Rattle.otlp_types.specs.declared.arrival.Item.TheVariants.{Span, Tick, End}
 use Rattle.shard_core.specs.Journal.{Settings, Entry, Journal, Decision, due_now, due_at, decisions_now, notes, has_ended}
 use Rattle.shard_core.specs.Fate.{Effect, no_effect, ◌then◌, DroppedSpan, effect, effect_of_taking, effect_of_decision, effect_of_decisions}
@@ -10,7 +9,7 @@ use Rattle.shard_core.specs.Taking.{marks_apply_to_ids}
 use Rattle.span_world.specs.World.{Config, Shard, World as Core, settings, ticker, has_due}
 use Rattle.span_world.specs.Step.{take as take_step, tick, end, decide, ship, take_on, tick_on, end_on, decide_on, ship_on, sender_is_done, after_decision}
 use Rattle.span_world.proofs.Content.{length_in_turn}
-use Rattle.script_run.specs.World.{entry_of, Takes}
+use Rattle.script_run.specs.World.{entry_of}
 use Rattle.script_run.proofs.Stands.{quiet_shard}
 use Rattle.script_run.proofs.QuietRuns.{Leads, leads_same, leads_one, leads_then}
 
@@ -94,6 +93,7 @@ module _ (c : Config) (k : Core) where
     abbrev pub among : Shard → (exported : List Arrival) → (counted : List DroppedSpan) → Core
     among sh exported counted = with_shards (front ++ sh ∷ rest) exported counted
 
+    -- the oldest episode that is due is decided
     decides_one : (q u X : List Arrival) (J : Journal) (n : ℕ) (C : List DroppedSpan) (d : Decision) → slice_get (decisions_now own J) n ≡ Some d
         → Leads c (among (shard q J n u) X C) (among (shard q J (n + 1) (u ++ (effect_of_decision d).released)) X (C ++ (effect_of_decision d).counted))
     decides_one q u X J n C d e = leads_one c _ _ (decide (length front)) (ap (option_and_then (decide_on c w (length front))) (mid_get front sh rest)
@@ -106,6 +106,7 @@ module _ (c : Config) (k : Core) where
         w : Core
         w = among (shard q J n u) X C
 
+    -- the episodes that are due are decided in turn
     decides_all : (q u X : List Arrival) (J : Journal) (C : List DroppedSpan) (dealt ds : List Decision) → decisions_now own J ≡ dealt ++ ds
         → Leads c (among (shard q J (length dealt) u) X C)
         (among (shard q J (length (due_now own J)) (u ++ (effect_of_decisions ds).released)) X (C ++ (effect_of_decisions ds).counted))
@@ -124,6 +125,7 @@ module _ (c : Config) (k : Core) where
         longer : length dealt + 1 ≡ length (dealt ++ d ∷ [])
         longer = omega (arith, length-append dealt (d ∷ []))
 
+    -- the spans that were released go to the exporter in turn
     ships_all : (q u X : List Arrival) (J : Journal) (n : ℕ) (C : List DroppedSpan) → Leads c (among (shard q J n u) X C) (among (shard q J n []) (X ++ u) C)
     ships_all q [] X J n C = leads_same c _ _ (ap (λ (z : List Arrival). among (shard q J n []) z C) (sym (append-nil X)))
     ships_all q (a ∷ u) X J n C = leads_then c _ (among (shard q J n u) (X ++ a ∷ []) C) _ (leads_one c _ _ (ship (length front)) one)
@@ -150,6 +152,7 @@ module _ (c : Config) (k : Core) where
         ds : Effect
         ds = effect_of_decisions (decisions_now own (e ∷ J))
 
+    -- nothing is due in a quiet shard
     nothing_due : (q : List Arrival) (J : Journal) → has_due own (quiet_shard own q J) ≡ false
     nothing_due q J = not_below_itself (length (due_now own J))
 
@@ -158,6 +161,7 @@ module _ (c : Config) (k : Core) where
     TakesQuietly before after J e = (X : List Arrival) (C : List DroppedSpan)
         → Leads c (among (quiet_shard own before J) X C) (among (quiet_shard own after (e ∷ J)) (X ++ (gain own e J).released) (C ++ (gain own e J).counted))
 
+    -- a quiet shard takes the first span of its queue
     pub takes_span : (a : Arrival) (q : List Arrival) (J : Journal) (refused lost : Bool) → marks_apply_to_ids own J refused lost a.rec.span.ids ≡ true
         → TakesQuietly (a ∷ q) q J (entry_of (Span a) refused lost)
     takes_span a q J refused lost marks X C = leads_then c _ _ _ (leads_one c _ _ (take_step (length front) refused lost) one) (settles q X J e C)
@@ -174,6 +178,7 @@ module _ (c : Config) (k : Core) where
             ∙ (passes (has_due own (quiet_shard own (a ∷ q) J)) (marks_apply_to_ids own J refused lost a.rec.span.ids) _ (nothing_due (a ∷ q) J) marks
             ∙ ap (λ (z : List Shard). Some (with_shards z X (C ++ (effect_of_taking own e J).counted))) (mid_set front (quiet_shard own (a ∷ q) J) (shard q (e ∷ J) 0 (effect_of_taking own e J).released) rest))
 
+    -- a quiet shard takes a tick
     pub takes_tick : (moment : ℕ) (q : List Arrival) (J : Journal) → has_ended J (ticker k) ≡ false → TakesQuietly q q J (entry_of (Tick moment) false false)
     takes_tick moment q J runs X C = leads_then c _ _ _ (leads_one c _ _ (tick (length front) moment) one) (settles q X J e C)
       where
@@ -189,6 +194,7 @@ module _ (c : Config) (k : Core) where
             ∙ (passes_none (has_due own (quiet_shard own q J)) (has_ended J (ticker k)) _ (nothing_due q J) runs
             ∙ ap (λ (z : List Shard). Some (with_shards z X (C ++ (effect_of_taking own e J).counted))) (mid_set front (quiet_shard own q J) (shard q (e ∷ J) 0 (effect_of_taking own e J).released) rest))
 
+    -- a quiet shard takes an End
     pub takes_end : (sender : ℕ) (q : List Arrival) (J : Journal) → has_ended J sender ≡ false
         → ((X : List Arrival) (C : List DroppedSpan) → sender_is_done (among (quiet_shard own q J) X C) (length front) (quiet_shard own q J) sender (slice_get k.lanes sender) ≡ true)
         → TakesQuietly q q J (entry_of (End sender) false false)

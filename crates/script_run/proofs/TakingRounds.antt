@@ -9,8 +9,7 @@ use Rattle.otlp_types.specs.declared.arrival.Item.TheVariants.{Span, Tick, End}
 use Rattle.span_ids.specs.declared.outcome.Reason.{Reason}
 use Rattle.shard_core.specs.Journal.{Journal, has_ended}
 use Rattle.shard_core.specs.Fate.{Effect, no_effect, ◌then◌, DroppedSpan, effect, is_same_reason, under}
-use Rattle.shard_core.specs.Taking.{marks_apply}
-use Rattle.span_world.specs.World.{Config, Shard, World as Core, settings, ticker}
+use Rattle.span_world.specs.World.{Config, Shard, World as Core, ticker}
 use Rattle.span_world.specs.Step.{sender_is_done}
 use Rattle.script_run.specs.World.{entry_of, Takes, TakesEach}
 use Rattle.script_run.specs.Counts.{dropped_by_journal}
@@ -48,6 +47,7 @@ module _ (c : Config) (k : Core) where
       pub is : effect (own c k) after ≡ effect (own c k) before then did
       pub leads : Leads c (among c k front rest (quiet_shard (own c k) queue before) X C) (among c k front rest (quiet_shard (own c k) [] after) (X ++ did.released) (C ++ did.counted))
 
+    -- a shard that takes nothing stays as it is
     none_turned : (J after : Journal) (X : List Arrival) (C : List DroppedSpan) → after ≡ J → Turned [] J after X C
     none_turned J after X C e = rw e (record {
       did = no_effect;
@@ -55,6 +55,7 @@ module _ (c : Config) (k : Core) where
       leads = leads_same c _ _ (cc (append-nil X, append-nil C));
     })
 
+    -- a shard takes an item and then others
     more_turned : (before after_queue : List Arrival) (J after : Journal) (item : Item) (refused lost : Bool) (X : List Arrival) (C : List DroppedSpan)
         → TakesQuietly c k front rest before after_queue J (entry_of item refused lost)
         → ((Y : List Arrival) (D : List DroppedSpan) → Turned after_queue (entry_of item refused lost ∷ J) after Y D) → Turned before J after X C
@@ -70,24 +71,29 @@ module _ (c : Config) (k : Core) where
         more : Turned after_queue (entry_of item refused lost ∷ J) after (X ++ one.released) (C ++ one.counted)
         more = f (X ++ one.released) (C ++ one.counted)
 
+    -- a shard takes the spans of its queue
     spans_turned : (queue : List Arrival) (J after : Journal) → Takes (own c k) J (map Span queue) after → (X : List Arrival) (C : List DroppedSpan) → Turned queue J after X C
     spans_turned [] J after h X C = none_turned J after X C h
     spans_turned (a ∷ queue) J after h X C = more_turned (a ∷ queue) queue J after (Span a) h.0 h.1 X C (takes_span c k front rest a queue J h.0 h.1 h.2)
         (spans_turned queue (entry_of (Span a) h.0 h.1 ∷ J) after h.3)
 
+    -- a shard takes an item that memory is not refused to
     unmarked_turned : (item : Item) (J after : Journal) (refused lost : Bool) → (not refused && not lost) ≡ true → after ≡ entry_of item refused lost ∷ J
         → TakesQuietly c k front rest [] [] J (entry_of item false false) → (X : List Arrival) (C : List DroppedSpan) → Turned [] J after X C
     unmarked_turned item J after true lost m e h X C = absurd (cc m)
     unmarked_turned item J after false true m e h X C = absurd (cc m)
     unmarked_turned item J after false false m e h X C = more_turned [] [] J after item false false X C h (λ Y D. none_turned (entry_of item false false ∷ J) after Y D e)
 
+    -- a shard takes a tick
     tick_turned : (moment : ℕ) (J after : Journal) → has_ended J (ticker k) ≡ false → Takes (own c k) J (Tick moment ∷ []) after → (X : List Arrival) (C : List DroppedSpan) → Turned [] J after X C
     tick_turned moment J after runs h = unmarked_turned (Tick moment) J after h.0 h.1 h.2 h.3 (takes_tick c k front rest moment [] J runs)
 
+    -- a shard takes an End
     end_turned : (sender : ℕ) (J after : Journal) → has_ended J sender ≡ false → IsDone sender → Takes (own c k) J (End sender ∷ []) after → (X : List Arrival) (C : List DroppedSpan) → Turned [] J after X C
     end_turned sender J after runs done h = unmarked_turned (End sender) J after h.0 h.1 h.2 h.3
         (takes_end c k front rest sender [] J runs (λ X C. done (front ++ quiet_shard (own c k) [] J ∷ rest) X C (length front) J))
 
+    -- a shard takes its items
     turned : (queue : List Arrival) (J after : Journal) (items : List Item) → Takable queue J items → Takes (own c k) J items after → (X : List Arrival) (C : List DroppedSpan) → Turned queue J after X C
     turned queue J after items (queued e) h = spans_turned queue J after (subst (λ (z : List Item). Takes (own c k) J z after) e h)
     turned queue J after items (ticked moment q e runs) h = rw q (tick_turned moment J after runs (subst (λ (z : List Item). Takes (own c k) J z after) e h))
@@ -116,8 +122,14 @@ module _ (c : Config) (k : Core) where
       → Rounded (front ++ quiet_shard (own c k) [] next ∷ []) queues pasts nexts (X ++ one.did.released) rest (C ++ one.did.counted) → Rounded front (queue ∷ queues) (past ∷ pasts) (next ∷ nexts) X released C
   rounded_more front queue queues past next pasts nexts X first rest released C e f one more = record {
     counted = more.counted;
-    counts = λ reason. omega (arith, more.counts reason, under_append reason C one.did.counted, own_counts reason,
-        sum_by-cons (dropped_by_journal (own c k) reason) past pasts, sum_by-cons (dropped_by_journal (own c k) reason) next nexts);
+    counts = λ reason. omega (
+      arith,
+      more.counts reason,
+      under_append reason C one.did.counted,
+      own_counts reason,
+      sum_by-cons (dropped_by_journal (own c k) reason) past pasts,
+      sum_by-cons (dropped_by_journal (own c k) reason) next nexts,
+    );
     leads = leads_then c _ _ _ one.leads (leads_then c _ _ _ (leads_same c _ _ (ap (λ (z : List Shard). with_shards c k z (X ++ one.did.released) (C ++ one.did.counted)) (sym (append_assoc front (done ∷ []) (shards_with (own c k) queues pasts)))))
         (leads_then c _ _ _ more.leads (leads_same c _ _ (ap (λ (z : List Shard). with_shards c k z ((X ++ one.did.released) ++ rest) more.counted) (append_assoc front (done ∷ []) (shards_with (own c k) (no_queues nexts) nexts))
         ∙ ap (λ (z : List Arrival). with_shards c k (front ++ done ∷ shards_with (own c k) (no_queues nexts) nexts) z more.counted) joined))));
