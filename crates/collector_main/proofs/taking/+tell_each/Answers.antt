@@ -11,10 +11,12 @@ use Rattle.collector_main.proofs.taking.+tell_each.Goals as goal
 pub returns-clause-takes : goal.returns-clause-takes
 returns-clause-takes g t c =
     let item = item_of c.args.signal in
-    let P = λ (old : List Held). EachTakes old c.args.exporter.now (to_each item old) (c.take_item.new.shard ∷ c.tell_each.new.shards) c.tell_each.new.exporter in
-    let Q = λ (one : Item). TakesItems c.in-Some.shard.now c.args.exporter.now (one ∷ []) c.take_item.new.shard c.take_item.new.exporter in
+    let before = (c.args.exporter.now, c.args.report.now) in
+    let after = (c.tell_each.new.exporter, c.tell_each.new.report) in
+    let P = λ (old : List Held). EachTakes old before (to_each item old) (c.take_item.new.shard ∷ c.tell_each.new.shards) after in
+    let Q = λ (one : Item). TakesItems c.in-Some.shard.now before (one ∷ []) c.take_item.new.shard (c.take_item.new.exporter, c.take_item.new.report) in
     subst P (sym c.in-Some.ensures.cases.0) (EachTakes-cons c.in-Some.shard.now c.take_item.new.shard c.in-Some.others.now c.tell_each.new.shards (item ∷ []) (to_each item c.in-Some.others.now)
-    c.args.exporter.now c.take_item.new.exporter c.tell_each.new.exporter (subst Q c.item.ensures.item c.take_item.ensures.takes) c.tell_each.ensures.takes)
+    before (c.take_item.new.exporter, c.take_item.new.report) after (subst Q c.item.ensures.item c.take_item.ensures.takes) c.tell_each.ensures.takes)
 
 pub returns-clause-quiet : goal.returns-clause-quiet
 returns-clause-quiet g t c = λ ends quiet.
