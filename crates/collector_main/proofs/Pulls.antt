@@ -12,11 +12,12 @@ use Rattle.span_exporter.specs.declared.answer.Pulled.{Pulled}
 use Rattle.span_exporter.specs.declared.answer.Pulled.TheVariants.{Added, AddedFull}
 use Rattle.span_exporter.specs.Exports.{ExporterState, with_shipment, answer_to, Sends}
 use Rattle.span_ids.specs.declared.outcome.Reason.{Reason}
+use Rattle.shard_core.specs.Fate.{is_same_reason}
 use Rattle.drop_ledger.specs.declared.count.Count.{Count}
 use Rattle.drop_ledger.specs.declared.count.Count.TheVariants.{Received, Handed as HandedOver, Dropped}
 use Rattle.script_run.specs.Sending.{Sent, spans_of, AreBatches, SendsAll, SendsInBatches}
 use Rattle.script_run.specs.Counts.{counted_for}
-use Rattle.collector_main.specs.Adding.{Adds, at_reasons, counted_in}
+use Rattle.collector_main.specs.Adding.{Adds, at_count, at_reasons, counted_in}
 use Rattle.collector_main.specs.Pulling.{PullsAll, Export}
 use Rattle.collector_main.proofs.Adds.{Adds-none, Adds-then, Adds-same, counted-append, counted-one, none-dropped, dropped-more}
 
@@ -123,17 +124,23 @@ part-room p old new a room is answer other =
     let longer : length new.batch ≡ length old.batch + 1 = ap (λ (e : ExporterState). length e.batch) is ∙ length-append old.batch (a ∷ []) in
     omega (arith, differs)
 
--- spans were counted as dropped, and nothing came into the batch
-pub pulled-none : (e : ExporterState) (r n : Option (List ℕ)) (f : Reason → ℕ) (g : Count → ℕ) → ((k : Count) → at_reasons f k ≡ g k) → Adds r g n → PullsAll (e, r) [] f (e, n)
-pulled-none e r n f g same adds = record {
+-- spans were counted as dropped for this reason, and nothing came into the batch
+pub pulled-dropped : (e : ExporterState) (r n : Option (List ℕ)) (why : Reason) (spans : ℕ) → Adds r (at_count (Dropped why) spans) n
+    → PullsAll (e, r) [] (λ reason. if is_same_reason why reason then spans else 0) (e, n)
+pulled-dropped e r n why spans adds = record {
   batches = [];
   full = tt;
   are_all = sym (append-nil e.batch);
   sends = refl;
-  adds = Adds-same r n _ _ (λ k. let a = same k in omega (arith, a)) adds;
+  adds = Adds-same r n _ _ (λ k. let same = dropped-at k in omega (arith, same)) adds;
   size = refl;
   ends = refl;
 }
+  where
+    dropped-at : (k : Count) → at_reasons (λ reason. if is_same_reason why reason then spans else 0) k ≡ at_count (Dropped why) spans k
+    dropped-at Received = refl
+    dropped-at HandedOver = refl
+    dropped-at (Dropped reason) = refl
 
 -- ---- the last batch of a line
 

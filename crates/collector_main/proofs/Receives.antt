@@ -46,42 +46,42 @@ not-read body Busy t = refl
 module _ (s : Settings) (sizes : Sizes) (w : World) (number moment : ℕ) (body : List ℕ) (later : Contacts) (after : List (QueueState Item)) (reply : Reply) (rounds : List (List (List Item)))
     (on_read : is_received reply ≡ true → rounds ≡ items_in after ∷ []) (on_refused : is_received reply ≡ false → rounds ≡ []) where
   none-counted : (v : World) → is_received reply ≡ false → ((k : Count) → number_of s v k ≡ number_of s w k) → (k : Count) → number_of s v k ≡ number_of s w k + received_by reply k
-  none-counted v no same k = same k ∙ plus (number_of s w k) (received_by reply k) (refusal-counts reply no k)
+  none-counted v refuses_it same k = same k ∙ plus (number_of s w k) (received_by reply k) (refusal-counts reply refuses_it k)
     where
       plus : (n m : ℕ) → m ≡ 0 → n ≡ n + m
       plus n m e = omega arith
 
   pub answered : Submits w.contacts number moment body (empty_queues sizes.queue (length w.journals)) reply after later → Answered s sizes w number moment body reply rounds later
   answered (inl d) =
-      let no : is_received reply ≡ false = ap is_received d.1 in
+      let refuses_it : is_received reply ≡ false = ap is_received d.1 in
       record {
         mid = w;
         contacts = d.3;
         journals = refl;
         closed = refl;
-        numbers = none-counted w no (λ k. refl);
+        numbers = none-counted w refuses_it (λ k. refl);
         leads = λ sink end line runs.
             let P = λ (r : List (List (List Item))). RunsToQuiet s sizes (after_reply reply sink w) r end in
             let B = λ (r : Reply). RepliesAndRuns s sizes w r [] end in
-            inl (d.0, subst B d.1 (sink, line, subst P (on_refused no) runs));
+            inl (d.0, subst B d.1 (sink, line, subst P (on_refused refuses_it) runs));
       }
   answered (inr (inl d)) =
-      let no = not-read body reply d.0 in
+      let refuses_it = not-read body reply d.0 in
       let mid : World = record w { contacts = with_connection number w.contacts } in
       record {
         mid = mid;
         contacts = d.2;
         journals = refl;
         closed = refl;
-        numbers = none-counted mid no (λ k. refl);
+        numbers = none-counted mid refuses_it (λ k. refl);
         leads = λ sink end line runs.
             let P = λ (r : List (List (List Item))). RunsToQuiet s sizes (after_reply reply sink mid) r end in
-            inr (refuses reply, d.0, (sink, line, subst P (on_refused no) runs));
+            inr (refuses reply, d.0, (sink, line, subst P (on_refused refuses_it) runs));
       }
   answered (inr (inr d)) =
       let arrivals = arrivals_of (connection_of number w.contacts) moment d.0 in
       let mid = after_receiving number arrivals d.2.refused w in
-      let yes = was-read _ _ d.2.refused reply d.2.replied in
+      let reads_it = was-read _ _ d.2.refused reply d.2.replied in
       record {
         mid = mid;
         contacts = d.3;
@@ -90,7 +90,7 @@ module _ (s : Settings) (sizes : Sizes) (w : World) (number moment : ℕ) (body 
         numbers = number-received s w number arrivals d.2.refused reply d.2.replied;
         leads = λ sink end line runs.
             let P = λ (r : List (List (List Item))). RunsToQuiet s sizes (after_reply reply sink mid) r end in
-            inr (reads d.0, d.1, (reply, after, d.2, (sink, line, subst P (on_read yes) runs)));
+            inr (reads d.0, d.1, (reply, after, d.2, (sink, line, subst P (on_read reads_it) runs)));
       }
 
 -- a request was read or refused, what the reply tells was counted, and the shards took what was received

@@ -2,15 +2,15 @@ use Rattle.std.proofs.Common.{List, ◌∷◌, sym, subst, ◌∙◌}
 use Rattle.otlp_types.specs.declared.arrival.Item.{Item}
 use Rattle.lane_queue.specs.Queues.{QueueState}
 use Rattle.shard_core.specs.Held.{Held}
-use Rattle.collector_main.specs.Pulling.{EachTakes, AreQuiet, HaveSettings, items_in}
+use Rattle.collector_main.specs.Pulling.{Export, EachTakes, AreQuiet, HaveSettings, items_in}
 use Rattle.collector_main.proofs.Several.{EachTakes-cons}
 use Rattle.collector_main.proofs.taking.+take_queued.Goals as goal
 
 pub returns-clause-takes : goal.returns-clause-takes
 returns-clause-takes g t c =
     let shards = c.in-Some.ensures.cases.0 in
-    let before = (c.args.exporter.now, c.args.report.now) in
-    let after = (c.take_queued.new.exporter, c.take_queued.new.report) in
+    let before : Export = (c.args.exporter.now, c.args.report.now) in
+    let after : Export = (c.take_queued.new.exporter, c.take_queued.new.report) in
     let queues = c.in-Some-split_first_mut.ensures.cases.0 in
     let P = λ (old : List Held). EachTakes old before (items_in c.args.queues.now) (c.drain.new.shard ∷ c.take_queued.new.shards) after in
     let Q = λ (items : List (QueueState Item)). EachTakes (c.in-Some.shard.now ∷ c.in-Some.others.now) before (items_in items) (c.drain.new.shard ∷ c.take_queued.new.shards) after in

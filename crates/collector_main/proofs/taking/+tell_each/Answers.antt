@@ -4,15 +4,15 @@ use Rattle.shard_core.specs.Held.{Held}
 use Rattle.shard_core.specs.Taking.{ends_after}
 use Rattle.script_run.specs.World.{to_each}
 use Rattle.collector_main.specs.Signals.{item_of}
-use Rattle.collector_main.specs.Pulling.{EachTakes, TakesItems, AreQuiet, HaveSettings}
+use Rattle.collector_main.specs.Pulling.{Export, EachTakes, TakesItems, AreQuiet, HaveSettings}
 use Rattle.collector_main.proofs.Several.{EachTakes-cons, AreQuiet-cons}
 use Rattle.collector_main.proofs.taking.+tell_each.Goals as goal
 
 pub returns-clause-takes : goal.returns-clause-takes
 returns-clause-takes g t c =
     let item = item_of c.args.signal in
-    let before = (c.args.exporter.now, c.args.report.now) in
-    let after = (c.tell_each.new.exporter, c.tell_each.new.report) in
+    let before : Export = (c.args.exporter.now, c.args.report.now) in
+    let after : Export = (c.tell_each.new.exporter, c.tell_each.new.report) in
     let P = λ (old : List Held). EachTakes old before (to_each item old) (c.take_item.new.shard ∷ c.tell_each.new.shards) after in
     let Q = λ (one : Item). TakesItems c.in-Some.shard.now before (one ∷ []) c.take_item.new.shard (c.take_item.new.exporter, c.take_item.new.report) in
     subst P (sym c.in-Some.ensures.cases.0) (EachTakes-cons c.in-Some.shard.now c.take_item.new.shard c.in-Some.others.now c.tell_each.new.shards (item ∷ []) (to_each item c.in-Some.others.now)

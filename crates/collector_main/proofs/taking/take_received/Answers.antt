@@ -4,7 +4,7 @@ use Rattle.std.proofs.lemmas.List.{with_items_is}
 use Rattle.otlp_types.specs.declared.arrival.Item.{Item}
 use Rattle.lane_queue.specs.Queues.{QueueState}
 use Rattle.shard_core.specs.Held.{Held}
-use Rattle.collector_main.specs.Pulling.{EachTakes, RoundsTaken, rounds_of, HaveSettings, AreQuiet, items_in}
+use Rattle.collector_main.specs.Pulling.{Export, EachTakes, RoundsTaken, rounds_of, HaveSettings, AreQuiet, items_in}
 use Rattle.collector_main.proofs.Quiet.{one-round}
 use Rattle.collector_main.proofs.taking.take_received.Goals as goal
 
@@ -13,8 +13,8 @@ returns-then-received-clause-takes g c =
     let old = c.args.shards.now in
     let new = c.take_queued.new.shards in
     let is = with_items_is old new (omega (arith, c.take_queued.ensures.length, ap length c.deref_mut.ensures.value, c.deref_mut.ensures.len)) in
-    let e0 = (c.args.exporter.now, c.args.report.now) in
-    let e1 = (c.take_queued.new.exporter, c.take_queued.new.report) in
+    let e0 : Export = (c.args.exporter.now, c.args.report.now) in
+    let e1 : Export = (c.take_queued.new.exporter, c.take_queued.new.report) in
     let P = λ (hs : List Held). EachTakes hs e0 (items_in c.deref_mut-then-received.result.now) new e1 in
     let Q = λ (qs : List (QueueState Item)). EachTakes old.items e0 (items_in qs) new e1 in
     let N = λ (hs : List Held). EachTakes old.items e0 (items_in c.args.queues.now.items) hs e1 in

@@ -4,7 +4,7 @@ use Rattle.otlp_types.specs.declared.arrival.Item.{Item}
 use Rattle.shard_core.specs.Held.{Held}
 use Rattle.script_run.specs.Connections.{Contacts}
 use Rattle.script_run.specs.World.{ends_from, empty_queues}
-use Rattle.collector_main.specs.Pulling.{RoundsTaken, HaveSettings, AreQuiet, ends_of}
+use Rattle.collector_main.specs.Pulling.{Export, RoundsTaken, HaveSettings, AreQuiet, ends_of}
 use Rattle.collector_main.proofs.Several.{ends_from-same}
 use Rattle.collector_main.proofs.Quiet.{quiets, closes, released-length, quiet-now, none-due-now, ends-now}
 use Rattle.collector_main.proofs.session.Session.close.Goals as goal
@@ -21,8 +21,8 @@ returns-clause-plays g c = λ s w are.
     let new = c.end_all.new.shards in
     let is = with_items_is self.shards new (omega (arith, c.end_all.ensures.length, ap length c.deref_mut.ensures.value, c.deref_mut.ensures.len)) in
     let old_is = c.deref_mut.ensures.value in
-    let before = (self.exporter, self.report) in
-    let after = (c.end_all.new.exporter, c.end_all.new.report) in
+    let before : Export = (self.exporter, self.report) in
+    let after : Export = (c.end_all.new.exporter, c.end_all.new.report) in
     let lanes : c.lanes.result ≡ length w.contacts.connected = c.lanes.ensures.lanes ∙ ap (λ (k : Contacts). length k.connected) are.contacts_are in
     let same = ends_from-same 0 (c.lanes.result + 1) c.deref_mut.result.now w.journals (ap length old_is ∙ released-length self.shards.items w.journals are.released_all) ∙ ap (λ (n : ℕ). ends_from 0 (n + 1) w.journals) lanes in
     let P = λ (rounds : List (List (List Item))). RoundsTaken c.deref_mut.result.now before rounds new after in

@@ -3,7 +3,7 @@ use Rattle.std.specs.List.{AllByRecursion}
 use Rattle.otlp_types.specs.declared.arrival.Item.{Item}
 use Rattle.lane_queue.specs.Queues.{QueueState}
 use Rattle.script_run.specs.World.{empty_queues}
-use Rattle.collector_main.specs.Pulling.{AreQuiet, HoldsQueued, ends_of, rounds_of}
+use Rattle.collector_main.specs.Pulling.{Export, AreQuiet, HoldsQueued, ends_of, rounds_of}
 use Rattle.collector_main.proofs.Queues.{submits-kept, empty-queued, queues-left}
 use Rattle.collector_main.proofs.Receives.{receives}
 use Rattle.collector_main.proofs.Quiet.{released-length, quiet-now, open-now, none-due-now, ends-now}
@@ -29,7 +29,7 @@ returns-clause-plays g c = λ s w are.
     let later = c.submit-reply.new.connections in
     let noted = c.hand_reply.new.exporter in
     let counted = c.count_received.new.report in
-    let taken = (c.take_received.new.exporter, c.take_received.new.report) in
+    let taken : Export = (c.take_received.new.exporter, c.take_received.new.report) in
     let rounds = rounds_of c.is_received.result after in
     let empty = ap (λ v. v.items) c.replace-queues.ensures.value ∙ self.empty ∙ ap (empty_queues self.queue_capacity) (released-length self.shards.items w.journals are.released_all) in
     let r = receives s _ w c.args.number c.args.moment c.args.body.now self.connections later _ after reply self.shards.items c.take_received.new.shards.items self.exporter noted self.report counted

@@ -4,7 +4,7 @@ use Rattle.otlp_types.specs.declared.arrival.Item.{Item}
 use Rattle.otlp_types.specs.declared.arrival.Item.TheVariants.{Tick}
 use Rattle.shard_core.specs.Held.{Held}
 use Rattle.script_run.specs.World.{to_each, empty_queues}
-use Rattle.collector_main.specs.Pulling.{EachTakes, HaveSettings, ends_of}
+use Rattle.collector_main.specs.Pulling.{Export, EachTakes, HaveSettings, ends_of}
 use Rattle.collector_main.proofs.Several.{to_each-same}
 use Rattle.collector_main.proofs.Quiet.{quiets, one-round, released-length, quiet-now, open-now, none-due-now, ends-now}
 use Rattle.collector_main.proofs.session.Session.tick.Goals as goal
@@ -21,8 +21,8 @@ returns-clause-plays g c = λ s w are.
     let is = with_items_is self.shards new (omega (arith, c.tell_each.ensures.length, ap length c.deref_mut.ensures.value, c.deref_mut.ensures.len)) in
     let H = λ (hs : List Held). HaveSettings s hs in
     let old_is = c.deref_mut.ensures.value in
-    let before = (self.exporter, self.report) in
-    let after = (c.tell_each.new.exporter, c.tell_each.new.report) in
+    let before : Export = (self.exporter, self.report) in
+    let after : Export = (c.tell_each.new.exporter, c.tell_each.new.report) in
     let same = to_each-same (Tick c.args.moment) c.deref_mut.result.now w.journals (ap length old_is ∙ released-length self.shards.items w.journals are.released_all) in
     let P = λ (items : List (List Item)). EachTakes c.deref_mut.result.now before items new after in
     let Q = λ (hs : List Held). EachTakes hs before (to_each (Tick c.args.moment) w.journals) new after in
