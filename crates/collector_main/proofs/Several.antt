@@ -53,6 +53,12 @@ EachTakes-none e = record { takes = λ s pasts alike has. by_pasts s pasts has }
     }
     by_pasts s (p ∷ ps) has = absurd has
 
+-- there is no shard
+pub EachTakes-empty : (shards : List Held) (items : List (List Item)) (e : Export) → length shards ≡ 0 → length items ≡ length shards → EachTakes shards e items shards e
+EachTakes-empty [] [] e none same = EachTakes-none e
+EachTakes-empty [] (i ∷ is) e none same = absurd (omega (arith, same))
+EachTakes-empty (h ∷ hs) items e none same = absurd (omega (arith, none))
+
 -- of the first and of the others
 plus-each : (all first rest before one others x y : ℕ) → all ≡ first + rest → before ≡ one + others → first ≡ one + x → rest ≡ others + y → all ≡ before + (x + y)
 plus-each all first rest before one others x y a b c d = omega arith

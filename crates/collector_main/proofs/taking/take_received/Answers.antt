@@ -5,6 +5,7 @@ use Rattle.otlp_types.specs.declared.arrival.Item.{Item}
 use Rattle.lane_queue.specs.Queues.{QueueState}
 use Rattle.shard_core.specs.Held.{Held}
 use Rattle.collector_main.specs.Pulling.{Export, EachTakes, RoundsTaken, rounds_of, HaveSettings, AreQuiet, items_in}
+use Rattle.collector_main.proofs.Several.{RoundsTaken-none}
 use Rattle.collector_main.proofs.Quiet.{one-round}
 use Rattle.collector_main.proofs.taking.take_received.Goals as goal
 
@@ -20,6 +21,13 @@ returns-then-received-clause-takes g c =
     let N = λ (hs : List Held). EachTakes old.items e0 (items_in c.args.queues.now.items) hs e1 in
     let R = λ (b : Bool). RoundsTaken old.items e0 (rounds_of b c.args.queues.now.items) (with_items old new).items e1 in
     subst R (sym c.if-received.true) (one-round old.items (with_items old new).items (items_in c.args.queues.now.items) e0 e1 (subst N (sym is) (subst Q c.deref_mut-then-received.ensures.value (subst P c.deref_mut.ensures.value c.take_queued.ensures.takes))))
+
+pub returns-else-received-clause-takes : goal.returns-else-received-clause-takes
+returns-else-received-clause-takes g c =
+    let e : Export = (c.args.exporter.now, c.args.report.now) in
+    let old = c.args.shards.now.items in
+    let R = λ (b : Bool). RoundsTaken old e (rounds_of b c.args.queues.now.items) old e in
+    subst R (sym c.if-received.false) (RoundsTaken-none old e)
 
 pub returns-then-received-clause-quiet : goal.returns-then-received-clause-quiet
 returns-then-received-clause-quiet g c = λ ends quiet.
