@@ -1,20 +1,16 @@
 -- A report grows by what is counted.
-use Rattle.std.proofs.Common.{◌≡◌, ℕ, ◌+◌, ◌<◌, ◌≤◌, ◌^◌, Bool, true, false, List, [], ◌∷◌, ◌++◌, length, Option, Some, None, refl, sym, ap, subst, ◌∙◌, arith}
-use Rattle.std.specs.Prelude.{◌==◌, if◌then◌else◌, slice_index, slice_set}
-use Rattle.std.proofs.lemmas.Grind.{common_steps}
+use Rattle.std.proofs.Common.{◌≡◌, ℕ, ◌+◌, ◌≤◌, ◌^◌, List, [], ◌∷◌, ◌++◌, Option, Some, None, refl, sym, ap, subst, ◌∙◌, arith}
+use Rattle.std.specs.Prelude.{slice_index}
 use Rattle.std.proofs.lemmas.List.Sums.{sum_by-append, sum_by-cons}
-use Rattle.span_ids.specs.Reasons.{number_of as reason_number}
 use Rattle.span_ids.specs.declared.outcome.Reason.{Reason}
-use Rattle.span_ids.specs.declared.outcome.Reason.TheVariants.{InvalidId, QueueFull, NoMemory, Evicted, NotSampled, LateNotSampled, ExporterDown}
 use Rattle.shard_core.specs.Journal.{Settings}
-use Rattle.shard_core.specs.Fate.{is_same_reason}
-use Rattle.drop_ledger.specs.Places.{place_of, with_added}
+use Rattle.drop_ledger.specs.Places.{place_of}
 use Rattle.drop_ledger.specs.declared.count.Count.{Count}
 use Rattle.drop_ledger.specs.declared.count.Count.TheVariants.{Received, Handed, Dropped}
 use Rattle.script_run.specs.Sending.{Sent}
 use Rattle.script_run.specs.World.{World}
 use Rattle.script_run.specs.Counts.{number_of, Reports, counted_for}
-use Rattle.collector_main.specs.Adding.{Adds, at_count, at_reasons, counted_in}
+use Rattle.collector_main.specs.Adding.{Adds, at_reasons, counted_in}
 
 -- ---- numbers
 
@@ -68,72 +64,6 @@ Reports-grow s w v None b f e p q = let P = λ (x : Option (List ℕ)). Reports 
     subst P (sym q) (p.0, passes-too _ (number_of s w p.0) (number_of s v p.0) (f p.0) p.1 (e p.0))
 Reports-grow s w v (Some r) None f e p q = let P = λ (n : ℕ). 2 ^ 64 ≤ n in (q.0, subst P (ap (λ n. n + f q.0) (p.1 q.0) ∙ sym (e q.0)) q.1)
 Reports-grow s w v (Some r) (Some n) f e p q = (q.0 ∙ p.0, λ k. q.1 k ∙ ap (λ n. n + f k) (p.1 k) ∙ sym (e k))
-
--- ---- one addition to nine numbers
-
-each-reason : (P : Reason → Type 0) → P InvalidId → P QueueFull → P NoMemory → P Evicted → P NotSampled → P LateNotSampled → P ExporterDown → (r : Reason) → P r
-each-reason P a b c d e f g InvalidId = a
-each-reason P a b c d e f g QueueFull = b
-each-reason P a b c d e f g NoMemory = c
-each-reason P a b c d e f g Evicted = d
-each-reason P a b c d e f g NotSampled = e
-each-reason P a b c d e f g LateNotSampled = f
-each-reason P a b c d e f g ExporterDown = g
-
--- two reasons are the same where their places are
-abbrev SamePlace : Reason → Reason → Type 0
-SamePlace r q = (place_of (Dropped r) == place_of (Dropped q)) ≡ is_same_reason r q
-
-same-place : (r q : Reason) → SamePlace r q
-same-place = each-reason (λ r. (q : Reason) → SamePlace r q) (each-reason (SamePlace InvalidId) refl refl refl refl refl refl refl)
-    (each-reason (SamePlace QueueFull) refl refl refl refl refl refl refl) (each-reason (SamePlace NoMemory) refl refl refl refl refl refl refl)
-    (each-reason (SamePlace Evicted) refl refl refl refl refl refl refl) (each-reason (SamePlace NotSampled) refl refl refl refl refl refl refl)
-    (each-reason (SamePlace LateNotSampled) refl refl refl refl refl refl refl) (each-reason (SamePlace ExporterDown) refl refl refl refl refl refl refl)
-
-within-nine : (count : Count) → place_of count < 9
-within-nine Received = omega arith
-within-nine Handed = omega arith
-within-nine (Dropped reason) = each-reason (λ r. place_of (Dropped r) < 9) (omega arith) (omega arith) (omega arith) (omega arith) (omega arith) (omega arith) (omega arith) reason
-
-at-place : (what : Count) (spans : ℕ) (k : Count) → (if place_of what == place_of k then spans else 0) ≡ at_count what spans k
-at-place Received spans Received = refl
-at-place Received spans Handed = refl
-at-place Received spans (Dropped r) = each-reason (λ r. (if place_of Received == place_of (Dropped r) then spans else 0) ≡ 0) refl refl refl refl refl refl refl r
-at-place Handed spans Received = refl
-at-place Handed spans Handed = refl
-at-place Handed spans (Dropped r) = each-reason (λ r. (if place_of Handed == place_of (Dropped r) then spans else 0) ≡ 0) refl refl refl refl refl refl refl r
-at-place (Dropped r) spans Received = each-reason (λ r. (if place_of (Dropped r) == place_of Received then spans else 0) ≡ 0) refl refl refl refl refl refl refl r
-at-place (Dropped r) spans Handed = each-reason (λ r. (if place_of (Dropped r) == place_of Handed then spans else 0) ≡ 0) refl refl refl refl refl refl refl r
-at-place (Dropped r) spans (Dropped q) = ap (λ b. if b then spans else 0) (same-place r q)
-
-one-added : (numbers : List ℕ) (i j n : ℕ) → i < length numbers
-    → slice_index (slice_set numbers i (slice_index numbers i + n)) j ≡ slice_index numbers j + (if i == j then n else 0)
-one-added numbers i j n within = grind (arith, common_steps)
-
-same-length : (numbers : List ℕ) (i n : ℕ) → length (slice_set numbers i n) ≡ length numbers
-same-length numbers i n = grind (arith, common_steps)
-
--- spans were added to a count
-pub Adds-one : (numbers more : List ℕ) (what : Count) (spans : ℕ) → length numbers ≡ 9 → more ≡ with_added what spans numbers → Adds (Some numbers) (at_count what spans) (Some more)
-Adds-one numbers more what spans nine is =
-    let P = λ (n : List ℕ). Adds (Some numbers) (at_count what spans) (Some n) in
-    let within : place_of what < length numbers = rw nine (within-nine what) in
-    subst P (sym is) (
-      same-length numbers (place_of what) (slice_index numbers (place_of what) + spans),
-      λ k. one-added numbers (place_of what) (place_of k) spans within ∙ ap (λ n. slice_index numbers (place_of k) + n) (at-place what spans k),
-    )
-
--- a number would have passed 2^64-1
-pub Adds-full : (numbers : List ℕ) (what : Count) (spans : ℕ) → 2 ^ 64 ≤ slice_index numbers (place_of what) + spans → Adds (Some numbers) (at_count what spans) None
-Adds-full numbers what spans full = let P = λ (n : ℕ). 2 ^ 64 ≤ slice_index numbers (place_of what) + n in (what, subst P (own what) full)
-  where
-    same : (r : Reason) → is_same_reason r r ≡ true
-    same r = each-reason (λ r. is_same_reason r r ≡ true) refl refl refl refl refl refl refl r
-
-    own : (c : Count) → spans ≡ at_count c spans c
-    own Received = refl
-    own Handed = refl
-    own (Dropped r) = ap (λ b. if b then spans else 0) (sym (same r))
 
 -- ---- what is counted for batches and reasons
 

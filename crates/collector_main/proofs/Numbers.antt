@@ -1,5 +1,5 @@
 -- How the numbers of a script's world grow by a line.
-use Rattle.std.proofs.Common.{◌≡◌, ℕ, ◌+◌, ◌<◌, false, List, [], ◌∷◌, ◌++◌, length, map, replicate, zero, suc, refl, sym, ap, ◌∙◌, Option, Some, length-append, arith}
+use Rattle.std.proofs.Common.{◌≡◌, ℕ, ◌+◌, false, List, [], ◌∷◌, ◌++◌, length, map, replicate, zero, suc, refl, sym, ap, ◌∙◌, Some, length-append, arith}
 use Rattle.std.specs.Prelude.{filter, slice_index}
 use Rattle.std.specs.List.{sum_by}
 use Rattle.std.proofs.lemmas.List.Sums.{sum_by-append, sum_by-cons}
@@ -17,7 +17,7 @@ use Rattle.drop_ledger.specs.Places.{place_of}
 use Rattle.drop_ledger.specs.declared.count.Count.{Count}
 use Rattle.drop_ledger.specs.declared.count.Count.TheVariants.{Received, Handed, Dropped}
 use Rattle.script_run.specs.Sending.{Sent}
-use Rattle.script_run.specs.World.{World, Event, replied, was_sent, new_world, after_reply, after_receiving}
+use Rattle.script_run.specs.World.{World, replied, was_sent, new_world, after_reply, after_receiving}
 use Rattle.script_run.specs.Counts.{counted_at_lanes, dropped_by_journal, counted_at_shards, counted_for, counted_at, number_of, Reports}
 use Rattle.collector_main.specs.Adding.{at_reasons, counted_in}
 use Rattle.collector_main.specs.Submitting.{received_by, is_received}

@@ -1,6 +1,6 @@
 -- Several shards take items in turn, and what that releases is pulled.
 use Rattle.std.proofs.Common.{add-one, ◌≡◌, ℕ, zero, suc, ◌+◌, Bool, true, false, ◌&&◌, List, [], ◌∷◌, ◌++◌, length, replicate, refl, sym, ap, subst, ◌∙◌, append_assoc, append-nil, arith}
-use Rattle.std.specs.List.{list_all, slice_set, sum_by}
+use Rattle.std.specs.List.{list_all, slice_set}
 use Rattle.std.proofs.lemmas.List.Sums.{sum_by-cons}
 use Rattle.otlp_types.specs.declared.arrival.Arrival.{Arrival}
 use Rattle.otlp_types.specs.declared.arrival.Item.{Item}
@@ -11,7 +11,7 @@ use Rattle.shard_core.specs.Taking.{ends_after}
 use Rattle.span_ids.specs.declared.outcome.Reason.{Reason}
 use Rattle.script_run.specs.World.{TakesFor, TakesEach, TakesRounds, to_each, ends_from}
 use Rattle.script_run.specs.Counts.{dropped_by_journal}
-use Rattle.collector_main.specs.Pulling.{Export, PullsAll, TakesItems, HaveSettings, AreQuiet, HaveReleased, dropped_by_all, Taking, EachTakes, RoundsTaken, is_queued}
+use Rattle.collector_main.specs.Pulling.{Export, TakesItems, HaveSettings, AreQuiet, HaveReleased, dropped_by_all, Taking, EachTakes, RoundsTaken, is_queued}
 use Rattle.collector_main.proofs.Adds.{none-dropped, plus-none, plus-two}
 use Rattle.collector_main.proofs.Pulls.{PullsAll-none, PullsAll-append}
 
