@@ -1,7 +1,7 @@
--- What a run leaves of its sink follows from how its script was played.
+-- What a run leaves of its sink and of its report follows from how its script was played.
 use Rattle.std.proofs.Common.{◌≡◌, ℕ, Bool, true, false, List, Option, Result, Ok, Err, refl, ap, subst, ◌∙◌, inl, inr}
 use Rattle.std.specs.Prelude.{not, IfSome}
-use Rattle.std.specs.Result.{OnOk, IfErr}
+use Rattle.std.specs.Result.{OnOk, IfErr, IsErrOf}
 use Rattle.drop_ledger.specs.declared.report.Report.{Report}
 use Rattle.span_sink.specs.LineSinks.{LineSinkState, up_state, down_state}
 use Rattle.tsc_script.specs.declared.stop.Stop.{Stop}
@@ -14,7 +14,7 @@ use Rattle.tsc_script.proofs.Weaker.{StopsAfter-weaker}
 use Rattle.collector_main.specs.declared.fault.RunFault.{RunFault}
 use Rattle.collector_main.specs.declared.fault.RunFault.TheVariants.{NoMemory, Refused, Fault, BookFull, SinkDown}
 use Rattle.collector_main.specs.Answers.{AnswersStop}
-use Rattle.collector_main.specs.Replay.{Run, Played, PlayedDown, Fell, PlayedWhole, StoppedDown, RunEnds}
+use Rattle.collector_main.specs.Replay.{Run, LeadsIn, Played, ClosesWith, Fell, PlayedWhole, StoppedDown, RunEnds}
 
 not-true : (b : Bool) → not b ≡ true → b ≡ false
 not-true true e = cc
@@ -30,20 +30,38 @@ is_up_state s taken failures t f up = rw (t, f) (ap (λ b. record s { is_down = 
 pub is_down_state : (s : LineSinkState) (taken : Option (List ℕ)) (failures : ℕ) → taken ≡ s.taken → failures ≡ s.failures → not s.is_down ≡ false → s ≡ down_state taken failures
 is_down_state s taken failures t f up = rw (t, f) (ap (λ b. record s { is_down = b }) (not-false s.is_down up))
 
-module _ (run : Run) (played : Result (Unit {0}) Stop) (up : Bool) (L F : List Instruction → Type 0)
+-- these instructions led to this state of the sink and this report, and the script is closed, or not
+abbrev pub Led : Run → LineSinkState → Option (List ℕ) → Bool → List Instruction → Type 0
+Led run last report closed played = (leads : LeadsIn run played last report) × (leads.after.closed ≡ closed)
+
+module _ (run : Run) (played : Result (Unit {0}) Stop) (up closed : Bool) (last : LineSinkState) (report : Option (List ℕ)) (L F : List Instruction → Type 0)
     (whole : OnOk played ((instructions : List Instruction) × Ends run.unread run.unread_after instructions × L instructions))
     (stopped : IfErr played (StopsAfter L F run.unread run.unread_after))
     (refused : IfErr played (λ stop. IfRefused stop (λ number. IfSome run.unread (λ script. instructions_of script ≡ Err number))))
     (up_is : up ≡ is_up_after played)
-    (no_memory : played ≡ Err NothingRead → (run.taken_after ≡ run.taken) × (run.failures_after ≡ run.failures))
-    (to_played : up ≡ true → (done : List Instruction) → L done → Played run done)
-    (to_down : up ≡ false → (done : List Instruction) → L done → PlayedDown run done)
+    (whole_closed : OnOk played (closed ≡ true))
+    (down_closed : IsErrOf played Down → closed ≡ true)
+    (no_memory : IsErrOf played NothingRead → (run.taken_after ≡ run.taken) × (run.failures_after ≡ run.failures))
+    (last_up : up ≡ true → last ≡ up_state run.taken_after run.failures_after)
+    (last_down : up ≡ false → last ≡ down_state run.taken_after run.failures_after)
+    (to_led : (done : List Instruction) → L done → Led run last report closed done)
     (to_fell : (done : List Instruction) → F done → Fell run done) where
-  ended : played ≡ Ok tt → PlayedWhole run
+  -- closed, with the sink as it is
+  to_closed : (state : LineSinkState) → last ≡ state → closed ≡ true → (done : List Instruction) → L done → ClosesWith run state report done
+  to_closed state e f done l =
+      let P = λ (k : LineSinkState). Led run k report closed done in
+      let Q = λ (b : Bool). Led run state report b done in
+      subst Q f (subst P e (to_led done l))
+
+  to_played : up ≡ true → (done : List Instruction) → L done → Played run done
+  to_played e done l = let P = λ (k : LineSinkState). LeadsIn run done k report in (report, subst P (last_up e) (to_led done l).0)
+
+  ended : played ≡ Ok tt → PlayedWhole run report
   ended e =
       let P = λ (p : Result (Unit {0}) Stop). OnOk p ((instructions : List Instruction) × Ends run.unread run.unread_after instructions × L instructions) in
+      let Q = λ (p : Result (Unit {0}) Stop). OnOk p (closed ≡ true) in
       let w = subst P e whole in
-      (w.0, w.1, to_played (up_is ∙ ap is_up_after e) w.0 w.2)
+      (w.0, w.1, to_closed _ (last_up (up_is ∙ ap is_up_after e)) (subst Q e whole_closed) w.0 w.2)
 
   stops : (stop : Stop) → played ≡ Err stop → StopsAfter L F run.unread run.unread_after stop
   stops stop e = let P = λ (p : Result (Unit {0}) Stop). IfErr p (StopsAfter L F run.unread run.unread_after) in subst P e stopped
@@ -51,16 +69,17 @@ module _ (run : Run) (played : Result (Unit {0}) Stop) (up : Bool) (L F : List I
   at_line : (stop : Stop) → played ≡ Err stop → is_up_after (Err stop) ≡ true → StopsAfter (Played run) F run.unread run.unread_after stop
   at_line stop e still = StopsAfter-weaker L (Played run) F F run.unread run.unread_after stop (to_played (up_is ∙ ap is_up_after e ∙ still)) (λ done f. f) (stops stop e)
 
-  fell : played ≡ Err Down → StoppedDown run
-  fell e = StopsAfter-weaker L (PlayedDown run) F (Fell run) run.unread run.unread_after Down (to_down (up_is ∙ ap is_up_after e)) to_fell (stops Down e)
+  fell : played ≡ Err Down → StoppedDown run report
+  fell e = StopsAfter-weaker L (ClosesWith run (down_state run.taken_after run.failures_after) report) F (Fell run) run.unread run.unread_after Down
+      (to_closed _ (last_down (up_is ∙ ap is_up_after e)) (down_closed e)) to_fell (stops Down e)
 
-  pub run-ends : (answer : Result Report RunFault) → AnswersStop played answer → RunEnds run answer
-  run-ends (Ok report) e = ended e
+  pub run-ends : (answer : Result Report RunFault) → AnswersStop played report answer → RunEnds run answer
+  run-ends (Ok numbers) e = subst (PlayedWhole run) e.1 (ended e.0)
   run-ends (Err NoMemory) e = no_memory e
   run-ends (Err (Refused line)) e =
       let P = λ (p : Result (Unit {0}) Stop). IfErr p (λ stop. IfRefused stop (λ number. IfSome run.unread (λ script. instructions_of script ≡ Err number))) in
       (at_line (LineRefused line) e refl, subst P e refused)
   run-ends (Err (Fault line)) e = at_line (LineUnread line) e refl
-  run-ends (Err BookFull) (inl e) = inl (ended e)
-  run-ends (Err BookFull) (inr e) = inr (fell e)
-  run-ends (Err (SinkDown report)) e = fell e
+  run-ends (Err BookFull) (inl e, none) = inl (subst (PlayedWhole run) none (ended e))
+  run-ends (Err BookFull) (inr e, none) = inr (subst (StoppedDown run) none (fell e))
+  run-ends (Err (SinkDown numbers)) e = subst (StoppedDown run) e.1 (fell e.0)

@@ -1,4 +1,6 @@
+pub mod Adds
 pub mod Replies
+pub mod Numbers
 pub mod Pulls
 pub mod Runs
 pub mod Several
@@ -6,4 +8,5 @@ pub mod Submitted
 pub mod Queues
 pub mod Starts
 pub mod Quiet
+pub mod Receives
 pub mod Finish

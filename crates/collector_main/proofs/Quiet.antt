@@ -1,24 +1,22 @@
 -- A line of a script leaves all quiet.
-use Rattle.std.proofs.Common.{add-one, suc, replicate, ◌≡◌, ℕ, ◌<◌, Bool, true, false, List, [], ◌∷◌, ◌++◌, map, length, refl, sym, ap, subst, ◌∙◌, inl, inr}
+use Rattle.std.proofs.Common.{add-one, suc, replicate, ◌≡◌, ℕ, ◌+◌, ◌<◌, Bool, true, false, Option, Some, None, List, [], ◌∷◌, ◌++◌, map, length, refl, sym, ap, subst, ◌∙◌, arith}
 use Rattle.std.specs.Prelude.{not, ◌&&◌}
 use Rattle.std.specs.List.{list_all}
 use Rattle.otlp_types.specs.declared.arrival.Item.{Item}
-use Rattle.lane_queue.specs.Queues.{QueueState}
-use Rattle.lane_seq.specs.declared.reply.Reply.{Reply}
-use Rattle.lane_seq.specs.declared.reply.Reply.TheVariants.{Done, Partial, BadData, Busy}
 use Rattle.shard_core.specs.Journal.{Settings, Journal}
 use Rattle.shard_core.specs.Held.{Held, has_due}
 use Rattle.span_sink.specs.LineSinks.{LineSinkState}
 use Rattle.span_exporter.specs.declared.answer.Flushed.{Flushed}
-use Rattle.span_exporter.specs.Exports.{ExporterState, Sends, WritesLine}
+use Rattle.span_exporter.specs.Exports.{ExporterState, Sends}
 use Rattle.tsc_script.specs.Instructions.{Instruction}
 use Rattle.script_run.specs.Connections.{Contacts}
-use Rattle.lane_seq.specs.Replies.{IsReplyTo}
-use Rattle.script_run.specs.Requests.{IsTakenFor, reply_line, reads, refuses}
 use Rattle.script_run.specs.Sending.{SendsInBatches}
-use Rattle.collector_main.specs.Submitting.{Submits, is_received}
-use Rattle.script_run.specs.World.{World, Sizes, RunsToQuiet, RepliesAndRuns, Receives, Plays, PlaysAll, empty_queues}
-use Rattle.collector_main.specs.Pulling.{HaveReleased, HaveSettings, AreQuiet, AreOpen, ends_of, has_none_due, ends_in, EachTakes, RoundsTaken, AreOf, items_in}
+use Rattle.script_run.specs.World.{World, Sizes, was_sent, RunsToQuiet, Plays, PlaysAll}
+use Rattle.script_run.specs.Counts.{number_of, counted_for, Reports}
+use Rattle.collector_main.specs.Adding.{Adds, at_reasons, counted_in}
+use Rattle.collector_main.specs.Pulling.{Export, HaveReleased, HaveSettings, AreQuiet, AreOpen, ends_of, has_none_due, ends_in, EachTakes, RoundsTaken, AreOf}
+use Rattle.collector_main.proofs.Adds.{Adds-then, Reports-grow}
+use Rattle.collector_main.proofs.Numbers.{number-quiet}
 use Rattle.collector_main.proofs.Pulls.{sent-in_batches}
 use Rattle.collector_main.proofs.Several.{RoundsTaken-none, RoundsTaken-push}
 
@@ -52,72 +50,55 @@ released-length (h ∷ hs) [] has = absurd has
 released-length (h ∷ hs) (p ∷ ps) has = ap suc (released-length hs ps has.1)
 
 -- one round
-pub one-round : (old new : List Held) (items : List (List Item)) (before after : ExporterState) → EachTakes old before items new after → RoundsTaken old before (items ∷ []) new after
+pub one-round : (old new : List Held) (items : List (List Item)) (before after : Export) → EachTakes old before items new after → RoundsTaken old before (items ∷ []) new after
 one-round old new items before after t = RoundsTaken-push old old new [] items before before after (λ s alike. alike) (RoundsTaken-none old before) t
 
+regroup : (all n d c b f : ℕ) → all ≡ n + (d + c) → c ≡ b + f → all ≡ n + ((d + b) + f)
+regroup all n d c b f p q = omega arith
+
 -- rounds were taken and the rest of the batch was sent
-pub quiets : (s : Settings) (sizes : Sizes) (w : World) (contacts : Contacts) (old new : List Held) (before between final : ExporterState) (rounds : List (List (List Item)))
-    → contacts ≡ w.contacts → HaveSettings s old → HaveReleased old w.journals → before.sink ≡ w.sink → before.size ≡ sizes.batch → length before.batch ≡ 0
+pub quiets : (s : Settings) (sizes : Sizes) (w : World) (contacts : Contacts) (old new : List Held) (before between final : Export) (closed : Bool) (rounds : List (List (List Item)))
+    → AreOf s w contacts old before.0 before.1 closed → before.0.size ≡ sizes.batch → length before.0.batch ≡ 0
     → RoundsTaken old before rounds new between → HaveSettings s new
-    → length between.batch < between.size → ((flushed : Flushed) × Sends between.sink between.batch flushed final.sink)
-    → (after : World) × RunsToQuiet s sizes w rounds after × AreOf s after contacts new final
-quiets s sizes w contacts old new before between final rounds same first has sink_is size_is empty takes alike room sent =
-    let t = takes.takes s w.journals first has in
-    let P = λ (k : LineSinkState). SendsInBatches sizes.batch k t.1 final.sink in
-    let Q = λ (n : ℕ). SendsInBatches n before.sink t.1 final.sink in (
-      record { contacts = w.contacts; journals = t.0; sink = final.sink },
+    → length between.0.batch < between.0.size
+    → ((flushed : Flushed) × Sends between.0.sink between.0.batch flushed final.0.sink × Adds between.1 (λ count. counted_for count flushed) final.1)
+    → (after : World) × RunsToQuiet s sizes w rounds after × AreOf s after contacts new final.0 final.1 closed
+quiets s sizes w contacts old new before between final closed rounds are size_is empty takes alike room sent =
+    let t = takes.takes s w.journals are.settings_are are.released_all in
+    let went = sent-in_batches before between final.0.sink t.released t.dropped sent.0 empty t.pulls room sent.1 in
+    let P = λ (k : LineSinkState). SendsInBatches sizes.batch k t.released went.batches final.0.sink in
+    let Q = λ (n : ℕ). SendsInBatches n before.0.sink t.released went.batches final.0.sink in
+    let after : World = record w { journals = t.nows; events = w.events ++ map was_sent went.batches; sink = final.0.sink } in (
+      after,
+      record { released = t.released; takes = t.takes; batches = went.batches; sends = subst P are.sink_is (subst Q size_is went.sends); becomes = refl },
       record {
-        contacts = refl;
-        released = t.1;
-        takes = t.3;
-        sends = subst P sink_is (subst Q size_is (sent-in_batches before between final.sink t.1 empty t.4 room sent));
+        contacts_are = are.contacts_are;
+        settings_are = alike;
+        released_all = t.have_released;
+        sink_is = refl;
+        reports = Reports-grow s w after before.1 final.1 (λ k. (at_reasons t.dropped k + counted_in t.pulls.batches k) + counted_for k sent.0)
+            (λ k. regroup (number_of s after k) (number_of s w k) (at_reasons t.dropped k) (counted_in went.batches k) (counted_in t.pulls.batches k) (counted_for k sent.0)
+            (number-quiet s w t.nows went.batches final.0.sink t.dropped t.drops k) (went.counts k))
+            are.reports (Adds-then before.1 between.1 final.1 _ _ _ (λ k. refl) t.pulls.adds sent.2);
+        closed_is = are.closed_is;
       },
-      record { contacts_are = same; settings_are = alike; released_all = t.2; sink_is = refl },
     )
 
--- a request was read or refused
-pub receives : (s : Settings) (sizes : Sizes) (w : World) (number moment : ℕ) (body : List ℕ) (known later : Contacts) (before after : List (QueueState Item)) (reply : Reply) (first sink : LineSinkState) (rounds : List (List (List Item))) (Q : World → Type 0)
-    → known ≡ w.contacts → first ≡ w.sink → before ≡ empty_queues sizes.queue (length w.journals) → Submits known number moment body before reply after later
-    → (is_received reply ≡ true → rounds ≡ items_in after ∷ []) → (is_received reply ≡ false → rounds ≡ [])
-    → WritesLine first (reply_line reply) sink
-    → ((end : World) × RunsToQuiet s sizes (record { contacts = later; journals = w.journals; sink = sink }) rounds end × Q end)
-    → (end : World) × Receives s sizes w number moment body end × Q end
-receives s sizes w number moment body known later before after reply first sink rounds Q known_is first_is before_is submits on_read on_refused written runs =
-    let S = λ (k : Contacts). Submits k number moment body before reply after later in
-    let E = λ (q : List (QueueState Item)). Submits w.contacts number moment body q reply after later in
-    let W = λ (k : LineSinkState). WritesLine k (reply_line reply) sink in
-    (runs.0, by_cause (subst E before_is (subst S known_is submits)), runs.2)
+-- nothing but the mark changes at a close
+pub closes : (s : Settings) (w : World) (contacts : Contacts) (shards : List Held) (exporter : ExporterState) (report : Option (List ℕ)) (closed : Bool) → AreOf s w contacts shards exporter report closed
+    → AreOf s (record w { closed = true }) contacts shards exporter report true
+closes s w contacts shards exporter report closed are = record {
+  contacts_are = are.contacts_are;
+  settings_are = are.settings_are;
+  released_all = are.released_all;
+  sink_is = are.sink_is;
+  reports = reported report are.reports;
+  closed_is = refl;
+}
   where
-    line : WritesLine w.sink (reply_line reply) sink
-    line = let W = λ (k : LineSinkState). WritesLine k (reply_line reply) sink in subst W first_is written
-
-    here : (rest : List (List (List Item))) → rounds ≡ rest → (c : Contacts) → later ≡ c → RepliesAndRuns s sizes (record w { contacts = c }) reply rest runs.0
-    here rest e c f =
-        let P = λ (r : List (List (List Item))). RunsToQuiet s sizes (record { contacts = later; journals = w.journals; sink = sink }) r runs.0 in
-        let C = λ (k : Contacts). RunsToQuiet s sizes (record { contacts = k; journals = w.journals; sink = sink }) rest runs.0 in
-        (sink, line, subst C f (subst P e runs.1))
-
-    busy_refused : reply ≡ Busy → is_received reply ≡ false
-    busy_refused e = ap is_received e
-
-    by_cause : Submits w.contacts number moment body (empty_queues sizes.queue (length w.journals)) reply after later → Receives s sizes w number moment body runs.0
-    by_cause (inl d) =
-        let B = λ (r : Reply). RepliesAndRuns s sizes w r [] runs.0 in
-        inl (d.0, subst B d.1 (here [] (on_refused (busy_refused d.1)) w.contacts d.3))
-    by_cause (inr (inl d)) = inr (refuses reply, d.0, here [] (on_refused (not_read reply d.0)) _ d.2)
-      where
-        not_read : (r : Reply) → IsTakenFor body (refuses r) → is_received r ≡ false
-        not_read (Done n) t = absurd t
-        not_read (Partial n rejected) t = absurd t
-        not_read (BadData cause) t = refl
-        not_read Busy t = refl
-    by_cause (inr (inr d)) = inr (reads d.0, d.1, (reply, after, d.2, here (items_in after ∷ []) (on_read (was_read _ _ d.2.refused reply d.2.replied)) _ d.3))
-      where
-        was_read : (spans invalid full : ℕ) (r : Reply) → IsReplyTo spans invalid full r → is_received r ≡ true
-        was_read spans invalid full (Done n) t = refl
-        was_read spans invalid full (Partial n rejected) t = refl
-        was_read spans invalid full (BadData cause) t = absurd t
-        was_read spans invalid full Busy t = absurd t
+    reported : (r : Option (List ℕ)) → Reports s w r → Reports s (record w { closed = true }) r
+    reported None p = p
+    reported (Some numbers) p = p
 
 pub PlaysAll-push : (s : Settings) (sizes : Sizes) (w mid after : World) (done : List Instruction) (x : Instruction) → PlaysAll s sizes w done mid → Plays s sizes mid x after
     → PlaysAll s sizes w (done ++ x ∷ []) after

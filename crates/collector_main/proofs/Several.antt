@@ -1,15 +1,18 @@
 -- Several shards take items in turn, and what that releases is pulled.
 use Rattle.std.proofs.Common.{add-one, ◌≡◌, ℕ, zero, suc, ◌+◌, Bool, true, false, ◌&&◌, List, [], ◌∷◌, ◌++◌, length, replicate, refl, sym, ap, subst, ◌∙◌, append_assoc, append-nil, arith}
 use Rattle.std.specs.List.{list_all, slice_set}
+use Rattle.std.proofs.lemmas.List.Sums.{sum_by-cons}
 use Rattle.otlp_types.specs.declared.arrival.Arrival.{Arrival}
 use Rattle.otlp_types.specs.declared.arrival.Item.{Item}
 use Rattle.otlp_types.specs.declared.arrival.Item.TheVariants.{Span, Tick, End}
 use Rattle.shard_core.specs.Journal.{Settings, Journal}
 use Rattle.shard_core.specs.Held.{Held, has_due}
 use Rattle.shard_core.specs.Taking.{ends_after}
-use Rattle.span_exporter.specs.Exports.{ExporterState}
+use Rattle.span_ids.specs.declared.outcome.Reason.{Reason}
 use Rattle.script_run.specs.World.{TakesFor, TakesEach, TakesRounds, to_each, ends_from}
-use Rattle.collector_main.specs.Pulling.{PullsAll, TakesItems, HaveSettings, AreQuiet, HaveReleased, EachTakes, RoundsTaken, is_queued}
+use Rattle.script_run.specs.Counts.{dropped_by_journal}
+use Rattle.collector_main.specs.Pulling.{Export, TakesItems, HaveSettings, AreQuiet, HaveReleased, dropped_by_all, Taking, EachTakes, RoundsTaken, is_queued}
+use Rattle.collector_main.proofs.Adds.{none-dropped, plus-none, plus-two}
 use Rattle.collector_main.proofs.Pulls.{PullsAll-none, PullsAll-append}
 
 -- ---- what a queue holds
@@ -35,30 +38,55 @@ queued-keeps_ends (End sender) ends h = absurd (cc h)
 
 -- ---- the first shard, and the others
 
-pub EachTakes-none : (e : ExporterState) → EachTakes [] e [] [] e
+pub EachTakes-none : (e : Export) → EachTakes [] e [] [] e
 EachTakes-none e = record { takes = λ s pasts alike has. by_pasts s pasts has }
   where
-    by_pasts : (s : Settings) (pasts : List Journal) → HaveReleased [] pasts → (nows : List Journal) × (released : List Arrival) × HaveReleased [] nows × TakesEach s pasts [] nows released × PullsAll e released e
-    by_pasts s [] has = ([], [], tt, refl, PullsAll-none e)
+    by_pasts : (s : Settings) (pasts : List Journal) → HaveReleased [] pasts → Taking (TakesEach s pasts []) s pasts e [] e
+    by_pasts s [] has = record {
+      nows = [];
+      released = [];
+      dropped = λ reason. 0;
+      have_released = tt;
+      takes = refl;
+      drops = λ reason. plus-none (dropped_by_all s reason []);
+      pulls = PullsAll-none e _ none-dropped;
+    }
     by_pasts s (p ∷ ps) has = absurd has
 
-pub EachTakes-cons : (old new : Held) (olds news : List Held) (own : List Item) (others : List (List Item)) (before between after : ExporterState)
+-- there is no shard
+pub EachTakes-empty : (shards : List Held) (items : List (List Item)) (e : Export) → length shards ≡ 0 → length items ≡ length shards → EachTakes shards e items shards e
+EachTakes-empty [] [] e none same = EachTakes-none e
+EachTakes-empty [] (i ∷ is) e none same = absurd (omega (arith, same))
+EachTakes-empty (h ∷ hs) items e none same = absurd (omega (arith, none))
+
+-- of the first and of the others
+plus-each : (all first rest before one others x y : ℕ) → all ≡ first + rest → before ≡ one + others → first ≡ one + x → rest ≡ others + y → all ≡ before + (x + y)
+plus-each all first rest before one others x y a b c d = omega arith
+
+pub EachTakes-cons : (old new : Held) (olds news : List Held) (own : List Item) (others : List (List Item)) (before between after : Export)
     → TakesItems old before own new between → EachTakes olds between others news after → EachTakes (old ∷ olds) before (own ∷ others) (new ∷ news) after
 EachTakes-cons old new olds news own others before between after t e = record { takes = λ s pasts alike has. by_pasts s pasts alike has }
   where
-    by_pasts : (s : Settings) (pasts : List Journal) → HaveSettings s (old ∷ olds) → HaveReleased (old ∷ olds) pasts
-        → (nows : List Journal) × (released : List Arrival) × HaveReleased (new ∷ news) nows × TakesEach s pasts (own ∷ others) nows released × PullsAll before released after
+    by_pasts : (s : Settings) (pasts : List Journal) → HaveSettings s (old ∷ olds) → HaveReleased (old ∷ olds) pasts → Taking (TakesEach s pasts (own ∷ others)) s pasts before (new ∷ news) after
     by_pasts s [] alike has = absurd has
     by_pasts s (p ∷ ps) alike has =
         let first = t.takes p has.0 in
+        let one = first.2 in
         let rest = e.takes s ps alike.1 has.1 in
-        let P = λ (x : Settings). TakesFor x p own first.0 first.2.released in (
-          first.0 ∷ rest.0,
-          first.2.released ++ rest.1,
-          (first.1, rest.2),
-          (first.2.released, rest.1, subst P alike.0 first.2.takes, rest.3, refl),
-          PullsAll-append before between after first.2.released rest.1 first.2.pulls rest.4,
-        )
+        let P = λ (x : Settings). TakesFor x p own first.0 one.released in
+        let Q = λ (x : Settings). (reason : Reason) → dropped_by_journal x reason first.0 ≡ dropped_by_journal x reason p + one.dropped reason in
+        let drops : Q s = subst Q alike.0 one.drops in
+        record {
+          nows = first.0 ∷ rest.nows;
+          released = one.released ++ rest.released;
+          dropped = λ reason. one.dropped reason + rest.dropped reason;
+          have_released = (first.1, rest.have_released);
+          takes = (one.released, rest.released, subst P alike.0 one.takes, rest.takes, refl);
+          drops = λ reason. plus-each (dropped_by_all s reason (first.0 ∷ rest.nows)) (dropped_by_journal s reason first.0) (dropped_by_all s reason rest.nows)
+              (dropped_by_all s reason (p ∷ ps)) (dropped_by_journal s reason p) (dropped_by_all s reason ps) (one.dropped reason) (rest.dropped reason)
+              (sum_by-cons (dropped_by_journal s reason) first.0 rest.nows) (sum_by-cons (dropped_by_journal s reason) p ps) (drops reason) (rest.drops reason);
+          pulls = PullsAll-append before between after one.released rest.released one.dropped rest.dropped one.pulls rest.pulls;
+        }
 
 -- what is kept of the first shard and of the others is kept of all
 pub AreQuiet-cons : (item : Item) (old new : Held) (olds news : List Held) → new.standing.ends ≡ ends_after item old.standing.ends → has_due new ≡ false
@@ -67,8 +95,19 @@ AreQuiet-cons item old new olds news ends_is quiet rest ends q = ((ends_is ∙ a
 
 -- ---- rounds
 
-pub RoundsTaken-none : (shards : List Held) (e : ExporterState) → RoundsTaken shards e [] shards e
-RoundsTaken-none shards e = record { takes = λ s pasts alike has. (pasts, [], has, (refl, refl), PullsAll-none e) }
+pub RoundsTaken-none : (shards : List Held) (e : Export) → RoundsTaken shards e [] shards e
+RoundsTaken-none shards e = record {
+  takes = λ s pasts alike has.
+      record {
+        nows = pasts;
+        released = [];
+        dropped = λ reason. 0;
+        have_released = has;
+        takes = (refl, refl);
+        drops = λ reason. plus-none (dropped_by_all s reason pasts);
+        pulls = PullsAll-none e _ none-dropped;
+      };
+}
 
 TakesRounds-push : (s : Settings) (a b c : List Journal) (rounds : List (List (List Item))) (last : List (List Item)) (xs ys : List Arrival)
     → TakesRounds s a rounds b xs → TakesEach s b last c ys → TakesRounds s a (rounds ++ last ∷ []) c (xs ++ ys)
@@ -79,19 +118,22 @@ TakesRounds-push s a b c (round ∷ rounds) last xs ys t e =
     (t.0, t.1, t.2 ++ ys, t.3, TakesRounds-push s t.0 b c rounds last t.2 ys t.4 e, ap (λ (zs : List Arrival). zs ++ ys) t.5 ∙ append_assoc t.1 t.2 ys)
 
 -- one more round
-pub RoundsTaken-push : (old mid new : List Held) (rounds : List (List (List Item))) (last : List (List Item)) (before between after : ExporterState)
+pub RoundsTaken-push : (old mid new : List Held) (rounds : List (List (List Item))) (last : List (List Item)) (before between after : Export)
     → ((s : Settings) → HaveSettings s old → HaveSettings s mid)
     → RoundsTaken old before rounds mid between → EachTakes mid between last new after → RoundsTaken old before (rounds ++ last ∷ []) new after
 RoundsTaken-push old mid new rounds last before between after keeps r e = record {
   takes = λ s pasts alike has.
       let so_far = r.takes s pasts alike has in
-      let step = e.takes s so_far.0 (keeps s alike) so_far.2 in (
-        step.0,
-        so_far.1 ++ step.1,
-        step.2,
-        TakesRounds-push s pasts so_far.0 step.0 rounds last so_far.1 step.1 so_far.3 step.3,
-        PullsAll-append before between after so_far.1 step.1 so_far.4 step.4,
-      );
+      let step = e.takes s so_far.nows (keeps s alike) so_far.have_released in
+      record {
+        nows = step.nows;
+        released = so_far.released ++ step.released;
+        dropped = λ reason. so_far.dropped reason + step.dropped reason;
+        have_released = step.have_released;
+        takes = TakesRounds-push s pasts so_far.nows step.nows rounds last so_far.released step.released so_far.takes step.takes;
+        drops = λ reason. plus-two (dropped_by_all s reason step.nows) (dropped_by_all s reason so_far.nows) (dropped_by_all s reason pasts) (so_far.dropped reason) (step.dropped reason) (step.drops reason) (so_far.drops reason);
+        pulls = PullsAll-append before between after so_far.released step.released so_far.dropped step.dropped so_far.pulls step.pulls;
+      };
 }
 
 -- ---- the Ends in turn

@@ -1,3 +1,4 @@
+pub mod Adding
 pub mod Pulling
 pub mod Replay
 pub mod Answers

@@ -5,6 +5,9 @@ use Rattle.lane_queue.specs.Queues.{QueueState, TakesLast, IsFull}
 use Rattle.lane_seq.specs.Pushes.{Receives as IsPushed}
 use Rattle.lane_seq.specs.declared.reply.Reply.{Reply}
 use Rattle.lane_seq.specs.declared.reply.Reply.TheVariants.{Done, Partial, BadData, Busy}
+use Rattle.span_ids.specs.declared.outcome.Reason.TheVariants.{InvalidId, QueueFull}
+use Rattle.drop_ledger.specs.declared.count.Count.{Count}
+use Rattle.drop_ledger.specs.declared.count.Count.TheVariants.{Received, Dropped}
 use Rattle.otlp_types.specs.declared.request.Request.{Request}
 use Rattle.otlp_types.specs.declared.arrival.Item.{Item}
 use Rattle.script_run.specs.Connections.{Contacts, connection_of, with_connection, with_received}
@@ -16,6 +19,14 @@ is_received (Done spans) = true
 is_received (Partial spans rejected) = true
 is_received (BadData cause) = false
 is_received Busy = false
+
+-- what a reply tells of the spans that were received, and of those among them that went to no shard
+abbrev pub received_by : Reply → Count → ℕ
+received_by (Done spans) Received = spans
+received_by (Partial spans rejected) Received = spans
+received_by (Partial spans rejected) (Dropped InvalidId) = rejected.invalid
+received_by (Partial spans rejected) (Dropped QueueFull) = rejected.full
+received_by _ _ = 0
 
 -- A request was refused, at a new connection for want of memory or by its body, or it was read: its spans were pushed to the queues of their shards.
 abbrev pub Submits : Contacts → (number moment : ℕ) → (body : List ℕ) → (before : List (QueueState Item)) → Reply → (after : List (QueueState Item)) → Contacts → Type 0

@@ -20,7 +20,7 @@ pub fn end_all<S: Sink>(
 )
     requires quiet { AreQuiet (ends_of lanes false) shards.old }
     requires room { length exporter.old.batch < exporter.old.size }
-    ensures takes { RoundsTaken shards.old exporter.old (ends_from 0 (lanes + 1) shards.old) shards.new exporter.new }
+    ensures takes { RoundsTaken shards.old (exporter.old, report.old) (ends_from 0 (lanes + 1) shards.old) shards.new (exporter.new, report.new) }
     ensures quiet { AreQuiet (ends_of lanes true) shards.new }
     ensures settings { (s : Settings) → HaveSettings s shards.old → HaveSettings s shards.new }
     ensures length { length shards.new ≡ length shards.old }

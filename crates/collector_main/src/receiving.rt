@@ -1,5 +1,6 @@
 ghost use Rattle.std.specs.Prelude.{◌≡◌, ◌<◌, length};
-ghost use Rattle.collector_main.specs.Submitting.{Submits, is_received};
+ghost use Rattle.collector_main.specs.Adding.{Adds};
+ghost use Rattle.collector_main.specs.Submitting.{Submits, is_received, received_by};
 
 use crate::connections::Connections;
 use crate::pulling::count;
@@ -50,7 +51,9 @@ pub fn is_received(reply: &Reply) -> bool
 }
 
 /// Counts the spans of a request, and those of them that go to no shard.
-pub fn count_received(report: &mut Option<Report>, reply: &Reply) {
+pub fn count_received(report: &mut Option<Report>, reply: &Reply)
+    ensures { Adds report.old (received_by reply.now) report.new }
+{
     match reply {
         Reply::Done { spans } => count(report, Count::Received, *spans),
         Reply::Partial { spans, rejected } => {

@@ -1,5 +1,5 @@
 //! A script is run in one thread.
-ghost use Rattle.std.specs.Prelude.{◌≡◌, ◌-◌, ◌^◌, ◌<◌, ◌≤◌, [], false, IfOk, replicate, vec_capacity};
+ghost use Rattle.std.specs.Prelude.{◌≡◌, ◌-◌, ◌^◌, ◌<◌, ◌≤◌, [], false, Some, IfOk, replicate, vec_capacity};
 ghost use Rattle.tsc_config.specs.declared.config.Config.{Config};
 ghost use Rattle.collector_main.specs.declared.replying.TheConstants.{MAX_REPLY_LINE};
 ghost use Rattle.script_run.specs.World.{empty_queues};
@@ -163,6 +163,7 @@ fn run_session<R: Read, S: Sink>(
 ) -> (S, Result<Report, RunFault>)
     requires open { session.closed ≡ false }
     requires up { session.exporter.sink.is_down ≡ false }
+    requires nothing_counted { session.report ≡ Some (replicate 9 0) }
     ensures { (config : Config) → session.connections ≡ record { connections = []; connected = replicate config.lanes 0 }
         → AreNew config config.shards session.shards.items
         → RunEnds (record {

@@ -1,11 +1,11 @@
 //! The parts of the collector, driven by a script.
 ghost use Rattle.std.specs.Prelude.{◌≡◌, ◌<◌, ◌≤◌, [], ◌++◌, true, false, not, map, length, vec_capacity};
 ghost use Rattle.shard_core.specs.Journal.{Settings};
-ghost use Rattle.tsc_script.specs.Instructions.{instruction_of_command, is_close, tick, close};
+ghost use Rattle.tsc_script.specs.Instructions.{instruction_of_command, is_close, receive, tick, close};
 ghost use Rattle.span_exporter.specs.Exports.{WritesLine};
 ghost use Rattle.collector_main.specs.declared.replying.TheConstants.{MAX_REPLY_LINE};
 ghost use Rattle.script_run.specs.Requests.{reply_line};
-ghost use Rattle.script_run.specs.World.{World, Plays, PlaysAll, Receives, empty_queues};
+ghost use Rattle.script_run.specs.World.{World, Plays, PlaysAll, empty_queues};
 ghost use Rattle.collector_main.specs.Pulling.{AreOf, has_none_due, ends_in, ends_of};
 ghost use Rattle.collector_main.specs.Answers.{AnswersStop};
 
@@ -61,7 +61,7 @@ impl<S: Sink> Session<S> {
     pub fn end(self, played: Result<(), Stop>) -> (S, Result<Report, RunFault>)
         ensures taken { S.taken result.0 ≡ self.exporter.sink.taken }
         ensures failures { S.failures result.0 ≡ self.exporter.sink.failures }
-        ensures answer { AnswersStop played result.1 }
+        ensures answer { AnswersStop played self.report result.1 }
     {
         let Session {
             alloc: _,
@@ -80,9 +80,9 @@ impl<S: Sink> Session<S> {
     /// Answers a request, and gives its spans to the shards.
     fn receive(&mut self, number: u64, moment: Moment, body: &[u8])
         requires { self.old.closed ≡ false }
-        ensures plays { (s : Settings) (w : World) → AreOf s w self.old.connections self.old.shards.items self.old.exporter
-            → (after : World) × Receives s (record { batch = self.old.exporter.size; queue = self.old.queue_capacity }) w number moment body.now after
-            × AreOf s after self.new.connections self.new.shards.items self.new.exporter }
+        ensures plays { (s : Settings) (w : World) → AreOf s w self.old.connections self.old.shards.items self.old.exporter self.old.report self.old.closed
+            → (after : World) × Plays s (record { batch = self.old.exporter.size; queue = self.old.queue_capacity }) w (receive number moment body.now) after
+            × AreOf s after self.new.connections self.new.shards.items self.new.exporter self.new.report self.new.closed }
         ensures size { self.new.exporter.size ≡ self.old.exporter.size }
         ensures queue { self.new.queue_capacity ≡ self.old.queue_capacity }
         ensures stays_open { self.new.closed ≡ false }
@@ -113,9 +113,9 @@ impl<S: Sink> Session<S> {
     /// Takes a moment.
     fn tick(&mut self, moment: Moment)
         requires { self.old.closed ≡ false }
-        ensures plays { (s : Settings) (w : World) → AreOf s w self.old.connections self.old.shards.items self.old.exporter
+        ensures plays { (s : Settings) (w : World) → AreOf s w self.old.connections self.old.shards.items self.old.exporter self.old.report self.old.closed
             → (after : World) × Plays s (record { batch = self.old.exporter.size; queue = self.old.queue_capacity }) w (tick moment) after
-            × AreOf s after self.new.connections self.new.shards.items self.new.exporter }
+            × AreOf s after self.new.connections self.new.shards.items self.new.exporter self.new.report self.new.closed }
         ensures size { self.new.exporter.size ≡ self.old.exporter.size }
         ensures queue { self.new.queue_capacity ≡ self.old.queue_capacity }
         ensures stays_open { self.new.closed ≡ false }
@@ -133,9 +133,9 @@ impl<S: Sink> Session<S> {
     /// Ends the lanes, and then the ticker.
     fn close(&mut self)
         requires { self.old.closed ≡ false }
-        ensures plays { (s : Settings) (w : World) → AreOf s w self.old.connections self.old.shards.items self.old.exporter
+        ensures plays { (s : Settings) (w : World) → AreOf s w self.old.connections self.old.shards.items self.old.exporter self.old.report self.old.closed
             → (after : World) × Plays s (record { batch = self.old.exporter.size; queue = self.old.queue_capacity }) w close after
-            × AreOf s after self.new.connections self.new.shards.items self.new.exporter }
+            × AreOf s after self.new.connections self.new.shards.items self.new.exporter self.new.report self.new.closed }
         ensures size { self.new.exporter.size ≡ self.old.exporter.size }
         ensures queue { self.new.queue_capacity ≡ self.old.queue_capacity }
         ensures closes { self.new.closed ≡ true }
@@ -154,9 +154,9 @@ impl<S: Sink> Session<S> {
     /// Does what a command says.
     fn obey(&mut self, command: Command<'_>)
         requires { self.old.closed ≡ false }
-        ensures plays { (s : Settings) (w : World) → AreOf s w self.old.connections self.old.shards.items self.old.exporter
+        ensures plays { (s : Settings) (w : World) → AreOf s w self.old.connections self.old.shards.items self.old.exporter self.old.report self.old.closed
             → (after : World) × Plays s (record { batch = self.old.exporter.size; queue = self.old.queue_capacity }) w (instruction_of_command command.entry) after
-            × AreOf s after self.new.connections self.new.shards.items self.new.exporter }
+            × AreOf s after self.new.connections self.new.shards.items self.new.exporter self.new.report self.new.closed }
         ensures size { self.new.exporter.size ≡ self.old.exporter.size }
         ensures queue { self.new.queue_capacity ≡ self.old.queue_capacity }
         ensures closed { self.new.closed ≡ is_close (instruction_of_command command.entry) }
@@ -176,9 +176,9 @@ impl<S: Sink> Session<S> {
 
 impl<S: Sink> Machine for Session<S> {
     ghost leads = { λ start instructions now. (now.exporter.size ≡ start.exporter.size) × (now.queue_capacity ≡ start.queue_capacity)
-        × ((s : Settings) (w : World) → AreOf s w start.connections start.shards.items start.exporter
+        × ((s : Settings) (w : World) → AreOf s w start.connections start.shards.items start.exporter start.report start.closed
         → (after : World) × PlaysAll s (record { batch = start.exporter.size; queue = start.queue_capacity }) w instructions after
-        × AreOf s after now.connections now.shards.items now.exporter) };
+        × AreOf s after now.connections now.shards.items now.exporter now.report now.closed) };
 
     ghost is_up = { λ now. not now.exporter.sink.is_down };
 
@@ -205,7 +205,7 @@ fn hand_reply<S: Sink>(text: &mut Vec<u8>, exporter: &mut Exporter<S>, reply: &R
 
 /// The answer of a run: a refused line goes before a count that would have passed 2^64-1, and this before a sink fault.
 fn answer_of(played: Result<(), Stop>, report: Option<Report>) -> Result<Report, RunFault>
-    ensures { AnswersStop played result }
+    ensures { AnswersStop played report result }
 {
     match (played, report) {
         (Err(Stop::NoMemory), _) => Err(RunFault::NoMemory),

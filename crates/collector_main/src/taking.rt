@@ -2,7 +2,7 @@ ghost use Rattle.std.specs.Prelude.{◌≡◌, ℕ, ◌<◌, List, [], ◌∷◌
 ghost use Rattle.std.specs.List.{AllByRecursion, list_all};
 ghost use Rattle.shard_core.specs.Journal.{Journal, Settings};
 ghost use Rattle.shard_core.specs.Held.{StandsFor, has_due, is_finished, settings};
-ghost use Rattle.shard_core.specs.Taking.{has_ids, ends_after, released_by, released_in};
+ghost use Rattle.shard_core.specs.Taking.{has_ids, ends_after, released_by, released_in, dropped_by, dropped_in};
 ghost use Rattle.script_run.specs.World.{to_each};
 ghost use Rattle.collector_main.specs.Signals.{item_of};
 ghost use Rattle.collector_main.specs.Pulling.{PullsAll, TakesItems, DecidesAll, AreOpen, AreQuiet, HaveSettings, EachTakes, RoundsTaken, rounds_of, is_queued, emptied, items_in, HoldsQueued};
@@ -28,7 +28,7 @@ pub fn take_item<S: Sink>(
     requires running { is_finished shard.old ≡ false }
     requires ids { has_ids item ≡ true }
     requires room { length exporter.old.batch < exporter.old.size }
-    ensures takes { TakesItems shard.old exporter.old (item ∷ []) shard.new exporter.new }
+    ensures takes { TakesItems shard.old (exporter.old, report.old) (item ∷ []) shard.new (exporter.new, report.new) }
     ensures nothing_due { has_due shard.new ≡ false }
     ensures ends { shard.new.standing.ends ≡ ends_after item shard.old.standing.ends }
     ensures settings { settings shard.new ≡ settings shard.old }
@@ -44,7 +44,7 @@ pub fn take_item<S: Sink>(
 /// Puts what an item released at once into the batch.
 fn pull_taken<S: Sink>(exporter: &mut Exporter<S>, report: &mut Option<Report>, taken: Taken)
     requires { length exporter.old.batch < exporter.old.size }
-    ensures pulls { PullsAll exporter.old (released_by taken) exporter.new }
+    ensures pulls { PullsAll (exporter.old, report.old) (released_by taken) (λ reason. dropped_by reason taken) (exporter.new, report.new) }
     ensures room { length exporter.new.batch < exporter.new.size }
     ensures stays_down { exporter.old.sink.is_down ≡ true → exporter.new.sink.is_down ≡ true }
 {
@@ -63,7 +63,7 @@ fn pull_taken<S: Sink>(exporter: &mut Exporter<S>, report: &mut Option<Report>, 
 fn decide_all<S: Sink>(shard: &mut Shard, exporter: &mut Exporter<S>, report: &mut Option<Report>)
     requires { length exporter.old.batch < exporter.old.size }
     ensures decides { (past : Journal) (dealt : ℕ) → StandsFor shard.old past dealt
-        → DecidesAll shard.old past dealt exporter.old shard.new exporter.new }
+        → DecidesAll shard.old past dealt (exporter.old, report.old) shard.new (exporter.new, report.new) }
     ensures nothing_due { has_due shard.new ≡ false }
     ensures ends { shard.new.standing.ends ≡ shard.old.standing.ends }
     ensures settings { settings shard.new ≡ settings shard.old }
@@ -83,7 +83,7 @@ fn decide_all<S: Sink>(shard: &mut Shard, exporter: &mut Exporter<S>, report: &m
 /// Puts what a decision released into the batch.
 fn pull_decided<S: Sink>(exporter: &mut Exporter<S>, report: &mut Option<Report>, decided: Decided)
     requires { length exporter.old.batch < exporter.old.size }
-    ensures pulls { PullsAll exporter.old (released_in decided) exporter.new }
+    ensures pulls { PullsAll (exporter.old, report.old) (released_in decided) (λ reason. dropped_in reason decided) (exporter.new, report.new) }
     ensures room { length exporter.new.batch < exporter.new.size }
     ensures stays_down { exporter.old.sink.is_down ≡ true → exporter.new.sink.is_down ≡ true }
 {
@@ -105,7 +105,7 @@ pub fn drain<S: Sink>(
     requires running { is_finished shard.old ≡ false }
     requires queued { list_all is_queued queue.old.items ≡ true }
     requires room { length exporter.old.batch < exporter.old.size }
-    ensures takes { TakesItems shard.old exporter.old queue.old.items shard.new exporter.new }
+    ensures takes { TakesItems shard.old (exporter.old, report.old) queue.old.items shard.new (exporter.new, report.new) }
     ensures emptied { queue.new ≡ record queue.old { items = [] } }
     ensures nothing_due { has_due shard.new ≡ false }
     ensures ends { shard.new.standing.ends ≡ shard.old.standing.ends }
@@ -133,7 +133,7 @@ pub fn take_queued<S: Sink>(
     requires open { AreOpen shards.old }
     requires queued { AllByRecursion HoldsQueued queues.old }
     requires room { length exporter.old.batch < exporter.old.size }
-    ensures takes { EachTakes shards.old exporter.old (items_in queues.old) shards.new exporter.new }
+    ensures takes { EachTakes shards.old (exporter.old, report.old) (items_in queues.old) shards.new (exporter.new, report.new) }
     ensures emptied { queues.new ≡ map emptied queues.old }
     ensures quiet { (ends : List Bool) → AreQuiet ends shards.old → AreQuiet ends shards.new }
     ensures settings { (s : Settings) → HaveSettings s shards.old → HaveSettings s shards.new }
@@ -164,7 +164,7 @@ pub fn take_received<S: Sink>(
     requires open { AreOpen shards.old.items }
     requires queued { AllByRecursion HoldsQueued queues.old.items }
     requires room { length exporter.old.batch < exporter.old.size }
-    ensures takes { RoundsTaken shards.old.items exporter.old (rounds_of received queues.old.items) shards.new.items exporter.new }
+    ensures takes { RoundsTaken shards.old.items (exporter.old, report.old) (rounds_of received queues.old.items) shards.new.items (exporter.new, report.new) }
     ensures emptied { queues.new.items ≡ (if received then map emptied queues.old.items else queues.old.items) }
     ensures quiet { (ends : List Bool) → AreQuiet ends shards.old.items → AreQuiet ends shards.new.items }
     ensures settings { (s : Settings) → HaveSettings s shards.old.items → HaveSettings s shards.new.items }
@@ -187,7 +187,7 @@ pub fn tell_each<S: Sink>(
 )
     requires open { AreOpen shards.old }
     requires room { length exporter.old.batch < exporter.old.size }
-    ensures takes { EachTakes shards.old exporter.old (to_each (item_of signal) shards.old) shards.new exporter.new }
+    ensures takes { EachTakes shards.old (exporter.old, report.old) (to_each (item_of signal) shards.old) shards.new (exporter.new, report.new) }
     ensures quiet { (ends : List Bool) → AreQuiet ends shards.old → AreQuiet (ends_after (item_of signal) ends) shards.new }
     ensures settings { (s : Settings) → HaveSettings s shards.old → HaveSettings s shards.new }
     ensures length { length shards.new ≡ length shards.old }

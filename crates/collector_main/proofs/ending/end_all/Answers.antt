@@ -4,9 +4,8 @@ use Rattle.otlp_types.specs.declared.arrival.Item.{Item}
 use Rattle.otlp_types.specs.declared.arrival.Item.TheVariants.{End}
 use Rattle.shard_core.specs.Journal.{Settings}
 use Rattle.shard_core.specs.Held.{Held}
-use Rattle.span_exporter.specs.Exports.{ExporterState}
 use Rattle.script_run.specs.World.{ends_from, to_each}
-use Rattle.collector_main.specs.Pulling.{AreQuiet, HaveSettings, AreOpen, RoundsTaken, EachTakes}
+use Rattle.collector_main.specs.Pulling.{Export, AreQuiet, HaveSettings, AreOpen, RoundsTaken, EachTakes}
 use Rattle.collector_main.proofs.Several.{RoundsTaken-none, RoundsTaken-push, ends_from-next, to_each-same, ended, ended-next, ended-open, ended-all}
 use Rattle.collector_main.proofs.ending.end_all.Goals as goal
 
@@ -23,7 +22,7 @@ ends-more news n m k j e f q =
     subst P next q
 
 -- one round more, of the same Ends for as many shards
-round-more : (first mid new : List Held) (n : ℕ) (before between after : ExporterState) → length mid ≡ length first
+round-more : (first mid new : List Held) (n : ℕ) (before between after : Export) → length mid ≡ length first
     → ((s : Settings) → HaveSettings s first → HaveSettings s mid)
     → RoundsTaken first before (ends_from 0 n first) mid between → EachTakes mid between (to_each (End n) mid) new after → RoundsTaken first before (ends_from 0 (n + 1) first) new after
 round-more first mid new n before between after e keeps r t =
@@ -33,7 +32,7 @@ round-more first mid new n before between after e keeps r t =
 
 pub loop-lane-init : goal.loop-lane-init
 loop-lane-init g c = record {
-  took = RoundsTaken-none c.args.shards.now c.args.exporter.now;
+  took = RoundsTaken-none c.args.shards.now (c.args.exporter.now, c.args.report.now);
   quiet = let P = λ (n : ℕ). AreQuiet (replicate n false) c.args.shards.now in subst P (let e : c.args.lanes + 1 ≡ c.args.lanes - 0 + 1 = omega arith in e) c.requires.quiet;
   keeps = λ s alike. alike;
   within = omega arith;
@@ -54,7 +53,7 @@ loop-lane-preserved g c =
     let lane = c.loop-lane.lane in
     let less : lane < c.args.lanes = c.loop-lane-test.true in
     record {
-      took = round-more c.args.shards.now c.loop-lane.shards c.tell_each.new.shards lane c.args.exporter.now c.loop-lane.exporter c.tell_each.new.exporter inv.length_same inv.keeps inv.took c.tell_each.ensures.takes;
+      took = round-more c.args.shards.now c.loop-lane.shards c.tell_each.new.shards lane (c.args.exporter.now, c.args.report.now) (c.loop-lane.exporter, c.loop-lane.report) (c.tell_each.new.exporter, c.tell_each.new.report) inv.length_same inv.keeps inv.took c.tell_each.ensures.takes;
       quiet = ends-more c.tell_each.new.shards lane (c.args.lanes - lane) (c.args.lanes - lane + 1) (c.args.lanes - (lane + 1) + 1) (omega arith) (omega (arith, less)) (c.tell_each.ensures.quiet _ inv.quiet);
       keeps = λ s alike. c.tell_each.ensures.settings s (inv.keeps s alike);
       within = omega (arith, less);
@@ -73,8 +72,8 @@ pub returns-clause-takes : goal.returns-clause-takes
 returns-clause-takes g c =
     let inv = c.loop-lane.invariant in
     let last : c.loop-lane.lane ≡ c.args.lanes = omega (arith, inv.within, c.loop-lane-test.false) in
-    let P = λ (n : ℕ). RoundsTaken c.args.shards.now c.args.exporter.now (ends_from 0 n c.args.shards.now) c.loop-lane.shards c.loop-lane.exporter in
-    round-more c.args.shards.now c.loop-lane.shards c.tell_each-2.new.shards c.args.lanes c.args.exporter.now c.loop-lane.exporter c.tell_each-2.new.exporter inv.length_same inv.keeps (subst P last inv.took) c.tell_each-2.ensures.takes
+    let P = λ (n : ℕ). RoundsTaken c.args.shards.now (c.args.exporter.now, c.args.report.now) (ends_from 0 n c.args.shards.now) c.loop-lane.shards (c.loop-lane.exporter, c.loop-lane.report) in
+    round-more c.args.shards.now c.loop-lane.shards c.tell_each-2.new.shards c.args.lanes (c.args.exporter.now, c.args.report.now) (c.loop-lane.exporter, c.loop-lane.report) (c.tell_each-2.new.exporter, c.tell_each-2.new.report) inv.length_same inv.keeps (subst P last inv.took) c.tell_each-2.ensures.takes
 
 pub returns-clause-quiet : goal.returns-clause-quiet
 returns-clause-quiet g c =

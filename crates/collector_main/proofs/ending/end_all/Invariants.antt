@@ -7,7 +7,7 @@ use Rattle.collector_main.proofs.ending.end_all.Given as goal
 
 abbrev pub invariant-loop-lane : goal.invariant-loop-lane
 invariant-loop-lane g l = record {
-  took : RoundsTaken l.fn.shards l.fn.exporter (ends_from 0 l.lane l.fn.shards) l.shards l.exporter;
+  took : RoundsTaken l.fn.shards (l.fn.exporter, l.fn.report) (ends_from 0 l.lane l.fn.shards) l.shards (l.exporter, l.report);
   quiet : AreQuiet (ended l.lane (l.lanes - l.lane + 1)) l.shards;
   keeps : (s : Settings) → HaveSettings s l.fn.shards → HaveSettings s l.shards;
   within : l.lane ≤ l.lanes;

@@ -1,10 +1,12 @@
-use Rattle.std.proofs.Common.{Bool, sym, ap, ◌∙◌}
+use Rattle.std.proofs.Common.{ℕ, Bool, List, Option, sym, ap, subst, ◌∙◌}
 use Rattle.std.specs.Prelude.{not}
 use Rattle.span_sink.specs.LineSinks.{LineSinkState, up_state}
 use Rattle.collector_main.specs.declared.session.Session.{Session}
 use Rattle.script_run.specs.World.{new_world}
+use Rattle.script_run.specs.Counts.{Reports}
 use Rattle.collector_main.specs.Replay.{Run, settings_by}
 use Rattle.collector_main.specs.Pulling.{AreOf}
+use Rattle.collector_main.proofs.Numbers.{Reports-new}
 use Rattle.collector_main.proofs.Finish.{run-ends, is_up_state, is_down_state, not-false}
 use Rattle.collector_main.proofs.replay.run_session.Goals as goal
 
@@ -28,19 +30,21 @@ returns g c = λ config unused new.
     } in
     let first : LineSinkState = up_state session.exporter.sink.taken session.exporter.sink.failures in
     let start = new_world config.lanes config.shards first in
-    let starts : AreOf s start session.connections session.shards.items session.exporter = record {
+    let R = λ (report : Option (List ℕ)). Reports s start report in
+    let starts : AreOf s start session.connections session.shards.items session.exporter session.report session.closed = record {
       contacts_are = unused;
       settings_are = new.1;
       released_all = new.3;
       sink_is = ap (λ (b : Bool). let k : LineSinkState = record session.exporter.sink { is_down = b } in k) c.requires.up;
+      reports = subst R (sym c.requires.nothing_counted) (Reports-new s config.lanes config.shards first);
+      closed_is = c.requires.open;
     } in
-    run-ends run c.play_script-played.result (not now.exporter.sink.is_down) _ _ script.whole script.stopped script.refused script.up
+    run-ends run c.play_script-played.result (not now.exporter.sink.is_down) now.closed now.exporter.sink now.report _ _ script.whole script.stopped script.refused script.up script.closed script.down_closed
     (λ e. let same = (script.no_memory e).0 in
     (c.end.ensures.taken ∙ ap (λ (m : Session g.row.S.Denot g.S.Sink). m.exporter.sink.taken) same, c.end.ensures.failures ∙ ap (λ (m : Session g.row.S.Denot g.S.Sink). m.exporter.sink.failures) same))
-    (λ up done leads. let r = leads.2 s start starts in
-    (r.0, r.1, sym r.2.sink_is ∙ is_up_state now.exporter.sink run.taken_after run.failures_after c.end.ensures.taken c.end.ensures.failures up))
-    (λ down done leads. let r = leads.2 s start starts in
-    (r.0, r.1, sym r.2.sink_is ∙ is_down_state now.exporter.sink run.taken_after run.failures_after c.end.ensures.taken c.end.ensures.failures down))
+    (is_up_state now.exporter.sink run.taken_after run.failures_after c.end.ensures.taken c.end.ensures.failures)
+    (is_down_state now.exporter.sink run.taken_after run.failures_after c.end.ensures.taken c.end.ensures.failures)
+    (λ done leads. let r = leads.2 s start starts in (record { after = r.0; plays = r.1; sink = sym r.2.sink_is; reports = r.2.reports }, sym r.2.closed_is))
     (λ done fell. let r = fell.1.2 s start starts in
-    (fell.0.exporter.sink, (r.0, r.1, sym r.2.sink_is), not-false fell.0.exporter.sink.is_down fell.2))
+    (fell.0.exporter.sink, fell.0.report, record { after = r.0; plays = r.1; sink = sym r.2.sink_is; reports = r.2.reports }, not-false fell.0.exporter.sink.is_down fell.2))
     c.end.result.1 c.end.ensures.answer

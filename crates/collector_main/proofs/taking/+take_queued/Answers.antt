@@ -1,19 +1,27 @@
 use Rattle.std.proofs.Common.{List, ◌∷◌, sym, subst, ◌∙◌}
+use Rattle.std.proofs.lemmas.List.{length-map}
 use Rattle.otlp_types.specs.declared.arrival.Item.{Item}
 use Rattle.lane_queue.specs.Queues.{QueueState}
 use Rattle.shard_core.specs.Held.{Held}
-use Rattle.collector_main.specs.Pulling.{EachTakes, AreQuiet, HaveSettings, items_in}
-use Rattle.collector_main.proofs.Several.{EachTakes-cons}
+use Rattle.collector_main.specs.Pulling.{Export, EachTakes, AreQuiet, HaveSettings, items_in}
+use Rattle.collector_main.proofs.Several.{EachTakes-empty, EachTakes-cons}
 use Rattle.collector_main.proofs.taking.+take_queued.Goals as goal
 
 pub returns-clause-takes : goal.returns-clause-takes
 returns-clause-takes g t c =
     let shards = c.in-Some.ensures.cases.0 in
+    let before : Export = (c.args.exporter.now, c.args.report.now) in
+    let after : Export = (c.take_queued.new.exporter, c.take_queued.new.report) in
     let queues = c.in-Some-split_first_mut.ensures.cases.0 in
-    let P = λ (old : List Held). EachTakes old c.args.exporter.now (items_in c.args.queues.now) (c.drain.new.shard ∷ c.take_queued.new.shards) c.take_queued.new.exporter in
-    let Q = λ (items : List (QueueState Item)). EachTakes (c.in-Some.shard.now ∷ c.in-Some.others.now) c.args.exporter.now (items_in items) (c.drain.new.shard ∷ c.take_queued.new.shards) c.take_queued.new.exporter in
+    let P = λ (old : List Held). EachTakes old before (items_in c.args.queues.now) (c.drain.new.shard ∷ c.take_queued.new.shards) after in
+    let Q = λ (items : List (QueueState Item)). EachTakes (c.in-Some.shard.now ∷ c.in-Some.others.now) before (items_in items) (c.drain.new.shard ∷ c.take_queued.new.shards) after in
     subst P (sym shards) (subst Q (sym queues) (EachTakes-cons c.in-Some.shard.now c.drain.new.shard c.in-Some.others.now c.take_queued.new.shards c.in-Some-split_first_mut.queue.now.items (items_in c.in-Some-split_first_mut.rest.now)
-    c.args.exporter.now c.drain.new.exporter c.take_queued.new.exporter c.drain.ensures.takes c.take_queued.ensures.takes))
+    before (c.drain.new.exporter, c.drain.new.report) after c.drain.ensures.takes c.take_queued.ensures.takes))
+
+pub returns-in_default-clause-takes : goal.returns-in_default-clause-takes
+returns-in_default-clause-takes g t c =
+    let queues = c.args.queues.now in
+    EachTakes-empty c.args.shards.now (items_in queues) (c.args.exporter.now, c.args.report.now) c.in_default.ensures.cases (length-map queues _ ∙ c.requires.same)
 
 pub returns-clause-quiet : goal.returns-clause-quiet
 returns-clause-quiet g t c = λ ends quiet.

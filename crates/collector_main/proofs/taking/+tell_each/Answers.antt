@@ -1,20 +1,28 @@
 use Rattle.std.proofs.Common.{List, [], ◌∷◌, ap, sym, subst, ◌∙◌}
+use Rattle.std.proofs.lemmas.List.{length-map}
 use Rattle.otlp_types.specs.declared.arrival.Item.{Item}
 use Rattle.shard_core.specs.Held.{Held}
 use Rattle.shard_core.specs.Taking.{ends_after}
 use Rattle.script_run.specs.World.{to_each}
 use Rattle.collector_main.specs.Signals.{item_of}
-use Rattle.collector_main.specs.Pulling.{EachTakes, TakesItems, AreQuiet, HaveSettings}
-use Rattle.collector_main.proofs.Several.{EachTakes-cons, AreQuiet-cons}
+use Rattle.collector_main.specs.Pulling.{Export, EachTakes, TakesItems, AreQuiet, HaveSettings}
+use Rattle.collector_main.proofs.Several.{EachTakes-empty, EachTakes-cons, AreQuiet-cons}
 use Rattle.collector_main.proofs.taking.+tell_each.Goals as goal
 
 pub returns-clause-takes : goal.returns-clause-takes
 returns-clause-takes g t c =
     let item = item_of c.args.signal in
-    let P = λ (old : List Held). EachTakes old c.args.exporter.now (to_each item old) (c.take_item.new.shard ∷ c.tell_each.new.shards) c.tell_each.new.exporter in
-    let Q = λ (one : Item). TakesItems c.in-Some.shard.now c.args.exporter.now (one ∷ []) c.take_item.new.shard c.take_item.new.exporter in
+    let before : Export = (c.args.exporter.now, c.args.report.now) in
+    let after : Export = (c.tell_each.new.exporter, c.tell_each.new.report) in
+    let P = λ (old : List Held). EachTakes old before (to_each item old) (c.take_item.new.shard ∷ c.tell_each.new.shards) after in
+    let Q = λ (one : Item). TakesItems c.in-Some.shard.now before (one ∷ []) c.take_item.new.shard (c.take_item.new.exporter, c.take_item.new.report) in
     subst P (sym c.in-Some.ensures.cases.0) (EachTakes-cons c.in-Some.shard.now c.take_item.new.shard c.in-Some.others.now c.tell_each.new.shards (item ∷ []) (to_each item c.in-Some.others.now)
-    c.args.exporter.now c.take_item.new.exporter c.tell_each.new.exporter (subst Q c.item.ensures.item c.take_item.ensures.takes) c.tell_each.ensures.takes)
+    before (c.take_item.new.exporter, c.take_item.new.report) after (subst Q c.item.ensures.item c.take_item.ensures.takes) c.tell_each.ensures.takes)
+
+pub returns-in_default-clause-takes : goal.returns-in_default-clause-takes
+returns-in_default-clause-takes g t c =
+    let item = item_of c.args.signal in
+    EachTakes-empty c.args.shards.now (to_each item c.args.shards.now) (c.args.exporter.now, c.args.report.now) c.in_default.ensures.cases (length-map c.args.shards.now _)
 
 pub returns-clause-quiet : goal.returns-clause-quiet
 returns-clause-quiet g t c = λ ends quiet.

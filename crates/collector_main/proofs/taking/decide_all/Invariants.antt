@@ -7,7 +7,7 @@ use Rattle.collector_main.proofs.taking.decide_all.Given as goal
 
 abbrev pub invariant-deciding : goal.invariant-deciding
 invariant-deciding g l = record {
-  decided : (past : Journal) (dealt : ℕ) → StandsFor l.fn.shard past dealt → DecidesSome l.fn.shard past dealt l.fn.exporter l.shard l.exporter;
+  decided : (past : Journal) (dealt : ℕ) → StandsFor l.fn.shard past dealt → DecidesSome l.fn.shard past dealt (l.fn.exporter, l.fn.report) l.shard (l.exporter, l.report);
   settings_same : settings l.shard ≡ settings l.fn.shard;
   ends_same : l.shard.standing.ends ≡ l.fn.shard.standing.ends;
   room : length l.exporter.batch < l.exporter.size;

@@ -8,7 +8,7 @@ pub draining-init : goal.draining-init
 draining-init g c = record {
   popped = [];
   split = refl;
-  took = TakesItems-none c.args.shard.now c.args.exporter.now;
+  took = TakesItems-none c.args.shard.now (c.args.exporter.now, c.args.report.now);
   queued = c.requires.queued;
   capacity = refl;
   nothing_due = c.requires.nothing_due;
@@ -32,7 +32,7 @@ draining-preserved g c =
       popped = before.popped ++ item ∷ [];
       split = before.split ∙ ap (λ xs. before.popped ++ xs) first ∙ sym (append_assoc before.popped (item ∷ []) c.pop.new.self.items);
       took = TakesItems-append c.args.shard.now c.draining.shard c.take_item.new.shard before.popped (item ∷ [])
-          c.args.exporter.now c.draining.exporter c.take_item.new.exporter before.settings_same before.took step.takes;
+          (c.args.exporter.now, c.args.report.now) (c.draining.exporter, c.draining.report) (c.take_item.new.exporter, c.take_item.new.report) before.settings_same before.took step.takes;
       queued = rest-queued item c.pop.new.self.items c.draining.queue.items first before.queued;
       capacity = c.in-Some.ensures.capacity ∙ before.capacity;
       nothing_due = step.nothing_due;

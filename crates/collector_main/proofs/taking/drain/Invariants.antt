@@ -9,7 +9,7 @@ abbrev pub invariant-draining : goal.invariant-draining
 invariant-draining g l = record {
   popped : List Item;
   split : l.fn.queue.items ≡ popped ++ l.queue.items;
-  took : TakesItems l.fn.shard l.fn.exporter popped l.shard l.exporter;
+  took : TakesItems l.fn.shard (l.fn.exporter, l.fn.report) popped l.shard (l.exporter, l.report);
   queued : list_all is_queued l.queue.items ≡ true;
   capacity : l.queue.capacity ≡ l.fn.queue.capacity;
   nothing_due : has_due l.shard ≡ false;

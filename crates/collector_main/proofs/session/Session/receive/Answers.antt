@@ -2,10 +2,11 @@ use Rattle.std.proofs.Common.{ℕ, List, length, refl, sym, ap, subst, ◌∙◌
 use Rattle.std.specs.List.{AllByRecursion}
 use Rattle.otlp_types.specs.declared.arrival.Item.{Item}
 use Rattle.lane_queue.specs.Queues.{QueueState}
-use Rattle.script_run.specs.World.{World, empty_queues}
-use Rattle.collector_main.specs.Pulling.{AreOf, AreQuiet, HoldsQueued, ends_of, rounds_of}
+use Rattle.script_run.specs.World.{empty_queues}
+use Rattle.collector_main.specs.Pulling.{Export, AreQuiet, HoldsQueued, ends_of, rounds_of}
 use Rattle.collector_main.proofs.Queues.{submits-kept, empty-queued, queues-left}
-use Rattle.collector_main.proofs.Quiet.{quiets, receives, released-length, quiet-now, open-now, none-due-now, ends-now}
+use Rattle.collector_main.proofs.Receives.{receives}
+use Rattle.collector_main.proofs.Quiet.{released-length, quiet-now, open-now, none-due-now, ends-now}
 use Rattle.collector_main.proofs.session.Session.receive.Goals as goal
 
 pub take_received-requires-clause-open : goal.take_received-requires-clause-open
@@ -27,13 +28,15 @@ returns-clause-plays g c = λ s w are.
     let after = c.submit-reply.result.1.items in
     let later = c.submit-reply.new.connections in
     let noted = c.hand_reply.new.exporter in
+    let counted = c.count_received.new.report in
+    let taken : Export = (c.take_received.new.exporter, c.take_received.new.report) in
     let rounds = rounds_of c.is_received.result after in
     let empty = ap (λ v. v.items) c.replace-queues.ensures.value ∙ self.empty ∙ ap (empty_queues self.queue_capacity) (released-length self.shards.items w.journals are.released_all) in
-    let mid : World = record { contacts = later; journals = w.journals; sink = noted.sink } in
-    receives s _ w c.args.number c.args.moment c.args.body.now self.connections later _ after reply self.exporter.sink noted.sink rounds (λ end. AreOf s end later c.take_received.new.shards.items c.send.new.exporter)
-    are.contacts_are are.sink_is empty c.submit-reply.ensures.submits (λ e. ap (λ b. rounds_of b after) (c.is_received.ensures ∙ e)) (λ e. ap (λ b. rounds_of b after) (c.is_received.ensures ∙ e)) c.hand_reply.ensures.written
-    (quiets s _ mid later self.shards.items c.take_received.new.shards.items noted c.take_received.new.exporter c.send.new.exporter rounds refl are.settings_are are.released_all refl c.hand_reply.ensures.size
-    (ap length c.hand_reply.ensures.batch ∙ self.sent) c.take_received.ensures.takes (c.take_received.ensures.settings s are.settings_are) c.take_received.ensures.room c.send.ensures.sent)
+    let r = receives s _ w c.args.number c.args.moment c.args.body.now self.connections later _ after reply self.shards.items c.take_received.new.shards.items self.exporter noted self.report counted
+    taken (c.send.new.exporter, c.send.new.report) self.closed rounds are empty c.submit-reply.ensures.submits
+    (λ e. ap (λ b. rounds_of b after) (c.is_received.ensures ∙ e)) (λ e. ap (λ b. rounds_of b after) (c.is_received.ensures ∙ e)) c.hand_reply.ensures.written c.count_received.ensures
+    c.hand_reply.ensures.size (ap length c.hand_reply.ensures.batch ∙ self.sent) c.take_received.ensures.takes (c.take_received.ensures.settings s are.settings_are) c.take_received.ensures.room c.send.ensures.sent in
+    (r.0, (sym are.closed_is ∙ c.requires, r.1), r.2)
 
 pub invariant_of-self-clause-none_due : goal.invariant_of-self-clause-none_due
 invariant_of-self-clause-none_due g c =

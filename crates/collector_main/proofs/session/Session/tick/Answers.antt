@@ -4,7 +4,7 @@ use Rattle.otlp_types.specs.declared.arrival.Item.{Item}
 use Rattle.otlp_types.specs.declared.arrival.Item.TheVariants.{Tick}
 use Rattle.shard_core.specs.Held.{Held}
 use Rattle.script_run.specs.World.{to_each, empty_queues}
-use Rattle.collector_main.specs.Pulling.{EachTakes, HaveSettings, ends_of}
+use Rattle.collector_main.specs.Pulling.{Export, EachTakes, HaveSettings, ends_of}
 use Rattle.collector_main.proofs.Several.{to_each-same}
 use Rattle.collector_main.proofs.Quiet.{quiets, one-round, released-length, quiet-now, open-now, none-due-now, ends-now}
 use Rattle.collector_main.proofs.session.Session.tick.Goals as goal
@@ -20,16 +20,18 @@ returns-clause-plays g c = λ s w are.
     let new = c.tell_each.new.shards in
     let is = with_items_is self.shards new (omega (arith, c.tell_each.ensures.length, ap length c.deref_mut.ensures.value, c.deref_mut.ensures.len)) in
     let H = λ (hs : List Held). HaveSettings s hs in
-    let T = λ (hs : List Held) (items : List (List Item)). EachTakes hs self.exporter items new c.tell_each.new.exporter in
     let old_is = c.deref_mut.ensures.value in
+    let before : Export = (self.exporter, self.report) in
+    let after : Export = (c.tell_each.new.exporter, c.tell_each.new.report) in
     let same = to_each-same (Tick c.args.moment) c.deref_mut.result.now w.journals (ap length old_is ∙ released-length self.shards.items w.journals are.released_all) in
-    let P = λ (items : List (List Item)). EachTakes c.deref_mut.result.now self.exporter items new c.tell_each.new.exporter in
-    let Q = λ (hs : List Held). EachTakes hs self.exporter (to_each (Tick c.args.moment) w.journals) new c.tell_each.new.exporter in
+    let P = λ (items : List (List Item)). EachTakes c.deref_mut.result.now before items new after in
+    let Q = λ (hs : List Held). EachTakes hs before (to_each (Tick c.args.moment) w.journals) new after in
     let took = subst Q old_is (subst P same c.tell_each.ensures.takes) in
-    let N = λ (hs : List Held). EachTakes self.shards.items self.exporter (to_each (Tick c.args.moment) w.journals) hs c.tell_each.new.exporter in
+    let N = λ (hs : List Held). EachTakes self.shards.items before (to_each (Tick c.args.moment) w.journals) hs after in
     let alike = subst H (sym is) (c.tell_each.ensures.settings s (subst H (sym old_is) are.settings_are)) in
-    quiets s _ w self.connections self.shards.items _ self.exporter c.tell_each.new.exporter c.send.new.exporter _ are.contacts_are are.settings_are are.released_all are.sink_is refl self.sent
-    (one-round self.shards.items _ (to_each (Tick c.args.moment) w.journals) self.exporter c.tell_each.new.exporter (subst N (sym is) took)) alike c.tell_each.ensures.room c.send.ensures.sent
+    let q = quiets s _ w self.connections self.shards.items _ before after (c.send.new.exporter, c.send.new.report) self.closed _ are refl self.sent
+    (one-round self.shards.items _ (to_each (Tick c.args.moment) w.journals) before after (subst N (sym is) took)) alike c.tell_each.ensures.room c.send.ensures.sent in
+    (q.0, (sym are.closed_is ∙ c.requires, q.1), q.2)
 
 pub invariant_of-self-clause-none_due : goal.invariant_of-self-clause-none_due
 invariant_of-self-clause-none_due g c =

@@ -1,0 +1,33 @@
+-- How a report grows: words of private functions.
+use Rattle.std.specs.Prelude.{◌≡◌, ℕ, ◌+◌, ◌^◌, ◌≤◌, if◌then◌else◌, List, length, slice_index, Option, Some, None}
+use Rattle.std.specs.List.{sum_by}
+use Rattle.span_ids.specs.declared.outcome.Reason.{Reason}
+use Rattle.shard_core.specs.Fate.{is_same_reason}
+use Rattle.drop_ledger.specs.Places.{place_of}
+use Rattle.drop_ledger.specs.declared.count.Count.{Count}
+use Rattle.drop_ledger.specs.declared.count.Count.TheVariants.{Received, Handed, Dropped}
+use Rattle.script_run.specs.Sending.{Sent}
+use Rattle.script_run.specs.Counts.{counted_for}
+
+-- so many spans were added to each count; from the first number on that passed 2^64-1 there is no report
+abbrev pub Adds : (old : Option (List ℕ)) → (added : Count → ℕ) → (new : Option (List ℕ)) → Type 0
+Adds None added new = new ≡ None
+Adds (Some numbers) added (Some more) = (length more ≡ length numbers) × ((count : Count) → slice_index more (place_of count) ≡ slice_index numbers (place_of count) + added count)
+Adds (Some numbers) added None = (count : Count) × (2 ^ 64 ≤ slice_index numbers (place_of count) + added count)
+
+-- so many spans at this count alone
+abbrev pub at_count : (what : Count) → (spans : ℕ) → Count → ℕ
+at_count Received spans Received = spans
+at_count Handed spans Handed = spans
+at_count (Dropped why) spans (Dropped reason) = if is_same_reason why reason then spans else 0
+at_count _ _ _ = 0
+
+-- these numbers of spans dropped under each reason, and nothing else
+abbrev pub at_reasons : (dropped : Reason → ℕ) → Count → ℕ
+at_reasons dropped Received = 0
+at_reasons dropped Handed = 0
+at_reasons dropped (Dropped reason) = dropped reason
+
+-- what is counted for these batches
+abbrev pub counted_in : List Sent → Count → ℕ
+counted_in batches count = sum_by (λ (sent : Sent). counted_for count sent.flushed) batches
