@@ -2,3 +2,4 @@ pub mod Settings
 pub mod Touched
 pub mod Found
 pub mod Ledger
+pub mod Look

@@ -2,7 +2,7 @@
 ghost use Rattle.std.specs.Prelude.{◌≡◌, ◌∷◌, [], map, reverse, length, slice_get, option_map, IfOk};
 ghost use Rattle.shard_core.specs.Journal.{due_now, decisions_now, leaving};
 ghost use Rattle.shard_core.specs.Fate.{no_effect, counts, effect_of_verdict, effect_of_leaving, effect_of_span, effect_of_finding, effect_of_taking, effect_of_decision};
-ghost use Rattle.shard_core.specs.Taking.{refusal_applies, cache_is_on, loss_applies, marks_apply_to, marks_apply_to_ids};
+ghost use Rattle.shard_core.specs.Taking.{refusal_applies, cache_is_on, loss_applies, marks_apply_to};
 ghost use Rattle.shard_journal.specs.Settings.{settings_of};
 ghost use Rattle.shard_journal.specs.Found.{the_finding};
 
@@ -30,27 +30,8 @@ pub fn due_count(alloc: Global, settings: &Settings, journal: &[Entry]) -> Resul
     Ok(due.len())
 }
 
-/// Whether these marks can apply to a span with these ids that is taken after the journal: memory is refused at most to
-/// an append or an opening, and lost at most by the put of a decision that an opening evicts.
-pub fn marks_apply(
-    alloc: Global,
-    settings: &Settings,
-    journal: &[Entry],
-    refused: bool,
-    lost: bool,
-    ids: Option<Ids>,
-) -> Result<bool, AllocError>
-    ensures { IfOk result (λ b. b ≡ marks_apply_to_ids (settings_of settings.now) (reverse journal.now) refused lost ids) }
-{
-    let Some(ids) = ids else {
-        return Ok(false);
-    };
-    let ledger = ledger_of(alloc, settings, journal)?;
-    let found = finding(settings, &ledger.noted, ids.trace);
-    Ok(marks_apply_to(settings, &ledger.noted, refused, lost, found))
-}
-
-fn marks_apply_to(
+/// Whether these marks can apply to a span that finds this.
+pub fn marks_apply_to(
     settings: &Settings,
     noted: &Notes,
     refused: bool,

@@ -12,6 +12,7 @@ mod due;
 mod entry;
 mod finding;
 mod ledger;
+mod looking;
 mod moments;
 mod noted;
 mod noting;
@@ -20,8 +21,9 @@ mod spans;
 #[cfg(test)]
 mod tests;
 
-pub use answers::{decision_at, due_count, effect_of_taking, marks_apply};
+pub use answers::{decision_at, effect_of_taking};
 pub use asked::{Finding, finding_of, remembered};
 pub use entry::{DroppedSpan, Effect, Entry};
+pub use looking::LookBack;
 pub use moments::{clock, has_ended, have_ended};
 pub use settings::Settings;

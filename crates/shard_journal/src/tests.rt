@@ -1,7 +1,8 @@
 //! Worked journals, played through what a journal says.
-use crate::answers::{decision_at, due_count, effect_of_taking, marks_apply};
+use crate::answers::{decision_at, effect_of_taking};
 use crate::asked::{Finding, finding_of, remembered};
 use crate::entry::{Effect, Entry};
+use crate::looking::LookBack;
 use crate::moments::{clock, has_ended, have_ended};
 use crate::settings::Settings;
 use otlp_types::{Arrival, Ids, Item, List, Record, Resource, Scope, Span, Status, Text};
@@ -144,7 +145,7 @@ fn decide_all(
     settings: &Settings,
     played: &mut Played,
 ) -> Result<(), AllocError> {
-    let due = due_count(alloc, settings, &played.journal)?;
+    let due = LookBack::new(alloc, settings, &played.journal)?.due();
     for place in 0..due {
         let effect = decision_at(alloc, settings, &played.journal, place)?;
         note(played, &effect.expect(rt, "a decision"))?;
@@ -264,13 +265,14 @@ fn answers_for_each_trace(rt: HostRuntime) -> Result<(), Fail> {
     }
     let late = remembered(alloc, &settings, journal, trace_of(&rt, 1))?;
     assert_eq!(&rt; late, Some(Verdict::Sampled));
+    let look = LookBack::new(alloc, &settings, journal)?;
     for (trace, refused, lost, apply) in [
         (3, true, false, true),
         (1, true, false, false),
         (4, false, true, false),
     ] {
         let ids = Some(ids_of(&rt, trace));
-        let answer = marks_apply(alloc, &settings, journal, refused, lost, ids)?;
+        let answer = look.marks_apply(&settings, refused, lost, ids);
         assert_eq!(&rt; answer, apply);
     }
     Ok(())

@@ -1,5 +1,5 @@
 -- What a shard takes and decides, by the shard read at its place.
-use Rattle.std.proofs.Common.{◌≡◌, ℕ, zero, suc, ◌≤◌, Bool, true, false, not, ◌&&◌, cond, List, [], ◌∷◌, ◌++◌, length, drop, slice_get, slice_set, Option, Some, None, option_map, refl, ap, sym, subst, ◌∙◌, arith}
+use Rattle.std.proofs.Common.{◌≡◌, ℕ, zero, suc, ◌<◌, ◌≤◌, Bool, true, false, not, ◌&&◌, cond, List, [], ◌∷◌, ◌++◌, length, drop, slice_get, slice_set, Option, Some, None, option_map, is_some, refl, ap, sym, subst, ◌∙◌, arith}
 use Rattle.std.specs.Prelude.{Result, Ok, Err}
 use Rattle.otlp_types.specs.declared.arrival.Arrival.{Arrival}
 use Rattle.otlp_types.specs.declared.arrival.Item.{Item}
@@ -8,8 +8,8 @@ use Rattle.shard_core.specs.Journal.{Entry, Settings, Journal, Opening, Decision
 use Rattle.shard_core.specs.Fate.{DroppedSpan, Effect, effect_of_decision, effect_of_taking}
 use Rattle.shard_core.specs.Taking.{marks_apply_to_ids}
 use Rattle.span_world.specs.World.{Config, Shard, World, settings, ticker, has_due}
-use Rattle.span_world.specs.Step.{Step, take_on, take, tick, end, decide, step, after_taking, after_decision, sender_is_done}
-use Rattle.span_world.specs.Answers.{looks_back, next_of, may_take, entry_of_first, next_decision, KeepsItem, StepsTo}
+use Rattle.span_world.specs.Step.{Step, take_on, take, tick, end, decide, ship, step, after_taking, after_decision, sender_is_done}
+use Rattle.span_world.specs.Answers.{next_of, may_take, entry_of_first, next_decision, KeepsItem, StepsTo}
 use Rattle.span_world.specs.Core.{config_of, Core}
 use Rattle.span_world.specs.declared.step.Refusal.{Refusal}
 use Rattle.span_world.specs.declared.step.Refusal.TheVariants.{NotEnabled, NoMemory}
@@ -27,6 +27,20 @@ pub none_due : (s : Settings) (J : Journal) (dealt : ℕ) → length (due_now s 
 none_due s [] dealt l = refl
 none_due s (e ∷ J) dealt l = past_end _ dealt (subst (λ (n : ℕ). n ≤ dealt) (sym (length_turns s (e ∷ J) (due_at s e J e.item (notes s J)) (notes s J).decisions)) l)
 
+within : {X : Type 0} (xs : List X) (i : ℕ) → i < length xs → is_some (slice_get xs i) ≡ true
+within [] i l = absurd (omega arith)
+within (x ∷ xs) zero l = refl
+within (x ∷ xs) (suc i) l = within xs i (omega arith)
+
+mapped_some : {X Y : Type 0} (f : X → Y) (o : Option X) → is_some (option_map f o) ≡ is_some o
+mapped_some f None = refl
+mapped_some f (Some x) = refl
+
+pub some_due : (s : Settings) (J : Journal) (dealt : ℕ) → dealt < length (due_now s J) → is_some (option_map effect_of_decision (slice_get (decisions_now s J) dealt)) ≡ true
+some_due s [] dealt l = absurd (omega arith)
+some_due s (e ∷ J) dealt l = mapped_some effect_of_decision (slice_get (decisions_now s (e ∷ J)) dealt)
+    ∙ within (decisions_now s (e ∷ J)) dealt (subst (λ (n : ℕ). dealt < n) (sym (length_turns s (e ∷ J) (due_at s e J e.item (notes s J)) (notes s J).decisions)) l)
+
 if_map : {X Y : Type 0} (f : X → Y) (x : X) (b : Bool) → cond b (Some (f x)) None ≡ option_map f (cond b (Some x) None)
 if_map f x true = refl
 if_map f x false = refl
@@ -41,6 +55,9 @@ module _ (c : Config) (w : World) (shard : ℕ) (sh : Shard) (g : slice_get w.sh
 
   pub takes : (refused lost : Bool) (e : Entry) → entry_of_first (settings c w) sh refused lost sh.queue ≡ Some e → step c w (take shard refused lost) ≡ Some (after_taking c w shard sh e (drop 1 sh.queue))
   takes refused lost e f = rw g (take_is refused lost sh.queue ∙ ap (option_map (λ (e : Entry). after_taking c w shard sh e (drop 1 sh.queue))) f)
+
+  pub can_take : (refused lost : Bool) → is_some (entry_of_first (settings c w) sh refused lost sh.queue) ≡ true → is_some (step c w (take shard refused lost)) ≡ true
+  can_take refused lost e = rw g (ap is_some (take_is refused lost sh.queue) ∙ mapped_some (λ (e : Entry). after_taking c w shard sh e (drop 1 sh.queue)) (entry_of_first (settings c w) sh refused lost sh.queue) ∙ e)
 
   pub no_tick : (moment : ℕ) → may_take (settings c w) sh (ticker w) ≡ false → step c w (tick shard moment) ≡ None
   no_tick moment e = rw (g, e) refl
@@ -69,11 +86,19 @@ module _ (c : Config) (w : World) (shard : ℕ) (sh : Shard) (g : slice_get w.sh
       go None = refl
       go (Some d) = refl
 
+  pub can_decide : is_some (next_decision (settings c w) sh) ≡ true → is_some (step c w (decide shard)) ≡ true
+  can_decide e = ap is_some decide_is ∙ mapped_some (after_decision w shard sh) (next_decision (settings c w) sh) ∙ e
+
   pub no_decision : next_decision (settings c w) sh ≡ None → step c w (decide shard) ≡ None
   no_decision e = decide_is ∙ ap (option_map (after_decision w shard sh)) e
 
   pub decides : (did : Effect) → next_decision (settings c w) sh ≡ Some did → step c w (decide shard) ≡ Some (after_decision w shard sh did)
   decides did e = decide_is ∙ ap (option_map (after_decision w shard sh)) e
+
+-- the first of the unshipped goes to the exporter
+pub ships : (c : Config) (w : World) (shard : ℕ) (sh : Shard) → slice_get w.shards shard ≡ Some sh → (a : Arrival) (new : Shard) → sh.unshipped ≡ a ∷ new.unshipped → new ≡ record sh { unshipped = new.unshipped }
+    → step c w (ship shard) ≡ Some (record w { shards = slice_set w.shards shard new; exported = w.exported ++ a ∷ [] })
+ships c w shard sh g a new e f = rw (g, e) (ap (λ (x : Shard). Some (record w { shards = slice_set w.shards shard x; exported = w.exported ++ a ∷ [] })) (sym f))
 
 -- the world where this is in place of a shard, and this is counted
 pub kept_is : (c : Config) (w : World) (shard : ℕ) (sh : Shard) (e : Entry) (queue : List Arrival) (s : Settings) (new : Shard) (counted : List DroppedSpan) → s ≡ settings c w
@@ -84,17 +109,17 @@ kept_is c w shard sh e queue s new counted is f h = rw (f, h, is) refl
 
 module _ (before : Core) (shard : ℕ) (sh : Shard) (g : slice_get before.world.shards shard ≡ Some sh) where
   -- an unmarked item that the shard may take, and what the step says
-  keeps : (s : Step) (item : Item) → looks_back s ≡ true
+  keeps : (s : Step) (item : Item)
       → next_of before s ≡ Some (after_taking (config_of before.config) before.world shard sh (record { item = item; refused = false; lost = false }) sh.queue)
       → (r : Result (Unit {0}) Refusal) (after : Core) → KeepsItem before shard item r after → StepsTo before s r after
-  keeps s item looks e (Ok u) after h = (h.0, e ∙ ap (λ (z : World). Some z) (sym (h.1 sh g)))
-  keeps s item looks e (Err NotEnabled) after h = absurd (cc h.1)
-  keeps s item looks e (Err NoMemory) after h = (h.0, λ q. absurd (cc (sym looks ∙ q)))
+  keeps s item e (Ok u) after h = (h.0, e ∙ ap (λ (z : World). Some z) (sym (h.1 sh g)))
+  keeps s item e (Err NotEnabled) after h = absurd (cc h.1)
+  keeps s item e (Err NoMemory) after h = (h.0, ap is_some e)
 
   pub tick_steps : (moment : ℕ) → may_take (settings (config_of before.config) before.world) sh (ticker before.world) ≡ true
       → (r : Result (Unit {0}) Refusal) (after : Core) → KeepsItem before shard (Tick moment) r after → StepsTo before (tick shard moment) r after
-  tick_steps moment e = keeps (tick shard moment) (Tick moment) refl (ticks (config_of before.config) before.world shard sh g moment e)
+  tick_steps moment e = keeps (tick shard moment) (Tick moment) (ticks (config_of before.config) before.world shard sh g moment e)
 
   pub end_steps : (sender : ℕ) → may_take (settings (config_of before.config) before.world) sh sender ≡ true → sender_is_done before.world shard sh sender (slice_get before.world.lanes sender) ≡ true
       → (r : Result (Unit {0}) Refusal) (after : Core) → KeepsItem before shard (End sender) r after → StepsTo before (end shard sender) r after
-  end_steps sender e f = keeps (end shard sender) (End sender) refl (ends (config_of before.config) before.world shard sh g sender e f)
+  end_steps sender e f = keeps (end shard sender) (End sender) (ends (config_of before.config) before.world shard sh g sender e f)

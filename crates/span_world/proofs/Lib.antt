@@ -32,3 +32,4 @@ pub mod Firsts
 pub mod Routing
 pub mod Items
 pub mod Replaying
+pub mod Looking

@@ -62,4 +62,4 @@ module _ (c : Config) (lanes shards : ℕ) (before : Core) (is : config_of befor
 
       go : (r : Refusal) → StepsTo before (the_step s) (Err r) after → StopsAt c lanes shards (map the_step (done ++ s ∷ rest)) (length done) r
       go NotEnabled h = (within, runs, ap (run c lanes shards) further ∙ (one_more ∙ (sym next_is ∙ h.1)))
-      go NoMemory h = (λ some. within, runs)
+      go NoMemory h = (λ some. (within, ap (λ (z : List Step). is_some (run c lanes shards z)) further ∙ (ap is_some (one_more ∙ sym next_is) ∙ h.1)), runs)

@@ -29,6 +29,11 @@ pub on_ok : {T E : Type 0} {P : Type 0} (r : Result T E) → is_err r ≡ false 
 on_ok (Ok x) e p = p
 on_ok (Err x) e p = absurd (cc e)
 
+-- what holds anyway holds of a refusal
+pub each_err : {A E P : Type 0} (r : Result A E) → P → OnErr r P
+each_err (Ok x) p = tt
+each_err (Err e) p = p
+
 pub on_err : {T E : Type 0} {P : Type 0} (r : Result T E) → is_err r ≡ true → OnErr r P → P
 on_err (Ok x) e p = absurd (cc e)
 on_err (Err x) e p = p

@@ -30,32 +30,24 @@ the_step Hand = hand
 the_step Fail = fail
 the_step (Spoil reason) = spoil reason
 
--- the step asks what a shard's journal says, for which the program takes memory
-abbrev pub looks_back : Step → Bool
-looks_back (take_step shard refused lost) = true
-looks_back (tick shard moment) = true
-looks_back (end shard sender) = true
-looks_back (decide shard) = true
-looks_back _ = false
-
 -- what a step gives in a world, by its configuration
 abbrev pub next_of : Core → Step → Option World
 next_of before s = step (config_of before.config) before.world s
 
--- The step was made; or it isn't enabled, or memory was refused, and nothing changed. Where memory is refused the step is enabled, unless that is what memory was refused to find out.
+-- The step was made; or it isn't enabled, or it is and memory was refused, and nothing changed.
 abbrev pub StepsTo : Core → Step → Result (Unit {0}) Refusal → Core → Type 0
 StepsTo before s (Ok u) after = (after.config ≡ before.config) × (next_of before s ≡ Some after.world)
 StepsTo before s (Err NotEnabled) after = (after ≡ before) × (next_of before s ≡ None)
-StepsTo before s (Err NoMemory) after = (after ≡ before) × (looks_back s ≡ false → is_some (next_of before s) ≡ true)
+StepsTo before s (Err NoMemory) after = (after ≡ before) × (is_some (next_of before s) ≡ true)
 
 -- these steps run from the new world
 abbrev pub Runs : Config → (lanes shards : ℕ) → List Step → Type 0
 Runs c lanes shards steps = is_some (run c lanes shards steps) ≡ true
 
--- the steps before place `n` run, and the one at `n` isn't enabled then; or memory was refused there, at 0 also to the new world
+-- the steps before place `n` run, and the one at `n` isn't enabled then; or it runs too and memory was refused there, at 0 also to the new world
 abbrev pub StopsAt : Config → (lanes shards : ℕ) → List Step → ℕ → Refusal → Type 0
 StopsAt c lanes shards steps n NotEnabled = (n < length steps) × Runs c lanes shards (take n steps) × (run c lanes shards (take (n + 1) steps) ≡ None)
-StopsAt c lanes shards steps n NoMemory = (0 < n → n < length steps) × Runs c lanes shards (take n steps)
+StopsAt c lanes shards steps n NoMemory = (0 < n → (n < length steps) × Runs c lanes shards (take (n + 1) steps)) × Runs c lanes shards (take n steps)
 
 -- ---- what a shard may take
 

@@ -1,6 +1,9 @@
 -- What a caller sees of the program's world.
 use Rattle.policy_tree.specs.Meaning.{meaning}
-use Rattle.span_world.specs.World.{Config, World}
+use Rattle.std.specs.Prelude.{◌≡◌, List, map}
+use Rattle.shard_core.specs.Journal.{Settings}
+use Rattle.shard_journal.specs.Look.{Look, look_of}
+use Rattle.span_world.specs.World.{Config, Shard, World}
 use Rattle.span_world.specs.declared.config.Config.{Config as Given}
 
 -- the configuration, with what its policies mean
@@ -11,3 +14,7 @@ config_of g = record { policies = meaning g.policies; wait = g.wait; limit = g.l
 pub record Core : Type 0 where
   pub config : Given
   pub world : World
+
+-- what was found looking back over each shard's journal
+abbrev pub LooksBack : Settings → List Shard → List Look → Type 0
+LooksBack s shards looks = looks ≡ map (λ (sh : Shard). look_of s sh.journal) shards

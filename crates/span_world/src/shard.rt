@@ -1,10 +1,11 @@
 //! A shard of the world.
-ghost use Rattle.std.specs.Prelude.{◌≡◌, ◌++◌, ◌∷◌, [], ◌+◌, ◌<◌, ◌==◌, ◌^◌, length, drop, not, slice_index_or, IfOk, IfSome, OnOk, OnErr, false};
+ghost use Rattle.std.specs.Prelude.{◌≡◌, ◌++◌, ◌∷◌, [], ◌+◌, ◌<◌, ◌≤◌, ◌==◌, ◌^◌, length, vec_capacity, drop, not, slice_index_or, IfOk, IfSome, OnOk, OnErr, is_some, reverse, true, false};
 ghost use Rattle.std.specs.List.{remove, list_any};
 ghost use Rattle.otlp_types.specs.declared.arrival.Arrival.{Arrival};
 ghost use Rattle.shard_core.specs.Journal.{has_ended};
 ghost use Rattle.shard_core.specs.Fate.{effect_of_taking};
 ghost use Rattle.shard_journal.specs.Settings.{settings_of};
+ghost use Rattle.shard_journal.specs.Look.{look_of};
 ghost use Rattle.span_world.specs.World.{new_shard};
 ghost use Rattle.span_world.specs.Step.{is_empty};
 ghost use Rattle.span_world.specs.Answers.{may_take, entry_of_first, next_decision};
@@ -12,8 +13,7 @@ ghost use Rattle.span_world.specs.Answers.{may_take, entry_of_first, next_decisi
 use crate::lane::Lane;
 use otlp_types::{Arrival, Item, TryClone};
 use shard_journal::{
-    DroppedSpan, Effect, Entry, Settings, decision_at, due_count, effect_of_taking, has_ended,
-    marks_apply,
+    DroppedSpan, Effect, Entry, LookBack, Settings, decision_at, effect_of_taking, has_ended,
 };
 use std::alloc::{AllocError, Global};
 use std::collections::VecDeque;
@@ -61,6 +61,7 @@ impl Shard {
         requires { place < length lane.old.unrouted }
         ensures lane { OnOk result (lane.new ≡ record lane.old { unrouted = remove lane.old.unrouted place }) }
         ensures queue { OnOk result ((a : Arrival) → self.new ≡ record self.old { queue = self.old.queue ++ slice_index_or lane.old.unrouted place a ∷ [] }) }
+        ensures journal { self.new.journal ≡ self.old.journal }
         ensures err { OnErr result ((lane.new ≡ lane.old) × (self.new ≡ self.old)) }
     {
         self.queue.try_reserve(1)?;
@@ -76,16 +77,11 @@ impl Shard {
     }
 
     /// Whether nothing is due, and the sender's End was not taken.
-    pub fn may_take(
-        &self,
-        alloc: Global,
-        settings: &Settings,
-        sender: usize,
-    ) -> Result<bool, AllocError>
-        ensures { IfOk result (λ b. b ≡ may_take (settings_of settings.now) self.now sender) }
+    pub fn may_take(&self, settings: &Settings, look: &LookBack, sender: usize) -> bool
+        requires { look.now ≡ look_of (settings_of settings.now) self.now.journal }
+        ensures { result ≡ may_take (settings_of settings.now) self.now sender }
     {
-        let due = due_count(alloc, settings, &self.journal)?;
-        Ok(self.dealt >= due && !has_ended(&self.journal, sender))
+        self.dealt >= look.due() && !has_ended(&self.journal, sender)
     }
 
     /// The entry of the first queued span, where nothing is due and the marks can apply.
@@ -93,25 +89,19 @@ impl Shard {
         &self,
         alloc: Global,
         settings: &Settings,
+        look: &LookBack,
         refused: bool,
         lost: bool,
     ) -> Result<Option<Entry>, AllocError>
-        ensures { IfOk result (λ e. e ≡ entry_of_first (settings_of settings.now) self.now refused lost self.now.queue) }
+        requires { look.now ≡ look_of (settings_of settings.now) self.now.journal }
+        ensures entry { IfOk result (λ e. e ≡ entry_of_first (settings_of settings.now) self.now refused lost self.now.queue) }
+        ensures some { OnErr result (is_some (entry_of_first (settings_of settings.now) self.now refused lost self.now.queue) ≡ true) }
     {
         let Some(first) = self.queue.front() else {
             return Ok(None);
         };
-        let due = due_count(alloc, settings, &self.journal)?;
-        if self.dealt < due
-            || !marks_apply(
-                alloc,
-                settings,
-                &self.journal,
-                refused,
-                lost,
-                first.rec.span.ids,
-            )?
-        {
+        let ids = first.rec.span.ids;
+        if self.dealt < look.due() || !look.marks_apply(settings, refused, lost, ids) {
             return Ok(None);
         }
         Ok(Some(Entry {
@@ -128,16 +118,18 @@ impl Shard {
         alloc: Global,
         settings: &Settings,
         entry: Entry,
+        look: &mut LookBack,
         counted: &mut Vec<DroppedSpan>,
     ) -> Result<(), AllocError>
         ensures shard { OnOk result (self.new ≡ record self.old { journal = entry ∷ self.old.journal; dealt = 0; unshipped = self.old.unshipped ++ (effect_of_taking (settings_of settings.now) entry self.old.journal).released }) }
         ensures counted { OnOk result (counted.new.items ≡ counted.old.items ++ (effect_of_taking (settings_of settings.now) entry self.old.journal).counted) }
-        ensures err { OnErr result ((self.new ≡ self.old) × (counted.new.items ≡ counted.old.items)) }
+        ensures look { OnOk result (look.new ≡ look_of (settings_of settings.now) self.new.journal) }
+        ensures err { OnErr result ((self.new ≡ self.old) × (look.new ≡ look.old) × (counted.new.items ≡ counted.old.items)) }
     {
         let effect = effect_of_taking(alloc, settings, &self.journal, &entry)?;
-        self.journal.try_reserve(1)?;
-        put(effect, &mut self.unshipped, counted)?;
-        self.journal.push_reserved(entry);
+        make_room(&effect, &mut self.unshipped, counted)?;
+        *look = lengthen(alloc, settings, &mut self.journal, entry)?;
+        put(effect, &mut self.unshipped, counted);
         self.dealt = 0;
         Ok(())
     }
@@ -148,13 +140,15 @@ impl Shard {
         alloc: Global,
         settings: &Settings,
         entry: Entry,
+        look: &mut LookBack,
         counted: &mut Vec<DroppedSpan>,
     ) -> Result<(), AllocError>
         ensures shard { OnOk result (self.new ≡ record { queue = drop 1 self.old.queue; journal = entry ∷ self.old.journal; dealt = 0; unshipped = self.old.unshipped ++ (effect_of_taking (settings_of settings.now) entry self.old.journal).released }) }
         ensures counted { OnOk result (counted.new.items ≡ counted.old.items ++ (effect_of_taking (settings_of settings.now) entry self.old.journal).counted) }
-        ensures err { OnErr result ((self.new ≡ self.old) × (counted.new.items ≡ counted.old.items)) }
+        ensures look { OnOk result (look.new ≡ look_of (settings_of settings.now) self.new.journal) }
+        ensures err { OnErr result ((self.new ≡ self.old) × (look.new ≡ look.old) × (counted.new.items ≡ counted.old.items)) }
     {
-        self.keep_entry(alloc, settings, entry, counted)?;
+        self.keep_entry(alloc, settings, entry, look, counted)?;
         let _ = self.queue.pop_front();
         Ok(())
     }
@@ -164,12 +158,14 @@ impl Shard {
         &self,
         alloc: Global,
         settings: &Settings,
+        look: &LookBack,
     ) -> Result<Option<Effect>, AllocError>
+        requires { look.now ≡ look_of (settings_of settings.now) self.now.journal }
+        ensures some { OnErr result (is_some (next_decision (settings_of settings.now) self.now) ≡ true) }
         ensures effect { IfOk result (λ e. e ≡ next_decision (settings_of settings.now) self.now) }
         ensures fits { IfOk result (λ e. IfSome e (λ _. self.now.dealt + 1 < 2 ^ 64)) }
     {
-        let due = due_count(alloc, settings, &self.journal)?;
-        if self.dealt >= due {
+        if self.dealt >= look.due() {
             return Ok(None);
         }
         decision_at(alloc, settings, &self.journal, self.dealt)
@@ -183,7 +179,8 @@ impl Shard {
         ensures counted { OnOk result (counted.new.items ≡ counted.old.items ++ effect.counted) }
         ensures err { OnErr result ((self.new ≡ self.old) × (counted.new.items ≡ counted.old.items)) }
     {
-        put(effect, &mut self.unshipped, counted)?;
+        make_room(&effect, &mut self.unshipped, counted)?;
+        put(effect, &mut self.unshipped, counted);
         self.dealt += 1;
         Ok(())
     }
@@ -205,19 +202,49 @@ impl Shard {
     }
 }
 
-/// Puts what an effect releases and what it counts at the end of these lists. Where memory is refused nothing changes.
-fn put(
-    effect: Effect,
+/// Puts an entry last into a journal, and looks back over it. Where memory is refused nothing changes.
+fn lengthen(
+    alloc: Global,
+    settings: &Settings,
+    journal: &mut Vec<Entry>,
+    entry: Entry,
+) -> Result<LookBack, AllocError>
+    ensures journal { OnOk result (journal.new.items ≡ journal.old.items ++ entry ∷ []) }
+    ensures look { IfOk result (λ look. look ≡ look_of (settings_of settings.now) (reverse journal.new.items)) }
+    ensures err { OnErr result (journal.new.items ≡ journal.old.items) }
+{
+    journal.push(entry)?;
+    match LookBack::new(alloc, settings, journal) {
+        Ok(look) => Ok(look),
+        Err(_) => {
+            let _ = journal.pop();
+            Err(AllocError)
+        }
+    }
+}
+
+/// Makes room in these lists for what an effect releases and what it counts.
+fn make_room(
+    effect: &Effect,
     released: &mut Vec<Arrival>,
     counted: &mut Vec<DroppedSpan>,
 ) -> Result<(), AllocError>
-    ensures released { OnOk result (released.new.items ≡ released.old.items ++ effect.released) }
-    ensures counted { OnOk result (counted.new.items ≡ counted.old.items ++ effect.counted) }
-    ensures err { OnErr result ((released.new.items ≡ released.old.items) × (counted.new.items ≡ counted.old.items)) }
+    ensures room { OnOk result ((length released.new.items + length effect.now.released ≤ vec_capacity released.new) × (length counted.new.items + length effect.now.counted ≤ vec_capacity counted.new)) }
+    ensures released { released.new.items ≡ released.old.items }
+    ensures counted { counted.new.items ≡ counted.old.items }
+{
+    counted.try_reserve(effect.counted.len())?;
+    released.try_reserve(effect.released.len())
+}
+
+/// Puts what an effect releases and what it counts at the end of these lists, which have room for it.
+fn put(effect: Effect, released: &mut Vec<Arrival>, counted: &mut Vec<DroppedSpan>)
+    requires released { length released.old.items + length effect.released ≤ vec_capacity released.old }
+    requires counted { length counted.old.items + length effect.counted ≤ vec_capacity counted.old }
+    ensures released { released.new.items ≡ released.old.items ++ effect.released }
+    ensures counted { counted.new.items ≡ counted.old.items ++ effect.counted }
 {
     let mut effect = effect;
-    counted.try_reserve(effect.counted.len())?;
-    released.append(&mut effect.released)?;
+    let _ = released.append(&mut effect.released);
     let _ = counted.append(&mut effect.counted);
-    Ok(())
 }

@@ -19,13 +19,21 @@ impl World {
         if shard >= self.shards.len() {
             return Err(Refusal::NotEnabled);
         }
-        let entry = match self.shards[shard].next_entry(self.alloc, &self.settings, refused, lost) {
+        let look = &self.looks[shard];
+        let next = self.shards[shard].next_entry(self.alloc, &self.settings, look, refused, lost);
+        let entry = match next {
             Err(_) => return Err(Refusal::NoMemory),
             Ok(None) => return Err(Refusal::NotEnabled),
             Ok(Some(entry)) => entry,
         };
         if self.shards[shard]
-            .take(self.alloc, &self.settings, entry, &mut self.counted)
+            .take(
+                self.alloc,
+                &self.settings,
+                entry,
+                &mut self.looks[shard],
+                &mut self.counted,
+            )
             .is_err()
         {
             return Err(Refusal::NoMemory);
@@ -40,10 +48,8 @@ impl World {
         if shard >= self.shards.len() {
             return Err(Refusal::NotEnabled);
         }
-        match self.shards[shard].may_take(self.alloc, &self.settings, self.lanes.len()) {
-            Err(_) => return Err(Refusal::NoMemory),
-            Ok(false) => return Err(Refusal::NotEnabled),
-            Ok(true) => {}
+        if !self.shards[shard].may_take(&self.settings, &self.looks[shard], self.lanes.len()) {
+            return Err(Refusal::NotEnabled);
         }
         self.keep_item(shard, Item::Tick(moment))
     }
@@ -58,10 +64,8 @@ impl World {
         if !self.sender_is_done(shard, sender as usize) {
             return Err(Refusal::NotEnabled);
         }
-        match self.shards[shard].may_take(self.alloc, &self.settings, sender as usize) {
-            Err(_) => return Err(Refusal::NoMemory),
-            Ok(false) => return Err(Refusal::NotEnabled),
-            Ok(true) => {}
+        if !self.shards[shard].may_take(&self.settings, &self.looks[shard], sender as usize) {
+            return Err(Refusal::NotEnabled);
         }
         self.keep_item(shard, Item::End(sender))
     }
@@ -73,7 +77,8 @@ impl World {
         if shard >= self.shards.len() {
             return Err(Refusal::NotEnabled);
         }
-        let effect = match self.shards[shard].next_decision(self.alloc, &self.settings) {
+        let look = &self.looks[shard];
+        let effect = match self.shards[shard].next_decision(self.alloc, &self.settings, look) {
             Err(_) => return Err(Refusal::NoMemory),
             Ok(None) => return Err(Refusal::NotEnabled),
             Ok(Some(effect)) => effect,
@@ -95,7 +100,13 @@ impl World {
             lost: false,
         };
         if self.shards[shard]
-            .keep_entry(self.alloc, &self.settings, entry, &mut self.counted)
+            .keep_entry(
+                self.alloc,
+                &self.settings,
+                entry,
+                &mut self.looks[shard],
+                &mut self.counted,
+            )
             .is_err()
         {
             return Err(Refusal::NoMemory);

@@ -1,12 +1,14 @@
 ghost use Rattle.std.specs.Prelude.{◌≡◌, ◌≢◌, ◌∷◌, [], replicate, Some, IfOk};
 ghost use Rattle.span_world.specs.World.{new_world, new_lane, new_shard, KeepsATrace};
+ghost use Rattle.shard_journal.specs.Settings.{settings_of};
+ghost use Rattle.shard_journal.specs.Look.{look_of};
 ghost use Rattle.span_world.specs.Core.{config_of};
 
 use crate::config::Config;
 use crate::lane::Lane;
 use crate::shard::Shard;
 use otlp_types::{Arrival, List};
-use shard_journal::{DroppedSpan, Settings};
+use shard_journal::{DroppedSpan, LookBack, Settings};
 use std::alloc::{AllocError, Global};
 use std::collections::VecDeque;
 use std::marker::Model;
@@ -20,6 +22,8 @@ pub struct World {
     pub(crate) batch_size: usize,
     pub(crate) lanes: Vec<Lane>,
     pub(crate) shards: Vec<Shard>,
+    /// What looking back over each shard's journal found, so that whether a step is enabled takes no memory.
+    pub(crate) looks: Vec<LookBack>,
     pub(crate) exported: VecDeque<Arrival>,
     pub(crate) batch: Vec<Arrival>,
     pub(crate) handed: Vec<List<Arrival>>,
@@ -29,7 +33,8 @@ pub struct World {
 
 impl Model for World {
     ghost use Rattle.std.specs.Prelude.{◌≡◌, ◌+◌, length};
-    ghost use Rattle.span_world.specs.Core.{Core};
+    ghost use Rattle.shard_journal.specs.Settings.{settings_of};
+    ghost use Rattle.span_world.specs.Core.{Core, LooksBack};
     ghost use Rattle.std.specs.Coded.{codes};
     ghost use Rattle.otlp_types.specs.contracts.value.AnyValue as any_value;
     ghost use Rattle.policy_tree.specs.contracts.policy.PolicyKind as kind;
@@ -43,7 +48,7 @@ impl Model for World {
       world = record { lanes = w.lanes.items; shards = w.shards.items; exported = w.exported.items; batch = w.batch.items; handed = w.handed.items; counted = w.counted.items; down = w.down };
     } };
 
-    ghost invariant = { λ w. w.settings.senders ≡ length w.lanes.items + 1 };
+    ghost invariant = { λ w. (w.settings.senders ≡ length w.lanes.items + 1) × LooksBack (settings_of w.settings) w.shards.items w.looks.items };
 }
 
 impl World {
@@ -59,19 +64,22 @@ impl World {
         ensures config { IfOk result (λ w. w.config ≡ config) }
         ensures world { IfOk result (λ w. w.world ≡ new_world lanes shards) }
     {
+        let settings = Settings {
+            policies: config.policies,
+            wait: config.wait,
+            limit: config.limit,
+            sampled_size: config.sampled_size,
+            non_sampled_size: config.non_sampled_size,
+            senders: lanes as usize + 1,
+        };
+        let looks = new_looks(alloc, &settings, shards)?;
         Ok(World {
             alloc,
-            settings: Settings {
-                policies: config.policies,
-                wait: config.wait,
-                limit: config.limit,
-                sampled_size: config.sampled_size,
-                non_sampled_size: config.non_sampled_size,
-                senders: lanes as usize + 1,
-            },
+            settings,
             batch_size: config.batch_size,
             lanes: new_lanes(alloc, lanes as usize)?,
             shards: new_shards(alloc, shards)?,
+            looks,
             exported: VecDeque::new(alloc),
             batch: Vec::new(alloc),
             handed: Vec::new(alloc),
@@ -115,4 +123,15 @@ fn new_shards(alloc: Global, number: usize) -> Result<Vec<Shard>, AllocError>
         shards.push(Shard::new(alloc))?;
     }
     Ok(shards)
+}
+
+/// What looking back over so many journals that have nothing finds.
+fn new_looks(alloc: Global, settings: &Settings, number: usize) -> Result<Vec<LookBack>, AllocError>
+    ensures { IfOk result (λ looks. looks.items ≡ replicate number (look_of (settings_of settings.now) [])) }
+{
+    let mut looks = Vec::with_capacity(alloc, number)?;
+    for _i in 0..number {
+        looks.push(LookBack::new(alloc, settings, &[])?)?;
+    }
+    Ok(looks)
 }

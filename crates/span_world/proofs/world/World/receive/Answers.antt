@@ -11,7 +11,7 @@ returns-then-is_err c =
     let m = read_is c.self.inside.lanes.items c.args.lane c.index_mut.result.now (omega arith) c.index_mut.ensures.value in
     let back = on_err c.receive.result (sym c.is_err.ensures.value ∙ c.if-is_err.true) c.receive.ensures.err in (
       rw (← c.self.view_is, back.0, back.1, put_back c.self.inside.lanes.items c.args.lane c.index_mut.result.now m) refl,
-      λ _. rw (← c.self.view_is) (can_receive (config_of (the_view c.self.inside).config) (the_view c.self.inside).world c.args.lane c.args.ordinal c.args.moment c.args.records.items c.index.result.now g (sym c.has_ended.ensures ∙ c.if-has_ended.false)),
+      rw (← c.self.view_is) (can_receive (config_of (the_view c.self.inside).config) (the_view c.self.inside).world c.args.lane c.args.ordinal c.args.moment c.args.records.items c.index.result.now g (sym c.has_ended.ensures ∙ c.if-has_ended.false)),
     )
 
 pub returns : goal.returns

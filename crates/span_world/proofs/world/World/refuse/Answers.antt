@@ -18,7 +18,7 @@ returns-then-is_err c =
     let g = read_is c.self.inside.lanes.items c.args.lane c.index.result.now (omega arith) c.index.ensures in
     let h = some_read c.self.inside.shards.items c.args.shard (omega arith) in
     let n = c.len-2.ensures ∙ c.self.inside.shards.ok.0 in
-    (rw (← c.self.view_is, c.try_reserve.ensures.items) refl, λ _. rw (← c.self.view_is) (can_refuse (config_of c.args.self.now.config) (the_view c.self.inside).world c.args.lane c.args.shard c.index.result.now h.0 g h.1 c.len-2.result n c.next_for.result c.next_for.ensures c.in-Some.place c.in-Some.is))
+    (rw (← c.self.view_is, c.try_reserve.ensures.items) refl, rw (← c.self.view_is) (can_refuse (config_of c.args.self.now.config) (the_view c.self.inside).world c.args.lane c.args.shard c.index.result.now h.0 g h.1 c.len-2.result n c.next_for.result c.next_for.ensures c.in-Some.place c.in-Some.is))
 
 pub returns : goal.returns
 returns c =

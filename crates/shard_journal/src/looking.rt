@@ -1,0 +1,78 @@
+//! What looking back over a journal finds, kept so that questions about it take no memory.
+ghost use Rattle.std.specs.Prelude.{◌≡◌, reverse, IfOk};
+ghost use Rattle.shard_core.specs.Journal.{Journal};
+ghost use Rattle.shard_core.specs.Taking.{marks_apply_to_ids};
+ghost use Rattle.shard_journal.specs.Settings.{settings_of};
+ghost use Rattle.shard_journal.specs.Look.{look_of};
+
+use crate::answers::{due_count, marks_apply_to};
+use crate::entry::Entry;
+use crate::finding::finding;
+use crate::noted::Notes;
+use crate::noting::ledger_of;
+use crate::settings::Settings;
+use otlp_types::Ids;
+use std::alloc::{AllocError, Global};
+use std::marker::Model;
+
+/// What looking back over a journal found: how many episodes are due at its last item, and what is noted of it.
+#[derive(Debug, Drop)]
+pub struct LookBack {
+    due: usize,
+    noted: Notes,
+}
+
+impl Model for LookBack {
+    ghost use Rattle.shard_journal.specs.Look.{Look};
+    ghost use Rattle.std.specs.Coded.{codes};
+    ghost use Rattle.otlp_types.specs.contracts.value.AnyValue as any_value;
+
+    ghost Value = { Look };
+
+    ghost coded = { Prim.hlevel (codes, any_value.the_row.coded) };
+
+    ghost view = { λ l. record { due = l.due; noted = l.noted } };
+}
+
+impl LookBack {
+    /// Looks back over a journal.
+    pub fn new(
+        alloc: Global,
+        settings: &Settings,
+        journal: &[Entry],
+    ) -> Result<LookBack, AllocError>
+        ensures { IfOk result (λ look. look ≡ look_of (settings_of settings.now) (reverse journal.now)) }
+    {
+        let due = due_count(alloc, settings, journal)?;
+        let ledger = ledger_of(alloc, settings, journal)?;
+        Ok(LookBack {
+            due,
+            noted: ledger.noted,
+        })
+    }
+
+    /// How many episodes are due at the journal's last item.
+    pub fn due(&self) -> usize
+        ensures { result ≡ self.now.due }
+    {
+        self.due
+    }
+
+    /// Whether these marks can apply to a span with these ids that is taken after the journal: memory is refused at most
+    /// to an append or an opening, and lost at most by the put of a decision that an opening evicts.
+    pub fn marks_apply(
+        &self,
+        settings: &Settings,
+        refused: bool,
+        lost: bool,
+        ids: Option<Ids>,
+    ) -> bool
+        ensures { (past : Journal) → self.now ≡ look_of (settings_of settings.now) past → result ≡ marks_apply_to_ids (settings_of settings.now) past refused lost ids }
+    {
+        let Some(ids) = ids else {
+            return false;
+        };
+        let found = finding(settings, &self.noted, ids.trace);
+        marks_apply_to(settings, &self.noted, refused, lost, found)
+    }
+}

@@ -1,0 +1,20 @@
+use Rattle.std.proofs.Common.{◌≡◌, ◌+◌, length, replicate, ap, sym, arith}
+use Rattle.std.proofs.lemmas.List.{length-replicate}
+use Rattle.shard_journal.specs.Settings.{settings_of}
+use Rattle.span_world.specs.World.{Lane, new_lane}
+use Rattle.span_world.proofs.Looking.{new_looks}
+use Rattle.span_world.proofs.world.World.new.Goals as goal
+
+pub invariant_of-result : goal.invariant_of-result
+invariant_of-result c =
+    let lanes : c.args.lanes + 1 ≡ length c.in_ok-new_lanes.field-0.items + 1 = omega (arith, ap length c.in_ok-new_lanes.ensures, length-replicate c.args.lanes new_lane) in (
+      lanes,
+      rw (c.in_ok-new_shards.ensures, c.in_ok-looks.ensures) (new_looks (settings_of (record {
+        policies = c.args.config.policies;
+        wait = c.args.config.wait;
+        limit = c.args.config.limit;
+        sampled_size = c.args.config.sampled_size;
+        non_sampled_size = c.args.config.non_sampled_size;
+        senders = c.args.lanes + 1;
+      })) c.args.shards),
+    )
