@@ -49,10 +49,12 @@ parts_same {X} (x ∷ xs) (y ∷ ys) us vs l e =
 
 -- ---- journals
 
+-- neither holds where one of them does not
 no_marks : (e : Bool) (f : Bool) → (e || f) ≡ false → (e ≡ false) × (f ≡ false)
 no_marks true f h = absurd (cc h)
 no_marks false f h = (refl, h)
 
+-- a shard to which no memory is refused takes its items in one way
 takes_same : (s : Settings) (items : List Item) (before a b : Journal) → Takes s before items a → Takes s before items b → IsUnmarked a → IsUnmarked b → a ≡ b
 takes_same s [] before a b h g u v = h ∙ sym g
 takes_same s (item ∷ more) before a b h g u v =
@@ -61,6 +63,7 @@ takes_same s (item ∷ more) before a b h g u v =
     let one : entry_of item g.0 g.1 ≡ entry_of item h.0 h.1 = λ i. record { item = item; refused = (n.0 ∙ sym m.0) i; lost = (n.1 ∙ sym m.1) i } in
     takes_same s more (entry_of item h.0 h.1 ∷ before) a b h.3 (subst (λ (e : Entry). Takes s (e ∷ before) more b) one g.3) u v
 
+-- in a round the shards take and release the same
 each_same : (s : Settings) (before : List Journal) (items : List (List Item)) (a b : List Journal) (x y : List Arrival) → TakesEach s before items a x → TakesEach s before items b y
     → AllByRecursion IsUnmarked a → AllByRecursion IsUnmarked b → (a ≡ b) × (x ≡ y)
 each_same s [] [] [] [] x y h g u v = (refl, h ∙ sym g)
@@ -93,14 +96,17 @@ rounds_same s before (items ∷ more) a b x y h g u v =
 abbrev pub IsHanded : Sent → Type 0
 IsHanded sent = sent.flushed ≡ Handed (length sent.batch)
 
+-- a batch holds something
 size_positive : (size : ℕ) (one : Sent) (more : List Sent) → AreBatches size (one ∷ more) → 0 < size
 size_positive size one [] h = omega (arith, h.0, h.1)
 size_positive size one (next ∷ more) h = size_positive size next more h.1
 
+-- the first batch has a span
 some_spans : (size : ℕ) (one : Sent) (more : List Sent) → AreBatches size (one ∷ more) → 0 < length one.batch
 some_spans size one [] h = h.0
 some_spans size one (next ∷ more) h = omega (arith, h.0, size_positive size one (next ∷ more) h)
 
+-- a batch that was neither given up for want of memory nor failed was handed over
 handed_one : (old mid : LineSinkState) (sent : Sent) → 0 < length sent.batch → Sends old sent.batch sent.flushed mid → mid.is_down ≡ false → is_for_memory sent.flushed ≡ false → IsHanded sent
 handed_one old mid sent some h up calm = go sent.flushed h calm
   where
@@ -119,6 +125,7 @@ handed_one old mid sent some h up calm = go sent.flushed h calm
     go (Handed n) g c = ap (λ (n : ℕ). Handed n) g.1
     go (Spoiled n reason) g c = gone reason n g.2 c
 
+-- the batches after the first
 more_batches : (size : ℕ) (one : Sent) (more : List Sent) → AreBatches size (one ∷ more) → AreBatches size more
 more_batches size one [] h = tt
 more_batches size one (next ∷ more) h = h.1
@@ -132,6 +139,7 @@ all_handed size old new (one ∷ more) are h up calm = (
   all_handed size h.0 new more (more_batches size one more are) h.2 up calm.1,
 )
 
+-- batches of the same spans that were handed over are the same
 handed_same : (x y : Sent) → x.batch ≡ y.batch → IsHanded x → IsHanded y → x ≡ y
 handed_same x y e h g =
     let flushed : x.flushed ≡ y.flushed = h ∙ (ap (λ (z : List Arrival). Handed (length z)) e ∙ sym g) in
@@ -156,9 +164,11 @@ batches_same size (x ∷ next ∷ xs) (y ∷ other ∷ ys) h g e u v =
 
 -- ---- replies
 
+-- what a reply tells of rejected spans is its two numbers
 rejected_same : (a b : Rejected) → a.invalid ≡ b.invalid → a.full ≡ b.full → a ≡ b
 rejected_same a b e f = λ i. record { invalid = e i; full = f i; fits = is_prop→PathP (λ j. e j + f j < 2 ^ 64) (λ j. le_prop) a.fits b.fits i }
 
+-- a request has one reply
 reply_same : (spans invalid full : ℕ) (a b : Reply) → IsReplyTo spans invalid full a → IsReplyTo spans invalid full b → a ≡ b
 reply_same spans invalid full (Done n) (Done m) h g = ap (λ (z : ℕ). Done z) (h.0 ∙ sym g.0)
 reply_same spans invalid full (Done n) (Partial m r) h g = absurd (omega (arith, h.1, g.3))
@@ -178,6 +188,7 @@ pub record SamePushes (reply other : Reply) (refused number : ℕ) (new queues :
   pub numbers : refused ≡ number
   pub holds : new ≡ queues
 
+-- the pushes of a request and its reply are the same
 pub pushes_same : (spans : List Arrival) (old : List (QueueState Item)) (reply other : Reply) (new queues : List (QueueState Item)) → (h : IsPushed TakesLast IsFull spans old reply new) → (g : IsPushed TakesLast IsFull spans old other queues)
     → SamePushes reply other h.refused g.refused new queues
 pushes_same spans old reply other new queues h g =
@@ -193,6 +204,7 @@ pushes_same spans old reply other new queues h g =
 
 -- ---- readings
 
+-- a body writes one value
 value_same : (body : List ℕ) (d e : Data) → IsJson body d → IsJson body e → d ≡ e
 value_same body d e h g = let both : Some d ≡ Some e = sym h.1 ∙ g.1 in cc
 

@@ -24,6 +24,7 @@ pub all_left : {X : Type 0} (P : X → Type 0) (xs ys : List X) → AllByRecursi
 all_left P [] ys h = tt
 all_left P (x ∷ xs) ys h = (h.0, all_left P xs ys h.1)
 
+-- what holds of each of these and of each of more holds of each of the latter
 pub all_right : {X : Type 0} (P : X → Type 0) (xs ys : List X) → AllByRecursion P (xs ++ ys) → AllByRecursion P ys
 all_right P [] ys h = h
 all_right P (x ∷ xs) ys h = all_right P xs ys h.1
@@ -31,9 +32,11 @@ all_right P (x ∷ xs) ys h = all_right P xs ys h.1
 -- ---- the sink
 
 module _ (old new : LineSinkState) (up : new.is_down ≡ false) where
+  -- a sink that did not change was up
   was_up : new ≡ old → old.is_down ≡ false
   was_up e = ap (λ (z : LineSinkState). z.is_down) (sym e) ∙ up
 
+  -- a sink that is up was up before a batch was given up
   up_before_spoiled : (reason : Reason) (batch : List Arrival) → Spoils reason old batch new → old.is_down ≡ false
   up_before_spoiled NoMemory batch h = h.0
   up_before_spoiled ExporterDown batch (inl h) = h.2.was_up
@@ -44,11 +47,13 @@ module _ (old new : LineSinkState) (up : new.is_down ≡ false) where
   up_before_spoiled NotSampled batch h = absurd h
   up_before_spoiled LateNotSampled batch h = absurd h
 
+  -- a sink that is up was up before a batch was sent
   up_before_sent : (batch : List Arrival) (flushed : Flushed) → Sends old batch flushed new → old.is_down ≡ false
   up_before_sent batch Empty h = was_up h.1
   up_before_sent batch (Handed n) h = h.2.2.was_up
   up_before_sent batch (Spoiled n reason) h = up_before_spoiled reason batch h.2
 
+  -- a sink that is up was up before a line was written
   up_before_line : (line : List ℕ) → WritesLine old line new → old.is_down ≡ false
   up_before_line line (inl h) = h.was_up
   up_before_line line (inr (inl h)) = h.was_up
@@ -66,6 +71,7 @@ up_before_all (event ∷ more) old new up h = up_before old h.0 (up_before_all m
 
 -- ---- the journals
 
+-- a journal that is unmarked was so before its last items
 unmarked_before : (s : Settings) (items : List Item) (before after : Journal) → Takes s before items after → IsUnmarked after → IsUnmarked before
 unmarked_before s [] before after h u = subst IsUnmarked h u
 unmarked_before s (item ∷ more) before after h u = (unmarked_before s more (entry_of item h.0 h.1 ∷ before) after h.3 u).1
@@ -74,6 +80,7 @@ unmarked_before s (item ∷ more) before after h u = (unmarked_before s more (en
 pub unmarked_entry : (s : Settings) (item : Item) (more : List Item) (before after : Journal) → (h : Takes s before (item ∷ more) after) → IsUnmarked after → is_marked (entry_of item h.0 h.1) ≡ false
 unmarked_entry s item more before after h u = (unmarked_before s more (entry_of item h.0 h.1 ∷ before) after h.3 u).0
 
+-- journals that are unmarked were so before a round
 each_before : (s : Settings) (before : List Journal) (items : List (List Item)) (after : List Journal) (released : List Arrival) → TakesEach s before items after released
     → AllByRecursion IsUnmarked after → AllByRecursion IsUnmarked before
 each_before s [] items after released h u = tt
@@ -90,6 +97,7 @@ rounds_before s before (items ∷ more) after released h u = each_before s befor
 -- ---- the world
 
 module _ (s : Settings) (sizes : Sizes) where
+  -- what is calm after a run was calm before it
   pub calm_before_runs : (old new : World) (rounds : List (List (List Item))) → RunsToQuiet s sizes old rounds new → Calm new → Calm old
   calm_before_runs old new rounds r c = record {
     events = all_left (λ event. is_refusal event ≡ false) old.events (map was_sent r.batches) (subst (AllByRecursion (λ event. is_refusal event ≡ false)) (ap (λ (z : World). z.events) r.becomes) c.events);
@@ -103,6 +111,7 @@ module _ (s : Settings) (sizes : Sizes) where
       let after = calm_before_runs (after_reply reply r.0 old) new rounds r.2 c in
       (all_right (λ event. is_refusal event ≡ false) old.events (replied reply ∷ []) after.events).0
 
+  -- what is calm after a reply and a run was calm before them
   pub calm_before_replies : (old new : World) (reply : Reply) (rounds : List (List (List Item))) → RepliesAndRuns s sizes old reply rounds new → Calm new → Calm old
   calm_before_replies old new reply rounds r c =
       let after = calm_before_runs (after_reply reply r.0 old) new rounds r.2 c in
@@ -120,10 +129,12 @@ module _ (s : Settings) (sizes : Sizes) where
     up = ap (λ (z : LineSinkState). z.is_down) g ∙ c.up;
   }
 
+  -- what is calm after a reading of a request was calm before it
   calm_before_answers : (old new : World) (number moment : ℕ) (reading : Reading) → Answers s sizes old number moment reading new → Calm new → Calm old
   calm_before_answers old new number moment (refuses reply) r c = as_calm old _ refl refl refl (calm_before_replies _ new reply [] r c)
   calm_before_answers old new number moment (reads request) r c = as_calm old _ refl refl refl (calm_before_replies _ new r.0 _ r.3 c)
 
+  -- what is calm after an instruction was calm before it
   calm_before_one : (old new : World) (instruction : Instruction) → Plays s sizes old instruction new → Calm new → Calm old
   calm_before_one old new (receive number moment body) (is_open, inl r) c = calm_before_replies old new Busy [] r.1 c
   calm_before_one old new (receive number moment body) (is_open, inr r) c = calm_before_answers old new number moment r.0 r.2 c

@@ -53,6 +53,7 @@ module _ (s : Settings) (sizes : Sizes) where
   not_busy : (old a : World) (rounds : List (List (List Item))) → RepliesAndRuns s sizes old Busy rounds a → Calm a → ⊥
   not_busy old a rounds h c = let calm : is_refusal (replied Busy) ≡ false = calm_reply s sizes old a Busy rounds h c in cc calm
 
+  -- a calm run took no body for a refusal as busy
   busy_answer : (old a : World) (number moment : ℕ) (reading : Reading) → Answers s sizes old number moment reading a → Calm a → reading ≡ refuses Busy → ⊥
   busy_answer old a number moment reading h c e = not_busy _ a [] (subst (λ (z : Reading). Answers s sizes old number moment z a) e h) c
 
@@ -69,6 +70,7 @@ module _ (s : Settings) (sizes : Sizes) where
       let three : RepliesAndRuns s sizes (after g.2.refused) g.0 (rounds g.1) a = subst (λ (z : List (QueueState Item)). RepliesAndRuns s sizes (after g.2.refused) g.0 (rounds z) a) same.holds two in
       replies_same (after g.2.refused) a b sink g.0 (rounds g.1) three g.3 c d
 
+  -- so do requests
   receives_same : (old a b : World) (sink : LineSinkState) (number moment : ℕ) (body : List ℕ) → Receives s sizes old number moment body a → Receives s sizes (record old { sink = sink }) number moment body b → Calm a → Calm b → IsSame a b
   receives_same old a b sink number moment body (inl h) g c d = absurd (not_busy old a [] h.1 c)
   receives_same old a b sink number moment body (inr h) (inl g) c d = absurd (not_busy (record old { sink = sink }) b [] g.1 d)
@@ -109,11 +111,13 @@ abbrev IsKnown : (a b : LineSinkState) → Type 0
 IsKnown a b = (a ≡ b) × ((bytes : List ℕ) × (a.taken ≡ Some bytes))
 
 module _ (unique : LineIsUnique) (bytes : List ℕ) (old : LineSinkState) (known : old.taken ≡ Some bytes) (a b : LineSinkState) (up : a.is_down ≡ false) (other_up : b.is_down ≡ false) where
+  -- both took the line
   both_took : (line : List ℕ) → TakesWhole old line a → TakesWhole old line b → IsKnown a b
   both_took line h g =
       let first = took_is bytes old a line known h in
       (first ∙ sym (took_is bytes old b line known g), (bytes ++ line, ap (λ (z : LineSinkState). z.taken) first))
 
+  -- both stay as they were
   both_stay : a ≡ old → b ≡ old → IsKnown a b
   both_stay h g = (h ∙ sym g, (bytes, ap (λ (z : LineSinkState). z.taken) h ∙ known))
 
@@ -121,14 +125,17 @@ module _ (unique : LineIsUnique) (bytes : List ℕ) (old : LineSinkState) (known
   no_failure : (new : LineSinkState) → new.is_down ≡ false → (line : List ℕ) → FailsInside old line new → ⊥
   no_failure new e line h = cc (e, h.goes_down)
 
+  -- a sink that is up was not down
   no_change : (new : LineSinkState) → new.is_down ≡ false → old.is_down ≡ true → new ≡ old → ⊥
   no_change new e down h = let both : false ≡ true = sym e ∙ (ap (λ (z : LineSinkState). z.is_down) h ∙ down) in cc both
 
+  -- a sink that is up took its line whole
   whole_line : (new : LineSinkState) → new.is_down ≡ false → (line : List ℕ) → WritesLine old line new → TakesWhole old line new
   whole_line new e line (inl h) = h
   whole_line new e line (inr (inl h)) = absurd (no_failure new e line h)
   whole_line new e line (inr (inr h)) = absurd (no_change new e h.0 h.1)
 
+  -- a batch that was given up leaves the same
   spoils_same : (reason : Reason) (batch : List Arrival) → Spoils reason old batch a → Spoils reason old batch b → IsKnown a b
   spoils_same NoMemory batch h g = both_stay h.1 g.1
   spoils_same ExporterDown batch (inl h) g = absurd (no_failure a up h.0 h.2)
@@ -139,6 +146,7 @@ module _ (unique : LineIsUnique) (bytes : List ℕ) (old : LineSinkState) (known
   spoils_same NotSampled batch h g = absurd h
   spoils_same LateNotSampled batch h g = absurd h
 
+  -- a batch that was sent leaves the same
   sends_same : (batch : List Arrival) (flushed : Flushed) → Sends old batch flushed a → Sends old batch flushed b → IsKnown a b
   sends_same batch Empty h g = both_stay h.1 g.1
   sends_same batch (Handed n) h g = both_took g.2.0 (subst (λ (line : List ℕ). TakesWhole old line a) (unique (records_in batch) h.2.0 g.2.0 h.2.1 g.2.1) h.2.2) g.2.2

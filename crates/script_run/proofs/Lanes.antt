@@ -83,6 +83,7 @@ tally_on_lane conn (a ∷ rest) = go (a.key.conn.lane == conn.lane) refl (tally_
 
 -- ---- lanes
 
+-- the lane at a place
 pub lane_at : (w : World) (first many i lane : ℕ) → i < many → lane ≡ first + i → slice_get (lanes_from w first many) i ≡ Some (routed_lane w lane)
 lane_at w first zero i lane h e = absurd (omega arith)
 lane_at w first (suc many) zero lane h e = let same : first ≡ lane = omega (arith, e) in ap (λ (n : ℕ). Some (routed_lane w n)) same
@@ -115,6 +116,7 @@ pub record ShardAt (s : Settings) (queues : List (List Arrival)) (pasts : List J
   pub reads : slice_get (shards_with s queues pasts) i ≡ Some (quiet_shard s queue past)
   pub puts : (other : List Arrival) → slice_set (shards_with s queues pasts) i (quiet_shard s other past) ≡ shards_with s (slice_set queues i other) pasts
 
+-- the shard of a queue that is there
 pub shard_at : (s : Settings) (queues : List (List Arrival)) (pasts : List Journal) (i : ℕ) (queue : List Arrival) → length queues ≡ length pasts → slice_get queues i ≡ Some queue → ShardAt s queues pasts i queue
 shard_at s [] pasts i queue e g = absurd (cc g)
 shard_at s (x ∷ queues) [] i queue e g = absurd (omega (arith, e))
@@ -125,6 +127,7 @@ shard_at s (x ∷ queues) (past ∷ pasts) (suc i) queue e g =
     let r = shard_at s queues pasts i queue (omega (arith, e)) g in
     record { past = r.past; reads = r.reads; puts = λ other. ap (λ (z : List Shard). quiet_shard s x past ∷ z) (r.puts other) }
 
+-- there is a shard for each journal
 pub many_shards : (s : Settings) (queues : List (List Arrival)) (pasts : List Journal) → length queues ≡ length pasts → length (shards_with s queues pasts) ≡ length pasts
 many_shards s [] [] e = refl
 many_shards s [] (past ∷ pasts) e = absurd (omega (arith, e))
@@ -137,6 +140,7 @@ mapped_from f [] i y e = absurd (cc e)
 mapped_from f (x ∷ xs) zero y e = (x, refl, cc e)
 mapped_from f (x ∷ xs) (suc i) y e = mapped_from f xs i y e
 
+-- an element once its list is mapped
 pub mapped_at : {X Y : Type 0} (f : X → Y) (xs : List X) (i : ℕ) (x : X) → slice_get xs i ≡ Some x → slice_get (map f xs) i ≡ Some (f x)
 mapped_at f [] i x e = absurd (cc e)
 mapped_at f (y ∷ xs) zero x e = let same : y ≡ x = cc in ap (λ z. Some (f z)) same
@@ -144,6 +148,7 @@ mapped_at f (y ∷ xs) (suc i) x e = mapped_at f xs i x e
 
 -- ---- counts
 
+-- what is counted under a reason in two parts
 pub under_append : (reason : Reason) (xs ys : List DroppedSpan) → length (under reason (xs ++ ys)) ≡ length (under reason xs) + length (under reason ys)
 under_append reason xs ys =
     let p = λ (c : DroppedSpan). is_same_reason c.reason reason in
@@ -151,19 +156,23 @@ under_append reason xs ys =
     ∙ ap length (map-append (λ (c : DroppedSpan). c.key) (filter p xs) (filter p ys))
     ∙ length-append (under reason xs) (under reason ys)
 
+-- spans that are counted stand under their reason alone
 under_counts_go : (reason r : Reason) (b : Bool) → is_same_reason r reason ≡ b → (spans : List Arrival) → length (under reason (counts r spans)) ≡ cond b (length spans) 0
 under_counts_go reason r true h [] = refl
 under_counts_go reason r false h [] = refl
 under_counts_go reason r true h (a ∷ spans) = rw h (ap suc (under_counts_go reason r true h spans))
 under_counts_go reason r false h (a ∷ spans) = rw h (under_counts_go reason r false h spans)
 
+-- the same, for reasons that are not compared yet
 pub under_counts : (reason r : Reason) (spans : List Arrival) → length (under reason (counts r spans)) ≡ cond {A = ℕ} (is_same_reason r reason) (length spans) 0
 under_counts reason r spans = under_counts_go reason r (is_same_reason r reason) refl spans
 
+-- none in either case
 pub if_none : (b : Bool) → cond {A = ℕ} b 0 0 ≡ 0
 if_none true = refl
 if_none false = refl
 
+-- a sum in one case, and none in the other
 pub if_both : (b : Bool) (m n r : ℕ) → r ≡ m + n → cond {A = ℕ} b m 0 + cond {A = ℕ} b n 0 ≡ cond {A = ℕ} b r 0
 if_both true m n r e = sym e
 if_both false m n r e = refl

@@ -16,6 +16,7 @@ use Rattle.script_run.specs.World.{World}
 
 -- ---- entries by their numbers
 
+-- a number is itself
 same_number : (n : ℕ) → nat_eq n n ≡ true
 same_number n = eq-eqb n n refl
 
@@ -64,6 +65,7 @@ module _ {V : Type 0} (k : ℕ) (v : V) where
 abbrev pub IsHad : (connected : List ℕ) → ConnKey → Type 0
 IsHad connected key = (key.lane < length connected) × (key.ordinal < slice_index connected key.lane)
 
+-- one more at a place makes no number less
 one_more : (xs : List ℕ) (i j : ℕ) → get_or xs j 0 ≤ get_or (slice_set xs i (get_or xs i 0 + 1)) j 0
 one_more [] i j = omega arith
 one_more (x ∷ xs) zero zero = omega arith
@@ -79,9 +81,11 @@ had_grows connected lane key h =
 
 -- ---- spans of a connection
 
+-- a connection is itself
 same_conn : (c : ConnKey) → ((c.lane == c.lane) && (c.ordinal == c.ordinal)) ≡ true
 same_conn c = ap (λ (b : Bool). b && (c.ordinal == c.ordinal)) (same_number c.lane) ∙ same_number c.ordinal
 
+-- connections that differ are told apart
 other_conn : (c d : ConnKey) → (c ≡ d → ⊥) → ((c.lane == d.lane) && (c.ordinal == d.ordinal)) ≡ false
 other_conn c d n = go (c.lane == d.lane) refl (c.ordinal == d.ordinal) refl
   where
@@ -131,6 +135,7 @@ pub record Knows (c : Contacts) (received : List Arrival) : Type 0 where
 abbrev pub KnowsConnections : World → Type 0
 KnowsConnections w = Knows w.contacts w.received
 
+-- it is known before the first line
 pub knows_new : (lanes : ℕ) → 0 < lanes → Knows (record { connections = []; connected = replicate lanes 0 }) []
 knows_new lanes some =
     let none : List ℕ = replicate lanes 0 in
@@ -166,37 +171,47 @@ module _ (number : ℕ) (c : Contacts) (received : List Arrival) (k : Knows c re
   abbrev there : Contacts
   there = connected_where None number c
 
+  -- what a lane has had it has had once the new connection is there
   grown : (key : ConnKey) → IsHad c.connected key → IsHad there.connected key
   grown key h = had_grows c.connected lane key h
 
+  -- there are as many lanes
   long : length there.connected ≡ length c.connected
   long = length-slice_set c.connected lane (slice_index c.connected lane + 1)
 
+  -- the lane of the new connection is one of them
   within : lane < length c.connected
   within = mod-lt number k.lanes
 
+  -- that lane has had the new connection
   new_had : IsHad there.connected conn.key
   new_had =
       let at : get_or there.connected lane 0 ≡ slice_index c.connected lane + 1 = get_or-set_same c.connected lane (slice_index c.connected lane + 1) 0 within in
       (omega (arith, long, within), omega (arith, at))
 
+  -- the new connection is found by its number
   found : lookup (nat_eq number) there.connections ≡ Some conn
   found = found_put number conn c.connections
 
+  -- no other connection has its key
   fresh : (other : ℕ) (twin : Conn) → lookup (nat_eq other) c.connections ≡ Some twin → conn.key ≡ twin.key → ⊥
   fresh other twin e f = not_had c.connected lane (subst (λ (key : ConnKey). IsHad c.connected key) (sym f) (k.had other twin e))
 
+  -- what is found is the new connection, or was found before
   cases : (q : ℕ) (x : Conn) → lookup (nat_eq q) there.connections ≡ Some x → ((q ≡ number) × (x ≡ conn)) ⊎ ((q ≡ number → ⊥) × (lookup (nat_eq q) c.connections ≡ Some x))
   cases q x e = found_cases number conn q x c.connections e
 
+  -- each connection is one that its lane has had
   had_there : (q : ℕ) (x : Conn) → ((q ≡ number) × (x ≡ conn)) ⊎ ((q ≡ number → ⊥) × (lookup (nat_eq q) c.connections ≡ Some x)) → IsHad there.connected x.key
   had_there q x (inl h) = subst (λ (z : Conn). IsHad there.connected z.key) (sym h.1) new_had
   had_there q x (inr h) = grown x.key (k.had q x h.1)
 
+  -- the next number of each is how many spans came on it
   next_there : (q : ℕ) (x : Conn) → ((q ≡ number) × (x ≡ conn)) ⊎ ((q ≡ number → ⊥) × (lookup (nat_eq q) c.connections ≡ Some x)) → x.next ≡ tally (is_of_conn x.key) received
   next_there q x (inl h) = subst (λ (z : Conn). z.next ≡ tally (is_of_conn z.key) received) (sym h.1) (sym (none_came c.connected conn.key (not_had c.connected lane) received k.came))
   next_there q x (inr h) = k.next q x h.1
 
+  -- the connections differ
   distinct_there : (q r : ℕ) (x y : Conn) → ((q ≡ number) × (x ≡ conn)) ⊎ ((q ≡ number → ⊥) × (lookup (nat_eq q) c.connections ≡ Some x))
       → ((r ≡ number) × (y ≡ conn)) ⊎ ((r ≡ number → ⊥) × (lookup (nat_eq r) c.connections ≡ Some y)) → x.key ≡ y.key → q ≡ r
   distinct_there q r x y (inl h) (inl g) e = h.0 ∙ sym g.0
@@ -204,6 +219,7 @@ module _ (number : ℕ) (c : Contacts) (received : List Arrival) (k : Knows c re
   distinct_there q r x y (inr h) (inl g) e = absurd (fresh q x h.1 (ap (λ (z : Conn). z.key) (sym g.1) ∙ sym e))
   distinct_there q r x y (inr h) (inr g) e = k.distinct q r x y h.1 g.1 e
 
+  -- what is known once the new connection is there
   knows_there : Knows there received
   knows_there = record {
     lanes = omega (arith, long, k.lanes);
@@ -213,6 +229,7 @@ module _ (number : ℕ) (c : Contacts) (received : List Arrival) (k : Knows c re
     came = Each-weaker (λ (a : Arrival). IsHad c.connected a.key.conn) (λ (a : Arrival). IsHad there.connected a.key.conn) received (λ a h. grown a.key.conn h) k.came;
   }
 
+  -- the connection was there, or is new
   either : (o : Option Conn) → lookup (nat_eq number) c.connections ≡ o → IsThere number (conn_where o number c) c (connected_where o number c) received
   either None e = record { found = found; knows = knows_there; many = long }
   either (Some x) e = record { found = e; knows = k; many = refl }
@@ -241,6 +258,7 @@ module _ (number : ℕ) (conn : Conn) (c : Contacts) (received : List Arrival) (
   abbrev Found : (q : ℕ) (x : Conn) → Type 0
   Found q x = ((q ≡ number) × (x ≡ later)) ⊎ ((q ≡ number → ⊥) × (lookup (nat_eq q) c.connections ≡ Some x))
 
+  -- what a number finds
   finds : (q : ℕ) (x : Conn) → lookup (nat_eq q) after.connections ≡ Some x → Found q x
   finds q x e = found_cases number later q x c.connections e
 
@@ -249,12 +267,15 @@ module _ (number : ℕ) (conn : Conn) (c : Contacts) (received : List Arrival) (
   had_before q x (inl h) = (conn, subst (λ (n : ℕ). lookup (nat_eq n) c.connections ≡ Some conn) (sym h.0) found, ap (λ (z : Conn). z.key) (sym h.1))
   had_before q x (inr h) = (x, h.1, refl)
 
+  -- each connection is one that its lane has had
   had_after : (q : ℕ) (x : Conn) → Found q x → IsHad c.connected x.key
   had_after q x h = let b = had_before q x h in subst (λ (z : ConnKey). IsHad c.connected z) b.2 (k.had q b.0 b.1)
 
+  -- how many spans came on a connection
   came_on : (key : ConnKey) → tally (is_of_conn key) (received ++ spans) ≡ tally (is_of_conn key) received + tally (is_of_conn key) spans
   came_on key = tally-append (is_of_conn key) received spans
 
+  -- the next number of each is how many spans came on it
   next_after : (q : ℕ) (x : Conn) → Found q x → x.next ≡ tally (is_of_conn x.key) (received ++ spans)
   next_after q x (inl h) =
       let own : conn.next + length spans ≡ tally (is_of_conn conn.key) (received ++ spans) = omega (arith, came_on conn.key, k.next number conn found, all_of_conn conn.key conn.next moment records) in
@@ -263,6 +284,7 @@ module _ (number : ℕ) (conn : Conn) (c : Contacts) (received : List Arrival) (
       let apart : conn.key ≡ x.key → ⊥ = λ e. h.0 (sym (k.distinct number q conn x found h.1 e)) in
       omega (arith, came_on x.key, k.next q x h.1, none_of_conn x.key conn.key apart conn.next moment records)
 
+  -- the connections differ
   distinct_after : (q r : ℕ) (x y : Conn) → Found q x → Found r y → x.key ≡ y.key → q ≡ r
   distinct_after q r x y h g e = let b = had_before q x h in let d = had_before r y g in k.distinct q r b.0 d.0 b.1 d.1 (b.2 ∙ (e ∙ sym d.2))
 

@@ -56,16 +56,19 @@ with_contacts s sizes w contacts queues k e st = record {
 
 -- ---- empty queues
 
+-- empty queues hold no spans
 empty_held : (capacity : ℕ) (pasts : List Journal) → held_in (empty_queues capacity (length pasts)) ≡ as_items (no_queues pasts)
 empty_held capacity [] = refl
 empty_held capacity (past ∷ pasts) = ap (λ (z : List (List Item)). [] ∷ z) (empty_held capacity pasts)
 
+-- there is an empty queue for each journal
 pub many_queues : (pasts : List Journal) → length (no_queues pasts) ≡ length pasts
 many_queues [] = refl
 many_queues (past ∷ pasts) = omega (arith, many_queues pasts)
 
 -- ---- counts
 
+-- ids that are not there are missing
 without_ids : (o : Option Ids) → not (is_some o) ≡ is_none o
 without_ids None = refl
 without_ids (Some ids) = refl
@@ -123,6 +126,7 @@ module _ (s : Settings) (sizes : Sizes) (old : World) (k : Core) (st : Stands s 
   abbrev has_received : Core
   has_received = record k { lanes = slice_set k.lanes key.lane grown; counted = counted }
 
+  -- the core has that lane
   reads : slice_get k.lanes key.lane ≡ Some lane
   reads = ap (λ (z : List Lane). slice_get z key.lane) st.lanes ∙ lane_at old 0 (length old.contacts.connected) key.lane key.lane within (omega arith)
 
@@ -132,6 +136,7 @@ module _ (s : Settings) (sizes : Sizes) (old : World) (k : Core) (st : Stands s 
       let at : count_by (is_of_conn key) lane.received ≡ next = sym (count_is key lane.received) ∙ (tally_on_lane key old.received ∙ sym number) in
       ap (λ (n : ℕ). arrivals key n moment records) at ∙ same_arrivals key next moment records
 
+  -- the lane grows by the spans of the step
   grows : grown ≡ record lane { received = lane.received ++ arrivals key (count_by (is_of_conn key) lane.received) moment records; unrouted = [] ++ filter has_ids (arrivals key (count_by (is_of_conn key) lane.received) moment records) }
   grows =
       let part : filter (is_of_lane key.lane) (old.received ++ spans) ≡ lane.received ++ spans
@@ -139,6 +144,7 @@ module _ (s : Settings) (sizes : Sizes) (old : World) (k : Core) (st : Stands s 
       (λ i. record { received = part i; unrouted = filter has_ids spans; ended = old.closed })
       ∙ ap (λ (z : List Arrival). let l : Lane = record { received = lane.received ++ z; unrouted = filter has_ids z; ended = old.closed } in l) (sym step_spans)
 
+  -- the spans of the step without valid ids are counted
   counts_them : counted ≡ k.counted ++ counts InvalidId (filter (λ a. not (has_ids a)) (arrivals key (count_by (is_of_conn key) lane.received) moment records))
   counts_them = ap (λ (z : List Arrival). k.counted ++ counts InvalidId z) (sym (invalid_same spans))
       ∙ ap (λ (z : List Arrival). k.counted ++ counts InvalidId (filter (λ a. not (has_ids a)) z)) (sym step_spans)

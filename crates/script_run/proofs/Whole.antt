@@ -28,20 +28,24 @@ use Rattle.script_run.proofs.Playing.{ShardsAndExporter, plays_all}
 
 -- ---- before the first line
 
+-- the lanes of a new core
 new_lanes : (w : World) (first many : ℕ) → w.received ≡ [] → w.closed ≡ false → replicate many new_lane ≡ lanes_from w first many
 new_lanes w first zero e f = refl
 new_lanes w first (suc many) e f =
     let one : new_lane ≡ routed_lane w first = λ i. record { received = sym (ap (filter (is_of_lane first)) e) i; unrouted = []; ended = sym f i } in
     ap (λ (z : Lane). z ∷ replicate many new_lane) one ∙ ap (λ (z : List Lane). routed_lane w first ∷ z) (new_lanes w (first + 1) many e f)
 
+-- the shards of a new core
 new_shards : (s : Settings) (many : ℕ) → replicate many new_shard ≡ shards_with s (no_queues (replicate many [])) (replicate many [])
 new_shards s zero = refl
 new_shards s (suc many) = ap (λ (z : List Shard). new_shard ∷ z) (new_shards s many)
 
+-- journals without an entry count nothing
 nothing_dropped : (s : Settings) (reason : Reason) (many : ℕ) → sum_by (dropped_by_journal s reason) (replicate many []) ≡ 0
 nothing_dropped s reason zero = refl
 nothing_dropped s reason (suc many) = omega (arith, sum_by-cons (dropped_by_journal s reason) [] (replicate many []), nothing_dropped s reason many)
 
+-- journals without an entry have no End
 no_ends : (many : ℕ) → AllByRecursion HasNoEnd (replicate many [])
 no_ends zero = tt
 no_ends (suc many) = ((λ sender. refl), no_ends many)
@@ -79,6 +83,7 @@ stands_new s sizes lanes shards first can up =
 
 -- ---- what the lanes received
 
+-- a lane has its part of what was received
 lane_received : (w : World) (first many i : ℕ) (l : Lane) (lane : ℕ) → lane ≡ first + i → slice_get (lanes_from w first many) i ≡ Some l → l.received ≡ filter (is_of_lane lane) w.received
 lane_received w first zero i l lane e g = absurd (cc g)
 lane_received w first (suc many) zero l lane e g =
@@ -91,14 +96,17 @@ abbrev came : (first many : ℕ) → List Arrival → ℕ
 came first zero spans = 0
 came first (suc many) spans = tally (is_of_lane first) spans + came (first + 1) many spans
 
+-- the lanes received so many spans
 lanes_came : (w : World) (first many : ℕ) → length (flat_map (λ (l : Lane). l.received) (lanes_from w first many)) ≡ came first many w.received
 lanes_came w first zero = refl
 lanes_came w first (suc many) = omega (arith, length-append (filter (is_of_lane first) w.received) (flat_map (λ (l : Lane). l.received) (lanes_from w (first + 1) many)), length_filter (is_of_lane first) w.received, lanes_came w (first + 1) many)
 
+-- no span came where there is none
 none_came : (first many : ℕ) → came first many [] ≡ 0
 none_came first zero = refl
 none_came first (suc many) = omega (arith, none_came (first + 1) many)
 
+-- a span of a lane before these is not among theirs
 came_before : (first many : ℕ) (a : Arrival) (rest : List Arrival) → a.key.conn.lane < first → came first many (a ∷ rest) ≡ came first many rest
 came_before first zero a rest h = refl
 came_before first (suc many) a rest h = go (a.key.conn.lane == first) refl (came_before (first + 1) many a rest (omega (arith, h)))
@@ -108,6 +116,7 @@ came_before first (suc many) a rest h = go (a.key.conn.lane == first) refl (came
     go true e f = absurd (omega (arith, h, eqb-true a.key.conn.lane first e))
     go false e f = omega (arith, f)
 
+-- a span of one of these lanes is once among theirs
 came_within : (first many : ℕ) (a : Arrival) (rest : List Arrival) → first ≤ a.key.conn.lane → a.key.conn.lane < first + many → came first many (a ∷ rest) ≡ 1 + came first many rest
 came_within first zero a rest h g = absurd (omega (arith, h, g))
 came_within first (suc many) a rest h g = go (a.key.conn.lane == first) refl (λ above. came_within (first + 1) many a rest above (omega (arith, g)))
@@ -130,20 +139,24 @@ none_for (WasHanded spans) = refl
 none_for (Spoiled spans why) = refl
 none_for Empty = refl
 
+-- no event counts a span as received
 none_at : (event : Event) → counted_at Received event ≡ 0
 none_at (replied reply) = refl
 none_at (was_sent sent) = none_for sent.flushed
 
+-- nor do several
 no_events_count : (events : List Event) → sum_by (counted_at Received) events ≡ 0
 no_events_count [] = refl
 no_events_count (event ∷ more) = omega (arith, sum_by-cons (counted_at Received) event more, none_at event, no_events_count more)
 
 -- ---- what waits
 
+-- no lane has a span to route
 all_routed : (w : World) (first many : ℕ) → list_all (λ (l : Lane). is_empty l.unrouted) (lanes_from w first many) ≡ true
 all_routed w first zero = refl
 all_routed w first (suc many) = all_routed w (first + 1) many
 
+-- there are so many lanes
 many_lanes : (w : World) (first many : ℕ) → length (lanes_from w first many) ≡ many
 many_lanes w first zero = refl
 many_lanes w first (suc many) = omega (arith, many_lanes w (first + 1) many)
@@ -152,10 +165,12 @@ many_lanes w first (suc many) = omega (arith, many_lanes w (first + 1) many)
 none_due : (s : Settings) (past : Journal) → has_due s (quiet_shard s [] past) ≡ false
 none_due s past = le-ltb (length (due_now s past)) (length (due_now s past)) (omega arith)
 
+-- every shard is quiet
 all_quiet : (s : Settings) (pasts : List Journal) → list_all (is_quiet s) (shards_with s (no_queues pasts) pasts) ≡ true
 all_quiet s [] = refl
 all_quiet s (past ∷ pasts) = ap (λ (b : Bool). (true && not b && true) && list_all (is_quiet s) (shards_with s (no_queues pasts) pasts)) (none_due s past) ∙ all_quiet s pasts
 
+-- the shards have their journals
 own_journals : (s : Settings) (pasts : List Journal) → map (λ (sh : Shard). sh.journal) (shards_with s (no_queues pasts) pasts) ≡ pasts
 own_journals s [] = refl
 own_journals s (past ∷ pasts) = ap (λ (z : List Journal). past ∷ z) (own_journals s pasts)
@@ -163,6 +178,7 @@ own_journals s (past ∷ pasts) = ap (λ (z : List Journal). past ∷ z) (own_jo
 -- ---- a run of the core
 
 module _ (s : Settings) (sizes : Sizes) (w : World) (k : Core) (st : Stands s sizes w (no_queues w.journals) k) (known : KnowsConnections w) where
+  -- the core's configuration
   abbrev c : Config
   c = core_config s sizes
 
@@ -172,6 +188,7 @@ module _ (s : Settings) (sizes : Sizes) (w : World) (k : Core) (st : Stands s si
       let senders : length k.lanes + 1 ≡ s.senders = ap (λ (z : List Lane). length z + 1) st.lanes ∙ (ap (λ (n : ℕ). n + 1) (many_lanes w 0 (length w.contacts.connected)) ∙ sym st.senders) in
       λ i. record s { senders = senders i }
 
+  -- the core's counts are the script's
   counts : (count : Count) → count_in k count ≡ number_of s w count
   counts Received =
       let all : length (flat_map (λ (l : Lane). l.received) k.lanes) ≡ length w.received
@@ -180,6 +197,7 @@ module _ (s : Settings) (sizes : Sizes) (w : World) (k : Core) (st : Stands s si
   counts Handed = st.handed_over
   counts (Dropped reason) = st.dropped reason
 
+  -- all that waits is in the buffers
   waits : WaitsInBuffers c k
   waits = record {
     routed = ap (list_all (λ (l : Lane). is_empty l.unrouted)) st.lanes ∙ all_routed w 0 (length w.contacts.connected);
@@ -188,6 +206,7 @@ module _ (s : Settings) (sizes : Sizes) (w : World) (k : Core) (st : Stands s si
     sent = st.batch;
   }
 
+  -- the script's world is that of a run of the core
   pub is_run : (lanes shards : ℕ) (steps : List Step) → KeepsATrace c → run c lanes shards steps ≡ Some k → IsRunOfCore s sizes lanes shards w
   is_run lanes shards steps keeps e = record {
     steps = steps;

@@ -30,18 +30,22 @@ sends_writes (one ∷ more) old new w = (w.0, w.1, sends_writes more w.0 new w.2
 -- ---- failures
 
 module _ (first old new : LineSinkState) (f : FailedOnce first old) where
+  -- a line that was taken whole keeps it
   took : (line : List ℕ) → TakesWhole old line new → FailedOnce first new
   took line h = h.no_failure ∙ (f ∙ ap (λ (b : Bool). first.failures + cond {A = ℕ} b 1 0) (h.was_up ∙ sym h.stays_up))
 
+  -- a write that failed keeps it
   failed : (line : List ℕ) → FailsInside old line new → FailedOnce first new
   failed line h =
       let before : old.failures ≡ first.failures + 0 = f ∙ ap (λ (b : Bool). first.failures + cond {A = ℕ} b 1 0) h.was_up in
       let after : first.failures + 1 ≡ first.failures + cond {A = ℕ} new.is_down 1 0 = ap (λ (b : Bool). first.failures + cond {A = ℕ} b 1 0) (sym h.goes_down) in
       omega (arith, before, after, h.one_failure)
 
+  -- where nothing was written it is kept
   stayed : new ≡ old → FailedOnce first new
   stayed e = subst (λ (z : LineSinkState). FailedOnce first z) (sym e) f
 
+  -- a batch that was given up keeps it
   spoiled : (reason : Reason) (batch : List Arrival) → Spoils reason old batch new → FailedOnce first new
   spoiled NoMemory batch h = stayed h.1
   spoiled ExporterDown batch (inl h) = failed h.0 h.2
@@ -52,11 +56,13 @@ module _ (first old new : LineSinkState) (f : FailedOnce first old) where
   spoiled NotSampled batch h = absurd h
   spoiled LateNotSampled batch h = absurd h
 
+  -- a batch that was sent keeps it
   sent : (batch : List Arrival) (flushed : Flushed) → Sends old batch flushed new → FailedOnce first new
   sent batch Empty h = stayed h.1
   sent batch (Handed n) h = took h.2.0 h.2.2
   sent batch (Spoiled n reason) h = spoiled reason batch h.2
 
+  -- a line that is no batch keeps it
   lined : (line : List ℕ) → WritesLine old line new → FailedOnce first new
   lined line (inl h) = took line h
   lined line (inr (inl h)) = failed line h
@@ -86,24 +92,29 @@ further first old new more h w e = (
 )
 
 module _ (s : Settings) (sizes : Sizes) (first : LineSinkState) where
+  -- the batches of a run were written
   runs : (old new : World) (rounds : List (List (List Item))) → HasWritten first old → RunsToQuiet s sizes old rounds new → HasWritten first new
   runs old new rounds h r = further first old new (map was_sent r.batches) h (sends_writes r.batches old.sink new.sink r.sends.sends) (ap (λ (z : World). z.events) r.becomes)
 
+  -- a reply was written, and then the batches of a run
   replies : (old new : World) (reply : Reply) (rounds : List (List (List Item))) → HasWritten first old → RepliesAndRuns s sizes old reply rounds new → HasWritten first new
   replies old new reply rounds h r =
       let after : World = record old { events = old.events ++ replied reply ∷ []; sink = r.0 } in
       runs after new rounds (further first old after (replied reply ∷ []) h (r.0, r.1, refl) refl) r.2
 
+  -- so it is for each reading of a request
   answers : (old new : World) (number moment : ℕ) (reading : Reading) → HasWritten first old → Answers s sizes old number moment reading new → HasWritten first new
   answers old new number moment (refuses reply) h r = replies _ new reply _ h r
   answers old new number moment (reads request) h r = replies _ new r.0 _ h r.3
 
+  -- so it is for each instruction
   plays : (old new : World) (instruction : Instruction) → HasWritten first old → Plays s sizes old instruction new → HasWritten first new
   plays old new (receive number moment body) h (is_open, inl r) = replies old new _ [] h r.1
   plays old new (receive number moment body) h (is_open, inr r) = answers old new number moment r.0 h r.2
   plays old new (tick moment) h r = runs old new _ h r.1
   plays old new close h r = runs _ new _ h r.1
 
+  -- so it is for instructions in turn
   plays_all : (played : List Instruction) (old new : World) → HasWritten first old → PlaysAll s sizes old played new → HasWritten first new
   plays_all [] old new h r = subst (λ (z : World). HasWritten first z) (sym r) h
   plays_all (instruction ∷ more) old new h r = plays_all more r.0 new (plays old r.0 instruction h r.1) r.2
