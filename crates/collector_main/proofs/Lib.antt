@@ -10,3 +10,4 @@ pub mod Starts
 pub mod Quiet
 pub mod Receives
 pub mod Finish
+pub mod Leading

@@ -12,17 +12,22 @@ use Rattle.collector_main.specs.declared.fault.RunFault.{RunFault}
 use Rattle.collector_main.specs.declared.fault.RunFault.TheVariants.{NoMemory, Refused, Fault, BookFull, SinkDown}
 use Rattle.script_run.specs.World.{World, Sizes, new_world, PlaysAll}
 use Rattle.script_run.specs.Counts.{Reports}
+use Rattle.script_run.specs.Writing.{WritesAll, FailedOnce}
+use Rattle.script_run.specs.CoreRun.{IsRunOfCore}
 
 -- the settings of each shard of a run: its share of the traces and of the caches; its senders are the lanes and the ticker
 abbrev pub settings_by : Config → Settings
 settings_by config = settings_of config.policies config.decision_wait (config.num_traces / config.shards) (config.sampled_cache_size / config.shards) (config.non_sampled_cache_size / config.shards) (config.lanes + 1)
 
--- From the first state of the sink, these instructions lead to this one, and to these counts.
+-- From the first state of the sink, these instructions lead to this one, and to these counts. What they do is a run of the core, for which the headline holds; the sink has the lines of the replies and of the batches that were handed over, and has failed once where it is down, else never.
 pub record Leads (s : Settings) (sizes : Sizes) (lanes shards : ℕ) (first : LineSinkState) (played : List Instruction) (last : LineSinkState) (report : Option (List ℕ)) : Type 0 where
   pub after : World
   pub plays : PlaysAll s sizes (new_world lanes shards first) played after
   pub sink : after.sink ≡ last
   pub reports : Reports s after report
+  pub is_run : IsRunOfCore s sizes lanes shards after
+  pub writes : WritesAll first after.events last
+  pub failed : FailedOnce first last
 
 -- what the run knows: its settings, the sink's bytes and failures before and after, and what the reader had left
 pub record Run : Type 0 where

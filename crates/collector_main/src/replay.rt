@@ -3,6 +3,7 @@ ghost use Rattle.std.specs.Prelude.{◌≡◌, ◌-◌, ◌^◌, ◌<◌, ◌≤
 ghost use Rattle.tsc_config.specs.declared.config.Config.{Config};
 ghost use Rattle.collector_main.specs.declared.replying.TheConstants.{MAX_REPLY_LINE};
 ghost use Rattle.script_run.specs.World.{empty_queues};
+ghost use Rattle.script_run.specs.Laws.{CanPlay};
 ghost use Rattle.collector_main.specs.Starting.{IsNew, AreNew};
 ghost use Rattle.collector_main.specs.Replay.{RunEnds, settings_by};
 
@@ -164,7 +165,7 @@ fn run_session<R: Read, S: Sink>(
     requires open { session.closed ≡ false }
     requires up { session.exporter.sink.is_down ≡ false }
     requires nothing_counted { session.report ≡ Some (replicate 9 0) }
-    ensures { (config : Config) → session.connections ≡ record { connections = []; connected = replicate config.lanes 0 }
+    ensures { (config : Config) → CanPlay (settings_by config) (record { batch = session.exporter.size; queue = session.queue_capacity }) config.lanes → session.connections ≡ record { connections = []; connected = replicate config.lanes 0 }
         → AreNew config config.shards session.shards.items
         → RunEnds (record {
           settings = settings_by config;

@@ -1,4 +1,4 @@
-use Rattle.std.proofs.Common.{ℕ, Bool, List, Option, sym, ap, subst, ◌∙◌}
+use Rattle.std.proofs.Common.{ℕ, Bool, List, Option, refl, sym, ap, subst, ◌∙◌}
 use Rattle.std.specs.Prelude.{not}
 use Rattle.span_sink.specs.LineSinks.{LineSinkState, up_state}
 use Rattle.collector_main.specs.declared.session.Session.{Session}
@@ -7,11 +7,12 @@ use Rattle.script_run.specs.Counts.{Reports}
 use Rattle.collector_main.specs.Replay.{Run, settings_by}
 use Rattle.collector_main.specs.Pulling.{AreOf}
 use Rattle.collector_main.proofs.Numbers.{Reports-new}
+use Rattle.collector_main.proofs.Leading.{leads_to}
 use Rattle.collector_main.proofs.Finish.{run-ends, is_up_state, is_down_state, not-false}
 use Rattle.collector_main.proofs.replay.run_session.Goals as goal
 
 pub returns : goal.returns
-returns g c = λ config unused new.
+returns g c = λ config can unused new.
     let session = c.args.session in
     let now = c.play_script-played.new.machine in
     let script = c.play_script-played.ensures in
@@ -44,7 +45,7 @@ returns g c = λ config unused new.
     (c.end.ensures.taken ∙ ap (λ (m : Session g.row.S.Denot g.S.Sink). m.exporter.sink.taken) same, c.end.ensures.failures ∙ ap (λ (m : Session g.row.S.Denot g.S.Sink). m.exporter.sink.failures) same))
     (is_up_state now.exporter.sink run.taken_after run.failures_after c.end.ensures.taken c.end.ensures.failures)
     (is_down_state now.exporter.sink run.taken_after run.failures_after c.end.ensures.taken c.end.ensures.failures)
-    (λ done leads. let r = leads.2 s start starts in (record { after = r.0; plays = r.1; sink = sym r.2.sink_is; reports = r.2.reports }, sym r.2.closed_is))
+    (λ done leads. let r = leads.2 s start starts in leads_to s run.sizes run.lanes run.shards first done now.exporter.sink now.report can refl r.0 r.1 (sym r.2.sink_is) r.2.reports now.closed (sym r.2.closed_is))
     (λ done fell. let r = fell.1.2 s start starts in
-    (fell.0.exporter.sink, fell.0.report, record { after = r.0; plays = r.1; sink = sym r.2.sink_is; reports = r.2.reports }, not-false fell.0.exporter.sink.is_down fell.2))
+    (fell.0.exporter.sink, fell.0.report, (leads_to s run.sizes run.lanes run.shards first done fell.0.exporter.sink fell.0.report can refl r.0 r.1 (sym r.2.sink_is) r.2.reports r.0.closed refl).0, not-false fell.0.exporter.sink.is_down fell.2))
     c.end.result.1 c.end.ensures.answer

@@ -1,0 +1,32 @@
+-- What a played script leads to.
+use Rattle.std.proofs.Common.{◌≡◌, ℕ, Bool, false, List, Option, subst}
+use Rattle.shard_core.specs.Journal.{Settings}
+use Rattle.span_sink.specs.LineSinks.{LineSinkState}
+use Rattle.tsc_script.specs.Instructions.{Instruction}
+use Rattle.script_run.specs.World.{World, Sizes, new_world, PlaysAll}
+use Rattle.script_run.specs.Counts.{Reports}
+use Rattle.script_run.specs.Writing.{WritesAll, FailedOnce}
+use Rattle.script_run.specs.Laws.{CanPlay}
+use Rattle.script_run.proofs.Runs.{each_is_a_run_of_core}
+use Rattle.script_run.proofs.Writing.{each_writes_its_events}
+use Rattle.collector_main.specs.Replay.{Leads}
+
+-- a played script leads to the world after it, which is closed or not
+pub leads_to : (s : Settings) (sizes : Sizes) (lanes shards : ℕ) (first : LineSinkState) (played : List Instruction) (last : LineSinkState) (report : Option (List ℕ)) → CanPlay s sizes lanes → first.is_down ≡ false
+    → (after : World) → PlaysAll s sizes (new_world lanes shards first) played after → after.sink ≡ last → Reports s after report → (closed : Bool) → after.closed ≡ closed
+    → (leads : Leads s sizes lanes shards first played last report) × (leads.after.closed ≡ closed)
+leads_to s sizes lanes shards first played last report can up after plays sink reports closed is =
+    let wrote = each_writes_its_events s sizes lanes shards first played after can up plays in
+    let W = λ (k : LineSinkState). WritesAll first after.events k in
+    let F = λ (k : LineSinkState). FailedOnce first k in (
+      record {
+        after = after;
+        plays = plays;
+        sink = sink;
+        reports = reports;
+        is_run = each_is_a_run_of_core s sizes lanes shards first played after can up plays;
+        writes = subst W sink wrote.0;
+        failed = subst F sink wrote.1;
+      },
+      is,
+    )
