@@ -5,8 +5,16 @@
 #     tests/run.sh PROGRAM..  runs programs that are built already, as `rt ci` leaves them in crates/collector_main/out
 # It prints a line for each mismatch, and last 'N passed, M failed'. Its status is 1 where something failed.
 set -u -o pipefail
-top=$(cd "$(dirname "$0")/.." && pwd) || exit 2
-work=$(mktemp -d) || exit 2
+
+# Ends where nothing could be compared.
+give_up() {
+    echo "tests/run.sh: $1"
+    echo "0 passed, 1 failed"
+    exit 2
+}
+
+top=$(cd "$(dirname "$0")/.." && pwd) || give_up "no folder"
+work=$(mktemp -d) || give_up "no folder for its files"
 trap 'rm -rf "$work"' EXIT
 passed=0
 failed=0
@@ -173,7 +181,14 @@ check_full() {
     [ "$got" -eq "$status" ] && tell "$name" "" || tell "$name" "status $got and not $status"
 }
 
-# A configuration whose queues and batches want gigabytes, in a tenth of that.
+# Compares one run that has so many KiB of address space.
+check_within() {
+    local room=$1 name=$2 status=$3 expected=$4 input=$5
+    shift 5
+    check "$name" "$status" "$expected" "$input" bash -c 'ulimit -v "$0" && exec "$@"' "$room" "$@"
+}
+
+# A configuration whose queues and batches want gigabytes, and one that takes megabytes to read: what else is wrong with it is then not seen.
 no_memory() {
     local row="$top/tests/rows/error_span_is_kept"
     {
@@ -182,16 +197,21 @@ no_memory() {
         printf '%s\n' '[decision_cache]' 'sampled_cache_size = 1000000' 'non_sampled_cache_size = 1000000'
     } > "$work/config.toml"
     printf 'tsc: no memory\n' > "$work/expected"
-    check "no memory at the start" 5 "$work/expected" "$row/script" \
-        bash -c 'ulimit -v 262144 && exec "$@"' "" "$program" replay "$work/config.toml"
+    check_within 262144 "no memory at the start" 5 "$work/expected" "$row/script" "$program" replay "$work/config.toml"
+    { printf 'polices = [' && spaces 500000 | sed 's/ /1,/g' && printf ']\n'; } > "$work/config.toml"
+    printf 'tsc: configuration refused: 8\n' > "$work/expected"
+    check_within 8192 "no memory for the configuration" 3 "$work/expected" /dev/null "$program" replay "$work/config.toml"
+    printf 'tsc: configuration refused: 2\n' > "$work/expected"
+    check "the same with memory" 3 "$work/expected" /dev/null "$program" replay "$work/config.toml"
 }
 
 if [ $# -eq 0 ]; then
-    (cd "$top/crates/collector_main" && rt run -- replay ../../examples/errors.toml < /dev/null > /dev/null) || exit 2
+    (cd "$top/crates/collector_main" && rt run -- replay ../../examples/errors.toml < /dev/null > /dev/null) || give_up "the program isn't built"
     set -- "$top/crates/collector_main/out/collector_main"
 fi
 for program in "$@"; do
-    program=$(realpath "$program") || exit 2
+    [ -x "$program" ] || give_up "$program is no program"
+    program=$(realpath "$program")
     examples
     rows
     cut_rows
