@@ -119,6 +119,12 @@ spaces() {
     head -c "$1" /dev/zero | tr '\0' ' '
 }
 
+# A script that can't be read is refused at its first line.
+unreadable_script() {
+    printf 'tsc: script refused: line 1\n' > "$work/expected"
+    check "a folder as script" 4 "$work/expected" "$work" "$program" replay "$top/examples/errors.toml"
+}
+
 # A line of a script at its greatest length, with and without a line feed, and one byte beyond.
 long_lines() {
     local config="$top/tests/rows/error_span_is_kept/config.toml" end
@@ -216,6 +222,7 @@ for program in "$@"; do
     rows
     cut_rows
     cut_bodies
+    unreadable_script
     long_lines
     usage
     unreadable
