@@ -19,7 +19,7 @@ use tsc_config::{Config, ConfigFault, read};
 const MAX_CONFIG_LEN: usize = 1_048_576;
 
 /// Room for a line of the report or of a refusal, in bytes.
-const TEXT_ROOM: usize = 128;
+pub const TEXT_ROOM: usize = 128;
 
 /// How the program ended.
 #[derive(Clone, Copy, Debug, PartialEq, Eq)]
@@ -67,7 +67,7 @@ fn without_memory<W: Write>(writer: W) -> W {
 }
 
 /// Writes the last text, and gives the writer back beside the exit status.
-fn finish<W: Write>(writer: W, text: &mut Vec<u8>, outcome: Outcome) -> (W, u8)
+pub fn finish<W: Write>(writer: W, text: &mut Vec<u8>, outcome: Outcome) -> (W, u8)
     requires { TEXT_ROOM ≤ vec_capacity text.old }
     ensures { result.1 < 8 }
 {

@@ -1,6 +1,6 @@
 //! The worked rows as scripts, and the program's statuses.
 use crate::fault::RunFault;
-use crate::program::program;
+use crate::program::{Outcome, TEXT_ROOM, finish, program};
 use crate::replay::replay_run;
 use drop_ledger::{Count, Report};
 use span_ids::Reason;
@@ -496,4 +496,29 @@ fn failing_reader(rt: HostRuntime) -> Result<(), Fail> {
     assert_eq!(rt; sink.end().bytes.as_slice(), b"reply 200 {}\n".as_slice());
     assert_eq!(rt; answer, Err(RunFault::Fault(2)));
     Ok(())
+}
+
+/// Ends the program with an outcome, and compares what it writes and its status.
+fn check_ending(
+    rt: &(impl Abort + AllocGlobal),
+    outcome: Outcome,
+    output: &[u8],
+    status: u8,
+) -> Result<(), Fail> {
+    let mut text = Vec::with_capacity(rt.alloc(), TEXT_ROOM)?;
+    let page = Page {
+        bytes: Vec::new(rt.alloc()),
+    };
+    let (page, answer) = finish(page, &mut text, outcome);
+    assert_eq!(rt; page.bytes.as_slice(), output);
+    assert_eq!(rt; answer, status);
+    Ok(())
+}
+
+/// The endings that no script reaches: no memory at the start, a count at its bound, and a sink that failed.
+#[test]
+fn endings(rt: HostRuntime) -> Result<(), Fail> {
+    check_ending(&rt, Outcome::NoMemory, b"tsc: no memory\n", 5)?;
+    check_ending(&rt, Outcome::BookFull, b"tsc: book full\n", 7)?;
+    check_ending(&rt, Outcome::SinkDown, b"", 1)
 }

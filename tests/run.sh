@@ -1,0 +1,233 @@
+#!/usr/bin/env bash
+# Runs the program on every example, every worked row and some inputs made here, and compares what it prints, byte for byte, and its exit
+# status. In each run that is done, the number of spans received must be the sum of the other eight.
+#     tests/run.sh            proves and builds the program where it has changed, and runs it
+#     tests/run.sh PROGRAM..  runs programs that are built already, as `rt ci` leaves them in crates/collector_main/out
+# It prints a line for each mismatch, and last 'N passed, M failed'. Its status is 1 where something failed.
+set -u -o pipefail
+
+# Ends where nothing could be compared.
+give_up() {
+    echo "tests/run.sh: $1"
+    echo "0 passed, 1 failed"
+    exit 2
+}
+
+top=$(cd "$(dirname "$0")/.." && pwd) || give_up "no folder"
+work=$(mktemp -d) || give_up "no folder for its files"
+trap 'rm -rf "$work"' EXIT
+passed=0
+failed=0
+
+# Compares one run: its name, the status and the file of output that are wanted, the file of its input, and the command.
+check() {
+    local name=$1 status=$2 expected=$3 input=$4 got wrong=""
+    shift 4
+    timeout 60 "$@" < "$input" > "$work/out" 2> "$work/err"
+    got=$?
+    [ "$got" -eq "$status" ] || wrong="$wrong; status $got and not $status"
+    cmp -s "$expected" "$work/out" || wrong="$wrong; $(difference "$expected" "$work/out")"
+    [ ! -s "$work/err" ] || wrong="$wrong; it wrote to standard error"
+    [ "$got" -ne 0 ] || adds_up "$work/out" || wrong="$wrong; received is not the sum of the other counts"
+    tell "$name" "$wrong"
+}
+
+# Counts a check, and prints a line where something is wrong with it.
+tell() {
+    if [ -z "$2" ]; then
+        passed=$((passed + 1))
+    else
+        failed=$((failed + 1))
+        echo "$(basename "$program") $1: ${2#; }"
+    fi
+}
+
+# Says at which line a file differs from the expected one.
+difference() {
+    echo "its output differs at $(cmp "$1" "$2" 2>&1 | sed 's/.*\(byte\|EOF\)/\1/')"
+}
+
+# Whether the last nine lines are a report whose first number is the sum of the other eight.
+adds_up() {
+    tail -n 9 "$1" | awk '
+        NR == 1 { good = $1 == "received" && NF == 2; received = $2 }
+        NR == 2 { good = good && $1 == "handed" && NF == 2; sum = $2 }
+        NR > 2 { good = good && $1 == "dropped" && $2 == NR - 2 && NF == 3; sum += $3 }
+        END { exit !(NR == 9 && good && received == sum) }'
+}
+
+# Each example: a configuration, a script and what it must print.
+examples() {
+    local script name
+    check examples/error_span 0 "$top/examples/error_span.expected" "$top/examples/error_span.script" "$program" replay "$top/examples/errors.toml"
+    for script in "$top"/examples/*.script; do
+        name=${script%.script}
+        [ "$name" = "$top/examples/error_span" ] ||
+            check "examples/${name##*/}" 0 "$name.expected" "$script" "$program" replay "$name.toml"
+    done
+}
+
+# Each worked row: a folder with a configuration, a script, what it must print, and the status where it isn't 0.
+rows() {
+    local row status
+    for row in "$top"/tests/rows/*; do
+        status=0
+        [ ! -e "$row/status" ] || status=$(cat "$row/status")
+        check "tests/rows/${row##*/}" "$status" "$row/expected" "$row/script" "$program" replay "$row/config.toml"
+    done
+}
+
+# Rows cut after each line: every span received is in one of the other counts.
+cut_rows() {
+    local name row lines line
+    for name in late_spans_follow_sampled cache_of_one_forgets late_span_renews; do
+        row="$top/tests/rows/$name"
+        lines=$(wc -l < "$row/script")
+        for line in $(seq 0 "$lines"); do
+            head -n "$line" "$row/script" > "$work/cut"
+            timeout 60 "$program" replay "$row/config.toml" < "$work/cut" > "$work/out" 2> "$work/err"
+            if [ $? -eq 0 ] && adds_up "$work/out"; then
+                tell "$name" ""
+            else
+                tell "tests/rows/$name cut after line $line" "received is not the sum of the other counts"
+            fi
+        done
+    done
+}
+
+# A body cut after each byte but the last is no JSON.
+cut_bodies() {
+    local row="$top/tests/rows/error_span_is_kept" body length
+    body=$(head -n 1 "$row/script" | cut -d ' ' -f 4-)
+    : > "$work/script"
+    : > "$work/expected"
+    for length in $(seq 1 $((${#body} - 1))); do
+        echo "recv 1 0 ${body:0:length}" >> "$work/script"
+        echo 'reply 400 {"message":"not JSON"}' >> "$work/expected"
+    done
+    report_of_nothing >> "$work/expected"
+    check "a body cut after each byte" 0 "$work/expected" "$work/script" "$program" replay "$row/config.toml"
+}
+
+# The report of a run without spans.
+report_of_nothing() {
+    printf '%s\n' "received 0" "handed 0" "dropped "{1..7}" 0"
+}
+
+# As many zero bytes, as spaces.
+spaces() {
+    head -c "$1" /dev/zero | tr '\0' ' '
+}
+
+# A script that can't be read is refused at its first line.
+unreadable_script() {
+    printf 'tsc: script refused: line 1\n' > "$work/expected"
+    check "a folder as script" 4 "$work/expected" "$work" "$program" replay "$top/examples/errors.toml"
+}
+
+# A line of a script at its greatest length, with and without a line feed, and one byte beyond.
+long_lines() {
+    local config="$top/tests/rows/error_span_is_kept/config.toml" end
+    { echo 'reply 200 {}' && report_of_nothing; } > "$work/expected"
+    { printf 'recv 1 0 {}' && spaces 4194357; } > "$work/script"
+    check "a line of 4194368 bytes and no line feed" 0 "$work/expected" "$work/script" "$program" replay "$config"
+    echo >> "$work/script"
+    check "a line of 4194368 bytes" 0 "$work/expected" "$work/script" "$program" replay "$config"
+    printf 'tsc: script refused: line 1\n' > "$work/expected"
+    for end in ' ' ' \n'; do
+        { printf 'recv 1 0 {}' && spaces 4194357 && printf "$end"; } > "$work/script"
+        check "a line of 4194369 bytes" 4 "$work/expected" "$work/script" "$program" replay "$config"
+    done
+}
+
+# Wrong arguments.
+usage() {
+    printf 'tsc: usage: tsc replay CONFIG or tsc serve CONFIG\n' > "$work/expected"
+    check "no argument" 2 "$work/expected" /dev/null "$program"
+    check "no configuration" 2 "$work/expected" /dev/null "$program" replay
+    check "three arguments" 2 "$work/expected" /dev/null "$program" replay "$top/examples/errors.toml" more
+    check "another command" 2 "$work/expected" /dev/null "$program" play "$top/examples/errors.toml"
+    check "an empty command" 2 "$work/expected" /dev/null "$program" "" "$top/examples/errors.toml"
+}
+
+# A configuration that can't be read, isn't UTF-8, or is a byte too long; and one of the greatest length.
+unreadable() {
+    printf 'tsc: configuration refused: unreadable\n' > "$work/expected"
+    check "no such configuration" 3 "$work/expected" /dev/null "$program" replay "$work/none.toml"
+    check "a folder as configuration" 3 "$work/expected" /dev/null "$program" replay "$work"
+    { cat "$top/examples/errors.toml" && printf '# \377\n'; } > "$work/config.toml"
+    check "a configuration that isn't UTF-8" 3 "$work/expected" /dev/null "$program" replay "$work/config.toml"
+    cp "$top/examples/errors.toml" "$work/config.toml"
+    spaces $((1048576 - $(wc -c < "$work/config.toml"))) >> "$work/config.toml"
+    echo 'recv 1 0 {}' > "$work/script"
+    { echo 'reply 200 {}' && report_of_nothing; } > "$work/whole"
+    check "a configuration of 1048576 bytes" 0 "$work/whole" "$work/script" "$program" replay "$work/config.toml"
+    spaces 1 >> "$work/config.toml"
+    check "a configuration of 1048577 bytes" 3 "$work/expected" /dev/null "$program" replay "$work/config.toml"
+}
+
+# Where standard output takes nothing, a run that is done or was writing has status 1, and another case keeps its own.
+no_room() {
+    local row="$top/tests/rows/error_span_is_kept"
+    : > "$work/expected"
+    check_full "a reply to a full device" 1 "$row/script" replay "$row/config.toml"
+    check_full "a report to a full device" 1 /dev/null replay "$row/config.toml"
+    check_full "a usage to a full device" 2 /dev/null
+    check_full "a refused configuration to a full device" 3 /dev/null replay "$top/tests/rows/refused_no_policies/config.toml"
+    printf 'tick 1\nstop\n' > "$work/script"
+    check_full "a refused script to a full device" 4 "$work/script" replay "$row/config.toml"
+}
+
+# A run whose standard output takes nothing, and its status.
+check_full() {
+    local name=$1 status=$2 input=$3 got
+    shift 3
+    timeout 60 "$program" "$@" < "$input" > /dev/full 2> "$work/err"
+    got=$?
+    [ "$got" -eq "$status" ] && tell "$name" "" || tell "$name" "status $got and not $status"
+}
+
+# Compares one run that has so many KiB of address space.
+check_within() {
+    local room=$1 name=$2 status=$3 expected=$4 input=$5
+    shift 5
+    check "$name" "$status" "$expected" "$input" bash -c 'ulimit -v "$0" && exec "$@"' "$room" "$@"
+}
+
+# A configuration whose queues and batches want gigabytes, and one that takes megabytes to read: what else is wrong with it is then not seen.
+no_memory() {
+    local row="$top/tests/rows/error_span_is_kept"
+    {
+        printf '%s\n' 'num_traces = 1000000' 'lanes = 64' 'shards = 64' 'queue_capacity = 65536' 'send_batch_size = 8192'
+        printf '%s\n' 'policies = [{ name = "all", type = "always_sample" }]'
+        printf '%s\n' '[decision_cache]' 'sampled_cache_size = 1000000' 'non_sampled_cache_size = 1000000'
+    } > "$work/config.toml"
+    printf 'tsc: no memory\n' > "$work/expected"
+    check_within 262144 "no memory at the start" 5 "$work/expected" "$row/script" "$program" replay "$work/config.toml"
+    { printf 'polices = [' && spaces 500000 | sed 's/ /1,/g' && printf ']\n'; } > "$work/config.toml"
+    printf 'tsc: configuration refused: 8\n' > "$work/expected"
+    check_within 8192 "no memory for the configuration" 3 "$work/expected" /dev/null "$program" replay "$work/config.toml"
+    printf 'tsc: configuration refused: 2\n' > "$work/expected"
+    check "the same with memory" 3 "$work/expected" /dev/null "$program" replay "$work/config.toml"
+}
+
+if [ $# -eq 0 ]; then
+    (cd "$top/crates/collector_main" && rt run -- replay ../../examples/errors.toml < /dev/null > /dev/null) || give_up "the program isn't built"
+    set -- "$top/crates/collector_main/out/collector_main"
+fi
+for program in "$@"; do
+    [ -x "$program" ] || give_up "$program is no program"
+    program=$(realpath "$program")
+    examples
+    rows
+    cut_rows
+    cut_bodies
+    unreadable_script
+    long_lines
+    usage
+    unreadable
+    no_room
+    no_memory
+done
+echo "$passed passed, $failed failed"
+[ "$failed" -eq 0 ]
