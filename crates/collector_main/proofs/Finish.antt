@@ -41,7 +41,7 @@ module _ (run : Run) (played : Result (Unit {0}) Stop) (up closed : Bool) (last 
     (up_is : up ≡ is_up_after played)
     (whole_closed : OnOk played (closed ≡ true))
     (down_closed : IsErrOf played Down → closed ≡ true)
-    (no_memory : IsErrOf played NothingRead → (run.taken_after ≡ run.taken) × (run.failures_after ≡ run.failures))
+    (no_memory : IsErrOf played NothingRead → (run.taken_after ≡ run.taken) × (run.failures_after ≡ run.failures) × (run.unread_after ≡ run.unread))
     (last_up : up ≡ true → last ≡ up_state run.taken_after run.failures_after)
     (last_down : up ≡ false → last ≡ down_state run.taken_after run.failures_after)
     (to_led : (done : List Instruction) → L done → Led run last report closed done)

@@ -74,7 +74,7 @@ StoppedDown run report = GoesDown (ClosesWith run (down_state run.taken_after ru
 -- what each answer says of the sink and of the counts
 abbrev pub RunEnds : Run → Result Report RunFault → Type 0
 RunEnds run (Ok report) = PlayedWhole run (Some report)
-RunEnds run (Err NoMemory) = (run.taken_after ≡ run.taken) × (run.failures_after ≡ run.failures)
+RunEnds run (Err NoMemory) = (run.taken_after ≡ run.taken) × (run.failures_after ≡ run.failures) × (run.unread_after ≡ run.unread)
 RunEnds run (Err (Refused line)) = StopsAt (Played run) run.unread run.unread_after line
     × IfSome run.unread (λ script. instructions_of script ≡ Err line)
 RunEnds run (Err (Fault line)) = StopsAt (Played run) run.unread run.unread_after line

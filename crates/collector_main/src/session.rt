@@ -79,7 +79,8 @@ impl<S: Sink> Session<S> {
 
     /// Answers a request, and gives its spans to the shards.
     fn receive(&mut self, number: u64, moment: Moment, body: &[u8])
-        requires { self.old.closed ≡ false }
+        requires open { self.old.closed ≡ false }
+        requires up { self.old.exporter.sink.is_down ≡ false }
         ensures plays { (s : Settings) (w : World) → AreOf s w self.old.connections self.old.shards.items self.old.exporter self.old.report self.old.closed
             → (after : World) × Plays s (record { batch = self.old.exporter.size; queue = self.old.queue_capacity }) w (receive number moment body.now) after
             × AreOf s after self.new.connections self.new.shards.items self.new.exporter self.new.report self.new.closed }
@@ -112,7 +113,8 @@ impl<S: Sink> Session<S> {
 
     /// Takes a moment.
     fn tick(&mut self, moment: Moment)
-        requires { self.old.closed ≡ false }
+        requires open { self.old.closed ≡ false }
+        requires up { self.old.exporter.sink.is_down ≡ false }
         ensures plays { (s : Settings) (w : World) → AreOf s w self.old.connections self.old.shards.items self.old.exporter self.old.report self.old.closed
             → (after : World) × Plays s (record { batch = self.old.exporter.size; queue = self.old.queue_capacity }) w (tick moment) after
             × AreOf s after self.new.connections self.new.shards.items self.new.exporter self.new.report self.new.closed }
@@ -153,7 +155,8 @@ impl<S: Sink> Session<S> {
 
     /// Does what a command says.
     fn obey(&mut self, command: Command<'_>)
-        requires { self.old.closed ≡ false }
+        requires open { self.old.closed ≡ false }
+        requires up { self.old.exporter.sink.is_down ≡ true → instruction_of_command command ≡ close }
         ensures plays { (s : Settings) (w : World) → AreOf s w self.old.connections self.old.shards.items self.old.exporter self.old.report self.old.closed
             → (after : World) × Plays s (record { batch = self.old.exporter.size; queue = self.old.queue_capacity }) w (instruction_of_command command.entry) after
             × AreOf s after self.new.connections self.new.shards.items self.new.exporter self.new.report self.new.closed }

@@ -136,9 +136,9 @@ module _ (s : Settings) (sizes : Sizes) where
 
   -- what is calm after an instruction was calm before it
   calm_before_one : (old new : World) (instruction : Instruction) → Plays s sizes old instruction new → Calm new → Calm old
-  calm_before_one old new (receive number moment body) (is_open, inl r) c = calm_before_replies old new Busy [] r.1 c
-  calm_before_one old new (receive number moment body) (is_open, inr r) c = calm_before_answers old new number moment r.0 r.2 c
-  calm_before_one old new (tick moment) r c = calm_before_runs old new _ r.1 c
+  calm_before_one old new (receive number moment body) (is_open, up, inl r) c = calm_before_replies old new Busy [] r.1 c
+  calm_before_one old new (receive number moment body) (is_open, up, inr r) c = calm_before_answers old new number moment r.0 r.2 c
+  calm_before_one old new (tick moment) r c = calm_before_runs old new _ r.2 c
   calm_before_one old new close r c = as_calm old _ refl refl refl (calm_before_runs (record old { closed = true }) new _ r.1 c)
 
   -- what is calm after instructions was calm before them

@@ -76,9 +76,9 @@ module _ (s : Settings) (sizes : Sizes) (facts : ShardsAndExporter s sizes) wher
 
   -- an instruction
   plays : (old new : World) (k : Core) (instruction : Instruction) → Stands s sizes old (no_queues old.journals) k → KnowsConnections old → Plays s sizes old instruction new → Follows s sizes k new
-  plays old new k (receive number moment body) st h (is_open, inl r) = replies old new k Busy st is_open h r.1
-  plays old new k (receive number moment body) st h (is_open, inr r) = answers old new k number moment r.0 st is_open h r.2
-  plays old new k (tick moment) st h r = (facts.takes_tick moment old new k st r.0 r.1, knows_still old new _ h r.1)
+  plays old new k (receive number moment body) st h (is_open, up, inl r) = replies old new k Busy st is_open h r.1
+  plays old new k (receive number moment body) st h (is_open, up, inr r) = answers old new k number moment r.0 st is_open h r.2
+  plays old new k (tick moment) st h r = (facts.takes_tick moment old new k st r.0 r.2, knows_still old new _ h r.2)
   plays old new k close st h r = let closing : World = record old { closed = true } in (facts.closes old new k st r.0 r.1, knows_still closing new _ h r.1)
 
   -- several instructions in turn

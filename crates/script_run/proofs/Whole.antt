@@ -216,6 +216,7 @@ module _ (s : Settings) (sizes : Sizes) (w : World) (k : Core) (st : Stands s si
     received = λ lane l g. lane_received w 0 (length w.contacts.connected) lane l lane (omega arith) (ap (λ (z : List Lane). slice_get z lane) (sym st.lanes) ∙ g);
     journals = ap (map (λ (sh : Shard). sh.journal)) st.shards ∙ own_journals s w.journals;
     handed = st.handed;
+    down = st.down;
     counts = counts;
     between = waits;
     closed = st.closed;

@@ -109,9 +109,9 @@ module _ (s : Settings) (sizes : Sizes) (first : LineSinkState) where
 
   -- so it is for each instruction
   plays : (old new : World) (instruction : Instruction) → HasWritten first old → Plays s sizes old instruction new → HasWritten first new
-  plays old new (receive number moment body) h (is_open, inl r) = replies old new _ [] h r.1
-  plays old new (receive number moment body) h (is_open, inr r) = answers old new number moment r.0 h r.2
-  plays old new (tick moment) h r = runs old new _ h r.1
+  plays old new (receive number moment body) h (is_open, up, inl r) = replies old new _ [] h r.1
+  plays old new (receive number moment body) h (is_open, up, inr r) = answers old new number moment r.0 h r.2
+  plays old new (tick moment) h r = runs old new _ h r.2
   plays old new close h r = runs _ new _ h r.1
 
   -- so it is for instructions in turn

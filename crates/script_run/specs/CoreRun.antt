@@ -55,6 +55,7 @@ pub record IsRunOfCore (s : Settings) (sizes : Sizes) (lanes shards : ℕ) (w : 
   pub received : (lane : ℕ) (l : Lane) → slice_get core.lanes lane ≡ Some l → l.received ≡ filter (is_of_lane lane) w.received
   pub journals : map (λ (sh : Shard). sh.journal) core.shards ≡ w.journals
   pub handed : core.handed ≡ handed_in w.events
+  pub down : core.down ≡ w.sink.is_down
   pub counts : (count : Count) → count_in core count ≡ number_of s w count
   pub between : WaitsInBuffers (core_config s sizes) core
   pub closed : w.closed ≡ true → IsClosed (core_config s sizes) core

@@ -8,8 +8,10 @@ use Rattle.script_run.specs.World.{World, Sizes, new_world, PlaysAll}
 use Rattle.script_run.specs.Writing.{WritesAll, FailedOnce}
 use Rattle.script_run.specs.CoreRun.{core_config, IsRunOfCore}
 use Rattle.script_run.specs.Calm.{Calm}
+use Rattle.script_run.specs.Counts.{number_of}
+use Rattle.drop_ledger.specs.declared.count.Count.{Count}
 
--- settings and sizes with which a script can be played over so many lanes: the senders are the lanes and the ticker, and a batch, a queue and a limit hold something
+-- settings and sizes with which a script can be played over so many lanes: the senders are the lanes and the ticker, and a batch and a limit hold something
 pub record CanPlay (s : Settings) (sizes : Sizes) (lanes : ℕ) : Type 0 where
   pub some_lane : 0 < lanes
   pub senders : s.senders ≡ lanes + 1
@@ -29,17 +31,18 @@ EachIsARunOfCore = OfEachScript (λ s sizes lanes shards first after. IsRunOfCor
 abbrev pub EachWritesItsEvents : Type 0
 EachWritesItsEvents = OfEachScript (λ s sizes lanes shards first after. WritesAll first after.events after.sink × FailedOnce first after.sink)
 
--- two runs did the same: they received the same spans on the same connections, their shards took the same and their events are the same; where the bytes of the sink are known at first, they are the same at last
-pub record Agrees (first : LineSinkState) (a b : World) : Type 0 where
+-- two runs did the same: they received the same spans on the same connections, their shards took the same, their events and their counts are the same; where the bytes of the sink are known at first, they are the same at last
+pub record Agrees (s : Settings) (first : LineSinkState) (a b : World) : Type 0 where
   pub contacts : a.contacts ≡ b.contacts
   pub received : a.received ≡ b.received
   pub full : a.full ≡ b.full
   pub journals : a.journals ≡ b.journals
   pub events : a.events ≡ b.events
   pub closed : a.closed ≡ b.closed
+  pub counts : (count : Count) → number_of s a count ≡ number_of s b count
   pub sink : (bytes : List ℕ) → first.taken ≡ Some bytes → a.sink ≡ b.sink
 
 -- two runs of one script do the same, where in neither memory was refused or a write failed
 abbrev pub CalmRunsAgree : Type 0
 CalmRunsAgree = (s : Settings) (sizes : Sizes) (lanes shards : ℕ) (first : LineSinkState) (played : List Instruction) (a b : World)
-    → PlaysAll s sizes (new_world lanes shards first) played a → PlaysAll s sizes (new_world lanes shards first) played b → Calm a → Calm b → Agrees first a b
+    → PlaysAll s sizes (new_world lanes shards first) played a → PlaysAll s sizes (new_world lanes shards first) played b → Calm a → Calm b → Agrees s first a b

@@ -131,10 +131,10 @@ abbrev pub ends_from : {A : Type 0} → (sender senders : ℕ) → List A → Li
 ends_from sender zero each = []
 ends_from sender (suc more) each = to_each (End sender) each ∷ ends_from (sender + 1) more each
 
--- what an instruction does, where the script was not closed; at a close the lanes end, and then the ticker
+-- what an instruction does, where the script was not closed; behind a failed write only a close is played; at a close the lanes end, and then the ticker
 abbrev pub Plays : Settings → Sizes → World → Instruction → World → Type 0
-Plays s sizes old (receive number moment body) new = (old.closed ≡ false) × Receives s sizes old number moment body new
-Plays s sizes old (tick moment) new = (old.closed ≡ false) × RunsToQuiet s sizes old (to_each (Tick moment) old.journals ∷ []) new
+Plays s sizes old (receive number moment body) new = (old.closed ≡ false) × (old.sink.is_down ≡ false) × Receives s sizes old number moment body new
+Plays s sizes old (tick moment) new = (old.closed ≡ false) × (old.sink.is_down ≡ false) × RunsToQuiet s sizes old (to_each (Tick moment) old.journals ∷ []) new
 Plays s sizes old close new = (old.closed ≡ false) × RunsToQuiet s sizes (record old { closed = true }) (ends_from 0 (length old.contacts.connected + 1) old.journals) new
 
 -- what several instructions do in turn

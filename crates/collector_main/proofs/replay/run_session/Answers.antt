@@ -42,7 +42,7 @@ returns g c = λ config can unused new.
     } in
     run-ends run c.play_script-played.result (not now.exporter.sink.is_down) now.closed now.exporter.sink now.report _ _ script.whole script.stopped script.refused script.up script.closed script.down_closed
     (λ e. let same = (script.no_memory e).0 in
-    (c.end.ensures.taken ∙ ap (λ (m : Session g.row.S.Denot g.S.Sink). m.exporter.sink.taken) same, c.end.ensures.failures ∙ ap (λ (m : Session g.row.S.Denot g.S.Sink). m.exporter.sink.failures) same))
+    (c.end.ensures.taken ∙ ap (λ (m : Session g.row.S.Denot g.S.Sink). m.exporter.sink.taken) same, c.end.ensures.failures ∙ ap (λ (m : Session g.row.S.Denot g.S.Sink). m.exporter.sink.failures) same, ap g.R.Read.remaining (script.no_memory e).1))
     (is_up_state now.exporter.sink run.taken_after run.failures_after c.end.ensures.taken c.end.ensures.failures)
     (is_down_state now.exporter.sink run.taken_after run.failures_after c.end.ensures.taken c.end.ensures.failures)
     (λ done leads. let r = leads.2 s start starts in leads_to s run.sizes run.lanes run.shards first done now.exporter.sink now.report can refl r.0 r.1 (sym r.2.sink_is) r.2.reports now.closed (sym r.2.closed_is))

@@ -7,12 +7,13 @@ use Rattle.collector_main.specs.Pulling.{Export, AreQuiet, HoldsQueued, ends_of,
 use Rattle.collector_main.proofs.Queues.{submits-kept, empty-queued, queues-left}
 use Rattle.collector_main.proofs.Receives.{receives}
 use Rattle.collector_main.proofs.Quiet.{released-length, quiet-now, open-now, none-due-now, ends-now}
+use Rattle.span_sink.specs.LineSinks.{LineSinkState}
 use Rattle.collector_main.proofs.session.Session.receive.Goals as goal
 
 pub take_received-requires-clause-open : goal.take_received-requires-clause-open
 take_received-requires-clause-open g c =
     let self = c.args.self.now in
-    open-now (length self.connections.connected) self.closed self.shards.items self.shards.items refl c.requires self.none_due self.ends
+    open-now (length self.connections.connected) self.closed self.shards.items self.shards.items refl c.requires.open self.none_due self.ends
 
 pub take_received-requires-clause-queued : goal.take_received-requires-clause-queued
 take_received-requires-clause-queued g c =
@@ -36,20 +37,20 @@ returns-clause-plays g c = λ s w are.
     taken (c.send.new.exporter, c.send.new.report) self.closed rounds are empty c.submit-reply.ensures.submits
     (λ e. ap (λ b. rounds_of b after) (c.is_received.ensures ∙ e)) (λ e. ap (λ b. rounds_of b after) (c.is_received.ensures ∙ e)) c.hand_reply.ensures.written c.count_received.ensures
     c.hand_reply.ensures.size (ap length c.hand_reply.ensures.batch ∙ self.sent) c.take_received.ensures.takes (c.take_received.ensures.settings s are.settings_are) c.take_received.ensures.room c.send.ensures.sent in
-    (r.0, (sym are.closed_is ∙ c.requires, r.1), r.2)
+    (r.0, (sym are.closed_is ∙ c.requires.open, ap (λ (k : LineSinkState). k.is_down) (sym are.sink_is) ∙ c.requires.up, r.1), r.2)
 
 pub invariant_of-self-clause-none_due : goal.invariant_of-self-clause-none_due
 invariant_of-self-clause-none_due g c =
     let self = c.args.self.now in
-    let quiet = quiet-now (length self.connections.connected) self.closed self.shards.items self.shards.items refl c.requires self.none_due self.ends in
+    let quiet = quiet-now (length self.connections.connected) self.closed self.shards.items self.shards.items refl c.requires.open self.none_due self.ends in
     none-due-now (ends_of (length self.connections.connected) false) _ _ refl (c.take_received.ensures.quiet _ quiet)
 
 pub invariant_of-self-clause-ends : goal.invariant_of-self-clause-ends
 invariant_of-self-clause-ends g c =
     let self = c.args.self.now in
-    let quiet = quiet-now (length self.connections.connected) self.closed self.shards.items self.shards.items refl c.requires self.none_due self.ends in
+    let quiet = quiet-now (length self.connections.connected) self.closed self.shards.items self.shards.items refl c.requires.open self.none_due self.ends in
     let P = λ (n : ℕ). AreQuiet (ends_of n false) c.take_received.new.shards.items in
-    ends-now (length c.submit-reply.new.connections.connected) false self.closed _ _ refl c.requires (subst P (sym c.submit-reply.ensures.lanes) (c.take_received.ensures.quiet _ quiet))
+    ends-now (length c.submit-reply.new.connections.connected) false self.closed _ _ refl c.requires.open (subst P (sym c.submit-reply.ensures.lanes) (c.take_received.ensures.quiet _ quiet))
 
 pub invariant_of-self-clause-empty : goal.invariant_of-self-clause-empty
 invariant_of-self-clause-empty g c =

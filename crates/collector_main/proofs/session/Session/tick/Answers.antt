@@ -7,12 +7,13 @@ use Rattle.script_run.specs.World.{to_each, empty_queues}
 use Rattle.collector_main.specs.Pulling.{Export, EachTakes, HaveSettings, ends_of}
 use Rattle.collector_main.proofs.Several.{to_each-same}
 use Rattle.collector_main.proofs.Quiet.{quiets, one-round, released-length, quiet-now, open-now, none-due-now, ends-now}
+use Rattle.span_sink.specs.LineSinks.{LineSinkState}
 use Rattle.collector_main.proofs.session.Session.tick.Goals as goal
 
 pub tell_each-requires-clause-open : goal.tell_each-requires-clause-open
 tell_each-requires-clause-open g c =
     let self = c.args.self.now in
-    open-now (length self.connections.connected) self.closed self.shards.items c.deref_mut.result.now c.deref_mut.ensures.value c.requires self.none_due self.ends
+    open-now (length self.connections.connected) self.closed self.shards.items c.deref_mut.result.now c.deref_mut.ensures.value c.requires.open self.none_due self.ends
 
 pub returns-clause-plays : goal.returns-clause-plays
 returns-clause-plays g c = λ s w are.
@@ -31,14 +32,14 @@ returns-clause-plays g c = λ s w are.
     let alike = subst H (sym is) (c.tell_each.ensures.settings s (subst H (sym old_is) are.settings_are)) in
     let q = quiets s _ w self.connections self.shards.items _ before after (c.send.new.exporter, c.send.new.report) self.closed _ are refl self.sent
     (one-round self.shards.items _ (to_each (Tick c.args.moment) w.journals) before after (subst N (sym is) took)) alike c.tell_each.ensures.room c.send.ensures.sent in
-    (q.0, (sym are.closed_is ∙ c.requires, q.1), q.2)
+    (q.0, (sym are.closed_is ∙ c.requires.open, ap (λ (k : LineSinkState). k.is_down) (sym are.sink_is) ∙ c.requires.up, q.1), q.2)
 
 pub invariant_of-self-clause-none_due : goal.invariant_of-self-clause-none_due
 invariant_of-self-clause-none_due g c =
     let self = c.args.self.now in
     let new = c.tell_each.new.shards in
     let is = with_items_is self.shards new (omega (arith, c.tell_each.ensures.length, ap length c.deref_mut.ensures.value, c.deref_mut.ensures.len)) in
-    let quiet = quiet-now (length self.connections.connected) self.closed self.shards.items c.deref_mut.result.now c.deref_mut.ensures.value c.requires self.none_due self.ends in
+    let quiet = quiet-now (length self.connections.connected) self.closed self.shards.items c.deref_mut.result.now c.deref_mut.ensures.value c.requires.open self.none_due self.ends in
     none-due-now (ends_of (length self.connections.connected) false) new _ is (c.tell_each.ensures.quiet _ quiet)
 
 pub invariant_of-self-clause-ends : goal.invariant_of-self-clause-ends
@@ -46,8 +47,8 @@ invariant_of-self-clause-ends g c =
     let self = c.args.self.now in
     let new = c.tell_each.new.shards in
     let is = with_items_is self.shards new (omega (arith, c.tell_each.ensures.length, ap length c.deref_mut.ensures.value, c.deref_mut.ensures.len)) in
-    let quiet = quiet-now (length self.connections.connected) self.closed self.shards.items c.deref_mut.result.now c.deref_mut.ensures.value c.requires self.none_due self.ends in
-    ends-now (length self.connections.connected) false self.closed new _ is c.requires (c.tell_each.ensures.quiet _ quiet)
+    let quiet = quiet-now (length self.connections.connected) self.closed self.shards.items c.deref_mut.result.now c.deref_mut.ensures.value c.requires.open self.none_due self.ends in
+    ends-now (length self.connections.connected) false self.closed new _ is c.requires.open (c.tell_each.ensures.quiet _ quiet)
 
 pub invariant_of-self-clause-some : goal.invariant_of-self-clause-some
 invariant_of-self-clause-some g c =
