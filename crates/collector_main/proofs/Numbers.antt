@@ -135,4 +135,4 @@ zeros (Dropped ExporterDown) = refl
 
 -- nine zeros tell the numbers of a script that has seen no line
 pub Reports-new : (s : Settings) (lanes shards : ℕ) (first : LineSinkState) → Reports s (new_world lanes shards first) (Some (replicate 9 0))
-Reports-new s lanes shards first = (refl, λ k. zeros k ∙ sym (number-new s lanes shards first k))
+Reports-new s lanes shards first = (refl, λ k. let none = number-new s lanes shards first k in (zeros k ∙ sym none, omega (arith, none)))

@@ -1,5 +1,5 @@
 -- How a report grows: words of private functions.
-use Rattle.std.specs.Prelude.{◌≡◌, ℕ, ◌+◌, ◌^◌, ◌≤◌, if◌then◌else◌, List, length, slice_index, Option, Some, None}
+use Rattle.std.specs.Prelude.{◌≡◌, ℕ, ◌+◌, ◌^◌, ◌<◌, ◌≤◌, if◌then◌else◌, List, length, slice_index, Option, Some, None}
 use Rattle.std.specs.List.{sum_by}
 use Rattle.span_ids.specs.declared.outcome.Reason.{Reason}
 use Rattle.shard_core.specs.Fate.{is_same_reason}
@@ -9,10 +9,11 @@ use Rattle.drop_ledger.specs.declared.count.Count.TheVariants.{Received, Handed,
 use Rattle.script_run.specs.Sending.{Sent}
 use Rattle.script_run.specs.Counts.{counted_for}
 
--- so many spans were added to each count; from the first number on that passed 2^64-1 there is no report
+-- so many spans were added to each count, and what was below 2^64 is so still; from the first number on that passed 2^64-1 there is no report
 abbrev pub Adds : (old : Option (List ℕ)) → (added : Count → ℕ) → (new : Option (List ℕ)) → Type 0
 Adds None added new = new ≡ None
-Adds (Some numbers) added (Some more) = (length more ≡ length numbers) × ((count : Count) → slice_index more (place_of count) ≡ slice_index numbers (place_of count) + added count)
+Adds (Some numbers) added (Some more) = (length more ≡ length numbers) × ((count : Count)
+    → (slice_index more (place_of count) ≡ slice_index numbers (place_of count) + added count) × (slice_index numbers (place_of count) < 2 ^ 64 → slice_index more (place_of count) < 2 ^ 64))
 Adds (Some numbers) added None = (count : Count) × (2 ^ 64 ≤ slice_index numbers (place_of count) + added count)
 
 -- so many spans at this count alone

@@ -55,7 +55,13 @@ fn pull_taken<S: Sink>(exporter: &mut Exporter<S>, report: &mut Option<Report>, 
             evicted: Some(left),
             cache: _,
         } => count(report, Count::Dropped(Reason::Evicted), left.spans),
-        Taken::Kept { .. } | Taken::Ticked | Taken::Ended | Taken::Finished => {}
+        Taken::Kept {
+            evicted: None,
+            cache: _,
+        } => {}
+        Taken::Ticked => {}
+        Taken::Ended => {}
+        Taken::Finished => {}
     }
 }
 

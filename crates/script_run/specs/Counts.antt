@@ -1,5 +1,5 @@
 -- How many spans of a script have each end.
-use Rattle.std.specs.Prelude.{◌≡◌, ℕ, ◌+◌, ◌^◌, ◌≤◌, if◌then◌else◌, List, length, filter, slice_index, Option, Some, None}
+use Rattle.std.specs.Prelude.{◌≡◌, ℕ, ◌+◌, ◌^◌, ◌<◌, ◌≤◌, if◌then◌else◌, List, length, filter, slice_index, Option, Some, None}
 use Rattle.std.specs.List.{sum_by}
 use Rattle.span_ids.specs.declared.outcome.Reason.{Reason}
 use Rattle.span_ids.specs.declared.outcome.Reason.TheVariants.{InvalidId, QueueFull, NoMemory, Evicted, NotSampled, LateNotSampled, ExporterDown}
@@ -50,7 +50,7 @@ counted_at count (was_sent sent) = counted_for count sent.flushed
 abbrev pub number_of : Settings → World → Count → ℕ
 number_of s w count = counted_at_lanes w count + (counted_at_shards s w.journals count + sum_by (counted_at count) w.events)
 
--- a report's numbers are those of the world; there is none where some number passed 2^64-1
+-- a report's numbers are those of the world, each below 2^64; there is none where some number passed 2^64-1
 abbrev pub Reports : Settings → World → Option (List ℕ) → Type 0
-Reports s w (Some numbers) = (length numbers ≡ 9) × ((count : Count) → slice_index numbers (place_of count) ≡ number_of s w count)
+Reports s w (Some numbers) = (length numbers ≡ 9) × ((count : Count) → (slice_index numbers (place_of count) ≡ number_of s w count) × (number_of s w count < 2 ^ 64))
 Reports s w None = (count : Count) × (2 ^ 64 ≤ number_of s w count)
