@@ -11,3 +11,5 @@ pub mod Quiet
 pub mod Receives
 pub mod Finish
 pub mod Leading
+pub mod Texts
+pub mod Courses

@@ -1,6 +1,8 @@
 //! The program: its arguments, its configuration, its texts and its exit status.
-ghost use Rattle.std.specs.Prelude.{◌≡◌, ◌+◌, ◌≤◌, ◌<◌, ◌++◌, IfOk, vec_capacity, vec_len, length, decimal, codes};
+ghost use Rattle.std.specs.Prelude.{◌≡◌, ◌⊎◌, ◌+◌, ◌≤◌, ◌<◌, ◌++◌, map, false, IfOk, IfErr, vec_capacity, vec_len, length, decimal, codes, string_bytes};
 ghost use Rattle.collector_main.specs.Outcomes.{outcome_of, exit_status};
+ghost use Rattle.collector_main.specs.Ending.{WritesText, HandsText, Finishes, CameTo, Ends, IsRead, LoadFails, text_of, name_of, report_text, fault_number, greatest_length};
+ghost use Rattle.collector_main.specs.declared.program.Outcome.TheVariants.{NoMemory, Unreadable};
 
 use crate::fault::RunFault;
 use crate::replay::replay_run;
@@ -50,7 +52,7 @@ pub fn program<T: Files, R: Read, W: Write>(
     reader: &mut R,
     writer: W,
 ) -> (W, u8)
-    ensures { result.1 < 8 }
+    ensures { Ends (map string_bytes arguments.now) (R.remaining reader.old) (R.remaining reader.new) (W.contents writer) (W.contents result.0) result.1 }
 {
     let Ok(mut text) = Vec::with_capacity(alloc, TEXT_ROOM) else {
         return (without_memory(writer), 5);
@@ -60,16 +62,18 @@ pub fn program<T: Files, R: Read, W: Write>(
 }
 
 /// Writes that there is no memory, and gives the writer back.
-fn without_memory<W: Write>(writer: W) -> W {
+fn without_memory<W: Write>(writer: W) -> W
+    ensures { Finishes (W.contents writer) NoMemory (W.contents result) 5 }
+{
     let mut lines = LineSink::new(WriteSink::new(writer));
-    let _ = lines.hand(b"tsc: no memory\n");
+    let _ = hand_line(&mut lines, b"tsc: no memory\n");
     lines.end().end()
 }
 
 /// Writes the last text, and gives the writer back beside the exit status.
 pub fn finish<W: Write>(writer: W, text: &mut Vec<u8>, outcome: Outcome) -> (W, u8)
     requires { TEXT_ROOM ≤ vec_capacity text.old }
-    ensures { result.1 < 8 }
+    ensures { Finishes (W.contents writer) outcome (W.contents result.0) result.1 }
 {
     let (writer, written) = say_last(writer, text, &outcome);
     (writer, exit_status(&outcome, written))
@@ -78,6 +82,7 @@ pub fn finish<W: Write>(writer: W, text: &mut Vec<u8>, outcome: Outcome) -> (W, 
 /// Writes the last text, and gives the writer back beside whether the text was taken whole.
 fn say_last<W: Write>(writer: W, text: &mut Vec<u8>, outcome: &Outcome) -> (W, bool)
     requires { TEXT_ROOM ≤ vec_capacity text.old }
+    ensures { WritesText (W.contents writer) (text_of outcome.now) result.1 (W.contents result.0) }
 {
     let mut lines = LineSink::new(WriteSink::new(writer));
     let written = say(&mut lines, text, outcome);
@@ -87,8 +92,7 @@ fn say_last<W: Write>(writer: W, text: &mut Vec<u8>, outcome: &Outcome) -> (W, b
 
 /// The exit status. A fault in writing the last text counts only where all else was done.
 fn exit_status(outcome: &Outcome, written: bool) -> u8
-    ensures status { result ≡ exit_status outcome.now written }
-    ensures below { result < 8 }
+    ensures { result ≡ exit_status outcome.now written }
 {
     match outcome {
         Outcome::Done(_) => { if written { 0 } else { 1 } }
@@ -109,7 +113,15 @@ fn run<T: Files, R: Read, W: Write>(
     arguments: &[String],
     reader: &mut R,
     writer: W,
-) -> (W, Outcome) {
+) -> (W, Outcome)
+    ensures { CameTo (record {
+      arguments = map string_bytes arguments.now;
+      unread = R.remaining reader.old;
+      unread_after = R.remaining reader.new;
+      taken = W.contents writer;
+      taken_after = W.contents result.0;
+    }) result.1 }
+{
     let [command, path] = arguments else {
         return (writer, Outcome::Usage);
     };
@@ -145,6 +157,8 @@ fn load<T: Files>(rt: &T, alloc: Global, path: &str) -> Result<Config, Outcome>
     ensures traces { IfOk result (λ config. config.shards ≤ config.num_traces) }
     ensures queue { IfOk result (λ config. 0 < config.queue_capacity) }
     ensures batch { IfOk result (λ config. 0 < config.send_batch_size) }
+    ensures is_read { IfOk result IsRead }
+    ensures fails { IfErr result LoadFails }
 {
     let bytes = read_file(rt, alloc, path)?;
     let Ok(text) = String::from_utf8(bytes) else {
@@ -156,7 +170,10 @@ fn load<T: Files>(rt: &T, alloc: Global, path: &str) -> Result<Config, Outcome>
     }
 }
 
-fn read_file<T: Files>(rt: &T, alloc: Global, path: &str) -> Result<Vec<u8>, Outcome> {
+fn read_file<T: Files>(rt: &T, alloc: Global, path: &str) -> Result<Vec<u8>, Outcome>
+    ensures within { IfOk result (λ bytes. length bytes.items ≤ greatest_length) }
+    ensures fails { IfErr result (λ outcome. (outcome ≡ Unreadable) ⊎ (outcome ≡ NoMemory)) }
+{
     let Ok(mut file) = fs::open(rt, path) else {
         return Err(Outcome::Unreadable);
     };
@@ -170,7 +187,11 @@ fn read_file<T: Files>(rt: &T, alloc: Global, path: &str) -> Result<Vec<u8>, Out
 }
 
 /// Reads some more bytes, and answers whether there may be more behind them.
-fn read_chunk<F: Read>(file: &mut F, bytes: &mut Vec<u8>) -> Result<bool, Outcome> {
+fn read_chunk<F: Read>(file: &mut F, bytes: &mut Vec<u8>) -> Result<bool, Outcome>
+    requires { length bytes.old.items ≤ greatest_length }
+    ensures within { length bytes.new.items ≤ greatest_length }
+    ensures fails { IfErr result (λ outcome. (outcome ≡ Unreadable) ⊎ (outcome ≡ NoMemory)) }
+{
     let mut chunk = [0u8; 4096];
     match file.read(&mut chunk) {
         Ok(0) => Ok(false),
@@ -190,36 +211,36 @@ fn read_chunk<F: Read>(file: &mut F, bytes: &mut Vec<u8>) -> Result<bool, Outcom
 
 /// Writes the last text, and answers whether it was taken whole. Once a write of the run failed nothing more is written.
 fn say<S: Sink>(lines: &mut LineSink<S>, text: &mut Vec<u8>, outcome: &Outcome) -> bool
-    requires { TEXT_ROOM ≤ vec_capacity text.old }
+    requires room { TEXT_ROOM ≤ vec_capacity text.old }
+    requires up { lines.old.is_down ≡ false }
+    ensures { HandsText lines.old (text_of outcome.now) result lines.new }
 {
     match outcome {
         Outcome::Done(report) => say_report(lines, text, report),
         Outcome::SinkDown => true,
         Outcome::Usage => {
-            lines
-                .hand(b"tsc: usage: tsc replay CONFIG or tsc serve CONFIG\n")
-                .is_ok()
+            hand_line(
+                lines,
+                b"tsc: usage: tsc replay CONFIG or tsc serve CONFIG\n",
+            )
         }
-        Outcome::Unreadable => {
-            lines
-                .hand(b"tsc: configuration refused: unreadable\n")
-                .is_ok()
-        }
+        Outcome::Unreadable => { hand_line(lines, b"tsc: configuration refused: unreadable\n") }
         Outcome::Configuration(fault) => say_fault(lines, text, *fault),
         Outcome::Script(line) => {
             text.clear();
             put(text, b"tsc: script refused: line ");
             put_number(text, *line);
-            lines.hand(text).is_ok()
+            hand_line(lines, text)
         }
-        Outcome::NoMemory => lines.hand(b"tsc: no memory\n").is_ok(),
-        Outcome::BookFull => lines.hand(b"tsc: book full\n").is_ok(),
+        Outcome::NoMemory => hand_line(lines, b"tsc: no memory\n"),
+        Outcome::BookFull => hand_line(lines, b"tsc: book full\n"),
     }
 }
 
 /// Writes a fault of the configuration by its number, and a fault of its policies as `7.P`.
 fn say_fault<S: Sink>(lines: &mut LineSink<S>, text: &mut Vec<u8>, fault: ConfigFault) -> bool
     requires { TEXT_ROOM ≤ vec_capacity text.old }
+    ensures { HandsText lines.old (codes "tsc: configuration refused: " ++ fault_number fault ++ codes "\n") result lines.new }
 {
     text.clear();
     put(text, b"tsc: configuration refused: ");
@@ -230,41 +251,69 @@ fn say_fault<S: Sink>(lines: &mut LineSink<S>, text: &mut Vec<u8>, fault: Config
         }
         _ => put_number(text, u64::from(fault.number())),
     }
-    lines.hand(text).is_ok()
+    hand_line(lines, text)
 }
 
 /// Writes the nine counts, a line each.
 fn say_report<S: Sink>(lines: &mut LineSink<S>, text: &mut Vec<u8>, report: &Report) -> bool
-    requires { TEXT_ROOM ≤ vec_capacity text.old }
+    requires room { TEXT_ROOM ≤ vec_capacity text.old }
+    requires up { lines.old.is_down ≡ false }
+    ensures { HandsText lines.old (report_text report.now) result lines.new }
 {
-    let rows: [(&[u8], Count); 9] = [
-        (b"received ", Count::Received),
-        (b"handed ", Count::Handed),
-        (b"dropped 1 ", Count::Dropped(Reason::InvalidId)),
-        (b"dropped 2 ", Count::Dropped(Reason::QueueFull)),
-        (b"dropped 3 ", Count::Dropped(Reason::NoMemory)),
-        (b"dropped 4 ", Count::Dropped(Reason::Evicted)),
-        (b"dropped 5 ", Count::Dropped(Reason::NotSampled)),
-        (b"dropped 6 ", Count::Dropped(Reason::LateNotSampled)),
-        (b"dropped 7 ", Count::Dropped(Reason::ExporterDown)),
+    let counts = [
+        Count::Received,
+        Count::Handed,
+        Count::Dropped(Reason::InvalidId),
+        Count::Dropped(Reason::QueueFull),
+        Count::Dropped(Reason::NoMemory),
+        Count::Dropped(Reason::Evicted),
+        Count::Dropped(Reason::NotSampled),
+        Count::Dropped(Reason::LateNotSampled),
+        Count::Dropped(Reason::ExporterDown),
     ];
     let mut written = true;
-    for (name, what) in rows {
-        written = say_count(lines, text, name, report.number(what)) && written;
+    for what in counts {
+        written = say_count(lines, text, what, report.number(what)) && written;
     }
     written
 }
 
 /// Writes a count behind its name.
-fn say_count<S: Sink>(lines: &mut LineSink<S>, text: &mut Vec<u8>, name: &[u8], number: u64) -> bool
-    requires room { TEXT_ROOM ≤ vec_capacity text.old }
-    requires short { length name.now ≤ 10 }
+fn say_count<S: Sink>(lines: &mut LineSink<S>, text: &mut Vec<u8>, what: Count, number: u64) -> bool
+    requires { TEXT_ROOM ≤ vec_capacity text.old }
     ensures room { TEXT_ROOM ≤ vec_capacity text.new }
+    ensures hands { HandsText lines.old (name_of what ++ decimal number ++ codes "\n") result lines.new }
 {
     text.clear();
-    put(text, name);
+    put(text, name_of(what));
     put_number(text, number);
-    lines.hand(text).is_ok()
+    hand_line(lines, text)
+}
+
+/// The name of a count, and a space.
+fn name_of(what: Count) -> &'static [u8]
+    ensures name { result.now ≡ name_of what }
+    ensures short { length result.now ≤ 10 }
+{
+    match what {
+        Count::Received => b"received ",
+        Count::Handed => b"handed ",
+        Count::Dropped(Reason::InvalidId) => b"dropped 1 ",
+        Count::Dropped(Reason::QueueFull) => b"dropped 2 ",
+        Count::Dropped(Reason::NoMemory) => b"dropped 3 ",
+        Count::Dropped(Reason::Evicted) => b"dropped 4 ",
+        Count::Dropped(Reason::NotSampled) => b"dropped 5 ",
+        Count::Dropped(Reason::LateNotSampled) => b"dropped 6 ",
+        Count::Dropped(Reason::ExporterDown) => b"dropped 7 ",
+    }
+}
+
+/// Hands over a line, and answers whether it was taken whole.
+fn hand_line<S: Sink>(lines: &mut LineSink<S>, line: &[u8]) -> bool
+    requires { 0 < length line.now }
+    ensures { HandsText lines.old line.now result lines.new }
+{
+    lines.hand(line).is_ok()
 }
 
 /// Appends a number and a line feed.

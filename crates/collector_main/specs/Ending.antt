@@ -1,0 +1,182 @@
+-- The last text and the exit status, and how each outcome arises.
+use Rattle.std.specs.Prelude.{◌≡◌, ◌≢◌, ◌⊎◌, ⊤, ◌++◌, ◌≤◌, ◌<◌, ℕ, Bool, true, false, not, List, [], ◌∷◌, map, length, slice_index, Option, Result, Ok, Err, codes, decimal}
+use Rattle.std.specs.List.{concat}
+use Rattle.std.specs.Io.KnownBytes.{Appends}
+use Rattle.std.specs.Str.{bytes_eq}
+use Rattle.span_ids.specs.declared.outcome.Reason.TheVariants.{InvalidId, QueueFull, NoMemory as Unallocated, Evicted, NotSampled, LateNotSampled, ExporterDown}
+use Rattle.span_sink.specs.LineSinks.{LineSinkState}
+use Rattle.drop_ledger.specs.Places.{place_of}
+use Rattle.drop_ledger.specs.declared.count.Count.{Count}
+use Rattle.drop_ledger.specs.declared.count.Count.TheVariants.{Received, Handed, Dropped}
+use Rattle.drop_ledger.specs.declared.report.Report.{Report}
+use Rattle.policy_tree.specs.Faults.{number_of as number_of_policy_fault}
+use Rattle.tsc_config.specs.Faults.{number_of}
+use Rattle.tsc_config.specs.Reading.{reading}
+use Rattle.tsc_config.specs.declared.config.Config.{Config}
+use Rattle.tsc_config.specs.declared.fault.ConfigFault.{ConfigFault}
+use Rattle.tsc_config.specs.declared.fault.ConfigFault.TheVariants.{Policy, NoMemory as ReadsNothing}
+use Rattle.collector_main.specs.declared.fault.RunFault.{RunFault}
+use Rattle.collector_main.specs.declared.program.Outcome.{Outcome}
+use Rattle.collector_main.specs.declared.program.Outcome.TheVariants.{Done, SinkDown, Usage, Unreadable, Configuration, Script, NoMemory, BookFull}
+use Rattle.collector_main.specs.Outcomes.{outcome_of, exit_status}
+use Rattle.collector_main.specs.Replay.{RunEnds, settings_by}
+
+-- ---- the last text
+
+-- the counts in the order of a report
+abbrev pub counts : List Count
+counts =
+    Received
+    ∷ Handed
+    ∷ Dropped InvalidId
+    ∷ Dropped QueueFull
+    ∷ Dropped Unallocated
+    ∷ Dropped Evicted
+    ∷ Dropped NotSampled
+    ∷ Dropped LateNotSampled
+    ∷ Dropped ExporterDown
+    ∷ []
+
+-- the name of a count and a space; what was dropped, by its reason's number
+abbrev pub name_of : Count → List ℕ
+name_of Received = codes "received "
+name_of Handed = codes "handed "
+name_of (Dropped InvalidId) = codes "dropped 1 "
+name_of (Dropped QueueFull) = codes "dropped 2 "
+name_of (Dropped Unallocated) = codes "dropped 3 "
+name_of (Dropped Evicted) = codes "dropped 4 "
+name_of (Dropped NotSampled) = codes "dropped 5 "
+name_of (Dropped LateNotSampled) = codes "dropped 6 "
+name_of (Dropped ExporterDown) = codes "dropped 7 "
+
+-- the line of a count: its name, its number and a line feed
+abbrev pub count_line : (report : List ℕ) → Count → List ℕ
+count_line report count = name_of count ++ decimal (slice_index report (place_of count)) ++ codes "\n"
+
+-- the text of a report
+abbrev pub report_text : (report : List ℕ) → List ℕ
+report_text report = concat (map (count_line report) counts)
+
+-- a fault of the configuration by its number, and a fault of its policies as `7.P`
+abbrev pub fault_number : ConfigFault → List ℕ
+fault_number (Policy fault) = codes "7." ++ decimal (number_of_policy_fault fault)
+fault_number fault = decimal (number_of fault)
+
+-- the last text of each outcome: nothing once a write of the run failed
+abbrev pub text_of : Outcome → List ℕ
+text_of (Done report) = report_text report
+text_of SinkDown = []
+text_of Usage = codes "tsc: usage: tsc replay CONFIG or tsc serve CONFIG\n"
+text_of Unreadable = codes "tsc: configuration refused: unreadable\n"
+text_of (Configuration fault) = codes "tsc: configuration refused: " ++ fault_number fault ++ codes "\n"
+text_of (Script line) = codes "tsc: script refused: line " ++ decimal line ++ codes "\n"
+text_of NoMemory = codes "tsc: no memory\n"
+text_of BookFull = codes "tsc: book full\n"
+
+-- the first part of a text was taken; it was written exactly where nothing is missing
+pub record WritesText (before : Option (List ℕ)) (text : List ℕ) (written : Bool) (after : Option (List ℕ)) : Type 0 where
+  pub part : List ℕ
+  pub missing : List ℕ
+  pub split : text ≡ part ++ missing
+  pub whole : written ≡ true → missing ≡ []
+  pub cut_short : written ≡ false → 0 < length missing
+  pub bytes : Appends before after part
+
+-- a text was handed, in some lines, to a sink of lines: it is down exactly where the text was not written, and a sink that was down took nothing
+pub record HandsText (old : LineSinkState) (text : List ℕ) (written : Bool) (new : LineSinkState) : Type 0 where
+  pub writes : WritesText old.taken text written new.taken
+  pub down : new.is_down ≡ not written
+  pub stays : old.is_down ≡ true → (new ≡ old) × (written ≡ false)
+
+-- ---- how each outcome arises
+
+-- what the program was given, and what it left of that before its last text: its arguments, what its reader had left, and what its writer had taken
+pub record Course : Type 0 where
+  pub arguments : List (List ℕ)
+  pub unread : Option (List ℕ)
+  pub unread_after : Option (List ℕ)
+  pub taken : Option (List ℕ)
+  pub taken_after : Option (List ℕ)
+
+-- there are two arguments, and the first is `replay`
+abbrev pub asks_replay : (arguments : List (List ℕ)) → Bool
+asks_replay (command ∷ path ∷ []) = bytes_eq command (codes "replay")
+asks_replay _ = false
+
+-- nothing was read of the script, and nothing was written
+abbrev pub NothingDone : Course → Type 0
+NothingDone course = (course.unread_after ≡ course.unread) × (course.taken_after ≡ course.taken)
+
+-- the greatest length of a configuration, in bytes
+abbrev pub greatest_length : ℕ
+greatest_length = 1048576
+
+-- this configuration is what some text of at most the greatest length is read as: no contract knows what a file holds
+abbrev pub IsRead : Config → Type 0
+IsRead config = (text : List ℕ) × (length text ≤ greatest_length) × (reading text ≡ Ok config)
+
+-- some text of at most the greatest length is refused with this fault as its least one; or there was no memory to read it
+abbrev pub IsRefused : ConfigFault → Type 0
+IsRefused fault = (text : List ℕ) × (length text ≤ greatest_length) × (fault ≢ ReadsNothing → reading text ≡ Err fault)
+
+-- a configuration was read, and the run of the script by it had an answer of this outcome
+pub record RanTo (course : Course) (outcome : Outcome) : Type 0 where
+  pub config : Config
+  pub is_read : IsRead config
+  pub failures_after : ℕ
+  pub answer : Result Report RunFault
+  pub ends : RunEnds (record {
+    settings = settings_by config;
+    sizes = record { batch = config.send_batch_size; queue = config.queue_capacity };
+    lanes = config.lanes;
+    shards = config.shards;
+    taken = course.taken;
+    failures = 0;
+    taken_after = course.taken_after;
+    failures_after = failures_after;
+    unread = course.unread;
+    unread_after = course.unread_after;
+  }) answer
+  pub outcome_is : outcome ≡ outcome_of answer
+
+-- how an outcome arises where a replay is asked for: before the script, or by its run
+abbrev pub Replays : Course → Outcome → Type 0
+Replays course Usage = ⊥
+Replays course Unreadable = NothingDone course
+Replays course (Configuration fault) = IsRefused fault × NothingDone course
+Replays course NoMemory = NothingDone course ⊎ RanTo course NoMemory
+Replays course outcome = RanTo course outcome
+
+-- how an outcome arises: the arguments are wrong exactly where no replay is asked for, and then nothing is done
+abbrev pub CameTo : Course → Outcome → Type 0
+CameTo course Usage = (asks_replay course.arguments ≡ false) × NothingDone course
+CameTo course outcome = (asks_replay course.arguments ≡ true) × Replays course outcome
+
+-- how reading the configuration fails
+abbrev pub LoadFails : Outcome → Type 0
+LoadFails Unreadable = ⊤
+LoadFails NoMemory = ⊤
+LoadFails (Configuration fault) = IsRefused fault
+LoadFails _ = ⊥
+
+-- ---- the end of the program
+
+-- the last text was offered to the writer, of which it took a first part, and the exit status is that of the outcome
+abbrev pub Finishes : (taken : Option (List ℕ)) → Outcome → (taken_last : Option (List ℕ)) → (status : ℕ) → Type 0
+Finishes taken outcome taken_last status = (written : Bool) × WritesText taken (text_of outcome) written taken_last × (status ≡ exit_status outcome written)
+
+-- the program did what the arguments say, and then wrote the text of the outcome
+pub record EndsWith (arguments : List (List ℕ)) (unread unread_after taken taken_last : Option (List ℕ)) (status : ℕ) : Type 0 where
+  pub outcome : Outcome
+  pub between : Option (List ℕ)
+  pub came_to : CameTo (record { arguments = arguments; unread = unread; unread_after = unread_after; taken = taken; taken_after = between }) outcome
+  pub finishes : Finishes between outcome taken_last status
+
+-- there was no memory for the last text; nothing was read, and at most the text that says so was written
+abbrev pub HasNoRoom : (unread unread_after taken taken_last : Option (List ℕ)) → (status : ℕ) → Type 0
+HasNoRoom unread unread_after taken taken_last status = (unread_after ≡ unread) × Finishes taken NoMemory taken_last status
+
+-- the end of the program
+abbrev pub Ends : (arguments : List (List ℕ)) → (unread unread_after taken taken_last : Option (List ℕ)) → (status : ℕ) → Type 0
+Ends arguments unread unread_after taken taken_last status =
+    EndsWith arguments unread unread_after taken taken_last status ⊎ HasNoRoom unread unread_after taken taken_last status
