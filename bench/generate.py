@@ -1,0 +1,115 @@
+#!/usr/bin/env python3
+"""Writes a script of requests for `tsc replay` to standard output: generate.py SPANS [SEED].
+
+Each request has 100 spans, of traces of 3 to 8 spans which are spread over neighbouring requests; a span has 10 to 15
+attributes with names of the OpenTelemetry semantic conventions, 5 % of the spans end in an error, and a tick comes each
+second. Requests come over 8 connections, 20 in a second.
+"""
+import json
+import random
+import sys
+
+SPANS_OF_A_REQUEST = 100
+REQUEST_EVERY_MS = 50
+CONNECTIONS = 8
+START_MS = 1_700_000_000_000
+SERVICES = ["checkout", "cart", "payment", "shipping", "catalog", "frontend"]
+ROUTES = ["/cart", "/cart/{id}", "/checkout", "/products/{id}", "/health", "/login"]
+
+
+def text(value):
+    return {"stringValue": value}
+
+
+def whole(value):
+    return {"intValue": str(value)}
+
+
+def attributes(draw):
+    route = draw.choice(ROUTES)
+    every = [
+        ("http.request.method", text(draw.choice(["GET", "POST", "PUT"]))),
+        ("http.route", text(route)),
+        ("url.path", text(route.replace("{id}", str(draw.randrange(10_000))))),
+        ("url.scheme", text("https")),
+        ("http.response.status_code", whole(draw.choice([200, 200, 200, 204, 404, 500]))),
+        ("server.address", text(draw.choice(SERVICES) + ".shop.svc.cluster.local")),
+        ("server.port", whole(8443)),
+        ("client.address", text("10.%d.%d.%d" % (draw.randrange(256), draw.randrange(256), draw.randrange(256)))),
+        ("network.protocol.version", text("1.1")),
+        ("user_agent.original", text("Mozilla/5.0 (X11; Linux x86_64; rv:128.0) Gecko/20100101 Firefox/128.0")),
+        ("thread.id", whole(draw.randrange(64))),
+        ("code.function.name", text("handle_request")),
+        ("db.system.name", text("postgresql")),
+        ("db.operation.name", text(draw.choice(["SELECT", "INSERT", "UPDATE"]))),
+        ("enduser.authenticated", {"boolValue": draw.random() < 0.5}),
+    ]
+    return [{"key": key, "value": value} for key, value in every[: draw.randint(10, 15)]]
+
+
+def span(draw, trace, parent, moment):
+    start = moment * 1_000_000 + draw.randrange(1_000_000)
+    took = int(draw.expovariate(1 / 80.0) * 1_000_000)
+    made = {
+        "traceId": trace,
+        "spanId": "%016x" % draw.randrange(1, 2**64),
+        "name": "GET " + draw.choice(ROUTES),
+        "kind": draw.randint(1, 5),
+        "startTimeUnixNano": str(start),
+        "endTimeUnixNano": str(start + took),
+        "attributes": attributes(draw),
+        "status": {"code": 2, "message": "upstream timed out"} if draw.random() < 0.05 else {},
+    }
+    if parent:
+        made["parentSpanId"] = parent
+    return made
+
+
+def requests(draw, spans):
+    """Lists of spans: about 30 traces are under way at a time, and each next span is of one of them."""
+    under_way = []
+    made = []
+    for _ in range(spans):
+        while len(under_way) < 30:
+            under_way.append(["%032x" % draw.randrange(1, 2**128), draw.randint(3, 8), None])
+        trace = draw.choice(under_way)
+        made.append(trace)
+        trace[1] -= 1
+        if trace[1] == 0:
+            under_way.remove(trace)
+        if len(made) == SPANS_OF_A_REQUEST:
+            yield made
+            made = []
+    if made:
+        yield made
+
+
+def main():
+    spans = int(sys.argv[1])
+    draw = random.Random(int(sys.argv[2]) if len(sys.argv) > 2 else 1)
+    moment = START_MS
+    ticked = moment
+    for number, traces in enumerate(requests(draw, spans)):
+        by_service = {}
+        for trace in traces:
+            one = span(draw, trace[0], trace[2], moment)
+            trace[2] = one["spanId"]
+            by_service.setdefault(draw.choice(SERVICES), []).append(one)
+        body = {
+            "resourceSpans": [
+                {
+                    "resource": {"attributes": [{"key": "service.name", "value": text(service)}]},
+                    "scopeSpans": [{"scope": {"name": "shop", "version": "1.4.2"}, "spans": ones}],
+                }
+                for service, ones in by_service.items()
+            ]
+        }
+        print("recv", number % CONNECTIONS, moment, json.dumps(body, separators=(",", ":")))
+        moment += REQUEST_EVERY_MS
+        while ticked + 1000 <= moment:
+            ticked += 1000
+            print("tick", ticked)
+    print("close")
+
+
+main()
