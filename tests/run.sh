@@ -3,7 +3,7 @@
 # status. In each run that is done, the number of spans received must be the sum of the other eight.
 #     tests/run.sh            proves and builds the program where it has changed, and runs it
 #     tests/run.sh PROGRAM..  runs programs that are built already, as `rt ci` leaves them in crates/collector_main/out
-# It prints a line for each mismatch, and last 'N passed, M failed'. Its status is 1 where something failed.
+# It prints a line for each mismatch, and last 'N passed, M failed'. Its status is 1 where something failed, and 2 where nothing could be compared.
 set -u -o pipefail
 
 # Ends where nothing could be compared.
@@ -42,7 +42,7 @@ tell() {
     fi
 }
 
-# Says at which line a file differs from the expected one.
+# Says where a file differs from the expected one.
 difference() {
     echo "its output differs at $(cmp "$1" "$2" 2>&1 | sed 's/.*\(byte\|EOF\)/\1/')"
 }
@@ -77,21 +77,28 @@ rows() {
     done
 }
 
-# Rows cut after each line: every span received is in one of the other counts.
-cut_rows() {
-    local name row lines line
-    for name in late_spans_follow_sampled cache_of_one_forgets late_span_renews; do
-        row="$top/tests/rows/$name"
-        lines=$(wc -l < "$row/script")
-        for line in $(seq 0 "$lines"); do
-            head -n "$line" "$row/script" > "$work/cut"
-            timeout 60 "$program" replay "$row/config.toml" < "$work/cut" > "$work/out" 2> "$work/err"
-            if [ $? -eq 0 ] && adds_up "$work/out"; then
-                tell "$name" ""
-            else
-                tell "tests/rows/$name cut after line $line" "received is not the sum of the other counts"
-            fi
-        done
+# A script cut after each line: every span received is in one of the other counts.
+cut_script() {
+    local name=$1 config=$2 script=$3 line
+    for line in $(seq 0 "$(wc -l < "$script")"); do
+        head -n "$line" "$script" > "$work/cut"
+        if timeout 60 "$program" replay "$config" < "$work/cut" > "$work/out" && adds_up "$work/out"; then
+            tell "$name" ""
+        else
+            tell "$name cut after line $line" "it isn't done, or received is not the sum of the other counts"
+        fi
+    done
+}
+
+# Rows with late and evicted spans, and each example, cut after each line.
+cut_scripts() {
+    local row name
+    for row in late_spans_follow_sampled cache_of_one_forgets late_span_renews; do
+        cut_script "tests/rows/$row" "$top/tests/rows/$row/config.toml" "$top/tests/rows/$row/script"
+    done
+    for name in "$top"/examples/*.expected; do
+        name=$(basename "$name" .expected)
+        [ ! -e "$top/examples/$name.toml" ] || cut_script "examples/$name" "$top/examples/$name.toml" "$top/examples/$name.script"
     done
 }
 
@@ -114,7 +121,7 @@ report_of_nothing() {
     printf '%s\n' "received 0" "handed 0" "dropped "{1..7}" 0"
 }
 
-# As many zero bytes, as spaces.
+# As many spaces.
 spaces() {
     head -c "$1" /dev/zero | tr '\0' ' '
 }
@@ -169,7 +176,6 @@ unreadable() {
 # Where standard output takes nothing, a run that is done or was writing has status 1, and another case keeps its own.
 no_room() {
     local row="$top/tests/rows/error_span_is_kept"
-    : > "$work/expected"
     check_full "a reply to a full device" 1 "$row/script" replay "$row/config.toml"
     check_full "a report to a full device" 1 /dev/null replay "$row/config.toml"
     check_full "a usage to a full device" 2 /dev/null
@@ -220,7 +226,7 @@ for program in "$@"; do
     program=$(realpath "$program")
     examples
     rows
-    cut_rows
+    cut_scripts
     cut_bodies
     unreadable_script
     long_lines
