@@ -14,7 +14,7 @@ use Rattle.tsc_script.proofs.Weaker.{StopsAfter-weaker}
 use Rattle.collector_main.specs.declared.fault.RunFault.{RunFault}
 use Rattle.collector_main.specs.declared.fault.RunFault.TheVariants.{NoMemory, Refused, Fault, BookFull, SinkDown}
 use Rattle.collector_main.specs.Answers.{AnswersStop}
-use Rattle.collector_main.specs.Replay.{Run, LeadsIn, Played, ClosesWith, Fell, PlayedWhole, StoppedDown, RunEnds}
+use Rattle.collector_main.specs.Replay.{Run, LeadsIn, Played, ClosesWith, FellBefore, PlayedWhole, StoppedDown, RunEnds}
 
 not-true : (b : Bool) → not b ≡ true → b ≡ false
 not-true true e = cc
@@ -45,7 +45,7 @@ module _ (run : Run) (played : Result (Unit {0}) Stop) (up closed : Bool) (last 
     (last_up : up ≡ true → last ≡ up_state run.taken_after run.failures_after)
     (last_down : up ≡ false → last ≡ down_state run.taken_after run.failures_after)
     (to_led : (done : List Instruction) → L done → Led run last report closed done)
-    (to_fell : (done : List Instruction) → F done → Fell run done) where
+    (to_fell : (done : List Instruction) → F done → FellBefore run last report done) where
   -- closed, with the sink as it is
   to_closed : (state : LineSinkState) → last ≡ state → closed ≡ true → (done : List Instruction) → L done → ClosesWith run state report done
   to_closed state e f done l =
@@ -70,8 +70,11 @@ module _ (run : Run) (played : Result (Unit {0}) Stop) (up closed : Bool) (last 
   at_line stop e still = StopsAfter-weaker L (Played run) F F run.unread run.unread_after stop (to_played (up_is ∙ ap is_up_after e ∙ still)) (λ done f. f) (stops stop e)
 
   fell : played ≡ Err Down → StoppedDown run report
-  fell e = StopsAfter-weaker L (ClosesWith run (down_state run.taken_after run.failures_after) report) F (Fell run) run.unread run.unread_after Down
-      (to_closed _ (last_down (up_is ∙ ap is_up_after e)) (down_closed e)) to_fell (stops Down e)
+  fell e =
+      let state = down_state run.taken_after run.failures_after in
+      let is : last ≡ state = last_down (up_is ∙ ap is_up_after e) in
+      StopsAfter-weaker L (ClosesWith run state report) F (FellBefore run state report) run.unread run.unread_after Down
+      (to_closed state is (down_closed e)) (λ done f. let P = λ (k : LineSinkState). FellBefore run k report done in subst P is (to_fell done f)) (stops Down e)
 
   pub run-ends : (answer : Result Report RunFault) → AnswersStop played report answer → RunEnds run answer
   run-ends (Ok numbers) e = subst (PlayedWhole run) e.1 (ended e.0)

@@ -1,11 +1,11 @@
 -- What a run over a script leaves of its sink.
-use Rattle.std.specs.Prelude.{◌≡◌, ◌⊎◌, ◌+◌, ◌/◌, ℕ, true, List, Option, Some, None, Result, Ok, Err, IfSome}
+use Rattle.std.specs.Prelude.{◌≡◌, ◌⊎◌, ◌+◌, ◌/◌, ℕ, true, [], ◌∷◌, ◌++◌, List, Option, Some, None, Result, Ok, Err, IfSome}
 use Rattle.shard_core.specs.Journal.{Settings}
 use Rattle.shard_core.specs.Held.{settings_of}
 use Rattle.tsc_config.specs.declared.config.Config.{Config}
 use Rattle.span_sink.specs.LineSinks.{LineSinkState, up_state, down_state}
 use Rattle.drop_ledger.specs.declared.report.Report.{Report}
-use Rattle.tsc_script.specs.Instructions.{Instruction}
+use Rattle.tsc_script.specs.Instructions.{Instruction, close}
 use Rattle.tsc_script.specs.Script.{instructions_of}
 use Rattle.tsc_script.specs.Progress.{Ends, StopsAt, GoesDown}
 use Rattle.collector_main.specs.declared.fault.RunFault.{RunFault}
@@ -58,18 +58,24 @@ Played run played = (report : Option (List ℕ)) × LeadsIn run played (up_state
 abbrev pub ClosesWith : Run → LineSinkState → Option (List ℕ) → List Instruction → Type 0
 ClosesWith run last report played = (leads : LeadsIn run played last report) × (leads.after.closed ≡ true)
 
--- a write had failed when these instructions had been played
-abbrev pub Fell : Run → List Instruction → Type 0
-Fell run played = (last : LineSinkState) × (report : Option (List ℕ)) × LeadsIn run played last report × (last.is_down ≡ true)
+-- a write had failed when these instructions had been played, and a close behind them, played in the world to which they had led, led to this state of the sink and these counts
+pub record FellBefore (run : Run) (last : LineSinkState) (report : Option (List ℕ)) (played : List Instruction) : Type 0 where
+  pub mid : World
+  pub plays : PlaysAll run.settings run.sizes (new_world run.lanes run.shards (first_state run)) played mid
+  pub is_down : mid.sink.is_down ≡ true
+  pub leads : LeadsIn run (played ++ close ∷ []) last report
+  pub closes : PlaysAll run.settings run.sizes mid (close ∷ []) leads.after
 
 -- the reader was read to its end, all that the script says was played, and no write failed
 abbrev pub PlayedWhole : Run → Option (List ℕ) → Type 0
 PlayedWhole run report = (played : List Instruction) × Ends run.unread run.unread_after played
     × ClosesWith run (up_state run.taken_after run.failures_after) report played
 
--- a write failed: the lines up to then were played, and a close behind them
+-- a write failed: the lines up to then were played, and behind them a close alone
 abbrev pub StoppedDown : Run → Option (List ℕ) → Type 0
-StoppedDown run report = GoesDown (ClosesWith run (down_state run.taken_after run.failures_after) report) (Fell run) run.unread run.unread_after
+StoppedDown run report =
+    let last = down_state run.taken_after run.failures_after in
+    GoesDown (ClosesWith run last report) (FellBefore run last report) run.unread run.unread_after
 
 -- what each answer says of the sink and of the counts
 abbrev pub RunEnds : Run → Result Report RunFault → Type 0

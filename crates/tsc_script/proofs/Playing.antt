@@ -41,6 +41,19 @@ pub record Follows (start now : Option (List ℕ)) (number : ℕ) (done : List I
   pub consumed : Consumes start now used
   pub rest : (more : List ℕ) → instructions_of (used ++ more) ≡ with_all_first done (instructions_from number (lines_of more))
 
+-- nothing was played
+pub Follows-none : (start : Option (List ℕ)) → Follows start (prepend_known [] start) 1 []
+Follows-none start = record {
+  used = [];
+  counted = refl;
+  consumed = none_read start;
+  rest = λ more. refl;
+}
+  where
+    none_read : (known : Option (List ℕ)) → Consumes known (prepend_known [] known) []
+    none_read None = tt
+    none_read (Some bytes) = refl
+
 with_all_first-push : (done : List Instruction) (x : Instruction) (r : Result (List Instruction) ℕ) → with_all_first (done ++ x ∷ []) r ≡ with_all_first done (with_first x r)
 with_all_first-push [] x r = refl
 with_all_first-push (y ∷ ys) x r = ap (with_first y) (with_all_first-push ys x r)

@@ -35,7 +35,7 @@ StopsAt Played before after number =
     ((done : List Instruction) × Begins before after done × (number ≡ 1 + length done) × Played done)
     ⊎ ((done : List Instruction) × Closes before after done × (number ≡ 2 + length done) × Played (done ++ close ∷ []))
 
--- a machine went down, and the last that it played is a close: it went down at the last of the lines that were read, behind which the close was played, or it did so by the close at the script's end; `Fell done` says that it was down when it had played these
+-- a machine went down, and the last that it played is a close: it was down when it had played the last of the lines that were read, and from there the close alone led to the end, or it is down after the close at the script's end; `Fell done` says that these led to a machine that was down, and a close played there to the end
 abbrev pub GoesDown : (List Instruction → Type 0) → (List Instruction → Type 0) → Option (List ℕ) → Option (List ℕ) → Type 0
 GoesDown Played Fell before after =
     (done : List Instruction) × Played (done ++ close ∷ [])

@@ -27,7 +27,7 @@ pub fn play_script<R: Read, M: Machine>(
     reader: &mut R,
     machine: &mut M,
 ) -> Result<(), Stop>
-    requires start { M.leads machine.old [] machine.old }
+    requires start { (m : M) → M.leads m [] m }
     requires open { M.is_closed machine.old ≡ false }
     requires up { M.is_up machine.old ≡ true }
 
@@ -39,7 +39,7 @@ pub fn play_script<R: Read, M: Machine>(
     // Just the lines before were played, and at `Down` a close behind them.
     ensures stopped { IfErr result (StopsAfter
         (λ done. M.leads machine.old done machine.new)
-        (λ done. (fallen : M) × M.leads machine.old done fallen × (M.is_up fallen ≡ false))
+        (λ done. (fallen : M) × M.leads machine.old done fallen × (M.is_up fallen ≡ false) × M.leads fallen (close ∷ []) machine.new)
         (R.remaining reader.old) (R.remaining reader.new)) }
     ensures no_memory { IsErrOf result Stop.NoMemory
         → (machine.new ≡ machine.old) × (reader.new ≡ reader.old) }

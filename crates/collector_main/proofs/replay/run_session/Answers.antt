@@ -1,13 +1,14 @@
-use Rattle.std.proofs.Common.{ℕ, Bool, List, Option, refl, sym, ap, subst, ◌∙◌}
+use Rattle.std.proofs.Common.{ℕ, Bool, [], ◌∷◌, List, Option, refl, sym, ap, subst, ◌∙◌}
 use Rattle.std.specs.Prelude.{not}
 use Rattle.span_sink.specs.LineSinks.{LineSinkState, up_state}
+use Rattle.tsc_script.specs.Instructions.{close}
 use Rattle.collector_main.specs.declared.session.Session.{Session}
-use Rattle.script_run.specs.World.{new_world}
+use Rattle.script_run.specs.World.{new_world, PlaysAll}
 use Rattle.script_run.specs.Counts.{Reports}
 use Rattle.collector_main.specs.Replay.{Run, settings_by}
 use Rattle.collector_main.specs.Pulling.{AreOf}
 use Rattle.collector_main.proofs.Numbers.{Reports-new}
-use Rattle.collector_main.proofs.Leading.{leads_to}
+use Rattle.collector_main.proofs.Leading.{leads_to, fell_before}
 use Rattle.collector_main.proofs.Finish.{run-ends, is_up_state, is_down_state, not-false}
 use Rattle.collector_main.proofs.replay.run_session.Goals as goal
 
@@ -46,6 +47,11 @@ returns g c = λ config can unused new.
     (is_up_state now.exporter.sink run.taken_after run.failures_after c.end.ensures.taken c.end.ensures.failures)
     (is_down_state now.exporter.sink run.taken_after run.failures_after c.end.ensures.taken c.end.ensures.failures)
     (λ done leads. let r = leads.2 s start starts in leads_to s run.sizes run.lanes run.shards first done now.exporter.sink now.report can refl r.0 r.1 (sym r.2.sink_is) r.2.reports now.closed (sym r.2.closed_is))
-    (λ done fell. let r = fell.1.2 s start starts in
-    (fell.0.exporter.sink, fell.0.report, (leads_to s run.sizes run.lanes run.shards first done fell.0.exporter.sink fell.0.report can refl r.0 r.1 (sym r.2.sink_is) r.2.reports r.0.closed refl).0, not-false fell.0.exporter.sink.is_down fell.2))
+    (λ done fell.
+    let r = fell.1.2 s start starts in
+    let ends = fell.3.2 s r.0 r.2 in
+    let B = λ (n : ℕ). PlaysAll s (record { batch = n; queue = fell.0.queue_capacity }) r.0 (close ∷ []) ends.0 in
+    let Q = λ (n : ℕ). PlaysAll s (record { batch = session.exporter.size; queue = n }) r.0 (close ∷ []) ends.0 in
+    let closes : PlaysAll s run.sizes r.0 (close ∷ []) ends.0 = subst Q fell.1.1 (subst B fell.1.0 ends.1) in
+    fell_before run done now.exporter.sink now.report can r.0 r.1 (sym (ap (λ (k : LineSinkState). k.is_down) r.2.sink_is) ∙ not-false fell.0.exporter.sink.is_down fell.2) ends.0 closes (sym ends.2.sink_is) ends.2.reports)
     c.end.result.1 c.end.ensures.answer

@@ -3,10 +3,19 @@ use Rattle.std.proofs.KnownBytes.{Consumes-nil}
 use Rattle.tsc_script.specs.declared.limits.TheConstants.{MAX_LINE_BYTES}
 use Rattle.tsc_script.specs.Instructions.{instruction_of_command}
 use Rattle.tsc_script.proofs.Reading.{HasNoLineFeed-append}
-use Rattle.tsc_script.proofs.Playing.{Follows-line, Follows-refused, ended-refused, long-refused}
+use Rattle.tsc_script.proofs.Playing.{Follows-none, Follows-line, Follows-refused, ended-refused, long-refused}
 use Rattle.tsc_script.proofs.Last.{command-goes_on, command-open}
 use Rattle.tsc_script.proofs.Exits.{begins, stops_at, closes, closed-stopped, close-whole, close-refused, input-whole, input-refused, input-stopped, played_last, IfErr-played_last}
 use Rattle.tsc_script.proofs.play.play_script.Goals as goal
+
+-- before the first line
+pub loop-number-init : goal.loop-number-init
+loop-number-init g c = record {
+  room = c.in-Ok.ensures.capacity;
+  played = ([], rw c.in-Ok-new.ensures (Follows-none (g.R.Read.remaining c.args.reader.now)), c.requires.start c.args.machine.now);
+  still_open = c.requires.open;
+  still_up = c.requires.up;
+}
 
 -- the text behind the last line feed
 pub returns-in-Input-clause-whole : goal.returns-in-Input-clause-whole
@@ -107,7 +116,12 @@ returns-then-not-play-2-clause-stopped g c =
             (Follows-line _ _ _ _ _ c.read_line.new.line.items _ c.loop-number.invariant.played.1 (c.in-LineFeed.ensures.line_feed refl) c.in-LineFeed.ensures.plain.0
             (rw (← c.deref-in-loop-number.ensures.value) (sym c.in-Some.ensures)) (command-goes_on _ c.in_default-command.not-Close))
             (Consumes-nil _),
-        (c.play-in-loop-number.new.self, played, sym c.play-in-loop-number.ensures.up ∙ c.if-not-play-2.true),
+        (
+          c.play-in-loop-number.new.self,
+          played,
+          sym c.play-in-loop-number.ensures.up ∙ c.if-not-play-2.true,
+          c.play-then-not-play-2.ensures.played _ _ (c.requires.start c.play-in-loop-number.new.self),
+        ),
       ),
     )
 
