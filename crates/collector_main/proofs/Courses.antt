@@ -1,5 +1,5 @@
 -- How the outcome of a run arises.
-use Rattle.std.proofs.Common.{◌≡◌, ◌≤◌, ◌<◌, ℕ, Bool, true, false, not, List, [], ◌∷◌, length, map, Option, Some, Result, Ok, Err, refl, sym, ap, subst, ◌∙◌, arith, inl, inr}
+use Rattle.std.proofs.Common.{◌≡◌, ◌≤◌, ◌<◌, ℕ, Bool, true, false, not, List, [], ◌∷◌, length, map, Option, Result, Ok, Err, refl, sym, ap, subst, ◌∙◌, arith, inr}
 use Rattle.std.specs.Prelude.{codes, get_or}
 use Rattle.std.specs.Str.{bytes_eq}
 use Rattle.drop_ledger.specs.declared.report.Report.{Report}
@@ -10,7 +10,7 @@ use Rattle.collector_main.specs.declared.fault.RunFault.TheVariants.{NoMemory, R
 use Rattle.collector_main.specs.declared.program.Outcome.{Outcome}
 use Rattle.collector_main.specs.Outcomes.{outcome_of}
 use Rattle.collector_main.specs.Replay.{Run, RunEnds, settings_by}
-use Rattle.collector_main.specs.Ending.{Course, RanTo, CameTo, IsRead, asks_replay}
+use Rattle.collector_main.specs.Ending.{Course, CameTo, IsRead, asks_replay}
 
 -- two arguments ask for a replay where the first is `replay`
 pub asks-two : {X : Type 0} (f : X → List ℕ) (arguments : List X) (command : X) (text : List ℕ) (differs : Bool) → 2 ≤ length arguments → length arguments < 3

@@ -1,4 +1,4 @@
-use Rattle.std.proofs.Common.{◌≡◌, Bool, true, false, refl, ◌∙◌}
+use Rattle.std.proofs.Common.{◌≡◌, true, false, refl, ◌∙◌}
 use Rattle.std.specs.Prelude.{get_or}
 use Rattle.drop_ledger.specs.declared.count.Count.TheVariants.{Received}
 use Rattle.collector_main.specs.Ending.{counts}
