@@ -22,7 +22,7 @@ use Rattle.script_run.specs.Counts.{number_of}
 use Rattle.script_run.specs.World.{World, Sizes, Event, replied, was_sent, RunsToQuiet, RepliesAndRuns, Answers, Receives, Plays, PlaysAll, new_world, after_reply, after_receiving, empty_queues}
 use Rattle.script_run.specs.Writing.{Writes, WritesAll}
 use Rattle.script_run.specs.Calm.{is_refusal, Calm}
-use Rattle.script_run.specs.Laws.{CalmRunsAgree}
+use Rattle.script_run.specs.Laws.{CalmScriptsAgree, CalmRunsAgree}
 use Rattle.script_run.proofs.Writing.{has_written}
 use Rattle.script_run.proofs.Calm.{all_right, up_before_all, calm_reply, calm_before}
 use Rattle.script_run.proofs.Agreeing.{rounds_same, all_handed, batches_same, pushes_same, reading_same}
@@ -183,3 +183,9 @@ calm_runs_agree unique s sizes lanes shards first played a b h g c d =
       sink = λ bytes known. all_writes_same unique a.events bytes first a.sink b.sink known c.up d.up (has_written s sizes first played lanes shards a was_up h).0
           (subst (λ (z : List Event). WritesAll first z b.sink) events (has_written s sizes first played lanes shards b was_up g).0);
     }
+
+-- a script's bytes say one list of instructions
+pub scripts_agree : CalmRunsAgree → CalmScriptsAgree
+scripts_agree agree s sizes lanes shards first script m n a b says says_too h g c d =
+    let same : n ≡ m = let e = sym says_too ∙ says in cc e in
+    agree s sizes lanes shards first m a b h (subst (λ (z : List Instruction). PlaysAll s sizes (new_world lanes shards first) z b) same g) c d

@@ -1,9 +1,10 @@
 -- What holds of every script that is played.
-use Rattle.std.specs.Prelude.{◌≡◌, ℕ, ◌+◌, ◌<◌, false, List, Some}
+use Rattle.std.specs.Prelude.{◌≡◌, ℕ, ◌+◌, ◌<◌, false, List, Some, Ok}
 use Rattle.shard_core.specs.Journal.{Settings}
 use Rattle.span_sink.specs.LineSinks.{LineSinkState}
 use Rattle.span_world.specs.World.{KeepsATrace}
 use Rattle.tsc_script.specs.Instructions.{Instruction}
+use Rattle.tsc_script.specs.Script.{instructions_of}
 use Rattle.script_run.specs.World.{World, Sizes, new_world, PlaysAll}
 use Rattle.script_run.specs.Writing.{WritesAll, FailedOnce}
 use Rattle.script_run.specs.CoreRun.{core_config, IsRunOfCore}
@@ -46,3 +47,9 @@ pub record Agrees (s : Settings) (first : LineSinkState) (a b : World) : Type 0 
 abbrev pub CalmRunsAgree : Type 0
 CalmRunsAgree = (s : Settings) (sizes : Sizes) (lanes shards : ℕ) (first : LineSinkState) (played : List Instruction) (a b : World)
     → PlaysAll s sizes (new_world lanes shards first) played a → PlaysAll s sizes (new_world lanes shards first) played b → Calm a → Calm b → Agrees s first a b
+
+-- so two runs of one script's bytes do the same
+abbrev pub CalmScriptsAgree : Type 0
+CalmScriptsAgree = (s : Settings) (sizes : Sizes) (lanes shards : ℕ) (first : LineSinkState) (script : List ℕ) (m n : List Instruction) (a b : World)
+    → instructions_of script ≡ Ok m → instructions_of script ≡ Ok n → PlaysAll s sizes (new_world lanes shards first) m a → PlaysAll s sizes (new_world lanes shards first) n b
+    → Calm a → Calm b → Agrees s first a b

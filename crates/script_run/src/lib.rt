@@ -5,7 +5,7 @@
 //! of each is a law of all scripts.
 #![tactic(auto)]
 
-ghost use Rattle.script_run.specs.Laws.{CalmRunsAgree, EachIsARunOfCore, EachWritesItsEvents};
+ghost use Rattle.script_run.specs.Laws.{CalmRunsAgree, CalmScriptsAgree, EachIsARunOfCore, EachWritesItsEvents};
 
 /// The sink has the lines of the replies and of the batches that were handed over, in turn, and after a failed write
 /// nothing more.
@@ -27,4 +27,12 @@ pub fn calm_runs_agree()
     ensures { CalmRunsAgree }
 {
     span_batch::line_is_unique();
+}
+
+/// So where in neither run memory was refused or a write failed, what is received, taken, counted and written is one
+/// function of the script's bytes.
+pub fn calm_scripts_agree()
+    ensures { CalmScriptsAgree }
+{
+    calm_runs_agree();
 }
