@@ -10,7 +10,7 @@ use std::marker::Model;
 use std::num::NonZeroUsize;
 
 /// The last episodes, at most as many as its limit.
-#[derive(Drop)]
+#[derive(Debug, Drop)]
 pub struct TraceBuffer {
     alloc: Global,
     /// The episodes under their traces, the last opened first. A look-up leaves the order as it is.
