@@ -13,3 +13,4 @@ pub mod Finish
 pub mod Leading
 pub mod Texts
 pub mod Courses
+mod Whole

@@ -1,5 +1,5 @@
 //! The program: its arguments, its configuration, its texts and its exit status.
-ghost use Rattle.std.specs.Prelude.{◌≡◌, ◌⊎◌, ◌+◌, ◌≤◌, ◌<◌, ◌++◌, map, false, IfOk, IfErr, vec_capacity, vec_len, length, decimal, codes, string_bytes};
+ghost use Rattle.std.specs.Prelude.{◌≡◌, ◌⊎◌, ◌+◌, ◌≤◌, ◌<◌, ◌++◌, map, false, IfOk, IfErr, IfSome, vec_capacity, vec_len, length, decimal, codes, string_bytes};
 ghost use Rattle.collector_main.specs.Outcomes.{outcome_of, exit_status};
 ghost use Rattle.collector_main.specs.Ending.{WritesText, HandsText, Finishes, CameTo, Ends, IsRead, LoadFails, text_of, name_of, report_text, fault_number, greatest_length};
 ghost use Rattle.collector_main.specs.declared.program.Outcome.TheVariants.{NoMemory, Unreadable};
@@ -174,37 +174,24 @@ fn read_file<T: Files>(rt: &T, alloc: Global, path: &str) -> Result<Vec<u8>, Out
     ensures within { IfOk result (λ bytes. length bytes.items ≤ greatest_length) }
     ensures fails { IfErr result (λ outcome. (outcome ≡ Unreadable) ⊎ (outcome ≡ NoMemory)) }
 {
-    let Ok(mut file) = fs::open(rt, path) else {
-        return Err(Outcome::Unreadable);
-    };
-    let mut bytes = Vec::new(alloc);
-    for _ in 0..u64::MAX {
-        if !read_chunk(&mut file, &mut bytes)? {
-            return Ok(bytes);
-        }
+    match fs::open(rt, path) {
+        Ok(file) => read_whole(alloc, file),
+        Err(_) => Err(Outcome::Unreadable),
     }
-    Err(Outcome::Unreadable)
 }
 
-/// Reads some more bytes, and answers whether there may be more behind them.
-fn read_chunk<F: Read>(file: &mut F, bytes: &mut Vec<u8>) -> Result<bool, Outcome>
-    requires { length bytes.old.items ≤ greatest_length }
-    ensures within { length bytes.new.items ≤ greatest_length }
+/// Reads a configuration to its end, and refuses one that is too long.
+fn read_whole<F: Read + Drop>(alloc: Global, file: F) -> Result<Vec<u8>, Outcome>
+    ensures whole { IfOk result (λ bytes. IfSome (F.Read.remaining file) (λ text. bytes.items ≡ text)) }
+    ensures within { IfOk result (λ bytes. length bytes.items ≤ greatest_length) }
     ensures fails { IfErr result (λ outcome. (outcome ≡ Unreadable) ⊎ (outcome ≡ NoMemory)) }
 {
-    let mut chunk = [0u8; 4096];
-    match file.read(&mut chunk) {
-        Ok(0) => Ok(false),
-        Ok(count) => {
-            if bytes.len() > MAX_CONFIG_LEN || count > MAX_CONFIG_LEN - bytes.len() {
-                return Err(Outcome::Unreadable);
-            }
-            match bytes.extend_from_slice(&chunk[..count]) {
-                Ok(()) => Ok(true),
-                Err(_) => Err(Outcome::NoMemory),
-            }
-        }
-        Err(error) if error.kind() == ErrorKind::Interrupted => Ok(true),
+    let mut bytes = Vec::new(alloc);
+    let mut start = file.take(MAX_CONFIG_LEN as u64 + 1);
+    match start.read_to_end(&mut bytes) {
+        Ok(_) if bytes.len() <= MAX_CONFIG_LEN => Ok(bytes),
+        Ok(_) => Err(Outcome::Unreadable),
+        Err(error) if error.kind() == ErrorKind::OutOfMemory => Err(Outcome::NoMemory),
         Err(_) => Err(Outcome::Unreadable),
     }
 }

@@ -24,7 +24,8 @@ use tsc_script::play_script;
 
 /// Runs a script, and gives the sink back. A connection is served by the lane of its number modulo the number of lanes.
 ///
-/// A reply line and the lines of batches go to the sink, line by line as the script goes on.
+/// A reply line and the lines of batches go to the sink, line by line as the script goes on. Where the type of the reader or
+/// of the sink doesn't tell its bytes (`remaining`, `taken`), nothing is claimed of them.
 pub fn replay_run<R: Read, S: Sink>(
     alloc: Global,
     config: Config,

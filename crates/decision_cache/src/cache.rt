@@ -6,7 +6,7 @@ use std::alloc::{AllocError, Global};
 use std::marker::Model;
 
 /// The traces that are remembered as sampled, and those remembered as not sampled.
-#[derive(Drop)]
+#[derive(Debug, Drop)]
 pub struct DecisionCache {
     sampled: Traces,
     not_sampled: Traces,

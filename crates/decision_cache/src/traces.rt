@@ -19,7 +19,7 @@ pub enum Remembered {
 }
 
 /// The traces of one verdict, the last touched first.
-#[derive(Drop)]
+#[derive(Debug, Drop)]
 pub struct Traces {
     /// None where there is room for none.
     cache: Option<LruCache<TraceId, ()>>,

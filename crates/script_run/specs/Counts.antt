@@ -1,4 +1,4 @@
--- How many spans of a script have each end.
+-- How many spans of a script were received, and how many have each end.
 use Rattle.std.specs.Prelude.{◌≡◌, ℕ, ◌+◌, ◌^◌, ◌<◌, ◌≤◌, if◌then◌else◌, List, length, filter, slice_index, Option, Some, None}
 use Rattle.std.specs.List.{sum_by}
 use Rattle.span_ids.specs.declared.outcome.Reason.{Reason}
@@ -46,7 +46,7 @@ abbrev pub counted_at : Count → Event → ℕ
 counted_at count (replied reply) = 0
 counted_at count (was_sent sent) = counted_for count sent.flushed
 
--- how many spans have this end
+-- how many spans a report counts so: received, or with this end
 abbrev pub number_of : Settings → World → Count → ℕ
 number_of s w count = counted_at_lanes w count + (counted_at_shards s w.journals count + sum_by (counted_at count) w.events)
 

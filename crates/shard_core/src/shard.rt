@@ -22,7 +22,7 @@ use trace_buffer::{Evicted, State, TraceBuffer};
 /// Its clock is the greatest moment of the spans and ticks that it has taken, 0 at first. Its mark is the clock at the
 /// last tick. A caller hands it an item by `take`, then calls `decide` until the answer is `Nothing`, and so on until
 /// `take` answers `Finished` and the last traces are decided.
-#[derive(Drop)]
+#[derive(Debug, Drop)]
 pub struct Shard {
     policies: Policies,
     wait: Moment,
@@ -141,6 +141,7 @@ impl Shard {
         ensures policies { self.new.policies ≡ self.old.policies }
         ensures settings { settings self.new ≡ settings self.old }
     {
+        // A look at a field: what holds of every shard is known below.
         let _ = &self.policies;
         match item {
             Item::Span(arrival) => self.take_span(arrival),

@@ -1,2 +1,5 @@
+mod Holding
 mod Lists
-mod Settling
+mod Opening
+mod Waiting
+mod Writing

@@ -1,5 +1,5 @@
 -- A buffer of episodes, the oldest first.
-use Rattle.std.specs.Prelude.{ℕ, ◌≡◌, ◌+◌, ◌==◌, Bool, true, false, ◌&&◌, nat_le, is_none, if◌then◌else◌, List, [], ◌∷◌, ◌++◌, length, drop, find, Option, Some, None, Result, Ok, Err, slice_get, slice_set, option_map}
+use Rattle.std.specs.Prelude.{ℕ, ◌≡◌, ◌+◌, ◌==◌, Bool, true, false, ◌&&◌, nat_le, is_none, if◌then◌else◌, List, [], ◌∷◌, ◌++◌, length, drop, find, Option, Some, None, Result, Ok, Err, slice_get, option_map}
 use Rattle.std.specs.List.{list_all}
 use Rattle.span_ids.specs.Same.{same_trace}
 use Rattle.span_ids.specs.declared.ids.TraceId.{TraceId}
@@ -89,10 +89,6 @@ settle_first mark wait v (e ∷ rest) = if is_due_at mark wait e then settled v 
 abbrev pub with_settled : (mark wait : ℕ) → Verdict → Buffer → Buffer
 with_settled mark wait v b = record b { episodes = settle_first mark wait v b.episodes }
 
--- the episode at i is decided, and its spans are handed out
-abbrev pub SettlesAt : (old : List Episode) → ℕ → Verdict → List Arrival → (new : List Episode) → Type 0
-SettlesAt old i v spans new = (e : Episode) → slice_get old i ≡ Some e → (spans ≡ e.spans) × (new ≡ slice_set old i (settled v e))
-
 -- an episode that was just opened goes in, or its arrival comes back
 abbrev pub Puts : (old : Buffer) → Episode → {E : Type 0} → Result (Option Evicted) (Arrival × E) → (new : Buffer) → Type 0
 Puts old e (Ok evicted) new = (evicted ≡ leaves old) × (new ≡ after_opening old e)
@@ -131,10 +127,6 @@ Appended old a (Some ids) clock r new = AppendedTo old a clock ids.trace r new
 abbrev pub with_span_if : Bool → (clock : ℕ) → Arrival → Episode → Episode
 with_span_if true clock a e = with_span clock a e
 with_span_if false clock a e = e
-
--- the episode at i gets the span, where that is kept
-abbrev pub AppendsAt : (old : List Episode) → ℕ → (clock : ℕ) → Arrival → (is_kept : Bool) → (new : List Episode) → Type 0
-AppendsAt old i clock a is_kept new = (e : Episode) → slice_get old i ≡ Some e → new ≡ slice_set old i (with_span_if is_kept clock a e)
 
 -- no episode is of the trace of these ids
 abbrev pub is_new : Option Ids → List Episode → Bool

@@ -1,24 +1,27 @@
-ghost use Rattle.std.specs.Prelude.{◌≡◌, ℕ, [], ◌<◌, ◌≤◌, true, is_ok, is_some, IsSome, length, IfOk, IfErr, position, option_copied, option_map, Some, None, find};
-ghost use Rattle.span_ids.specs.Same.{same_trace};
-ghost use Rattle.trace_buffer.specs.Buffer.{is_due_at};
+ghost use Rattle.std.specs.Prelude.{◌≡◌, [], ◌<◌, true, is_some, IsSome, IfOk, option_copied, option_map, Some, None, find, slice_get};
 
 use crate::episode::{Episode, Evicted, State};
+use lru::LruCache;
 use otlp_types::{Arrival, Ids};
 use span_ids::{Moment, TraceId, Verdict};
 use std::alloc::{AllocError, Global};
+use std::collections::VecDeque;
 use std::marker::Model;
+use std::num::NonZeroUsize;
 
 /// The last episodes, at most as many as its limit.
 #[derive(Debug, Drop)]
 pub struct TraceBuffer {
     alloc: Global,
-    episodes: Vec<Episode>,
-    limit: usize,
+    /// The episodes under their traces, the last opened first. A look-up leaves the order as it is.
+    held: LruCache<TraceId, Episode>,
+    /// The traces that wait for their decision, the first opened first.
+    waiting: VecDeque<TraceId>,
 }
 
 impl Model for TraceBuffer {
-    ghost use Rattle.std.specs.Prelude.{◌<◌, ◌≤◌, length};
     ghost use Rattle.trace_buffer.specs.Buffer.{Buffer};
+    ghost use Rattle.trace_buffer.specs.Held.{buffer_of, AreHeld};
     ghost use Rattle.std.specs.Coded.{codes};
     ghost use Rattle.otlp_types.specs.contracts.value.AnyValue as any_value;
 
@@ -26,23 +29,25 @@ impl Model for TraceBuffer {
 
     ghost coded = { Prim.hlevel (codes, any_value.the_row.coded) };
 
-    ghost view = { λ b. record { episodes = b.episodes.items; limit = b.limit } };
+    ghost view = { λ b. buffer_of b.held };
 
-    ghost invariant = { λ b. (0 < b.limit) × (length b.episodes.items ≤ b.limit) };
+    ghost invariant = { λ b. AreHeld b.held.entries b.waiting.items };
 }
 
 impl TraceBuffer {
-    ghost use Rattle.trace_buffer.specs.Buffer.{state_of, episode_of, with_settled, SettlesAt, Opened, Puts, Appended, AppendsAt, stands_undecided, is_new, opened_by};
+    ghost use Rattle.trace_buffer.specs.Buffer.{state_of, episode_of, is_due_at, with_settled, Opened, Puts, Appended, stands_undecided, is_new, opened_by};
+    ghost use Rattle.trace_buffer.specs.Held.{IsOpened, waits, waiting_in, InOrder};
 
     /// Room for `limit` episodes. Memory is taken as they open.
     pub fn new(alloc: Global, limit: usize) -> Result<TraceBuffer, AllocError>
         requires { 0 < limit }
         ensures { IfOk result (λ b. b ≡ record { episodes = []; limit = limit }) }
     {
+        let limit = NonZeroUsize::new(limit).unwrap();
         Ok(TraceBuffer {
             alloc,
-            episodes: Vec::new(alloc),
-            limit,
+            held: LruCache::sparse(alloc, limit)?,
+            waiting: VecDeque::new(alloc),
         })
     }
 
@@ -50,13 +55,17 @@ impl TraceBuffer {
     pub fn find(&self, id: TraceId) -> Option<State>
         ensures { result ≡ state_of (episode_of id self.now.episodes) }
     {
-        match self.episodes.iter().find(|episode| episode.is_of(id)) {
-            None => None,
-            Some(episode) => match episode.verdict() {
-                None => Some(State::Undecided),
-                Some(verdict) => Some(State::Decided(verdict)),
-            },
+        match self.held_under(id)?.verdict() {
+            None => Some(State::Undecided),
+            Some(verdict) => Some(State::Decided(verdict)),
         }
+    }
+
+    fn held_under(&self, trace: TraceId) -> Option<&Episode>
+        ensures { option_copied result ≡ episode_of trace self.now.episodes }
+    {
+        let _traces_differ = self.held.len();
+        self.held.peek(&trace)
     }
 
     /// Opens an episode of a trace that has none here, at a clock that isn't below the openings of the others, in
@@ -73,25 +82,38 @@ impl TraceBuffer {
     {
         let trace = ids_of(&first).unwrap().trace;
         match Episode::open(self.alloc, trace, clock, first) {
-            Ok(episode) => self.put(episode),
+            Ok(episode) => self.put(trace, episode),
             Err(back) => Err(back),
         }
     }
 
-    fn put(&mut self, episode: Episode) -> Result<Option<Evicted>, (Arrival, AllocError)>
-        requires { length episode.spans ≡ 1 }
+    fn put(
+        &mut self,
+        trace: TraceId,
+        episode: Episode,
+    ) -> Result<Option<Evicted>, (Arrival, AllocError)>
+        requires opened { IsOpened trace episode }
+        requires unknown { episode_of trace self.old.episodes ≡ None }
+        requires clock { opened_by episode.moment self.old.episodes ≡ true }
         ensures { Puts self.old episode result self.new }
     {
-        if self.episodes.len() < self.limit {
-            return match self.episodes.push(episode) {
-                Ok(()) => Ok(None),
-                Err(failed) => Err((failed.value.into_first(), AllocError)),
-            };
+        let _traces_differ = self.held.len();
+        if self.waiting.push_back(trace).is_err() {
+            return Err((episode.into_first(), AllocError));
         }
-        let evicted = self.episodes.remove(0).evicted();
-        match self.episodes.push(episode) {
-            Ok(()) => Ok(Some(evicted)),
-            Err(_) => unreachable!(),
+        match self.held.push(trace, episode) {
+            Ok(None) => Ok(None),
+            Ok(Some((_, oldest))) => {
+                if oldest.verdict().is_none() {
+                    self.waiting.pop_front();
+                }
+                Ok(Some(oldest.evicted()))
+            }
+            Err(failed) => {
+                self.waiting.pop_back();
+                let (_, back) = failed.value;
+                Err((back.into_first(), AllocError))
+            }
         }
     }
 
@@ -102,30 +124,8 @@ impl TraceBuffer {
         ensures { Appended self.old arrival arrival.rec.span.ids clock result self.new }
     {
         let trace = ids_of(&arrival).unwrap().trace;
-        let place = self.place(trace).unwrap();
-        self.append_at(place, arrival, clock)
-    }
-
-    fn place(&self, trace: TraceId) -> Option<usize>
-        ensures { result ≡ position (λ e. same_trace e.trace trace) self.now.episodes }
-    {
-        self.episodes
-            .iter()
-            .position(|episode| episode.is_of(trace))
-    }
-
-    fn append_at(
-        &mut self,
-        i: usize,
-        arrival: Arrival,
-        clock: Moment,
-    ) -> Result<(), (Arrival, AllocError)>
-        requires { i < length self.old.episodes }
-        ensures appends { AppendsAt self.old.episodes i clock arrival (is_ok result) self.new.episodes }
-        ensures back { IfErr result (λ back. back.0 ≡ arrival) }
-        ensures limit { self.new.limit ≡ self.old.limit }
-    {
-        self.episodes[i].append(arrival, clock)
+        let _traces_differ = self.held.len();
+        self.held.peek_mut(&trace).unwrap().append(arrival, clock)
     }
 
     /// The episode that opened first of those that are undecided and had waited at least `wait` milliseconds at the
@@ -133,9 +133,26 @@ impl TraceBuffer {
     pub fn next_due(&self, mark: Moment, wait: Moment) -> Option<&Episode>
         ensures { option_copied result ≡ find (is_due_at mark wait) self.now.episodes }
     {
-        self.episodes
-            .iter()
-            .find(|episode| is_due_at(episode, mark, wait))
+        let episode = self.first_waiting()?;
+        if mark >= wait && episode.moment() <= mark - wait {
+            Some(episode)
+        } else {
+            None
+        }
+    }
+
+    fn first_waiting(&self) -> Option<&Episode>
+        ensures first { option_copied result ≡ find waits self.now.episodes }
+        ensures order { InOrder self.now.episodes }
+    {
+        let _traces_differ = self.held.len();
+        self.held.peek(&self.first_trace()?)
+    }
+
+    fn first_trace(&self) -> Option<TraceId>
+        ensures { result ≡ slice_get (waiting_in self.now.episodes) 0 }
+    {
+        self.waiting.front().copied()
     }
 
     /// Decides the episode that `next_due` answers, and hands its spans out in order of arrival. It takes no memory.
@@ -144,31 +161,10 @@ impl TraceBuffer {
         ensures spans { Some result.items ≡ option_map (λ e. e.spans) (find (is_due_at mark wait) self.old.episodes) }
         ensures after { self.new ≡ with_settled mark wait verdict self.old }
     {
-        let place = self.first_due(mark, wait).unwrap();
-        self.settle_at(place, verdict)
+        let _traces_differ = self.held.len();
+        let trace = self.waiting.pop_front().unwrap();
+        self.held.peek_mut(&trace).unwrap().settle(verdict)
     }
-
-    fn first_due(&self, mark: Moment, wait: Moment) -> Option<usize>
-        ensures { result ≡ position (is_due_at mark wait) self.now.episodes }
-    {
-        self.episodes
-            .iter()
-            .position(|episode| is_due_at(episode, mark, wait))
-    }
-
-    fn settle_at(&mut self, i: usize, verdict: Verdict) -> Vec<Arrival>
-        requires { i < length self.old.episodes }
-        ensures settles { SettlesAt self.old.episodes i verdict result.items self.new.episodes }
-        ensures limit { self.new.limit ≡ self.old.limit }
-    {
-        self.episodes[i].settle(verdict)
-    }
-}
-
-fn is_due_at(episode: &Episode, mark: Moment, wait: Moment) -> bool
-    ensures { result ≡ is_due_at mark wait episode.now }
-{
-    episode.verdict().is_none() && mark >= wait && episode.moment() <= mark - wait
 }
 
 fn ids_of(arrival: &Arrival) -> Option<Ids>
