@@ -155,6 +155,8 @@ usage() {
     check "three arguments" 2 "$work/expected" /dev/null "$program" replay "$top/examples/errors.toml" more
     check "another command" 2 "$work/expected" /dev/null "$program" play "$top/examples/errors.toml"
     check "an empty command" 2 "$work/expected" /dev/null "$program" "" "$top/examples/errors.toml"
+    check "a command that isn't UTF-8" 2 "$work/expected" /dev/null "$program" $'\377' "$top/examples/errors.toml"
+    check "a configuration's name that isn't UTF-8" 2 "$work/expected" /dev/null "$program" replay $'\377'
 }
 
 # A configuration that can't be read, isn't UTF-8, or is a byte too long; and one of the greatest length.

@@ -16,16 +16,29 @@ mod taking;
 #[cfg(test)]
 mod tests;
 
-use crate::program::program;
+use crate::program::{program, without_memory};
+use std::alloc::{Alloc, Global};
+use std::io::ErrorKind;
 use std::process::ExitCode;
+use std::rt::Env;
 use std::{env, io};
 
-fn main(rt: HostRuntime) -> io::Result<ExitCode> {
+fn main(rt: HostRuntime) -> ExitCode {
+    let mut input = rt.stdin();
+    let (_, status) = match arguments(&rt) {
+        Ok(arguments) => program(&rt, rt.alloc(), &arguments, &mut input, rt.stdout()),
+        Err(error) if error.kind() == ErrorKind::OutOfMemory => (without_memory(rt.stdout()), 5),
+        // One isn't UTF-8.
+        Err(_) => program(&rt, rt.alloc(), &[], &mut input, rt.stdout()),
+    };
+    ExitCode::from(status)
+}
+
+/// The arguments behind the program's own name.
+fn arguments<R: Env + Alloc<A = Global>>(rt: &R) -> io::Result<Vec<String>> {
     let mut arguments = Vec::new(rt.alloc());
-    for argument in env::args(&rt)?.skip(1) {
+    for argument in env::args(rt)?.skip(1) {
         arguments.push(argument)?;
     }
-    let mut input = rt.stdin();
-    let (_, status) = program(&rt, rt.alloc(), &arguments, &mut input, rt.stdout());
-    Ok(ExitCode::from(status))
+    Ok(arguments)
 }

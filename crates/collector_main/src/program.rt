@@ -62,7 +62,7 @@ pub fn program<T: Files, R: Read, W: Write>(
 }
 
 /// Writes that there is no memory, and gives the writer back.
-fn without_memory<W: Write>(writer: W) -> W
+pub fn without_memory<W: Write>(writer: W) -> W
     ensures { Finishes (W.contents writer) NoMemory (W.contents result) 5 }
 {
     let mut lines = LineSink::new(WriteSink::new(writer));

@@ -12,7 +12,8 @@ pub enum PolicyFault {
     TooMany,
     /// 4: two policies of one list have the same name.
     SameName,
-    /// 5: a least bound is above its greatest one.
+    /// 5: two bounds leave nothing between them: an upper latency that isn't above the threshold, or a greatest number
+    /// below the least (an upper latency or a greatest number of spans that is 0 is no bound).
     CrossedBounds,
     /// 6: the values or status codes of a policy are an empty list.
     NoValues,

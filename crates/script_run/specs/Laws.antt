@@ -1,10 +1,11 @@
 -- What holds of every script that is played.
-use Rattle.std.specs.Prelude.{◌≡◌, ℕ, ◌+◌, ◌<◌, false, List, Some, Ok}
+use Rattle.std.specs.Prelude.{◌≡◌, ℕ, ◌+◌, ◌<◌, false, List, Option, Some, Ok}
 use Rattle.shard_core.specs.Journal.{Settings}
 use Rattle.span_sink.specs.LineSinks.{LineSinkState}
 use Rattle.span_world.specs.World.{KeepsATrace}
 use Rattle.tsc_script.specs.Instructions.{Instruction}
 use Rattle.tsc_script.specs.Script.{instructions_of}
+use Rattle.tsc_script.specs.Progress.{StopsAt}
 use Rattle.script_run.specs.World.{World, Sizes, new_world, PlaysAll}
 use Rattle.script_run.specs.Writing.{WritesAll, FailedOnce}
 use Rattle.script_run.specs.CoreRun.{core_config, IsRunOfCore}
@@ -52,4 +53,11 @@ CalmRunsAgree = (s : Settings) (sizes : Sizes) (lanes shards : ℕ) (first : Lin
 abbrev pub CalmScriptsAgree : Type 0
 CalmScriptsAgree = (s : Settings) (sizes : Sizes) (lanes shards : ℕ) (first : LineSinkState) (script : List ℕ) (m n : List Instruction) (a b : World)
     → instructions_of script ≡ Ok m → instructions_of script ≡ Ok n → PlaysAll s sizes (new_world lanes shards first) m a → PlaysAll s sizes (new_world lanes shards first) n b
+    → Calm a → Calm b → Agrees s first a b
+
+-- and so do two runs over one script's bytes that stopped at the same line, as at the first that is refused
+abbrev pub CalmStopsAgree : Type 0
+CalmStopsAgree = (s : Settings) (sizes : Sizes) (lanes shards : ℕ) (first : LineSinkState) (script : List ℕ) (left right : Option (List ℕ)) (number : ℕ) (a b : World)
+    → StopsAt (λ m. PlaysAll s sizes (new_world lanes shards first) m a) (Some script) left number
+    → StopsAt (λ m. PlaysAll s sizes (new_world lanes shards first) m b) (Some script) right number
     → Calm a → Calm b → Agrees s first a b

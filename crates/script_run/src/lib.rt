@@ -5,10 +5,10 @@
 //! of each is a law of all scripts.
 #![tactic(auto)]
 
-ghost use Rattle.script_run.specs.Laws.{CalmRunsAgree, CalmScriptsAgree, EachIsARunOfCore, EachWritesItsEvents};
+ghost use Rattle.script_run.specs.Laws.{CalmRunsAgree, CalmScriptsAgree, CalmStopsAgree, EachIsARunOfCore, EachWritesItsEvents};
 
-/// The sink has the lines of the replies and of the batches that were handed over, in turn, and after a failed write
-/// nothing more.
+/// The sink has the lines of the replies and of the batches that were handed over, in turn, and then at most a part of the
+/// line at which a write failed: behind that nothing more.
 pub fn writes_its_events()
     ensures { EachWritesItsEvents }
 {}
@@ -33,6 +33,13 @@ pub fn calm_runs_agree()
 /// function of the script's bytes.
 pub fn calm_scripts_agree()
     ensures { CalmScriptsAgree }
+{
+    calm_runs_agree();
+}
+
+/// The same of two runs over one script's bytes that stopped at the same line, as at the first that is refused.
+pub fn calm_stops_agree()
+    ensures { CalmStopsAgree }
 {
     calm_runs_agree();
 }
