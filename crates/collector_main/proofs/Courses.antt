@@ -4,12 +4,12 @@ use Rattle.std.specs.Prelude.{codes, get_or}
 use Rattle.std.specs.Str.{bytes_eq}
 use Rattle.drop_ledger.specs.declared.report.Report.{Report}
 use Rattle.tsc_config.specs.declared.config.Config.{Config}
-use Rattle.collector_main.proofs.Finish.{not-false}
-use Rattle.collector_main.specs.declared.fault.RunFault.{RunFault}
-use Rattle.collector_main.specs.declared.fault.RunFault.TheVariants.{NoMemory, Refused, Fault, BookFull, SinkDown}
+use Rattle.script_session.proofs.Finish.{not-false}
+use Rattle.script_session.specs.declared.fault.RunFault.{RunFault}
+use Rattle.script_session.specs.declared.fault.RunFault.TheVariants.{NoMemory, Refused, Fault, BookFull, SinkDown}
 use Rattle.collector_main.specs.declared.program.Outcome.{Outcome}
 use Rattle.collector_main.specs.Outcomes.{outcome_of}
-use Rattle.collector_main.specs.Replay.{Run, RunEnds, settings_by}
+use Rattle.script_session.specs.Replay.{Run, RunEnds, settings_by}
 use Rattle.collector_main.specs.Ending.{Course, CameTo, IsRead, asks_replay}
 
 -- two arguments ask for a replay where the first is `replay`

@@ -15,11 +15,11 @@ use Rattle.tsc_config.specs.Reading.{reading}
 use Rattle.tsc_config.specs.declared.config.Config.{Config}
 use Rattle.tsc_config.specs.declared.fault.ConfigFault.{ConfigFault}
 use Rattle.tsc_config.specs.declared.fault.ConfigFault.TheVariants.{Policy, NoMemory as ReadsNothing}
-use Rattle.collector_main.specs.declared.fault.RunFault.{RunFault}
+use Rattle.script_session.specs.declared.fault.RunFault.{RunFault}
 use Rattle.collector_main.specs.declared.program.Outcome.{Outcome}
 use Rattle.collector_main.specs.declared.program.Outcome.TheVariants.{Done, SinkDown, Usage, Unreadable, Configuration, Script, NoMemory, BookFull}
 use Rattle.collector_main.specs.Outcomes.{outcome_of, exit_status}
-use Rattle.collector_main.specs.Replay.{RunEnds, settings_by}
+use Rattle.script_session.specs.Replay.{RunEnds, settings_by}
 
 -- ---- the last text
 

@@ -1,9 +1,2 @@
-pub mod Adding
-pub mod Pulling
-pub mod Replay
-pub mod Answers
 pub mod Outcomes
 pub mod Ending
-pub mod Signals
-pub mod Submitting
-pub mod Starting

@@ -1,8 +1,8 @@
 -- The program's outcomes and exit statuses.
 use Rattle.std.specs.Prelude.{ℕ, Bool, Result, Ok, Err, if◌then◌else◌}
 use Rattle.drop_ledger.specs.declared.report.Report.{Report}
-use Rattle.collector_main.specs.declared.fault.RunFault.{RunFault}
-use Rattle.collector_main.specs.declared.fault.RunFault.TheVariants.{NoMemory as NoRoom, Refused, Fault, BookFull as Overflows, SinkDown as Fails}
+use Rattle.script_session.specs.declared.fault.RunFault.{RunFault}
+use Rattle.script_session.specs.declared.fault.RunFault.TheVariants.{NoMemory as NoRoom, Refused, Fault, BookFull as Overflows, SinkDown as Fails}
 use Rattle.collector_main.specs.declared.program.Outcome.{Outcome}
 use Rattle.collector_main.specs.declared.program.Outcome.TheVariants.{Done, SinkDown, Usage, Unreadable, Configuration, Script, NoMemory, BookFull}
 

@@ -2,17 +2,7 @@
 //! input in one thread, and prints replies, the spans that it keeps as lines of JSON, and a report of every span's end.
 #![tactic(auto)]
 
-mod connections;
-mod ending;
-mod fault;
 mod program;
-mod pulling;
-mod receiving;
-mod replay;
-mod replying;
-mod session;
-mod signal;
-mod taking;
 #[cfg(test)]
 mod tests;
 

@@ -4,11 +4,10 @@ ghost use Rattle.collector_main.specs.Outcomes.{outcome_of, exit_status};
 ghost use Rattle.collector_main.specs.Ending.{WritesText, HandsText, Finishes, CameTo, Ends, IsRead, LoadFails, text_of, name_of, report_text, fault_number, greatest_length};
 ghost use Rattle.collector_main.specs.declared.program.Outcome.TheVariants.{NoMemory, Unreadable};
 
-use crate::fault::RunFault;
-use crate::replay::replay_run;
 use drop_ledger::{Count, Report};
 use itoa::Buffer;
 use lane_seq::put;
+use script_session::{RunFault, replay_run};
 use span_ids::Reason;
 use span_sink::{LineSink, Sink, WriteSink};
 use std::alloc::Global;

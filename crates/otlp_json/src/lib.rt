@@ -18,8 +18,6 @@ mod laws;
 mod message;
 mod request;
 mod span;
-#[cfg(test)]
-mod tests;
 mod value;
 mod writing;
 

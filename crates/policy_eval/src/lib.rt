@@ -8,8 +8,6 @@ mod answer;
 mod attribute;
 mod latency;
 mod laws;
-#[cfg(test)]
-mod tests;
 mod verdict;
 
 pub use laws::{asked_nodes_rise, decisions_keep_the_counts};

@@ -9,8 +9,6 @@ mod names;
 mod policies;
 mod policy;
 mod shape;
-#[cfg(test)]
-mod tests;
 
 pub use fault::PolicyFault;
 pub use limiter_node::LimiterNode;

@@ -8,11 +8,7 @@
 
 mod answer;
 pub mod laws;
-#[cfg(test)]
-mod looking_back;
 mod shard;
-#[cfg(test)]
-mod tests;
 
 pub use answer::{Decided, Taken};
 pub use shard::Shard;

@@ -18,8 +18,6 @@ mod noted;
 mod noting;
 mod settings;
 mod spans;
-#[cfg(test)]
-mod tests;
 
 pub use answers::{decision_at, effect_of_taking};
 pub use asked::{Finding, finding_of, remembered};

@@ -20,8 +20,6 @@ mod replay;
 mod shard;
 mod step;
 mod taking;
-#[cfg(test)]
-mod tests;
 mod world;
 
 pub use config::Config;

@@ -1,4 +1,4 @@
-ghost use Rattle.std.specs.Prelude.{◌≡◌, ◌≢◌, ◌∷◌, [], replicate, Some, IfOk};
+ghost use Rattle.std.specs.Prelude.{◌≡◌, ◌≢◌, ◌∷◌, [], replicate, Some, IfOk, length};
 ghost use Rattle.span_world.specs.World.{new_world, new_lane, new_shard, KeepsATrace};
 ghost use Rattle.shard_journal.specs.Settings.{settings_of};
 ghost use Rattle.shard_journal.specs.Look.{look_of};
@@ -100,6 +100,27 @@ impl World {
         ensures { result.now ≡ self.now.world.counted }
     {
         self.counted.as_slice()
+    }
+
+    /// The open batch: the spans that were pulled and not handed over yet, in order.
+    pub fn batch(&self) -> &[Arrival]
+        ensures { result.now ≡ self.now.world.batch }
+    {
+        self.batch.as_slice()
+    }
+
+    /// How many spans were shipped and not pulled yet.
+    pub fn exported(&self) -> usize
+        ensures { result ≡ length self.now.world.exported }
+    {
+        self.exported.len()
+    }
+
+    /// Whether the sink failed.
+    pub fn is_down(&self) -> bool
+        ensures { result ≡ self.now.world.down }
+    {
+        self.down
     }
 }
 

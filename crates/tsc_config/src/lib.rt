@@ -16,8 +16,6 @@ pub mod laws;
 mod policy_faults;
 mod settings_faults;
 mod settings_values;
-#[cfg(test)]
-mod tests;
 mod values;
 
 pub use config::{Config, read};

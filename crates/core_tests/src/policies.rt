@@ -1,0 +1,411 @@
+//! Each kind of policy at, below and above its bounds, and policies together.
+use crate::spans::record_of;
+use otlp_types::{AnyValue, Arrival, KeyValue, List, Text, TryClone};
+use policy_eval::evaluate;
+use policy_tree::{Policies, Policy, PolicyKind, Wanted};
+use rate_budget::Budgets;
+use span_ids::{ArrivalKey, ConnKey, Verdict};
+use std::alloc::{AllocError, Global};
+use std::test::Fail;
+
+/// What a span has: start and end in nanoseconds, status code, and the value of `env` of itself and of its resource.
+#[derive(Drop)]
+struct Given {
+    start: u64,
+    end: u64,
+    code: i32,
+    own: Option<AnyValue>,
+    of_resource: Option<AnyValue>,
+}
+
+/// A span from start to end, in nanoseconds.
+fn lasting(start: u64, end: u64) -> Given {
+    Given {
+        start,
+        end,
+        code: 0,
+        own: None,
+        of_resource: None,
+    }
+}
+
+/// A span and a resource with these values of `env`.
+fn in_env(own: Option<AnyValue>, of_resource: Option<AnyValue>) -> Given {
+    Given {
+        own,
+        of_resource,
+        ..lasting(0, 0)
+    }
+}
+
+/// A text as a value.
+fn text(alloc: Global, value: &str) -> Result<AnyValue, AllocError> {
+    Ok(AnyValue::Str(Text::from_str(alloc, value)?))
+}
+
+fn attributes(alloc: Global, value: Option<AnyValue>) -> Result<List<KeyValue>, AllocError> {
+    let mut list = List::new(alloc);
+    list.push(KeyValue {
+        key: Text::from_str(alloc, "other")?,
+        value: text(alloc, "dev")?,
+    })?;
+    if let Some(value) = value {
+        list.push(KeyValue {
+            key: Text::from_str(alloc, "env")?,
+            value,
+        })?;
+    }
+    Ok(list)
+}
+
+fn arrival_of(alloc: Global, given: Given) -> Result<Arrival, AllocError> {
+    let mut rec = record_of(alloc, None, given.code, given.end);
+    rec.span.start_time_unix_nano = given.start;
+    rec.span.attributes = attributes(alloc, given.own)?;
+    rec.resource.attributes = attributes(alloc, given.of_resource)?;
+    Ok(Arrival {
+        key: ArrivalKey {
+            conn: ConnKey {
+                lane: 0,
+                ordinal: 0,
+            },
+            number: 0,
+        },
+        moment: 0,
+        rec,
+    })
+}
+
+/// The verdict of the policies on these spans, with a limiter that has not been asked.
+fn verdict_at_first(
+    alloc: Global,
+    policies: &Policies,
+    spans: &[Arrival],
+) -> Result<Verdict, AllocError> {
+    let mut budgets = Budgets::new(alloc, policies)?;
+    Ok(evaluate(policies, spans, 0, &mut budgets))
+}
+
+/// Policies of these kinds, each with a name of its own.
+fn policies_of(alloc: Global, kinds: Vec<PolicyKind>) -> Result<List<Policy>, AllocError> {
+    let mut list = List::new(alloc);
+    for (i, kind) in kinds.into_iter().enumerate() {
+        list.push(Policy {
+            name: Text::from_string(format!(in alloc; "{i}")?),
+            kind,
+        })?;
+    }
+    Ok(list)
+}
+
+/// Whether policies of these kinds sample a trace of these spans.
+fn is_sampled(alloc: Global, kinds: Vec<PolicyKind>, spans: Vec<Given>) -> Result<bool, Fail> {
+    let policies = Policies::new(alloc, policies_of(alloc, kinds)?.into_vec())?;
+    let mut arrivals = Vec::new(alloc);
+    for given in spans {
+        arrivals.push(arrival_of(alloc, given)?)?;
+    }
+    Ok(verdict_at_first(alloc, &policies, &arrivals)? == Verdict::Sampled)
+}
+
+fn latency(threshold_ms: u64, upper_threshold_ms: u64) -> PolicyKind {
+    PolicyKind::Latency {
+        threshold_ms,
+        upper_threshold_ms,
+    }
+}
+
+#[test]
+fn latencies(rt: HostRuntime) -> Result<(), Fail> {
+    let alloc = rt.alloc();
+    for (threshold, upper, nanoseconds, sampled) in [
+        (500, 0, 499_999_999, false),
+        (500, 0, 500_000_000, true),
+        (500, 0, 501_000_000, true),
+        (499, 500, 499_000_000, false),
+        (499, 500, 499_999_999, false),
+        (499, 500, 500_999_999, true),
+        (499, 500, 501_000_000, false),
+        (0, 0, 0, true),
+        (0, 1, 999_999, false),
+        (0, 1, 1_000_000, true),
+    ] {
+        for start in [0, 7, u64::MAX - 501_000_000] {
+            let span = lasting(start, start.saturating_add(nanoseconds));
+            assert_eq!(rt;
+                is_sampled(
+                    alloc,
+                    vec![in alloc; latency(threshold, upper)]?,
+                    vec![in alloc; span]?
+                )?,
+                sampled,
+                "{threshold} to {upper}, {nanoseconds} from {start}"
+            );
+        }
+    }
+    let spans = vec![in alloc;
+        lasting(5_000_000, 6_000_000),
+        lasting(7_000_000, 9_999_999),
+    ]?;
+    assert!(rt; is_sampled(alloc, vec![in alloc; latency(3, 4)]?, spans)?);
+    Ok(())
+}
+
+#[test]
+fn times_at_the_top(rt: HostRuntime) -> Result<(), Fail> {
+    let alloc = rt.alloc();
+    for (threshold, upper, start, end, sampled) in [
+        (0, 0, u64::MAX, 0, true),
+        (0, 1, u64::MAX, 0, false),
+        (1, 0, u64::MAX, 0, false),
+        (0, 0, 1, 0, true),
+        (18_446_744_073_709, 0, 0, u64::MAX, true),
+        (18_446_744_073_710, 0, 0, u64::MAX, false),
+        (u64::MAX, 0, 0, u64::MAX, false),
+        (0, 0, u64::MAX, u64::MAX, true),
+    ] {
+        assert_eq!(rt;
+            is_sampled(
+                alloc,
+                vec![in alloc; latency(threshold, upper)]?,
+                vec![in alloc; lasting(start, end)]?
+            )?,
+            sampled,
+            "{threshold} to {upper}, from {start} to {end}"
+        );
+    }
+    Ok(())
+}
+
+#[test]
+fn status_codes(rt: HostRuntime) -> Result<(), Fail> {
+    let alloc = rt.alloc();
+    for (wanted, code, sampled) in [
+        (2, 2, true),
+        (2, 1, false),
+        (2, 3, false),
+        (0, 0, true),
+        (3, 3, true),
+        (-1, -1, true),
+        (i32::MAX, i32::MAX, true),
+        (i32::MIN, i32::MAX, false),
+    ] {
+        let kind = PolicyKind::StatusCode {
+            codes: List::from_vec(vec![in alloc; 7, wanted]?),
+        };
+        let spans = vec![in alloc;
+            lasting(0, 0),
+            Given {
+                code,
+                ..lasting(0, 0)
+            },
+        ]?;
+        assert_eq!(rt;
+            is_sampled(alloc, vec![in alloc; kind]?, spans)?,
+            sampled,
+            "{code} for {wanted}"
+        );
+    }
+    Ok(())
+}
+
+#[test]
+fn span_counts(rt: HostRuntime) -> Result<(), Fail> {
+    let alloc = rt.alloc();
+    for (min_spans, max_spans, count, sampled) in [
+        (2, 3, 1, false),
+        (2, 3, 2, true),
+        (2, 3, 3, true),
+        (2, 3, 4, false),
+        (2, 0, 1, false),
+        (2, 0, 4, true),
+        (0, 1, 1, true),
+        (0, 1, 2, false),
+    ] {
+        let mut spans = Vec::new(alloc);
+        for _ in 0..count {
+            spans.push(lasting(0, 0))?;
+        }
+        let kind = PolicyKind::SpanCount {
+            min_spans,
+            max_spans,
+        };
+        assert_eq!(rt;
+            is_sampled(alloc, vec![in alloc; kind]?, spans)?,
+            sampled,
+            "{count} for {min_spans} to {max_spans}"
+        );
+    }
+    Ok(())
+}
+
+#[test]
+fn limits_of_spans(rt: HostRuntime) -> Result<(), Fail> {
+    let alloc = rt.alloc();
+    for (spans_per_second, sampled) in [(2, true), (1, false), (0, false), (u64::MAX, true)] {
+        let kind = PolicyKind::RateLimiting { spans_per_second };
+        let spans = vec![in alloc; lasting(0, 0), lasting(0, 0)]?;
+        assert_eq!(rt; is_sampled(alloc, vec![in alloc; kind]?, spans)?, sampled);
+    }
+    Ok(())
+}
+
+fn of_env(alloc: Global, wanted: Wanted, invert_match: bool) -> Result<PolicyKind, AllocError> {
+    Ok(PolicyKind::Attribute {
+        key: Text::from_str(alloc, "env")?,
+        wanted,
+        invert_match,
+    })
+}
+
+/// `env` is to be `dev`, or isn't to be.
+fn dev(alloc: Global, invert_match: bool) -> Result<PolicyKind, AllocError> {
+    let values = vec![in alloc;
+        Text::from_str(alloc, "prod2")?,
+        Text::from_str(alloc, "dev")?,
+    ]?;
+    of_env(
+        alloc,
+        Wanted::StringAmong(List::from_vec(values)),
+        invert_match,
+    )
+}
+
+/// Whether an attribute is matched where the span has this value, where its resource has it, and where both have;
+/// and that an inverted match alone samples just where it isn't.
+fn is_matched(alloc: Global, wanted: Wanted, value: AnyValue) -> Result<Option<bool>, Fail> {
+    let plain = of_env(alloc, wanted.try_clone(alloc)?, false)?;
+    let inverted = of_env(alloc, wanted, true)?;
+    let mut all = Vec::new(alloc);
+    for (own, of_resource) in [(true, false), (false, true), (true, true)] {
+        for kind in [&plain, &inverted] {
+            let own_value = if own {
+                Some(value.try_clone(alloc)?)
+            } else {
+                None
+            };
+            let other = if of_resource {
+                Some(value.try_clone(alloc)?)
+            } else {
+                None
+            };
+            let spans = vec![in alloc; in_env(None, None), in_env(own_value, other)]?;
+            all.push(is_sampled(alloc, vec![in alloc; kind.try_clone(alloc)?]?, spans)?)?;
+        }
+    }
+    if all.as_slice() == [true, false, true, false, true, false].as_slice() {
+        Ok(Some(true))
+    } else if all.as_slice() == [false, true, false, true, false, true].as_slice() {
+        Ok(Some(false))
+    } else {
+        Ok(None)
+    }
+}
+
+#[test]
+fn texts_of_attributes(rt: HostRuntime) -> Result<(), Fail> {
+    let alloc = rt.alloc();
+    for (value, matched) in [("dev", true), ("Dev", false), ("", false), ("dev2", false)] {
+        let values = List::from_vec(vec![in alloc; Text::from_str(alloc, "dev")?]?);
+        let wanted = Wanted::StringAmong(values);
+        assert_eq!(rt;
+            is_matched(alloc, wanted, text(alloc, value)?)?,
+            Some(matched),
+            "{value}"
+        );
+    }
+    let values = List::from_vec(vec![in alloc; Text::from_str(alloc, "1")?]?);
+    let of_another_type = is_matched(alloc, Wanted::StringAmong(values), AnyValue::Int(1))?;
+    assert_eq!(rt; of_another_type, Some(false));
+    Ok(())
+}
+
+#[test]
+fn numbers_of_attributes(rt: HostRuntime) -> Result<(), Fail> {
+    let alloc = rt.alloc();
+    for (min_value, max_value, value, matched) in [
+        (-1, 1, -2, false),
+        (-1, 1, -1, true),
+        (-1, 1, 1, true),
+        (-1, 1, 2, false),
+        (7, 7, 7, true),
+        (i64::MIN, i64::MAX, i64::MIN, true),
+        (0, i64::MAX, i64::MIN, false),
+    ] {
+        let wanted = Wanted::NumberWithin {
+            min_value,
+            max_value,
+        };
+        assert_eq!(rt;
+            is_matched(alloc, wanted, AnyValue::Int(value))?,
+            Some(matched),
+            "{value}"
+        );
+    }
+    let wanted = Wanted::NumberWithin {
+        min_value: 0,
+        max_value: 9,
+    };
+    assert_eq!(rt; is_matched(alloc, wanted, text(alloc, "1")?)?, Some(false));
+    Ok(())
+}
+
+#[test]
+fn truth_values_of_attributes(rt: HostRuntime) -> Result<(), Fail> {
+    let alloc = rt.alloc();
+    for (wanted, value, matched) in [
+        (true, AnyValue::Bool(true), true),
+        (true, AnyValue::Bool(false), false),
+        (false, AnyValue::Bool(false), true),
+        (false, AnyValue::Empty, false),
+        (true, AnyValue::Int(1), false),
+    ] {
+        assert_eq!(rt;
+            is_matched(alloc, Wanted::Boolean(wanted), value)?,
+            Some(matched)
+        );
+    }
+    Ok(())
+}
+
+#[test]
+fn inverted_match_wins(rt: HostRuntime) -> Result<(), Fail> {
+    let alloc = rt.alloc();
+    for (value, sampled) in [("dev", false), ("prod", true)] {
+        let kinds = vec![in alloc; dev(alloc, true)?, PolicyKind::AlwaysSample]?;
+        let span = in_env(Some(text(alloc, value)?), None);
+        assert_eq!(rt;
+            is_sampled(alloc, kinds, vec![in alloc; span]?)?,
+            sampled,
+            "{value}"
+        );
+    }
+    Ok(())
+}
+
+#[test]
+fn and_with_inverted_part(rt: HostRuntime) -> Result<(), Fail> {
+    let alloc = rt.alloc();
+    let parts = vec![in alloc; PolicyKind::AlwaysSample, dev(alloc, true)?]?;
+    let policies = policies_of(alloc, parts)?;
+    let kinds = vec![in alloc; PolicyKind::And { policies }, PolicyKind::AlwaysSample]?;
+    let span = in_env(Some(text(alloc, "dev")?), None);
+    assert!(rt; is_sampled(alloc, kinds, vec![in alloc; span]?)?);
+
+    let prod = in_env(Some(text(alloc, "prod")?), None);
+    assert!(rt;
+        is_sampled(
+            alloc,
+            vec![in alloc; dev(alloc, true)?]?,
+            vec![in alloc; prod]?
+        )?
+    );
+
+    let errors = PolicyKind::StatusCode {
+        codes: List::from_vec(vec![in alloc; 2]?),
+    };
+    let prod = in_env(Some(text(alloc, "prod")?), None);
+    let kinds = vec![in alloc; dev(alloc, true)?, errors]?;
+    assert!(rt; !is_sampled(alloc, kinds, vec![in alloc; prod]?)?);
+    Ok(())
+}

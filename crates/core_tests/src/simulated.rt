@@ -1,0 +1,487 @@
+//! The table of steps by running state: a ring of episodes, caches in order of use, a clock. It looks back over nothing.
+use crate::choices::{Choice, Sent};
+use otlp_types::Arrival;
+use span_ids::{ArrivalKey, ConnKey, Reason};
+use span_world::World;
+use std::alloc::{AllocError, Global};
+
+/// A received span.
+#[derive(Clone, Copy)]
+struct Kept {
+    key: ArrivalKey,
+    moment: u64,
+    trace: u8,
+    error: bool,
+}
+
+#[derive(Drop)]
+struct Lane {
+    ended: bool,
+    numbers: Vec<u64>,
+    unrouted: Vec<Kept>,
+}
+
+#[derive(Drop)]
+struct Episode {
+    trace: u8,
+    opened: u64,
+    spans: Vec<Kept>,
+    verdict: Option<bool>,
+}
+
+#[derive(Drop)]
+struct Shard {
+    queue: Vec<Kept>,
+    ring: Vec<Episode>,
+    sampled: Vec<u8>,
+    non_sampled: Vec<u8>,
+    clock: u64,
+    ends: Vec<u16>,
+    due: Vec<u8>,
+    unshipped: Vec<Kept>,
+}
+
+/// What a span finds of its trace.
+#[derive(Clone, Copy)]
+enum Found {
+    Joins,
+    Meets(bool),
+    Opens,
+}
+
+/// A span counted under a reason.
+#[derive(Clone, Copy)]
+struct Counted {
+    reason: Reason,
+    key: ArrivalKey,
+}
+
+/// Two lanes, two shards with room for two traces, one sampled and two others remembered, a wait of ten milliseconds, and
+/// batches of two spans. A trace with an error is sampled.
+#[derive(Drop)]
+pub struct Simulated {
+    alloc: Global,
+    lanes: Vec<Lane>,
+    shards: Vec<Shard>,
+    exported: Vec<Kept>,
+    batch: Vec<Kept>,
+    handed: Vec<Vec<Kept>>,
+    counted: Vec<Counted>,
+    down: bool,
+}
+
+const LIMIT: usize = 2;
+
+const WAIT: u64 = 10;
+
+const SENDERS: usize = 3;
+
+const TICKER: u16 = 2;
+
+fn count(counted: &mut Vec<Counted>, reason: Reason, spans: &[Kept]) -> Result<(), AllocError> {
+    for span in spans {
+        counted.push(Counted {
+            reason,
+            key: span.key,
+        })?;
+    }
+    Ok(())
+}
+
+/// The trace is now the last used of at most so many.
+fn touch(cache: &mut Vec<u8>, size: usize, trace: u8) -> Result<(), AllocError> {
+    cache.retain(|t| *t != trace);
+    cache.push(trace)?;
+    if cache.len() > size {
+        cache.remove(0);
+    }
+    Ok(())
+}
+
+impl Shard {
+    fn new(alloc: Global) -> Shard {
+        Shard {
+            queue: Vec::new(alloc),
+            ring: Vec::new(alloc),
+            sampled: Vec::new(alloc),
+            non_sampled: Vec::new(alloc),
+            clock: 0,
+            ends: Vec::new(alloc),
+            due: Vec::new(alloc),
+            unshipped: Vec::new(alloc),
+        }
+    }
+
+    fn find(&self, trace: u8) -> Found {
+        match self.ring.iter().find(|e| e.trace == trace) {
+            Some(episode) => match episode.verdict {
+                None => Found::Joins,
+                Some(verdict) => Found::Meets(verdict),
+            },
+            None if self.sampled.contains(&trace) => Found::Meets(true),
+            None if self.non_sampled.contains(&trace) => Found::Meets(false),
+            None => Found::Opens,
+        }
+    }
+
+    /// Whether an opening puts a decided trace out of the ring. Both caches have room.
+    fn puts(&self) -> bool {
+        self.ring.len() == LIMIT && self.ring.first().is_some_and(|e| e.verdict.is_some())
+    }
+
+    fn remember(&mut self, trace: u8, verdict: bool) -> Result<(), AllocError> {
+        if verdict {
+            touch(&mut self.sampled, 1, trace)
+        } else {
+            touch(&mut self.non_sampled, 2, trace)
+        }
+    }
+
+    fn open(
+        &mut self,
+        alloc: Global,
+        span: Kept,
+        lost: bool,
+        counted: &mut Vec<Counted>,
+    ) -> Result<(), AllocError> {
+        if self.ring.len() >= LIMIT {
+            let left = self.ring.remove(0);
+            match left.verdict {
+                None => count(counted, Reason::Evicted, &left.spans)?,
+                Some(verdict) if !lost => self.remember(left.trace, verdict)?,
+                Some(_) => {}
+            }
+        }
+        self.ring.push(Episode {
+            trace: span.trace,
+            opened: self.clock,
+            spans: vec![in alloc; span]?,
+            verdict: None,
+        })?;
+        Ok(())
+    }
+
+    fn meet(
+        &mut self,
+        span: Kept,
+        verdict: bool,
+        counted: &mut Vec<Counted>,
+    ) -> Result<(), AllocError> {
+        if !self.ring.iter().any(|e| e.trace == span.trace) {
+            self.remember(span.trace, verdict)?;
+        }
+        if verdict {
+            self.unshipped.push(span)?;
+            return Ok(());
+        }
+        count(counted, Reason::LateNotSampled, &[span])
+    }
+
+    fn join(&mut self, span: Kept) -> Result<(), AllocError> {
+        for episode in self.ring.iter_mut() {
+            if episode.trace == span.trace {
+                episode.spans.push(span)?;
+            }
+        }
+        Ok(())
+    }
+
+    /// The traces of undecided episodes become due: all, or those that have waited long enough.
+    fn fall_due(&mut self, all: bool) -> Result<(), AllocError> {
+        for episode in &self.ring {
+            if episode.verdict.is_none()
+                && (all || episode.opened.wrapping_add(WAIT) <= self.clock)
+            {
+                self.due.push(episode.trace)?;
+            }
+        }
+        Ok(())
+    }
+
+    fn decide(&mut self, trace: u8, counted: &mut Vec<Counted>) -> Result<(), AllocError> {
+        for episode in self.ring.iter_mut() {
+            if episode.trace == trace {
+                let verdict = episode.spans.iter().any(|s| s.error);
+                if verdict {
+                    self.unshipped.extend_from_slice(&episode.spans)?;
+                } else {
+                    count(counted, Reason::NotSampled, &episode.spans)?;
+                }
+                episode.verdict = Some(verdict);
+            }
+        }
+        Ok(())
+    }
+}
+
+impl Simulated {
+    pub fn new(alloc: Global) -> Result<Simulated, AllocError> {
+        let mut lanes = Vec::new(alloc);
+        let mut shards = Vec::new(alloc);
+        for _i in 0..2 {
+            lanes.push(Lane {
+                ended: false,
+                numbers: vec![in alloc; 0; 2]?,
+                unrouted: Vec::new(alloc),
+            })?;
+            shards.push(Shard::new(alloc))?;
+        }
+        Ok(Simulated {
+            alloc,
+            lanes,
+            shards,
+            exported: Vec::new(alloc),
+            batch: Vec::new(alloc),
+            handed: Vec::new(alloc),
+            counted: Vec::new(alloc),
+            down: false,
+        })
+    }
+
+    /// Makes the step, and answers whether it was enabled.
+    pub fn step(&mut self, choice: Choice) -> Result<bool, AllocError> {
+        match choice {
+            Choice::Receive {
+                lane,
+                ordinal,
+                moment,
+                first,
+                second,
+            } => {
+                let conn = ConnKey { lane, ordinal };
+                Ok(self.receive(conn, moment, first)? && self.receive(conn, moment, second)?)
+            }
+            Choice::Route { lane, shard } => self.route(lane, shard),
+            Choice::Refuse { lane, shard } => self.refuse(lane, shard),
+            Choice::Take {
+                shard,
+                refused,
+                lost,
+            } => self.take(shard, refused, lost),
+            Choice::Tick { shard, moment } => self.tick(shard, moment),
+            Choice::Close { lane } => Ok(self.close(lane)),
+            Choice::End { shard, sender } => self.end(shard, sender),
+            Choice::Decide { shard } => self.decide(shard),
+            Choice::Ship { shard } => self.ship(shard),
+            Choice::Pull => self.pull(),
+            Choice::Hand => self.hand(),
+            Choice::Fail => Ok(!std::mem::replace(&mut self.down, true)),
+            Choice::Spoil { reason } => self.spoil(reason),
+        }
+    }
+
+    fn receive(&mut self, conn: ConnKey, moment: u64, sent: Sent) -> Result<bool, AllocError> {
+        let Some(lane) = self.lanes.get_mut(conn.lane as usize) else {
+            return Ok(false);
+        };
+        if lane.ended {
+            return Ok(false);
+        }
+        let mut key = ArrivalKey { conn, number: 0 };
+        if let Some(next) = lane.numbers.get_mut(conn.ordinal as usize) {
+            key.number = *next;
+            *next = next.wrapping_add(1);
+        }
+        let span = Kept {
+            key,
+            moment,
+            trace: sent.trace,
+            error: sent.error,
+        };
+        if sent.trace == 0 {
+            count(&mut self.counted, Reason::InvalidId, &[span])?;
+        } else {
+            lane.unrouted.push(span)?;
+        }
+        Ok(true)
+    }
+
+    /// The lane's first unrouted span for the shard, taken out.
+    fn next_for(&mut self, lane: u16, shard: usize) -> Option<Kept> {
+        let lane = self.lanes.get_mut(lane as usize)?;
+        let at = lane
+            .unrouted
+            .iter()
+            .position(|s| (s.trace % 2) as usize == shard)?;
+        if at < lane.unrouted.len() {
+            return Some(lane.unrouted.remove(at));
+        }
+        None
+    }
+
+    fn route(&mut self, lane: u16, shard: usize) -> Result<bool, AllocError> {
+        let Some(span) = self.next_for(lane, shard) else {
+            return Ok(false);
+        };
+        if let Some(shard) = self.shards.get_mut(shard) {
+            shard.queue.push(span)?;
+        }
+        Ok(true)
+    }
+
+    fn refuse(&mut self, lane: u16, shard: usize) -> Result<bool, AllocError> {
+        let Some(span) = self.next_for(lane, shard) else {
+            return Ok(false);
+        };
+        count(&mut self.counted, Reason::QueueFull, &[span])?;
+        Ok(true)
+    }
+
+    fn take(&mut self, at: usize, refused: bool, lost: bool) -> Result<bool, AllocError> {
+        let Some(shard) = self.shards.get_mut(at) else {
+            return Ok(false);
+        };
+        let Some(span) = shard.queue.first().copied() else {
+            return Ok(false);
+        };
+        let found = shard.find(span.trace);
+        let applies = match found {
+            Found::Joins => !lost,
+            Found::Meets(_) => !refused && !lost,
+            Found::Opens => !lost || (!refused && shard.puts()),
+        };
+        if !shard.due.is_empty() || !applies || shard.queue.is_empty() {
+            return Ok(false);
+        }
+        shard.queue.remove(0);
+        shard.clock = shard.clock.max(span.moment);
+        match found {
+            _ if refused => count(&mut self.counted, Reason::NoMemory, &[span])?,
+            Found::Joins => shard.join(span)?,
+            Found::Meets(verdict) => shard.meet(span, verdict, &mut self.counted)?,
+            Found::Opens => shard.open(self.alloc, span, lost, &mut self.counted)?,
+        }
+        Ok(true)
+    }
+
+    fn tick(&mut self, at: usize, moment: u64) -> Result<bool, AllocError> {
+        let Some(shard) = self.shards.get_mut(at) else {
+            return Ok(false);
+        };
+        if !shard.due.is_empty() || shard.ends.contains(&TICKER) {
+            return Ok(false);
+        }
+        shard.clock = shard.clock.max(moment);
+        shard.fall_due(false)?;
+        Ok(true)
+    }
+
+    fn close(&mut self, lane: u16) -> bool {
+        match self.lanes.get_mut(lane as usize) {
+            Some(lane) if !lane.ended => {
+                lane.ended = true;
+                true
+            }
+            _ => false,
+        }
+    }
+
+    fn end(&mut self, at: usize, sender: u16) -> Result<bool, AllocError> {
+        let Some(shard) = self.shards.get_mut(at) else {
+            return Ok(false);
+        };
+        let done = match self.lanes.get(sender as usize) {
+            Some(lane) => {
+                lane.ended
+                    && !lane.unrouted.iter().any(|s| (s.trace % 2) as usize == at)
+                    && !shard.queue.iter().any(|s| s.key.conn.lane == sender)
+            }
+            None => sender == TICKER,
+        };
+        if !done || !shard.due.is_empty() || shard.ends.contains(&sender) {
+            return Ok(false);
+        }
+        shard.ends.push(sender)?;
+        if shard.ends.len() == SENDERS {
+            shard.fall_due(true)?;
+        }
+        Ok(true)
+    }
+
+    fn decide(&mut self, at: usize) -> Result<bool, AllocError> {
+        let Some(shard) = self.shards.get_mut(at) else {
+            return Ok(false);
+        };
+        if shard.due.is_empty() {
+            return Ok(false);
+        }
+        let trace = shard.due.remove(0);
+        shard.decide(trace, &mut self.counted)?;
+        Ok(true)
+    }
+
+    fn ship(&mut self, at: usize) -> Result<bool, AllocError> {
+        match self.shards.get_mut(at) {
+            Some(shard) if !shard.unshipped.is_empty() => {
+                self.exported.push(shard.unshipped.remove(0))?;
+                Ok(true)
+            }
+            _ => Ok(false),
+        }
+    }
+
+    fn pull(&mut self) -> Result<bool, AllocError> {
+        if self.exported.is_empty() || self.batch.len() >= 2 {
+            return Ok(false);
+        }
+        self.batch.push(self.exported.remove(0))?;
+        Ok(true)
+    }
+
+    fn hand(&mut self) -> Result<bool, AllocError> {
+        if self.batch.is_empty() || self.down {
+            return Ok(false);
+        }
+        let batch = std::mem::replace(&mut self.batch, Vec::new(self.alloc));
+        self.handed.push(batch)?;
+        Ok(true)
+    }
+
+    fn spoil(&mut self, reason: Reason) -> Result<bool, AllocError> {
+        let applies = match reason {
+            Reason::NoMemory => true,
+            Reason::ExporterDown => self.down,
+            _ => false,
+        };
+        if self.batch.is_empty() || !applies {
+            return Ok(false);
+        }
+        count(&mut self.counted, reason, &self.batch)?;
+        self.batch.clear();
+        Ok(true)
+    }
+
+    /// Whether each shard took every sender's End.
+    pub fn have_ended(&self) -> bool {
+        self.shards.iter().all(|shard| shard.ends.len() == SENDERS)
+    }
+
+    /// Whether the world's exporter is as this one: the export list, the batch, what was handed over and counted.
+    pub fn is_like(&self, world: &World) -> bool {
+        let handed = world.handed();
+        let counted = world.counted();
+        self.down == world.is_down()
+            && self.exported.len() == world.exported()
+            && are_like(&self.batch, world.batch())
+            && self.handed.len() == handed.len()
+            && self
+                .handed
+                .iter()
+                .zip(handed)
+                .all(|(kept, list)| are_like(kept, list.as_slice()))
+            && self.counted.len() == counted.len()
+            && self
+                .counted
+                .iter()
+                .zip(counted)
+                .all(|(kept, n)| kept.key == n.key && kept.reason == n.reason)
+    }
+}
+
+/// The same spans, in order.
+fn are_like(kept: &[Kept], spans: &[Arrival]) -> bool {
+    kept.len() == spans.len()
+        && kept.iter().zip(spans).all(|(k, s)| k.key == s.key
+            && k.moment == s.moment
+            && k.error == (s.rec.span.status.code == 2))
+}

@@ -1,0 +1,296 @@
+//! A worked run, and random runs beside a plain simulation of the table of steps.
+ghost use Rattle.std.specs.Prelude.{◌<◌, IfOk};
+ghost use Rattle.span_world.specs.World.{KeepsATrace};
+ghost use Rattle.span_world.specs.Core.{config_of};
+
+use crate::choices::{Choice, Sent, choose};
+use crate::simulated::Simulated;
+use crate::spans::{policies_of, record_of};
+use otlp_types::{Ids, List, Record};
+use policy_tree::PolicyKind;
+use span_ids::{Reason, SpanId, TraceId};
+use span_world::{Config, Refusal, Step, World};
+use std::alloc::{AllocError, Global};
+use std::process::Abort;
+use std::test::Fail;
+
+/// The ids of a root of this trace; of two shards an odd one goes to shard 1. There is no trace 0.
+fn ids_of(rt: &impl Abort, trace: u8) -> Option<Ids> {
+    let text = match trace {
+        0 => return None,
+        1 => "00000000000000000000000000000001",
+        2 => "00000000000000000000000000000002",
+        3 => "00000000000000000000000000000003",
+        4 => "00000000000000000000000000000004",
+        5 => "00000000000000000000000000000005",
+        _ => "00000000000000000000000000000006",
+    };
+    Some(Ids {
+        trace: TraceId::parse(text).expect(rt, "a trace id"),
+        span: SpanId::parse("eee19b7ec3c1b174").expect(rt, "a span id"),
+        parent: None,
+    })
+}
+
+fn record_of_sent(rt: &impl Abort, alloc: Global, sent: Sent) -> Record {
+    record_of(
+        alloc,
+        ids_of(rt, sent.trace),
+        if sent.error { 2 } else { 0 },
+        0,
+    )
+}
+
+/// The world's step for a choice.
+fn step_of(rt: &impl Abort, alloc: Global, choice: Choice) -> Result<Step, AllocError> {
+    Ok(match choice {
+        Choice::Receive {
+            lane,
+            ordinal,
+            moment,
+            first,
+            second,
+        } => {
+            let mut records = vec![in alloc; record_of_sent(rt, alloc, first)]?;
+            records.push(record_of_sent(rt, alloc, second))?;
+            Step::Receive {
+                lane,
+                ordinal,
+                moment,
+                records,
+            }
+        }
+        Choice::Route { lane, shard } => Step::Route { lane, shard },
+        Choice::Refuse { lane, shard } => Step::Refuse { lane, shard },
+        Choice::Take {
+            shard,
+            refused,
+            lost,
+        } => Step::Take {
+            shard,
+            refused,
+            lost,
+        },
+        Choice::Tick { shard, moment } => Step::Tick { shard, moment },
+        Choice::Close { lane } => Step::Close { lane },
+        Choice::End { shard, sender } => Step::End { shard, sender },
+        Choice::Decide { shard } => Step::Decide { shard },
+        Choice::Ship { shard } => Step::Ship { shard },
+        Choice::Pull => Step::Pull,
+        Choice::Hand => Step::Hand,
+        Choice::Fail => Step::Fail,
+        Choice::Spoil { reason } => Step::Spoil { reason },
+    })
+}
+
+/// A wait of ten milliseconds, and one policy.
+fn config_with(
+    alloc: Global,
+    kind: PolicyKind,
+    limit: usize,
+    sampled_size: usize,
+    non_sampled_size: usize,
+    batch_size: usize,
+) -> Result<Config, Fail>
+    requires { 0 < limit }
+    ensures { IfOk result (λ config. KeepsATrace (config_of config)) }
+{
+    Ok(Config {
+        policies: policies_of(alloc, kind)?,
+        wait: 10,
+        limit: Some(limit),
+        sampled_size,
+        non_sampled_size,
+        batch_size,
+    })
+}
+
+/// One span of trace 1 from its receipt to the closed world; `ticks_again` puts a second tick behind the first.
+fn one_span(rt: &impl Abort, alloc: Global, ticks_again: bool) -> Result<Vec<Step>, Fail> {
+    let records = vec![in alloc; record_of(alloc, ids_of(rt, 1), 0, 0)]?;
+    let mut steps = vec![in alloc;
+        Step::Receive {
+            lane: 0,
+            ordinal: 0,
+            moment: 0,
+            records
+        },
+    ]?;
+    steps.push(Step::Route { lane: 0, shard: 0 })?;
+    steps.push(Step::Take {
+        shard: 0,
+        refused: false,
+        lost: false,
+    })?;
+    steps.push(Step::Tick {
+        shard: 0,
+        moment: 10,
+    })?;
+    if ticks_again {
+        steps.push(Step::Tick {
+            shard: 0,
+            moment: 10,
+        })?;
+    }
+    steps.push(Step::Decide { shard: 0 })?;
+    steps.push(Step::Ship { shard: 0 })?;
+    steps.push(Step::Pull)?;
+    steps.push(Step::Hand)?;
+    steps.push(Step::Close { lane: 0 })?;
+    steps.push(Step::End {
+        shard: 0,
+        sender: 0,
+    })?;
+    steps.push(Step::End {
+        shard: 0,
+        sender: 1,
+    })?;
+    Ok(steps)
+}
+
+/// Every kind of step but `Fail`, in a world of one lane and one shard.
+fn others(rt: &impl Abort, alloc: Global) -> Result<Vec<Step>, Fail> {
+    let records = vec![in alloc; record_of(alloc, ids_of(rt, 2), 0, 0)]?;
+    let mut steps = vec![in alloc;
+        Step::Receive {
+            lane: 0,
+            ordinal: 0,
+            moment: 20,
+            records
+        },
+    ]?;
+    steps.push(Step::Route { lane: 0, shard: 0 })?;
+    steps.push(Step::Refuse { lane: 0, shard: 0 })?;
+    steps.push(Step::Take {
+        shard: 0,
+        refused: false,
+        lost: false,
+    })?;
+    steps.push(Step::Tick {
+        shard: 0,
+        moment: 20,
+    })?;
+    steps.push(Step::Close { lane: 0 })?;
+    steps.push(Step::End {
+        shard: 0,
+        sender: 0,
+    })?;
+    steps.push(Step::End {
+        shard: 0,
+        sender: 1,
+    })?;
+    steps.push(Step::End {
+        shard: 0,
+        sender: 2,
+    })?;
+    steps.push(Step::Decide { shard: 0 })?;
+    steps.push(Step::Ship { shard: 0 })?;
+    steps.push(Step::Pull)?;
+    steps.push(Step::Hand)?;
+    steps.push(Step::Spoil {
+        reason: Reason::NoMemory,
+    })?;
+    steps.push(Step::Spoil {
+        reason: Reason::ExporterDown,
+    })?;
+    Ok(steps)
+}
+
+/// The answer to a step, where memory was not refused: that ends a test as such.
+fn answered(answer: Result<(), Refusal>) -> Result<Result<(), Refusal>, AllocError> {
+    match answer {
+        Err(Refusal::NoMemory) => Err(AllocError),
+        answer => Ok(answer),
+    }
+}
+
+#[test]
+fn one_span_through_the_world(rt: HostRuntime) -> Result<(), Fail> {
+    let alloc = rt.alloc();
+    let config = config_with(alloc, PolicyKind::AlwaysSample, 1, 0, 0, 1)?;
+    let steps = one_span(&rt, alloc, false)?;
+    let mut world = match World::replay(alloc, 1, 1, config, steps) {
+        Ok(world) => world,
+        Err((_, Refusal::NoMemory)) => return Err(AllocError.into()),
+        Err((place, refusal)) => panic!(&rt; "{refusal:?} at {place}"),
+    };
+    assert_eq!(&rt; world.handed().len(), 1);
+    for batch in world.handed() {
+        assert_eq!(&rt; batch.len(), 1);
+    }
+    assert_eq!(&rt; world.counted().len(), 0);
+    for step in others(&rt, alloc)? {
+        assert_eq!(&rt; answered(world.step(step))?, Err(Refusal::NotEnabled));
+    }
+    assert_eq!(&rt; world.step(Step::Fail), Ok(()));
+    assert_eq!(&rt; world.step(Step::Fail), Err(Refusal::NotEnabled));
+    Ok(())
+}
+
+#[test]
+fn second_tick_while_due(rt: HostRuntime) -> Result<(), Fail> {
+    let alloc = rt.alloc();
+    let config = config_with(alloc, PolicyKind::AlwaysSample, 1, 0, 0, 1)?;
+    let steps = one_span(&rt, alloc, true)?;
+    let refused = World::replay(alloc, 1, 1, config, steps).err();
+    if let Some((_, Refusal::NoMemory)) = refused {
+        return Err(AllocError.into());
+    }
+    assert_eq!(&rt; refused, Some((4, Refusal::NotEnabled)));
+    Ok(())
+}
+
+/// Random steps, each made by the world and by the simulation; one to which memory was refused is made again. `reached` gets the numbers of the reasons that were
+/// counted, 8 where a batch was handed over, and 9 where each shard took every End.
+fn run_beside(
+    rt: &impl Abort,
+    alloc: Global,
+    seed: u64,
+    reached: &mut Vec<u8>,
+) -> Result<(), Fail> {
+    let kind = PolicyKind::StatusCode {
+        codes: List::from_vec(vec![in alloc; 2]?),
+    };
+    let config = config_with(alloc, kind, 2, 1, 2, 2)?;
+    let mut world = World::new(alloc, 2, 2, config)?;
+    let mut simulated = Simulated::new(alloc)?;
+    let mut seed = seed;
+    for made in 0..600 {
+        let (next, choice) = choose(seed, made, made >= 300);
+        seed = next;
+        let enabled = simulated.step(choice)?;
+        let wanted = if enabled {
+            Ok(())
+        } else {
+            Err(Refusal::NotEnabled)
+        };
+        let mut answer = world.step(step_of(rt, alloc, choice)?);
+        if answer == Err(Refusal::NoMemory) {
+            answer = world.step(step_of(rt, alloc, choice)?);
+        }
+        assert_eq!(rt; answer, wanted, "{choice:?}, step {made}");
+        assert!(rt; simulated.is_like(&world), "{choice:?}, step {made}");
+    }
+    for span in world.counted() {
+        reached.push(span.reason.number())?;
+    }
+    if !world.handed().is_empty() {
+        reached.push(8)?;
+    }
+    if simulated.have_ended() {
+        reached.push(9)?;
+    }
+    Ok(())
+}
+
+#[test]
+fn random_runs_beside_a_simulation(rt: HostRuntime) -> Result<(), Fail> {
+    let mut reached = Vec::new(rt.alloc());
+    for seed in 1..25 {
+        run_beside(&rt, rt.alloc(), seed, &mut reached)?;
+    }
+    for wanted in 1..10 {
+        assert!(&rt; reached.contains(&wanted), "{wanted}");
+    }
+    Ok(())
+}

@@ -1,0 +1,197 @@
+//! Lists of policies that are taken, one for each fault at the top and inside an `and`, and their limiter nodes.
+use otlp_types::{List, Text, TryClone};
+use policy_tree::{LimiterNode, Policies, Policy, PolicyFault, PolicyKind, Wanted};
+use std::alloc::{AllocError, Global};
+use std::test::Fail;
+
+/// Policies on so many status codes; those after the first `named` have one name.
+fn list_of(alloc: Global, count: u32, named: u32, codes: usize) -> Result<Vec<Policy>, AllocError> {
+    let mut list = Vec::new(alloc);
+    for i in 0..count {
+        let name = format!(in alloc; "{}", i.min(named))?;
+        let kind = PolicyKind::StatusCode {
+            codes: List::from_vec(vec![in alloc; 2; codes]?),
+        };
+        list.push(Policy {
+            name: Text::from_string(name),
+            kind,
+        })?;
+    }
+    Ok(list)
+}
+
+#[test]
+fn policy_limits(rt: HostRuntime) -> Result<(), Fail> {
+    let alloc = rt.alloc();
+    let cases: [(u32, u32, usize, Option<u8>); 7] = [
+        (0, 0, 1, Some(1)),
+        (1, 1, 1, None),
+        (64, 64, 2, None),
+        (65, 64, 1, Some(3)),
+        (65, 0, 0, Some(3)),
+        (2, 0, 0, Some(4)),
+        (2, 2, 0, Some(6)),
+    ];
+    for (count, named, codes, number) in cases {
+        let made = Policies::new(alloc, list_of(alloc, count, named, codes)?);
+        assert_eq!(rt;
+            made.err().map(PolicyFault::number),
+            number,
+            "{count} policies"
+        );
+    }
+    Ok(())
+}
+
+#[test]
+fn copies_are_made(rt: HostRuntime) -> Result<(), Fail> {
+    let alloc = rt.alloc();
+    let policies = Policies::new(alloc, list_of(alloc, 3, 3, 2)?)?;
+    assert_eq!(rt; policies.try_clone(alloc)?.as_slice().len(), 3);
+    Ok(())
+}
+
+/// The number of the fault of a list of one policy of this kind.
+fn fault_of(alloc: Global, kind: PolicyKind) -> Result<Option<u8>, AllocError> {
+    let policy = Policy {
+        name: Text::new(alloc),
+        kind,
+    };
+    let made = Policies::new(alloc, vec![in alloc; policy]?);
+    Ok(made.err().map(PolicyFault::number))
+}
+
+#[test]
+fn policy_bounds(rt: HostRuntime) -> Result<(), Fail> {
+    let alloc = rt.alloc();
+    for (least, most, of_latency, of_count) in [
+        (500, 500, Some(5), None),
+        (500, 499, Some(5), Some(5)),
+        (500, 0, None, None),
+        (0, 1, None, None),
+    ] {
+        let latency = PolicyKind::Latency {
+            threshold_ms: least,
+            upper_threshold_ms: most,
+        };
+        let count = PolicyKind::SpanCount {
+            min_spans: least,
+            max_spans: most,
+        };
+        assert_eq!(rt;
+            fault_of(alloc, latency)?,
+            of_latency,
+            "latency {least} to {most}"
+        );
+        assert_eq!(rt;
+            fault_of(alloc, count)?,
+            of_count,
+            "count {least} to {most}"
+        );
+    }
+    let attributes = [
+        (
+            Wanted::NumberWithin {
+                min_value: 1,
+                max_value: 0,
+            },
+            Some(5),
+        ),
+        (
+            Wanted::NumberWithin {
+                min_value: -1,
+                max_value: -1,
+            },
+            None,
+        ),
+        (Wanted::StringAmong(List::new(alloc)), Some(6)),
+        (Wanted::Boolean(false), None),
+    ];
+    for (wanted, number) in attributes {
+        let kind = PolicyKind::Attribute {
+            key: Text::new(alloc),
+            wanted,
+            invert_match: false,
+        };
+        assert_eq!(rt; fault_of(alloc, kind)?, number);
+    }
+    Ok(())
+}
+
+/// A policy of this name and kind.
+fn named(alloc: Global, name: &str, kind: PolicyKind) -> Result<Policy, AllocError> {
+    Ok(Policy {
+        name: Text::from_str(alloc, name)?,
+        kind,
+    })
+}
+
+/// An `and` of these policies.
+fn and_of(policies: Vec<Policy>) -> PolicyKind {
+    PolicyKind::And {
+        policies: List::from_vec(policies),
+    }
+}
+
+/// A kind inside so many `and`s.
+fn nested(alloc: Global, levels: u32, inner: PolicyKind) -> Result<PolicyKind, AllocError> {
+    let mut kind = inner;
+    for _ in 0..levels {
+        kind = and_of(vec![in alloc; named(alloc, "a", kind)?]?);
+    }
+    Ok(kind)
+}
+
+#[test]
+fn policy_limits_of_nested_lists(rt: HostRuntime) -> Result<(), Fail> {
+    let alloc = rt.alloc();
+    let empty = || and_of(Vec::new(alloc));
+    for (levels, number) in [(7, None), (8, Some(2))] {
+        let kind = nested(alloc, levels, PolicyKind::AlwaysSample)?;
+        assert_eq!(rt; fault_of(alloc, kind)?, number, "{levels} levels");
+    }
+    for levels in [0, 1, 8, 20] {
+        assert_eq!(rt; fault_of(alloc, nested(alloc, levels, empty())?)?, Some(1));
+    }
+    for (count, number) in [(63, None), (64, Some(3))] {
+        let kind = and_of(list_of(alloc, count, count, 1)?);
+        assert_eq!(rt; fault_of(alloc, kind)?, number, "{count} parts");
+    }
+    assert_eq!(rt; fault_of(alloc, and_of(list_of(alloc, 2, 0, 0)?))?, Some(4));
+    let crossed = PolicyKind::SpanCount {
+        min_spans: 2,
+        max_spans: 1,
+    };
+    assert_eq!(rt; fault_of(alloc, nested(alloc, 3, crossed)?)?, Some(5));
+    let no_codes = PolicyKind::StatusCode {
+        codes: List::new(alloc),
+    };
+    assert_eq!(rt; fault_of(alloc, nested(alloc, 3, no_codes)?)?, Some(6));
+    Ok(())
+}
+
+/// `and` of (always, a limit of 3), a limit of 4, and an `and` of an `and` of a limit of 5.
+fn limited(alloc: Global) -> Result<Vec<Policy>, AllocError> {
+    let rate = |spans_per_second: u64| PolicyKind::RateLimiting { spans_per_second };
+    let always = named(alloc, "always", PolicyKind::AlwaysSample)?;
+    let first = and_of(vec![in alloc; always, named(alloc, "rate", rate(3))?]?);
+    Ok(vec![in alloc;
+        named(alloc, "first", first)?,
+        named(alloc, "rate", rate(4))?,
+        named(alloc, "last", nested(alloc, 2, rate(5))?)?,
+    ]?)
+}
+
+#[test]
+fn limiter_nodes_by_the_walk(rt: HostRuntime) -> Result<(), Fail> {
+    let alloc = rt.alloc();
+    let policies = Policies::new(alloc, limited(alloc)?)?;
+    let expected = [(2, 3), (3, 4), (6, 5)].map(|(node, spans_per_second)| LimiterNode {
+        node,
+        spans_per_second,
+    });
+    assert_eq!(rt; policies.limiters(alloc)?.as_slice(), expected.as_slice());
+    let copy = policies.try_clone(alloc)?;
+    assert_eq!(rt; copy.limiters(alloc)?.as_slice(), expected.as_slice());
+    Ok(())
+}

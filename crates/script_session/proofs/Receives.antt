@@ -1,0 +1,121 @@
+-- A request is answered, and what it gives is counted.
+use Rattle.std.proofs.Common.{◌≡◌, ℕ, ◌+◌, ◌<◌, Bool, true, false, List, Option, [], ◌∷◌, length, refl, sym, ap, subst, ◌∙◌, inl, inr, arith}
+use Rattle.otlp_types.specs.declared.arrival.Item.{Item}
+use Rattle.lane_queue.specs.Queues.{QueueState}
+use Rattle.lane_seq.specs.declared.reply.Reply.{Reply}
+use Rattle.lane_seq.specs.declared.reply.Reply.TheVariants.{Done, Partial, BadData, Busy}
+use Rattle.lane_seq.specs.Replies.{IsReplyTo}
+use Rattle.shard_core.specs.Journal.{Settings, Journal}
+use Rattle.shard_core.specs.Held.{Held}
+use Rattle.span_sink.specs.LineSinks.{LineSinkState}
+use Rattle.span_exporter.specs.declared.answer.Flushed.{Flushed}
+use Rattle.span_exporter.specs.Exports.{ExporterState, Sends, WritesLine}
+use Rattle.drop_ledger.specs.declared.count.Count.{Count}
+use Rattle.script_run.specs.Connections.{Contacts, connection_of, with_connection}
+use Rattle.script_run.specs.Requests.{IsTakenFor, reply_line, reads, refuses, arrivals_of}
+use Rattle.script_run.specs.World.{World, Sizes, RunsToQuiet, RepliesAndRuns, Receives, after_reply, after_receiving, empty_queues}
+use Rattle.script_run.specs.Counts.{number_of, counted_for}
+use Rattle.script_session.specs.Adding.{Adds}
+use Rattle.script_session.specs.Submitting.{Submits, is_received, received_by}
+use Rattle.script_session.specs.Pulling.{Export, HaveSettings, HaveReleased, RoundsTaken, AreOf, items_in}
+use Rattle.script_session.proofs.Adds.{Reports-grow}
+use Rattle.script_session.proofs.Numbers.{number-received, number-replied, refusal-counts}
+use Rattle.script_session.proofs.Quiet.{quiets}
+
+-- The world just before the reply: what the reply tells is counted. The reply and these rounds from there on are what the request does.
+pub record Answered (s : Settings) (sizes : Sizes) (w : World) (number moment : ℕ) (body : List ℕ) (reply : Reply) (rounds : List (List (List Item))) (later : Contacts) : Type 0 where
+  pub mid : World
+  pub contacts : later ≡ mid.contacts
+  pub journals : mid.journals ≡ w.journals
+  pub closed : mid.closed ≡ w.closed
+  pub numbers : (k : Count) → number_of s mid k ≡ number_of s w k + received_by reply k
+  pub leads : (sink : LineSinkState) (end : World) → WritesLine w.sink (reply_line reply) sink → RunsToQuiet s sizes (after_reply reply sink mid) rounds end → Receives s sizes w number moment body end
+
+was-read : (spans invalid full : ℕ) (r : Reply) → IsReplyTo spans invalid full r → is_received r ≡ true
+was-read spans invalid full (Done n) t = refl
+was-read spans invalid full (Partial n rejected) t = refl
+was-read spans invalid full (BadData cause) t = absurd t
+was-read spans invalid full Busy t = absurd t
+
+not-read : (body : List ℕ) (r : Reply) → IsTakenFor body (refuses r) → is_received r ≡ false
+not-read body (Done n) t = absurd t
+not-read body (Partial n rejected) t = absurd t
+not-read body (BadData cause) t = refl
+not-read body Busy t = refl
+
+module _ (s : Settings) (sizes : Sizes) (w : World) (number moment : ℕ) (body : List ℕ) (later : Contacts) (after : List (QueueState Item)) (reply : Reply) (rounds : List (List (List Item)))
+    (on_read : is_received reply ≡ true → rounds ≡ items_in after ∷ []) (on_refused : is_received reply ≡ false → rounds ≡ []) where
+  none-counted : (v : World) → is_received reply ≡ false → ((k : Count) → number_of s v k ≡ number_of s w k) → (k : Count) → number_of s v k ≡ number_of s w k + received_by reply k
+  none-counted v refuses_it same k = same k ∙ plus (number_of s w k) (received_by reply k) (refusal-counts reply refuses_it k)
+    where
+      plus : (n m : ℕ) → m ≡ 0 → n ≡ n + m
+      plus n m e = omega arith
+
+  pub answered : Submits w.contacts number moment body (empty_queues sizes.queue (length w.journals)) reply after later → Answered s sizes w number moment body reply rounds later
+  answered (inl d) =
+      let refuses_it : is_received reply ≡ false = ap is_received d.1 in
+      record {
+        mid = w;
+        contacts = d.3;
+        journals = refl;
+        closed = refl;
+        numbers = none-counted w refuses_it (λ k. refl);
+        leads = λ sink end line runs.
+            let P = λ (r : List (List (List Item))). RunsToQuiet s sizes (after_reply reply sink w) r end in
+            let B = λ (r : Reply). RepliesAndRuns s sizes w r [] end in
+            inl (d.0, subst B d.1 (sink, line, subst P (on_refused refuses_it) runs));
+      }
+  answered (inr (inl d)) =
+      let refuses_it = not-read body reply d.0 in
+      let mid : World = record w { contacts = with_connection number w.contacts } in
+      record {
+        mid = mid;
+        contacts = d.2;
+        journals = refl;
+        closed = refl;
+        numbers = none-counted mid refuses_it (λ k. refl);
+        leads = λ sink end line runs.
+            let P = λ (r : List (List (List Item))). RunsToQuiet s sizes (after_reply reply sink mid) r end in
+            inr (refuses reply, d.0, (sink, line, subst P (on_refused refuses_it) runs));
+      }
+  answered (inr (inr d)) =
+      let arrivals = arrivals_of (connection_of number w.contacts) moment d.0 in
+      let mid = after_receiving number arrivals d.2.refused w in
+      let reads_it = was-read _ _ d.2.refused reply d.2.replied in
+      record {
+        mid = mid;
+        contacts = d.3;
+        journals = refl;
+        closed = refl;
+        numbers = number-received s w number arrivals d.2.refused reply d.2.replied;
+        leads = λ sink end line runs.
+            let P = λ (r : List (List (List Item))). RunsToQuiet s sizes (after_reply reply sink mid) r end in
+            inr (reads d.0, d.1, (reply, after, d.2, (sink, line, subst P (on_read reads_it) runs)));
+      }
+
+-- a request was read or refused, what the reply tells was counted, and the shards took what was received
+pub receives : (s : Settings) (sizes : Sizes) (w : World) (number moment : ℕ) (body : List ℕ) (known later : Contacts) (before after : List (QueueState Item)) (reply : Reply) (old new : List Held)
+    (first noted : ExporterState) (report counted : Option (List ℕ)) (between final : Export) (closed : Bool) (rounds : List (List (List Item)))
+    → AreOf s w known old first report closed → before ≡ empty_queues sizes.queue (length w.journals) → Submits known number moment body before reply after later
+    → (is_received reply ≡ true → rounds ≡ items_in after ∷ []) → (is_received reply ≡ false → rounds ≡ [])
+    → WritesLine first.sink (reply_line reply) noted.sink → Adds report (received_by reply) counted → noted.size ≡ sizes.batch → length noted.batch ≡ 0
+    → RoundsTaken old (noted, counted) rounds new between → HaveSettings s new
+    → length between.0.batch < between.0.size
+    → ((flushed : Flushed) × Sends between.0.sink between.0.batch flushed final.0.sink × Adds between.1 (λ count. counted_for count flushed) final.1)
+    → (end : World) × Receives s sizes w number moment body end × AreOf s end later new final.0 final.1 closed
+receives s sizes w number moment body known later before after reply old new first noted report counted between final closed rounds are before_is submits on_read on_refused line adds size_is empty takes alike room sent =
+    let S = λ (k : Contacts). Submits k number moment body before reply after later in
+    let E = λ (q : List (QueueState Item)). Submits w.contacts number moment body q reply after later in
+    let W = λ (k : LineSinkState). WritesLine k (reply_line reply) noted.sink in
+    let a = answered s sizes w number moment body later after reply rounds on_read on_refused (subst E before_is (subst S are.contacts_are submits)) in
+    let mid = after_reply reply noted.sink a.mid in
+    let R = λ (js : List Journal). HaveReleased old js in
+    let q = quiets s sizes mid later old new (noted, counted) between final closed rounds (record {
+      contacts_are = a.contacts;
+      settings_are = are.settings_are;
+      released_all = subst R (sym a.journals) are.released_all;
+      sink_is = refl;
+      reports = Reports-grow s w mid report counted (received_by reply) (λ k. number-replied s a.mid reply noted.sink k ∙ a.numbers k) are.reports adds;
+      closed_is = are.closed_is ∙ sym a.closed;
+    }) size_is empty takes alike room sent in
+    (q.0, a.leads noted.sink q.0 (subst W are.sink_is line) q.1, q.2)

@@ -1,0 +1,63 @@
+-- What a reply tells of its request.
+use Rattle.std.proofs.Common.{◌≡◌, ℕ, ◌+◌, true, false, List, Some, None, length, refl, sym, ap, subst, ◌∙◌, inl, inr}
+use Rattle.std.specs.Prelude.{nat_eq}
+use Rattle.indexmap.specs.IndexMap.{insert_entry}
+use Rattle.lane_queue.specs.Queues.{QueueState, TakesLast, IsFull}
+use Rattle.lane_seq.specs.Pushes.{Receives as IsPushed}
+use Rattle.lane_seq.specs.Numbers.{arrivals_from}
+use Rattle.lane_seq.specs.declared.preparing.Conn.{Conn}
+use Rattle.otlp_flatten.specs.Flat.{records_of}
+use Rattle.otlp_types.specs.declared.request.Request.{Request}
+use Rattle.otlp_types.specs.declared.arrival.Item.{Item}
+use Rattle.script_run.specs.Connections.{Contacts, connection_of, with_connection, with_spans}
+use Rattle.serde_json.specs.Data.{Data}
+use Rattle.otlp_json.specs.Decoding.{IsJson}
+use Rattle.otlp_json.specs.Reading.{request_of}
+use Rattle.lane_seq.specs.declared.reply.Reply.{Reply}
+use Rattle.lane_seq.specs.declared.reply.Reply.TheVariants.{Done, Partial, BadData as BadRequest, Busy}
+use Rattle.lane_seq.specs.declared.reply.BadData.TheVariants.{Json, Shape}
+use Rattle.lane_seq.specs.Replies.{IsRefusal, OnReceived}
+use Rattle.script_run.specs.Requests.{IsTakenFor, refuses, arrivals_of}
+use Rattle.script_session.specs.Submitting.{Submits, is_received}
+
+-- what holds where the spans were received
+pub received : (reply : Reply) (F : Type 0) → is_received reply ≡ true → OnReceived reply F → F
+received (Done spans) F e f = f
+received (Partial spans rejected) F e f = f
+received (BadRequest cause) F e f = absurd (cc e)
+received Busy F e f = absurd (cc e)
+
+pub refusal : (reply : Reply) → is_received reply ≡ false → IsRefusal reply
+refusal (Done spans) e = absurd (cc e)
+refusal (Partial spans rejected) e = absurd (cc e)
+refusal (BadRequest cause) e = tt
+refusal Busy e = tt
+
+-- the cause of a refusal
+pub refused : (reply : Reply) (body : List ℕ) → is_received reply ≡ false → (reply ≡ BadRequest Json → (d : Data) → IsJson body d → ⊥)
+    → (reply ≡ BadRequest Shape → (d : Data) × IsJson body d × (request_of d ≡ None)) → IsTakenFor body (refuses reply)
+refused (Done spans) body e json shape = absurd (cc e)
+refused (Partial spans rejected) body e json shape = absurd (cc e)
+refused (BadRequest Json) body e json shape = json refl
+refused (BadRequest Shape) body e json shape = shape refl
+refused Busy body e json shape = tt
+
+-- a request that was read
+pub submits-read : (old mid new : Contacts) (number moment : ℕ) (body : List ℕ) (before after lane_before lane_after : List (QueueState Item)) (reply : Reply) (conn conn_after : Conn)
+    → conn ≡ connection_of number old → mid ≡ with_connection number old → new ≡ record mid { connections = insert_entry nat_eq mid.connections number conn_after } → lane_before ≡ before → after ≡ lane_after
+    → ((d : Data) × (request : Request) × IsJson body d × (request_of d ≡ Some request) × IsPushed TakesLast IsFull (arrivals_from conn.key conn.next moment (records_of request)) lane_before reply lane_after
+    × (conn_after ≡ record conn { next = conn.next + length (arrivals_from conn.key conn.next moment (records_of request)) }))
+    → Submits old number moment body before reply after new
+submits-read old mid new number moment body before after lane_before lane_after reply conn conn_after is_conn is_mid is_new is_before is_after r =
+    let request = r.1 in
+    let B = λ (q : List (QueueState Item)). IsPushed TakesLast IsFull (arrivals_of conn moment request) q reply lane_after in
+    let A = λ (q : List (QueueState Item)). IsPushed TakesLast IsFull (arrivals_of conn moment request) before reply q in
+    let C = λ (k : Conn). IsPushed TakesLast IsFull (arrivals_of k moment request) before reply after in
+    let N = λ (m : Contacts) (k : Conn). (let c : Contacts = record m { connections = with_spans number k (length (arrivals_of k moment request)) m.connections } in c) in
+    let grown : new ≡ N mid conn = is_new ∙ ap (λ (k : Conn). let c : Contacts = record mid { connections = insert_entry nat_eq mid.connections number k } in c) r.5 in
+    inr (inr (request, (r.0, r.2, r.3), subst C is_conn (subst A (sym is_after) (subst B is_before r.4)), grown ∙ ap (λ (m : Contacts). N m conn) is_mid ∙ ap (N (with_connection number old)) is_conn))
+
+-- a request that was refused
+pub submits-refused : (old mid : Contacts) (number moment : ℕ) (body : List ℕ) (before after lane_before lane_after : List (QueueState Item)) (reply : Reply)
+    → mid ≡ with_connection number old → lane_before ≡ before → after ≡ lane_after → lane_after ≡ lane_before → IsTakenFor body (refuses reply) → Submits old number moment body before reply after mid
+submits-refused old mid number moment body before after lane_before lane_after reply is_mid is_before is_after same taken = inr (inl (taken, is_after ∙ same ∙ is_before, is_mid))

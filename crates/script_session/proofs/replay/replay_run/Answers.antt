@@ -1,0 +1,25 @@
+use Rattle.std.proofs.Common.{ℕ, false, length, refl, sym, ap, subst, ◌∙◌, arith}
+use Rattle.std.proofs.lemmas.List.{length-replicate}
+use Rattle.script_run.specs.Connections.{Contacts}
+use Rattle.script_run.specs.World.{empty_queues}
+use Rattle.script_session.specs.Pulling.{AreQuiet, ends_of}
+use Rattle.script_session.proofs.Quiet.{none-due-now, ends-now}
+use Rattle.script_session.proofs.replay.replay_run.Goals as goal
+
+pub invariant_of-session-clause-none_due : goal.invariant_of-session-clause-none_due
+invariant_of-session-clause-none_due g c =
+    let made = c.in-Ok.ensures.shards in
+    none-due-now (ends_of c.args.config.lanes false) _ _ refl made.2
+
+pub invariant_of-session-clause-ends : goal.invariant_of-session-clause-ends
+invariant_of-session-clause-ends g c =
+    let made = c.in-Ok.ensures.shards in
+    let lanes = ap (λ (k : Contacts). length k.connected) c.in-Ok.ensures.connections ∙ length-replicate c.args.config.lanes 0 in
+    let P = λ (n : ℕ). AreQuiet (ends_of n false) c.in-Ok.parts.shards.items in
+    ends-now (length c.in-Ok.parts.connections.connected) false false _ _ refl refl (subst P (sym lanes) made.2)
+
+pub invariant_of-session-clause-some : goal.invariant_of-session-clause-some
+invariant_of-session-clause-some g c = let made = c.in-Ok.ensures.shards in omega (arith, made.0, c.requires.shards)
+
+pub invariant_of-session-clause-empty : goal.invariant_of-session-clause-empty
+invariant_of-session-clause-empty g c = let made = c.in-Ok.ensures.shards in c.in-Ok.ensures.queues ∙ ap (empty_queues c.args.config.queue_capacity) (sym made.0)

@@ -1,0 +1,52 @@
+use Rattle.std.proofs.Common.{None, sym, ap, subst, ◌∙◌}
+use Rattle.span_ids.specs.declared.outcome.Reason.TheVariants.{Evicted}
+use Rattle.shard_core.specs.declared.answer.Taken.{Taken}
+use Rattle.shard_core.specs.declared.answer.Taken.TheVariants.{Kept, Ticked, Ended, Finished}
+use Rattle.shard_core.specs.Taking.{released_by, dropped_by}
+use Rattle.script_session.specs.Pulling.{PullsAll}
+use Rattle.script_session.proofs.Pulls.{PullsAll-none, pulled-dropped}
+use Rattle.script_session.proofs.Adds.{none-dropped, none-under}
+use Rattle.script_session.proofs.taking.pull_taken.Goals as goal
+
+pub returns-in-Dropped-clause-pulls : goal.returns-in-Dropped-clause-pulls
+returns-in-Dropped-clause-pulls g c =
+    let e = c.args.exporter.now in
+    let P = λ (t : Taken). PullsAll (e, c.args.report.now) (released_by t) (λ reason. dropped_by reason t) (e, c.count.new.report) in
+    subst P (sym c.in-Dropped.is) (pulled-dropped e c.args.report.now c.count.new.report c.in-Dropped.reason 1 c.count.ensures)
+
+pub returns-in-Kept-Some-default-clause-pulls : goal.returns-in-Kept-Some-default-clause-pulls
+returns-in-Kept-Some-default-clause-pulls g c =
+    let e = c.args.exporter.now in
+    let kept = c.in-Kept-Some-default in
+    let new = c.count-in-Kept-Some-default.new.report in
+    let P = λ (t : Taken). PullsAll (e, c.args.report.now) (released_by t) (λ reason. dropped_by reason t) (e, new) in
+    subst P (sym (kept.is ∙ ap (λ evicted. Kept evicted kept.cache) kept.evicted-is)) (pulled-dropped e c.args.report.now new Evicted kept.left.spans c.count-in-Kept-Some-default.ensures)
+
+pub returns-in-Ticked-clause-pulls : goal.returns-in-Ticked-clause-pulls
+returns-in-Ticked-clause-pulls g c =
+    let e = c.args.exporter.now in
+    let r = c.args.report.now in
+    let P = λ (t : Taken). PullsAll (e, r) (released_by t) (λ reason. dropped_by reason t) (e, r) in
+    subst P (sym c.in-Ticked.is) (PullsAll-none (e, r) (λ reason. dropped_by reason Ticked) none-dropped)
+
+pub returns-in-Ended-clause-pulls : goal.returns-in-Ended-clause-pulls
+returns-in-Ended-clause-pulls g c =
+    let e = c.args.exporter.now in
+    let r = c.args.report.now in
+    let P = λ (t : Taken). PullsAll (e, r) (released_by t) (λ reason. dropped_by reason t) (e, r) in
+    subst P (sym c.in-Ended.is) (PullsAll-none (e, r) (λ reason. dropped_by reason Ended) none-dropped)
+
+pub returns-in-Finished-clause-pulls : goal.returns-in-Finished-clause-pulls
+returns-in-Finished-clause-pulls g c =
+    let e = c.args.exporter.now in
+    let r = c.args.report.now in
+    let P = λ (t : Taken). PullsAll (e, r) (released_by t) (λ reason. dropped_by reason t) (e, r) in
+    subst P (sym c.in-Finished.is) (PullsAll-none (e, r) (λ reason. dropped_by reason Finished) none-dropped)
+
+pub returns-in-Kept-None-default-clause-pulls : goal.returns-in-Kept-None-default-clause-pulls
+returns-in-Kept-None-default-clause-pulls g c =
+    let e = c.args.exporter.now in
+    let r = c.args.report.now in
+    let kept = c.in-Kept-None-default in
+    let P = λ (t : Taken). PullsAll (e, r) (released_by t) (λ reason. dropped_by reason t) (e, r) in
+    subst P (sym (kept.is ∙ ap (λ evicted. Kept evicted kept.cache) kept.evicted-is)) (PullsAll-none (e, r) (λ reason. dropped_by reason (Kept None kept.cache)) (none-under Evicted))

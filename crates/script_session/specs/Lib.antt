@@ -1,0 +1,7 @@
+pub mod Adding
+pub mod Pulling
+pub mod Replay
+pub mod Answers
+pub mod Signals
+pub mod Submitting
+pub mod Starting

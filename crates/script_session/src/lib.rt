@@ -1,0 +1,19 @@
+//! A script of requests and moments, run in one thread: lanes, queues, shards, exporter and counts together.
+//!
+//! [`replay_run`] promises that what it did is what the script's instructions lead to, and so a run of the core: `specs/Replay`
+//! says what each of its answers tells of the reader, the sink and the report.
+#![tactic(auto)]
+
+mod connections;
+mod ending;
+mod fault;
+mod pulling;
+mod receiving;
+mod replay;
+mod replying;
+mod session;
+mod signal;
+mod taking;
+
+pub use fault::RunFault;
+pub use replay::replay_run;

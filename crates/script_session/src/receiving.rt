@@ -1,0 +1,66 @@
+ghost use Rattle.std.specs.Prelude.{◌≡◌, ◌<◌, length};
+ghost use Rattle.script_session.specs.Adding.{Adds};
+ghost use Rattle.script_session.specs.Submitting.{Submits, is_received, received_by};
+
+use crate::connections::Connections;
+use crate::pulling::count;
+use drop_ledger::{Count, Report};
+use lane_queue::ListPort;
+use lane_seq::{Lane, Reply};
+use otlp_types::Item;
+use span_ids::{Moment, Reason};
+use std::alloc::Global;
+
+/// Reads a request on the lane of its connection: its spans get their numbers and go to the queues of their shards, one
+/// for each. The reply tells what became of it. The queues come back.
+pub fn submit(
+    alloc: Global,
+    connections: &mut Connections,
+    queues: Vec<ListPort<Item>>,
+    number: u64,
+    moment: Moment,
+    body: &[u8],
+) -> (Reply, Vec<ListPort<Item>>)
+    requires some { 0 < length queues.items }
+    ensures submits { Submits connections.old number moment body.now queues.items result.0 result.1.items connections.new }
+    ensures length { length result.1.items ≡ length queues.items }
+    ensures lanes { length connections.new.connected ≡ length connections.old.connected }
+{
+    let Ok(conn) = connections.connect(number) else {
+        return (Reply::Busy, queues);
+    };
+    let mut after = conn;
+    let mut lane = Lane::new(conn.key.lane, queues);
+    let reply = lane.submit(alloc, &mut after, body, moment);
+    if is_received(&reply) {
+        connections.put(number, after);
+    }
+    (reply, lane.end().ports)
+}
+
+/// Whether the spans of the request were received.
+pub fn is_received(reply: &Reply) -> bool
+    ensures { result ≡ is_received reply.now }
+{
+    match reply {
+        Reply::Done { .. } => true,
+        Reply::Partial { .. } => true,
+        Reply::BadData(_) => false,
+        Reply::Busy => false,
+    }
+}
+
+/// Counts the spans of a request, and those of them that go to no shard.
+pub fn count_received(report: &mut Option<Report>, reply: &Reply)
+    ensures { Adds report.old (received_by reply.now) report.new }
+{
+    match reply {
+        Reply::Done { spans } => count(report, Count::Received, *spans),
+        Reply::Partial { spans, rejected } => {
+            count(report, Count::Received, *spans);
+            count(report, Count::Dropped(Reason::InvalidId), rejected.invalid);
+            count(report, Count::Dropped(Reason::QueueFull), rejected.full);
+        }
+        Reply::BadData(_) | Reply::Busy => {}
+    }
+}

@@ -1,0 +1,221 @@
+//! The parts of the collector, driven by a script.
+ghost use Rattle.std.specs.Prelude.{◌≡◌, ◌<◌, ◌≤◌, [], ◌++◌, true, false, not, map, length, vec_capacity};
+ghost use Rattle.shard_core.specs.Journal.{Settings};
+ghost use Rattle.tsc_script.specs.Instructions.{instruction_of_command, is_close, receive, tick, close};
+ghost use Rattle.span_exporter.specs.Exports.{WritesLine};
+ghost use Rattle.script_session.specs.declared.replying.TheConstants.{MAX_REPLY_LINE};
+ghost use Rattle.script_run.specs.Requests.{reply_line};
+ghost use Rattle.script_run.specs.World.{World, Plays, PlaysAll, empty_queues};
+ghost use Rattle.script_session.specs.Pulling.{AreOf, has_none_due, ends_in, ends_of};
+ghost use Rattle.script_session.specs.Answers.{AnswersStop};
+
+use crate::connections::Connections;
+use crate::ending::end_all;
+use crate::fault::RunFault;
+use crate::pulling::send;
+use crate::receiving::{count_received, is_received, submit};
+use crate::replying::{MAX_REPLY_LINE, write_reply_line};
+use crate::signal::Signal;
+use crate::taking::{take_received, tell_each};
+use drop_ledger::Report;
+use lane_queue::ListPort;
+use lane_seq::Reply;
+use otlp_types::Item;
+use shard_core::Shard;
+use span_exporter::Exporter;
+use span_ids::Moment;
+use span_sink::Sink;
+use std::alloc::Global;
+use std::mem;
+use tsc_script::{Command, Machine, Stop};
+
+/// The connections, the shards and the exporter, between two lines of a script: the queues are empty, all that was due is
+/// decided, and all that was released has gone to the sink.
+#[derive(Drop)]
+pub struct Session<S: Sink> {
+    pub alloc: Global,
+    pub connections: Connections,
+    /// The queue of each shard.
+    pub queues: Vec<ListPort<Item>>,
+    /// How many spans the queue of a shard holds.
+    pub queue_capacity: usize,
+    pub shards: Vec<Shard>,
+    pub exporter: Exporter<S>,
+    /// Room for a reply line.
+    pub text: Vec<u8>,
+    /// The counts, or `None` once a count would have passed 2^64-1.
+    pub report: Option<Report>,
+    /// Whether the lanes and the ticker have ended.
+    pub closed: bool,
+    ghost none_due: { has_none_due shards.items ≡ true },
+    ghost ends: { ends_in shards.items ≡ map (λ _. ends_of (length connections.connected) closed) shards.items },
+    ghost some: { 0 < length shards.items },
+    ghost empty: { queues.items ≡ empty_queues queue_capacity (length shards.items) },
+    ghost sent: { length exporter.batch ≡ 0 },
+    ghost batches: { 0 < exporter.size },
+    ghost room: { MAX_REPLY_LINE ≤ vec_capacity text },
+}
+
+impl<S: Sink> Session<S> {
+    /// Gives the sink back, with the report or what kept the script from its end.
+    pub fn end(self, played: Result<(), Stop>) -> (S, Result<Report, RunFault>)
+        ensures taken { S.taken result.0 ≡ self.exporter.sink.taken }
+        ensures failures { S.failures result.0 ≡ self.exporter.sink.failures }
+        ensures answer { AnswersStop played self.report result.1 }
+    {
+        let Session {
+            alloc: _,
+            connections: _,
+            queues: _,
+            queue_capacity: _,
+            shards: _,
+            exporter,
+            text: _,
+            report,
+            closed: _,
+        } = self;
+        (exporter.end().end(), answer_of(played, report))
+    }
+
+    /// Answers a request, and gives its spans to the shards.
+    fn receive(&mut self, number: u64, moment: Moment, body: &[u8])
+        requires open { self.old.closed ≡ false }
+        requires up { self.old.exporter.sink.is_down ≡ false }
+        ensures plays { (s : Settings) (w : World) → AreOf s w self.old.connections self.old.shards.items self.old.exporter self.old.report self.old.closed
+            → (after : World) × Plays s (record { batch = self.old.exporter.size; queue = self.old.queue_capacity }) w (receive number moment body.now) after
+            × AreOf s after self.new.connections self.new.shards.items self.new.exporter self.new.report self.new.closed }
+        ensures size { self.new.exporter.size ≡ self.old.exporter.size }
+        ensures queue { self.new.queue_capacity ≡ self.old.queue_capacity }
+        ensures stays_open { self.new.closed ≡ false }
+        ensures stays_down { self.old.exporter.sink.is_down ≡ true → self.new.exporter.sink.is_down ≡ true }
+    {
+        let queues = mem::replace(&mut self.queues, Vec::new(self.alloc));
+        let (reply, queues) = submit(
+            self.alloc,
+            &mut self.connections,
+            queues,
+            number,
+            moment,
+            body,
+        );
+        self.queues = queues;
+        count_received(&mut self.report, &reply);
+        hand_reply(&mut self.text, &mut self.exporter, &reply);
+        take_received(
+            is_received(&reply),
+            &mut self.shards,
+            &mut self.queues,
+            &mut self.exporter,
+            &mut self.report,
+        );
+        send(&mut self.exporter, &mut self.report);
+    }
+
+    /// Takes a moment.
+    fn tick(&mut self, moment: Moment)
+        requires open { self.old.closed ≡ false }
+        requires up { self.old.exporter.sink.is_down ≡ false }
+        ensures plays { (s : Settings) (w : World) → AreOf s w self.old.connections self.old.shards.items self.old.exporter self.old.report self.old.closed
+            → (after : World) × Plays s (record { batch = self.old.exporter.size; queue = self.old.queue_capacity }) w (tick moment) after
+            × AreOf s after self.new.connections self.new.shards.items self.new.exporter self.new.report self.new.closed }
+        ensures size { self.new.exporter.size ≡ self.old.exporter.size }
+        ensures queue { self.new.queue_capacity ≡ self.old.queue_capacity }
+        ensures stays_open { self.new.closed ≡ false }
+        ensures stays_down { self.old.exporter.sink.is_down ≡ true → self.new.exporter.sink.is_down ≡ true }
+    {
+        tell_each(
+            &mut self.shards,
+            &mut self.exporter,
+            &mut self.report,
+            Signal::Tick(moment),
+        );
+        send(&mut self.exporter, &mut self.report);
+    }
+
+    /// Ends the lanes, and then the ticker.
+    fn close(&mut self)
+        requires { self.old.closed ≡ false }
+        ensures plays { (s : Settings) (w : World) → AreOf s w self.old.connections self.old.shards.items self.old.exporter self.old.report self.old.closed
+            → (after : World) × Plays s (record { batch = self.old.exporter.size; queue = self.old.queue_capacity }) w close after
+            × AreOf s after self.new.connections self.new.shards.items self.new.exporter self.new.report self.new.closed }
+        ensures size { self.new.exporter.size ≡ self.old.exporter.size }
+        ensures queue { self.new.queue_capacity ≡ self.old.queue_capacity }
+        ensures closes { self.new.closed ≡ true }
+        ensures stays_down { self.old.exporter.sink.is_down ≡ true → self.new.exporter.sink.is_down ≡ true }
+    {
+        end_all(
+            &mut self.shards,
+            &mut self.exporter,
+            &mut self.report,
+            self.connections.lanes(),
+        );
+        send(&mut self.exporter, &mut self.report);
+        self.closed = true;
+    }
+
+    /// Does what a command says.
+    fn obey(&mut self, command: Command<'_>)
+        requires open { self.old.closed ≡ false }
+        requires up { self.old.exporter.sink.is_down ≡ true → instruction_of_command command ≡ close }
+        ensures plays { (s : Settings) (w : World) → AreOf s w self.old.connections self.old.shards.items self.old.exporter self.old.report self.old.closed
+            → (after : World) × Plays s (record { batch = self.old.exporter.size; queue = self.old.queue_capacity }) w (instruction_of_command command.entry) after
+            × AreOf s after self.new.connections self.new.shards.items self.new.exporter self.new.report self.new.closed }
+        ensures size { self.new.exporter.size ≡ self.old.exporter.size }
+        ensures queue { self.new.queue_capacity ≡ self.old.queue_capacity }
+        ensures closed { self.new.closed ≡ is_close (instruction_of_command command.entry) }
+        ensures stays_down { self.old.exporter.sink.is_down ≡ true → self.new.exporter.sink.is_down ≡ true }
+    {
+        match command {
+            Command::Receive {
+                connection,
+                moment,
+                json,
+            } => self.receive(connection, moment, json),
+            Command::Tick { moment } => self.tick(moment),
+            Command::Close => self.close(),
+        }
+    }
+}
+
+impl<S: Sink> Machine for Session<S> {
+    ghost leads = { λ start instructions now. (now.exporter.size ≡ start.exporter.size) × (now.queue_capacity ≡ start.queue_capacity)
+        × ((s : Settings) (w : World) → AreOf s w start.connections start.shards.items start.exporter start.report start.closed
+        → (after : World) × PlaysAll s (record { batch = start.exporter.size; queue = start.queue_capacity }) w instructions after
+        × AreOf s after now.connections now.shards.items now.exporter now.report now.closed) };
+
+    ghost is_up = { λ now. not now.exporter.sink.is_down };
+
+    ghost is_closed = { λ now. now.closed };
+
+    fn play(&mut self, command: Command<'_>) -> bool {
+        self.obey(command);
+        !self.exporter.is_down()
+    }
+}
+
+/// Hands a reply to the sink, as a line.
+fn hand_reply<S: Sink>(text: &mut Vec<u8>, exporter: &mut Exporter<S>, reply: &Reply)
+    requires { MAX_REPLY_LINE ≤ vec_capacity text.old }
+    ensures room { MAX_REPLY_LINE ≤ vec_capacity text.new }
+    ensures written { WritesLine exporter.old.sink (reply_line reply.now) exporter.new.sink }
+    ensures batch { exporter.new.batch ≡ exporter.old.batch }
+    ensures size { exporter.new.size ≡ exporter.old.size }
+    ensures stays_down { exporter.old.sink.is_down ≡ true → exporter.new.sink.is_down ≡ true }
+{
+    write_reply_line(text, reply);
+    let _ = exporter.note(text);
+}
+
+/// The answer of a run: a refused line goes before a count that would have passed 2^64-1, and this before a sink fault.
+fn answer_of(played: Result<(), Stop>, report: Option<Report>) -> Result<Report, RunFault>
+    ensures { AnswersStop played report result }
+{
+    match (played, report) {
+        (Err(Stop::NoMemory), _) => Err(RunFault::NoMemory),
+        (Err(Stop::Refused(line)), _) => Err(RunFault::Refused(line)),
+        (Err(Stop::Fault(line)), _) => Err(RunFault::Fault(line)),
+        (_, None) => Err(RunFault::BookFull),
+        (Ok(()), Some(report)) => Ok(report),
+        (Err(Stop::Down), Some(report)) => Err(RunFault::SinkDown(report)),
+    }
+}

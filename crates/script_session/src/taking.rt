@@ -1,0 +1,209 @@
+ghost use Rattle.std.specs.Prelude.{◌≡◌, ℕ, ◌<◌, List, [], ◌∷◌, Bool, true, false, length, map, if◌then◌else◌};
+ghost use Rattle.std.specs.List.{AllByRecursion, list_all};
+ghost use Rattle.shard_core.specs.Journal.{Journal, Settings};
+ghost use Rattle.shard_core.specs.Held.{StandsFor, has_due, is_finished, settings};
+ghost use Rattle.shard_core.specs.Taking.{has_ids, ends_after, released_by, released_in, dropped_by, dropped_in};
+ghost use Rattle.script_run.specs.World.{to_each};
+ghost use Rattle.script_session.specs.Signals.{item_of};
+ghost use Rattle.script_session.specs.Pulling.{PullsAll, TakesItems, DecidesAll, AreOpen, AreQuiet, HaveSettings, EachTakes, RoundsTaken, rounds_of, is_queued, emptied, items_in, HoldsQueued};
+
+use crate::pulling::{count, pull, pull_all};
+use crate::signal::Signal;
+use drop_ledger::{Count, Report};
+use lane_queue::ListPort;
+use otlp_types::Item;
+use shard_core::{Decided, Shard, Taken};
+use span_exporter::Exporter;
+use span_ids::Reason;
+use span_sink::Sink;
+
+/// Takes an item, and puts what that releases into the batch.
+pub fn take_item<S: Sink>(
+    shard: &mut Shard,
+    exporter: &mut Exporter<S>,
+    report: &mut Option<Report>,
+    item: Item,
+)
+    requires nothing_due { has_due shard.old ≡ false }
+    requires running { is_finished shard.old ≡ false }
+    requires ids { has_ids item ≡ true }
+    requires room { length exporter.old.batch < exporter.old.size }
+    ensures takes { TakesItems shard.old (exporter.old, report.old) (item ∷ []) shard.new (exporter.new, report.new) }
+    ensures nothing_due { has_due shard.new ≡ false }
+    ensures ends { shard.new.standing.ends ≡ ends_after item shard.old.standing.ends }
+    ensures settings { settings shard.new ≡ settings shard.old }
+    ensures room { length exporter.new.batch < exporter.new.size }
+    ensures size { exporter.new.size ≡ exporter.old.size }
+    ensures stays_down { exporter.old.sink.is_down ≡ true → exporter.new.sink.is_down ≡ true }
+{
+    let taken = shard.take(item);
+    pull_taken(exporter, report, taken);
+    decide_all(shard, exporter, report);
+}
+
+/// Puts what an item released at once into the batch.
+fn pull_taken<S: Sink>(exporter: &mut Exporter<S>, report: &mut Option<Report>, taken: Taken)
+    requires { length exporter.old.batch < exporter.old.size }
+    ensures pulls { PullsAll (exporter.old, report.old) (released_by taken) (λ reason. dropped_by reason taken) (exporter.new, report.new) }
+    ensures room { length exporter.new.batch < exporter.new.size }
+    ensures stays_down { exporter.old.sink.is_down ≡ true → exporter.new.sink.is_down ≡ true }
+{
+    match taken {
+        Taken::Late(arrival) => pull(exporter, report, arrival),
+        Taken::Dropped(reason) => count(report, Count::Dropped(reason), 1),
+        Taken::Kept {
+            evicted: Some(left),
+            cache: _,
+        } => count(report, Count::Dropped(Reason::Evicted), left.spans),
+        Taken::Kept {
+            evicted: None,
+            cache: _,
+        } => {}
+        Taken::Ticked => {}
+        Taken::Ended => {}
+        Taken::Finished => {}
+    }
+}
+
+/// Decides all that is due, and puts what that releases into the batch.
+fn decide_all<S: Sink>(shard: &mut Shard, exporter: &mut Exporter<S>, report: &mut Option<Report>)
+    requires { length exporter.old.batch < exporter.old.size }
+    ensures decides { (past : Journal) (dealt : ℕ) → StandsFor shard.old past dealt
+        → DecidesAll shard.old past dealt (exporter.old, report.old) shard.new (exporter.new, report.new) }
+    ensures nothing_due { has_due shard.new ≡ false }
+    ensures ends { shard.new.standing.ends ≡ shard.old.standing.ends }
+    ensures settings { settings shard.new ≡ settings shard.old }
+    ensures room { length exporter.new.batch < exporter.new.size }
+    ensures size { exporter.new.size ≡ exporter.old.size }
+    ensures stays_down { exporter.old.sink.is_down ≡ true → exporter.new.sink.is_down ≡ true }
+{
+    'deciding: loop {
+        let decided = shard.decide();
+        if let Decided::Nothing = decided {
+            return;
+        }
+        pull_decided(exporter, report, decided);
+    }
+}
+
+/// Puts what a decision released into the batch.
+fn pull_decided<S: Sink>(exporter: &mut Exporter<S>, report: &mut Option<Report>, decided: Decided)
+    requires { length exporter.old.batch < exporter.old.size }
+    ensures pulls { PullsAll (exporter.old, report.old) (released_in decided) (λ reason. dropped_in reason decided) (exporter.new, report.new) }
+    ensures room { length exporter.new.batch < exporter.new.size }
+    ensures stays_down { exporter.old.sink.is_down ≡ true → exporter.new.sink.is_down ≡ true }
+{
+    match decided {
+        Decided::Release(spans) => pull_all(exporter, report, spans),
+        Decided::Dropped(spans) => count(report, Count::Dropped(Reason::NotSampled), spans),
+        Decided::Nothing => {}
+    }
+}
+
+/// Takes what a queue holds, in order.
+pub fn drain<S: Sink>(
+    shard: &mut Shard,
+    queue: &mut ListPort<Item>,
+    exporter: &mut Exporter<S>,
+    report: &mut Option<Report>,
+)
+    requires nothing_due { has_due shard.old ≡ false }
+    requires running { is_finished shard.old ≡ false }
+    requires queued { list_all is_queued queue.old.items ≡ true }
+    requires room { length exporter.old.batch < exporter.old.size }
+    ensures takes { TakesItems shard.old (exporter.old, report.old) queue.old.items shard.new (exporter.new, report.new) }
+    ensures emptied { queue.new ≡ record queue.old { items = [] } }
+    ensures nothing_due { has_due shard.new ≡ false }
+    ensures ends { shard.new.standing.ends ≡ shard.old.standing.ends }
+    ensures settings { settings shard.new ≡ settings shard.old }
+    ensures room { length exporter.new.batch < exporter.new.size }
+    ensures size { exporter.new.size ≡ exporter.old.size }
+    ensures stays_down { exporter.old.sink.is_down ≡ true → exporter.new.sink.is_down ≡ true }
+{
+    'draining: loop {
+        let Some(item) = queue.pop() else {
+            return;
+        };
+        take_item(shard, exporter, report, item);
+    }
+}
+
+/// Each shard in its turn takes what its queue holds.
+pub fn take_queued<S: Sink>(
+    shards: &mut [Shard],
+    queues: &mut [ListPort<Item>],
+    exporter: &mut Exporter<S>,
+    report: &mut Option<Report>,
+)
+    requires same { length queues.old ≡ length shards.old }
+    requires open { AreOpen shards.old }
+    requires queued { AllByRecursion HoldsQueued queues.old }
+    requires room { length exporter.old.batch < exporter.old.size }
+    ensures takes { EachTakes shards.old (exporter.old, report.old) (items_in queues.old) shards.new (exporter.new, report.new) }
+    ensures emptied { queues.new ≡ map emptied queues.old }
+    ensures quiet { (ends : List Bool) → AreQuiet ends shards.old → AreQuiet ends shards.new }
+    ensures settings { (s : Settings) → HaveSettings s shards.old → HaveSettings s shards.new }
+    ensures length { length shards.new ≡ length shards.old }
+    ensures room { length exporter.new.batch < exporter.new.size }
+    ensures size { exporter.new.size ≡ exporter.old.size }
+    ensures stays_down { exporter.old.sink.is_down ≡ true → exporter.new.sink.is_down ≡ true }
+{
+    let Some((shard, others)) = shards.split_first_mut() else {
+        return;
+    };
+    let Some((queue, rest)) = queues.split_first_mut() else {
+        return;
+    };
+    drain(shard, queue, exporter, report);
+    take_queued(others, rest, exporter, report);
+}
+
+/// Where a request's spans were received, each shard in its turn takes what its queue holds.
+pub fn take_received<S: Sink>(
+    received: bool,
+    shards: &mut Vec<Shard>,
+    queues: &mut Vec<ListPort<Item>>,
+    exporter: &mut Exporter<S>,
+    report: &mut Option<Report>,
+)
+    requires same { length queues.old.items ≡ length shards.old.items }
+    requires open { AreOpen shards.old.items }
+    requires queued { AllByRecursion HoldsQueued queues.old.items }
+    requires room { length exporter.old.batch < exporter.old.size }
+    ensures takes { RoundsTaken shards.old.items (exporter.old, report.old) (rounds_of received queues.old.items) shards.new.items (exporter.new, report.new) }
+    ensures emptied { queues.new.items ≡ (if received then map emptied queues.old.items else queues.old.items) }
+    ensures quiet { (ends : List Bool) → AreQuiet ends shards.old.items → AreQuiet ends shards.new.items }
+    ensures settings { (s : Settings) → HaveSettings s shards.old.items → HaveSettings s shards.new.items }
+    ensures length { length shards.new.items ≡ length shards.old.items }
+    ensures room { length exporter.new.batch < exporter.new.size }
+    ensures size { exporter.new.size ≡ exporter.old.size }
+    ensures stays_down { exporter.old.sink.is_down ≡ true → exporter.new.sink.is_down ≡ true }
+{
+    if received {
+        take_queued(shards, queues, exporter, report);
+    }
+}
+
+/// Each shard in its turn is told the same.
+pub fn tell_each<S: Sink>(
+    shards: &mut [Shard],
+    exporter: &mut Exporter<S>,
+    report: &mut Option<Report>,
+    signal: Signal,
+)
+    requires open { AreOpen shards.old }
+    requires room { length exporter.old.batch < exporter.old.size }
+    ensures takes { EachTakes shards.old (exporter.old, report.old) (to_each (item_of signal) shards.old) shards.new (exporter.new, report.new) }
+    ensures quiet { (ends : List Bool) → AreQuiet ends shards.old → AreQuiet (ends_after (item_of signal) ends) shards.new }
+    ensures settings { (s : Settings) → HaveSettings s shards.old → HaveSettings s shards.new }
+    ensures length { length shards.new ≡ length shards.old }
+    ensures room { length exporter.new.batch < exporter.new.size }
+    ensures size { exporter.new.size ≡ exporter.old.size }
+    ensures stays_down { exporter.old.sink.is_down ≡ true → exporter.new.sink.is_down ≡ true }
+{
+    let Some((shard, others)) = shards.split_first_mut() else {
+        return;
+    };
+    take_item(shard, exporter, report, signal.item());
+    tell_each(others, exporter, report, signal);
+}
