@@ -120,7 +120,7 @@ fn shard_with(alloc: Global, code: Option<i32>) -> Result<Shard, Fail> {
         None => policies_on_all(alloc)?,
         Some(code) => policies_on_code(alloc, code)?,
     };
-    Ok(Shard::new(alloc, policies, 10_000, 100, 0, 0, 2)?)
+    Ok(Shard::new(alloc, policies, 10_000, 0, 100, 0, 0, 2)?)
 }
 
 /// Takes an item and decides once: the answer to the item, and how many spans were released.
@@ -216,7 +216,7 @@ fn shard_of_slow_and_granted(alloc: Global) -> Result<Shard, Fail> {
         kind: PolicyKind::And { policies: parts },
     };
     let policies = Policies::new(alloc, vec![in alloc; policy]?)?;
-    Ok(Shard::new(alloc, policies, 10_000, 100, 0, 0, 1)?)
+    Ok(Shard::new(alloc, policies, 10_000, 0, 100, 0, 0, 1)?)
 }
 
 /// Decides once: the number of spans released, or of those that are not.

@@ -120,6 +120,7 @@ fn settings_with(
     Ok(Settings {
         policies: Policies::new(alloc, vec![in alloc; policy]?)?,
         wait: 10_000,
+        root_wait: 0,
         limit: Some(1),
         sampled_size,
         non_sampled_size,

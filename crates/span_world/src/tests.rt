@@ -137,6 +137,7 @@ fn config_with(
     Ok(Config {
         policies: Policies::new(alloc, vec![in alloc; policy]?)?,
         wait: 10,
+        root_wait: 0,
         limit: Some(limit),
         sampled_size,
         non_sampled_size,
