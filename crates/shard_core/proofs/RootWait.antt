@@ -1,11 +1,11 @@
 -- Due by the first root, and by some root.
-use Rattle.std.proofs.Common.{◌≡◌, ℕ, ◌+◌, ◌<◌, ◌≤◌, max, Bool, true, false, ◌&&◌, ◌||◌, cond, nat_lt, nat_le, List, [], ◌∷◌, length, Option, Some, None, refl, sym, ap, subst, ◌∙◌, arith}
+use Rattle.std.proofs.Common.{◌≡◌, ℕ, ◌+◌, ◌≤◌, Bool, true, false, ◌&&◌, ◌||◌, cond, nat_lt, nat_le, List, [], ◌∷◌, length, Option, Some, None, refl, sym, ap, subst, ◌∙◌, arith}
 use Rattle.std.specs.List.{list_any}
 use Rattle.std.specs.Option.{IfSome}
 use Rattle.std.proofs.lemmas.Bool.Decides.{nat_tests}
 use Rattle.otlp_types.specs.declared.arrival.Arrival.{Arrival}
-use Rattle.trace_buffer.specs.Buffer.{are_of_root, root_before, is_root_due}
-use Rattle.shard_core.specs.Journal.{Settings, Journal, Entry, Opening, clock, item_spans, is_root, is_root_past, is_due}
+use Rattle.trace_buffer.specs.Buffer.{are_of_root, is_root_due}
+use Rattle.shard_core.specs.Journal.{Journal, Entry, Opening, clock, item_spans, is_root, is_root_past}
 use Rattle.shard_core.specs.Standing.{root_among, first_root_since}
 use Rattle.shard_core.proofs.Notes.{none_own}
 use Rattle.shard_core.specs.RootWait.{RootWaitOff, DueByFirstRoot, NoneDueAfterMark}
@@ -95,6 +95,7 @@ none_due_after_mark rw mark e before o l = by (first_root_since before o)
     none : (y : Bool) → is_root_due mark rw (cond y (Some (clock (e ∷ before))) None) ≡ false
     none true = late-root rw mark (clock (e ∷ before)) l
     none false = refl
+
     by : (r : Option ℕ) → is_root_due mark rw (root_among r (clock (e ∷ before)) (item_spans o (length before) e.refused e.item)) ≡ is_root_due mark rw r
     by (Some f) = ap (is_root_due mark rw) (among-some f (clock (e ∷ before)) (item_spans o (length before) e.refused e.item))
     by None = ap (is_root_due mark rw) (among-none (clock (e ∷ before)) (item_spans o (length before) e.refused e.item)) ∙ none (list_any is_root (item_spans o (length before) e.refused e.item))

@@ -1,5 +1,5 @@
 -- When a trace is due by one of its roots (this project's option `root_wait_ms`), looking back over the items.
-use Rattle.std.specs.Prelude.{ℕ, ◌≡◌, ◌+◌, ◌≤◌, Bool, false, ◌&&◌, ◌||◌, nat_lt, nat_le, List, [], ◌∷◌, length}
+use Rattle.std.specs.Prelude.{ℕ, ◌≡◌, ◌+◌, ◌≤◌, ◌&&◌, nat_lt, nat_le, ◌∷◌}
 use Rattle.trace_buffer.specs.Buffer.{is_root_due}
 use Rattle.shard_core.specs.Journal.{Settings, Journal, Entry, Opening, clock, is_root_past, is_due}
 use Rattle.shard_core.specs.Standing.{first_root_since}

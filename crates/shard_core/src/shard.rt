@@ -62,8 +62,9 @@ impl Shard {
     ghost use Rattle.shard_core.specs.Holding.{held_after_tick, held_after_end, TakesSpan};
 
     /// A shard that has taken nothing. `wait` is how long a trace waits for its decision, in milliseconds, and `root_wait`
-    /// how long after its first root was taken, where 0 is off; `limit` is on the number of traces in the buffer; the caches have room for so many traces decided as `sampled` and as
-    /// `non_sampled`, where 0 is off. Senders have the numbers below `senders`.
+    /// how long after its first root was taken, where 0 is off; `limit` is on the number of traces in the buffer; the
+    /// caches have room for so many traces decided as `sampled` and as `non_sampled`, where 0 is off. Senders have the
+    /// numbers below `senders`.
     pub fn new(
         alloc: Global,
         policies: Policies,
@@ -204,6 +205,15 @@ impl Shard {
         }
     }
 
+    /// Looks for the due trace that was opened first. The buffer keeps how far it looked, so all decisions at a mark look
+    /// through it once.
+    fn search(&mut self)
+        ensures { self.new ≡ self.old }
+    {
+        let (mark, wait, root_wait) = self.due_by();
+        self.buffer.search(mark, wait, root_wait);
+    }
+
     /// Decides the due trace that was opened first. It takes no memory.
     pub fn decide(&mut self) -> Decided
         ensures decides { (past : Journal) (dealt : ℕ) → StandsFor self.old past dealt → Decides self.old self.new result past dealt }
@@ -219,6 +229,7 @@ impl Shard {
         ensures policies { self.new.policies ≡ self.old.policies }
         ensures settings { settings self.new ≡ settings self.old }
     {
+        self.search();
         let (mark, wait, root_wait) = self.due_by();
         let now = self.clock;
         let Some(episode) = self.buffer.next_due(mark, wait, root_wait) else {

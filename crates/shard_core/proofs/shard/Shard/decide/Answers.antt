@@ -46,9 +46,10 @@ returns-in_default-clause-decides c = λ past k s.
     let h = the_view c.self.inside in
     let inv = c.self.invariant in
     let P = λ (g : Held). StandsFor g past k → Decides g g Nothing past k in
+    let Q = λ (g : Held). StandsFor g past k → Decides g c.search.new.self Nothing past k in
     let by : c.due_by-mark.result ≡ due_by h = c.due_by-mark.ensures ∙ ap due_by (sym c.self.view_is) in
     let none = ap (λ (d : ℕ × ℕ × ℕ). find (is_due_at d.0 d.1 d.2) c.self.inside.buffer.episodes) (sym by) ∙ sym c.next_due.ensures ∙ ap option_copied c.in_default.is in
-    subst P c.self.view_is (λ s. decides_nothing h past k inv.0 inv.1 inv.3 none s) s
+    subst Q c.search.ensures (subst P c.self.view_is (λ s. decides_nothing h past k inv.0 inv.1 inv.3 none s)) s
 
 pub returns-in_default-clause-all_dealt : goal.returns-in_default-clause-all_dealt
 returns-in_default-clause-all_dealt c = λ _ past k s.
@@ -57,7 +58,7 @@ returns-in_default-clause-all_dealt c = λ _ past k s.
     let P = λ (g : Held). StandsFor g past k → effect_dealt (settings g) past k ≡ effect (settings g) past in
     let by : c.due_by-mark.result ≡ due_by h = c.due_by-mark.ensures ∙ ap due_by (sym c.self.view_is) in
     let none = ap (λ (d : ℕ × ℕ × ℕ). find (is_due_at d.0 d.1 d.2) c.self.inside.buffer.episodes) (sym by) ∙ sym c.next_due.ensures ∙ ap option_copied c.in_default.is in
-    subst P c.self.view_is (λ s. all_dealt h past k inv.0 inv.1 (nothing_due h inv.3 none) s) s
+    subst P (c.self.view_is ∙ c.search.ensures) (λ s. all_dealt h past k inv.0 inv.1 (nothing_due h inv.3 none) s) s
 
 pub returns-in_default-clause-output : goal.returns-in_default-clause-output
 returns-in_default-clause-output c = λ _ past k s.
@@ -66,7 +67,7 @@ returns-in_default-clause-output c = λ _ past k s.
     let P = λ (g : Held). StandsFor g past k → effect_dealt (settings g) past k ≡ effect (settings g) past in
     let by : c.due_by-mark.result ≡ due_by h = c.due_by-mark.ensures ∙ ap due_by (sym c.self.view_is) in
     let none = ap (λ (d : ℕ × ℕ × ℕ). find (is_due_at d.0 d.1 d.2) c.self.inside.buffer.episodes) (sym by) ∙ sym c.next_due.ensures ∙ ap option_copied c.in_default.is in
-    ap (λ (x : Effect). x.released) (subst P c.self.view_is (λ s. all_dealt h past k inv.0 inv.1 (nothing_due h inv.3 none) s) s)
+    ap (λ (x : Effect). x.released) (subst P (c.self.view_is ∙ c.search.ensures) (λ s. all_dealt h past k inv.0 inv.1 (nothing_due h inv.3 none) s) s)
 
 -- ---- an episode was due
 
@@ -100,7 +101,7 @@ decides c past k s =
     let by : c.due_by-mark.result ≡ due_by h = c.due_by-mark.ensures ∙ ap due_by (sym c.self.view_is) in
     let F = λ (d : ℕ × ℕ × ℕ). find (is_due_at d.0 d.1 d.2) c.self.inside.buffer.episodes ≡ Some c.in-Some.episode.now in
     let S = λ (d : ℕ × ℕ × ℕ). SettlesFirst h d.0 d.1 d.2 c.decided.result (new_held c) in
-    subst P c.self.view_is (λ s. decides_some h (new_held c) c.decided.result c.in-Some.episode.now past k inv.0 inv.1 inv.3 (subst F by (due_found c)) (subst S by (settles c)) s) s
+    subst P (c.self.view_is ∙ c.search.ensures) (λ s. decides_some h (new_held c) c.decided.result c.in-Some.episode.now past k inv.0 inv.1 inv.3 (subst F by (due_found c)) (subst S by (settles c)) s) s
 
 pub returns-clause-decides : goal.returns-clause-decides
 returns-clause-decides c = λ past k s. decides c past k s
@@ -117,4 +118,4 @@ returns-clause-dropped c = λ past k reason s. decide_dropped c.args.self.now (n
 pub returns-clause-fewer : goal.returns-clause-fewer
 returns-clause-fewer c =
     let P = λ (g : Held). waiting (new_held c) < waiting g in
-    inr (subst P c.self.view_is (waits_less (the_view c.self.inside) (new_held c) c.due_by-mark.result.0 c.due_by-mark.result.1 c.due_by-mark.result.2 c.in-Some.episode.now c.decided.result (due_found c) (settles c)))
+    inr (subst P (c.self.view_is ∙ c.search.ensures) (waits_less (the_view c.self.inside) (new_held c) c.due_by-mark.result.0 c.due_by-mark.result.1 c.due_by-mark.result.2 c.in-Some.episode.now c.decided.result (due_found c) (settles c)))
