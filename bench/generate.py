@@ -1,15 +1,19 @@
 #!/usr/bin/env python3
-"""Writes a script of requests for `tsc replay` to standard output: generate.py SPANS [SEED].
+"""Writes a script of requests for `tsc replay` to standard output: generate.py SPANS [SEED], or generate.py alive TRACES [SEED].
 
 Each request has 100 spans, of traces of 3 to 8 spans which are spread over neighbouring requests; a span has 10 to 15
 attributes with names of the OpenTelemetry semantic conventions, 5 % of the spans end in an error, and a tick comes each
 second. Requests come over 8 connections, 20 in a second.
+
+The second form opens so many traces, of one span without attributes each, in requests of 1000 spans at one moment, and then sends one span
+more to each of them in another order: all are alive at once, and each of the second spans looks its trace up.
 """
 import json
 import random
 import sys
 
 SPANS_OF_A_REQUEST = 100
+SPANS_OF_A_LARGE_REQUEST = 1000
 REQUEST_EVERY_MS = 50
 CONNECTIONS = 8
 START_MS = 1_700_000_000_000
@@ -84,7 +88,27 @@ def requests(draw, spans):
         yield made
 
 
+def alive(traces, draw):
+    """A span for each trace, and then one more in another order, of which one in a hundred has an error."""
+    opened = ["%032x" % draw.randrange(1, 2**128) for _ in range(traces)]
+    shuffled = opened[:]
+    draw.shuffle(shuffled)
+    for order, failing in ((opened, False), (shuffled, True)):
+        for start in range(0, traces, SPANS_OF_A_LARGE_REQUEST):
+            spans = [
+                '{"traceId":"%s","spanId":"%016x"%s}'
+                % (trace, draw.randrange(1, 2**64), ',"status":{"code":2}' if failing and draw.random() < 0.01 else "")
+                for trace in order[start : start + SPANS_OF_A_LARGE_REQUEST]
+            ]
+            print('recv 0 %d {"resourceSpans":[{"scopeSpans":[{"spans":[%s]}]}]}' % (START_MS, ",".join(spans)))
+    print("tick", START_MS + 1)
+    print("close")
+
+
 def main():
+    if sys.argv[1] == "alive":
+        alive(int(sys.argv[2]), random.Random(int(sys.argv[3]) if len(sys.argv) > 3 else 1))
+        return
     spans = int(sys.argv[1])
     draw = random.Random(int(sys.argv[2]) if len(sys.argv) > 2 else 1)
     moment = START_MS

@@ -72,6 +72,7 @@ fn settings_with(
     Ok(Settings {
         policies: policies_on(alloc, code)?,
         wait: 10_000,
+        root_wait: 0,
         limit: Some(1),
         sampled_size,
         non_sampled_size,

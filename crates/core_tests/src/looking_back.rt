@@ -408,7 +408,7 @@ fn run(
     requires { 0 < limit }
 {
     let policies = policies_on(alloc, Some(2))?;
-    let mut shard = Shard::new(alloc, policies, WAIT, limit, sampled, non_sampled, 1)?;
+    let mut shard = Shard::new(alloc, policies, WAIT, 0, limit, sampled, non_sampled, 1)?;
     let mut entries: Vec<Entry> = Vec::with_capacity(alloc, ITEMS)?;
     let mut number = seed;
     for place in 0..ITEMS {

@@ -58,7 +58,7 @@ pub fn span_of(
 
 /// A shard of two senders with a wait of ten seconds and one policy, on this status code or on none.
 fn shard_with(alloc: Global, code: Option<i32>) -> Result<Shard, Fail> {
-    Ok(Shard::new(alloc, policies_on(alloc, code)?, 10_000, 100, 0, 0, 2)?)
+    Ok(Shard::new(alloc, policies_on(alloc, code)?, 10_000, 0, 100, 0, 0, 2)?)
 }
 
 /// Takes an item and decides once: the answer to the item, and how many spans were released.
@@ -154,7 +154,7 @@ fn shard_of_slow_and_granted(alloc: Global) -> Result<Shard, Fail> {
         kind: PolicyKind::And { policies: parts },
     };
     let policies = Policies::new(alloc, vec![in alloc; policy]?)?;
-    Ok(Shard::new(alloc, policies, 10_000, 100, 0, 0, 1)?)
+    Ok(Shard::new(alloc, policies, 10_000, 0, 100, 0, 0, 1)?)
 }
 
 /// Decides once: the number of spans released, or of those that are not.

@@ -98,6 +98,7 @@ fn config_with(
     Ok(Config {
         policies: policies_of(alloc, kind)?,
         wait: 10,
+        root_wait: 0,
         limit: Some(limit),
         sampled_size,
         non_sampled_size,

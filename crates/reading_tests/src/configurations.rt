@@ -421,6 +421,24 @@ fn ranges(rt: HostRuntime) -> Result<(), Fail> {
 }
 
 #[test]
+fn root_wait_range(rt: HostRuntime) -> Result<(), Fail> {
+    let cases = [
+        ("root_wait_ms = 0", None),
+        ("root_wait_ms = 3600000", None),
+        ("root_wait_ms = 3600001", Some(ConfigFault::OutOfRange)),
+        ("root_wait_ms = -1", Some(ConfigFault::OutOfRange)),
+        ("root_wait_ms = 0.5", Some(ConfigFault::WrongType)),
+        ("root_wait = 0", Some(ConfigFault::UnknownKey)),
+    ];
+    for (line, fault) in cases {
+        let text = format!(in rt.alloc(); "{line}\npolicies = [{ALL}]")?;
+        let found = read(rt.alloc(), text.as_str()).err();
+        assert_eq!(rt; found, fault, "{text}");
+    }
+    Ok(())
+}
+
+#[test]
 fn address(rt: HostRuntime) -> Result<(), Fail> {
     let cases = [
         ("listen = \"\"", None),
@@ -431,7 +449,6 @@ fn address(rt: HostRuntime) -> Result<(), Fail> {
             Some(ConfigFault::WrongType),
         ),
         ("listen = \"a\"\nlisten = \"a\"", Some(ConfigFault::NotToml)),
-        ("root_wait_ms = 0", Some(ConfigFault::UnknownKey)),
     ];
     for (line, fault) in cases {
         let text = format!(in rt.alloc(); "{line}\npolicies = [{ALL}]")?;
@@ -491,6 +508,7 @@ fn least_of_two_faults(rt: HostRuntime) -> Result<(), Fail> {
 fn defaults(rt: HostRuntime) -> Result<(), Fail> {
     let config = read(rt.alloc(), GOOD)?;
     assert_eq!(rt; config.decision_wait, 10_000);
+    assert_eq!(rt; config.root_wait, 0);
     assert_eq!(rt; config.policies.as_slice().len(), 1);
     assert_eq!(rt; config.num_traces, 50_000);
     assert_eq!(rt; config.sampled_cache_size, 0);
@@ -507,6 +525,7 @@ fn defaults(rt: HostRuntime) -> Result<(), Fail> {
 
 /// A text with every key.
 const WHOLE: &str = r#"
+root_wait_ms = 3600000
 num_traces = 15
 lanes = 64
 shards = 4
@@ -525,6 +544,7 @@ non_sampled_cache_size = 3
 fn every_key(rt: HostRuntime) -> Result<(), Fail> {
     let config = read(rt.alloc(), WHOLE)?;
     assert_eq!(rt; config.decision_wait, 30_000);
+    assert_eq!(rt; config.root_wait, 3_600_000);
     assert_eq!(rt; config.num_traces, 15);
     assert_eq!(rt; config.sampled_cache_size, 1_000_000);
     assert_eq!(rt; config.non_sampled_cache_size, 3);

@@ -19,6 +19,7 @@ abbrev pub core_config : Settings → Sizes → Config
 core_config s sizes = record {
   policies = s.policies;
   wait = s.wait;
+  root_wait = s.root_wait;
   limit = s.limit;
   sampled_size = s.sampled_size;
   non_sampled_size = s.non_sampled_size;

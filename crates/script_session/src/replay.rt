@@ -150,6 +150,7 @@ fn new_shard(alloc: Global, config: &Config) -> Result<Shard, AllocError>
         alloc,
         config.policies.try_clone(alloc)?,
         config.decision_wait,
+        config.root_wait,
         config.traces_per_shard(),
         config.sampled_cache_per_shard(),
         config.non_sampled_cache_per_shard(),

@@ -57,12 +57,12 @@ late_loss : (a : Arrival) (v : Verdict) → is_loss (answer_to_late a v) ≡ fal
 late_loss a Sampled = refl
 late_loss a NotSampled = refl
 
-module _ (p : List Policy) (w : ℕ) (b : Buffer) (c : CacheLists) (k : List LimiterCount) (cl mk : ℕ) (en : List Bool) (a : Arrival) (t : TraceId) where
+module _ (p : List Policy) (w root_wait : ℕ) (b : Buffer) (c : CacheLists) (k : List LimiterCount) (cl mk : ℕ) (en : List Bool) (a : Arrival) (t : TraceId) where
   abbrev old : Held
-  old = held_of p w b c k cl mk en
+  old = held_of p w root_wait b c k cl mk en
 
   abbrev new_of : Buffer → CacheLists → Held
-  new_of d e = held_of p w d e k (max a.moment cl) mk en
+  new_of d e = held_of p w root_wait d e k (max a.moment cl) mk en
 
   abbrev s : Settings
   s = settings old
@@ -103,7 +103,7 @@ module _ (p : List Policy) (w : ℕ) (b : Buffer) (c : CacheLists) (k : List Lim
 
   -- a shard with other lists
   abbrev sized : Buffer → CacheLists → (limit sampled_size non_sampled_size : ℕ) → Held
-  sized d e limit sampled_size non_sampled_size = record { policies = p; wait = w; limit = limit; sampled_size = sampled_size; non_sampled_size = non_sampled_size; standing = record (with_caches e st) { episodes = d.episodes } }
+  sized d e limit sampled_size non_sampled_size = record { policies = p; wait = w; root_wait = root_wait; limit = limit; sampled_size = sampled_size; non_sampled_size = non_sampled_size; standing = record (with_caches e st) { episodes = d.episodes } }
 
   at_sizes : (d : Buffer) (e : CacheLists) (m n i j g h : ℕ) → m ≡ n → i ≡ j → g ≡ h → sized d e m i g ≡ sized d e n j h
   at_sizes d e m n i j g h u x y = rw (u, x, y) refl

@@ -6,15 +6,17 @@ use Rattle.std.proofs.lemmas.List.{reverse-reverse, length_push, set-append_left
 use Rattle.std.proofs.lemmas.List.Folds.{list_all-append}
 use Rattle.std.proofs.Math.Seq.{set-append_seam}
 use Rattle.std.proofs.lemmas.Bool.Decides.{nat_tests}
-use Rattle.trace_buffer.specs.Buffer.{Episode}
+use Rattle.trace_buffer.specs.Buffer.{Episode, is_root_due}
+use Rattle.span_ids.specs.declared.outcome.Verdict.{Verdict}
 use Rattle.shard_core.specs.Journal.{Entry, StoppedInTime, Settings, Journal, Opening, Decision, Notes, Finding, joins, meets, opens, in_buffer, last_of, leaving, notes, notes_dealt, finding, decided_as, is_due, due_at, due_now, have_ended, has_ended, decisions_in_turn, decision, after_item, after_span, after_finding, after_decisions, no_notes, clock}
-use Rattle.shard_core.specs.Standing.{Standing, episode, standing, mark, ends}
+use Rattle.shard_core.specs.Standing.{Standing, root_left, first_root_since, episode, standing, mark, ends}
 use Rattle.otlp_types.specs.declared.span.Ids.{Ids}
 use Rattle.span_ids.specs.declared.ids.TraceId.{TraceId}
 use Rattle.otlp_types.specs.declared.arrival.Arrival.{Arrival}
 use Rattle.otlp_types.specs.declared.arrival.Item.{Item}
 use Rattle.otlp_types.specs.declared.arrival.Item.TheVariants.{Span, Tick, End}
 use Rattle.shard_core.specs.Held.{is_due_by}
+use Rattle.shard_core.proofs.RootWait.{due_by_first_root, none_due_after_mark, no_roots}
 use Rattle.shard_core.proofs.Lists.{Each-weaken, Each-all, reverse-cons, filter-reverse, filter-same, filter-none, Each-from_none, filter-filter, or-true, Each-reverse, drop-length, none-from_find}
 use Rattle.shard_core.proofs.ListFacts.{Each, Each-left, Pairs as Apart, Pairs-left, Pairs-reverse, Pairs-weaker}
 use Rattle.shard_core.proofs.Notes.{HasRoom, IsOlder, Sound, buffer_front}
@@ -116,55 +118,72 @@ module _ (s : Settings) (room : HasRoom s.limit) where
 
   -- ---- what is due
 
+  -- it opened long enough before the mark, or its first root was taken so
+  abbrev pub ripe : Journal → (mark : ℕ) → Opening → Bool
+  ripe past mark o = nat_le (o.moment + s.wait) mark || is_root_due mark s.root_wait (first_root_since past o)
+
   -- an undecided episode that has waited long enough at the last tick, or the ends are complete
   abbrev pub open_due : Journal → Notes → Opening → Bool
-  open_due past noted o = is_none (decided_as noted o.at) && (have_ended past s.senders || nat_le (o.moment + s.wait) (mark past))
+  open_due past noted o = is_none (decided_as noted o.at) && (have_ended past s.senders || ripe past (mark past) o)
 
-  abbrev pub NotDue : (mark : ℕ) → Notes → Type 0
-  NotDue mark noted = Each (λ o. is_none (decided_as noted o.at) ≡ true → mark < o.moment + s.wait) (front noted)
+  abbrev pub NotDue : Journal → (mark : ℕ) → Notes → Type 0
+  NotDue past mark noted = Each (λ o. is_none (decided_as noted o.at) ≡ true → ripe past mark o ≡ false) (front noted)
 
   first_false : (a b : Bool) → (a ≡ true → b ≡ false) → (a && b) ≡ false
   first_false true b f = f refl
   first_false false b f = refl
 
-  not_due-false : (past : Journal) (noted : Notes) → have_ended past s.senders ≡ false → NotDue (mark past) noted → Each (λ o. open_due past noted o ≡ false) (front noted)
-  not_due-false past noted h w = Each-weaken (λ o. is_none (decided_as noted o.at) ≡ true → mark past < o.moment + s.wait) (λ o. open_due past noted o ≡ false)
-      (λ o f. rw h (first_false (is_none (decided_as noted o.at)) (nat_le (o.moment + s.wait) (mark past)) (λ k. leb-not (o.moment + s.wait) (mark past) (f k)))) (front noted) w
+  not_due-false : (past : Journal) (noted : Notes) → have_ended past s.senders ≡ false → NotDue past (mark past) noted → Each (λ o. open_due past noted o ≡ false) (front noted)
+  not_due-false past noted h w = Each-weaken (λ o. is_none (decided_as noted o.at) ≡ true → ripe past (mark past) o ≡ false) (λ o. open_due past noted o ≡ false)
+      (λ o f. rw h (first_false (is_none (decided_as noted o.at)) (ripe past (mark past) o) (λ k. f k))) (front noted) w
 
   second_false : (a b c : Bool) → (a && (b || c)) ≡ false → a ≡ true → b ≡ false → c ≡ false
   second_false true false c h p q = h
   second_false true true c h p q = cc
   second_false false b c h p q = cc
 
-  not_due-from : (past : Journal) (noted : Notes) → have_ended past s.senders ≡ false → Each (λ o. open_due past noted o ≡ false) (front noted) → NotDue (mark past) noted
-  not_due-from past noted h w = Each-weaken (λ o. open_due past noted o ≡ false) (λ o. is_none (decided_as noted o.at) ≡ true → mark past < o.moment + s.wait)
-      (λ o f k. not-leb (o.moment + s.wait) (mark past) (second_false (is_none (decided_as noted o.at)) (have_ended past s.senders) (nat_le (o.moment + s.wait) (mark past)) f k h)) (front noted) w
+  not_due-from : (past : Journal) (noted : Notes) → have_ended past s.senders ≡ false → Each (λ o. open_due past noted o ≡ false) (front noted) → NotDue past (mark past) noted
+  not_due-from past noted h w = Each-weaken (λ o. open_due past noted o ≡ false) (λ o. is_none (decided_as noted o.at) ≡ true → ripe past (mark past) o ≡ false)
+      (λ o f k. second_false (is_none (decided_as noted o.at)) (have_ended past s.senders) (ripe past (mark past) o) f k h) (front noted) w
 
   unreversed : (P : Opening → Type 0) (os : List Opening) → Each P (reverse os) → Each P os
   unreversed P os h = subst (Each P) (reverse-reverse os) (Each-reverse P (reverse os) h)
 
-  not_due-opening : (noted m : Notes) (n now mark : ℕ) (t : TraceId) → let new : Opening = record { at = n; trace = t; moment = now } in m.openings ≡ new ∷ noted.openings → m.decisions ≡ noted.decisions → mark ≤ now → 0 < s.wait → NotDue mark noted → NotDue mark m
-  not_due-opening noted m n now mark t o d h k w =
+  not_due-opening : (past : Journal) (noted m : Notes) (n now mark : ℕ) (t : TraceId) → let new : Opening = record { at = n; trace = t; moment = now } in m.openings ≡ new ∷ noted.openings → m.decisions ≡ noted.decisions → ripe past mark new ≡ false → NotDue past mark noted → NotDue past mark m
+  not_due-opening past noted m n now mark t o d h w =
       let new : Opening = record { at = n; trace = t; moment = now } in
-      let P = λ (p : Opening). is_none (decided_as noted p.at) ≡ true → mark < p.moment + s.wait in
+      let P = λ (p : Opening). is_none (decided_as noted p.at) ≡ true → ripe past mark p ≡ false in
       let made = makes_room s.limit room noted.openings in
       let held : Each P (in_buffer s noted) = unreversed P (in_buffer s noted) w in
       let stays : Each P made.kept = Each-left P made.kept (option_to_list (leaving s.limit noted.openings)) (rw (made.was) at held) in
       let next : in_buffer s m ≡ new ∷ made.kept = ap (last_of s.limit) o ∙ made.with_next new in
-      rw (next, d) (Each-reverse P (new ∷ made.kept) ((λ _. omega arith), stays))
+      rw (next, d) (Each-reverse P (new ∷ made.kept) ((λ _. h), stays))
 
-  not_due-finding : (noted : Notes) (n now mark : ℕ) (t : TraceId) (lost : Bool) (f : Finding) → mark ≤ now → 0 < s.wait → NotDue mark noted → NotDue mark (after_finding s t lost n now noted f)
-  not_due-finding noted n now mark t lost (joins o) h k w = w
-  not_due-finding noted n now mark t lost (meets o v) h k w = w
-  not_due-finding noted n now mark t lost opens h k w = not_due-opening noted (after_finding s t lost n now noted opens) n now mark t refl refl h k w
+  not_due-finding : (past : Journal) (noted : Notes) (n now mark : ℕ) (t : TraceId) (lost : Bool) (f : Finding) → let new : Opening = record { at = n; trace = t; moment = now } in ripe past mark new ≡ false → NotDue past mark noted → NotDue past mark (after_finding s t lost n now noted f)
+  not_due-finding past noted n now mark t lost (joins o) h w = w
+  not_due-finding past noted n now mark t lost (meets o v) h w = w
+  not_due-finding past noted n now mark t lost opens h w = not_due-opening past noted (after_finding s t lost n now noted opens) n now mark t refl refl h w
 
-  not_due-refused : (noted m : Notes) (mark : ℕ) (refused : Bool) → NotDue mark noted → NotDue mark m → NotDue mark (cond refused noted m)
-  not_due-refused noted m mark true w v = w
-  not_due-refused noted m mark false w v = v
+  not_due-refused : (past : Journal) (noted m : Notes) (mark : ℕ) (refused : Bool) → NotDue past mark noted → NotDue past mark m → NotDue past mark (cond refused noted m)
+  not_due-refused past noted m mark true w v = w
+  not_due-refused past noted m mark false w v = v
 
-  not_due-ids : (e : Entry) (before : Journal) (noted : Notes) (mark : ℕ) (ids : Option Ids) → mark ≤ clock (e ∷ before) → 0 < s.wait → NotDue mark noted → NotDue mark (after_span s ids e before noted)
+  -- one that opens at the mark or later isn't due by that mark
+  unripe : (e : Entry) (before : Journal) (mark : ℕ) (t : TraceId) → mark ≤ clock (e ∷ before) → 0 < s.wait → let new : Opening = record { at = length before; trace = t; moment = clock (e ∷ before) } in ripe (e ∷ before) mark new ≡ false
+  unripe e before mark t h k =
+      let new : Opening = record { at = length before; trace = t; moment = clock (e ∷ before) } in
+      let late : nat_le (clock (e ∷ before) + s.wait) mark ≡ false = leb-not (clock (e ∷ before) + s.wait) mark (omega (arith, h, k)) in
+      let roots = none_due_after_mark s.root_wait mark e before new h ∙ ap (is_root_due mark s.root_wait) (no_roots before new (omega arith)) in
+      ap (λ b. b || is_root_due mark s.root_wait (first_root_since (e ∷ before) new)) late ∙ roots
+
+  -- nothing becomes due by a mark that has passed
+  not_due-later : (e : Entry) (before : Journal) (mark : ℕ) (noted : Notes) → mark ≤ clock (e ∷ before) → NotDue before mark noted → NotDue (e ∷ before) mark noted
+  not_due-later e before mark noted h w = Each-weaken (λ o. is_none (decided_as noted o.at) ≡ true → ripe before mark o ≡ false) (λ o. is_none (decided_as noted o.at) ≡ true → ripe (e ∷ before) mark o ≡ false)
+      (λ o f k. ap (λ b. nat_le (o.moment + s.wait) mark || b) (none_due_after_mark s.root_wait mark e before o h) ∙ f k) (front noted) w
+
+  not_due-ids : (e : Entry) (before : Journal) (noted : Notes) (mark : ℕ) (ids : Option Ids) → mark ≤ clock (e ∷ before) → 0 < s.wait → NotDue (e ∷ before) mark noted → NotDue (e ∷ before) mark (after_span s ids e before noted)
   not_due-ids e before noted mark None h k w = w
-  not_due-ids e before noted mark (Some ids) h k w = not_due-refused noted (after_finding s ids.trace e.lost (length before) (clock (e ∷ before)) noted (finding s noted ids.trace)) mark e.refused w (not_due-finding noted (length before) (clock (e ∷ before)) mark ids.trace e.lost (finding s noted ids.trace) h k w)
+  not_due-ids e before noted mark (Some ids) h k w = not_due-refused (e ∷ before) noted (after_finding s ids.trace e.lost (length before) (clock (e ∷ before)) noted (finding s noted ids.trace)) mark e.refused w (not_due-finding (e ∷ before) noted (length before) (clock (e ∷ before)) mark ids.trace e.lost (finding s noted ids.trace) (unripe e before mark ids.trace h k) w)
 
   and-true : (b : Bool) → (b && true) ≡ b
   and-true true = refl
@@ -175,12 +194,12 @@ module _ (s : Settings) (room : HasRoom s.limit) where
   due-tick m refused lost before noted h =
       let e : Entry = record { item = Tick m; refused = refused; lost = lost } in
       filter-same (open_due (e ∷ before) noted) (λ o. is_none (decided_as noted o.at) && is_due s (e ∷ before) o) (front noted)
-      (Each-all (λ o. open_due (e ∷ before) noted o ≡ (is_none (decided_as noted o.at) && is_due s (e ∷ before) o)) (λ o. rw (ended-tick m refused lost before s.senders, h)) (front noted))
+      (Each-all (λ o. open_due (e ∷ before) noted o ≡ (is_none (decided_as noted o.at) && is_due s (e ∷ before) o)) (λ o. ap (λ b. is_none (decided_as noted o.at) && (b || ripe (e ∷ before) (clock (e ∷ before)) o)) (ended-tick m refused lost before s.senders ∙ h) ∙ ap (λ b. is_none (decided_as noted o.at) && (nat_le (o.moment + s.wait) (clock (e ∷ before)) || b)) (due_by_first_root s.root_wait (clock (e ∷ before)) (e ∷ before) o)) (front noted))
       ∙ sym (filter-filter (is_due s (e ∷ before)) (λ o. is_none (decided_as noted o.at)) (front noted))
       ∙ ap (filter (is_due s (e ∷ before))) (filter-reverse (λ o. is_none (decided_as noted o.at)) (in_buffer s noted))
 
   due-end : (sender : ℕ) (refused lost : Bool) (before : Journal) (noted : Notes) → let e : Entry = record { item = End sender; refused = refused; lost = lost } in
-      have_ended before s.senders ≡ false → NotDue (mark before) noted → (b : Bool) → have_ended (e ∷ before) s.senders ≡ b →
+      have_ended before s.senders ≡ false → NotDue before (mark before) noted → (b : Bool) → have_ended (e ∷ before) s.senders ≡ b →
       filter (open_due (e ∷ before) noted) (front noted) ≡ due_at s e before (End sender) noted
   due-end sender refused lost before noted h w true k =
       let e : Entry = record { item = End sender; refused = refused; lost = lost } in
@@ -189,17 +208,17 @@ module _ (s : Settings) (room : HasRoom s.limit) where
       ∙ filter-reverse (λ o. is_none (decided_as noted o.at)) (in_buffer s noted) ∙ rw (k, h)
   due-end sender refused lost before noted h w false k =
       let e : Entry = record { item = End sender; refused = refused; lost = lost } in
-      filter-none (open_due (e ∷ before) noted) (front noted) (not_due-false (e ∷ before) noted k w) ∙ rw k
+      filter-none (open_due (e ∷ before) noted) (front noted) (not_due-false (e ∷ before) noted k (not_due-later e before (mark before) noted (omega (arith, mark-clock before)) w)) ∙ rw k
 
   -- right after an item, what is due is what the journal says
   pub due-item : (item : Item) (refused lost : Bool) (before : Journal) (noted : Notes) → let e : Entry = record { item = item; refused = refused; lost = lost } in
-      have_ended before s.senders ≡ false → 0 < s.wait → NotDue (mark before) noted →
+      have_ended before s.senders ≡ false → 0 < s.wait → NotDue before (mark before) noted →
       filter (open_due (e ∷ before) (after_item s e before item noted)) (front (after_item s e before item noted)) ≡ due_at s e before item noted
   due-item (Span a) refused lost before noted h k w =
       let e : Entry = record { item = Span a; refused = refused; lost = lost } in
       let n = after_span s a.rec.span.ids e before noted in
       filter-none (open_due (e ∷ before) n) (front n)
-      (not_due-false (e ∷ before) n (ended-span a refused lost before s.senders ∙ h) (not_due-ids e before noted (mark before) a.rec.span.ids (omega (arith, mark-clock before)) k w))
+      (not_due-false (e ∷ before) n (ended-span a refused lost before s.senders ∙ h) (not_due-ids e before noted (mark before) a.rec.span.ids (omega (arith, mark-clock before)) k (not_due-later e before (mark before) noted (omega (arith, mark-clock before)) w)))
   due-item (Tick m) refused lost before noted h k w = due-tick m refused lost before noted h
   due-item (End sender) refused lost before noted h k w = let e : Entry = record { item = End sender; refused = refused; lost = lost } in due-end sender refused lost before noted h w (have_ended (e ∷ before) s.senders) refl
 
@@ -288,7 +307,7 @@ module _ (s : Settings) (room : HasRoom s.limit) where
   stopped-before e (f ∷ before) h = ended-before f before s.senders h
 
   abbrev pub Known : Journal → Type 0
-  Known past = have_ended past s.senders ≡ false → NotDue (mark past) (notes s past)
+  Known past = have_ended past s.senders ≡ false → NotDue past (mark past) (notes s past)
 
   -- what is due after k decisions at the last item
   abbrev pub item_notes : Entry → Journal → Notes
@@ -321,7 +340,7 @@ module _ (s : Settings) (room : HasRoom s.limit) where
   unfolding notes
   known [] w h = λ _. none_yet s.limit
     where
-      none_yet : (limit : Option ℕ) → Each (λ (o : Opening). is_none (decided_as no_notes o.at) ≡ true → 0 < o.moment + s.wait) (reverse (last_of limit []))
+      none_yet : (limit : Option ℕ) → Each (λ (o : Opening). is_none (decided_as no_notes o.at) ≡ true → ripe [] 0 o ≡ false) (reverse (last_of limit []))
       none_yet None = tt
       none_yet (Some zero) = tt
       none_yet (Some (suc n)) = tt
@@ -379,22 +398,30 @@ module _ (s : Settings) (room : HasRoom s.limit) where
 
   -- ---- the shard's side of what is due
 
-  any-episodes : (past : Journal) (noted : Notes) (fin : Bool) (m : ℕ) (os : List Opening) → list_any (is_due_by fin m s.wait) (map (episode past noted) os) ≡ list_any (λ o. is_none (decided_as noted o.at) && (fin || nat_le (o.moment + s.wait) m)) os
+  -- an opening's episode is due in the shard where the opening is ripe
+  pub episode-due : (past : Journal) (noted : Notes) (fin : Bool) (m : ℕ) (o : Opening) → is_due_by fin m s.wait s.root_wait (episode past noted o) ≡ (is_none (decided_as noted o.at) && (fin || ripe past m o))
+  episode-due past noted fin m o = by (decided_as noted o.at)
+    where
+      by : (v : Option Verdict) → (is_none v && (fin || (nat_le (o.moment + s.wait) m || is_root_due m s.root_wait (root_left (first_root_since past o) v)))) ≡ (is_none v && (fin || ripe past m o))
+      by None = refl
+      by (Some v) = refl
+
+  any-episodes : (past : Journal) (noted : Notes) (fin : Bool) (m : ℕ) (os : List Opening) → list_any (is_due_by fin m s.wait s.root_wait) (map (episode past noted) os) ≡ list_any (λ o. is_none (decided_as noted o.at) && (fin || ripe past m o)) os
   any-episodes past noted fin m [] = refl
-  any-episodes past noted fin m (o ∷ os) = rw (any-episodes past noted fin m os)
+  any-episodes past noted fin m (o ∷ os) = ap (λ b. b || list_any (is_due_by fin m s.wait s.root_wait) (map (episode past noted) os)) (episode-due past noted fin m o) ∙ ap (λ b. (is_none (decided_as noted o.at) && (fin || ripe past m o)) || b) (any-episodes past noted fin m os)
 
-  find-episode : (past : Journal) (noted : Notes) (fin : Bool) (m : ℕ) (o : Opening) (os : List Opening) (b : Bool) → (is_none (decided_as noted o.at) && (fin || nat_le (o.moment + s.wait) m)) ≡ b →
-      find (is_due_by fin m s.wait) (map (episode past noted) os) ≡ option_map (episode past noted) (find (λ o. is_none (decided_as noted o.at) && (fin || nat_le (o.moment + s.wait) m)) os) →
-      find (is_due_by fin m s.wait) (map (episode past noted) (o ∷ os)) ≡ option_map (episode past noted) (find (λ o. is_none (decided_as noted o.at) && (fin || nat_le (o.moment + s.wait) m)) (o ∷ os))
-  find-episode past noted fin m o os true h ih = rw h
-  find-episode past noted fin m o os false h ih = rw h ih
+  find-episode : (past : Journal) (noted : Notes) (fin : Bool) (m : ℕ) (o : Opening) (os : List Opening) (b : Bool) → (is_none (decided_as noted o.at) && (fin || ripe past m o)) ≡ b →
+      find (is_due_by fin m s.wait s.root_wait) (map (episode past noted) os) ≡ option_map (episode past noted) (find (λ o. is_none (decided_as noted o.at) && (fin || ripe past m o)) os) →
+      find (is_due_by fin m s.wait s.root_wait) (map (episode past noted) (o ∷ os)) ≡ option_map (episode past noted) (find (λ o. is_none (decided_as noted o.at) && (fin || ripe past m o)) (o ∷ os))
+  find-episode past noted fin m o os true h ih = ap (λ b. cond b (Some (episode past noted o)) (find (is_due_by fin m s.wait s.root_wait) (map (episode past noted) os))) (episode-due past noted fin m o ∙ h) ∙ ap (λ b. option_map (episode past noted) (cond b (Some o) (find (λ o. is_none (decided_as noted o.at) && (fin || ripe past m o)) os))) (sym h)
+  find-episode past noted fin m o os false h ih = ap (λ b. cond b (Some (episode past noted o)) (find (is_due_by fin m s.wait s.root_wait) (map (episode past noted) os))) (episode-due past noted fin m o ∙ h) ∙ ih ∙ ap (λ b. option_map (episode past noted) (cond b (Some o) (find (λ o. is_none (decided_as noted o.at) && (fin || ripe past m o)) os))) (sym h)
 
-  pub find-episodes : (past : Journal) (noted : Notes) (fin : Bool) (m : ℕ) (os : List Opening) → find (is_due_by fin m s.wait) (map (episode past noted) os) ≡ option_map (episode past noted) (find (λ o. is_none (decided_as noted o.at) && (fin || nat_le (o.moment + s.wait) m)) os)
+  pub find-episodes : (past : Journal) (noted : Notes) (fin : Bool) (m : ℕ) (os : List Opening) → find (is_due_by fin m s.wait s.root_wait) (map (episode past noted) os) ≡ option_map (episode past noted) (find (λ o. is_none (decided_as noted o.at) && (fin || ripe past m o)) os)
   find-episodes past noted fin m [] = refl
-  find-episodes past noted fin m (o ∷ os) = find-episode past noted fin m o os (is_none (decided_as noted o.at) && (fin || nat_le (o.moment + s.wait) m)) refl (find-episodes past noted fin m os)
+  find-episodes past noted fin m (o ∷ os) = find-episode past noted fin m o os (is_none (decided_as noted o.at) && (fin || ripe past m o)) refl (find-episodes past noted fin m os)
 
   abbrev pub DueIn : Standing → Episode → Bool
-  DueIn st e = is_due_by (list_all (λ b. b) st.ends) st.mark s.wait e
+  DueIn st e = is_due_by (list_all (λ b. b) st.ends) st.mark s.wait s.root_wait e
 
   -- nothing is due in what stands for a journal: each decision has been dealt with
   pub drop_nil : (k : ℕ) → drop {A = Opening} k [] ≡ []
@@ -411,7 +438,7 @@ module _ (s : Settings) (room : HasRoom s.limit) where
       let past : Journal = x ∷ before in
       let n = notes_dealt s past k in
       let g : find (DueIn (standing s past k)) (map (episode past n) (front n)) ≡ None = (let P = λ (z : Standing). find (DueIn z) z.episodes ≡ None in subst P e f) in
-      let g2 : find (is_due_by (have_ended past s.senders) (mark past) s.wait) (map (episode past n) (front n)) ≡ None = (let P = λ (b : Bool). find (is_due_by b (mark past) s.wait) (map (episode past n) (front n)) ≡ None in subst P (all_ended past s.senders) g) in
+      let g2 : find (is_due_by (have_ended past s.senders) (mark past) s.wait s.root_wait) (map (episode past n) (front n)) ≡ None = (let P = λ (b : Bool). find (is_due_by b (mark past) s.wait s.root_wait) (map (episode past n) (front n)) ≡ None in subst P (all_ended past s.senders) g) in
       let g3 : find (open_due past n) (front n) ≡ None = none_mapped (episode past n) (find (open_due past n) (front n)) (sym (find-episodes past n (have_ended past s.senders) (mark past) (front n)) ∙ g2) in
       sym (due-dealt x before k h w (known before w (stopped-before x before h))) ∙ none-from_find (open_due past n) (front n) g3
 

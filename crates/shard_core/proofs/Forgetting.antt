@@ -44,11 +44,11 @@ opened-append c t k a (e ∷ es) = (elim (same_trace e.trace t) as (λ b. opened
   | false ↦ ap (λ b. nat_le e.moment c && b) (opened-append c t k a es)
 ])
 
-pub opened-settle : (c m w : ℕ) (v : Verdict) (es : List Episode) → opened_by c (settle_first m w v es) ≡ opened_by c es
-opened-settle c m w v [] = refl
-opened-settle c m w v (e ∷ es) = (elim (is_due_at m w e) as (λ b. opened_by c (cond b (settled v e ∷ es) (e ∷ settle_first m w v es)) ≡ (nat_le e.moment c && opened_by c es)) [
+pub opened-settle : (c m w r : ℕ) (v : Verdict) (es : List Episode) → opened_by c (settle_first m w r v es) ≡ opened_by c es
+opened-settle c m w r v [] = refl
+opened-settle c m w r v (e ∷ es) = (elim (is_due_at m w r e) as (λ b. opened_by c (cond b (settled v e ∷ es) (e ∷ settle_first m w r v es)) ≡ (nat_le e.moment c && opened_by c es)) [
   | true ↦ refl
-  | false ↦ ap (λ b. nat_le e.moment c && b) (opened-settle c m w v es)
+  | false ↦ ap (λ b. nat_le e.moment c && b) (opened-settle c m w r v es)
 ])
 
 opened-drop : (c : ℕ) (es : List Episode) → opened_by c es ≡ true → opened_by c (drop 1 es) ≡ true
@@ -86,11 +86,11 @@ traces-append t k a (e ∷ es) = (elim (same_trace e.trace t) as (λ b. traces (
   | false ↦ ap (λ (ts : List TraceId). e.trace ∷ ts) (traces-append t k a es)
 ])
 
-pub traces-settle : (m w : ℕ) (v : Verdict) (es : List Episode) → traces (settle_first m w v es) ≡ traces es
-traces-settle m w v [] = refl
-traces-settle m w v (e ∷ es) = (elim (is_due_at m w e) as (λ b. traces (cond b (settled v e ∷ es) (e ∷ settle_first m w v es)) ≡ e.trace ∷ traces es) [
+pub traces-settle : (m w r : ℕ) (v : Verdict) (es : List Episode) → traces (settle_first m w r v es) ≡ traces es
+traces-settle m w r v [] = refl
+traces-settle m w r v (e ∷ es) = (elim (is_due_at m w r e) as (λ b. traces (cond b (settled v e ∷ es) (e ∷ settle_first m w r v es)) ≡ e.trace ∷ traces es) [
   | true ↦ refl
-  | false ↦ ap (λ (ts : List TraceId). e.trace ∷ ts) (traces-settle m w v es)
+  | false ↦ ap (λ (ts : List TraceId). e.trace ∷ ts) (traces-settle m w r v es)
 ])
 
 weaker : (c d : CacheLists) → ((x : TraceId) → is_held_in_either x c ≡ false → is_held_in_either x d ≡ false) → (ts : List TraceId) → AreForgotten ts c → AreForgotten ts d
@@ -193,11 +193,11 @@ append_keeps clock old new c a t (Ok u) e k =
     subst P (sym e) (k.0, opened-append clock t clock a old.episodes ∙ k.1, subst Q (sym (traces-append t clock a old.episodes)) k.2)
 append_keeps clock old new c a t (Err back) e k = let P = λ (b : Buffer). IsKept clock b c in subst P (sym e.1) k
 
-pub settle_keeps : (clock m w : ℕ) (v : Verdict) (old new : Buffer) (c : CacheLists) → new ≡ with_settled m w v old → IsKept clock old c → IsKept clock new c
-settle_keeps clock m w v old new c e k =
+pub settle_keeps : (clock m w r : ℕ) (v : Verdict) (old new : Buffer) (c : CacheLists) → new ≡ with_settled m w r v old → IsKept clock old c → IsKept clock new c
+settle_keeps clock m w r v old new c e k =
     let P = λ (b : Buffer). IsKept clock b c in
     let Q = λ (ts : List TraceId). AreForgotten ts c in
-    subst P (sym e) (k.0, opened-settle clock m w v old.episodes ∙ k.1, subst Q (sym (traces-settle m w v old.episodes)) k.2)
+    subst P (sym e) (k.0, opened-settle clock m w r v old.episodes ∙ k.1, subst Q (sym (traces-settle m w r v old.episodes)) k.2)
 
 pub ask_keeps : (clock : ℕ) (b : Buffer) (t : TraceId) (old new : CacheLists) → new ≡ after_asking t old → IsKept clock b old → IsKept clock b new
 ask_keeps clock b t old new e k = let P = λ (c : CacheLists). IsKept clock b c in subst P (sym e) (k.0, k.1, forgotten-asked t old (traces b.episodes) k.2)

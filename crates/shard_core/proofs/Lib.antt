@@ -14,3 +14,4 @@ mod Stands
 mod Deciding
 mod Effects
 mod Fates
+pub mod RootWait

@@ -70,7 +70,7 @@ always = one_more (leaf always_sample) no_more
 
 -- two senders, a wait of ten seconds
 abbrev settings : Policies → (limit : Option ℕ) → (sampled non_sampled : ℕ) → Settings
-settings policies limit sampled non_sampled = record { policies = policies; wait = 10000; limit = limit; sampled_size = sampled; non_sampled_size = non_sampled; senders = 2 }
+settings policies limit sampled non_sampled = record { policies = policies; wait = 10000; root_wait = 0; limit = limit; sampled_size = sampled; non_sampled_size = non_sampled; senders = 2 }
 
 -- no limit, and no caches
 abbrev plain : Settings
@@ -319,3 +319,30 @@ first_of_two_roots = refl
 pub decided_keeps_none : map (λ (e : Episode). e.first_root) (standing (settings errors None 0 0) (tick 10000 ∷ span 1 0 0 ∷ []) 1).episodes ≡ None ∷ []
 unfolding notes
 decided_keeps_none = refl
+
+-- ---- root wait
+
+abbrev pub child_error : (t n m : ℕ) → Entry
+child_error t n m =
+    let a = arrival t n m 2 0 0 in
+    took (Span (record a { rec = record a.rec { span = record a.rec.span { ids = Some (record (ids t n) { parent = Some (9 ∷ []) }) } } }))
+
+-- a root wait of two seconds
+abbrev with_roots : Option ℕ → Settings
+with_roots limit = record (settings errors limit 0 0) { root_wait = 2000 }
+
+abbrev root_items : List Entry
+root_items = child_error 1 0 0 ∷ error 2 1 1000 ∷ tick 3000 ∷ span 1 2 4000 ∷ tick 5999 ∷ tick 6000 ∷ []
+
+-- before a tick, and after each
+pub root_wait : map (λ n. released (with_roots None) (take n root_items)) (2 ∷ 3 ∷ 5 ∷ 6 ∷ []) ≡ [] ∷ (1 ∷ []) ∷ (1 ∷ []) ∷ (1 ∷ 0 ∷ 2 ∷ []) ∷ []
+unfolding notes
+root_wait = refl
+
+abbrev root_evicts : List Entry
+root_evicts = child_error 1 0 0 ∷ error 2 1 0 ∷ tick 2000 ∷ error 3 2 2000 ∷ closing
+
+-- the oldest leaves undecided, although a later one is decided
+pub root_wait_of_two_traces : (released (with_roots (Some 2)) root_evicts ≡ 1 ∷ 2 ∷ []) × (counted (with_roots (Some 2)) root_evicts ≡ 0 ∷ 1 ∷ 0 ∷ 0 ∷ [])
+unfolding notes
+root_wait_of_two_traces = (refl, refl)

@@ -59,7 +59,7 @@ ready h past k w l d f s =
 -- a shard that holds what stands for a journal
 stands_at : (h : Held) → 0 < h.limit → (past : Journal) (k : ℕ) → StoppedInTime (settings h) past → StandsFor (record h { standing = standing (settings h) past k }) past k
 stands_at h l past k s =
-    let P = λ (n : ℕ). StoppedInTime (settings_of h.policies h.wait h.limit h.sampled_size h.non_sampled_size n) past × (standing (settings h) past k ≡ standing (settings_of h.policies h.wait h.limit h.sampled_size h.non_sampled_size n) past k) in
+    let P = λ (n : ℕ). StoppedInTime (settings_of h.policies h.wait h.root_wait h.limit h.sampled_size h.non_sampled_size n) past × (standing (settings h) past k ≡ standing (settings_of h.policies h.wait h.root_wait h.limit h.sampled_size h.non_sampled_size n) past k) in
     subst P (sym (length-ends (settings h) (room_of h l) past (length h.standing.ends))) (s, refl)
 
 -- ---- a span
@@ -177,15 +177,15 @@ none_taken : {X : Type 0} (n : ℕ) → take {A = X} n [] ≡ []
 none_taken zero = refl
 none_taken (suc n) = refl
 
-pub new_stands : (policies : List Policy) (wait n : ℕ) (b : Buffer) (c : CacheLists) (counts : List LimiterCount) (ended : List Bool) → b.episodes ≡ [] → c.sampled.traces ≡ [] → c.not_sampled.traces ≡ [] → counts ≡ limiter_counts (meaning policies) [] → ended ≡ replicate n false →
-    StandsFor (held_of policies wait b c counts 0 0 ended) [] 0
-new_stands policies wait n b c counts ended e x y q f =
+pub new_stands : (policies : List Policy) (wait root_wait n : ℕ) (b : Buffer) (c : CacheLists) (counts : List LimiterCount) (ended : List Bool) → b.episodes ≡ [] → c.sampled.traces ≡ [] → c.not_sampled.traces ≡ [] → counts ≡ limiter_counts (meaning policies) [] → ended ≡ replicate n false →
+    StandsFor (held_of policies wait root_wait b c counts 0 0 ended) [] 0
+new_stands policies wait root_wait n b c counts ended e x y q f =
     let z : ended ≡ ends [] (length ended) = f ∙ sym (no-ends n) ∙ ap (ends []) (sym (ap length f ∙ length-replicate n false)) in
-    let h = held_of policies wait b c counts 0 0 ended in
+    let h = held_of policies wait root_wait b c counts 0 0 ended in
     (tt, parts b.episodes c.sampled.traces c.not_sampled.traces counts ended b.limit c.sampled.size c.not_sampled.size e x y q z)
   where
     parts : (es : List Episode) (ss ns : List TraceId) (ks : List LimiterCount) (en : List Bool) (l i j : ℕ) → es ≡ [] → ss ≡ [] → ns ≡ [] → ks ≡ limiter_counts (meaning policies) [] → en ≡ ends [] (length en) →
-        (let st : Standing = record { episodes = es; sampled = ss; non_sampled = ns; limiter_counts = ks; clock = 0; mark = 0; ends = en } in st) ≡ standing (settings_of policies wait l i j (length en)) [] 0
+        (let st : Standing = record { episodes = es; sampled = ss; non_sampled = ns; limiter_counts = ks; clock = 0; mark = 0; ends = en } in st) ≡ standing (settings_of policies wait root_wait l i j (length en)) [] 0
     parts es ss ns ks en l i j e x y q z =
         let a = none_taken {X = Opening} l in
         let b = none_taken {X = TraceId} i in

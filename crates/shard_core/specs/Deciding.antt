@@ -14,13 +14,13 @@ decide_first p v [] = []
 decide_first p v (e ∷ rest) = if p e then settled v e ∷ rest else e ∷ decide_first p v rest
 
 -- an episode of a shard with this wait is due
-abbrev pub is_due_held : (wait : ℕ) → Standing → Episode → Bool
-is_due_held wait st e = is_due_by (list_all (λ b. b) st.ends) st.mark wait e
+abbrev pub is_due_held : (wait root_wait : ℕ) → Standing → Episode → Bool
+is_due_held wait root_wait st e = is_due_by (list_all (λ b. b) st.ends) st.mark wait root_wait e
 
 -- what a shard holds after the first episode that is due was decided: its spans are handed out, and its limiter was asked
 abbrev pub after_deciding : Settings → Standing → Episode → Standing
 after_deciding s st e = record st {
-  episodes = decide_first (is_due_held s.wait st) (verdict_held s.policies st e.spans) st.episodes;
+  episodes = decide_first (is_due_held s.wait s.root_wait st) (verdict_held s.policies st e.spans) st.episodes;
   limiter_counts = counts_asked s.policies st e.spans;
 }
 
@@ -33,4 +33,4 @@ DecidesNext s past dealt (Some e) = (later : List Decision) × (d : Decision) ×
 -- For a limit and a wait of at least 1, and a journal that took no item after its Ends were complete: what is due in a shard is the journal's next decision, and what a shard holds after it is computed from what it held before.
 abbrev pub DecidesStanding : Type 0
 DecidesStanding = (s : Settings) (past : Journal) (dealt : ℕ) → s.limit ≢ Some 0 → 0 < s.wait → StoppedInTime s past
-    → let st = standing s past dealt in DecidesNext s past dealt (find (is_due_held s.wait st) st.episodes)
+    → let st = standing s past dealt in DecidesNext s past dealt (find (is_due_held s.wait s.root_wait st) st.episodes)

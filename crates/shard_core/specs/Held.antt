@@ -2,7 +2,7 @@
 use Rattle.std.specs.Prelude.{ℕ, ◌+◌, ◌≡◌, Bool, ◌&&◌, ◌||◌, nat_le, is_none, List, if◌then◌else◌, length, Some}
 use Rattle.std.specs.List.{list_any, list_all}
 use Rattle.shard_core.specs.Journal.{Settings, Journal, StoppedInTime}
-use Rattle.trace_buffer.specs.Buffer.{Episode}
+use Rattle.trace_buffer.specs.Buffer.{Episode, is_root_due}
 use Rattle.shard_core.specs.Standing.{Standing, standing}
 use Rattle.trace_buffer.specs.Buffer.{Buffer}
 use Rattle.decision_cache.specs.Lists.{CacheLists}
@@ -14,16 +14,18 @@ use Rattle.policy_tree.specs.declared.policy.Policy.{Policy}
 pub record Held : Type 0 where
   pub policies : List Policy
   pub wait : ℕ
+  pub root_wait : ℕ
   pub limit : ℕ
   pub sampled_size : ℕ
   pub non_sampled_size : ℕ
   pub standing : Standing
 
 -- a shard by its parts
-abbrev pub held_of : List Policy → (wait : ℕ) → Buffer → CacheLists → List LimiterCount → (clock mark : ℕ) → List Bool → Held
-held_of policies wait b c counts clock mark ends = record {
+abbrev pub held_of : List Policy → (wait root_wait : ℕ) → Buffer → CacheLists → List LimiterCount → (clock mark : ℕ) → List Bool → Held
+held_of policies wait root_wait b c counts clock mark ends = record {
   policies = policies;
   wait = wait;
+  root_wait = root_wait;
   limit = b.limit;
   sampled_size = c.sampled.size;
   non_sampled_size = c.not_sampled.size;
@@ -31,32 +33,32 @@ held_of policies wait b c counts clock mark ends = record {
 }
 
 -- the settings of a shard
-abbrev pub settings_of : List Policy → (wait limit sampled_size non_sampled_size senders : ℕ) → Settings
-settings_of policies wait limit sampled_size non_sampled_size senders = record { policies = meaning policies; wait = wait; limit = Some limit; sampled_size = sampled_size; non_sampled_size = non_sampled_size; senders = senders }
+abbrev pub settings_of : List Policy → (wait root_wait limit sampled_size non_sampled_size senders : ℕ) → Settings
+settings_of policies wait root_wait limit sampled_size non_sampled_size senders = record { policies = meaning policies; wait = wait; root_wait = root_wait; limit = Some limit; sampled_size = sampled_size; non_sampled_size = non_sampled_size; senders = senders }
 
 -- the settings that a shard was made with
 abbrev pub settings : Held → Settings
-settings h = settings_of h.policies h.wait h.limit h.sampled_size h.non_sampled_size (length h.standing.ends)
+settings h = settings_of h.policies h.wait h.root_wait h.limit h.sampled_size h.non_sampled_size (length h.standing.ends)
 
 -- every sender has ended
 abbrev pub is_finished : Held → Bool
 is_finished h = list_all (λ b. b) h.standing.ends
 
--- an undecided episode is due where it had waited long enough at the last tick, or all senders have ended
-abbrev pub is_due_by : (finished : Bool) → (mark wait : ℕ) → Episode → Bool
-is_due_by finished mark wait e = is_none e.verdict && (finished || nat_le (e.moment + wait) mark)
+-- an undecided episode is due where it, or its first root, had waited long enough at the last tick, or all senders have ended
+abbrev pub is_due_by : (finished : Bool) → (mark wait root_wait : ℕ) → Episode → Bool
+is_due_by finished mark wait root_wait e = is_none e.verdict && (finished || (nat_le (e.moment + wait) mark || is_root_due mark root_wait e.first_root))
 
 -- an episode of the shard is due
 abbrev pub is_due_in : Held → Episode → Bool
-is_due_in h e = is_due_by (is_finished h) h.standing.mark h.wait e
+is_due_in h e = is_due_by (is_finished h) h.standing.mark h.wait h.root_wait e
 
 -- some episode of the shard is due
 abbrev pub has_due : Held → Bool
 has_due h = list_any (is_due_in h) h.standing.episodes
 
--- the moment by which, and the wait after which an undecided episode is due: at the end each is
-abbrev pub due_by : Held → ℕ × ℕ
-due_by h = if is_finished h then (h.standing.clock, 0) else (h.standing.mark, h.wait)
+-- the moment by which, and the wait and the root wait after which an undecided episode is due: at the end each is
+abbrev pub due_by : Held → ℕ × ℕ × ℕ
+due_by h = if is_finished h then (h.standing.clock, 0, 0) else (h.standing.mark, h.wait, h.root_wait)
 
 -- the shard stands for the journal, where of the decisions at its last item the first `dealt` were dealt with
 abbrev pub StandsFor : Held → Journal → (dealt : ℕ) → Type 0

@@ -116,7 +116,7 @@ abbrev pub counts_asked : Policies → Standing → List Arrival → List Limite
 counts_asked policies h spans = after_asking after (h.clock / 1000) (length spans) (asked_nodes policies (λ node. grants_at h.limiter_counts node (h.clock / 1000) (length spans)) spans) h.limiter_counts
 
 -- the first episode that is due by this mark is decided
-abbrev pub SettlesFirst : (old : Held) → (mark wait : ℕ) → Decided → (new : Held) → Type 0
-SettlesFirst old mark wait answer new = (e : Episode) → find (is_due_at mark wait) old.standing.episodes ≡ Some e →
+abbrev pub SettlesFirst : (old : Held) → (mark wait root_wait : ℕ) → Decided → (new : Held) → Type 0
+SettlesFirst old mark wait root_wait answer new = (e : Episode) → find (is_due_at mark wait root_wait) old.standing.episodes ≡ Some e →
     (v : Verdict) × (v ≡ verdict_held (meaning old.policies) old.standing e.spans) × Releases answer e.spans v
-    × (new ≡ record old { standing = record old.standing { episodes = settle_first mark wait v old.standing.episodes; limiter_counts = counts_asked (meaning old.policies) old.standing e.spans } })
+    × (new ≡ record old { standing = record old.standing { episodes = settle_first mark wait root_wait v old.standing.episodes; limiter_counts = counts_asked (meaning old.policies) old.standing e.spans } })

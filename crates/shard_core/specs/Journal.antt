@@ -2,6 +2,7 @@
 -- A journal is a list of entries, the newest first: the journal before an entry is the list behind it, whose length is the entry's position.
 use Rattle.std.specs.Prelude.{ℕ, zero, suc, ◌+◌, ◌-◌, ◌/◌, max, Bool, true, false, not, ◌&&◌, ◌||◌, if◌then◌else◌, ◌==◌, nat_lt, nat_le, is_none, List, [], ◌∷◌, ◌++◌, map, reverse, length, take, slice_get, filter, find, Option, Some, None, option_map, ◌≡◌}
 use Rattle.std.specs.List.{list_any}
+use Rattle.trace_buffer.specs.Buffer.{are_of_root}
 use Rattle.policy_tree.specs.Tree.{Policies}
 use Rattle.policy_eval.specs.Policies.{verdict, asked_nodes}
 use Rattle.rate_budget.specs.Grant.{Asking, granted_after}
@@ -21,10 +22,11 @@ pub record Entry : Type 0 where
   pub refused : Bool
   pub lost : Bool
 
--- the settings of a shard: times are milliseconds, a `limit` of None is no limit
+-- the settings of a shard: times are milliseconds, a `root_wait` of 0 is off, a `limit` of None is no limit
 pub record Settings : Type 0 where
   pub policies : Policies
   pub wait : ℕ
+  pub root_wait : ℕ
   pub limit : Option ℕ
   pub sampled_size : ℕ
   pub non_sampled_size : ℕ
@@ -191,9 +193,18 @@ spans_since (e ∷ before) o = spans_since before o ++ item_spans o (length befo
 
 -- ---- due
 
--- whether an undecided episode is due at a tick, the journal's last item
+-- the span has no parent
+abbrev pub is_root : Arrival → Bool
+is_root a = are_of_root a.rec.span.ids
+
+-- some root among the spans of the opening's episode was taken at a clock that lies at least `root_wait` before `now`
+abbrev pub is_root_past : (root_wait now : ℕ) → Journal → Opening → Bool
+is_root_past root_wait now [] o = false
+is_root_past root_wait now (e ∷ before) o = is_root_past root_wait now before o || (list_any is_root (item_spans o (length before) e.refused e.item) && nat_le (clock (e ∷ before) + root_wait) now)
+
+-- whether an undecided episode is due at a tick, the journal's last item: it opened long enough before, or root wait is on and some root was taken long enough before
 abbrev pub is_due : Settings → Journal → Opening → Bool
-is_due s past o = nat_le (o.moment + s.wait) (clock past)
+is_due s past o = nat_le (o.moment + s.wait) (clock past) || (nat_lt 0 s.root_wait && is_root_past s.root_wait (clock past) past o)
 
 -- the senders' Ends became complete
 abbrev pub has_finished : Settings → Entry → (before : Journal) → Bool

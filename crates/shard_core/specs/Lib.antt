@@ -8,3 +8,4 @@ pub mod Laws
 pub mod Keeping
 pub mod Forgotten
 pub mod Deciding
+pub mod RootWait

@@ -3,6 +3,7 @@
 ghost use Rattle.shard_core.specs.Deciding.{DecidesStanding};
 ghost use Rattle.shard_core.specs.Keeping.{KeepsStanding};
 ghost use Rattle.shard_core.specs.Laws.{FoundAsHeld};
+ghost use Rattle.shard_core.specs.RootWait.{RootWaitOff, DueByFirstRoot, NoneDueAfterMark};
 
 /// What a shard holds tells what a span finds: its trace's episode in the buffer, else the caches of decisions, answer
 /// what the journal says, looking back over its openings, decisions and touches.
@@ -20,4 +21,20 @@ pub fn keeps_standing()
 /// what it holds after the decision is computed from what it held before.
 pub fn decides_standing()
     ensures { DecidesStanding }
+{}
+
+/// With root wait off, a trace is due where it was without that option.
+pub fn root_wait_off()
+    ensures { RootWaitOff }
+{}
+
+/// Some root of a trace was taken long enough ago exactly where its first one was, since the clock doesn't go back: so an
+/// episode keeps the clock at its first root alone.
+pub fn due_by_first_root()
+    ensures { DueByFirstRoot }
+{}
+
+/// What is taken at the mark or after it makes no trace due by a root at that mark: so traces become due at ticks alone.
+pub fn none_due_after_mark()
+    ensures { NoneDueAfterMark }
 {}

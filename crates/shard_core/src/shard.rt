@@ -26,6 +26,7 @@ use trace_buffer::{Evicted, State, TraceBuffer};
 pub struct Shard {
     policies: Policies,
     wait: Moment,
+    root_wait: Moment,
     buffer: TraceBuffer,
     cache: DecisionCache,
     budgets: Budgets,
@@ -50,7 +51,7 @@ impl Model for Shard {
 
     ghost coded = { Prim.hlevel (codes, any_value.the_row.coded, kind.the_row.coded) };
 
-    ghost view = { λ s. held_of s.policies s.wait s.buffer s.cache s.budgets s.clock s.mark s.ends.items };
+    ghost view = { λ s. held_of s.policies s.wait s.root_wait s.buffer s.cache s.budgets s.clock s.mark s.ends.items };
 
     ghost invariant = { λ s. (0 < s.wait) × (0 < s.buffer.limit) × (map limiter_of s.budgets ≡ limiters (meaning s.policies)) × (opened_by s.clock s.buffer.episodes ≡ true) × AreForgotten (traces s.buffer.episodes) s.cache };
 }
@@ -60,13 +61,15 @@ impl Shard {
     ghost use Rattle.shard_core.specs.Taking.{entry, ends_after, answer_to, marks_apply, has_ids, is_refusal, only_clock, TellsFate, is_last, released_by, dropped_by, Decides, waiting, released_in, dropped_in, dealt_after};
     ghost use Rattle.shard_core.specs.Holding.{held_after_tick, held_after_end, TakesSpan};
 
-    /// A shard that has taken nothing. `wait` is how long a trace waits for its decision, in milliseconds; `limit` is on
-    /// the number of traces in the buffer; the caches have room for so many traces decided as `sampled` and as
-    /// `non_sampled`, where 0 is off. Senders have the numbers below `senders`.
+    /// A shard that has taken nothing. `wait` is how long a trace waits for its decision, in milliseconds, and `root_wait`
+    /// how long after its first root was taken, where 0 is off; `limit` is on the number of traces in the buffer; the
+    /// caches have room for so many traces decided as `sampled` and as `non_sampled`, where 0 is off. Senders have the
+    /// numbers below `senders`.
     pub fn new(
         alloc: Global,
         policies: Policies,
         wait: Moment,
+        root_wait: Moment,
         limit: usize,
         sampled: usize,
         non_sampled: usize,
@@ -77,7 +80,7 @@ impl Shard {
         requires has_senders { 0 < senders }
         ensures stands { IfOk result (λ shard. StandsFor shard [] 0) }
         ensures policies { IfOk result (λ shard. shard.policies ≡ policies) }
-        ensures settings { IfOk result (λ shard. settings shard ≡ settings_of policies wait limit sampled non_sampled senders) }
+        ensures settings { IfOk result (λ shard. settings shard ≡ settings_of policies wait root_wait limit sampled non_sampled senders) }
         ensures nothing_due { IfOk result (λ shard. has_due shard ≡ false) }
         ensures running { IfOk result (λ shard. is_finished shard ≡ false) }
         ensures ends { IfOk result (λ shard. shard.standing.ends ≡ replicate senders false) }
@@ -86,6 +89,7 @@ impl Shard {
         Ok(Shard {
             policies,
             wait,
+            root_wait,
             buffer: TraceBuffer::new(alloc, limit)?,
             cache: DecisionCache::new(alloc, sampled, non_sampled)?,
             budgets,
@@ -99,18 +103,18 @@ impl Shard {
     pub fn has_due(&self) -> bool
         ensures { result ≡ has_due self.now }
     {
-        let (mark, wait) = self.due_by();
-        self.buffer.next_due(mark, wait).is_some()
+        let (mark, wait, root_wait) = self.due_by();
+        self.buffer.next_due(mark, wait, root_wait).is_some()
     }
 
     /// The mark by which, and the wait after which a trace is due: once all senders have ended, each is.
-    fn due_by(&self) -> (Moment, Moment)
+    fn due_by(&self) -> (Moment, Moment, Moment)
         ensures { result ≡ due_by self.now }
     {
         if self.finished() {
-            (self.clock, 0)
+            (self.clock, 0, 0)
         } else {
-            (self.mark, self.wait)
+            (self.mark, self.wait, self.root_wait)
         }
     }
 
@@ -201,6 +205,15 @@ impl Shard {
         }
     }
 
+    /// Looks for the due trace that was opened first. The buffer keeps how far it looked, so all decisions at a mark look
+    /// through it once.
+    fn search(&mut self)
+        ensures { self.new ≡ self.old }
+    {
+        let (mark, wait, root_wait) = self.due_by();
+        self.buffer.search(mark, wait, root_wait);
+    }
+
     /// Decides the due trace that was opened first. It takes no memory.
     pub fn decide(&mut self) -> Decided
         ensures decides { (past : Journal) (dealt : ℕ) → StandsFor self.old past dealt → Decides self.old self.new result past dealt }
@@ -216,13 +229,14 @@ impl Shard {
         ensures policies { self.new.policies ≡ self.old.policies }
         ensures settings { settings self.new ≡ settings self.old }
     {
-        let (mark, wait) = self.due_by();
+        self.search();
+        let (mark, wait, root_wait) = self.due_by();
         let now = self.clock;
-        let Some(episode) = self.buffer.next_due(mark, wait) else {
+        let Some(episode) = self.buffer.next_due(mark, wait, root_wait) else {
             return Decided::Nothing;
         };
         let verdict = evaluate(&self.policies, episode.spans(), now, &mut self.budgets);
-        let spans = self.buffer.settle(mark, wait, verdict);
+        let spans = self.buffer.settle(mark, wait, root_wait, verdict);
         decided(verdict, spans)
     }
 }

@@ -1,14 +1,16 @@
 //! Which episodes are due at the last item of a journal.
 ghost use Rattle.std.specs.Prelude.{◌≡◌, ◌∷◌, ◌+◌, ◌&&◌, not, nat_le, filter, reverse, IfOk};
-ghost use Rattle.shard_core.specs.Journal.{undecided, have_ended, due_at};
+ghost use Rattle.std.specs.List.{list_any};
+ghost use Rattle.shard_core.specs.Journal.{undecided, have_ended, due_at, is_due, is_root_past, is_root, item_spans};
 ghost use Rattle.shard_journal.specs.Settings.{settings_of};
 
 use crate::entry::Entry;
 use crate::finding::in_buffer;
-use crate::moments::{clock, have_ended};
+use crate::moments::{clock, have_ended, item_moment};
 use crate::noted::{Notes, Opening};
 use crate::settings::Settings;
-use otlp_types::Item;
+use crate::spans::is_span_of;
+use otlp_types::{Arrival, Item};
 use span_ids::Moment;
 use std::alloc::{AllocError, Global};
 
@@ -26,7 +28,7 @@ pub fn due_at(
 {
     match &entry.item {
         Item::Span(_) => Ok(Vec::new(alloc)),
-        Item::Tick(_) => due_by_clock(alloc, settings, clock(past), noted),
+        Item::Tick(_) => due_at_tick(alloc, settings, past, noted),
         Item::End(_) => {
             if has_finished(settings, past, before) {
                 undecided(alloc, settings, noted)
@@ -57,28 +59,77 @@ pub fn undecided(
     Ok(waiting)
 }
 
-/// Those of the undecided episodes that have waited long enough at this clock.
+/// Those of the undecided episodes that are due at a tick, the last of these items.
 #[tactic(auto, using(crate::proofs::Filtering::filter_more))]
-fn due_by_clock(
+fn due_at_tick(
     alloc: Global,
     settings: &Settings,
-    clock: Moment,
+    past: &[Entry],
     noted: &Notes,
 ) -> Result<Vec<Opening>, AllocError>
-    ensures { IfOk result (λ due. due.items ≡ filter (λ o. nat_le (o.moment + settings.now.wait) clock) (undecided (settings_of settings.now) noted.now)) }
+    ensures { IfOk result (λ due. due.items ≡ filter (is_due (settings_of settings.now) (reverse past.now)) (undecided (settings_of settings.now) noted.now)) }
 {
     let waiting = undecided(alloc, settings, noted)?;
     let mut due = Vec::new(alloc);
     for i in 0..waiting.len() {
         let opening = waiting[i];
-        if has_waited(settings.wait, clock, opening.moment()) {
+        if is_due(settings, past, &opening) {
             due.push(opening)?;
         }
     }
     Ok(due)
 }
 
-/// Whether what opened at a moment has waited so long at this clock.
+/// Whether an undecided episode is due at a tick, the last of these items: it opened long enough before, or root wait is on
+/// and some root was taken long enough before.
+fn is_due(settings: &Settings, past: &[Entry], opening: &Opening) -> bool
+    ensures { result ≡ is_due (settings_of settings.now) (reverse past.now) opening.now }
+{
+    let now = clock(past);
+    has_waited(settings.wait, now, opening.moment())
+        || 0 < settings.root_wait && is_root_past(settings.root_wait, now, past, opening)
+}
+
+/// Whether some root among the spans of the opening's episode was taken at a clock that lies at least `root_wait`
+/// milliseconds before `now`.
+#[tactic(auto, using(crate::proofs::Newest::newest_more, crate::proofs::Newest::roots_more))]
+fn is_root_past(root_wait: Moment, now: Moment, journal: &[Entry], opening: &Opening) -> bool
+    ensures { result ≡ is_root_past root_wait now (reverse journal.now) opening.now }
+{
+    let mut clock = 0;
+    let mut found = false;
+    for at in 0..journal.len() {
+        let entry = &journal[at];
+        clock = item_moment(&entry.item).max(clock);
+        found = found || is_root_at(opening, at, entry) && has_waited(root_wait, now, clock);
+    }
+    found
+}
+
+/// Whether the item at this position is a root of the opening's episode.
+fn is_root_at(opening: &Opening, at: usize, entry: &Entry) -> bool
+    ensures { result ≡ list_any is_root (item_spans opening.now at entry.now.refused entry.now.item) }
+{
+    match &entry.item {
+        Item::Span(arrival) => {
+            is_span_of(opening, at, arrival) && !entry.refused && is_root(arrival)
+        }
+        Item::Tick(_) => false,
+        Item::End(_) => false,
+    }
+}
+
+/// Whether a span has no parent.
+fn is_root(arrival: &Arrival) -> bool
+    ensures { result ≡ is_root arrival.now }
+{
+    match arrival.rec.span.ids {
+        None => false,
+        Some(ids) => ids.parent.is_none(),
+    }
+}
+
+/// Whether what came at a moment has waited so long at this clock.
 fn has_waited(wait: Moment, clock: Moment, moment: Moment) -> bool
     ensures { result ≡ nat_le (moment + wait) clock }
 {

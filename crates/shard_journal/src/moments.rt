@@ -18,7 +18,8 @@ pub fn clock(journal: &[Entry]) -> Moment
     greatest
 }
 
-fn item_moment(item: &Item) -> Moment
+/// The moment of a span or a tick, in milliseconds: 0 for an End.
+pub fn item_moment(item: &Item) -> Moment
     ensures { result ≡ item_moment item.now }
 {
     match item {

@@ -7,6 +7,8 @@ pub struct Settings {
     pub policies: Policies,
     /// How long a trace waits for its decision, in milliseconds.
     pub wait: Moment,
+    /// How long after its first root a trace is due, where that is sooner, in milliseconds: 0 is off.
+    pub root_wait: Moment,
     /// On the number of traces in the buffer: `None` is no limit.
     pub limit: Option<usize>,
     /// For how many traces decided as sampled the cache has room: 0 is off.

@@ -1,5 +1,5 @@
 //! The spans of an episode, looked up in a journal.
-ghost use Rattle.std.specs.Prelude.{◌≡◌, ◌++◌, reverse, IfOk, OnOk};
+ghost use Rattle.std.specs.Prelude.{◌≡◌, ◌++◌, ◌&&◌, nat_le, reverse, IfOk, OnOk};
 ghost use Rattle.shard_core.specs.Journal.{is_of_trace, item_spans, spans_since};
 
 use crate::entry::Entry;
@@ -35,7 +35,7 @@ fn push_item_spans(
 {
     match &entry.item {
         Item::Span(arrival) => {
-            if opening.at() <= at && is_of_trace(opening.trace(), arrival) && !entry.refused {
+            if is_span_of(opening, at, arrival) && !entry.refused {
                 spans.push(arrival.try_clone(alloc)?)?;
             }
             Ok(())
@@ -43,6 +43,13 @@ fn push_item_spans(
         Item::Tick(_) => Ok(()),
         Item::End(_) => Ok(()),
     }
+}
+
+/// Whether the span at this position is of the opening's trace, and not before the opening.
+pub fn is_span_of(opening: &Opening, at: usize, arrival: &Arrival) -> bool
+    ensures { result ≡ (nat_le opening.now.at at && is_of_trace opening.now.trace arrival.now) }
+{
+    opening.at() <= at && is_of_trace(opening.trace(), arrival)
 }
 
 fn is_of_trace(trace: TraceId, arrival: &Arrival) -> bool

@@ -172,10 +172,11 @@ unfolding spec.table_fault
 table_small members =
     both _ _ (unknown table_is.Config members)
     (both _ _ (both _ _ (sizes (pos 3600000) (get_member (codes "decision_wait_ms") members) (pos 1))
+    (both _ _ (sizes (pos 3600000) (get_member (codes "root_wait_ms") members) (pos 0))
     (both _ _ (sizes (pos 1000000) (get_member (codes "num_traces") members) (pos 1))
     (both _ _ (sizes (pos 64) (get_member (codes "lanes") members) (pos 1))
     (both _ _ (sizes (pos 64) (get_member (codes "shards") members) (pos 1))
-    (sizes (pos 60000) (get_member (codes "tick_ms") members) (pos 1))))))
+    (sizes (pos 60000) (get_member (codes "tick_ms") members) (pos 1)))))))
     (both _ _ (both _ _ (sizes (pos 65536) (get_member (codes "queue_capacity") members) (pos 1))
     (both _ _ (sizes (pos 65536) (get_member (codes "export_capacity") members) (pos 1))
     (sizes (pos 8192) (get_member (codes "send_batch_size") members) (pos 1))))

@@ -200,6 +200,11 @@ five_rows a b c d e =
     both (λ fault. a ≡ Some fault) (λ fault. (b ≡ Some fault) ⊎ ((c ≡ Some fault) ⊎ ((d ≡ Some fault) ⊎ (e ≡ Some fault)))) _ _ (row a)
     (both (λ fault. b ≡ Some fault) (λ fault. (c ≡ Some fault) ⊎ ((d ≡ Some fault) ⊎ (e ≡ Some fault))) _ _ (row b) (three_rows c d e))
 
+six_rows : (a b c d e f : Option ConfigFault)
+    → IsLeastOf (λ fault. (a ≡ Some fault) ⊎ ((b ≡ Some fault) ⊎ ((c ≡ Some fault) ⊎ ((d ≡ Some fault) ⊎ ((e ≡ Some fault) ⊎ (f ≡ Some fault)))))) (least a (least b (least c (least d (least e f)))))
+six_rows a b c d e f =
+    both (λ fault. a ≡ Some fault) (λ fault. (b ≡ Some fault) ⊎ ((c ≡ Some fault) ⊎ ((d ≡ Some fault) ⊎ ((e ≡ Some fault) ⊎ (f ≡ Some fault))))) _ _ (row a) (five_rows b c d e f)
+
 pub table_least : (members : Members) → IsLeastOf (HasFault members) (spec.table_fault members)
 unfolding spec.table_fault
 table_least members =
@@ -208,7 +213,7 @@ table_least members =
     let cache : IsLeastOf (OptionalHas CacheHas (get_member (codes "decision_cache") members)) (optional spec.cache_fault (get_member (codes "decision_cache") members)) = optional_least CacheHas spec.cache_fault cache_least (get_member (codes "decision_cache") members) in
     let policies : IsLeastOf (RequiredHas PoliciesHave (get_member (codes "policies") members)) (required spec.policies_fault (get_member (codes "policies") members)) = required_least PoliciesHave spec.policies_fault policies_least (get_member (codes "policies") members) in
     both (λ fault. keys ≡ Some fault) _ _ _ (row keys)
-    (both (NumbersHave members) _ _ _ (five_rows _ _ _ _ _)
+    (both (NumbersHave members) _ _ _ (six_rows _ _ _ _ _ _)
     (both (SizesHave members) _ _ _ (three_rows _ _ _)
     (both (λ fault. listen ≡ Some fault) _ _ _ (row listen)
     (both (OptionalHas CacheHas (get_member (codes "decision_cache") members)) (RequiredHas PoliciesHave (get_member (codes "policies") members)) _ _ cache policies))))

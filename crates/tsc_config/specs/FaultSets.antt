@@ -138,10 +138,11 @@ NumberHas members key greatest fault = optional (integer_fault (pos 1) greatest)
 abbrev pub NumbersHave : Members → ConfigFault → Type 0
 NumbersHave members fault =
     NumberHas members (codes "decision_wait_ms") (pos 3600000) fault
+    ⊎ ((optional (integer_fault (pos 0) (pos 3600000)) (get_member (codes "root_wait_ms") members) ≡ Some fault)
     ⊎ (NumberHas members (codes "num_traces") (pos 1000000) fault
     ⊎ (NumberHas members (codes "lanes") (pos 64) fault
     ⊎ (NumberHas members (codes "shards") (pos 64) fault
-    ⊎ NumberHas members (codes "tick_ms") (pos 60000) fault)))
+    ⊎ NumberHas members (codes "tick_ms") (pos 60000) fault))))
 
 -- some row of the sizes has this fault
 abbrev pub SizesHave : Members → ConfigFault → Type 0

@@ -194,10 +194,11 @@ cache_fault _ = Some WrongType
 abbrev pub numbers_fault : Members → Option ConfigFault
 numbers_fault members =
     least (optional (integer_fault (pos 1) (pos 3600000)) (get_member (codes "decision_wait_ms") members))
+    (least (optional (integer_fault (pos 0) (pos 3600000)) (get_member (codes "root_wait_ms") members))
     (least (optional (integer_fault (pos 1) (pos 1000000)) (get_member (codes "num_traces") members))
     (least (optional (integer_fault (pos 1) (pos 64)) (get_member (codes "lanes") members))
     (least (optional (integer_fault (pos 1) (pos 64)) (get_member (codes "shards") members))
-    (optional (integer_fault (pos 1) (pos 60000)) (get_member (codes "tick_ms") members)))))
+    (optional (integer_fault (pos 1) (pos 60000)) (get_member (codes "tick_ms") members))))))
 
 -- the rows of the sizes of queues and batches
 abbrev pub sizes_fault : Members → Option ConfigFault

@@ -39,7 +39,7 @@ is_setting type_is.And key = bytes_eq key (codes "and_sub_policy")
 -- the keys of a table of this kind
 unfoldable pub is_key : TableKind → List ℕ → Bool
 is_key table_is.Config key =
-    bytes_eq key (codes "decision_wait_ms") || bytes_eq key (codes "num_traces")
+    bytes_eq key (codes "decision_wait_ms") || bytes_eq key (codes "root_wait_ms") || bytes_eq key (codes "num_traces")
     || bytes_eq key (codes "decision_cache") || bytes_eq key (codes "policies")
     || bytes_eq key (codes "lanes") || bytes_eq key (codes "shards")
     || bytes_eq key (codes "queue_capacity") || bytes_eq key (codes "export_capacity")

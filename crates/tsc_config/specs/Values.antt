@@ -209,6 +209,7 @@ InRange config = record {
 abbrev pub config_of : Members → Config
 config_of members = record {
   decision_wait = positive_of 30000 3600000 (get_member (codes "decision_wait_ms") members);
+  root_wait = natural_of (get_member (codes "root_wait_ms") members);
   num_traces = positive_of 50000 1000000 (get_member (codes "num_traces") members);
   sampled_cache_size = cache_size (codes "sampled_cache_size") (get_member (codes "decision_cache") members);
   non_sampled_cache_size = cache_size (codes "non_sampled_cache_size") (get_member (codes "decision_cache") members);

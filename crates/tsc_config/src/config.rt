@@ -9,6 +9,7 @@ ghost use Rattle.tsc_config.specs.declared.fault.ConfigFault.TheVariants.{NoMemo
 
 use crate::fault::ConfigFault;
 use crate::fault_walk::table_fault;
+use crate::settings_values::natural_at;
 use crate::values::{cache_size_at, listen_at, policies_at, positive_at};
 use otlp_types::Text;
 use policy_tree::Policies;
@@ -22,6 +23,9 @@ pub struct Config {
     /// How long the spans of a trace are gathered before it is decided, in milliseconds, from 1 to 3600000
     /// (tailsamplingprocessor README, `decision_wait`).
     pub decision_wait: Moment,
+    /// How long after its first span without a parent a trace is decided, where that is sooner, in milliseconds, from 0 to
+    /// 3600000, where 0 is off (this project's option `root_wait_ms`).
+    pub root_wait: Moment,
     /// How many traces are kept in memory at most, from 1 to 1000000 (tailsamplingprocessor README, `num_traces`).
     pub num_traces: usize,
     /// For how many traces that were decided as sampled, and left the memory, the decision is remembered, from 0 to
@@ -80,8 +84,8 @@ impl Config {
 }
 
 /// Reads a configuration from a TOML text: `decision_wait_ms`, a whole number from 1 to 3600000, else 30000;
-/// `num_traces`, from 1 to 1000000, else 50000; `decision_cache`, a table of `sampled_cache_size` and
-/// `non_sampled_cache_size`, each from 0 to 1000000, else 0; `policies`, a required array of policy tables with
+/// `root_wait_ms`, from 0 to 3600000, else 0; `num_traces`, from 1 to 1000000, else 50000; `decision_cache`, a table of
+/// `sampled_cache_size` and `non_sampled_cache_size`, each from 0 to 1000000, else 0; `policies`, a required array of policy tables with
 /// `name`, `type` and the settings of that type; `lanes` and `shards`, from 1 to 64, else 1; `queue_capacity` and
 /// `export_capacity`, from 1 to 65536, else 1024; `send_batch_size`, from 1 to 8192, else 512; `tick_ms`, from 1 to
 /// 60000, else 1000; and `listen`, a text, else `127.0.0.1:4318`.
@@ -139,6 +143,7 @@ fn config_of(alloc: Global, table: &Table) -> Result<Config, ConfigFault>
     };
     Ok(Config {
         decision_wait: positive_at(table, "decision_wait_ms", 30_000, 3_600_000),
+        root_wait: natural_at(table, "root_wait_ms"),
         num_traces,
         sampled_cache_size: cache_size_at(table, "sampled_cache_size"),
         non_sampled_cache_size: cache_size_at(table, "non_sampled_cache_size"),

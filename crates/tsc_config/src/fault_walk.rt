@@ -30,11 +30,13 @@ fn numbers_fault(table: &Table) -> Option<ConfigFault>
     ensures { result ≡ spec.numbers_fault (table_view table.now) }
 {
     let wait = integer_at_fault(table, "decision_wait_ms", 1, 3_600_000);
+    let root_wait = integer_at_fault(table, "root_wait_ms", 0, 3_600_000);
     let traces = integer_at_fault(table, "num_traces", 1, 1_000_000);
     let lanes = integer_at_fault(table, "lanes", 1, 64);
     let shards = integer_at_fault(table, "shards", 1, 64);
     let tick = integer_at_fault(table, "tick_ms", 1, 60_000);
-    least(wait, least(traces, least(lanes, least(shards, tick))))
+    let counts = least(traces, least(lanes, least(shards, tick)));
+    least(wait, least(root_wait, counts))
 }
 
 /// The fault of the sizes of queues and batches.

@@ -44,6 +44,7 @@ fn is_key(kind: TableKind, key: &str) -> bool
 {
     match kind {
         TableKind::Config => key == "decision_wait_ms"
+            || key == "root_wait_ms"
             || key == "num_traces"
             || key == "decision_cache"
             || key == "policies"

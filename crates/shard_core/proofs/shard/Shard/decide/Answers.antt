@@ -30,7 +30,7 @@ invariant_of-self c =
     let second = i.clock / 1000 in
     let spans = c.spans.result.now in
     let asked = asked_nodes (meaning i.policies) (λ node. grants_at i.budgets node second (length spans)) spans in
-    let k = settle_keeps i.clock c.due_by-mark.result.0 c.due_by-mark.result.1 c.evaluate-verdict.result i.buffer c.settle-spans.new.self i.cache c.settle-spans.ensures.after (inv.1, inv.3, inv.4) in
+    let k = settle_keeps i.clock c.due_by-mark.result.0 c.due_by-mark.result.1 c.due_by-mark.result.2 c.evaluate-verdict.result i.buffer c.settle-spans.new.self i.cache c.settle-spans.ensures.after (inv.1, inv.3, inv.4) in
     (inv.0, k.0, ap (map limiter_of) c.evaluate-verdict.ensures.asks ∙ counts_stay i.budgets second (length spans) asked ∙ inv.2, k.1, k.2)
 
 pub returns-in_default-clause-nothing : goal.returns-in_default-clause-nothing
@@ -38,7 +38,7 @@ returns-in_default-clause-nothing c = λ _.
     let h = the_view c.self.inside in
     let P = λ (g : Held). has_due g ≡ false in
     let by : c.due_by-mark.result ≡ due_by h = c.due_by-mark.ensures ∙ ap due_by (sym c.self.view_is) in
-    let none = ap (λ (d : ℕ × ℕ). find (is_due_at d.0 d.1) c.self.inside.buffer.episodes) (sym by) ∙ sym c.next_due.ensures ∙ ap option_copied c.in_default.is in
+    let none = ap (λ (d : ℕ × ℕ × ℕ). find (is_due_at d.0 d.1 d.2) c.self.inside.buffer.episodes) (sym by) ∙ sym c.next_due.ensures ∙ ap option_copied c.in_default.is in
     subst P c.self.view_is (nothing_due h c.self.invariant.3 none)
 
 pub returns-in_default-clause-decides : goal.returns-in_default-clause-decides
@@ -46,9 +46,10 @@ returns-in_default-clause-decides c = λ past k s.
     let h = the_view c.self.inside in
     let inv = c.self.invariant in
     let P = λ (g : Held). StandsFor g past k → Decides g g Nothing past k in
+    let Q = λ (g : Held). StandsFor g past k → Decides g c.search.new.self Nothing past k in
     let by : c.due_by-mark.result ≡ due_by h = c.due_by-mark.ensures ∙ ap due_by (sym c.self.view_is) in
-    let none = ap (λ (d : ℕ × ℕ). find (is_due_at d.0 d.1) c.self.inside.buffer.episodes) (sym by) ∙ sym c.next_due.ensures ∙ ap option_copied c.in_default.is in
-    subst P c.self.view_is (λ s. decides_nothing h past k inv.0 inv.1 inv.3 none s) s
+    let none = ap (λ (d : ℕ × ℕ × ℕ). find (is_due_at d.0 d.1 d.2) c.self.inside.buffer.episodes) (sym by) ∙ sym c.next_due.ensures ∙ ap option_copied c.in_default.is in
+    subst Q c.search.ensures (subst P c.self.view_is (λ s. decides_nothing h past k inv.0 inv.1 inv.3 none s)) s
 
 pub returns-in_default-clause-all_dealt : goal.returns-in_default-clause-all_dealt
 returns-in_default-clause-all_dealt c = λ _ past k s.
@@ -56,8 +57,8 @@ returns-in_default-clause-all_dealt c = λ _ past k s.
     let inv = c.self.invariant in
     let P = λ (g : Held). StandsFor g past k → effect_dealt (settings g) past k ≡ effect (settings g) past in
     let by : c.due_by-mark.result ≡ due_by h = c.due_by-mark.ensures ∙ ap due_by (sym c.self.view_is) in
-    let none = ap (λ (d : ℕ × ℕ). find (is_due_at d.0 d.1) c.self.inside.buffer.episodes) (sym by) ∙ sym c.next_due.ensures ∙ ap option_copied c.in_default.is in
-    subst P c.self.view_is (λ s. all_dealt h past k inv.0 inv.1 (nothing_due h inv.3 none) s) s
+    let none = ap (λ (d : ℕ × ℕ × ℕ). find (is_due_at d.0 d.1 d.2) c.self.inside.buffer.episodes) (sym by) ∙ sym c.next_due.ensures ∙ ap option_copied c.in_default.is in
+    subst P (c.self.view_is ∙ c.search.ensures) (λ s. all_dealt h past k inv.0 inv.1 (nothing_due h inv.3 none) s) s
 
 pub returns-in_default-clause-output : goal.returns-in_default-clause-output
 returns-in_default-clause-output c = λ _ past k s.
@@ -65,18 +66,18 @@ returns-in_default-clause-output c = λ _ past k s.
     let inv = c.self.invariant in
     let P = λ (g : Held). StandsFor g past k → effect_dealt (settings g) past k ≡ effect (settings g) past in
     let by : c.due_by-mark.result ≡ due_by h = c.due_by-mark.ensures ∙ ap due_by (sym c.self.view_is) in
-    let none = ap (λ (d : ℕ × ℕ). find (is_due_at d.0 d.1) c.self.inside.buffer.episodes) (sym by) ∙ sym c.next_due.ensures ∙ ap option_copied c.in_default.is in
-    ap (λ (x : Effect). x.released) (subst P c.self.view_is (λ s. all_dealt h past k inv.0 inv.1 (nothing_due h inv.3 none) s) s)
+    let none = ap (λ (d : ℕ × ℕ × ℕ). find (is_due_at d.0 d.1 d.2) c.self.inside.buffer.episodes) (sym by) ∙ sym c.next_due.ensures ∙ ap option_copied c.in_default.is in
+    ap (λ (x : Effect). x.released) (subst P (c.self.view_is ∙ c.search.ensures) (λ s. all_dealt h past k inv.0 inv.1 (nothing_due h inv.3 none) s) s)
 
 -- ---- an episode was due
 
-due_found : (c : goal.After-decided) → find (is_due_at c.due_by-mark.result.0 c.due_by-mark.result.1) c.self.inside.buffer.episodes ≡ Some c.in-Some.episode.now
+due_found : (c : goal.After-decided) → find (is_due_at c.due_by-mark.result.0 c.due_by-mark.result.1 c.due_by-mark.result.2) c.self.inside.buffer.episodes ≡ Some c.in-Some.episode.now
 due_found c = sym c.next_due.ensures ∙ ap option_copied c.in-Some.is
 
 abbrev new_held : (c : goal.After-decided) → Held
-new_held c = let i = c.self.inside in held_of i.policies i.wait c.settle-spans.new.self i.cache c.evaluate-verdict.new.limiter i.clock i.mark i.ends.items
+new_held c = let i = c.self.inside in held_of i.policies i.wait i.root_wait c.settle-spans.new.self i.cache c.evaluate-verdict.new.limiter i.clock i.mark i.ends.items
 
-settles : (c : goal.After-decided) → SettlesFirst (the_view c.self.inside) c.due_by-mark.result.0 c.due_by-mark.result.1 c.decided.result (new_held c)
+settles : (c : goal.After-decided) → SettlesFirst (the_view c.self.inside) c.due_by-mark.result.0 c.due_by-mark.result.1 c.due_by-mark.result.2 c.decided.result (new_held c)
 settles c = λ e f.
     let i = c.self.inside in
     let h = the_view i in
@@ -89,8 +90,8 @@ settles c = λ e f.
     let asked : counts ≡ counts_asked policies h.standing e.spans = c.evaluate-verdict.ensures.asks ∙ ap (counts_asked policies h.standing) spans in
     let R = λ (ms : List Arrival). Releases c.decided.result ms v in
     let released : c.settle-spans.result.items ≡ e.spans = cc (c.settle-spans.ensures.spans ∙ ap (option_map (λ (y : Episode). y.spans)) f) in
-    let put = λ (b : Buffer) (ks : List LimiterCount). held_of i.policies i.wait b i.cache ks i.clock i.mark i.ends.items in
-    (v, verdict, subst R released c.decided.ensures, ap (λ (b : Buffer). put b counts) c.settle-spans.ensures.after ∙ ap (put (with_settled c.due_by-mark.result.0 c.due_by-mark.result.1 v i.buffer)) asked)
+    let put = λ (b : Buffer) (ks : List LimiterCount). held_of i.policies i.wait i.root_wait b i.cache ks i.clock i.mark i.ends.items in
+    (v, verdict, subst R released c.decided.ensures, ap (λ (b : Buffer). put b counts) c.settle-spans.ensures.after ∙ ap (put (with_settled c.due_by-mark.result.0 c.due_by-mark.result.1 c.due_by-mark.result.2 v i.buffer)) asked)
 
 decides : (c : goal.After-decided) (past : Journal) (k : ℕ) → StandsFor c.args.self.now past k → Decides c.args.self.now (new_held c) c.decided.result past k
 decides c past k s =
@@ -98,9 +99,9 @@ decides c past k s =
     let inv = c.self.invariant in
     let P = λ (g : Held). StandsFor g past k → Decides g (new_held c) c.decided.result past k in
     let by : c.due_by-mark.result ≡ due_by h = c.due_by-mark.ensures ∙ ap due_by (sym c.self.view_is) in
-    let F = λ (d : ℕ × ℕ). find (is_due_at d.0 d.1) c.self.inside.buffer.episodes ≡ Some c.in-Some.episode.now in
-    let S = λ (d : ℕ × ℕ). SettlesFirst h d.0 d.1 c.decided.result (new_held c) in
-    subst P c.self.view_is (λ s. decides_some h (new_held c) c.decided.result c.in-Some.episode.now past k inv.0 inv.1 inv.3 (subst F by (due_found c)) (subst S by (settles c)) s) s
+    let F = λ (d : ℕ × ℕ × ℕ). find (is_due_at d.0 d.1 d.2) c.self.inside.buffer.episodes ≡ Some c.in-Some.episode.now in
+    let S = λ (d : ℕ × ℕ × ℕ). SettlesFirst h d.0 d.1 d.2 c.decided.result (new_held c) in
+    subst P (c.self.view_is ∙ c.search.ensures) (λ s. decides_some h (new_held c) c.decided.result c.in-Some.episode.now past k inv.0 inv.1 inv.3 (subst F by (due_found c)) (subst S by (settles c)) s) s
 
 pub returns-clause-decides : goal.returns-clause-decides
 returns-clause-decides c = λ past k s. decides c past k s
@@ -117,4 +118,4 @@ returns-clause-dropped c = λ past k reason s. decide_dropped c.args.self.now (n
 pub returns-clause-fewer : goal.returns-clause-fewer
 returns-clause-fewer c =
     let P = λ (g : Held). waiting (new_held c) < waiting g in
-    inr (subst P c.self.view_is (waits_less (the_view c.self.inside) (new_held c) c.due_by-mark.result.0 c.due_by-mark.result.1 c.in-Some.episode.now c.decided.result (due_found c) (settles c)))
+    inr (subst P (c.self.view_is ∙ c.search.ensures) (waits_less (the_view c.self.inside) (new_held c) c.due_by-mark.result.0 c.due_by-mark.result.1 c.due_by-mark.result.2 c.in-Some.episode.now c.decided.result (due_found c) (settles c)))

@@ -16,5 +16,5 @@ returns c =
     let h = the_view c.self.inside in
     let P = λ (g : Held). c.is_some.result ≡ has_due g in
     let by : c.due_by-mark.result ≡ due_by h = c.due_by-mark.ensures ∙ ap due_by (sym c.self.view_is) in
-    let found = ap (λ (d : ℕ × ℕ). is_some (find (is_due_at d.0 d.1) c.self.inside.buffer.episodes)) by in
+    let found = ap (λ (d : ℕ × ℕ × ℕ). is_some (find (is_due_at d.0 d.1 d.2) c.self.inside.buffer.episodes)) by in
     subst P c.self.view_is (c.is_some.ensures ∙ copied c.next_due.result ∙ ap is_some c.next_due.ensures ∙ found ∙ has_due_is h c.self.invariant.3)

@@ -14,7 +14,7 @@ pub returns-clause-stands : goal.returns-clause-stands
 returns-clause-stands c =
     let counts = c.budgets.view_is ∙ c.in_ok-budgets.ensures ∙ ap (λ (ps : List Policy). limiter_counts (meaning ps) []) (sym c.policies.view_is) in
     let cache = c.in_ok-new-2.ensures.empty in
-    new_stands c.policies.inside.list.items c.args.wait c.args.senders c.in_ok-new.field-0 c.in_ok-new-2.field-0 c.budgets.inside.counts.items c.in_ok-vec.field-0.items (ap (λ (b : Buffer). b.episodes) c.in_ok-new.ensures)
+    new_stands c.policies.inside.list.items c.args.wait c.args.root_wait c.args.senders c.in_ok-new.field-0 c.in_ok-new-2.field-0 c.budgets.inside.counts.items c.in_ok-vec.field-0.items (ap (λ (b : Buffer). b.episodes) c.in_ok-new.ensures)
     (ap (λ (l : CacheLists). l.sampled.traces) cache) (ap (λ (l : CacheLists). l.not_sampled.traces) cache) counts (c.in_ok-vec.ensures.items_if_clones_equal (λ y e. e))
 
 pub returns-clause-running : goal.returns-clause-running

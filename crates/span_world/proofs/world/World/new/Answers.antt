@@ -12,6 +12,7 @@ invariant_of-result c =
       rw (c.in_ok-new_shards.ensures, c.in_ok-looks.ensures) (new_looks (settings_of (record {
         policies = c.args.config.policies;
         wait = c.args.config.wait;
+        root_wait = c.args.config.root_wait;
         limit = c.args.config.limit;
         sampled_size = c.args.config.sampled_size;
         non_sampled_size = c.args.config.non_sampled_size;
