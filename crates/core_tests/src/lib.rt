@@ -11,6 +11,10 @@ mod looking_back;
 #[cfg(test)]
 mod policies;
 #[cfg(test)]
+mod random_items;
+#[cfg(test)]
+mod running_shard;
+#[cfg(test)]
 mod shards;
 #[cfg(test)]
 mod simulated;

@@ -1,27 +1,19 @@
-//! Random items through a shard, and through a plain program that computes what a shard answers by looking back over the
-//! items that it took. Refused memory is an input of the plain program: it is told where the shard answered so.
-ghost use Rattle.std.specs.Prelude.{◌≡◌, ◌<◌, true};
-ghost use Rattle.shard_core.specs.Taking.{has_ids};
-
-use crate::shards::span_of;
-use crate::spans::policies_on;
+//! A plain program that computes what a shard answers by looking back over the items that it took. Refused memory is an
+//! input: it is told where the shard answered so.
 use decision_cache::Remembered;
-use otlp_types::{Arrival, Item};
-use shard_core::{Decided, Shard, Taken};
+use otlp_types::Arrival;
+use shard_core::{Decided, Taken};
 use span_ids::{Reason, TraceId, Verdict};
-use std::alloc::Global;
-use std::process::Abort;
-use std::test::Fail;
 use trace_buffer::Evicted;
 
 /// How many items a run has.
-const ITEMS: usize = 48;
+pub const ITEMS: usize = 48;
 
 /// The wait of each run, in milliseconds.
-const WAIT: u64 = 3;
+pub const WAIT: u64 = 3;
 
 /// The traces.
-const TRACES: [&str; 4] = [
+pub const TRACES: [&str; 4] = [
     "5b8efff798038103d269b633813fc60c",
     "5b8efff798038103d269b633813fc60d",
     "5b8efff798038103d269b633813fc60e",
@@ -30,7 +22,7 @@ const TRACES: [&str; 4] = [
 
 /// What a span finds: by the place of an opening among the items.
 #[derive(Clone, Copy, Debug, PartialEq, Eq)]
-enum Finding {
+pub enum Finding {
     Joins(usize),
     Meets(usize, Verdict),
     Opens,
@@ -38,7 +30,7 @@ enum Finding {
 
 /// An item: a span of a trace, with an error or not and with what it found, or another item.
 #[derive(Clone, Copy, Debug, PartialEq, Eq)]
-enum Kind {
+pub enum Kind {
     Span(usize, bool, Finding),
     Tick,
     End,
@@ -46,20 +38,20 @@ enum Kind {
 
 /// An item that was taken, with its marks.
 #[derive(Clone, Copy, Debug, PartialEq, Eq)]
-struct Entry {
-    kind: Kind,
-    moment: u64,
-    refused: bool,
-    lost: bool,
+pub struct Entry {
+    pub kind: Kind,
+    pub moment: u64,
+    pub refused: bool,
+    pub lost: bool,
 }
 
 /// The items that a shard took, and its settings.
 #[derive(Clone, Copy)]
-struct Past<'a> {
-    entries: &'a [Entry],
-    limit: usize,
-    sampled: usize,
-    non_sampled: usize,
+pub struct Past<'a> {
+    pub entries: &'a [Entry],
+    pub limit: usize,
+    pub sampled: usize,
+    pub non_sampled: usize,
 }
 
 /// The trace of a span that was not refused.
@@ -201,7 +193,7 @@ impl Past<'_> {
     }
 
     /// What a span of a trace finds behind all items.
-    fn finding(&self, trace: usize) -> Finding {
+    pub fn finding(&self, trace: usize) -> Finding {
         let end = self.entries.len();
         let mut latest = None;
         for (at, entry) in self.entries.iter().enumerate() {
@@ -273,7 +265,7 @@ impl Past<'_> {
     }
 
     /// Whether a span behind all items may be answered so, by what it finds.
-    fn may_answer(&self, finding: Finding, taken: &Taken) -> bool {
+    pub fn may_answer(&self, finding: Finding, taken: &Taken) -> bool {
         match (finding, taken) {
             (Finding::Joins(_), Taken::Kept { evicted, cache }) => {
                 evicted.is_none() && cache.is_none()
@@ -288,7 +280,7 @@ impl Past<'_> {
     }
 
     /// The opening that was decided first at the last item, from a place on.
-    fn decided_from(&self, start: usize) -> Option<usize> {
+    pub fn decided_from(&self, start: usize) -> Option<usize> {
         let end = self.entries.len();
         for at in start..end {
             let before = self.verdict(at, end.saturating_sub(1));
@@ -300,7 +292,7 @@ impl Past<'_> {
     }
 
     /// Whether the decision of the episode that opened there may be answered so.
-    fn may_decide(&self, opening: usize, decided: &Decided) -> bool {
+    pub fn may_decide(&self, opening: usize, decided: &Decided) -> bool {
         let Some(trace) = self.entries.get(opening).and_then(opened) else {
             return false;
         };
@@ -318,142 +310,4 @@ impl Past<'_> {
 
 fn id_of(trace: usize) -> Option<TraceId> {
     TraceId::parse(TRACES.get(trace)?)
-}
-
-/// A further number that looks random (a linear congruential generator).
-fn further(number: u64) -> u64 {
-    number
-        .wrapping_mul(6_364_136_223_846_793_005)
-        .wrapping_add(1_442_695_040_888_963_407)
-}
-
-/// The entry of an item that was answered so.
-fn entry_of(kind: Kind, moment: u64, taken: &Taken) -> Entry {
-    Entry {
-        kind,
-        moment,
-        refused: matches!(taken, Taken::Dropped(Reason::NoMemory)),
-        lost: matches!(
-            taken,
-            Taken::Kept {
-                cache: Some(Remembered::Lost),
-                ..
-            }
-        ),
-    }
-}
-
-/// The item of a kind.
-fn item_of(rt: &impl Abort, alloc: Global, kind: Kind, moment: u64, place: u64) -> Item
-    ensures { has_ids result ≡ true }
-{
-    match kind {
-        Kind::Span(trace, error, _) => {
-            let id = TRACES.get(trace).copied().unwrap_or("");
-            span_of(rt, alloc, id, place, moment, if error { 2 } else { 0 }, 0)
-        }
-        Kind::Tick => Item::Tick(moment),
-        Kind::End => Item::End(0),
-    }
-}
-
-/// Takes an item, and compares what is answered.
-fn take(
-    rt: &impl Abort,
-    alloc: Global,
-    shard: &mut Shard,
-    past: &Past<'_>,
-    kind: Kind,
-    moment: u64,
-) -> Entry {
-    let item = item_of(rt, alloc, kind, moment, past.entries.len() as u64);
-    assert!(rt; !shard.has_due());
-    assert!(rt; !shard.finished());
-    let taken = shard.take(item);
-    let is_right = match kind {
-        Kind::Span(_, _, finding) => past.may_answer(finding, &taken),
-        Kind::Tick => matches!(taken, Taken::Ticked),
-        Kind::End => matches!(taken, Taken::Finished),
-    };
-    assert!(rt; is_right, "{kind:?} at {moment}: {taken:?}");
-    entry_of(kind, moment, &taken)
-}
-
-/// Decides all that is due, and compares what is answered.
-fn decide(rt: &impl Abort, shard: &mut Shard, past: &Past<'_>) {
-    let mut start = 0;
-    for _ in 0..ITEMS {
-        let decided = shard.decide();
-        let Some(opening) = past.decided_from(start) else {
-            assert!(rt; matches!(decided, Decided::Nothing), "{decided:?}");
-            return;
-        };
-        assert!(rt;
-            past.may_decide(opening, &decided),
-            "{opening}: {decided:?}"
-        );
-        start = opening.saturating_add(1);
-    }
-}
-
-/// Runs random items through a shard with these settings.
-fn run(
-    rt: &impl Abort,
-    alloc: Global,
-    seed: u64,
-    limit: usize,
-    sampled: usize,
-    non_sampled: usize,
-) -> Result<(), Fail>
-    requires { 0 < limit }
-{
-    let policies = policies_on(alloc, Some(2))?;
-    let mut shard = Shard::new(alloc, policies, WAIT, 0, limit, sampled, non_sampled, 1)?;
-    let mut entries: Vec<Entry> = Vec::with_capacity(alloc, ITEMS)?;
-    let mut number = seed;
-    for place in 0..ITEMS {
-        number = further(number);
-        let random = number >> 33;
-        let moment = place as u64 * 2 + random / 64 % 5;
-        let past = Past {
-            entries: entries.as_slice(),
-            limit,
-            sampled,
-            non_sampled,
-        };
-        let trace = (random / 8 % 4) as usize;
-        let kind = if place + 1 == ITEMS {
-            Kind::End
-        } else if random % 8 < 3 {
-            Kind::Tick
-        } else {
-            Kind::Span(trace, random / 32 % 2 == 0, past.finding(trace))
-        };
-        let moment = if kind == Kind::End { 0 } else { moment };
-        let entry = take(rt, alloc, &mut shard, &past, kind, moment);
-        entries.push(entry)?;
-        decide(
-            rt,
-            &mut shard,
-            &Past {
-                entries: entries.as_slice(),
-                limit,
-                sampled,
-                non_sampled,
-            },
-        );
-    }
-    assert!(rt; shard.finished());
-    Ok(())
-}
-
-#[test]
-fn random_items(rt: HostRuntime) -> Result<(), Fail> {
-    for limit in 1..4 {
-        for sizes in 0..9 {
-            let seed = (limit * 9 + sizes) as u64;
-            run(&rt, rt.alloc(), seed, limit, sizes / 3, sizes % 3)?;
-        }
-    }
-    Ok(())
 }

@@ -1,59 +1,16 @@
-//! The table of steps by running state: a ring of episodes, caches in order of use, a clock. It looks back over nothing.
+//! The table of steps by running state. It looks back over nothing.
 use crate::choices::{Choice, Sent};
+use crate::running_shard::{Counted, Found, Kept, SENDERS, Shard, TICKER, count};
 use otlp_types::Arrival;
 use span_ids::{ArrivalKey, ConnKey, Reason};
 use span_world::World;
 use std::alloc::{AllocError, Global};
-
-/// A received span.
-#[derive(Clone, Copy)]
-struct Kept {
-    key: ArrivalKey,
-    moment: u64,
-    trace: u8,
-    error: bool,
-}
 
 #[derive(Drop)]
 struct Lane {
     ended: bool,
     numbers: Vec<u64>,
     unrouted: Vec<Kept>,
-}
-
-#[derive(Drop)]
-struct Episode {
-    trace: u8,
-    opened: u64,
-    spans: Vec<Kept>,
-    verdict: Option<bool>,
-}
-
-#[derive(Drop)]
-struct Shard {
-    queue: Vec<Kept>,
-    ring: Vec<Episode>,
-    sampled: Vec<u8>,
-    non_sampled: Vec<u8>,
-    clock: u64,
-    ends: Vec<u16>,
-    due: Vec<u8>,
-    unshipped: Vec<Kept>,
-}
-
-/// What a span finds of its trace.
-#[derive(Clone, Copy)]
-enum Found {
-    Joins,
-    Meets(bool),
-    Opens,
-}
-
-/// A span counted under a reason.
-#[derive(Clone, Copy)]
-struct Counted {
-    reason: Reason,
-    key: ArrivalKey,
 }
 
 /// Two lanes, two shards with room for two traces, one sampled and two others remembered, a wait of ten milliseconds, and
@@ -68,150 +25,6 @@ pub struct Simulated {
     handed: Vec<Vec<Kept>>,
     counted: Vec<Counted>,
     down: bool,
-}
-
-const LIMIT: usize = 2;
-
-const WAIT: u64 = 10;
-
-const SENDERS: usize = 3;
-
-const TICKER: u16 = 2;
-
-fn count(counted: &mut Vec<Counted>, reason: Reason, spans: &[Kept]) -> Result<(), AllocError> {
-    for span in spans {
-        counted.push(Counted {
-            reason,
-            key: span.key,
-        })?;
-    }
-    Ok(())
-}
-
-/// The trace is now the last used of at most so many.
-fn touch(cache: &mut Vec<u8>, size: usize, trace: u8) -> Result<(), AllocError> {
-    cache.retain(|t| *t != trace);
-    cache.push(trace)?;
-    if cache.len() > size {
-        cache.remove(0);
-    }
-    Ok(())
-}
-
-impl Shard {
-    fn new(alloc: Global) -> Shard {
-        Shard {
-            queue: Vec::new(alloc),
-            ring: Vec::new(alloc),
-            sampled: Vec::new(alloc),
-            non_sampled: Vec::new(alloc),
-            clock: 0,
-            ends: Vec::new(alloc),
-            due: Vec::new(alloc),
-            unshipped: Vec::new(alloc),
-        }
-    }
-
-    fn find(&self, trace: u8) -> Found {
-        match self.ring.iter().find(|e| e.trace == trace) {
-            Some(episode) => match episode.verdict {
-                None => Found::Joins,
-                Some(verdict) => Found::Meets(verdict),
-            },
-            None if self.sampled.contains(&trace) => Found::Meets(true),
-            None if self.non_sampled.contains(&trace) => Found::Meets(false),
-            None => Found::Opens,
-        }
-    }
-
-    /// Whether an opening puts a decided trace out of the ring. Both caches have room.
-    fn puts(&self) -> bool {
-        self.ring.len() == LIMIT && self.ring.first().is_some_and(|e| e.verdict.is_some())
-    }
-
-    fn remember(&mut self, trace: u8, verdict: bool) -> Result<(), AllocError> {
-        if verdict {
-            touch(&mut self.sampled, 1, trace)
-        } else {
-            touch(&mut self.non_sampled, 2, trace)
-        }
-    }
-
-    fn open(
-        &mut self,
-        alloc: Global,
-        span: Kept,
-        lost: bool,
-        counted: &mut Vec<Counted>,
-    ) -> Result<(), AllocError> {
-        if self.ring.len() >= LIMIT {
-            let left = self.ring.remove(0);
-            match left.verdict {
-                None => count(counted, Reason::Evicted, &left.spans)?,
-                Some(verdict) if !lost => self.remember(left.trace, verdict)?,
-                Some(_) => {}
-            }
-        }
-        self.ring.push(Episode {
-            trace: span.trace,
-            opened: self.clock,
-            spans: vec![in alloc; span]?,
-            verdict: None,
-        })?;
-        Ok(())
-    }
-
-    fn meet(
-        &mut self,
-        span: Kept,
-        verdict: bool,
-        counted: &mut Vec<Counted>,
-    ) -> Result<(), AllocError> {
-        if !self.ring.iter().any(|e| e.trace == span.trace) {
-            self.remember(span.trace, verdict)?;
-        }
-        if verdict {
-            self.unshipped.push(span)?;
-            return Ok(());
-        }
-        count(counted, Reason::LateNotSampled, &[span])
-    }
-
-    fn join(&mut self, span: Kept) -> Result<(), AllocError> {
-        for episode in self.ring.iter_mut() {
-            if episode.trace == span.trace {
-                episode.spans.push(span)?;
-            }
-        }
-        Ok(())
-    }
-
-    /// The traces of undecided episodes become due: all, or those that have waited long enough.
-    fn fall_due(&mut self, all: bool) -> Result<(), AllocError> {
-        for episode in &self.ring {
-            if episode.verdict.is_none()
-                && (all || episode.opened.wrapping_add(WAIT) <= self.clock)
-            {
-                self.due.push(episode.trace)?;
-            }
-        }
-        Ok(())
-    }
-
-    fn decide(&mut self, trace: u8, counted: &mut Vec<Counted>) -> Result<(), AllocError> {
-        for episode in self.ring.iter_mut() {
-            if episode.trace == trace {
-                let verdict = episode.spans.iter().any(|s| s.error);
-                if verdict {
-                    self.unshipped.extend_from_slice(&episode.spans)?;
-                } else {
-                    count(counted, Reason::NotSampled, &episode.spans)?;
-                }
-                episode.verdict = Some(verdict);
-            }
-        }
-        Ok(())
-    }
 }
 
 impl Simulated {

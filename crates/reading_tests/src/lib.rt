@@ -7,4 +7,6 @@ mod configurations;
 #[cfg(test)]
 mod policies;
 #[cfg(test)]
+mod policy_settings;
+#[cfg(test)]
 mod requests;

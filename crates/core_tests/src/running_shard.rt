@@ -1,0 +1,191 @@
+//! A shard by running state: a ring of episodes, caches in order of use, a clock.
+use span_ids::{ArrivalKey, Reason};
+use std::alloc::{AllocError, Global};
+
+/// A received span.
+#[derive(Clone, Copy)]
+pub struct Kept {
+    pub key: ArrivalKey,
+    pub moment: u64,
+    pub trace: u8,
+    pub error: bool,
+}
+
+#[derive(Drop)]
+pub struct Episode {
+    pub trace: u8,
+    pub opened: u64,
+    pub spans: Vec<Kept>,
+    pub verdict: Option<bool>,
+}
+
+#[derive(Drop)]
+pub struct Shard {
+    pub queue: Vec<Kept>,
+    pub ring: Vec<Episode>,
+    pub sampled: Vec<u8>,
+    pub non_sampled: Vec<u8>,
+    pub clock: u64,
+    pub ends: Vec<u16>,
+    pub due: Vec<u8>,
+    pub unshipped: Vec<Kept>,
+}
+
+/// What a span finds of its trace.
+#[derive(Clone, Copy)]
+pub enum Found {
+    Joins,
+    Meets(bool),
+    Opens,
+}
+
+/// A span counted under a reason.
+#[derive(Clone, Copy)]
+pub struct Counted {
+    pub reason: Reason,
+    pub key: ArrivalKey,
+}
+
+pub const LIMIT: usize = 2;
+
+pub const WAIT: u64 = 10;
+
+pub const SENDERS: usize = 3;
+
+pub const TICKER: u16 = 2;
+
+pub fn count(counted: &mut Vec<Counted>, reason: Reason, spans: &[Kept]) -> Result<(), AllocError> {
+    for span in spans {
+        counted.push(Counted {
+            reason,
+            key: span.key,
+        })?;
+    }
+    Ok(())
+}
+
+/// The trace is now the last used of at most so many.
+pub fn touch(cache: &mut Vec<u8>, size: usize, trace: u8) -> Result<(), AllocError> {
+    cache.retain(|t| *t != trace);
+    cache.push(trace)?;
+    if cache.len() > size {
+        cache.remove(0);
+    }
+    Ok(())
+}
+
+impl Shard {
+    pub fn new(alloc: Global) -> Shard {
+        Shard {
+            queue: Vec::new(alloc),
+            ring: Vec::new(alloc),
+            sampled: Vec::new(alloc),
+            non_sampled: Vec::new(alloc),
+            clock: 0,
+            ends: Vec::new(alloc),
+            due: Vec::new(alloc),
+            unshipped: Vec::new(alloc),
+        }
+    }
+
+    pub fn find(&self, trace: u8) -> Found {
+        match self.ring.iter().find(|e| e.trace == trace) {
+            Some(episode) => match episode.verdict {
+                None => Found::Joins,
+                Some(verdict) => Found::Meets(verdict),
+            },
+            None if self.sampled.contains(&trace) => Found::Meets(true),
+            None if self.non_sampled.contains(&trace) => Found::Meets(false),
+            None => Found::Opens,
+        }
+    }
+
+    /// Whether an opening puts a decided trace out of the ring. Both caches have room.
+    pub fn puts(&self) -> bool {
+        self.ring.len() == LIMIT && self.ring.first().is_some_and(|e| e.verdict.is_some())
+    }
+
+    pub fn remember(&mut self, trace: u8, verdict: bool) -> Result<(), AllocError> {
+        if verdict {
+            touch(&mut self.sampled, 1, trace)
+        } else {
+            touch(&mut self.non_sampled, 2, trace)
+        }
+    }
+
+    pub fn open(
+        &mut self,
+        alloc: Global,
+        span: Kept,
+        lost: bool,
+        counted: &mut Vec<Counted>,
+    ) -> Result<(), AllocError> {
+        if self.ring.len() >= LIMIT {
+            let left = self.ring.remove(0);
+            match left.verdict {
+                None => count(counted, Reason::Evicted, &left.spans)?,
+                Some(verdict) if !lost => self.remember(left.trace, verdict)?,
+                Some(_) => {}
+            }
+        }
+        self.ring.push(Episode {
+            trace: span.trace,
+            opened: self.clock,
+            spans: vec![in alloc; span]?,
+            verdict: None,
+        })?;
+        Ok(())
+    }
+
+    pub fn meet(
+        &mut self,
+        span: Kept,
+        verdict: bool,
+        counted: &mut Vec<Counted>,
+    ) -> Result<(), AllocError> {
+        if !self.ring.iter().any(|e| e.trace == span.trace) {
+            self.remember(span.trace, verdict)?;
+        }
+        if verdict {
+            self.unshipped.push(span)?;
+            return Ok(());
+        }
+        count(counted, Reason::LateNotSampled, &[span])
+    }
+
+    pub fn join(&mut self, span: Kept) -> Result<(), AllocError> {
+        for episode in self.ring.iter_mut() {
+            if episode.trace == span.trace {
+                episode.spans.push(span)?;
+            }
+        }
+        Ok(())
+    }
+
+    /// The traces of undecided episodes become due: all, or those that have waited long enough.
+    pub fn fall_due(&mut self, all: bool) -> Result<(), AllocError> {
+        for episode in &self.ring {
+            if episode.verdict.is_none()
+                && (all || episode.opened.wrapping_add(WAIT) <= self.clock)
+            {
+                self.due.push(episode.trace)?;
+            }
+        }
+        Ok(())
+    }
+
+    pub fn decide(&mut self, trace: u8, counted: &mut Vec<Counted>) -> Result<(), AllocError> {
+        for episode in self.ring.iter_mut() {
+            if episode.trace == trace {
+                let verdict = episode.spans.iter().any(|s| s.error);
+                if verdict {
+                    self.unshipped.extend_from_slice(&episode.spans)?;
+                } else {
+                    count(counted, Reason::NotSampled, &episode.spans)?;
+                }
+                episode.verdict = Some(verdict);
+            }
+        }
+        Ok(())
+    }
+}
