@@ -11,8 +11,10 @@ pub mod Exporting
 pub mod Receiving
 pub mod Closing
 pub mod Weaves
+mod Headlines
 pub mod Numbering
-pub mod Samples
 pub mod Popping
 pub mod Acts
 pub mod Tries
+mod WrongThreads
+mod WorkedThreads
