@@ -1,17 +1,36 @@
 //! Bounded queues from lanes to shards and from shards to the exporter, and gates that hold lanes and shards in tests.
 //!
-//! [`Port`] is the end of a queue at which items are pushed. [`ListPort`] is a whole queue in one thread. A port over
-//! a queue between threads holds the handle by which it may wait, so `try_push` is passed none.
+//! [`Port`] is the end of a queue at which items are pushed. [`ListPort`] is a whole queue in one thread. Between threads
+//! [`LaneQueue`] makes a queue for each [`Sender`], and one [`Receiver`] for all of them; a [`SenderPort`] is a `Sender`
+//! with the handle by which it may wait, so `try_push` is passed none.
+//!
+//! Between threads, whatever the schedule: each sender's queue has a history at every moment. Its pushes are those of the
+//! sender's calls that were answered `Ok`, its pops those of the receiver there, each once and in order; a push is refused
+//! only where the history leaves as many items as the queue may hold, a pop answers `None` only where each queue's leaves
+//! none, and [`reunite`] gives one history of each queue that has all its pushes and pops. The definitions are in
+//! `specs/`, their reading order in its `Lib`.
 #![tactic(auto)]
 
+mod ends;
 mod gate;
 mod law;
 mod list_port;
+mod pause;
 mod port;
+mod receiver;
+mod rule;
+mod sender_port;
 #[cfg(test)]
 mod tests;
+#[cfg(test)]
+mod thread_tests;
 
+pub use ends::Sender;
 pub use gate::{Gate, OpenGate, Place};
 pub use law::popped_then_held_is_pushed;
 pub use list_port::ListPort;
+pub use pause::Pause;
 pub use port::Port;
+pub use receiver::{LaneQueue, Receiver, reunite};
+pub use rule::Room;
+pub use sender_port::SenderPort;

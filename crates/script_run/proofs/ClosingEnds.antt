@@ -8,6 +8,7 @@ use Rattle.shard_core.specs.Journal.{Settings, Entry, Journal, due_now, is_end_o
 use Rattle.span_world.specs.World.{Config, Lane, World as Core}
 use Rattle.span_world.specs.Step.{sender_is_done}
 use Rattle.span_world.specs.Places.{buffered_spans}
+use Rattle.span_world.proofs.Finishing.{nothing_buffered}
 use Rattle.script_run.specs.World.{World, Sizes, entry_of, TakesEach, TakesRounds, to_each, ends_from}
 use Rattle.script_run.specs.CoreRun.{core_config}
 use Rattle.script_run.proofs.Stands.{quiet_shard, lanes_from, no_queues, HasNoEnd}
@@ -15,7 +16,6 @@ use Rattle.script_run.proofs.QuietRuns.{Leads, leads_same, leads_then}
 use Rattle.script_run.proofs.TakingOne.{own, with_shards}
 use Rattle.script_run.proofs.TakingRounds.{IsDone, ended, AllTakable}
 use Rattle.script_run.proofs.QuietStands.{length_lanes, Finished, Shipped, ships_round}
-use Rattle.script_run.proofs.ClosingDecided.{nothing_buffered}
 
 -- ---- a journal while the senders end
 

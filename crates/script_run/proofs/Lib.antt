@@ -14,7 +14,6 @@ pub mod TakingItems
 pub mod SendingBatches
 pub mod QuietStands
 pub mod ClosingLanes
-pub mod ClosingDecided
 pub mod ClosingEnds
 pub mod Quiet
 pub mod Runs

@@ -3,12 +3,12 @@ use Rattle.std.proofs.Common.{◌≡◌, ℕ, ◌+◌, Bool, true, false, cond, 
 use Rattle.std.proofs.lemmas.Bool.Decides.{nat_tests}
 use Rattle.otlp_types.specs.declared.arrival.Arrival.{Arrival}
 use Rattle.otlp_types.specs.declared.arrival.Item.TheVariants.{Span, Tick, End}
-use Rattle.shard_core.specs.Journal.{Settings, Entry, Journal, Decision, due_now, due_at, decisions_now, notes, has_ended}
+use Rattle.shard_core.specs.Journal.{Settings, Entry, Journal, Decision, due_now, decisions_now, has_ended}
 use Rattle.shard_core.specs.Fate.{Effect, no_effect, ◌then◌, DroppedSpan, effect, effect_of_taking, effect_of_decision, effect_of_decisions}
 use Rattle.shard_core.specs.Taking.{marks_apply_to_ids}
 use Rattle.span_world.specs.World.{Config, Shard, World as Core, settings, ticker, has_due}
 use Rattle.span_world.specs.Step.{take as take_step, tick, end, decide, ship, take_on, tick_on, end_on, decide_on, ship_on, sender_is_done, after_decision}
-use Rattle.span_world.proofs.Content.{length_in_turn}
+use Rattle.span_world.proofs.Finishing.{length_decisions}
 use Rattle.script_run.specs.World.{entry_of}
 use Rattle.script_run.proofs.Stands.{quiet_shard}
 use Rattle.script_run.proofs.QuietRuns.{Leads, leads_same, leads_one, leads_then}
@@ -59,11 +59,6 @@ then_assoc a b d = same_effect _ _ _ _ (append_assoc a.released b.released d.rel
 -- an effect and then none
 pub then_none : (a : Effect) → a then no_effect ≡ a
 then_none a = same_effect _ _ _ _ (append-nil a.released) (append-nil a.counted)
-
--- as many decisions as episodes are due
-pub length_decisions : (s : Settings) (J : Journal) → length (decisions_now s J) ≡ length (due_now s J)
-length_decisions s [] = refl
-length_decisions s (e ∷ J) = length_in_turn s (e ∷ J) (due_at s e J e.item (notes s J)) (notes s J).decisions
 
 -- what an entry does: taking it, and then the decisions at it
 abbrev pub gain : Settings → Entry → Journal → Effect

@@ -3,6 +3,7 @@ pub mod Fate
 pub mod Standing
 pub mod Held
 pub mod Taking
+pub mod Marked
 pub mod Holding
 pub mod Laws
 pub mod Keeping

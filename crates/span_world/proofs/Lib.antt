@@ -33,3 +33,4 @@ pub mod Routing
 pub mod Items
 pub mod Replaying
 pub mod Looking
+pub mod Finishing

@@ -1,19 +1,18 @@
 -- At the last End each episode that stands undecided is decided.
+-- For runs that end closed: of scripts (`script_run`'s `scripts_are_runs_of_the_core`) and of threads (`span_weave`'s `weave`).
 use Rattle.std.proofs.Common.{◌≡◌, ℕ, Bool, true, false, cond, not, ◌&&◌, ◌||◌, ◌==◌, List, [], ◌∷◌, ◌++◌, length, filter, flat_map, find, reverse, take, Option, Some, None, option_map, is_none, refl, ap, sym, subst, ◌∙◌, arith, append_assoc, eq-eqb}
 use Rattle.std.specs.List.{list_any}
 use Rattle.std.proofs.lemmas.List.{reverse-append, reverse-reverse}
 use Rattle.std.proofs.lemmas.List.Elements.{filter-append}
 use Rattle.otlp_types.specs.declared.arrival.Item.TheVariants.{End}
-use Rattle.shard_core.specs.Journal.{Settings, Entry, Journal, Opening, Decision, Notes, in_buffer, undecided, spans_since, decision, decisions_in_turn, decisions_at, due_now, after_decisions, notes, has_finished, have_ended}
+use Rattle.shard_core.specs.Journal.{Settings, Entry, Journal, Opening, Decision, Notes, in_buffer, undecided, spans_since, decision, decisions_in_turn, decisions_at, decisions_now, due_at, due_now, after_decisions, notes, has_finished, have_ended}
 use Rattle.span_world.specs.Places.{buffered_spans}
 use Rattle.shard_core.proofs.ListFacts.{Each, Each-left, Each-weaker, Each-reverse, Split}
 use Rattle.shard_core.proofs.Find.{not_found, any_none, any_split}
 use Rattle.shard_core.proofs.Notes.{is_open}
 use Rattle.shard_core.proofs.Sound.{open_before}
-use Rattle.span_world.proofs.Content.{take_whole}
+use Rattle.span_world.proofs.Content.{take_whole, length_in_turn}
 use Rattle.span_world.proofs.Dealing.{Split-each}
-use Rattle.script_run.specs.World.{entry_of}
-use Rattle.script_run.proofs.TakingOne.{length_decisions}
 
 -- ---- lists
 
@@ -90,14 +89,19 @@ module _ (s : Settings) (past : Journal) (noted : Notes) (earlier : List Decisio
       if_not true f = absurd (f refl)
       if_not false f = refl
 
+-- as many decisions as episodes are due
+pub length_decisions : (s : Settings) (past : Journal) → length (decisions_now s past) ≡ length (due_now s past)
+length_decisions s [] = refl
+length_decisions s (e ∷ past) = length_in_turn s (e ∷ past) (due_at s e past e.item (notes s past)) (notes s past).decisions
+
 -- the End with which all senders have ended leaves nothing in the buffer that waits
-pub nothing_buffered : (s : Settings) (sender : ℕ) (refused lost : Bool) (before : Journal) → have_ended (entry_of (End sender) refused lost ∷ before) s.senders ≡ true → have_ended before s.senders ≡ false
-    → buffered_spans s (entry_of (End sender) refused lost ∷ before) (length (due_now s (entry_of (End sender) refused lost ∷ before))) ≡ []
+pub nothing_buffered : (s : Settings) (sender : ℕ) (refused lost : Bool) (before : Journal) → (let e : Entry = record { item = End sender; refused = refused; lost = lost } in
+    have_ended (e ∷ before) s.senders ≡ true → have_ended before s.senders ≡ false → buffered_spans s (e ∷ before) (length (due_now s (e ∷ before))) ≡ [])
 nothing_buffered s sender refused lost before h n = ap (λ (z : List Decision). flat_map (spans_since (e ∷ before)) (undecided s (after_decisions z (notes s before)))) (dealt ∙ due)
     ∙ ap (flat_map (spans_since (e ∷ before))) (none_undecided s (e ∷ before) (notes s before) (notes s before).decisions)
   where
     e : Entry
-    e = entry_of (End sender) refused lost
+    e = record { item = End sender; refused = refused; lost = lost }
 
     finished : has_finished s e before ≡ true
     finished = ap (λ b. b && not (have_ended before s.senders)) h ∙ ap (λ b. true && not b) n

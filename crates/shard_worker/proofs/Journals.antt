@@ -1,0 +1,139 @@
+-- The journal of what was popped.
+-- For the contract of `work`.
+use Rattle.std.proofs.Common.{◌≡◌, ℕ, zero, suc, Bool, true, false, List, [], ◌∷◌, ◌++◌, map, filter, reverse, length, refl, sym, ap, ◌∙◌, subst, cond}
+use Rattle.std.specs.Prelude.{◌&&◌}
+use Rattle.std.specs.List.{list_all}
+use Rattle.std.proofs.lemmas.List.{map-append, append-nil, reverse-append}
+use Rattle.otlp_types.specs.declared.arrival.Item.{Item}
+use Rattle.otlp_types.specs.declared.arrival.Shipment.{Shipment}
+use Rattle.otlp_types.specs.declared.arrival.Shipment.TheVariants.{End}
+use Rattle.drop_ledger.specs.declared.count.Count.{Count}
+use Rattle.drop_ledger.specs.declared.count.Count.TheVariants.{Received, Handed, Dropped}
+use Rattle.drop_ledger.specs.Places.{TallyState, Tallies}
+use Rattle.drop_ledger.proofs.Gains.{tallies_none}
+use Rattle.lane_queue.specs.Ends.{EndState, ReceiverState, with_item, TakesAt}
+use Rattle.lane_queue.specs.Merges.{IsMergeOf}
+use Rattle.lane_queue.proofs.Merging.{merge_more}
+use Rattle.shard_core.specs.Journal.{Entry, Settings, Journal, has_ended, have_ended}
+use Rattle.shard_core.specs.Fate.{Effect, effect, effect_dealt, under}
+use Rattle.shard_core.specs.Held.{Held, settings, StandsFor, is_finished}
+use Rattle.shard_core.specs.Standing.{Standing, ends}
+use Rattle.shard_core.specs.Taking.{has_ids, marks_apply}
+use Rattle.shard_core.specs.Marked.{MarksApply}
+use Rattle.shard_worker.specs.Work.{shipments, items, with_ids, journal_of, counted_in, Works}
+use Rattle.shard_worker.specs.Turns.{counted_dealt, HasDone, TakesItem}
+
+filter-append : {X : Type 0} (p : X → Bool) (xs ys : List X) → filter p (xs ++ ys) ≡ filter p xs ++ filter p ys
+filter-append p [] ys = refl
+filter-append p (x ∷ xs) ys = go (p x) (filter-append p xs ys) where
+  go : (b : Bool) → filter p (xs ++ ys) ≡ filter p xs ++ filter p ys → cond b (x ∷ filter p (xs ++ ys)) (filter p (xs ++ ys)) ≡ cond b (x ∷ filter p xs) (filter p xs) ++ filter p ys
+  go true h = ap (λ l. x ∷ l) h
+  go false h = h
+
+abbrev entries : List (ℕ × Entry) → List Entry
+entries popped = map (λ (x : ℕ × Entry). x.1) popped
+
+with_one : (place : ℕ) (e : Entry) (b : Bool) → has_ids e.item ≡ b → with_ids ((place, e) ∷ []) ≡ cond b ((place, e) ∷ []) []
+with_one place e b is = ap (λ c. cond c ((place, e) ∷ []) []) is
+
+journal_one : (popped : List (ℕ × Entry)) (place : ℕ) (e : Entry) (b : Bool) → has_ids e.item ≡ b → journal_of (popped ++ (place, e) ∷ []) ≡ cond b (e ∷ journal_of popped) (journal_of popped)
+journal_one popped place e b is = ap (λ l. reverse (entries l)) (filter-append (λ (x : ℕ × Entry). has_ids x.1.item) popped ((place, e) ∷ []) ∙ ap (λ l. with_ids popped ++ l) (with_one place e b is)) ∙ go b where
+  go : (c : Bool) → reverse (entries (with_ids popped ++ cond c ((place, e) ∷ []) [])) ≡ cond c (e ∷ journal_of popped) (journal_of popped)
+  go true = ap reverse (map-append (λ (x : ℕ × Entry). x.1) (with_ids popped) ((place, e) ∷ [])) ∙ reverse-append (entries (with_ids popped)) (e ∷ [])
+  go false = ap (λ l. reverse (entries l)) (append-nil (with_ids popped))
+
+items_more : (popped : List (ℕ × Entry)) (place : ℕ) (e : Entry) → items (popped ++ (place, e) ∷ []) ≡ items popped ++ (place, e.item) ∷ []
+items_more popped place e = map-append (λ (x : ℕ × Entry). (x.0, x.1.item)) popped ((place, e) ∷ [])
+
+pub merged_more : (n place : ℕ) (item : Item) (old new : List (EndState Item)) (popped : List (ℕ × Entry)) (e : Entry) → e.item ≡ item → TakesAt n place item old new → IsMergeOf old (items popped)
+    → IsMergeOf new (items (popped ++ (place, e) ∷ []))
+merged_more n place item old new popped e is takes merge =
+    subst (λ l. IsMergeOf new l) (sym (items_more popped place e ∙ ap (λ i. items popped ++ (place, i) ∷ []) is)) (merge_more n place item old new (items popped) takes merge)
+
+-- what the loop keeps of what was popped
+abbrev pub Kept : Settings → List (EndState Item) → TallyState → Held → List Shipment → TallyState → List (ℕ × Entry) → Type 0
+Kept s ends before shard shipped tally popped = IsMergeOf ends (items popped) × MarksApply s (journal_of popped) × HasDone before shard shipped tally (journal_of popped)
+
+abbrev pub unmarked : Item → Entry
+unmarked item = record { item = item; refused = false; lost = false }
+
+-- a span without valid ids was popped
+pub kept_skipping : (n place : ℕ) (item : Item) (s : Settings) (old new : List (EndState Item)) (before : TallyState) (shard : Held) (shipped : List Shipment) (tally : TallyState) (popped : List (ℕ × Entry))
+    → has_ids item ≡ false → TakesAt n place item old new → Kept s old before shard shipped tally popped → Kept s new before shard shipped tally (popped ++ (place, unmarked item) ∷ [])
+kept_skipping n place item s old new before shard shipped tally popped none takes kept =
+    let same = journal_one popped place (unmarked item) false none in (
+      merged_more n place item old new popped (unmarked item) refl takes kept.0,
+      subst (λ J. MarksApply s J) (sym same) kept.1,
+      subst (λ J. HasDone before shard shipped tally J) (sym same) kept.2,
+    )
+
+-- an item was popped and taken
+pub kept_taking : (n place : ℕ) (item : Item) (s : Settings) (old new : List (EndState Item)) (before : TallyState) (shard : Held) (shipped : List Shipment) (tally : TallyState) (popped : List (ℕ × Entry))
+    → settings shard ≡ s → has_ids item ≡ true → TakesAt n place item old new → IsMergeOf old (items popped) → MarksApply s (journal_of popped)
+    → (t : TakesItem before shard shipped tally item (journal_of popped)) → Kept s new before shard shipped tally (popped ++ (place, t.taken) ∷ [])
+kept_taking n place item s old new before shard shipped tally popped is some takes merge marks t =
+    let same = journal_one popped place t.taken true (ap has_ids t.item_is ∙ some) in (
+      merged_more n place item old new popped t.taken t.item_is takes merge,
+      subst (λ J. MarksApply s J) (sym same) (subst (λ z. marks_apply z t.taken (journal_of popped) ≡ true) is t.marked, marks),
+      subst (λ J. HasDone before shard shipped tally J) (sym same) t.done,
+    )
+
+-- nothing was popped
+pub kept_none : (s : Settings) (ends : List (EndState Item)) (shard : Held) (shipped : List Shipment) (tally : TallyState) → IsMergeOf ends [] → StandsFor shard [] 0 → shipped ≡ [] → Kept s ends tally shard shipped tally []
+kept_none s ends shard shipped tally merge stands none = (
+  merge,
+  tt,
+  record { dealt = 0; all_dealt = refl; at = record { stands = stands; shipped_is = none; counted = tallies_none (counted_dealt (settings shard) [] 0) tally nothing } },
+) where
+  nothing : (count : Count) → counted_dealt (settings shard) [] 0 count ≡ 0
+  nothing Received = refl
+  nothing Handed = refl
+  nothing (Dropped reason) = refl
+
+list_all-append : (p : Bool → Bool) (xs ys : List Bool) → list_all p (xs ++ ys) ≡ (list_all p xs && list_all p ys)
+list_all-append p [] ys = refl
+list_all-append p (x ∷ xs) ys = go (p x) (list_all-append p xs ys) where
+  go : (b : Bool) → list_all p (xs ++ ys) ≡ (list_all p xs && list_all p ys) → (b && list_all p (xs ++ ys)) ≡ ((b && list_all p xs) && list_all p ys)
+  go true h = h
+  go false h = refl
+
+both_sides : (a b : Bool) → (a && (b && true)) ≡ (b && a)
+both_sides true true = refl
+both_sides true false = refl
+both_sides false true = refl
+both_sides false false = refl
+
+all_ended : (past : Journal) (n : ℕ) → list_all (λ b. b) (ends past n) ≡ have_ended past n
+all_ended past zero = refl
+all_ended past (suc n) = list_all-append (λ b. b) (ends past n) (has_ended past n ∷ []) ∙ ap (λ a. a && (has_ended past n && true)) (all_ended past n) ∙ both_sides (have_ended past n) (has_ended past n)
+
+-- the last End was taken
+pub works : (number : ℕ) (s : Settings) (shard : Held) (receiver : ReceiverState Item) (items_shipped : List Shipment) (sender : EndState Shipment) (before tally : TallyState) (popped : List (ℕ × Entry))
+    → settings shard ≡ s → is_finished shard ≡ true → sender.items ≡ items_shipped ++ End number ∷ [] → Kept s receiver.ends before shard items_shipped tally popped
+    → Works number s shard receiver sender before tally popped
+works number s shard receiver items_shipped sender before tally popped is finished shipped kept =
+    let J = journal_of popped in
+    let done = kept.2 in
+    let same : effect_dealt s J done.dealt ≡ effect s J = subst (λ z. effect_dealt z J done.dealt ≡ effect z J) is done.all_dealt in
+    record {
+      of_queues = kept.0;
+      ended = sym (all_ended J s.senders) ∙ ap (λ z. list_all (λ b. b) (ends J z.senders)) (sym is) ∙ sym (ap (λ (st : Standing). list_all (λ b. b) st.ends) done.at.stands.1) ∙ finished;
+      dealt = done.dealt;
+      stands = done.at.stands;
+      marked = kept.1;
+      shipped = shipped ∙ ap (λ l. l ++ End number ∷ []) (done.at.shipped_is ∙ ap (λ z. shipments (effect_dealt z J done.dealt).released) is ∙ ap (λ (e : Effect). shipments e.released) same);
+      counted = λ some. let h = subst (λ z. Tallies (counted_dealt z J done.dealt) before tally) is done.at.counted some in (h.0, (h.1.0, h.1.1, λ count. h.1.2 count ∙ counts count));
+    } where
+      counts : (count : Count) → counted_dealt s (journal_of popped) kept.2.dealt count ≡ counted_in s (journal_of popped) count
+      counts Received = refl
+      counts Handed = refl
+      counts (Dropped reason) = ap (λ (e : Effect). length (under reason e.counted)) (subst (λ z. effect_dealt z (journal_of popped) kept.2.dealt ≡ effect z (journal_of popped)) is kept.2.all_dealt)
+
+-- the same of the values that were given back
+pub works_ended : (number turns_number : ℕ) (s : Settings) (shard shard' : Held) (receiver receiver' : ReceiverState Item) (sender sender' : EndState Shipment) (before tally tally' : TallyState) (popped : List (ℕ × Entry))
+    → settings shard ≡ s → is_finished shard ≡ true → turns_number ≡ number → sender' ≡ with_item sender (End turns_number) → shard' ≡ shard → receiver' ≡ receiver → tally' ≡ tally
+    → Kept s receiver.ends before shard sender.items tally popped → Works number s shard' receiver' sender' before tally' popped
+works_ended number turns_number s shard shard' receiver receiver' sender sender' before tally tally' popped is finished numbers shipped same_shard same_receiver same_tally kept =
+    let P : Held → ReceiverState Item → TallyState → Type 0 = λ h r t. Works number s h r sender' before t popped in
+    let here = works number s shard receiver sender.items sender' before tally popped is finished (ap (λ (e : EndState Shipment). e.items) shipped ∙ ap (λ n. sender.items ++ End n ∷ []) numbers) kept in
+    subst (λ h. P h receiver' tally') (sym same_shard) (subst (λ r. P shard r tally') (sym same_receiver) (subst (λ t. P shard receiver t) (sym same_tally) here))

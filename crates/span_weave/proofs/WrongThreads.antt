@@ -1,0 +1,452 @@
+-- Threads that break one promise and keep all others, and that no run of the core does which ends closed.
+-- For the contract of `weave`: none of its premises can be left out.
+use Rattle.std.proofs.Common.{◌≡◌, ℕ, zero, suc, ◌+◌, ◌<◌, ◌≤◌, ◌==◌, Bool, true, false, cond, List, [], ◌∷◌, ◌++◌, length, map, filter, flat_map, slice_get, Option, Some, None, option_map, refl, ap, sym, subst, ◌∙◌, arith}
+use Rattle.std.specs.Prelude.{IsTrue, AllPairs}
+use Rattle.std.specs.List.{AllByRecursion, list_any}
+use Rattle.std.proofs.lemmas.List.Elements.{filter-append}
+use Rattle.otlp_types.specs.declared.arrival.Arrival.{Arrival}
+use Rattle.otlp_types.specs.declared.arrival.Item.TheVariants.{Span, Tick, End}
+use Rattle.span_ids.specs.declared.keys.ArrivalKey.{ArrivalKey}
+use Rattle.span_ids.specs.declared.outcome.Reason.{Reason}
+use Rattle.span_ids.specs.declared.outcome.Reason.TheVariants.{InvalidId, QueueFull, NoMemory, Evicted, NotSampled, LateNotSampled, ExporterDown}
+use Rattle.span_ids.specs.declared.outcome.Verdict.TheVariants.{Sampled}
+use Rattle.lane_queue.specs.Merges.{of}
+use Rattle.shard_core.specs.Journal.{Settings, Entry, Journal, notes, remembered}
+use Rattle.shard_core.specs.Fate.{DroppedSpan, Fate, waits, fate, output, under, is_same_reason}
+use Rattle.shard_core.specs.Marked.{MarksApply}
+use Rattle.span_world.specs.World.{Config, Lane, Shard, World, new_world, settings_for, settings, has_due, goes_to, same_key}
+use Rattle.span_world.specs.Places.{Place, HeldKey, unrouted, queued, buffered, unshipped, exported, in_batch, handed, counted_under, is_waiting, held_at, buffered_spans, held_by_lanes, held_by_shards, held}
+use Rattle.span_world.specs.Headline.{Taken, fate_of, is_where, ComesFirst, HoldsOf}
+use Rattle.span_world.proofs.Parts as SpanWorldParts
+use Rattle.span_world.proofs.Samples.{always, configured, plain, ids_of}
+use Rattle.span_world.proofs.Balance.{same_settings}
+use Rattle.span_world.proofs.OnePlace.{run_keeps}
+use Rattle.span_weave.specs.Threads.{Try, Threads, pushed, span_of, pushed_in, Act, pulled, handed_over, pulls, items_of, journal_of, Export, new_export, after_acts, AreNumbered}
+use Rattle.span_weave.specs.Woven.{counted_in_all, Woven}
+use Rattle.span_weave.proofs.Worlds.{entry_of}
+use Rattle.span_weave.proofs.Numbering.{numbered_from}
+
+-- ---- all promises but one
+
+-- the promises that are broken here
+data Promise : Type 0 where
+  tries_in_order : Promise
+  popped_in_order : Promise
+  marks_that_apply : Promise
+  shipped_is_output : Promise
+  batch_is_empty : Promise
+
+abbrev number_of : Promise → ℕ
+number_of tries_in_order = 0
+number_of popped_in_order = 1
+number_of marks_that_apply = 2
+number_of shipped_is_output = 3
+number_of batch_is_empty = 4
+
+-- nothing where the promise is the one that is broken, else this
+abbrev unless_same : Bool → Type 0 → Type 0
+unless_same true T = Unit {0}
+unless_same false T = T
+
+abbrev Unless : (broken p : Promise) → Type 0 → Type 0
+Unless broken p T = unless_same (number_of broken == number_of p) T
+
+-- all of `Meets` but this promise
+record MeetsBut (broken : Promise) (c : Config) (lanes shards : ℕ) (t : Threads) (end : Export) : Type 0 where
+  pub numbered : (lane : ℕ) → lane < lanes → AreNumbered lane (t.received lane)
+  pub tried : Unless broken tries_in_order ((lane shard : ℕ) → lane < lanes → shard < shards → map span_of (t.tries lane shard) ≡ filter (goes_to shards shard) (t.received lane))
+  pub of_lane : Unless broken popped_in_order ((lane shard : ℕ) → lane < lanes → shard < shards → items_of lane (t.popped shard) ≡ map (λ a. Span a) (pushed_in (t.tries lane shard)) ++ End lane ∷ [])
+  pub of_ticker : (shard : ℕ) → shard < shards → items_of lanes (t.popped shard) ≡ map (λ m. Tick m) (t.ticks shard) ++ End lanes ∷ []
+  pub of_senders : (shard : ℕ) → shard < shards → AllByRecursion (λ (x : ℕ × Entry). x.0 ≤ lanes) (t.popped shard)
+  pub marked : Unless broken marks_that_apply ((shard : ℕ) → shard < shards → MarksApply (settings_for c (lanes + 1)) (journal_of t shard))
+  pub shipped : Unless broken shipped_is_output ((shard : ℕ) → shard < shards → of shard (pulls t.acts) ≡ output (settings_for c (lanes + 1)) (journal_of t shard))
+  pub of_shards : AllByRecursion (λ (x : ℕ × Arrival). x.0 < shards) (pulls t.acts)
+  pub exports : after_acts c new_export t.acts ≡ Some end
+  pub flushed : Unless broken batch_is_empty (end.batch ≡ [])
+
+-- ---- what holds of a woven run
+
+abbrev config : Config
+config = configured always (Some 1) 1 1
+
+abbrev own : Settings
+own = settings_for config 2
+
+holds : (t : Threads) (end : Export) (w : Woven config 1 1 t end) → HoldsOf config w.after
+holds t end w = SpanWorldParts.headline config 1 1 w.steps w.after (λ e. cc e) w.runs
+
+own_settings : (t : Threads) (end : Export) (w : Woven config 1 1 t end) → settings config w.after ≡ own
+own_settings t end w = run_keeps config (λ (x : World). settings config x ≡ own) (λ x next stepped e. same_settings config x next stepped ∙ e) w.steps (new_world 1 1) w.after refl w.runs
+
+-- spans of one connection and trace were handed over in received order
+abbrev HandedInOrder : List (List Arrival) → Type 0
+HandedInOrder batches = AllPairs ComesFirst (flat_map (λ batch. batch) batches)
+
+-- its one shard, whose journal is this
+record OneShard (w : World) (J : Journal) : Type 0 where
+  pub shard : Shard
+  pub there : slice_get w.shards 0 ≡ Some shard
+  pub journal : shard.journal ≡ J
+
+one_shard : (w : World) (J : Journal) → option_map (λ (sh : Shard). sh.journal) (slice_get w.shards 0) ≡ Some J → OneShard w J
+one_shard w J e = go (slice_get w.shards 0) refl e
+  where
+    go : (o : Option Shard) → slice_get w.shards 0 ≡ o → option_map (λ (sh : Shard). sh.journal) o ≡ Some J → OneShard w J
+    go None there h = absurd (cc h)
+    go (Some sh) there h = record { shard = sh; there = there; journal = cc h }
+
+-- a span of which nothing waits is in no place that waits
+module _ (k : ArrivalKey) (place : Place) where
+  in_no_wait : (hs : List HeldKey) → filter (λ (h : HeldKey). is_waiting h.place) hs ≡ [] → map (λ (h : HeldKey). h.place) (filter (λ (h : HeldKey). same_key h.key k) hs) ≡ place ∷ [] → is_waiting place ≡ false
+  in_no_wait [] none e = absurd (cc e)
+  in_no_wait (h ∷ hs) none e = go (is_waiting h.place) (same_key h.key k) refl none e (in_no_wait hs)
+    where
+      go : (w s : Bool) → is_waiting h.place ≡ w → cond w (h ∷ filter (λ (h : HeldKey). is_waiting h.place) hs) (filter (λ (h : HeldKey). is_waiting h.place) hs) ≡ []
+          → map (λ (h : HeldKey). h.place) (cond s (h ∷ filter (λ (h : HeldKey). same_key h.key k) hs) (filter (λ (h : HeldKey). same_key h.key k) hs)) ≡ place ∷ []
+          → (filter (λ (h : HeldKey). is_waiting h.place) hs ≡ [] → map (λ (h : HeldKey). h.place) (filter (λ (h : HeldKey). same_key h.key k) hs) ≡ place ∷ [] → is_waiting place ≡ false)
+          → is_waiting place ≡ false
+      go true s is none e more = absurd (cc none)
+      go false true is none e more = let same : h.place ≡ place = cc e in subst (λ (p : Place). is_waiting p ≡ false) same is
+      go false false is none e more = more none e
+
+-- ---- the threads
+
+abbrev first : Arrival
+first = record { key = record { conn = record { lane = 0; ordinal = 0 }; number = 0 }; moment = 0; rec = plain 1 }
+
+abbrev second : Arrival
+second = record { key = record { conn = record { lane = 0; ordinal = 0 }; number = 1 }; moment = 1; rec = plain 1 }
+
+-- one lane and one shard
+abbrev did : (received : List Arrival) → (tries : List Try) → (ticks : List ℕ) → (popped : List (ℕ × Entry)) → List Act → Threads
+did received tries ticks popped acts = record { received = λ lane. received; tries = λ lane shard. tries; ticks = λ shard. ticks; popped = λ shard. popped; acts = acts }
+
+-- what was handed over
+abbrev made : List (List Arrival) → Export
+made batches = record { batch = []; handed = batches; counted = []; down = false }
+
+-- the ends of the lane and of the ticker
+abbrev ends : List (ℕ × Entry)
+ends = (0, entry_of (End 0) false false) ∷ (1, entry_of (End 1) false false) ∷ []
+
+abbrev taken : Arrival → ℕ × Entry
+taken a = (0, entry_of (Span a) false false)
+
+abbrev ticked : ℕ × Entry
+ticked = (1, entry_of (Tick 11) false false)
+
+-- what holds of the number 0 holds of each below 1
+only_zero : (P : ℕ → Type 0) → P 0 → (k : ℕ) → k < 1 → P k
+only_zero P h zero l = h
+only_zero P h (suc k) l = absurd (omega (arith, l))
+
+two_numbered : (lane : ℕ) → lane < 1 → AreNumbered lane (first ∷ second ∷ [])
+two_numbered = only_zero (λ lane. AreNumbered lane (first ∷ second ∷ [])) (numbered_from 0 (first ∷ second ∷ []) (refl, refl, (refl, refl, tt)))
+
+one_numbered : (lane : ℕ) → lane < 1 → AreNumbered lane (first ∷ [])
+one_numbered = only_zero (λ lane. AreNumbered lane (first ∷ [])) (numbered_from 0 (first ∷ []) (refl, refl, tt))
+
+-- no run hands over the second of the two spans first
+backwards : (t : Threads) → Woven config 1 1 t (made ((second ∷ []) ∷ (first ∷ []) ∷ [])) → ⊥
+backwards t w =
+    let h = subst (λ (z : List (List Arrival)). HandedInOrder z) w.handed (holds t (made ((second ∷ []) ∷ (first ∷ []) ∷ [])) w).order in
+    let q : 1 < 0 = h 0 1 first (omega arith) (omega arith) refl in
+    absurd (omega (arith, q))
+
+-- ---- tries that are not in order
+
+abbrev tried_backwards : Threads
+tried_backwards = did (first ∷ second ∷ []) (pushed second ∷ pushed first ∷ []) (11 ∷ []) (taken second ∷ taken first ∷ ticked ∷ ends) (pulled 0 second ∷ handed_over ∷ pulled 0 first ∷ handed_over ∷ [])
+
+tried_backwards_meets : MeetsBut tries_in_order config 1 1 tried_backwards (made ((second ∷ []) ∷ (first ∷ []) ∷ []))
+unfolding notes
+tried_backwards_meets = record {
+  numbered = two_numbered;
+  tried = tt;
+  of_lane = λ lane shard i j. only_zero (λ l. items_of l (tried_backwards.popped shard) ≡ map (λ a. Span a) (pushed_in (tried_backwards.tries l shard)) ++ End l ∷ []) refl lane i;
+  of_ticker = λ shard j. refl;
+  of_senders = λ shard j. (omega arith, (omega arith, (omega arith, (omega arith, (omega arith, tt)))));
+  marked = λ shard j. (refl, (refl, (refl, (refl, (refl, tt)))));
+  shipped = only_zero (λ shard. of shard (pulls tried_backwards.acts) ≡ output own (journal_of tried_backwards shard)) refl;
+  of_shards = (omega arith, (omega arith, tt));
+  exports = refl;
+  flushed = refl;
+}
+
+pub tried_backwards_is_no_run : Woven config 1 1 tried_backwards (made ((second ∷ []) ∷ (first ∷ []) ∷ [])) → ⊥
+tried_backwards_is_no_run = backwards tried_backwards
+
+-- ---- items that are not popped in order
+
+abbrev popped_backwards : Threads
+popped_backwards = did (first ∷ second ∷ []) (pushed first ∷ pushed second ∷ []) (11 ∷ []) (taken second ∷ taken first ∷ ticked ∷ ends) (pulled 0 second ∷ handed_over ∷ pulled 0 first ∷ handed_over ∷ [])
+
+popped_backwards_meets : MeetsBut popped_in_order config 1 1 popped_backwards (made ((second ∷ []) ∷ (first ∷ []) ∷ []))
+unfolding notes
+popped_backwards_meets = record {
+  numbered = two_numbered;
+  tried = λ lane shard i j. only_zero (λ s. map span_of (popped_backwards.tries lane s) ≡ filter (goes_to 1 s) (popped_backwards.received lane)) refl shard j;
+  of_lane = tt;
+  of_ticker = λ shard j. refl;
+  of_senders = λ shard j. (omega arith, (omega arith, (omega arith, (omega arith, (omega arith, tt)))));
+  marked = λ shard j. (refl, (refl, (refl, (refl, (refl, tt)))));
+  shipped = only_zero (λ shard. of shard (pulls popped_backwards.acts) ≡ output own (journal_of popped_backwards shard)) refl;
+  of_shards = (omega arith, (omega arith, tt));
+  exports = refl;
+  flushed = refl;
+}
+
+pub popped_backwards_is_no_run : Woven config 1 1 popped_backwards (made ((second ∷ []) ∷ (first ∷ []) ∷ [])) → ⊥
+popped_backwards_is_no_run = backwards popped_backwards
+
+-- ---- spans that are not shipped in order
+
+abbrev shipped_backwards : Threads
+shipped_backwards = did (first ∷ second ∷ []) (pushed first ∷ pushed second ∷ []) (11 ∷ []) (taken first ∷ taken second ∷ ticked ∷ ends) (pulled 0 second ∷ handed_over ∷ pulled 0 first ∷ handed_over ∷ [])
+
+shipped_backwards_meets : MeetsBut shipped_is_output config 1 1 shipped_backwards (made ((second ∷ []) ∷ (first ∷ []) ∷ []))
+unfolding notes
+shipped_backwards_meets = record {
+  numbered = two_numbered;
+  tried = λ lane shard i j. only_zero (λ s. map span_of (shipped_backwards.tries lane s) ≡ filter (goes_to 1 s) (shipped_backwards.received lane)) refl shard j;
+  of_lane = λ lane shard i j. only_zero (λ l. items_of l (shipped_backwards.popped shard) ≡ map (λ a. Span a) (pushed_in (shipped_backwards.tries l shard)) ++ End l ∷ []) refl lane i;
+  of_ticker = λ shard j. refl;
+  of_senders = λ shard j. (omega arith, (omega arith, (omega arith, (omega arith, (omega arith, tt)))));
+  marked = λ shard j. (refl, (refl, (refl, (refl, (refl, tt)))));
+  shipped = tt;
+  of_shards = (omega arith, (omega arith, tt));
+  exports = refl;
+  flushed = refl;
+}
+
+pub shipped_backwards_is_no_run : Woven config 1 1 shipped_backwards (made ((second ∷ []) ∷ (first ∷ []) ∷ [])) → ⊥
+shipped_backwards_is_no_run = backwards shipped_backwards
+
+-- ---- a lane's End that is not its last item
+
+abbrev ended_early : Threads
+ended_early = did (first ∷ []) (pushed first ∷ []) [] (ends ++ taken first ∷ []) []
+
+ended_early_meets : MeetsBut popped_in_order config 1 1 ended_early (made [])
+unfolding notes
+ended_early_meets = record {
+  numbered = one_numbered;
+  tried = λ lane shard i j. only_zero (λ s. map span_of (ended_early.tries lane s) ≡ filter (goes_to 1 s) (ended_early.received lane)) refl shard j;
+  of_lane = tt;
+  of_ticker = λ shard j. refl;
+  of_senders = λ shard j. (omega arith, (omega arith, (omega arith, tt)));
+  marked = λ shard j. (refl, (refl, (refl, tt)));
+  shipped = only_zero (λ shard. of shard (pulls ended_early.acts) ≡ output own (journal_of ended_early shard)) refl;
+  of_shards = tt;
+  exports = refl;
+  flushed = refl;
+}
+
+-- the span that was taken behind the End
+abbrev behind_end : (w : World) → OneShard w (journal_of ended_early 0) → Taken w
+behind_end w one = record {
+  shard = 0;
+  of = one.shard;
+  in_world = one.there;
+  arrival = first;
+  ids = ids_of 1;
+  valid = refl;
+  refused = false;
+  lost = false;
+  later = [];
+  before = entry_of (End 1) false false ∷ entry_of (End 0) false false ∷ [];
+  split = one.journal;
+}
+
+-- the fate of that span by a journal
+abbrev fate_by : Settings → Journal → Fate
+fate_by s past = fate s past (entry_of (End 1) false false ∷ entry_of (End 0) false false ∷ []) false (ids_of 1)
+
+-- it waits in the buffer
+pub ended_early_is_no_run : Woven config 1 1 ended_early (made []) → ⊥
+unfolding notes
+ended_early_is_no_run w =
+    let one = one_shard w.after (journal_of ended_early 0) (w.journals 0 (omega arith)) in
+    let fits = (holds ended_early (made []) w).fits (behind_end w.after one) in
+    buffered_waits fits.0 (has_due (settings config w.after) one.shard)
+    (subst (λ (f : Fate). IsTrue (is_where 0 (has_due (settings config w.after) one.shard) f fits.0)) (fate_is one) fits.2)
+    (in_no_wait first.key fits.0 (held config w.after) w.closed.nothing_waits fits.1)
+  where
+    fate_is : (one : OneShard w.after (journal_of ended_early 0)) → fate_of config w.after (behind_end w.after one) ≡ waits
+    fate_is one = ap (λ (s : Settings). fate_by s one.shard.journal) (own_settings ended_early (made []) w) ∙ ap (fate_by own) one.journal
+
+    buffered_waits : (place : Place) (due : Bool) → IsTrue (is_where 0 due waits place) → is_waiting place ≡ false → ⊥
+    buffered_waits (unrouted n) due e f = cc f
+    buffered_waits (queued n) due e f = cc f
+    buffered_waits (buffered n) due e f = cc f
+    buffered_waits (unshipped n) due e f = cc f
+    buffered_waits exported due e f = cc f
+    buffered_waits in_batch due e f = cc f
+    buffered_waits handed due e f = cc e
+    buffered_waits (counted_under r) due e f = cc e
+
+-- ---- a mark that can't apply
+
+-- a late span, marked as if memory had been refused to it
+abbrev late_refused : ℕ × Entry
+late_refused = (0, entry_of (Span second) true false)
+
+abbrev marked_late : Threads
+marked_late = did (first ∷ second ∷ []) (pushed first ∷ pushed second ∷ []) (11 ∷ []) (taken first ∷ ticked ∷ late_refused ∷ ends) (pulled 0 first ∷ handed_over ∷ [])
+
+marked_late_meets : MeetsBut marks_that_apply config 1 1 marked_late (made ((first ∷ []) ∷ []))
+unfolding notes
+marked_late_meets = record {
+  numbered = two_numbered;
+  tried = λ lane shard i j. only_zero (λ s. map span_of (marked_late.tries lane s) ≡ filter (goes_to 1 s) (marked_late.received lane)) refl shard j;
+  of_lane = λ lane shard i j. only_zero (λ l. items_of l (marked_late.popped shard) ≡ map (λ a. Span a) (pushed_in (marked_late.tries l shard)) ++ End l ∷ []) refl lane i;
+  of_ticker = λ shard j. refl;
+  of_senders = λ shard j. (omega arith, (omega arith, (omega arith, (omega arith, (omega arith, tt)))));
+  marked = tt;
+  shipped = only_zero (λ shard. of shard (pulls marked_late.acts) ≡ output own (journal_of marked_late shard)) refl;
+  of_shards = (omega arith, tt);
+  exports = refl;
+  flushed = refl;
+}
+
+-- the journal before that span
+abbrev before_late : Journal
+before_late = entry_of (Tick 11) false false ∷ entry_of (Span first) false false ∷ []
+
+abbrev late_one : (w : World) → OneShard w (journal_of marked_late 0) → Taken w
+late_one w one = record {
+  shard = 0;
+  of = one.shard;
+  in_world = one.there;
+  arrival = second;
+  ids = ids_of 1;
+  valid = refl;
+  refused = true;
+  lost = false;
+  later = entry_of (End 1) false false ∷ entry_of (End 0) false false ∷ [];
+  before = before_late;
+  split = one.journal;
+}
+
+pub marked_late_is_no_run : Woven config 1 1 marked_late (made ((first ∷ []) ∷ [])) → ⊥
+unfolding notes
+marked_late_is_no_run w =
+    let one = one_shard w.after (journal_of marked_late 0) (w.journals 0 (omega arith)) in
+    let known : remembered (settings config w.after) (notes (settings config w.after) before_late) (ids_of 1).trace ≡ Some Sampled =
+    ap (λ (s : Settings). remembered s (notes s before_late) (ids_of 1).trace) (own_settings marked_late (made ((first ∷ []) ∷ [])) w) in
+    let q : true ≡ false = ((holds marked_late (made ((first ∷ []) ∷ [])) w).remembered (late_one w.after one) Sampled known).0 in
+    cc q
+
+-- ---- a span that is left in the batch
+
+abbrev left_in_batch : Threads
+left_in_batch = did (first ∷ []) (pushed first ∷ []) (11 ∷ []) (taken first ∷ ticked ∷ ends) (pulled 0 first ∷ [])
+
+abbrev with_batch : Export
+with_batch = record { batch = first ∷ []; handed = []; counted = []; down = false }
+
+left_in_batch_meets : MeetsBut batch_is_empty config 1 1 left_in_batch with_batch
+unfolding notes
+left_in_batch_meets = record {
+  numbered = one_numbered;
+  tried = λ lane shard i j. only_zero (λ s. map span_of (left_in_batch.tries lane s) ≡ filter (goes_to 1 s) (left_in_batch.received lane)) refl shard j;
+  of_lane = λ lane shard i j. only_zero (λ l. items_of l (left_in_batch.popped shard) ≡ map (λ a. Span a) (pushed_in (left_in_batch.tries l shard)) ++ End l ∷ []) refl lane i;
+  of_ticker = λ shard j. refl;
+  of_senders = λ shard j. (omega arith, (omega arith, (omega arith, (omega arith, tt))));
+  marked = λ shard j. (refl, (refl, (refl, (refl, tt))));
+  shipped = only_zero (λ shard. of shard (pulls left_in_batch.acts) ≡ output own (journal_of left_in_batch shard)) refl;
+  of_shards = (omega arith, tt);
+  exports = refl;
+  flushed = tt;
+}
+
+-- a test of what is held
+abbrev waits_there : HeldKey → Bool
+waits_there h = is_waiting h.place
+
+-- all of these wait
+abbrev AllWait : List HeldKey → Type 0
+AllWait hs = filter waits_there hs ≡ hs
+
+both_wait : (xs ys : List HeldKey) → AllWait xs → AllWait ys → AllWait (xs ++ ys)
+both_wait xs ys e f = filter-append waits_there xs ys ∙ ap (λ (z : List HeldKey). z ++ filter waits_there ys) e ∙ ap (λ (z : List HeldKey). xs ++ z) f
+
+held_waits : (place : Place) → is_waiting place ≡ true → (spans : List Arrival) → AllWait (held_at place spans)
+held_waits place is [] = refl
+held_waits place is (a ∷ spans) =
+    ap (λ b. let h : HeldKey = record { place = place; key = a.key } in cond b (h ∷ filter waits_there (held_at place spans)) (filter waits_there (held_at place spans))) is
+    ∙ ap (λ (z : List HeldKey). let h : HeldKey = record { place = place; key = a.key } in h ∷ z) (held_waits place is spans)
+
+lanes_wait : (n : ℕ) (lanes : List Lane) → AllWait (held_by_lanes n lanes)
+lanes_wait n [] = refl
+lanes_wait n (l ∷ lanes) = both_wait (held_at (unrouted n) l.unrouted) (held_by_lanes (n + 1) lanes) (held_waits (unrouted n) refl l.unrouted) (lanes_wait (n + 1) lanes)
+
+shards_wait : (s : Settings) (n : ℕ) (shards : List Shard) → AllWait (held_by_shards s n shards)
+shards_wait s n [] = refl
+shards_wait s n (sh ∷ shards) =
+    let inside = held_at (buffered n) (buffered_spans s sh.journal sh.dealt) in
+    let out = held_at (unshipped n) sh.unshipped in
+    both_wait (held_at (queued n) sh.queue ++ inside ++ out) (held_by_shards s (n + 1) shards)
+    (both_wait (held_at (queued n) sh.queue ++ inside) out
+    (both_wait (held_at (queued n) sh.queue) inside (held_waits (queued n) refl sh.queue) (held_waits (buffered n) refl (buffered_spans s sh.journal sh.dealt))) (held_waits (unshipped n) refl sh.unshipped))
+    (shards_wait s (n + 1) shards)
+
+abbrev counted_key : DroppedSpan → HeldKey
+counted_key n = record { place = counted_under n.reason; key = n.key }
+
+-- where nothing was handed over or counted, all that the world holds waits
+world_waits : (w : World) → w.handed ≡ [] → w.counted ≡ [] → AllWait (held config w)
+world_waits w none nothing =
+    let s = settings config w in
+    let lanes = held_by_lanes 0 w.lanes in
+    let shards = held_by_shards s 0 w.shards in
+    let export = held_at exported w.exported in
+    let batch = held_at in_batch w.batch in
+    let over = flat_map (held_at handed) w.handed in
+    let counted = map counted_key w.counted in
+    let over_none : over ≡ [] = ap (flat_map (held_at handed)) none in
+    let counted_none : counted ≡ [] = ap (map counted_key) nothing in
+    both_wait (lanes ++ shards ++ export ++ batch ++ over) counted
+    (both_wait (lanes ++ shards ++ export ++ batch) over
+    (both_wait (lanes ++ shards ++ export) batch (both_wait (lanes ++ shards) export (both_wait lanes shards (lanes_wait 0 w.lanes) (shards_wait s 0 w.shards)) (held_waits exported refl w.exported)) (held_waits in_batch refl w.batch))
+    (subst AllWait (sym over_none) refl))
+    (subst AllWait (sym counted_none) refl)
+
+-- where under each reason nothing is counted, nothing is
+none_counted : (counted : List DroppedSpan) → ((r : Reason) → length (under r counted) ≡ 0) → counted ≡ []
+none_counted [] none = refl
+none_counted (n ∷ rest) none =
+    let others = filter (λ (d : DroppedSpan). is_same_reason d.reason n.reason) rest in
+    let one : length (under n.reason (n ∷ rest)) ≡ suc (length (map (λ (d : DroppedSpan). d.key) others)) = ap (λ b. length (map (λ (d : DroppedSpan). d.key) (cond b (n ∷ others) others))) (same_reason n.reason) in
+    absurd (omega (arith, one, none n.reason))
+  where
+    same_reason : (r : Reason) → is_same_reason r r ≡ true
+    same_reason InvalidId = refl
+    same_reason QueueFull = refl
+    same_reason NoMemory = refl
+    same_reason Evicted = refl
+    same_reason NotSampled = refl
+    same_reason LateNotSampled = refl
+    same_reason ExporterDown = refl
+
+first_received : (lanes : List Lane) → option_map (λ (l : Lane). l.received) (slice_get lanes 0) ≡ Some (first ∷ []) → list_any (λ (l : Lane). list_any (λ a. same_key a.key first.key) l.received) lanes ≡ true
+first_received [] e = absurd (cc e)
+first_received (l ∷ lanes) e = let q : l.received ≡ first ∷ [] = cc e in rw q refl
+
+pub left_in_batch_is_no_run : Woven config 1 1 left_in_batch with_batch → ⊥
+unfolding notes
+left_in_batch_is_no_run w =
+    let nothing : w.after.counted ≡ [] = none_counted w.after.counted (λ r. w.counted r ∙ nothing_counted r) in
+    let none : held config w.after ≡ [] = sym (world_waits w.after w.handed nothing) ∙ w.closed.nothing_waits in
+    let one = (holds left_in_batch with_batch w).one_place.received first.key (first_received w.after.lanes (w.received 0 (omega arith))) in
+    let q : 0 ≡ 1 = sym (ap (λ (z : List HeldKey). length (map (λ (h : HeldKey). h.place) (filter (λ (h : HeldKey). same_key h.key first.key) z))) none) ∙ one in
+    absurd (omega (arith, q))
+  where
+    nothing_counted : (r : Reason) → counted_in_all config 1 1 left_in_batch with_batch r ≡ 0
+    nothing_counted InvalidId = refl
+    nothing_counted QueueFull = refl
+    nothing_counted NoMemory = refl
+    nothing_counted Evicted = refl
+    nothing_counted NotSampled = refl
+    nothing_counted LateNotSampled = refl
+    nothing_counted ExporterDown = refl
