@@ -1,0 +1,5 @@
+pub mod RequestLemmas
+pub mod PieceLemmas
+pub mod Rows
+pub mod EventLemmas
+pub mod AnswerLemmas

@@ -1,0 +1,23 @@
+//! One connection of a lane: requests are read by RFC 9112 and answered in order, over any reader and writer.
+//!
+//! [`serve`] is the whole of it. The bytes that it writes, the bodies that it hands to the lane, the counts and how it
+//! ends are those of the connection's transcript (`specs/Connection`), in whatever pieces the bytes came.
+#![tactic(auto)]
+
+mod answer;
+mod engine;
+mod input;
+mod laws;
+mod lent;
+mod parts;
+mod reads;
+mod requests;
+mod serving;
+mod stage;
+mod texts;
+
+pub use answer::{QUIET_LIMIT, READ_LIMIT, ReadTurn, SLOW_LIMIT, ServeEnd};
+pub use laws::{in_any_pieces, pieces_do_not_matter, whole_connections};
+pub use lent::{Clock, Stop};
+pub use reads::{PIECE_LIMIT, Reads, Source};
+pub use serving::serve;

@@ -1,0 +1,68 @@
+//! A table of exchanges with what RFC 9112 and the table of answers give for each. A row of `exchanges.tsv` has a name,
+//! how it is run, the bytes that a client sends, the bytes that are answered, how the connection ends, and what was
+//! counted; `column` says how bytes are written there. Each exchange goes through `serve` in one piece, a byte at a time,
+//! and cut in every two pieces; where the row says so, also with a write that fails after each number of bytes. The gate
+//! runs it and compares what it prints.
+//!
+//! With the argument `refused` it runs the rows that say `starves` once each, and lets an exchange be short of memory at
+//! one place. So a run for each allocation that is refused in turn (`tests/refused_memory/exchanges.sh`) shows that
+//! nothing but whole answers is written, and that the counts are those of the answered requests.
+#![tactic(auto)]
+
+mod column;
+mod peers;
+mod row;
+mod short;
+mod trial;
+
+use row::Row;
+use std::alloc::{AllocError, Global};
+use std::process::ExitCode;
+use std::{env, fs, io};
+
+/// What became of the rows that were run.
+#[derive(Clone, Copy, Drop)]
+struct Tally {
+    rows: u64,
+    wrong: u64,
+}
+
+/// Whether the exchange of a line comes out as it says.
+fn holds(alloc: Global, line: &str, starved: bool) -> Result<bool, AllocError> {
+    let Some(row) = Row::read(alloc, line)? else {
+        return Ok(false);
+    };
+    if starved {
+        return short::holds(alloc, &row);
+    }
+    trial::holds(alloc, &row)
+}
+
+/// Whether a line is to be run.
+fn is_asked_for(line: &str, starved: bool) -> bool {
+    !line.is_empty() && !line.starts_with('#') && (!starved || line.contains("starves"))
+}
+
+fn main(rt: HostRuntime) -> io::Result<ExitCode> {
+    let mut starved = false;
+    for argument in env::args(&rt)?.skip(1) {
+        starved |= argument.as_str() == "refused";
+    }
+    let table = fs::read_to_string(&rt, "exchanges.tsv")?;
+    let mut tally = Tally { rows: 0, wrong: 0 };
+    for line in table.lines() {
+        if !is_asked_for(line, starved) {
+            continue;
+        }
+        let right = holds(rt.alloc(), line, starved)?;
+        tally.rows = tally.rows.saturating_add(1);
+        if !right {
+            tally.wrong = tally.wrong.saturating_add(1);
+            println!(rt; "not as the table says: {line}")?;
+        }
+    }
+    let rows = tally.rows;
+    let wrong = tally.wrong;
+    println!(rt; "{rows} exchanges, {wrong} wrong")?;
+    Ok(ExitCode::from(if wrong == 0 { 0 } else { 1 }))
+}

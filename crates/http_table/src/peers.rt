@@ -1,0 +1,113 @@
+//! What a connection is served with: a reader of pieces, a writer with room, a stop mark and a clock.
+ghost use Rattle.std.specs.Prelude.{None, Some};
+
+use http_lane::{Clock, Stop};
+use std::cell::Cell;
+use std::io;
+use std::io::{ErrorKind, Read, Write};
+
+/// What a reader does when its bytes are gone.
+#[derive(Clone, Copy, Drop)]
+pub enum Tail {
+    /// The input ends.
+    Ends,
+    /// Each read would block.
+    Blocks,
+    /// Each read times out.
+    TimesOut,
+    /// Each read is interrupted.
+    Interrupted,
+    /// Each read fails.
+    Fails,
+}
+
+/// Gives its bytes: the first reads end at `cut`, and no read gives more than `step` bytes.
+#[derive(Drop)]
+pub struct Pieces<'b> {
+    pub rest: &'b [u8],
+    pub cut: usize,
+    pub step: usize,
+    pub tail: Tail,
+    /// So many reads were made.
+    pub reads: u64,
+}
+
+impl<'b> Read for Pieces<'b> {
+    ghost remaining = { λ _. None };
+
+    fn read(&mut self, piece: &mut [u8]) -> io::Result<usize> {
+        self.reads = self.reads.saturating_add(1);
+        let most = if self.cut > 0 { self.cut } else { usize::MAX };
+        let count = self.rest.len().min(self.step).min(piece.len()).min(most);
+        if count == 0 {
+            return match self.tail {
+                Tail::Ends => Ok(0),
+                Tail::Blocks => Err(io::Error::from(ErrorKind::WouldBlock)),
+                Tail::TimesOut => Err(io::Error::from(ErrorKind::TimedOut)),
+                Tail::Interrupted => Err(io::Error::from(ErrorKind::Interrupted)),
+                Tail::Fails => Err(io::Error::from(ErrorKind::ConnectionReset)),
+            };
+        }
+        let (front, rest) = self.rest.split_at(count);
+        piece[..count].copy_from_slice(front);
+        self.rest = rest;
+        self.cut = self.cut.saturating_sub(count);
+        Ok(count)
+    }
+}
+
+/// A writer into memory. It takes at most `portion` bytes a write and `room` bytes in all, and then fails.
+#[derive(Drop)]
+pub struct Page {
+    pub bytes: Vec<u8>,
+    pub portion: usize,
+    pub room: usize,
+}
+
+impl Write for Page {
+    ghost contents = { λ page. Some page.bytes.items };
+
+    fn write(&mut self, bytes: &[u8]) -> io::Result<usize> {
+        let count = bytes.len().min(self.room).min(self.portion);
+        if count == 0 {
+            return Err(io::Error::from(ErrorKind::BrokenPipe));
+        }
+        self.bytes.extend_from_slice(&bytes[..count])?;
+        self.room -= count;
+        Ok(count)
+    }
+
+    fn flush(&mut self) -> io::Result<()> {
+        Ok(())
+    }
+}
+
+/// A stop mark.
+#[derive(Drop)]
+pub struct Mark {
+    pub set: Cell<bool>,
+}
+
+impl Stop for Mark {
+    fn is_set(&self) -> bool {
+        self.set.get()
+    }
+
+    fn set(&self) {
+        self.set.set(true);
+    }
+}
+
+/// A clock that says 1000 first, and each time 1 more.
+#[derive(Drop)]
+pub struct Ticks {
+    pub asked: Cell<u64>,
+}
+
+impl Clock for Ticks {
+    fn now(&self) -> u64 {
+        let asked = self.asked.get();
+        self.asked.set(asked.saturating_add(1));
+        asked.saturating_add(1000)
+    }
+}

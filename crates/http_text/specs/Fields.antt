@@ -1,0 +1,80 @@
+-- What the fields of a head say (RFC 9110, section 5; RFC 9112, section 6), from the list of names and values.
+use Rattle.std.specs.Prelude.{ℕ, suc, min, Bool, false, not, ◌&&◌, List, [], ◌∷◌, map, length, Option, Some, None, if◌then◌else◌, nat_lt, ◌==◌, codes, filter}
+use Rattle.std.specs.List.{list_all, list_any, before_first}
+use Rattle.std.specs.Char.{is_ascii_digit}
+use Rattle.std.specs.Str.Parse.{digits_value}
+use Rattle.std.specs.Str.{str_eq_ignore_ascii_case}
+use Rattle.httparse.specs.Ascii.{comma, semicolon}
+use Rattle.httparse.specs.Grammar.{trim_ows}
+use Rattle.http_text.specs.declared.request.TheConstants.{BODY_LIMIT}
+use Rattle.http_text.specs.declared.request.Framing.{Framing}
+use Rattle.http_text.specs.declared.request.Framing.TheVariants.{Length, Chunked}
+
+-- a name and a value
+abbrev pub Header : Type 0
+Header = List ℕ × List ℕ
+
+-- the value of every field with this name, in order
+abbrev pub values_named : List ℕ → List Header → List (List ℕ)
+values_named name headers = map (λ (h : Header). h.1) (filter (λ (h : Header). str_eq_ignore_ascii_case h.0 name) headers)
+
+-- 1*DIGIT
+abbrev pub is_number : List ℕ → Bool
+is_number text = nat_lt 0 (length text) && list_all is_ascii_digit text
+
+-- a length above the limit is refused, so it is taken for the next number above the limit
+-- the framing by the values of `Content-Length` and of `Transfer-Encoding`
+abbrev pub framing_by : List (List ℕ) → List (List ℕ) → Option Framing
+framing_by [] [] = Some (Length 0)
+framing_by (text ∷ []) [] = if is_number text then Some (Length (min (digits_value 10 text) (suc BODY_LIMIT))) else None
+framing_by [] (coding ∷ []) = if str_eq_ignore_ascii_case coding (codes "chunked") then Some Chunked else None
+framing_by _ _ = None
+
+-- how the body is framed, or None where the fields don't say it in one way
+abbrev pub framing : List Header → Option Framing
+framing headers = framing_by (values_named (codes "content-length") headers) (values_named (codes "transfer-encoding") headers)
+
+-- the one value, if there is exactly one
+abbrev pub only : List (List ℕ) → Option (List ℕ)
+only (value ∷ []) = Some value
+only _ = None
+
+-- the media type: the value before any `;`
+abbrev pub media_type : List ℕ → List ℕ
+media_type value = trim_ows (before_first (λ b. b == semicolon) value)
+
+-- one `Content-Type`, of `application/json`
+abbrev pub is_json_by : Option (List ℕ) → Bool
+is_json_by None = false
+is_json_by (Some value) = str_eq_ignore_ascii_case (media_type value) (codes "application/json")
+
+abbrev pub is_json : List Header → Bool
+is_json headers = is_json_by (only (values_named (codes "content-type") headers))
+
+-- the header has this name, and its value passes the test
+abbrev pub has : List ℕ → (List ℕ → Bool) → Header → Bool
+has name test h = str_eq_ignore_ascii_case h.0 name && test h.1
+
+-- no coding but `identity`
+abbrev pub is_plain : List Header → Bool
+is_plain headers = not (list_any (has (codes "content-encoding") (λ value. not (str_eq_ignore_ascii_case value (codes "identity")))) headers)
+
+-- the words of a comma list, where a word is trimmed
+abbrev pub cons_first : ℕ → List (List ℕ) → List (List ℕ)
+cons_first b [] = (b ∷ []) ∷ []
+cons_first b (word ∷ words) = (b ∷ word) ∷ words
+
+abbrev pub split_commas : List ℕ → List (List ℕ)
+split_commas [] = [] ∷ []
+split_commas (b ∷ bytes) = if b == comma then [] ∷ split_commas bytes else cons_first b (split_commas bytes)
+
+abbrev pub has_word : List ℕ → List ℕ → Bool
+has_word word value = list_any (λ w. str_eq_ignore_ascii_case (trim_ows w) word) (split_commas value)
+
+-- `Connection` lists `close`
+abbrev pub says_close : List Header → Bool
+says_close headers = list_any (has (codes "connection") (has_word (codes "close"))) headers
+
+-- `Expect` says `100-continue`
+abbrev pub expects_continue : List Header → Bool
+expects_continue headers = list_any (has (codes "expect") (λ value. str_eq_ignore_ascii_case value (codes "100-continue"))) headers

@@ -1,0 +1,83 @@
+-- What the head at the front of a stream comes to (RFC 9112, sections 2 to 6), by the grammar of `httparse`.
+use Rattle.std.specs.Prelude.{◌≡◌, ℕ, ◌-◌, ◌<◌, ◌≤◌, ◌⊎◌, Bool, true, false, not, ◌&&◌, ◌||◌, List, [], map, length, take, drop, Option, Some, None, if◌then◌else◌, nat_le, ◌==◌, codes, count_by, bytes_eq}
+use Rattle.httparse.specs.Ascii.{line_feed}
+use Rattle.httparse.specs.Grammar.{RequestHead, ReadsRequest}
+use Rattle.httparse.specs.Spans.{name_and_value}
+use Rattle.http_text.specs.Lines.{Cut, Whole, Waits, TooLong}
+use Rattle.http_text.specs.declared.request.TheConstants.{BODY_LIMIT, FIELD_LIMIT}
+use Rattle.http_text.specs.declared.request.Framing.{Framing}
+use Rattle.http_text.specs.declared.request.Framing.TheVariants.{Length, Chunked}
+use Rattle.http_text.specs.declared.request.Refusal.{Refusal}
+use Rattle.http_text.specs.declared.request.Refusal.TheVariants.{HeadTooLarge, BadRequest, NotFound, MethodNotAllowed, UnsupportedMediaType, BodyTooLarge}
+use Rattle.http_text.specs.declared.request.Verdict.{Verdict}
+use Rattle.http_text.specs.declared.request.Verdict.TheVariants.{Refused, Close, Post as Posted}
+use Rattle.http_text.specs.Fields.{Header, values_named, framing, is_json, is_plain, says_close, expects_continue}
+use Rattle.http_text.specs.Lines.{head_len, blank_len, cut}
+
+-- the fields of a head's text: the lines between the request line and the empty line at the end
+abbrev pub field_lines : List ℕ → ℕ
+field_lines text = count_by (λ b. b == line_feed) (drop (blank_len text) text) - 2
+
+abbrev pub is_post : List ℕ → Bool
+is_post method = bytes_eq method (codes "POST")
+
+abbrev pub refused : List ℕ → Refusal → Verdict
+refused method refusal = Refused refusal (bytes_eq method (codes "HEAD"))
+
+-- a length within the limit; chunks are added up as they come
+abbrev pub fits : Framing → Bool
+fits (Length n) = nat_le n BODY_LIMIT
+fits Chunked = true
+
+-- a request for the traces, by its fields
+abbrev pub posted : List ℕ → List Header → Framing → Verdict
+posted method headers framed =
+    if not (is_json headers && is_plain headers) then refused method UnsupportedMediaType
+    else (if not (fits framed) then refused method BodyTooLarge
+    else Posted (record { framing = framed; expects_continue = expects_continue headers; says_close = says_close headers }))
+
+-- where a message that is framed goes, by its target
+abbrev pub routed : List ℕ → List ℕ → List Header → Framing → Verdict
+routed method target headers framed =
+    if bytes_eq target (codes "/close") && is_post method then Close
+    else (if not (bytes_eq target (codes "/close") || bytes_eq target (codes "/v1/traces")) then refused method NotFound
+    else (if not (is_post method) then refused method MethodNotAllowed
+    else posted method headers framed))
+
+abbrev pub framed_or_bad : List ℕ → List ℕ → List Header → Option Framing → Verdict
+framed_or_bad method target headers None = refused method BadRequest
+framed_or_bad method target headers (Some framed) = routed method target headers framed
+
+-- the rows of the table that are about the head, in their order
+abbrev pub verdict_by : List ℕ → List ℕ → ℕ → List Header → Verdict
+verdict_by method target minor headers =
+    if (minor == 1) && (length (values_named (codes "host") headers) == 1)
+    then framed_or_bad method target headers (framing headers)
+    else refused method BadRequest
+
+abbrev pub verdict : RequestHead → Verdict
+verdict h = verdict_by h.method h.target h.minor (map name_and_value h.fields)
+
+-- the whole text is this head
+abbrev pub IsHead : List ℕ → RequestHead → Type 0
+IsHead text h = ReadsRequest text h [] × (length h.fields ≤ FIELD_LIMIT)
+
+-- what the text of a head comes to, where it has no more lines than are allowed
+abbrev pub Judges : List ℕ → Verdict → Type 0
+Judges text v =
+    ((h : RequestHead) × IsHead text h × (v ≡ verdict h))
+    ⊎ (((h : RequestHead) → ¬ (IsHead text h)) × (v ≡ Refused BadRequest false))
+
+-- what the text of a head comes to
+pub record IsVerdict (text : List ℕ) (v : Verdict) : Type 0 where
+  pub many : FIELD_LIMIT < field_lines text → v ≡ Refused HeadTooLarge false
+  pub few : field_lines text ≤ FIELD_LIMIT → Judges text v
+
+-- the stream begins with a head that comes to this, and the rest follows it
+abbrev pub HeadBy : Cut → List ℕ → Verdict → List ℕ → Type 0
+HeadBy (Whole n) stream v rest = IsVerdict (take n stream) v × (rest ≡ drop n stream)
+HeadBy Waits stream v rest = ⊥
+HeadBy TooLong stream v rest = (v ≡ Refused HeadTooLarge false) × (rest ≡ stream)
+
+abbrev pub BeginsWithHead : List ℕ → Verdict → List ℕ → Type 0
+BeginsWithHead stream v rest = HeadBy (cut head_len stream) stream v rest

@@ -1,0 +1,212 @@
+//! What the fields of a head say (RFC 9110, section 5; RFC 9112, section 6). Names and words are compared without
+//! regard to ASCII case.
+ghost use Rattle.std.specs.Prelude.{◌≡◌, ℕ, ◌+◌, ◌<◌, ◌≤◌, ◌==◌, List, [], length, map, All, IfSome, IfNone, codes, is_some, option_copied, Some, None, if◌then◌else◌, nat_le, nat_lt, Option, IsTrue, reverse, ◌^◌, min, suc, position};
+ghost use Rattle.std.specs.List.{before_first};
+ghost use Rattle.std.specs.Str.{str_eq_ignore_ascii_case};
+ghost use Rattle.std.specs.Str.Parse.{digits_value};
+ghost use Rattle.httparse.specs.Ascii.{comma, semicolon};
+ghost use Rattle.httparse.specs.Grammar.{skip_ows, trim_ows};
+ghost use Rattle.httparse.specs.Spans.{IsHeaderWithin, header_bytes};
+ghost use Rattle.http_text.specs.Fields.{values_named, is_number, framing, media_type, is_json, is_plain, has_word, says_close, expects_continue};
+ghost use Rattle.http_text.specs.Named.{Seen};
+
+use crate::request::{BODY_LIMIT, Framing};
+use httparse::is_space_or_tab;
+use httparse::spans::HeaderSpan;
+
+/// The value of the fields with one name.
+#[derive(Clone, Copy, Debug)]
+pub enum Named<'b> {
+    /// No field has the name.
+    Absent,
+    /// One field has it, with this value.
+    One(&'b [u8]),
+    /// More than one have it.
+    Many,
+}
+
+/// The same text but for the case of ASCII letters.
+pub fn eq_ignore_case(a: &[u8], b: &[u8]) -> bool
+    ensures { result ≡ str_eq_ignore_ascii_case a.now b.now }
+{
+    a.eq_ignore_ascii_case(b)
+}
+
+/// The value of the fields with this name.
+pub fn find_named<'b>(text: &'b [u8], spans: &[HeaderSpan], name: &[u8]) -> Named<'b>
+    requires { All (IsHeaderWithin (length text.now)) spans.now }
+    ensures { Seen result (values_named name.now (map (header_bytes text.now) spans.now)) }
+{
+    let mut found = Named::Absent;
+    for span in spans {
+        if eq_ignore_case(span.name.of(text), name) {
+            found = match found {
+                Named::Absent => Named::One(span.value.of(text)),
+                _ => Named::Many,
+            };
+        }
+    }
+    found
+}
+
+/// The length that the text gives, where one above the limit stands for all above it.
+fn body_len(text: &[u8]) -> Option<Framing>
+    ensures { result ≡ (if is_number text.now then Some (Framing.Length (min (digits_value 10 text.now) (suc BODY_LIMIT))) else None) }
+{
+    if text.is_empty() {
+        return None;
+    }
+    let mut len: usize = 0;
+    for digit in text {
+        if !digit.is_ascii_digit() {
+            return None;
+        }
+        len = (len * 10 + (*digit - b'0') as usize).min(BODY_LIMIT + 1);
+    }
+    Some(Framing::Length(len))
+}
+
+/// The text without spaces and tabs in front.
+fn trim_start(mut text: &[u8]) -> &[u8]
+    ensures { result.now ≡ skip_ows text.now }
+{
+    while let [first, rest @ ..] = text
+        && is_space_or_tab(*first)
+    {
+        text = rest;
+    }
+    text
+}
+
+/// The text without spaces and tabs behind.
+fn trim_end(mut text: &[u8]) -> &[u8]
+    ensures { result.now ≡ reverse (skip_ows (reverse text.now)) }
+{
+    while let [rest @ .., last] = text
+        && is_space_or_tab(*last)
+    {
+        text = rest;
+    }
+    text
+}
+
+/// The text without spaces and tabs at its ends.
+fn trim_ows(text: &[u8]) -> &[u8]
+    ensures { result.now ≡ trim_ows text.now }
+{
+    trim_end(trim_start(text))
+}
+
+/// The place of the first `;`.
+fn semicolon_at(value: &[u8]) -> Option<usize>
+    ensures value { result ≡ position (λ b. b == semicolon) value.now }
+    ensures within { IfSome result (λ at. at < length value.now) }
+{
+    value.iter().position(|b| *b == b';')
+}
+
+/// The value before any `;`.
+fn media_type(value: &[u8]) -> &[u8]
+    ensures { result.now ≡ media_type value.now }
+{
+    match semicolon_at(value) {
+        Some(at) => trim_ows(&value[..at]),
+        None => trim_ows(value),
+    }
+}
+
+/// One `Content-Type`, of `application/json`.
+pub fn is_json(text: &[u8], spans: &[HeaderSpan]) -> bool
+    requires { All (IsHeaderWithin (length text.now)) spans.now }
+    ensures { result ≡ is_json (map (header_bytes text.now) spans.now) }
+{
+    match find_named(text, spans, b"content-type") {
+        Named::One(value) => eq_ignore_case(media_type(value), b"application/json"),
+        _ => false,
+    }
+}
+
+/// No `Content-Encoding` but `identity`.
+pub fn is_plain(text: &[u8], spans: &[HeaderSpan]) -> bool
+    requires { All (IsHeaderWithin (length text.now)) spans.now }
+    ensures { result ≡ is_plain (map (header_bytes text.now) spans.now) }
+{
+    let mut is_coded = false;
+    for span in spans {
+        is_coded |= eq_ignore_case(span.name.of(text), b"content-encoding")
+            && !eq_ignore_case(span.value.of(text), b"identity");
+    }
+    !is_coded
+}
+
+/// `Expect` says `100-continue`.
+pub fn expects_continue(text: &[u8], spans: &[HeaderSpan]) -> bool
+    requires { All (IsHeaderWithin (length text.now)) spans.now }
+    ensures { result ≡ expects_continue (map (header_bytes text.now) spans.now) }
+{
+    let mut expects = false;
+    for span in spans {
+        expects |= eq_ignore_case(span.name.of(text), b"expect")
+            && eq_ignore_case(span.value.of(text), b"100-continue");
+    }
+    expects
+}
+
+/// The place of the first comma.
+fn comma_at(value: &[u8]) -> Option<usize>
+    ensures value { result ≡ position (λ b. b == comma) value.now }
+    ensures within { IfSome result (λ at. at < length value.now) }
+{
+    value.iter().position(|b| *b == b',')
+}
+
+/// Whether a comma list has this word.
+fn has_word(value: &[u8], word: &[u8]) -> bool
+    ensures { result ≡ has_word word.now value.now }
+{
+    let mut rest = value;
+    let mut found = false;
+    'words: loop {
+        match comma_at(rest) {
+            Some(at) => {
+                found |= eq_ignore_case(trim_ows(&rest[..at]), word);
+                rest = &rest[at + 1..];
+            }
+            None => {
+                found |= eq_ignore_case(trim_ows(rest), word);
+                return found;
+            }
+        }
+    }
+}
+
+/// `Connection` lists `close`.
+pub fn says_close(text: &[u8], spans: &[HeaderSpan]) -> bool
+    requires { All (IsHeaderWithin (length text.now)) spans.now }
+    ensures { result ≡ says_close (map (header_bytes text.now) spans.now) }
+{
+    let mut says = false;
+    for span in spans {
+        says |= eq_ignore_case(span.name.of(text), b"connection")
+            && has_word(span.value.of(text), b"close");
+    }
+    says
+}
+
+/// How the body is framed.
+pub fn framing(text: &[u8], spans: &[HeaderSpan]) -> Option<Framing>
+    requires { All (IsHeaderWithin (length text.now)) spans.now }
+    ensures { result ≡ framing (map (header_bytes text.now) spans.now) }
+{
+    match (
+        find_named(text, spans, b"content-length"),
+        find_named(text, spans, b"transfer-encoding"),
+    ) {
+        (Named::Absent, Named::Absent) => Some(Framing::Length(0)),
+        (Named::One(len), Named::Absent) => body_len(len),
+        (Named::Absent, Named::One(coding)) if eq_ignore_case(coding, b"chunked") => {
+            Some(Framing::Chunked)
+        }
+        _ => None,
+    }
+}

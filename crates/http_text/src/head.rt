@@ -1,0 +1,140 @@
+//! What the head of a request comes to (RFC 9112, sections 2 to 6).
+ghost use Rattle.std.specs.Prelude.{◌≡◌, ℕ, ◌+◌, ◌-◌, ◌<◌, ◌≤◌, List, [], length, map, take, drop, All, IfSome, IfNone, count_by, ◌==◌};
+ghost use Rattle.httparse.specs.Ascii.{line_feed};
+ghost use Rattle.httparse.specs.Grammar.{RequestHead};
+ghost use Rattle.httparse.specs.Spans.{IsHeaderWithin, IsRequestWithin, header_bytes};
+ghost use Rattle.http_text.specs.Lines.{blank_len};
+ghost use Rattle.http_text.specs.Head.{IsHead, IsVerdict, field_lines, verdict_by, refused, routed, posted};
+ghost use Rattle.http_text.specs.Spans.{IsHeadAt};
+
+use crate::fields::{Named, expects_continue, find_named, framing, is_json, is_plain, says_close};
+use crate::lines::blank_len;
+use crate::request::{BODY_LIMIT, FIELD_LIMIT, Framing, Post, Refusal, Verdict};
+use httparse::Status;
+use httparse::spans::{EMPTY_HEADER_SPAN, HeaderSpan, RequestSpans, parse_request};
+
+/// Where the parts of a head are, if the whole text is one.
+fn read_head(text: &[u8], headers: &mut [HeaderSpan]) -> Option<RequestSpans>
+    requires { length headers.old ≡ FIELD_LIMIT }
+    ensures head { IfSome result (λ r. (h : RequestHead) × IsHeadAt text.now headers.new r h) }
+    ensures within { IfSome result (IsRequestWithin text.now headers.new) }
+    ensures none { IfNone result ((h : RequestHead) → ¬ (IsHead text.now h)) }
+{
+    match parse_request(text, headers) {
+        Ok(Status::Complete(head)) if head.len == text.len() => Some(head),
+        _ => None,
+    }
+}
+
+/// How many lines stand between the request line and the end.
+fn field_lines(text: &[u8]) -> usize
+    ensures { result ≡ field_lines text.now }
+{
+    let lines = text[blank_len(text)..]
+        .iter()
+        .filter(|b| **b == b'\n')
+        .count();
+    lines.saturating_sub(2)
+}
+
+/// What the text of a head comes to.
+pub fn judge(text: &[u8]) -> Verdict
+    ensures { IsVerdict text.now result }
+{
+    if field_lines(text) > FIELD_LIMIT {
+        return Verdict::Refused {
+            refusal: Refusal::HeadTooLarge,
+            is_head: false,
+        };
+    }
+    let mut headers = [EMPTY_HEADER_SPAN; FIELD_LIMIT];
+    match read_head(text, &mut headers) {
+        Some(head) => {
+            let fields = &headers[..head.headers];
+            verdict_by(
+                head.method.of(text),
+                head.path.of(text),
+                head.version,
+                text,
+                fields,
+            )
+        }
+        None => Verdict::Refused {
+            refusal: Refusal::BadRequest,
+            is_head: false,
+        },
+    }
+}
+
+/// A refusal.
+fn refused(method: &[u8], refusal: Refusal) -> Verdict
+    ensures { result ≡ refused method.now refusal }
+{
+    Verdict::Refused {
+        refusal,
+        is_head: method == b"HEAD".as_slice(),
+    }
+}
+
+/// What a head's parts come to, by the table.
+fn verdict_by(
+    method: &[u8],
+    target: &[u8],
+    minor: u8,
+    text: &[u8],
+    headers: &[HeaderSpan],
+) -> Verdict
+    requires { All (IsHeaderWithin (length text.now)) headers.now }
+    ensures { result ≡ verdict_by method.now target.now minor (map (header_bytes text.now) headers.now) }
+{
+    if minor != 1 || !matches!(find_named(text, headers, b"host"), Named::One(_)) {
+        return refused(method, Refusal::BadRequest);
+    }
+    match framing(text, headers) {
+        None => refused(method, Refusal::BadRequest),
+        Some(framed) => routed(method, target, text, headers, framed),
+    }
+}
+
+/// What a request whose body is framed comes to, by its target and method.
+fn routed(
+    method: &[u8],
+    target: &[u8],
+    text: &[u8],
+    headers: &[HeaderSpan],
+    framed: Framing,
+) -> Verdict
+    requires { All (IsHeaderWithin (length text.now)) headers.now }
+    ensures { result ≡ routed method.now target.now (map (header_bytes text.now) headers.now) framed }
+{
+    let is_post = method == b"POST".as_slice();
+    let is_close = target == b"/close".as_slice();
+    if is_close && is_post {
+        return Verdict::Close;
+    }
+    if !(is_close || target == b"/v1/traces".as_slice()) {
+        return refused(method, Refusal::NotFound);
+    }
+    if !is_post {
+        return refused(method, Refusal::MethodNotAllowed);
+    }
+    posted(method, text, headers, framed)
+}
+
+/// What a request for traces comes to, by its other fields.
+fn posted(method: &[u8], text: &[u8], headers: &[HeaderSpan], framed: Framing) -> Verdict
+    requires { All (IsHeaderWithin (length text.now)) headers.now }
+    ensures { result ≡ posted method.now (map (header_bytes text.now) headers.now) framed }
+{
+    if !(is_json(text, headers) && is_plain(text, headers)) {
+        return refused(method, Refusal::UnsupportedMediaType);
+    }
+    if matches!(framed, Framing::Length(len) if len > BODY_LIMIT) {
+        return refused(method, Refusal::BodyTooLarge);
+    }
+    Verdict::Post(Post {
+        framing: framed,
+        expects_continue: expects_continue(text, headers),
+        says_close: says_close(text, headers),
+    })
+}

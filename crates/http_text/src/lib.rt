@@ -1,0 +1,18 @@
+//! The parts of an HTTP/1.1 request (RFC 9112): where a head, a chunk line and a trailer end, and what they say.
+//!
+//! `httparse` reads each of them; what is asked of a request beyond its grammar, and in which order, stands in
+//! `specs/Head` and `specs/Fields`. Nothing here reads or writes: `http_lane` does.
+#![tactic(auto)]
+
+mod body;
+mod fields;
+mod head;
+mod lines;
+mod request;
+mod search;
+
+pub use body::{is_trailer, read_size};
+pub use head::judge;
+pub use lines::PART_LIMIT;
+pub use request::{BODY_LIMIT, FIELD_LIMIT, Framing, Post, Refusal, Verdict};
+pub use search::{Cutting, Place, Search, cut_on};

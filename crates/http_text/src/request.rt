@@ -1,0 +1,55 @@
+//! What the head of a request asks for (RFC 9112, sections 2 to 7).
+
+/// A body may have so many bytes.
+pub const BODY_LIMIT: usize = 4_194_304;
+
+/// A head or a trailer may have so many fields.
+pub const FIELD_LIMIT: usize = 64;
+
+/// Why a request is refused. Each refusal closes the connection.
+#[derive(Clone, Copy, Debug, PartialEq, Eq)]
+pub enum Refusal {
+    /// 431: no end of the head within its limit, or too many fields.
+    HeadTooLarge,
+    /// 400: no head of HTTP/1.1, not one `Host`, or no one way to frame the body.
+    BadRequest,
+    /// 404: neither `/v1/traces` nor `/close`.
+    NotFound,
+    /// 405: not `POST`.
+    MethodNotAllowed,
+    /// 415: no `application/json`, or a coding of it.
+    UnsupportedMediaType,
+    /// 413: a body above [`BODY_LIMIT`].
+    BodyTooLarge,
+}
+
+/// How long the body is.
+#[derive(Clone, Copy, Debug, PartialEq, Eq)]
+pub enum Framing {
+    /// So many bytes, by `Content-Length`; 0 where no field says it.
+    Length(usize),
+    /// Chunks, by `Transfer-Encoding`.
+    Chunked,
+}
+
+/// A request whose body is to be read.
+#[derive(Clone, Copy, Debug, PartialEq, Eq)]
+pub struct Post {
+    /// How long the body is.
+    pub framing: Framing,
+    /// It waits for `100 Continue`.
+    pub expects_continue: bool,
+    /// It asks to close the connection.
+    pub says_close: bool,
+}
+
+/// What the head of a request comes to.
+#[derive(Clone, Copy, Debug, PartialEq, Eq)]
+pub enum Verdict {
+    /// It is refused. `is_head`: the answer to `HEAD` has no body.
+    Refused { refusal: Refusal, is_head: bool },
+    /// `POST /close`.
+    Close,
+    /// A body that is to be read.
+    Post(Post),
+}
