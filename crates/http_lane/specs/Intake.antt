@@ -1,8 +1,8 @@
 -- What a request does to a lane, its connection and the counts.
 use Rattle.std.specs.Prelude.{◌≡◌, ℕ, ◌+◌, ◌<◌, Bool, true, false, List, [], ◌∷◌, length, take, Some, None}
 use Rattle.serde_json.specs.Data.{Data}
-use Rattle.otlp_json.specs.Decoding.{IsJson}
-use Rattle.otlp_json.specs.Reading.{request_of}
+use Rattle.otlp_reading.specs.Decoding.{IsJson}
+use Rattle.otlp_reading.specs.Reading.{request_of}
 use Rattle.otlp_flatten.specs.Flat.{records_of}
 use Rattle.otlp_types.specs.declared.request.Request.{Request}
 use Rattle.otlp_types.specs.declared.arrival.Item.{Item}

@@ -2,8 +2,8 @@
 ghost use Rattle.std.specs.Prelude.{◌≡◌, ℕ, ◌+◌, ◌-◌, ◌^◌, ◌<◌, ◌≤◌, Some, None, length, slice_get, IsTrue};
 ghost use Rattle.std.specs.Result.{IsErrOf};
 ghost use Rattle.serde_json.specs.Data.{Data};
-ghost use Rattle.otlp_json.specs.Decoding.{IsJson};
-ghost use Rattle.otlp_json.specs.Reading.{request_of};
+ghost use Rattle.otlp_reading.specs.Decoding.{IsJson};
+ghost use Rattle.otlp_reading.specs.Reading.{request_of};
 ghost use Rattle.otlp_flatten.specs.Flat.{records_of};
 ghost use Rattle.otlp_types.specs.declared.request.Request.{Request};
 ghost use Rattle.lane_seq.specs.Numbers.{arrivals_from};

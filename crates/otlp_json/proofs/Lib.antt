@@ -1,9 +1,5 @@
-pub mod NumberTexts
-pub mod Held
-pub mod Each
-pub mod Levels
 pub mod Fields
-pub mod Rows
+mod Rows
 pub mod Plain
 pub mod NumbersBack
 pub mod Table

@@ -24,10 +24,11 @@ use Rattle.otlp_types.specs.declared.request.ScopeSpans.{ScopeSpans}
 use Rattle.otlp_types.specs.declared.request.ResourceSpans.{ResourceSpans}
 use Rattle.otlp_types.specs.declared.request.Request.{Request}
 use Rattle.span_ids.specs.Id.{id_of, id_text}
-use Rattle.otlp_json.specs.Kinds.{field, text, u32, u64, enum, list_of, message, inner}
-use Rattle.otlp_json.specs.Reading.{discarded, any_value, key_value, attributes, parent_of, valid_ids, ids, status, event, link, span, resource, scope, scope_spans, resource_spans, request}
+use Rattle.otlp_reading.specs.Kinds.{field, text, u32, u64, enum, list_of, message, inner}
+use Rattle.otlp_reading.specs.Reading.{discarded, any_value, key_value, attributes, parent_of, valid_ids, ids, status, event, link, span, resource, scope, scope_spans, resource_spans, request}
 use Rattle.otlp_json.specs.Writing.{fields, text_field, u32_field, u64_field, enum_field, message_field, list_field, attributes_field, pair_fields, trace_field, span_field, parent_field, status_fields, event_fields, link_fields, span_fields, resource_fields, scope_fields, scope_spans_fields, resource_spans_fields, request_fields}
 use Rattle.otlp_json.specs.ReadsBack.{PairReadsBack, ReadsBack, StatusReadsBack, EventReadsBack, LinkReadsBack, TraceReadsBack, IdReadsBack, OptionalIdReadsBack, ParentReadsBack, CountsReadBack, HeadReadsBack, TailReadsBack}
+use Rattle.otlp_reading.proofs.Spans.{SpanFields, span_of}
 use Rattle.otlp_json.proofs.NumbersBack.{u32-back, u64-back, enum-back}
 use Rattle.otlp_json.proofs.Table.{Table, found, IsField, IsTable, field-fields, table-plain, found-depth}
 use Rattle.otlp_json.proofs.ValuesBack.{text_field-present, text-back, message_field-present, message-within, items_field-present, objects-plain, AllRead, Within, list-back, kept-all, none-discarded, pair_again, pairs_field-is}
@@ -343,25 +344,6 @@ span-is s counts head tail = (
     ),
   ),
 )
-
--- what each field reads as
-record SpanFields (s : Span) (ms : Members) : Type 0 where
-  pub ids : ids ms ≡ Some s.ids
-  pub state : text (field (codes "traceState") ms) ≡ Some s.trace_state
-  pub flags : u32 (field (codes "flags") ms) ≡ Some s.flags
-  pub name : text (field (codes "name") ms) ≡ Some s.name
-  pub kind : enum (field (codes "kind") ms) ≡ Some s.kind
-  pub start : u64 (field (codes "startTimeUnixNano") ms) ≡ Some s.start_time_unix_nano
-  pub end : u64 (field (codes "endTimeUnixNano") ms) ≡ Some s.end_time_unix_nano
-  pub all : attributes ms ≡ Some (s.attributes, s.dropped_attributes_count)
-  pub events : list_of (message event) (field (codes "events") ms) ≡ Some s.events
-  pub dropped_events : u32 (field (codes "droppedEventsCount") ms) ≡ Some s.dropped_events_count
-  pub links : list_of (message link) (field (codes "links") ms) ≡ Some s.links
-  pub dropped_links : u32 (field (codes "droppedLinksCount") ms) ≡ Some s.dropped_links_count
-  pub status : inner status (field (codes "status") ms) ≡ Some s.status
-
-span_of : (s : Span) (ms : Members) → SpanFields s ms → span ms ≡ Some s
-span_of s ms f = rw (f.ids, f.state, f.flags, f.name, f.kind, f.start, f.end, f.all, f.events, f.dropped_events, f.links, f.dropped_links, f.status)
 
 span_fields-are : (s : Span) → CountsReadBack s → HeadReadsBack s → TailReadsBack s → depth (object (fields (span_table s))) ≤ 127 → SpanFields s (fields (span_table s))
 span_fields-are s counts head tail h =

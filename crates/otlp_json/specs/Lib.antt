@@ -1,8 +1,3 @@
-pub mod Kinds
-pub mod Reading
-pub mod Gives
-pub mod Zero
-pub mod Decoding
 pub mod Writing
 pub mod SpanParts
 pub mod ReadsBack

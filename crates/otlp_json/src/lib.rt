@@ -8,22 +8,18 @@
 
 ghost use Rattle.std.specs.Prelude.{◌≡◌, ◌≤◌, IfOk, IsErrOf, Some, None};
 ghost use Rattle.serde_json.specs.Data.{Data, depth};
-ghost use Rattle.otlp_json.specs.Reading.{request_of};
-ghost use Rattle.otlp_json.specs.Decoding.{IsJson};
+ghost use Rattle.otlp_reading.specs.Reading.{request_of};
+ghost use Rattle.otlp_reading.specs.Decoding.{IsJson};
 ghost use Rattle.otlp_json.specs.Writing.{data_of, canonical_text};
 
-mod bad;
-mod kinds;
 mod laws;
-mod message;
 mod request;
 mod span;
-mod value;
 mod writing;
 
-pub use bad::Bad;
 pub use laws::levels_suffice;
-use message::Message;
+pub use otlp_reading::Bad;
+use otlp_stream::plain_request;
 use otlp_types::Request;
 use serde_json::Value;
 use std::alloc::{AllocError, Global};
@@ -40,13 +36,9 @@ pub fn decode(alloc: Global, bytes: &[u8]) -> Result<Request, Bad>
     ensures shape { IsErrOf result Bad.Shape
         → (d : Data) × IsJson bytes.now d × (request_of d ≡ None) }
 {
-    match Value::from_slice(alloc, bytes) {
-        Ok(value) => Request::read(alloc, kinds::object(&value)?),
-        Err(e) => if e.is_memory() {
-            Err(Bad::NoMemory)
-        } else {
-            Err(Bad::Json)
-        },
+    match plain_request(alloc, bytes)? {
+        Some(request) => Ok(request),
+        None => otlp_reading::decode(alloc, bytes),
     }
 }
 

@@ -1,164 +1,16 @@
-//! Spans and what they hold.
-ghost use Rattle.std.specs.Prelude.{◌≡◌, ◌+◌, ◌-◌, ◌^◌, min, Some, IfOk, OnOk, option_map};
+//! Spans and what they hold, written.
+ghost use Rattle.std.specs.Prelude.{◌≡◌, IfOk, OnOk, option_map};
 ghost use Rattle.serde_json.specs.View.{view, members_view};
-ghost use Rattle.otlp_json.specs.Gives.{Gives};
-ghost use Rattle.otlp_json.specs.Reading.{attributes, parent_of, valid_ids, ids, status, event, link, span};
+ghost use Rattle.otlp_reading.specs.Reading.{status, event, link, span};
 ghost use Rattle.otlp_json.specs.Writing.{trace_field, span_field, parent_field, status_fields, event_fields, link_fields, span_fields};
 ghost use Rattle.otlp_json.specs.SpanParts.{span_counts, span_head, span_tail};
 ghost use Rattle.otlp_json.specs.ReadsBack.{ReadsBack, StatusReadsBack, EventReadsBack, LinkReadsBack, TraceReadsBack, IdReadsBack, ParentReadsBack, CountsReadBack, HeadReadsBack, TailReadsBack};
 
-use crate::bad::Bad;
-use crate::message::{Message, inner, list_of};
-use crate::value::key_values;
+use crate::writing;
 use crate::writing::{Written, add, list};
-use crate::{kinds, writing};
-use otlp_types::{Event, Ids, KeyValue, Link, List, Span, Status};
+use otlp_types::{Event, Ids, Link, Span, Status};
 use serde_json::{Map, Value};
-use span_ids::{SpanId, TraceId};
 use std::alloc::{AllocError, Global};
-
-/// `serde_json` reads no text that nests deeper.
-const LEVELS: usize = 127;
-
-/// The attributes that are kept, and how many were dropped.
-pub fn attributes(alloc: Global, members: &Map<String, Value>) -> Result<(List<KeyValue>, u32), Bad>
-    ensures { Gives result (attributes (members_view members.now.entries)) }
-{
-    let items = kinds::items(members, "attributes")?;
-    let (kept, discarded) = key_values(alloc, items, LEVELS)?;
-    let counted = kinds::u32(members, "droppedAttributesCount")?;
-    Ok((kept, dropped(counted, discarded)))
-}
-
-/// How many attributes were dropped: at most what the count can hold.
-fn dropped(counted: u32, discarded: usize) -> u32
-    ensures { result ≡ min (counted + discarded) (2 ^ 32 - 1) }
-{
-    match u32::try_from(discarded) {
-        Ok(more) => counted.saturating_add(more),
-        Err(_) => u32::MAX,
-    }
-}
-
-/// The parent that a text names, if it is valid: an empty text, or one of sixteen zeros, is a root's.
-fn parent_of(text: &str) -> Option<Option<SpanId>>
-    ensures { result ≡ parent_of text.now }
-{
-    if text.is_empty() || text == "0000000000000000" {
-        Some(None)
-    } else {
-        match SpanId::parse(text) {
-            Some(id) => Some(Some(id)),
-            None => None,
-        }
-    }
-}
-
-/// The ids, where all of them are valid.
-fn valid_ids(trace_id: &str, span_id: &str, parent_id: &str) -> Option<Ids>
-    ensures { result ≡ valid_ids trace_id.now span_id.now parent_id.now }
-{
-    let trace = TraceId::parse(trace_id)?;
-    let span = SpanId::parse(span_id)?;
-    let parent = parent_of(parent_id)?;
-    Some(Ids {
-        trace,
-        span,
-        parent,
-    })
-}
-
-/// The ids of a span. A request stands with a span whose ids are invalid.
-fn ids(members: &Map<String, Value>) -> Result<Option<Ids>, Bad>
-    ensures { Gives result (ids (members_view members.now.entries)) }
-{
-    let trace_id = kinds::borrowed_text(members, "traceId")?;
-    let span_id = kinds::borrowed_text(members, "spanId")?;
-    let parent_id = kinds::borrowed_text(members, "parentSpanId")?;
-    Ok(valid_ids(trace_id, span_id, parent_id))
-}
-
-impl Message for Status {
-    ghost meaning = { status };
-
-    fn read(alloc: Global, members: &Map<String, Value>) -> Result<Status, Bad> {
-        let message = kinds::text(alloc, members, "message")?;
-        let code = kinds::enumeration(members, "code")?;
-        Ok(Status { message, code })
-    }
-}
-
-impl Message for Event {
-    ghost meaning = { event };
-
-    fn read(alloc: Global, members: &Map<String, Value>) -> Result<Event, Bad> {
-        let time_unix_nano = kinds::u64(members, "timeUnixNano")?;
-        let name = kinds::text(alloc, members, "name")?;
-        let (attributes, dropped_attributes_count) = attributes(alloc, members)?;
-        Ok(Event {
-            time_unix_nano,
-            name,
-            attributes,
-            dropped_attributes_count,
-        })
-    }
-}
-
-impl Message for Link {
-    ghost meaning = { link };
-
-    fn read(alloc: Global, members: &Map<String, Value>) -> Result<Link, Bad> {
-        let trace_id = kinds::text(alloc, members, "traceId")?;
-        let span_id = kinds::text(alloc, members, "spanId")?;
-        let trace_state = kinds::text(alloc, members, "traceState")?;
-        let (attributes, dropped_attributes_count) = attributes(alloc, members)?;
-        let flags = kinds::u32(members, "flags")?;
-        Ok(Link {
-            trace_id,
-            span_id,
-            trace_state,
-            attributes,
-            dropped_attributes_count,
-            flags,
-        })
-    }
-}
-
-impl Message for Span {
-    ghost meaning = { span };
-
-    fn read(alloc: Global, members: &Map<String, Value>) -> Result<Span, Bad> {
-        let ids = ids(members)?;
-        let trace_state = kinds::text(alloc, members, "traceState")?;
-        let flags = kinds::u32(members, "flags")?;
-        let name = kinds::text(alloc, members, "name")?;
-        let kind = kinds::enumeration(members, "kind")?;
-        let start_time_unix_nano = kinds::u64(members, "startTimeUnixNano")?;
-        let end_time_unix_nano = kinds::u64(members, "endTimeUnixNano")?;
-        let (attributes, dropped_attributes_count) = attributes(alloc, members)?;
-        let events = list_of(alloc, members, "events")?;
-        let dropped_events_count = kinds::u32(members, "droppedEventsCount")?;
-        let links = list_of(alloc, members, "links")?;
-        let dropped_links_count = kinds::u32(members, "droppedLinksCount")?;
-        let status = inner(alloc, members, "status")?;
-        Ok(Span {
-            ids,
-            trace_state,
-            flags,
-            name,
-            kind,
-            start_time_unix_nano,
-            end_time_unix_nano,
-            attributes,
-            dropped_attributes_count,
-            events,
-            dropped_events_count,
-            links,
-            dropped_links_count,
-            status,
-        })
-    }
-}
 
 /// The field `traceId`.
 fn trace_id(alloc: Global, ids: &Option<Ids>) -> Result<Option<Value>, AllocError>

@@ -5,8 +5,8 @@ use mathlib.Core.HLevel.{is_prop→PathP}
 use Rattle.std.specs.List.{AllByRecursion}
 use Rattle.std.proofs.lemmas.List.{append-nil, length-append}
 use Rattle.serde_json.specs.Data.{Data}
-use Rattle.otlp_json.specs.Decoding.{IsJson}
-use Rattle.otlp_json.specs.Reading.{request_of}
+use Rattle.otlp_reading.specs.Decoding.{IsJson}
+use Rattle.otlp_reading.specs.Reading.{request_of}
 use Rattle.otlp_types.specs.declared.arrival.Arrival.{Arrival}
 use Rattle.otlp_types.specs.declared.arrival.Item.{Item}
 use Rattle.otlp_types.specs.declared.request.Request.{Request}

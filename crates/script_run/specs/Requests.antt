@@ -1,8 +1,8 @@
 -- What a request gives: a reply, and its spans.
 use Rattle.std.specs.Prelude.{◌≡◌, ℕ, List, ◌++◌, Some, None, codes, decimal}
 use Rattle.serde_json.specs.Data.{Data}
-use Rattle.otlp_json.specs.Decoding.{IsJson}
-use Rattle.otlp_json.specs.Reading.{request_of}
+use Rattle.otlp_reading.specs.Decoding.{IsJson}
+use Rattle.otlp_reading.specs.Reading.{request_of}
 use Rattle.otlp_flatten.specs.Flat.{records_of}
 use Rattle.otlp_types.specs.declared.request.Request.{Request}
 use Rattle.otlp_types.specs.declared.arrival.Arrival.{Arrival}

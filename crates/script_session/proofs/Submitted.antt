@@ -11,8 +11,8 @@ use Rattle.otlp_types.specs.declared.request.Request.{Request}
 use Rattle.otlp_types.specs.declared.arrival.Item.{Item}
 use Rattle.script_run.specs.Connections.{Contacts, connection_of, with_connection, with_spans}
 use Rattle.serde_json.specs.Data.{Data}
-use Rattle.otlp_json.specs.Decoding.{IsJson}
-use Rattle.otlp_json.specs.Reading.{request_of}
+use Rattle.otlp_reading.specs.Decoding.{IsJson}
+use Rattle.otlp_reading.specs.Reading.{request_of}
 use Rattle.lane_seq.specs.declared.reply.Reply.{Reply}
 use Rattle.lane_seq.specs.declared.reply.Reply.TheVariants.{Done, Partial, BadData as BadRequest, Busy}
 use Rattle.lane_seq.specs.declared.reply.BadData.TheVariants.{Json, Shape}

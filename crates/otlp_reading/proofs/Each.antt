@@ -1,0 +1,114 @@
+-- Reading each item, one after another.
+use Rattle.std.proofs.Common.{◌≡◌, ℕ, zero, suc, ◌+◌, ◌<◌, ◌≤◌, List, [], ◌∷◌, ◌++◌, length, drop, get_or, Option, Some, None, option_map, option_and_then, refl, sym, ap, ◌∙◌, append_assoc, append-nil, arith, add-one}
+use Rattle.std.specs.Prelude.{cond, is_none}
+use Rattle.std.proofs.lemmas.List.{drop_all}
+use Rattle.std.proofs.lemmas.List.Elements.{filter_map-append}
+use Rattle.std.proofs.lemmas.List.Sums.{sum_by-append}
+use Rattle.serde_json.specs.Data.{Data, Items, no_items, item}
+use Rattle.serde_json.specs.View.{view, items_view}
+use Rattle.serde_json.specs.declared.value.Value.{Value}
+use Rattle.otlp_reading.specs.Kinds.{each}
+use Rattle.otlp_reading.specs.Reading.{OrDiscarded, kept, discarded, sieved}
+
+-- Of all items those at the front are read as `done`, and the rest are left.
+pub record Reads {A : Type 0} (read : Data → Option A) (all : Items) (done : List A) (rest : Items) : Type 0 where
+  pub so_far : each read all ≡ option_map (λ xs. done ++ xs) (each read rest)
+
+same : {A : Type 0} (o : Option (List A)) → o ≡ option_map (λ xs. [] ++ xs) o
+same None = refl
+same (Some xs) = refl
+
+pub Reads-start : {A : Type 0} (read : Data → Option A) (all : Items) → Reads read all [] all
+Reads-start read all = record { so_far = same (each read all) }
+
+pushed : {A : Type 0} (done : List A) (x : A) (o : Option (List A))
+    → option_map (λ xs. done ++ xs) (option_and_then (λ xs. Some (x ∷ xs)) o) ≡ option_map (λ xs. (done ++ x ∷ []) ++ xs) o
+pushed done x None = refl
+pushed done x (Some xs) = ap Some (sym (append_assoc done (x ∷ []) xs))
+
+pub Reads-step : {A : Type 0} (read : Data → Option A) (all : Items) (done : List A) (d : Data) (rest : Items) (x : A)
+    → Reads read all done (item d rest) → read d ≡ Some x → Reads read all (done ++ x ∷ []) rest
+Reads-step read all done d rest x h e = record { so_far = h.so_far ∙ rw e (pushed done x (each read rest)) }
+
+pub Reads-stop : {A : Type 0} (read : Data → Option A) (all : Items) (done : List A) (d : Data) (rest : Items)
+    → Reads read all done (item d rest) → read d ≡ None → each read all ≡ None
+Reads-stop read all done d rest h e = h.so_far ∙ rw e refl
+
+pub Reads-end : {A : Type 0} (read : Data → Option A) (all : Items) (done : List A)
+    → Reads read all done no_items → each read all ≡ Some done
+Reads-end read all done h = h.so_far ∙ ap Some (append-nil done)
+
+-- the next item of a slice
+pub items_view-drop : (vs : List Value) (i : ℕ) (v : Value) → i < length vs → v ≡ get_or vs i v
+    → items_view (drop i vs) ≡ item (view v) (items_view (drop (i + 1) vs))
+items_view-drop [] i v h e = absurd (omega arith)
+items_view-drop (w ∷ vs) zero v h e = ap (λ x. item (view x) (items_view vs)) (sym e)
+items_view-drop (w ∷ vs) (suc i) v h e = rw add-one (rw add-one at (items_view-drop vs i v (omega arith) e))
+
+pub kept-append : {A : Type 0} (xs ys : List (OrDiscarded A)) → kept (xs ++ ys) ≡ kept xs ++ kept ys
+kept-append xs ys = filter_map-append (λ x. x) xs ys
+
+pub discarded-append : {A : Type 0} (xs ys : List (OrDiscarded A)) → discarded (xs ++ ys) ≡ discarded xs + discarded ys
+discarded-append {A} xs ys = sum_by-append (λ (x : OrDiscarded A). cond (is_none x) 1 0) xs ys
+
+-- Of a list of items those at the front are sieved, and the rest are left.
+pub record Sieves {A : Type 0} (read : Data → Option (OrDiscarded A)) (vs : List Value) (i : ℕ) (some : List A) (none : ℕ) : Type 0 where
+  pub done : List (OrDiscarded A)
+  pub reads : Reads read (items_view vs) done (items_view (drop i vs))
+  pub some_is : some ≡ kept done
+  pub none_is : none ≡ discarded done
+  pub at_most : none ≤ i
+
+pub Sieves-start : {A : Type 0} (read : Data → Option (OrDiscarded A)) (vs : List Value) → Sieves read vs 0 [] 0
+Sieves-start read vs = record { done = []; reads = Reads-start read (items_view vs); some_is = refl; none_is = refl; at_most = omega arith }
+
+pub Sieves-kept : {A : Type 0} (read : Data → Option (OrDiscarded A)) (vs : List Value) (i : ℕ) (some : List A) (none : ℕ) (v : Value) (x : A)
+    → Sieves read vs i some none → i < length vs → v ≡ get_or vs i v → read (view v) ≡ Some (Some x) → Sieves read vs (i + 1) (some ++ x ∷ []) none
+Sieves-kept read vs i some none v x s h e r = record {
+  done = s.done ++ Some x ∷ [];
+  reads = Reads-step read (items_view vs) s.done (view v) (items_view (drop (i + 1) vs)) (Some x) (rw (items_view-drop vs i v h e) at s.reads) r;
+  some_is = ap (λ xs. xs ++ x ∷ []) s.some_is ∙ sym (kept-append s.done (Some x ∷ []));
+  none_is = let d = discarded-append s.done (Some x ∷ []) in let n = s.none_is in omega arith;
+  at_most = let n = s.at_most in omega arith;
+}
+
+pub Sieves-discarded : {A : Type 0} (read : Data → Option (OrDiscarded A)) (vs : List Value) (i : ℕ) (some : List A) (none : ℕ) (v : Value)
+    → Sieves read vs i some none → i < length vs → v ≡ get_or vs i v → read (view v) ≡ Some None → Sieves read vs (i + 1) some (none + 1)
+Sieves-discarded read vs i some none v s h e r = record {
+  done = s.done ++ None ∷ [];
+  reads = Reads-step read (items_view vs) s.done (view v) (items_view (drop (i + 1) vs)) None (rw (items_view-drop vs i v h e) at s.reads) r;
+  some_is = s.some_is ∙ sym (kept-append s.done (None ∷ []) ∙ append-nil (kept s.done));
+  none_is = let d = discarded-append s.done (None ∷ []) in let n = s.none_is in omega arith;
+  at_most = let n = s.at_most in omega arith;
+}
+
+pub Sieves-stop : {A : Type 0} (read : Data → Option (OrDiscarded A)) (vs : List Value) (i : ℕ) (some : List A) (none : ℕ) (v : Value)
+    → Sieves read vs i some none → i < length vs → v ≡ get_or vs i v → read (view v) ≡ None → each read (items_view vs) ≡ None
+Sieves-stop read vs i some none v s h e r =
+    Reads-stop read (items_view vs) s.done (view v) (items_view (drop (i + 1) vs)) (rw (items_view-drop vs i v h e) at s.reads) r
+
+pub Sieves-end : {A : Type 0} (read : Data → Option (OrDiscarded A)) (vs : List Value) (i : ℕ) (some : List A) (none : ℕ)
+    → Sieves read vs i some none → length vs ≤ i → option_map sieved (each read (items_view vs)) ≡ Some (some, none)
+Sieves-end read vs i some none s h =
+    rw (Reads-end read (items_view vs) s.done (rw (drop_all i vs h) at s.reads), s.some_is, s.none_is)
+
+-- Of a list of items those at the front are read, and the rest are left.
+pub record ReadsTo {A : Type 0} (read : Data → Option A) (vs : List Value) (i : ℕ) (done : List A) : Type 0 where
+  pub reads : Reads read (items_view vs) done (items_view (drop i vs))
+
+pub ReadsTo-start : {A : Type 0} (read : Data → Option A) (vs : List Value) → ReadsTo read vs 0 []
+ReadsTo-start read vs = record { reads = Reads-start read (items_view vs) }
+
+pub ReadsTo-step : {A : Type 0} (read : Data → Option A) (vs : List Value) (i : ℕ) (done : List A) (v : Value) (x : A)
+    → ReadsTo read vs i done → i < length vs → v ≡ get_or vs i v → read (view v) ≡ Some x → ReadsTo read vs (i + 1) (done ++ x ∷ [])
+ReadsTo-step read vs i done v x s h e r =
+    record { reads = Reads-step read (items_view vs) done (view v) (items_view (drop (i + 1) vs)) x (rw (items_view-drop vs i v h e) at s.reads) r }
+
+pub ReadsTo-stop : {A : Type 0} (read : Data → Option A) (vs : List Value) (i : ℕ) (done : List A) (v : Value)
+    → ReadsTo read vs i done → i < length vs → v ≡ get_or vs i v → read (view v) ≡ None → each read (items_view vs) ≡ None
+ReadsTo-stop read vs i done v s h e r =
+    Reads-stop read (items_view vs) done (view v) (items_view (drop (i + 1) vs)) (rw (items_view-drop vs i v h e) at s.reads) r
+
+pub ReadsTo-end : {A : Type 0} (read : Data → Option A) (vs : List Value) (i : ℕ) (done : List A)
+    → ReadsTo read vs i done → length vs ≤ i → each read (items_view vs) ≡ Some done
+ReadsTo-end read vs i done s h = Reads-end read (items_view vs) done (rw (drop_all i vs h) at s.reads)

@@ -1,0 +1,47 @@
+//! What the JSON encoding of OTLP 1.x says a text reads as, and reading with care: over the tree that `serde_json` makes of it.
+//!
+//! The definition stands in `specs/`: `Kinds` (fields and their kinds), `Reading` (the messages), `Decoding` (the value that bytes write).
+//! [`decode`] answers it in full; `otlp_json` puts a faster way before it.
+#![tactic(auto)]
+
+ghost use Rattle.std.specs.Prelude.{◌≡◌, IfOk, IsErrOf, Some, None};
+ghost use Rattle.serde_json.specs.Data.{Data};
+ghost use Rattle.otlp_reading.specs.Reading.{request_of};
+ghost use Rattle.otlp_reading.specs.Decoding.{IsJson};
+
+mod bad;
+mod kinds;
+mod message;
+mod request;
+mod span;
+mod value;
+
+pub use bad::Bad;
+pub use kinds::{first_byte, i64_text, u64_text};
+use message::Message;
+use otlp_types::Request;
+use serde_json::Value;
+pub use span::{dropped, parent_of};
+use std::alloc::Global;
+pub use value::ValueKey;
+
+/// The request that the bytes write: JSON in UTF-8, nesting at most 127 deep, read as the JSON encoding of OTLP 1.x
+/// says.
+///
+/// `Json` where the bytes are no such text, `Shape` where some field of the value has another shape than its kind.
+pub fn decode(alloc: Global, bytes: &[u8]) -> Result<Request, Bad>
+    ensures ok { IfOk result
+        (λ request. (d : Data) × IsJson bytes.now d × (request_of d ≡ Some request)) }
+    ensures json { IsErrOf result Bad.Json → (d : Data) → IsJson bytes.now d → ⊥ }
+    ensures shape { IsErrOf result Bad.Shape
+        → (d : Data) × IsJson bytes.now d × (request_of d ≡ None) }
+{
+    match Value::from_slice(alloc, bytes) {
+        Ok(value) => Request::read(alloc, kinds::object(&value)?),
+        Err(e) => if e.is_memory() {
+            Err(Bad::NoMemory)
+        } else {
+            Err(Bad::Json)
+        },
+    }
+}

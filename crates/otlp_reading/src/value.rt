@@ -1,0 +1,214 @@
+//! Values of attributes. `None` stands for a value that holds a double.
+ghost use Rattle.std.specs.Prelude.{◌≡◌, ◌+◌, ℕ, List, Some, None, IfOk, OnErr, option_map, option_and_then};
+ghost use Rattle.serde_json.specs.Data.{Data};
+ghost use Rattle.serde_json.specs.View.{view, items_view, members_view};
+ghost use Rattle.otlp_types.specs.declared.value.AnyValue.{AnyValue, Array, KvList};
+ghost use Rattle.otlp_types.specs.declared.value.KeyValue.{KeyValue};
+ghost use Rattle.otlp_reading.specs.Kinds.{field, unless_null, each, list_of, message, i64_value};
+ghost use Rattle.otlp_reading.specs.Gives.{Gives, GivesAs};
+ghost use Rattle.otlp_reading.specs.Reading.{value_member, value_members, at_most_one, sieved, key_value, values, pairs, value_by, value_in, value_to};
+
+use crate::bad::Bad;
+use crate::kinds;
+use otlp_types::{AnyValue, KeyValue, List};
+use serde_json::{Map, Value};
+use std::alloc::Global;
+
+/// A member of an `AnyValue` that says which kind of value it is.
+#[derive(Clone, Copy, Debug, PartialEq, Eq)]
+pub enum ValueKey {
+    Str,
+    Bool,
+    Int,
+    Double,
+    Array,
+    KvList,
+    Bytes,
+}
+
+impl ValueKey {
+    ghost use Rattle.otlp_reading.specs.Reading.{value_key};
+
+    /// The key of this name.
+    pub fn named(name: &str) -> Option<ValueKey>
+        ensures { result ≡ value_key name.now }
+    {
+        if name == "stringValue" {
+            Some(ValueKey::Str)
+        } else if name == "boolValue" {
+            Some(ValueKey::Bool)
+        } else if name == "intValue" {
+            Some(ValueKey::Int)
+        } else if name == "doubleValue" {
+            Some(ValueKey::Double)
+        } else if name == "arrayValue" {
+            Some(ValueKey::Array)
+        } else if name == "kvlistValue" {
+            Some(ValueKey::KvList)
+        } else if name == "bytesValue" {
+            Some(ValueKey::Bytes)
+        } else {
+            None
+        }
+    }
+}
+
+/// What the member holds, if it is a value key and isn't null.
+fn value_member<'v>(name: &str, value: &'v Value) -> Option<(ValueKey, &'v Value)>
+    ensures { option_map (λ h. (h.0, view h.1.now)) result
+        ≡ value_member name.now (view value.now) }
+{
+    match ValueKey::named(name) {
+        Some(key) => match kinds::unless_null(value) {
+            Some(value) => Some((key, value)),
+            None => None,
+        },
+        None => None,
+    }
+}
+
+/// The one value key that isn't null, and what it holds.
+fn only_value_member(members: &Map<String, Value>) -> Result<Option<(ValueKey, &Value)>, Bad>
+    ensures { GivesAs (option_map (λ h. (h.0, view h.1.now))) result
+        (at_most_one (value_members (members_view members.now.entries))) }
+{
+    let mut found = None;
+    for (name, value) in members.iter() {
+        if let Some(here) = value_member(name.as_str(), value) {
+            if found.is_some() {
+                return Err(Bad::Shape);
+            }
+            found = Some(here);
+        }
+    }
+    Ok(found)
+}
+
+/// A value that nests at most so many levels deep.
+#[cycle(value)]
+fn value_to(alloc: Global, value: &Value, levels: usize) -> Result<Option<AnyValue>, Bad>
+    ensures { Gives result (value_to levels (view value.now)) }
+{
+    if levels == 0 {
+        return Err(Bad::Shape);
+    }
+    value_in(alloc, value, levels - 1)
+}
+
+/// A value whose inner values nest at most so many levels deep.
+#[cycle(value)]
+fn value_in(alloc: Global, value: &Value, levels: usize) -> Result<Option<AnyValue>, Bad>
+    ensures { Gives result (message (value_in (value_to levels)) (view value.now)) }
+{
+    match only_value_member(kinds::object(value)?)? {
+        Some((key, inner)) => value_by(alloc, key, inner, levels),
+        None => Ok(Some(AnyValue::Empty)),
+    }
+}
+
+/// What is held under a value key.
+#[cycle(value)]
+fn value_by(
+    alloc: Global,
+    key: ValueKey,
+    value: &Value,
+    levels: usize,
+) -> Result<Option<AnyValue>, Bad>
+    ensures { Gives result (value_by (value_to levels) key (view value.now)) }
+{
+    match key {
+        ValueKey::Str => Ok(Some(AnyValue::Str(kinds::text_of(alloc, value)?))),
+        ValueKey::Bool => Ok(Some(AnyValue::Bool(kinds::bool_of(value)?))),
+        ValueKey::Int => Ok(Some(AnyValue::Int(kinds::i64_of(value)?))),
+        ValueKey::Double => Ok(None),
+        ValueKey::Array => array(alloc, value, levels),
+        ValueKey::KvList => kv_list(alloc, value, levels),
+        ValueKey::Bytes => Ok(Some(AnyValue::Bytes(kinds::text_of(alloc, value)?))),
+    }
+}
+
+/// An `ArrayValue`.
+#[cycle(value)]
+fn array(alloc: Global, value: &Value, levels: usize) -> Result<Option<AnyValue>, Bad>
+    ensures { Gives result
+        (option_map (option_map Array) (message (values (value_to levels)) (view value.now))) }
+{
+    let items = kinds::items(kinds::object(value)?, "values")?;
+    let (kept, discarded) = values(alloc, items, levels)?;
+    if discarded == 0 {
+        Ok(Some(AnyValue::Array(kept)))
+    } else {
+        Ok(None)
+    }
+}
+
+/// A `KeyValueList`.
+#[cycle(value)]
+fn kv_list(alloc: Global, value: &Value, levels: usize) -> Result<Option<AnyValue>, Bad>
+    ensures { Gives result
+        (option_map (option_map KvList) (message (pairs (value_to levels)) (view value.now))) }
+{
+    let items = kinds::items(kinds::object(value)?, "values")?;
+    let (kept, discarded) = key_values(alloc, items, levels)?;
+    if discarded == 0 {
+        Ok(Some(AnyValue::KvList(kept)))
+    } else {
+        Ok(None)
+    }
+}
+
+/// The values that are kept, and how many are discarded.
+#[cycle(value)]
+fn values(alloc: Global, items: &[Value], levels: usize) -> Result<(List<AnyValue>, usize), Bad>
+    ensures { Gives result (option_map sieved (each (value_to levels) (items_view items.now))) }
+{
+    let mut kept = List::from_vec(Vec::with_capacity(alloc, items.len())?);
+    let mut discarded = 0;
+    for item in items {
+        match value_to(alloc, item, levels)? {
+            Some(value) => kept.push(value)?,
+            None => discarded += 1,
+        }
+    }
+    Ok((kept, discarded))
+}
+
+/// The pairs that are kept, and how many are discarded.
+#[cycle(value)]
+pub fn key_values(
+    alloc: Global,
+    items: &[Value],
+    levels: usize,
+) -> Result<(List<KeyValue>, usize), Bad>
+    ensures { Gives result
+        (option_map sieved (each (message (key_value (value_to levels))) (items_view items.now))) }
+{
+    let mut kept = List::from_vec(Vec::with_capacity(alloc, items.len())?);
+    let mut discarded = 0;
+    for item in items {
+        match key_value(alloc, item, levels)? {
+            Some(pair) => kept.push(pair)?,
+            None => discarded += 1,
+        }
+    }
+    Ok((kept, discarded))
+}
+
+/// A pair.
+#[cycle(value)]
+fn key_value(alloc: Global, item: &Value, levels: usize) -> Result<Option<KeyValue>, Bad>
+    ensures { Gives result (message (key_value (value_to levels)) (view item.now)) }
+{
+    let members = kinds::object(item)?;
+    let key = kinds::text(alloc, members, "key")?;
+    match kinds::field(members, "value") {
+        Some(inner) => match value_to(alloc, inner, levels)? {
+            Some(value) => Ok(Some(KeyValue { key, value })),
+            None => Ok(None),
+        },
+        None => Ok(Some(KeyValue {
+            key,
+            value: AnyValue::Empty,
+        })),
+    }
+}

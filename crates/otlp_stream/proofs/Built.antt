@@ -1,0 +1,51 @@
+-- What is built of the fields of a span.
+use Rattle.std.proofs.Common.{◌≡◌, ℕ, ◌+◌, ◌-◌, ◌^◌, min, List, Option, Some, None, option_map, option_and_then, codes, refl, sym, ap, ◌∙◌}
+use Rattle.serde_json.specs.Data.{Data, Members}
+use Rattle.span_ids.specs.Id.{id_of}
+use Rattle.otlp_types.specs.declared.span.Ids.{Ids}
+use Rattle.otlp_types.specs.declared.value.KeyValue.{KeyValue}
+use Rattle.otlp_stream.specs.declared.values.Kept.{Kept}
+use Rattle.otlp_reading.specs.Kinds.{field, text, u32, list_of, message}
+use Rattle.otlp_reading.specs.Reading.{OrDiscarded, kept, discarded, sieved, any_value, key_value, attributes, parent_of, valid_ids, ids}
+use Rattle.otlp_stream.specs.SoFar.{kept_attributes, trace_field, id_field, parent_field}
+
+abbrev unsome : {A : Type 0} → A → Option A → A
+unsome d None = d
+unsome d (Some a) = a
+
+mapped : {A B : Type 0} (f : A → B) (o : Option A) (b : B) → option_map f o ≡ Some b → (a : A) × (o ≡ Some a) × (f a ≡ b)
+mapped f None b e = absurd (cc)
+mapped f (Some a) b e = (a, refl, ap (λ o. unsome b o) e)
+
+abbrev texts : Option (List ℕ) → Option (List ℕ) → Option (List ℕ) → Option (Option Ids)
+texts t s p = option_and_then (λ x. option_and_then (λ y. option_and_then (λ z. Some (valid_ids x y z)) p) s) t
+
+abbrev pub all_valid : Option (List ℕ) → Option (List ℕ) → Option (Option (List ℕ)) → Option Ids
+all_valid t s p = option_and_then (λ x. option_and_then (λ y. option_and_then (λ z. Some (record { trace = x; span = y; parent = z })) p) s) t
+
+pub ids_built : (ms : Members) (o0 o1 o2 : Option Data) (tr : Option (List ℕ)) (id : Option (List ℕ)) (pa : Option (Option (List ℕ))) (r : Option Ids)
+    → field (codes "traceId") ms ≡ o0 → field (codes "spanId") ms ≡ o1 → field (codes "parentSpanId") ms ≡ o2
+    → trace_field o0 ≡ Some tr → id_field o1 ≡ Some id → parent_field o2 ≡ Some pa → r ≡ all_valid tr id pa → ids ms ≡ Some r
+ids_built ms o0 o1 o2 tr id pa r f0 f1 f2 e0 e1 e2 is =
+    let a = mapped (id_of 16) (text o0) tr e0 in
+    let b = mapped (id_of 8) (text o1) id e1 in
+    let c = mapped parent_of (text o2) pa e2 in
+    ap (λ t. texts t (text (field (codes "spanId") ms)) (text (field (codes "parentSpanId") ms))) (ap text f0 ∙ a.1)
+    ∙ ap (λ t. texts (Some a.0) t (text (field (codes "parentSpanId") ms))) (ap text f1 ∙ b.1)
+    ∙ ap (λ t. texts (Some a.0) (Some b.0) t) (ap text f2 ∙ c.1)
+    ∙ ap (λ u. Some (all_valid u (id_of 8 b.0) (parent_of c.0))) a.2 ∙ ap (λ u. Some (all_valid tr u (parent_of c.0))) b.2 ∙ ap (λ u. Some (all_valid tr id u)) c.2 ∙ ap Some (sym is)
+
+abbrev counted_with : Option (List (OrDiscarded KeyValue)) → Option ℕ → Option (List KeyValue × ℕ)
+counted_with all d = option_and_then (λ a. option_and_then (λ n. Some (kept a, min (n + discarded a) (2 ^ 32 - 1))) d) all
+
+pub attributes_built : (ms : Members) (o0 o1 : Option Data) (k : Kept) (n r : ℕ) → field (codes "attributes") ms ≡ o0 → field (codes "droppedAttributesCount") ms ≡ o1
+    → kept_attributes o0 ≡ Some k → u32 o1 ≡ Some n → r ≡ min (n + k.discarded) (2 ^ 32 - 1) → attributes ms ≡ Some (k.kept, r)
+attributes_built ms o0 o1 k n r f0 f1 e0 e1 is =
+    let read = message (key_value any_value) in
+    let a = mapped (λ p. record { kept = p.0; discarded = p.1 }) (option_map sieved (list_of read o0)) k e0 in
+    let b = mapped sieved (list_of read o0) a.0 a.1 in
+    let some : kept b.0 ≡ k.kept = ap (λ p. p.0) b.2 ∙ ap (λ x. x.kept) a.2 in
+    let none : discarded b.0 ≡ k.discarded = ap (λ p. p.1) b.2 ∙ ap (λ x. x.discarded) a.2 in
+    ap (λ all. counted_with all (u32 (field (codes "droppedAttributesCount") ms))) (ap (list_of read) f0 ∙ b.1)
+    ∙ ap (counted_with (Some b.0)) (ap u32 f1 ∙ e1)
+    ∙ ap (λ x. Some (x, min (n + discarded b.0) (2 ^ 32 - 1))) some ∙ ap (λ x. Some (k.kept, min (n + x) (2 ^ 32 - 1))) none ∙ ap (λ x. Some (k.kept, x)) (sym is)

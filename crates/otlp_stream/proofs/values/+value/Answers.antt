@@ -1,0 +1,131 @@
+use Rattle.std.proofs.Common.{◌≡◌, ◌-◌, [], ◌∷◌, ◌++◌, Some, None, refl, ap, ◌∙◌, arith, rules, w64, subst, option_map}
+use mir.Val.{to_z, of_z}
+use Rattle.json.specs.Json.{after_end_array}
+use Rattle.serde_json.specs.Find.{as_str, as_bool}
+use Rattle.otlp_types.specs.declared.value.AnyValue.{Str, Bool as Truth, Int, Array, KvList, Bytes}
+use Rattle.otlp_reading.specs.Kinds.{message, i64_value}
+use Rattle.otlp_reading.specs.Reading.{value_to, key_value}
+use Rattle.otlp_stream.specs.Taking.{TakesAs, held}
+use Rattle.otlp_stream.proofs.Streaming.{WithinItems-start, WithinItems-item}
+use Rattle.otlp_stream.proofs.Sieving.{Sieved-start, Sieved-kept, Sieved-discarded, sieved_array, all_none, all_some, all_not, held_map, held_any, value_empty, value_one, pair_key, pair_both}
+use Rattle.otlp_stream.proofs.values.+value.Goals as goal
+use Rattle.otlp_stream.proofs.values.+value.Goals.{all_values-in-Some+in_ok-push-in-Some, all_values-in-None+else-discarded, key_values-in-Some+in_ok-push-in-Some, key_values-in-None+else-discarded}
+
+pub all_values-items-init : goal.all_values-items-init
+all_values-items-init t c = ([], WithinItems-start (c.args.depth - 1) c.next.new.self, Sieved-start (value_to c.args.levels) c.new-kept.result c.new-kept.ensures)
+
+pub all_values-returns-then-take_end_array : goal.all_values-returns-then-take_end_array
+all_values-returns-then-take_end_array t c =
+    let l = c.items in
+    let w = l.invariant in
+    sieved_array (value_to c.args.levels) l.kept l.discarded c.args.depth c.args.reader.now c.next.new.self l.reader c.take_end_array.new.self w.0 c.if-depth-eq0.false
+    (rw c.in-Some-BeginArray.field-0-is at c.in-Some-BeginArray.ensures.value) w.1 (grind arith) w.2
+
+pub all_values-items-preserved : goal.all_values-items-preserved
+all_values-items-preserved t c =
+    let l = c.items in
+    let w = l.invariant in
+    let going : (after_end_array l.reader ≡ None) × (c.take_end_array.new.self ≡ l.reader) = grind arith in
+    let m = c.in_ok-value.ensures in
+    let more = WithinItems-item (c.args.depth - 1) c.next.new.self l.reader w.0 c.value_to.new.reader m.found w.1 going.0 (rw (← going.1) m.takes) in
+    elim c.match-branch-2.branch [
+      | all_values-in-Some+in_ok-push-in-Some b ↦
+          (w.0 ++ m.found ∷ [], more, rw (b.kept-is, b.in_ok-push-in-Some.ensures.ok, b.discarded-is) (Sieved-kept (value_to c.args.levels) w.0 l.kept l.discarded m.found b.in-Some.value w.2 (m.is ∙ ap Some b.in-Some.is)))
+      | all_values-in-None+else-discarded b ↦
+          (w.0 ++ m.found ∷ [], more, rw (b.kept-is, b.discarded-is) (Sieved-discarded (value_to c.args.levels) w.0 l.kept l.discarded m.found w.2 (m.is ∙ ap Some b.in-None.is)))
+    ]
+
+pub key_values-items-init : goal.key_values-items-init
+key_values-items-init t c = ([], WithinItems-start (c.args.depth - 1) c.next.new.self, Sieved-start (message (key_value (value_to c.args.levels))) c.new-kept.result c.new-kept.ensures)
+
+pub key_values-returns-then-take_end_array : goal.key_values-returns-then-take_end_array
+key_values-returns-then-take_end_array t c =
+    let l = c.items in
+    let w = l.invariant in
+    sieved_array (message (key_value (value_to c.args.levels))) l.kept l.discarded c.args.depth c.args.reader.now c.next.new.self l.reader c.take_end_array.new.self w.0 c.if-depth-eq0.false
+    (rw c.in-Some-BeginArray.field-0-is at c.in-Some-BeginArray.ensures.value) w.1 (grind arith) w.2
+
+pub key_values-items-preserved : goal.key_values-items-preserved
+key_values-items-preserved t c =
+    let l = c.items in
+    let w = l.invariant in
+    let going : (after_end_array l.reader ≡ None) × (c.take_end_array.new.self ≡ l.reader) = grind arith in
+    let m = c.in_ok-pair.ensures in
+    let more = WithinItems-item (c.args.depth - 1) c.next.new.self l.reader w.0 c.pair.new.reader m.found w.1 going.0 (rw (← going.1) m.takes) in
+    elim c.match-branch-2.branch [
+      | key_values-in-Some+in_ok-push-in-Some b ↦
+          (w.0 ++ m.found ∷ [], more, rw (b.kept-is, b.in_ok-push-in-Some.ensures.ok, b.discarded-is) (Sieved-kept (message (key_value (value_to c.args.levels))) w.0 l.kept l.discarded m.found b.in-Some.pair w.2 (m.is ∙ ap Some b.in-Some.is)))
+      | key_values-in-None+else-discarded b ↦
+          (w.0 ++ m.found ∷ [], more, rw (b.kept-is, b.discarded-is) (Sieved-discarded (message (key_value (value_to c.args.levels))) w.0 l.kept l.discarded m.found w.2 (m.is ∙ ap Some b.in-None.is)))
+    ]
+
+pub array-returns-then-not-branch : goal.array-returns-then-not-branch
+array-returns-then-not-branch t c =
+    all_none Array (value_to c.args.levels) c.args.depth _ _ _ c.if-depth-eq0.false (rw c.in-Some-BeginObject.field-0-is at c.in-Some-BeginObject.ensures.value) c.new.result c.new.ensures (grind arith)
+
+pub array-returns-then-discarded-eq0 : goal.array-returns-then-discarded-eq0
+array-returns-then-discarded-eq0 t c =
+    all_some Array (value_to c.args.levels) c.args.depth _ _ _ c.if-depth-eq0.false (rw c.in-Some-BeginObject.field-0-is at c.in-Some-BeginObject.ensures.value) _ _ c.in_ok-kept.kept c.in_ok-kept.discarded (grind arith) c.in_ok-kept.ensures c.in_ok-end_object.ensures c.if-discarded-eq0.true
+
+pub array-returns-else-discarded-eq0 : goal.array-returns-else-discarded-eq0
+array-returns-else-discarded-eq0 t c =
+    all_not Array (value_to c.args.levels) c.args.depth _ _ _ c.if-depth-eq0.false (rw c.in-Some-BeginObject.field-0-is at c.in-Some-BeginObject.ensures.value) _ _ c.in_ok-kept.kept c.in_ok-kept.discarded (grind arith) c.in_ok-kept.ensures c.in_ok-end_object.ensures c.if-discarded-eq0.false
+
+pub kv_list-returns-then-not-branch : goal.kv_list-returns-then-not-branch
+kv_list-returns-then-not-branch t c =
+    all_none KvList (message (key_value (value_to c.args.levels))) c.args.depth _ _ _ c.if-depth-eq0.false (rw c.in-Some-BeginObject.field-0-is at c.in-Some-BeginObject.ensures.value) c.new.result c.new.ensures (grind arith)
+
+pub kv_list-returns-then-discarded-eq0 : goal.kv_list-returns-then-discarded-eq0
+kv_list-returns-then-discarded-eq0 t c =
+    all_some KvList (message (key_value (value_to c.args.levels))) c.args.depth _ _ _ c.if-depth-eq0.false (rw c.in-Some-BeginObject.field-0-is at c.in-Some-BeginObject.ensures.value) _ _ c.in_ok-kept.kept c.in_ok-kept.discarded (grind arith) c.in_ok-kept.ensures c.in_ok-end_object.ensures c.if-discarded-eq0.true
+
+pub kv_list-returns-else-discarded-eq0 : goal.kv_list-returns-else-discarded-eq0
+kv_list-returns-else-discarded-eq0 t c =
+    all_not KvList (message (key_value (value_to c.args.levels))) c.args.depth _ _ _ c.if-depth-eq0.false (rw c.in-Some-BeginObject.field-0-is at c.in-Some-BeginObject.ensures.value) _ _ c.in_ok-kept.kept c.in_ok-kept.discarded (grind arith) c.in_ok-kept.ensures c.in_ok-end_object.ensures c.if-discarded-eq0.false
+
+pub value_by-returns-in_ok-held_text-in-Str : goal.value_by-returns-in_ok-held_text-in-Str
+value_by-returns-in_ok-held_text-in-Str t c =
+    rw c.in-Str.is (held_map as_str (λ s. Some (Str s)) c.args.depth _ _ _ (c.in_ok-held_text-in-Str.ensures c.args.depth))
+
+pub value_by-returns-in_ok-held_bool-in-Bool : goal.value_by-returns-in_ok-held_bool-in-Bool
+value_by-returns-in_ok-held_bool-in-Bool t c =
+    rw c.in-Bool.is (held_map as_bool (λ b. Some (Truth b)) c.args.depth _ _ _ (c.in_ok-held_bool-in-Bool.ensures c.args.depth))
+
+pub value_by-returns-in_ok-held_text-in-Bytes : goal.value_by-returns-in_ok-held_text-in-Bytes
+value_by-returns-in_ok-held_text-in-Bytes t c =
+    rw c.in-Bytes.is (held_map as_str (λ s. Some (Bytes s)) c.args.depth _ _ _ (c.in_ok-held_text-in-Bytes.ensures c.args.depth))
+
+pub value_by-returns-in_ok-held_double-in-Double : goal.value_by-returns-in_ok-held_double-in-Double
+value_by-returns-in_ok-held_double-in-Double t c =
+    let d = c.in_ok-held_double-in-Double.ensures c.args.depth in
+    rw c.in-Double.is (held_any None c.args.depth _ _ d.0 d.1 d.2)
+
+pub value_to-returns-in_default-2 : goal.value_to-returns-in_default-2
+value_to-returns-in_default-2 t c =
+    value_empty c.args.levels c.if-levels-eq0.false c.args.depth _ _ _ c.if-depth-eq0.false (rw c.in-Some-BeginObject.field-0-is at c.in-Some-BeginObject.ensures.value) (grind arith)
+
+pub value_to-returns : goal.value_to-returns
+value_to-returns t c =
+    value_one c.args.levels c.if-levels-eq0.false c.args.depth _ _ _ c.if-depth-eq0.false (rw c.in-Some-BeginObject.field-0-is at c.in-Some-BeginObject.ensures.value) c.in-Some-named.key c.in-Some.name.now _ _ _
+    c.in-Some-named.ensures (rw c.in-Some.is at c.in_ok-name.ensures.value) c.in_ok-value.ensures c.in_ok-end_object.ensures
+
+pub pair-returns-then-not-branch-2 : goal.pair-returns-then-not-branch-2
+pair-returns-then-not-branch-2 t c =
+    pair_key c.args.levels c.args.depth _ _ _ c.if-depth-eq0.false (rw c.in-Some-BeginObject.field-0-is at c.in-Some-BeginObject.ensures.value) _ _ _ (grind arith) (c.in_ok-key.ensures (c.args.depth - 1)) (grind arith)
+
+pub pair-returns-in-Some : goal.pair-returns-in-Some
+pair-returns-in-Some t c =
+    pair_both c.args.levels c.args.depth _ _ _ c.if-depth-eq0.false (rw c.in-Some-BeginObject.field-0-is at c.in-Some-BeginObject.ensures.value) _ _ _ _ c.in_ok-key.key c.in_ok-value.value _ (grind arith) (c.in_ok-key.ensures (c.args.depth - 1)) (grind arith)
+    c.in_ok-value.ensures c.in_ok-end_object.ensures (rw c.in-Some.is refl)
+
+pub pair-returns-in-None : goal.pair-returns-in-None
+pair-returns-in-None t c =
+    pair_both c.args.levels c.args.depth _ _ _ c.if-depth-eq0.false (rw c.in-Some-BeginObject.field-0-is at c.in-Some-BeginObject.ensures.value) _ _ _ _ c.in_ok-key.key c.in_ok-value.value _ (grind arith) (c.in_ok-key.ensures (c.args.depth - 1)) (grind arith)
+    c.in_ok-value.ensures c.in_ok-end_object.ensures (rw c.in-None.is refl)
+
+pub value_by-returns-in_ok-held_i64-in-Int : goal.value_by-returns-in_ok-held_i64-in-Int
+value_by-returns-in_ok-held_i64-in-Int t c =
+    let n = c.in_ok-held_i64-in-Int.field-0 in
+    let z : n ≡ to_z w64 (of_z w64 n) = search rules in
+    rw c.in-Int.is (subst (λ m. TakesAs (held (λ d. option_map (λ k. Some (Int k)) (i64_value d))) c.args.depth c.args.reader.now c.held_i64.new.reader (Some (Int m))) z
+    (held_map i64_value (λ k. Some (Int k)) c.args.depth _ _ n (c.in_ok-held_i64-in-Int.ensures c.args.depth)))

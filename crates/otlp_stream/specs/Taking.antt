@@ -1,0 +1,114 @@
+-- What a reader of tokens takes. For private clauses.
+use Rattle.std.specs.Prelude.{◌≡◌, ◌<◌, ◌≤◌, ◌==◌, ◌&&◌, not, if◌then◌else◌, ℕ, suc, List, [], ◌∷◌, length, codes, Bool, true, Option, Some}
+use Rattle.std.specs.Str.{bytes_eq}
+use Rattle.json.specs.Token.{Token}
+use Rattle.json.specs.Json.{parse_map, value, items, members}
+use Rattle.serde_json.specs.Data.{Data, Items, item, Members, no_members}
+use Rattle.serde_json.specs.Read.{of_json, of_items, of_members, converted}
+use Rattle.otlp_types.specs.declared.span.Status.{Status}
+use Rattle.otlp_reading.specs.Kinds.{◌>>=◌, unless_null, field, text, enum, each, list_of}
+use Rattle.serde_json.specs.View.{items_of}
+use Rattle.std.specs.Prelude.{option_map}
+use Rattle.otlp_reading.specs.Reading.{OrDiscarded, kept, discarded, sieved}
+
+-- of the tokens `old` the first are the value d, and `new` are the rest
+pub record Takes (depth : ℕ) (old new : List Token) (d : Data) : Type 0 where
+  pub reads : converted of_json (value depth old) ≡ Some (d, new)
+  pub shorter : length new < length old
+
+-- the same, of a value that `read` reads as x
+pub record TakesAs {A : Type 0} (read : Data → Option A) (depth : ℕ) (old new : List Token) (x : A) : Type 0 where
+  pub found : Data
+  pub takes : Takes depth old new found
+  pub is : read found ≡ Some x
+
+-- the value in a field: null counts as absent
+abbrev pub present : {A : Type 0} → (Option Data → Option A) → Data → Option A
+present read d = read (unless_null d)
+
+-- the value under a value key, which is not null
+abbrev pub held : {A : Type 0} → (Data → Option A) → Data → Option A
+held read d = unless_null d >>= read
+
+-- of the tokens `old`, which stand within an object, the first are all members that are left, and `new` follow its end
+pub record TakesMembers {A : Type 0} (read : Members → Option A) (depth : ℕ) (old new : List Token) (x : A) : Type 0 where
+  pub all : Members
+  pub reads : converted (λ ms. of_members ms no_members) (members (value depth) (length old) old) ≡ Some (all, new)
+  pub shorter : length new < length old
+  pub is : read all ≡ Some x
+
+-- the object that began at `start` has had these members, and `now` is left
+pub record Within (depth : ℕ) (start now : List Token) (found : Members) : Type 0 where
+  pub turns : ℕ
+  pub enough : length now ≤ turns
+  pub so_far : converted (λ ms. of_members ms no_members) (members (value depth) (length start) start) ≡ converted (λ ms. of_members ms found) (members (value depth) turns now)
+  pub shorter : length now ≤ length start
+
+-- these items, and then the rest
+abbrev pub items_then : List Data → Items → Items
+items_then [] rest = rest
+items_then (d ∷ ds) rest = item d (items_then ds rest)
+
+-- of the tokens `old`, which stand within a list, the first are all items that are left, and `new` follow its end
+pub record TakesItems (depth : ℕ) (old new : List Token) (all : Items) : Type 0 where
+  pub reads : converted of_items (items (value depth) (length old) old) ≡ Some (all, new)
+  pub shorter : length new < length old
+
+-- the list that began at `start` has had these items, and `now` is left
+pub record WithinItems (depth : ℕ) (start now : List Token) (done : List Data) : Type 0 where
+  pub turns : ℕ
+  pub enough : length now ≤ turns
+  pub so_far : converted of_items (items (value depth) (length start) start) ≡ parse_map (items_then done) (converted of_items (items (value depth) turns now))
+  pub shorter : length now ≤ length start
+
+-- ---- the fields of an object that is being read
+
+-- the fields of these names, from the nth on
+abbrev pub AreFields : List (List ℕ) → ℕ → (ℕ → Option Data) → Members → Type 0
+AreFields [] n seen ms = Unit {0}
+AreFields (q ∷ qs) n seen ms = (field q ms ≡ seen n) × AreFields qs (suc n) seen ms
+
+-- the ith name, and no other, is k
+abbrev pub IsAt : List (List ℕ) → ℕ → List ℕ → ℕ → Type 0
+IsAt [] n k i = Unit {0}
+IsAt (q ∷ qs) n k i = ((n == i) ≡ bytes_eq k q) × IsAt qs (suc n) k i
+
+-- the same as a test
+abbrev pub is_at : List (List ℕ) → ℕ → List ℕ → ℕ → Bool
+is_at [] n k i = true
+is_at (q ∷ qs) n k i = (if n == i then bytes_eq k q else not (bytes_eq k q)) && is_at qs (suc n) k i
+
+-- with this at the ith place
+abbrev pub placed : ℕ → Option Data → (ℕ → Option Data) → ℕ → Option Data
+placed i o seen n = if n == i then o else seen n
+
+-- the object that began at `start` has had members of which these are the fields, and `now` is left
+pub record Sees (names : List (List ℕ)) (depth : ℕ) (start now : List Token) (seen : ℕ → Option Data) : Type 0 where
+  pub found : Members
+  pub within : Within depth start now found
+  pub fields : AreFields names 0 seen found
+
+-- one field, or a member of another name, was taken from the tokens `old`: whatever fields were seen before
+pub record TakesField {S : Type 0} (names : List (List ℕ)) (so_far : (ℕ → Option Data) → S → Type 0) (depth : ℕ) (name : List ℕ) (before : S) (old : List Token) (after : S) (new : List Token) : Type 0 where
+  pub found : Data
+  pub place : ℕ
+  pub takes : Takes depth old new found
+  pub at : IsAt names 0 name place
+  pub keeps : (seen : ℕ → Option Data) → so_far seen before → so_far (placed place (unless_null found) seen) after
+
+abbrev pub status_names : List (List ℕ)
+status_names = codes "message" ∷ codes "code" ∷ []
+
+abbrev pub StatusSoFar : (ℕ → Option Data) → Status → Type 0
+StatusSoFar seen s = (text (seen 0) ≡ Some s.message) × (enum (seen 1) ≡ Some s.code)
+
+-- what was read of the items of a list, of which some are kept and the others are discarded
+pub record Sieved {A : Type 0} (read : Data → Option (OrDiscarded A)) (done : List Data) (some : List A) (none : ℕ) : Type 0 where
+  pub all : List (OrDiscarded A)
+  pub reads : each read (items_of done) ≡ Some all
+  pub some_is : some ≡ kept all
+  pub none_is : none ≡ discarded all
+
+-- a list in a field: what is kept, and how many are discarded
+abbrev pub sieved_list : {A : Type 0} → (Data → Option (OrDiscarded A)) → Option Data → Option (List A × ℕ)
+sieved_list read o = option_map sieved (list_of read o)

@@ -1,0 +1,161 @@
+//! Messages, read from tokens with no tree. What isn't plain is declined.
+ghost use Rattle.std.specs.Prelude.{◌≡◌, ℕ, List, Option, Some, None, IfOk, OnOk};
+ghost use Rattle.serde_json.specs.Data.{Data, Members};
+ghost use Rattle.serde_json.specs.Read.{read};
+ghost use Rattle.otlp_reading.specs.Decoding.{IsJson};
+ghost use Rattle.otlp_reading.specs.Kinds.{message, inner, list_of};
+ghost use Rattle.otlp_stream.specs.Taking.{TakesAs, TakesMembers, TakesField, AreFields, present};
+
+use crate::take::Stop;
+use json::{Reader, Scratch, Token};
+use otlp_types::List;
+use std::alloc::Global;
+
+/// `serde_json` reads no text that nests deeper.
+const DEPTH: usize = 127;
+
+/// A message that is being read, a field at a time.
+pub trait Building: Sized {
+    /// The message.
+    type Message;
+
+    /// The message that an object's members are, if they are one.
+    ghost meaning: { Members → Option Self.Message };
+
+    /// The names of its fields.
+    ghost names: { List (List ℕ) };
+
+    /// What was read of the fields that were seen.
+    ghost so_far: { (ℕ → Option Data) → Self → Type 0 };
+
+    /// Before the first field.
+    fn start(alloc: Global) -> Self
+        ensures { so_far (λ _. None) result };
+
+    /// Takes the value of a field, or of a member that is none.
+    fn field(
+        &mut self,
+        alloc: Global,
+        reader: &mut Reader<'_>,
+        depth: usize,
+        name: &str,
+    ) -> Result<(), Stop>
+        ensures { OnOk result
+            (TakesField names so_far depth name.now self.old reader.old self.new reader.new) };
+
+    /// After the last field.
+    fn build(self) -> Self::Message
+        ensures { (ms : Members) → (seen : ℕ → Option Data) → AreFields names 0 seen ms → so_far seen self
+            → meaning ms ≡ Some result };
+}
+
+/// The message, of the members from here to the end of the object.
+#[inline(always)]
+fn members<B: Building + Drop>(
+    alloc: Global,
+    reader: &mut Reader<'_>,
+    depth: usize,
+) -> Result<B::Message, Stop>
+    ensures { IfOk result (λ x. TakesMembers B.meaning depth reader.old reader.new x) }
+{
+    let mut built = B::start(alloc);
+    'members: for _ in 0..u64::MAX {
+        let Some(name) = reader.next_key()? else {
+            return Ok(built.build());
+        };
+        built.field(alloc, reader, depth, name)?;
+    }
+    Err(Stop::Declined)
+}
+
+/// A message in a field.
+#[inline(always)]
+pub fn inner<B: Building + Drop>(
+    alloc: Global,
+    reader: &mut Reader<'_>,
+    depth: usize,
+) -> Result<B::Message, Stop>
+    ensures { IfOk result (λ x. TakesAs (present (inner B.meaning)) depth reader.old reader.new x) }
+{
+    let Some(Token::BeginObject) = reader.next() else {
+        return Err(Stop::Declined);
+    };
+    if depth == 0 {
+        return Err(Stop::Declined);
+    }
+    members::<B>(alloc, reader, depth - 1)
+}
+
+/// A message in a list.
+#[inline(always)]
+pub fn message<B: Building + Drop>(
+    alloc: Global,
+    reader: &mut Reader<'_>,
+    depth: usize,
+) -> Result<B::Message, Stop>
+    ensures { IfOk result (λ x. TakesAs (message B.meaning) depth reader.old reader.new x) }
+{
+    let Some(Token::BeginObject) = reader.next() else {
+        return Err(Stop::Declined);
+    };
+    if depth == 0 {
+        return Err(Stop::Declined);
+    }
+    members::<B>(alloc, reader, depth - 1)
+}
+
+/// A list of messages in a field.
+pub fn list_of<B: Building + Drop>(
+    alloc: Global,
+    reader: &mut Reader<'_>,
+    depth: usize,
+) -> Result<List<B::Message>, Stop>
+where
+    B::Message: Drop,
+    ensures { IfOk result
+        (λ xs. TakesAs (present (list_of (message B.meaning))) depth reader.old reader.new xs) }
+{
+    let Some(Token::BeginArray) = reader.next() else {
+        return Err(Stop::Declined);
+    };
+    if depth == 0 {
+        return Err(Stop::Declined);
+    }
+    let mut all = List::new(alloc);
+    'items: for _ in 0..u64::MAX {
+        if reader.take_end_array() {
+            return Ok(all);
+        }
+        all.push(message::<B>(alloc, reader, depth - 1)?)?;
+    }
+    Err(Stop::Declined)
+}
+
+/// The message that a whole text is.
+fn whole<B: Building + Drop>(alloc: Global, text: &str) -> Result<B::Message, Stop>
+where
+    B::Message: Drop,
+    ensures { IfOk result
+        (λ x. (d : Data) × (read text.now ≡ Some d) × (message B.meaning d ≡ Some x)) }
+{
+    let mut scratch = Scratch::new(alloc);
+    let mut reader = Reader::new(text, &mut scratch)?;
+    let found = message::<B>(alloc, &mut reader, DEPTH)?;
+    match reader.next() {
+        None => Ok(found),
+        Some(_) => Err(Stop::Declined),
+    }
+}
+
+/// The message that the bytes are.
+pub fn message_of<B: Building + Drop>(alloc: Global, bytes: &[u8]) -> Result<B::Message, Stop>
+where
+    B::Message: Drop,
+    ensures { IfOk result
+        (λ x. (d : Data) × IsJson bytes.now d × (message B.meaning d ≡ Some x)) }
+{
+    match simdutf8::compat::from_utf8(bytes) {
+        Ok(text) => whole::<B>(alloc, text),
+        Err(_) => Err(Stop::Declined),
+    }
+}

@@ -1,0 +1,264 @@
+//! Values of attributes, read from tokens. What isn't plain is declined: a pair whose members are others than `key` and then
+//! `value`, a value with another member than its one value key, and a list within one that has another than `values`.
+ghost use Rattle.std.specs.Prelude.{◌≡◌, [], Some, IfOk, option_map};
+ghost use Rattle.otlp_stream.specs.SoFar.{kept_attributes};
+ghost use Rattle.otlp_types.specs.declared.value.AnyValue.{Array, KvList};
+ghost use Rattle.otlp_reading.specs.Kinds.{message};
+ghost use Rattle.otlp_reading.specs.Reading.{values, pairs, key_value, value_by, value_to};
+ghost use Rattle.otlp_stream.specs.Taking.{TakesAs, present, held, sieved_list};
+
+use crate::take::{Stop, end_object, has_next, held_bool, held_double, held_i64, held_text, text};
+use json::{Reader, Token};
+use otlp_reading::ValueKey;
+use otlp_types::{AnyValue, KeyValue, List};
+use std::alloc::Global;
+
+/// `serde_json` reads no text that nests deeper.
+const LEVELS: usize = 127;
+
+/// A value that nests at most so many levels deep.
+#[cycle(value)]
+fn value_to(
+    alloc: Global,
+    reader: &mut Reader<'_>,
+    depth: usize,
+    levels: usize,
+) -> Result<Option<AnyValue>, Stop>
+    ensures { IfOk result (λ x. TakesAs (value_to levels) depth reader.old reader.new x) }
+{
+    let Some(Token::BeginObject) = reader.next() else {
+        return Err(Stop::Declined);
+    };
+    if depth == 0 {
+        return Err(Stop::Declined);
+    }
+    if levels == 0 {
+        return Err(Stop::Declined);
+    }
+    let Some(name) = reader.next_key()? else {
+        return Ok(Some(AnyValue::Empty));
+    };
+    let Some(key) = ValueKey::named(name) else {
+        return Err(Stop::Declined);
+    };
+    let value = value_by(alloc, reader, depth - 1, levels - 1, key)?;
+    end_object(reader)?;
+    Ok(value)
+}
+
+/// What is held under a value key.
+#[cycle(value)]
+fn value_by(
+    alloc: Global,
+    reader: &mut Reader<'_>,
+    depth: usize,
+    levels: usize,
+    key: ValueKey,
+) -> Result<Option<AnyValue>, Stop>
+    ensures { IfOk result (λ x. TakesAs (held (value_by (value_to levels) key)) depth reader.old reader.new x) }
+{
+    match key {
+        ValueKey::Str => Ok(Some(AnyValue::Str(held_text(alloc, reader)?))),
+        ValueKey::Bool => Ok(Some(AnyValue::Bool(held_bool(reader)?))),
+        ValueKey::Int => Ok(Some(AnyValue::Int(held_i64(reader)?))),
+        ValueKey::Double => {
+            held_double(reader)?;
+            Ok(None)
+        }
+        ValueKey::Array => array(alloc, reader, depth, levels),
+        ValueKey::KvList => kv_list(alloc, reader, depth, levels),
+        ValueKey::Bytes => Ok(Some(AnyValue::Bytes(held_text(alloc, reader)?))),
+    }
+}
+
+/// An `ArrayValue`.
+#[cycle(value)]
+fn array(
+    alloc: Global,
+    reader: &mut Reader<'_>,
+    depth: usize,
+    levels: usize,
+) -> Result<Option<AnyValue>, Stop>
+    ensures { IfOk result (λ x. TakesAs
+        (held (λ d. option_map (option_map Array) (message (values (value_to levels)) d)))
+        depth reader.old reader.new x) }
+{
+    let Some(Token::BeginObject) = reader.next() else {
+        return Err(Stop::Declined);
+    };
+    if depth == 0 {
+        return Err(Stop::Declined);
+    }
+    if !has_next(reader, "values")? {
+        return Ok(Some(AnyValue::Array(List::new(alloc))));
+    }
+    let (kept, discarded) = all_values(alloc, reader, depth - 1, levels)?;
+    end_object(reader)?;
+    if discarded == 0 {
+        Ok(Some(AnyValue::Array(kept)))
+    } else {
+        Ok(None)
+    }
+}
+
+/// A `KeyValueList`.
+#[cycle(value)]
+fn kv_list(
+    alloc: Global,
+    reader: &mut Reader<'_>,
+    depth: usize,
+    levels: usize,
+) -> Result<Option<AnyValue>, Stop>
+    ensures { IfOk result (λ x. TakesAs
+        (held (λ d. option_map (option_map KvList) (message (pairs (value_to levels)) d)))
+        depth reader.old reader.new x) }
+{
+    let Some(Token::BeginObject) = reader.next() else {
+        return Err(Stop::Declined);
+    };
+    if depth == 0 {
+        return Err(Stop::Declined);
+    }
+    if !has_next(reader, "values")? {
+        return Ok(Some(AnyValue::KvList(List::new(alloc))));
+    }
+    let (kept, discarded) = key_values(alloc, reader, depth - 1, levels)?;
+    end_object(reader)?;
+    if discarded == 0 {
+        Ok(Some(AnyValue::KvList(kept)))
+    } else {
+        Ok(None)
+    }
+}
+
+/// The values that are kept, and how many are discarded.
+#[cycle(value)]
+fn all_values(
+    alloc: Global,
+    reader: &mut Reader<'_>,
+    depth: usize,
+    levels: usize,
+) -> Result<(List<AnyValue>, usize), Stop>
+    ensures { IfOk result (λ x. TakesAs (present (sieved_list (value_to levels))) depth reader.old reader.new x) }
+{
+    let Some(Token::BeginArray) = reader.next() else {
+        return Err(Stop::Declined);
+    };
+    if depth == 0 {
+        return Err(Stop::Declined);
+    }
+    let mut kept = List::new(alloc);
+    let mut discarded = 0usize;
+    'items: for _ in 0..u64::MAX {
+        if reader.take_end_array() {
+            return Ok((kept, discarded));
+        }
+        match value_to(alloc, reader, depth - 1, levels)? {
+            Some(value) => kept.push(value)?,
+            None => {
+                if discarded == usize::MAX {
+                    return Err(Stop::Declined);
+                }
+                discarded += 1;
+            }
+        }
+    }
+    Err(Stop::Declined)
+}
+
+/// The pairs that are kept, and how many are discarded.
+#[cycle(value)]
+pub fn key_values(
+    alloc: Global,
+    reader: &mut Reader<'_>,
+    depth: usize,
+    levels: usize,
+) -> Result<(List<KeyValue>, usize), Stop>
+    ensures { IfOk result (λ x. TakesAs (present (sieved_list (message (key_value (value_to levels)))))
+        depth reader.old reader.new x) }
+{
+    let Some(Token::BeginArray) = reader.next() else {
+        return Err(Stop::Declined);
+    };
+    if depth == 0 {
+        return Err(Stop::Declined);
+    }
+    let mut kept = List::new(alloc);
+    let mut discarded = 0usize;
+    'items: for _ in 0..u64::MAX {
+        if reader.take_end_array() {
+            return Ok((kept, discarded));
+        }
+        match pair(alloc, reader, depth - 1, levels)? {
+            Some(pair) => kept.push(pair)?,
+            None => {
+                if discarded == usize::MAX {
+                    return Err(Stop::Declined);
+                }
+                discarded += 1;
+            }
+        }
+    }
+    Err(Stop::Declined)
+}
+
+/// A pair.
+#[cycle(value)]
+fn pair(
+    alloc: Global,
+    reader: &mut Reader<'_>,
+    depth: usize,
+    levels: usize,
+) -> Result<Option<KeyValue>, Stop>
+    ensures { IfOk result (λ x. TakesAs (message (key_value (value_to levels))) depth reader.old reader.new x) }
+{
+    let Some(Token::BeginObject) = reader.next() else {
+        return Err(Stop::Declined);
+    };
+    if depth == 0 {
+        return Err(Stop::Declined);
+    }
+    if !has_next(reader, "key")? {
+        return Err(Stop::Declined);
+    }
+    let key = text(alloc, reader)?;
+    if !has_next(reader, "value")? {
+        return Ok(Some(KeyValue {
+            key,
+            value: AnyValue::Empty,
+        }));
+    }
+    let value = value_to(alloc, reader, depth - 1, levels)?;
+    end_object(reader)?;
+    match value {
+        Some(value) => Ok(Some(KeyValue { key, value })),
+        None => Ok(None),
+    }
+}
+
+/// The attributes of a field: those that are kept, and how many are discarded.
+#[derive(Drop)]
+pub struct Kept {
+    pub kept: List<KeyValue>,
+    pub discarded: usize,
+}
+
+impl Kept {
+    /// Where there are none.
+    pub fn none(alloc: Global) -> Kept
+        ensures { result ≡ record { kept = []; discarded = 0 } }
+    {
+        Kept {
+            kept: List::new(alloc),
+            discarded: 0,
+        }
+    }
+}
+
+/// The attributes in a field.
+pub fn attributes(alloc: Global, reader: &mut Reader<'_>, depth: usize) -> Result<Kept, Stop>
+    ensures { IfOk result (λ x. TakesAs (present kept_attributes) depth reader.old reader.new x) }
+{
+    let (kept, discarded) = key_values(alloc, reader, depth, LEVELS)?;
+    Ok(Kept { kept, discarded })
+}
