@@ -5,7 +5,7 @@ ghost use Rattle.shard_core.specs.Taking.{has_ids};
 
 use crate::answer::{Decided, Taken};
 use crate::shard::Shard;
-use crate::tests::{policies_on_code, span_of};
+use crate::tests::{ids_of, policies_on_code, span_with};
 use decision_cache::Remembered;
 use otlp_types::{Arrival, Item};
 use span_ids::{Reason, TraceId, Verdict};
@@ -57,6 +57,7 @@ struct Entry {
 #[derive(Clone, Copy)]
 struct Past<'a> {
     entries: &'a [Entry],
+    root_wait: u64,
     limit: usize,
     sampled: usize,
     non_sampled: usize,
@@ -76,6 +77,11 @@ fn opened(entry: &Entry) -> Option<usize> {
         Kind::Span(trace, _, Finding::Opens) if !entry.refused => Some(trace),
         _ => None,
     }
+}
+
+/// Whether the span at this place has no parent: each third one.
+fn is_root(place: usize) -> bool {
+    place.checked_rem(3) == Some(0)
 }
 
 impl Past<'_> {
@@ -116,14 +122,29 @@ impl Past<'_> {
         false
     }
 
+    /// Whether a tick there decides the trace that opened so early: by its opening, or by a root among its spans.
+    fn is_due(&self, trace: usize, opening: usize, tick: usize) -> bool {
+        let now = self.clock(tick.saturating_add(1));
+        if self.clock(opening.saturating_add(1)).saturating_add(WAIT) <= now {
+            return true;
+        }
+        for at in opening..tick {
+            let is_root = is_root(at) && self.entries.get(at).and_then(trace_of) == Some(trace);
+            let taken = self.clock(at.saturating_add(1));
+            if self.root_wait > 0 && is_root && taken.saturating_add(self.root_wait) <= now {
+                return true;
+            }
+        }
+        false
+    }
+
     /// The verdict of the episode that opened there, once it is decided.
     fn verdict(&self, opening: usize, end: usize) -> Option<Verdict> {
         let trace = opened(self.entries.get(opening)?)?;
-        let due = self.clock(opening.saturating_add(1)).saturating_add(WAIT);
         for at in opening.saturating_add(1)..end {
             let decides = match self.entries.get(at)?.kind {
                 Kind::Span(_, _, _) => false,
-                Kind::Tick => due <= self.clock(at.saturating_add(1)),
+                Kind::Tick => self.is_due(trace, opening, at),
                 Kind::End => true,
             };
             if decides && self.is_in_buffer(opening, at) {
@@ -350,7 +371,8 @@ fn item_of(rt: &impl Abort, alloc: Global, kind: Kind, moment: u64, place: u64) 
     match kind {
         Kind::Span(trace, error, _) => {
             let id = TRACES.get(trace).copied().unwrap_or("");
-            span_of(rt, alloc, id, place, moment, if error { 2 } else { 0 }, 0)
+            let ids = ids_of(rt, id, is_root(place as usize));
+            span_with(alloc, ids, place, moment, if error { 2 } else { 0 }, 0)
         }
         Kind::Tick => Item::Tick(moment),
         Kind::End => Item::End(0),
@@ -401,6 +423,7 @@ fn run(
     rt: &impl Abort,
     alloc: Global,
     seed: u64,
+    root_wait: u64,
     limit: usize,
     sampled: usize,
     non_sampled: usize,
@@ -408,7 +431,16 @@ fn run(
     requires { 0 < limit }
 {
     let policies = policies_on_code(alloc, 2)?;
-    let mut shard = Shard::new(alloc, policies, WAIT, 0, limit, sampled, non_sampled, 1)?;
+    let mut shard = Shard::new(
+        alloc,
+        policies,
+        WAIT,
+        root_wait,
+        limit,
+        sampled,
+        non_sampled,
+        1,
+    )?;
     let mut entries: Vec<Entry> = Vec::with_capacity(alloc, ITEMS)?;
     let mut number = seed;
     for place in 0..ITEMS {
@@ -417,6 +449,7 @@ fn run(
         let moment = place as u64 * 2 + random / 64 % 5;
         let past = Past {
             entries: entries.as_slice(),
+            root_wait,
             limit,
             sampled,
             non_sampled,
@@ -437,6 +470,7 @@ fn run(
             &mut shard,
             &Past {
                 entries: entries.as_slice(),
+                root_wait,
                 limit,
                 sampled,
                 non_sampled,
@@ -452,7 +486,17 @@ fn random_items(rt: HostRuntime) -> Result<(), Fail> {
     for limit in 1..4 {
         for sizes in 0..9 {
             let seed = (limit * 9 + sizes) as u64;
-            run(&rt, rt.alloc(), seed, limit, sizes / 3, sizes % 3)?;
+            for root_wait in 0..3 {
+                run(
+                    &rt,
+                    rt.alloc(),
+                    seed,
+                    root_wait,
+                    limit,
+                    sizes / 3,
+                    sizes % 3,
+                )?;
+            }
         }
     }
     Ok(())
