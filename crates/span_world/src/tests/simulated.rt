@@ -4,11 +4,13 @@ use otlp_types::Arrival;
 use span_ids::{ArrivalKey, ConnKey, Reason};
 use std::alloc::{AllocError, Global};
 
-/// A span as it is sent: its trace, where 0 stands for invalid ids, and whether its status is an error.
+/// A span as it is sent: its trace, where 0 stands for invalid ids, whether its status is an error, and whether it has no
+/// parent.
 #[derive(Clone, Copy, Debug)]
 pub struct Sent {
     pub trace: u8,
     pub error: bool,
+    pub root: bool,
 }
 
 /// A step, chosen at random.
@@ -67,7 +69,7 @@ fn draw(seed: u64) -> (u64, u64) {
     (next, next >> 33)
 }
 
-/// A span by some bits: one in eight has invalid ids, one in four an error.
+/// A span by some bits: one in eight has invalid ids, one in four an error, every second no parent.
 fn draw_sent(bits: u64) -> Sent {
     Sent {
         trace: if bits & 7 == 0 {
@@ -76,6 +78,7 @@ fn draw_sent(bits: u64) -> Sent {
             ((bits >> 3) % 6) as u8 + 1
         },
         error: (bits >> 9) & 3 == 0,
+        root: (bits >> 11) & 1 == 0,
     }
 }
 
@@ -142,6 +145,7 @@ struct Kept {
     moment: u64,
     trace: u8,
     error: bool,
+    root: bool,
 }
 
 #[derive(Drop)]
@@ -155,6 +159,7 @@ struct Lane {
 struct Episode {
     trace: u8,
     opened: u64,
+    first_root: Option<u64>,
     spans: Vec<Kept>,
     verdict: Option<bool>,
 }
@@ -187,10 +192,11 @@ struct Counted {
 }
 
 /// Two lanes, two shards with room for two traces, one sampled and two others remembered, a wait of ten milliseconds, and
-/// batches of two spans. A trace with an error is sampled.
+/// batches of two spans. A trace with an error is sampled. The root wait is given, in milliseconds, where 0 is off.
 #[derive(Drop)]
 pub struct Simulated {
     alloc: Global,
+    root_wait: u64,
     lanes: Vec<Lane>,
     shards: Vec<Shard>,
     exported: Vec<Kept>,
@@ -285,6 +291,7 @@ impl Shard {
         self.ring.push(Episode {
             trace: span.trace,
             opened: self.clock,
+            first_root: if span.root { Some(self.clock) } else { None },
             spans: vec![in alloc; span]?,
             verdict: None,
         })?;
@@ -310,18 +317,24 @@ impl Shard {
     fn join(&mut self, span: Kept) -> Result<(), AllocError> {
         for episode in self.ring.iter_mut() {
             if episode.trace == span.trace {
+                if span.root && episode.first_root.is_none() {
+                    episode.first_root = Some(self.clock);
+                }
                 episode.spans.push(span)?;
             }
         }
         Ok(())
     }
 
-    /// The traces of undecided episodes become due: all, or those that have waited long enough.
-    fn fall_due(&mut self, all: bool) -> Result<(), AllocError> {
+    /// The traces of undecided episodes become due: all, or those that have waited long enough, or whose first root has.
+    fn fall_due(&mut self, all: bool, root_wait: u64) -> Result<(), AllocError> {
         for episode in &self.ring {
-            if episode.verdict.is_none()
-                && (all || episode.opened.wrapping_add(WAIT) <= self.clock)
-            {
+            let by_root = match episode.first_root {
+                Some(taken) => root_wait > 0 && taken.wrapping_add(root_wait) <= self.clock,
+                None => false,
+            };
+            let is_due = all || by_root || episode.opened.wrapping_add(WAIT) <= self.clock;
+            if episode.verdict.is_none() && is_due {
                 self.due.push(episode.trace)?;
             }
         }
@@ -345,7 +358,7 @@ impl Shard {
 }
 
 impl Simulated {
-    pub fn new(alloc: Global) -> Result<Simulated, AllocError> {
+    pub fn new(alloc: Global, root_wait: u64) -> Result<Simulated, AllocError> {
         let mut lanes = Vec::new(alloc);
         let mut shards = Vec::new(alloc);
         for _i in 0..2 {
@@ -358,6 +371,7 @@ impl Simulated {
         }
         Ok(Simulated {
             alloc,
+            root_wait,
             lanes,
             shards,
             exported: Vec::new(alloc),
@@ -417,6 +431,7 @@ impl Simulated {
             moment,
             trace: sent.trace,
             error: sent.error,
+            root: sent.root,
         };
         if sent.trace == 0 {
             count(&mut self.counted, Reason::InvalidId, &[span])?;
@@ -492,7 +507,7 @@ impl Simulated {
             return Ok(false);
         }
         shard.clock = shard.clock.max(moment);
-        shard.fall_due(false)?;
+        shard.fall_due(false, self.root_wait)?;
         Ok(true)
     }
 
@@ -523,7 +538,7 @@ impl Simulated {
         }
         shard.ends.push(sender)?;
         if shard.ends.len() == SENDERS {
-            shard.fall_due(true)?;
+            shard.fall_due(true, self.root_wait)?;
         }
         Ok(true)
     }
