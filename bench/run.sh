@@ -1,29 +1,42 @@
 #!/usr/bin/env bash
-# Times `tsc replay` on generated scripts: bench/run.sh [SPANS ..]. Prints spans in a second and the peak of memory.
-# It is no part of the gate. The program must be built: (cd crates/collector_main && rt run -- serve)
+# Times `tsc replay` on generated scripts: bench/run.sh [SPANS ..]. Prints spans in a second and the peak of memory. Each script of so many
+# spans is run as collector.toml says, and then with a root wait beside; last comes one with a million traces alive at once (alive.toml),
+# or with as many as ALIVE says.
+# It is no part of the gate. The program must be built: (cd crates/collector_main && rt run -- serve). PROGRAM names another one.
 set -eu
 cd "$(dirname "$0")"
-program=../crates/collector_main/out/collector_main
+program=${PROGRAM:-../crates/collector_main/out/collector_main}
 work=$(mktemp -d)
 trap 'rm -rf "$work"' EXIT
-for spans in "${@:-20000 200000}"; do
-    for n in $spans; do
-        ./generate.py "$n" > "$work/script"
-        python3 - "$program" "$work" "$n" <<'PYTHON'
+
+# Times one run: what it is, its configuration, and how many spans its script has.
+measure() {
+    python3 - "$program" "$work" "$@" <<'PYTHON'
 import os, resource, subprocess, sys, time
-program, work, spans = sys.argv[1], sys.argv[2], int(sys.argv[3])
+program, work, name, config, spans = sys.argv[1], sys.argv[2], sys.argv[3], sys.argv[4], int(sys.argv[5])
 size = os.path.getsize(work + "/script")
 took = []
 for _ in range(3):
     with open(work + "/script") as script, open(work + "/out", "w") as out:
         began = time.monotonic()
-        subprocess.run([program, "replay", "collector.toml"], stdin=script, stdout=out, check=True)
+        subprocess.run([program, "replay", config], stdin=script, stdout=out, check=True)
         took.append(time.monotonic() - began)
-peak = resource.getrusage(resource.RUSAGE_CHILDREN).ru_maxrss
+used = resource.getrusage(resource.RUSAGE_CHILDREN)
 best = min(took)
-print(f"{spans} spans, {size / 1e6:.1f} MB: {best:.2f} s, {spans / best:.0f} spans a second, {size / best / 1e6:.1f} MB a second, peak {peak / 1024:.0f} MiB")
+print(f"{name}: {spans} spans, {size / 1e6:.1f} MB: {best:.2f} s, {spans / best:.0f} spans a second, {size / best / 1e6:.1f} MB a second, user time {used.ru_utime / 3:.2f} s, peak {used.ru_maxrss / 1024:.0f} MiB")
 with open(work + "/out") as out:
     print("  " + ", ".join(line.strip() for line in out.readlines()[-9:]))
 PYTHON
+}
+
+sed 's/^decision_wait_ms = .*/&\nroot_wait_ms = 2000/' collector.toml > "$work/root_wait.toml"
+for spans in "${@:-20000 200000}"; do
+    for n in $spans; do
+        ./generate.py "$n" > "$work/script"
+        measure "without root wait" collector.toml "$n"
+        measure "a root wait of 2 s" "$work/root_wait.toml" "$n"
     done
 done
+alive=${ALIVE:-1000000}
+./generate.py alive "$alive" > "$work/script"
+measure "all traces alive at once" alive.toml $((2 * alive))

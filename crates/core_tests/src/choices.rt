@@ -1,11 +1,13 @@
 //! Steps of the core, chosen at random.
 use span_ids::Reason;
 
-/// A span as it is sent: its trace, where 0 stands for invalid ids, and whether its status is an error.
+/// A span as it is sent: its trace, where 0 stands for invalid ids, whether its status is an error, and whether it has no
+/// parent.
 #[derive(Clone, Copy, Debug)]
 pub struct Sent {
     pub trace: u8,
     pub error: bool,
+    pub root: bool,
 }
 
 /// A step, chosen at random.
@@ -64,7 +66,7 @@ fn draw(seed: u64) -> (u64, u64) {
     (next, next >> 33)
 }
 
-/// A span by some bits: one in eight has invalid ids, one in four an error.
+/// A span by some bits: one in eight has invalid ids, one in four an error, every second no parent.
 fn draw_sent(bits: u64) -> Sent {
     Sent {
         trace: if bits & 7 == 0 {
@@ -73,6 +75,7 @@ fn draw_sent(bits: u64) -> Sent {
             ((bits >> 3) % 6) as u8 + 1
         },
         error: (bits >> 9) & 3 == 0,
+        root: (bits >> 11) & 1 == 0,
     }
 }
 

@@ -49,6 +49,7 @@ pub struct Entry {
 #[derive(Clone, Copy)]
 pub struct Past<'a> {
     pub entries: &'a [Entry],
+    pub root_wait: u64,
     pub limit: usize,
     pub sampled: usize,
     pub non_sampled: usize,
@@ -68,6 +69,11 @@ fn opened(entry: &Entry) -> Option<usize> {
         Kind::Span(trace, _, Finding::Opens) if !entry.refused => Some(trace),
         _ => None,
     }
+}
+
+/// Whether the span at this place has no parent: each third one.
+pub fn is_root(place: usize) -> bool {
+    place.checked_rem(3) == Some(0)
 }
 
 impl Past<'_> {
@@ -108,14 +114,29 @@ impl Past<'_> {
         false
     }
 
+    /// Whether a tick there decides the trace that opened so early: by its opening, or by a root among its spans.
+    fn is_due(&self, trace: usize, opening: usize, tick: usize) -> bool {
+        let now = self.clock(tick.saturating_add(1));
+        if self.clock(opening.saturating_add(1)).saturating_add(WAIT) <= now {
+            return true;
+        }
+        for at in opening..tick {
+            let is_root = is_root(at) && self.entries.get(at).and_then(trace_of) == Some(trace);
+            let taken = self.clock(at.saturating_add(1));
+            if self.root_wait > 0 && is_root && taken.saturating_add(self.root_wait) <= now {
+                return true;
+            }
+        }
+        false
+    }
+
     /// The verdict of the episode that opened there, once it is decided.
     fn verdict(&self, opening: usize, end: usize) -> Option<Verdict> {
         let trace = opened(self.entries.get(opening)?)?;
-        let due = self.clock(opening.saturating_add(1)).saturating_add(WAIT);
         for at in opening.saturating_add(1)..end {
             let decides = match self.entries.get(at)?.kind {
                 Kind::Span(_, _, _) => false,
-                Kind::Tick => due <= self.clock(at.saturating_add(1)),
+                Kind::Tick => self.is_due(trace, opening, at),
                 Kind::End => true,
             };
             if decides && self.is_in_buffer(opening, at) {

@@ -2,8 +2,8 @@
 ghost use Rattle.std.specs.Prelude.{◌≡◌, ◌<◌, true};
 ghost use Rattle.shard_core.specs.Taking.{has_ids};
 
-use crate::looking_back::{Entry, ITEMS, Kind, Past, TRACES, WAIT};
-use crate::shards::span_of;
+use crate::looking_back::{Entry, ITEMS, Kind, Past, TRACES, WAIT, is_root};
+use crate::shards::{ids_of, span_with};
 use crate::spans::policies_on;
 use decision_cache::Remembered;
 use otlp_types::Item;
@@ -43,7 +43,8 @@ fn item_of(rt: &impl Abort, alloc: Global, kind: Kind, moment: u64, place: u64) 
     match kind {
         Kind::Span(trace, error, _) => {
             let id = TRACES.get(trace).copied().unwrap_or("");
-            span_of(rt, alloc, id, place, moment, if error { 2 } else { 0 }, 0)
+            let ids = ids_of(rt, id, is_root(place as usize));
+            span_with(alloc, ids, place, moment, if error { 2 } else { 0 }, 0)
         }
         Kind::Tick => Item::Tick(moment),
         Kind::End => Item::End(0),
@@ -94,6 +95,7 @@ fn run(
     rt: &impl Abort,
     alloc: Global,
     seed: u64,
+    root_wait: u64,
     limit: usize,
     sampled: usize,
     non_sampled: usize,
@@ -101,7 +103,16 @@ fn run(
     requires { 0 < limit }
 {
     let policies = policies_on(alloc, Some(2))?;
-    let mut shard = Shard::new(alloc, policies, WAIT, 0, limit, sampled, non_sampled, 1)?;
+    let mut shard = Shard::new(
+        alloc,
+        policies,
+        WAIT,
+        root_wait,
+        limit,
+        sampled,
+        non_sampled,
+        1,
+    )?;
     let mut entries: Vec<Entry> = Vec::with_capacity(alloc, ITEMS)?;
     let mut number = seed;
     for place in 0..ITEMS {
@@ -110,6 +121,7 @@ fn run(
         let moment = place as u64 * 2 + random / 64 % 5;
         let past = Past {
             entries: entries.as_slice(),
+            root_wait,
             limit,
             sampled,
             non_sampled,
@@ -130,6 +142,7 @@ fn run(
             &mut shard,
             &Past {
                 entries: entries.as_slice(),
+                root_wait,
                 limit,
                 sampled,
                 non_sampled,
@@ -145,7 +158,17 @@ fn random_items(rt: HostRuntime) -> Result<(), Fail> {
     for limit in 1..4 {
         for sizes in 0..9 {
             let seed = (limit * 9 + sizes) as u64;
-            run(&rt, rt.alloc(), seed, limit, sizes / 3, sizes % 3)?;
+            for root_wait in 0..3 {
+                run(
+                    &rt,
+                    rt.alloc(),
+                    seed,
+                    root_wait,
+                    limit,
+                    sizes / 3,
+                    sizes % 3,
+                )?;
+            }
         }
     }
     Ok(())

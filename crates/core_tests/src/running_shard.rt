@@ -9,12 +9,14 @@ pub struct Kept {
     pub moment: u64,
     pub trace: u8,
     pub error: bool,
+    pub root: bool,
 }
 
 #[derive(Drop)]
 pub struct Episode {
     pub trace: u8,
     pub opened: u64,
+    pub first_root: Option<u64>,
     pub spans: Vec<Kept>,
     pub verdict: Option<bool>,
 }
@@ -131,6 +133,7 @@ impl Shard {
         self.ring.push(Episode {
             trace: span.trace,
             opened: self.clock,
+            first_root: if span.root { Some(self.clock) } else { None },
             spans: vec![in alloc; span]?,
             verdict: None,
         })?;
@@ -156,18 +159,24 @@ impl Shard {
     pub fn join(&mut self, span: Kept) -> Result<(), AllocError> {
         for episode in self.ring.iter_mut() {
             if episode.trace == span.trace {
+                if span.root && episode.first_root.is_none() {
+                    episode.first_root = Some(self.clock);
+                }
                 episode.spans.push(span)?;
             }
         }
         Ok(())
     }
 
-    /// The traces of undecided episodes become due: all, or those that have waited long enough.
-    pub fn fall_due(&mut self, all: bool) -> Result<(), AllocError> {
+    /// The traces of undecided episodes become due: all, or those that have waited long enough, or whose first root has.
+    pub fn fall_due(&mut self, all: bool, root_wait: u64) -> Result<(), AllocError> {
         for episode in &self.ring {
-            if episode.verdict.is_none()
-                && (all || episode.opened.wrapping_add(WAIT) <= self.clock)
-            {
+            let by_root = match episode.first_root {
+                Some(taken) => root_wait > 0 && taken.wrapping_add(root_wait) <= self.clock,
+                None => false,
+            };
+            let is_due = all || by_root || episode.opened.wrapping_add(WAIT) <= self.clock;
+            if episode.verdict.is_none() && is_due {
                 self.due.push(episode.trace)?;
             }
         }

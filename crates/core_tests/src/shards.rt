@@ -27,7 +27,7 @@ fn span_item(rt: &impl Abort, alloc: Global, number: u64, moment: u64, code: i32
 }
 
 /// A span of a trace, by its number, its moment, its status code and its end in nanoseconds.
-pub fn span_of(
+fn span_of(
     rt: &impl Abort,
     alloc: Global,
     trace: &str,
@@ -38,11 +38,23 @@ pub fn span_of(
 ) -> Item
     ensures { has_ids result ≡ true }
 {
-    let ids = Ids {
+    span_with(alloc, ids_of(rt, trace, true), number, moment, code, end)
+}
+
+/// The ids of a span of this trace, whose parent, if it has one, is itself.
+pub fn ids_of(rt: &impl Abort, trace: &str, is_root: bool) -> Ids {
+    let span = SpanId::parse("eee19b7ec3c1b174").expect(rt, "a span id");
+    Ids {
         trace: TraceId::parse(trace).expect(rt, "a trace id"),
-        span: SpanId::parse("eee19b7ec3c1b174").expect(rt, "a span id"),
-        parent: None,
-    };
+        span,
+        parent: if is_root { None } else { Some(span) },
+    }
+}
+
+/// A span with these ids, by its number, its moment, its status code and its end in nanoseconds.
+pub fn span_with(alloc: Global, ids: Ids, number: u64, moment: u64, code: i32, end: u64) -> Item
+    ensures { has_ids result ≡ true }
+{
     Item::Span(Arrival {
         key: ArrivalKey {
             conn: ConnKey {

@@ -14,10 +14,11 @@ struct Lane {
 }
 
 /// Two lanes, two shards with room for two traces, one sampled and two others remembered, a wait of ten milliseconds, and
-/// batches of two spans. A trace with an error is sampled.
+/// batches of two spans. A trace with an error is sampled. The root wait is given, in milliseconds, where 0 is off.
 #[derive(Drop)]
 pub struct Simulated {
     alloc: Global,
+    root_wait: u64,
     lanes: Vec<Lane>,
     shards: Vec<Shard>,
     exported: Vec<Kept>,
@@ -28,7 +29,7 @@ pub struct Simulated {
 }
 
 impl Simulated {
-    pub fn new(alloc: Global) -> Result<Simulated, AllocError> {
+    pub fn new(alloc: Global, root_wait: u64) -> Result<Simulated, AllocError> {
         let mut lanes = Vec::new(alloc);
         let mut shards = Vec::new(alloc);
         for _i in 0..2 {
@@ -41,6 +42,7 @@ impl Simulated {
         }
         Ok(Simulated {
             alloc,
+            root_wait,
             lanes,
             shards,
             exported: Vec::new(alloc),
@@ -100,6 +102,7 @@ impl Simulated {
             moment,
             trace: sent.trace,
             error: sent.error,
+            root: sent.root,
         };
         if sent.trace == 0 {
             count(&mut self.counted, Reason::InvalidId, &[span])?;
@@ -175,7 +178,7 @@ impl Simulated {
             return Ok(false);
         }
         shard.clock = shard.clock.max(moment);
-        shard.fall_due(false)?;
+        shard.fall_due(false, self.root_wait)?;
         Ok(true)
     }
 
@@ -206,7 +209,7 @@ impl Simulated {
         }
         shard.ends.push(sender)?;
         if shard.ends.len() == SENDERS {
-            shard.fall_due(true)?;
+            shard.fall_due(true, self.root_wait)?;
         }
         Ok(true)
     }

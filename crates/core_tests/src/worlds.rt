@@ -14,8 +14,9 @@ use std::alloc::{AllocError, Global};
 use std::process::Abort;
 use std::test::Fail;
 
-/// The ids of a root of this trace; of two shards an odd one goes to shard 1. There is no trace 0.
-fn ids_of(rt: &impl Abort, trace: u8) -> Option<Ids> {
+/// The ids of a span of this trace, whose parent, if it has one, is itself; of two shards an odd trace goes to shard 1. There
+/// is no trace 0.
+fn ids_of(rt: &impl Abort, trace: u8, is_root: bool) -> Option<Ids> {
     let text = match trace {
         0 => return None,
         1 => "00000000000000000000000000000001",
@@ -25,17 +26,18 @@ fn ids_of(rt: &impl Abort, trace: u8) -> Option<Ids> {
         5 => "00000000000000000000000000000005",
         _ => "00000000000000000000000000000006",
     };
+    let span = SpanId::parse("eee19b7ec3c1b174").expect(rt, "a span id");
     Some(Ids {
         trace: TraceId::parse(text).expect(rt, "a trace id"),
-        span: SpanId::parse("eee19b7ec3c1b174").expect(rt, "a span id"),
-        parent: None,
+        span,
+        parent: if is_root { None } else { Some(span) },
     })
 }
 
 fn record_of_sent(rt: &impl Abort, alloc: Global, sent: Sent) -> Record {
     record_of(
         alloc,
-        ids_of(rt, sent.trace),
+        ids_of(rt, sent.trace, sent.root),
         if sent.error { 2 } else { 0 },
         0,
     )
@@ -108,7 +110,7 @@ fn config_with(
 
 /// One span of trace 1 from its receipt to the closed world; `ticks_again` puts a second tick behind the first.
 fn one_span(rt: &impl Abort, alloc: Global, ticks_again: bool) -> Result<Vec<Step>, Fail> {
-    let records = vec![in alloc; record_of(alloc, ids_of(rt, 1), 0, 0)]?;
+    let records = vec![in alloc; record_of(alloc, ids_of(rt, 1, true), 0, 0)]?;
     let mut steps = vec![in alloc;
         Step::Receive {
             lane: 0,
@@ -151,7 +153,7 @@ fn one_span(rt: &impl Abort, alloc: Global, ticks_again: bool) -> Result<Vec<Ste
 
 /// Every kind of step but `Fail`, in a world of one lane and one shard.
 fn others(rt: &impl Abort, alloc: Global) -> Result<Vec<Step>, Fail> {
-    let records = vec![in alloc; record_of(alloc, ids_of(rt, 2), 0, 0)]?;
+    let records = vec![in alloc; record_of(alloc, ids_of(rt, 2, true), 0, 0)]?;
     let mut steps = vec![in alloc;
         Step::Receive {
             lane: 0,
@@ -241,8 +243,9 @@ fn second_tick_while_due(rt: HostRuntime) -> Result<(), Fail> {
     Ok(())
 }
 
-/// Random steps, each made by the world and by the simulation; one to which memory was refused is made again. `reached` gets the numbers of the reasons that were
-/// counted, 8 where a batch was handed over, and 9 where each shard took every End.
+/// Random steps, each made by the world and by the simulation, with a root wait in two runs of three; one to which memory
+/// was refused is made again. `reached` gets the numbers of the reasons that were counted, 8 where a batch was handed over,
+/// and 9 where each shard took every End.
 fn run_beside(
     rt: &impl Abort,
     alloc: Global,
@@ -252,9 +255,10 @@ fn run_beside(
     let kind = PolicyKind::StatusCode {
         codes: List::from_vec(vec![in alloc; 2]?),
     };
-    let config = config_with(alloc, kind, 2, 1, 2, 2)?;
+    let mut config = config_with(alloc, kind, 2, 1, 2, 2)?;
+    config.root_wait = seed % 3 * 3;
     let mut world = World::new(alloc, 2, 2, config)?;
-    let mut simulated = Simulated::new(alloc)?;
+    let mut simulated = Simulated::new(alloc, seed % 3 * 3)?;
     let mut seed = seed;
     for made in 0..600 {
         let (next, choice) = choose(seed, made, made >= 300);
