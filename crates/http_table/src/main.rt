@@ -7,12 +7,16 @@
 //! With the argument `refused` it runs the rows that say `starves` once each, and lets an exchange be short of memory at
 //! one place. So a run for each allocation that is refused in turn (`tests/refused_memory/exchanges.sh`) shows that
 //! nothing but whole answers is written, and that the counts are those of the answered requests.
+//!
+//! With `serve FILE` it serves the bytes of a file as one connection, and with `decode FILE N` it reads those of a file
+//! as a body N times, for `bench/http.sh` to count what either costs.
 #![tactic(auto)]
 
 mod column;
 mod peers;
 mod row;
 mod short;
+mod speed;
 mod trial;
 
 use row::Row;
@@ -43,12 +47,9 @@ fn is_asked_for(line: &str, starved: bool) -> bool {
     !line.is_empty() && !line.starts_with('#') && (!starved || line.contains("starves"))
 }
 
-fn main(rt: HostRuntime) -> io::Result<ExitCode> {
-    let mut starved = false;
-    for argument in env::args(&rt)?.skip(1) {
-        starved |= argument.as_str() == "refused";
-    }
-    let table = fs::read_to_string(&rt, "exchanges.tsv")?;
+/// Runs the table.
+fn run_table(rt: &HostRuntime, starved: bool) -> io::Result<ExitCode> {
+    let table = fs::read_to_string(rt, "exchanges.tsv")?;
     let mut tally = Tally { rows: 0, wrong: 0 };
     for line in table.lines() {
         if !is_asked_for(line, starved) {
@@ -65,4 +66,28 @@ fn main(rt: HostRuntime) -> io::Result<ExitCode> {
     let wrong = tally.wrong;
     println!(rt; "{rows} exchanges, {wrong} wrong")?;
     Ok(ExitCode::from(if wrong == 0 { 0 } else { 1 }))
+}
+
+fn main(rt: HostRuntime) -> io::Result<ExitCode> {
+    let mut arguments = Vec::new(rt.alloc());
+    for argument in env::args(&rt)?.skip(1) {
+        arguments.push(argument)?;
+    }
+    match arguments.as_slice() {
+        [how, file] if how.as_str() == "serve" => {
+            let bytes = fs::read(&rt, file.as_str())?;
+            let spans = speed::serve_once(rt.alloc(), &bytes)?;
+            println!(rt; "{spans} spans served")?;
+            Ok(ExitCode::from(0))
+        }
+        [how, file, times] if how.as_str() == "decode" => {
+            let body = fs::read(&rt, file.as_str())?;
+            let times = times.as_str().parse::<u32>().unwrap_or(0);
+            let resources = speed::decode_many(rt.alloc(), &body, times);
+            println!(rt; "{resources} resources read")?;
+            Ok(ExitCode::from(0))
+        }
+        [how] => run_table(&rt, how.as_str() == "refused"),
+        _ => run_table(&rt, false),
+    }
 }
