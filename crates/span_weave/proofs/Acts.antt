@@ -1,4 +1,5 @@
 -- Calls on an exporter are acts of the weave, by induction over the calls.
+-- For the contract of `calls_are_acts`.
 use Rattle.std.proofs.Common.{◌≡◌, inl, inr, ℕ, ◌<◌, Bool, true, false, not, ◌||◌, cond, nat_lt, List, [], ◌∷◌, ◌++◌, length, Option, Some, None, option_and_then, refl, ap, sym, subst, ◌∙◌, arith, append_assoc, append-nil, lt-ltb}
 use Rattle.std.specs.List.{AllByRecursion}
 use Rattle.otlp_types.specs.declared.arrival.Arrival.{Arrival}

@@ -1,4 +1,5 @@
 -- What the exporter did, as steps: each span that it pulled is shipped and pulled, and its other acts are one step each.
+-- For the contract of `weave`.
 use Rattle.std.proofs.Common.{◌≡◌, ℕ, ◌+◌, ◌<◌, true, not, ◌||◌, cond, nat_lt, List, [], ◌∷◌, ◌++◌, length, Some, None, option_and_then, sym, refl, ap, ◌∙◌, subst, arith}
 use Rattle.std.specs.List.{AllByRecursion}
 use native.Mathlib.Decide.{ℕ_discrete}

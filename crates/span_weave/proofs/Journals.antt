@@ -1,4 +1,5 @@
 -- Who has ended in a journal, and what is still to be popped of a sender.
+-- For the contract of `weave`.
 use Rattle.std.proofs.Common.{◌≡◌, ◌≢◌, ◌⊎◌, inl, inr, ℕ, zero, suc, ◌<◌, ◌&&◌, ◌||◌, Bool, true, false, not, List, [], ◌∷◌, ◌++◌, map, reverse, sym, refl, ap, ◌∙◌, subst, append_assoc, eq-eqb, ne_eqb, arith}
 use Rattle.std.proofs.lemmas.List.{reverse-append}
 use native.Mathlib.Decide.{ℕ_discrete}

@@ -1,4 +1,5 @@
 -- Lists by the numbers of their places, and taking out the first span that goes to a shard.
+-- For the contract of `weave`.
 use Rattle.std.proofs.Common.{◌≡◌, ◌≢◌, ℕ, zero, suc, ◌+◌, ◌<◌, ◌≤◌, ◌==◌, ◌||◌, Bool, true, false, List, [], ◌∷◌, length, cond, filter, replicate, slice_get, slice_set, Option, Some, None, option_map, sym, refl, ap, ◌∙◌, eq-eqb, ne_eqb, eqb-true, arith}
 use Rattle.std.specs.List.{list_any}
 use Rattle.otlp_types.specs.declared.arrival.Arrival.{Arrival}

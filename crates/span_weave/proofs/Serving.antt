@@ -1,4 +1,5 @@
 -- The steps by which a shard takes one item that it popped: the refused tries before it, its route, its taking, and the decisions on all that is due.
+-- For the contract of `weave`.
 use Rattle.std.proofs.Common.{◌≡◌, ◌≢◌, ℕ, ◌+◌, ◌<◌, ◌==◌, ◌&&◌, Bool, true, false, cond, List, [], ◌∷◌, ◌++◌, length, map, filter, slice_get, Some, sym, refl, ap, ◌∙◌, subst, append_assoc, append-nil, length-append, arith}
 use native.Mathlib.Decide.{ℕ_discrete}
 use Rattle.otlp_types.specs.declared.arrival.Arrival.{Arrival}

@@ -1,4 +1,5 @@
 -- The pushes of a lane's arrivals are tries of the weave, by induction over the arrivals.
+-- To be cited where a lane's thread is proved, for the premise `tried` of `weave`.
 use Rattle.std.proofs.Common.{◌≡◌, inl, inr, ℕ, zero, suc, ◌+◌, ◌<◌, ◌==◌, cond, List, [], ◌∷◌, ◌++◌, length, map, filter, slice_get, slice_set, Option, Some, None, refl, ap, sym, subst, ◌∙◌, arith, append_assoc, append-nil, eq-eqb, ne_eqb}
 use native.Mathlib.Decide.{ℕ_discrete}
 use Rattle.otlp_types.specs.declared.arrival.Arrival.{Arrival}

@@ -1,4 +1,5 @@
 -- What running threads did is a run of the core.
+-- For the contract of `weave`.
 use Rattle.std.proofs.Common.{◌≡◌, ◌≢◌, inl, ℕ, zero, suc, ◌+◌, ◌<◌, Bool, true, false, not, cond, is_some, List, [], ◌∷◌, ◌++◌, length, map, filter, Option, Some, None, option_map, sym, refl, ap, ◌∙◌, subst, append-nil, lt-ltb, arith}
 use Rattle.otlp_types.specs.declared.arrival.Arrival.{Arrival}
 use Rattle.otlp_types.specs.declared.arrival.Item.TheVariants.{Tick, End}

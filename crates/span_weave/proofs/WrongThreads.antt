@@ -121,7 +121,6 @@ second = record { key = record { conn = record { lane = 0; ordinal = 0 }; number
 abbrev did : (received : List Arrival) → (tries : List Try) → (ticks : List ℕ) → (popped : List (ℕ × Entry)) → List Act → Threads
 did received tries ticks popped acts = record { received = λ lane. received; tries = λ lane shard. tries; ticks = λ shard. ticks; popped = λ shard. popped; acts = acts }
 
--- what was handed over
 abbrev made : List (List Arrival) → Export
 made batches = record { batch = []; handed = batches; counted = []; down = false }
 
@@ -262,7 +261,6 @@ behind_end w one = record {
 abbrev fate_by : Settings → Journal → Fate
 fate_by s past = fate s past (entry_of (End 1) false false ∷ entry_of (End 0) false false ∷ []) false (ids_of 1)
 
--- it waits in the buffer
 pub ended_early_is_no_run : Woven config 1 1 ended_early (made []) → ⊥
 unfolding notes
 ended_early_is_no_run w =
@@ -360,11 +358,9 @@ left_in_batch_meets = record {
   flushed = tt;
 }
 
--- a test of what is held
 abbrev waits_there : HeldKey → Bool
 waits_there h = is_waiting h.place
 
--- all of these wait
 abbrev AllWait : List HeldKey → Type 0
 AllWait hs = filter waits_there hs ≡ hs
 
