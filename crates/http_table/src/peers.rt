@@ -62,12 +62,15 @@ pub struct Page {
     pub bytes: Vec<u8>,
     pub portion: usize,
     pub room: usize,
+    /// So many writes were made.
+    pub writes: u64,
 }
 
 impl Write for Page {
     ghost contents = { λ page. Some page.bytes.items };
 
     fn write(&mut self, bytes: &[u8]) -> io::Result<usize> {
+        self.writes = self.writes.saturating_add(1);
         let count = bytes.len().min(self.room).min(self.portion);
         if count == 0 {
             return Err(io::Error::from(ErrorKind::BrokenPipe));

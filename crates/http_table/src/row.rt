@@ -131,6 +131,17 @@ fn texts(alloc: Global, column: &str) -> Result<Vec<Vec<u8>>, AllocError> {
 }
 
 impl<'t> Row<'t> {
+    /// How many writes its answers are: one each.
+    pub fn writes(&self) -> u64 {
+        let mut writes: u64 = 0;
+        for answer in &self.answers {
+            if !answer.is_empty() {
+                writes = writes.saturating_add(1);
+            }
+        }
+        writes
+    }
+
     /// The exchange of a line, unless it has too few columns.
     pub fn read(alloc: Global, line: &'t str) -> Result<Option<Row<'t>>, AllocError> {
         let mut columns = line.split('\t');

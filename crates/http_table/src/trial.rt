@@ -39,6 +39,8 @@ pub const WHOLE: Way = Way {
 pub struct Came {
     pub end: &'static str,
     pub written: Vec<u8>,
+    /// In so many writes.
+    pub writes: u64,
     pub outcome: Outcome,
 }
 
@@ -94,6 +96,7 @@ pub fn served(alloc: Global, setup: &Setup, input: &[u8], way: Way) -> Result<Ca
         bytes: Vec::with_capacity(alloc, 4096)?,
         portion: way.portion,
         room: way.room,
+        writes: 0,
     };
     let mark = Mark {
         set: Cell::new(setup.is_stopped),
@@ -113,6 +116,7 @@ pub fn served(alloc: Global, setup: &Setup, input: &[u8], way: Way) -> Result<Ca
     let (pushed, last, moment) = queued(lane);
     Ok(Came {
         end: name_of(end),
+        writes: page.writes,
         written: page.bytes,
         outcome: Outcome {
             received: report.number(Count::Received),
@@ -197,6 +201,7 @@ pub fn holds(alloc: Global, row: &Row) -> Result<bool, AllocError> {
     let answers = joined(alloc, &row.answers)?;
     let whole = served(alloc, &row.setup, &row.input, WHOLE)?;
     let mut right = row.outcome.reads == 0 || row.outcome.reads == whole.outcome.reads;
+    right &= whole.writes == row.writes();
     right &= is_answered(alloc, row, &answers, WHOLE)?;
     right &= is_answered(
         alloc,
