@@ -13,7 +13,7 @@ ghost use Rattle.std.specs.Prelude.{◌<◌};
 
 mod numbers;
 
-use crate::numbers::{Waiting, pass_alone, pass_between, wait_between};
+use crate::numbers::{Waiting, pass_alone, pass_between};
 use std::alloc::{AllocError, Global};
 use std::marker::Brand;
 use std::process::ExitCode;
@@ -29,7 +29,7 @@ enum Work {
     Between(Waiting),
     /// Numbers in one thread.
     Alone,
-    /// A wait of so many seconds.
+    /// A wait of so many seconds, for one number.
     Idle,
 }
 
@@ -54,11 +54,13 @@ fn count_out<R: Threads + Wait + Clock + Sync>(
 ) -> Result<u64, AllocError>
     requires { 0 < capacity }
 {
-    match work {
-        Work::Between(waiting) => pass_between::<Brand, R>(rt, alloc, capacity, number, waiting),
-        Work::Alone => pass_alone::<Brand, R>(rt, alloc, capacity, number),
-        Work::Idle => wait_between::<Brand, R>(rt, alloc, capacity, Duration::from_secs(number)),
-    }
+    let (rest, count, waiting) = match work {
+        Work::Between(waiting) => (0, number, waiting),
+        Work::Alone => return pass_alone::<Brand, R>(rt, alloc, capacity, number),
+        Work::Idle => (number, 1, Waiting::Sleep),
+    };
+    let rest = Duration::from_secs(rest);
+    pass_between::<Brand, R>(rt, alloc, capacity, rest, count, waiting)
 }
 
 /// Does a piece of work, and prints how many numbers came out at their place.

@@ -30,14 +30,16 @@ fn push_yielding<C: Room, R: Wait>(rt: &R, sender: &mut Sender<u64, C>, item: u6
     unreachable!()
 }
 
-/// Pushes the numbers below `count`.
+/// Sleeps for so long, and then pushes the numbers below `count`.
 fn push_all<C: Room, R: Wait + Clock>(
     rt: &R,
     sender: Sender<u64, C>,
+    rest: Duration,
     count: u64,
     waiting: Waiting,
 ) {
     let mut sender = sender;
+    thread::sleep(rt, rest);
     for item in 0..count {
         match waiting {
             Waiting::Sleep => sender.push(rt, item),
@@ -83,11 +85,12 @@ fn pop_all<C: Room, R: Wait + Clock>(
     in_place
 }
 
-/// Sends so many numbers from one thread to another, and answers how many came at their place.
+/// Sends so many numbers from one thread, when it has slept for so long, to another, and answers how many came at their place.
 pub fn pass_between<C: Room + Send + Sync, R: Threads + Wait + Clock + Sync>(
     rt: &R,
     alloc: Global,
     capacity: usize,
+    rest: Duration,
     count: u64,
     waiting: Waiting,
 ) -> Result<u64, AllocError>
@@ -97,7 +100,7 @@ pub fn pass_between<C: Room + Send + Sync, R: Threads + Wait + Clock + Sync>(
     let sender = senders.pop().ok_or(AllocError)?;
     let (_, in_place) = thread::join(
         rt,
-        move || push_all(rt, sender, count, waiting),
+        move || push_all(rt, sender, rest, count, waiting),
         move || pop_all(rt, receiver, count, waiting),
     );
     Ok(in_place)
@@ -120,30 +123,5 @@ pub fn pass_alone<C: Room, R: Wait>(
             in_place = in_place.saturating_add(1);
         }
     }
-    Ok(in_place)
-}
-
-/// Pushes one number when so much time has passed.
-fn push_after<C: Room, R: Wait + Clock>(rt: &R, sender: Sender<u64, C>, rest: Duration) {
-    thread::sleep(rt, rest);
-    push_all(rt, sender, 1, Waiting::Sleep);
-}
-
-/// Lets a thread wait for so long, and then sends it one number. It answers how many came at their place.
-pub fn wait_between<C: Room + Send + Sync, R: Threads + Wait + Clock + Sync>(
-    rt: &R,
-    alloc: Global,
-    capacity: usize,
-    rest: Duration,
-) -> Result<u64, AllocError>
-    requires { (0 < capacity) × (capacity ≡ C.capacity) }
-{
-    let (mut senders, receiver) = LaneQueue::new::<u64, C>(alloc, capacity, 1)?;
-    let sender = senders.pop().ok_or(AllocError)?;
-    let (_, in_place) = thread::join(
-        rt,
-        move || push_after(rt, sender, rest),
-        move || pop_all(rt, receiver, 1, Waiting::Sleep),
-    );
     Ok(in_place)
 }

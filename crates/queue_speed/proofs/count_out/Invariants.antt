@@ -6,6 +6,3 @@ ghosts-pass_between g a = record { capacity = a.capacity }
 
 abbrev pub ghosts-pass_alone : goal.ghosts-pass_alone
 ghosts-pass_alone g a = record { capacity = a.capacity }
-
-abbrev pub ghosts-wait_between : goal.ghosts-wait_between
-ghosts-wait_between g a = record { capacity = a.capacity }
