@@ -1,8 +1,9 @@
 #!/usr/bin/env bash
 # Times numbers through one sender and one receiver, beside upstream's `crossbeam-queue` in plain Rust (bench/queue), each three times in turn:
 # bench/queue.sh [ITEMS [CAPACITY]]. It prints items in a second, the instructions of one push and one pop in one thread by valgrind, and what a
-# thread that waits ten seconds at an empty queue takes of a processor. It is no part of the gate. The program must be built: (cd
-# crates/queue_speed && rt run). Upstream's sources are Debian's: apt-get install librust-crossbeam-queue-dev librust-crossbeam-utils-dev.
+# thread that waits ten seconds at an empty queue takes of a processor; then spans in a second through a shard's worker. It is no part of the gate.
+# The programs must be built: cd to crates/queue_speed, and to crates/worker_speed, and rt run. Upstream's sources are Debian's: apt-get install
+# librust-crossbeam-queue-dev librust-crossbeam-utils-dev.
 set -eu
 cd "$(dirname "$0")"
 items=${1:-5000000}
@@ -49,3 +50,12 @@ instructions_each() {
 }
 instructions_each queue_speed "$program"
 instructions_each crossbeam-queue "$upstream"
+python3 - "$PWD/../crates/worker_speed/out/worker_speed" <<'PYTHON'
+import subprocess, sys, time
+speeds = []
+for _ in range(3):
+    began = time.monotonic()
+    spans = int(subprocess.run([sys.argv[1], "1000"], capture_output=True, check=True).stdout.split()[0])
+    speeds.append(spans / (time.monotonic() - began))
+print("a shard's worker, in one thread: " + ", ".join(f"{speed:.0f}" for speed in speeds) + " spans a second")
+PYTHON
