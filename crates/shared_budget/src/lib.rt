@@ -1,0 +1,17 @@
+//! One limiter of spans per second for several seats, each of which may be on a thread of its own: each second's grants to
+//! all of them together are at most the limit.
+//!
+//! A limiter node has one cell of two words, the greatest second asked and the spans granted in it. Whatever the schedule,
+//! the node has one history of askings at every moment, in which each is answered by the askings before it. The definitions
+//! are in `specs/`, their reading order in its `Lib`.
+#![tactic(auto)]
+
+mod budget_seat;
+mod known;
+mod node_budget;
+mod node_seat;
+
+pub use budget_seat::{BudgetSeat, Limiter};
+pub use known::{Asked, Part, View};
+pub use node_budget::{node_seats, reunite_node, stays_within};
+pub use node_seat::NodeSeat;
