@@ -1,15 +1,14 @@
 -- Seats that are made one by one, and taken in one by one.
 -- For the contracts of `node_seats`, `reunite_node` and `stays_within`.
-use Rattle.std.proofs.Common.{◌≡◌, ℕ, zero, suc, ◌+◌, ◌-◌, ◌<◌, ◌≤◌, ◌==◌, Bool, true, false, true≢false, List, [], ◌∷◌, ◌++◌, All, Some, None, Option, length, cond, max, nat_le, ◌&&◌, sym, refl, ap, ◌∙◌, subst, append_assoc, length-append, arith, ne_eqb}
+use Rattle.std.proofs.Common.{◌≡◌, ℕ, ◌+◌, ◌-◌, ◌<◌, ◌≤◌, ◌==◌, Bool, true, false, List, [], ◌∷◌, ◌++◌, All, length, cond, max, nat_le, ◌&&◌, sym, refl, ap, ◌∙◌, subst, append_assoc, length-append, arith}
 use Rattle.std.proofs.lemmas.Bool.Decides.{nat_tests}
-use Rattle.std.proofs.lemmas.List.{append-nil}
-use Rattle.std.proofs.lemmas.List.Elements.{All-nil, All-cons, All-head, All-tail, All-append, All-weaker, All-push}
+use Rattle.std.proofs.lemmas.List.Elements.{All-nil, All-cons, All-head, All-tail, All-weaker}
 use Rattle.atomic_table.specs.Seated.{TableId}
 use Rattle.rate_budget.specs.Grant.{latest_second, granted_in, grants}
 use Rattle.shared_budget.specs.declared.known.Asked.{Asked}
 use Rattle.shared_budget.specs.declared.known.Part.{Part}
 use Rattle.shared_budget.specs.declared.known.View.{View}
-use Rattle.shared_budget.specs.History.{asking_of, askings, IsLegal, AreOfSeats, HasPart}
+use Rattle.shared_budget.specs.History.{askings, IsLegal, AreOfSeats, HasPart}
 use Rattle.shared_budget.specs.Rule.{own, seated, without_next, next_seat, with_parts, OneHistory}
 use Rattle.shared_budget.specs.Seats.{Stand, AreNewFrom, AreNew, IsOf, AreOfOne, StandsIn, HaveOneHistory, StaysWithin}
 
@@ -27,11 +26,11 @@ all_back : (P : Part → Type 0) (xs ys : List Part) → All P (xs ++ ys) → Al
 all_back P [] ys h = h
 all_back P (x ∷ xs) ys h = all_back P xs ys (All-tail P x (xs ++ ys) h)
 
-all_front : (P : Stand → Type 0) (xs ys : List Stand) → All P (xs ++ ys) → All P xs
+pub all_front : {X : Type 0} (P : X → Type 0) (xs ys : List X) → All P (xs ++ ys) → All P xs
 all_front P [] ys h = All-nil P
 all_front P (x ∷ xs) ys h = All-cons P x xs (All-head P x (xs ++ ys) h) (all_front P xs ys (All-tail P x (xs ++ ys) h))
 
-all_last : (P : Stand → Type 0) (xs : List Stand) (y : Stand) → All P (xs ++ y ∷ []) → P y
+pub all_last : {X : Type 0} (P : X → Type 0) (xs : List X) (y : X) → All P (xs ++ y ∷ []) → P y
 all_last P [] y h = All-head P y [] h
 all_last P (x ∷ xs) y h = all_last P xs y (All-tail P x (xs ++ y ∷ []) h)
 

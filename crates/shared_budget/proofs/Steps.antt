@@ -2,20 +2,19 @@
 -- For the contracts of `NodeSeat`, and of what makes, gives and unites the seats of a node.
 use Rattle.std.proofs.Common.{◌≡◌, ◌≢◌, ◌⊎◌, inl, inr, ⊎_elim, ℕ, zero, suc, ◌+◌, ◌<◌, ◌≤◌, ◌==◌, Bool, true, false, true≢false, List, [], ◌∷◌, ◌++◌, All, cond, length, set, sym, refl, ap, ◌∙◌, subst, append_assoc, eq-eqb, ne_eqb, arith}
 use Rattle.std.specs.Prelude.{nat_eq, MatchBool, if◌then◌else◌}
-use Rattle.std.proofs.lemmas.List.{append-nil}
 use Rattle.std.proofs.lemmas.List.Elements.{All-nil, All-cons, All-append, All-weaker}
 use mathlib.Core.Option.{some, some-ne-none, some-injective}
 use lib.ListN.{get_elem?}
 use lib.Pointwise.{pointwise, bytes_decides}
 use Rattle.crossbeam_utils.specs.Register.{Turns, Forks, Merges}
-use Rattle.atomic_table.proofs.Lists.{at_set, at_snoc}
+use Rattle.atomic_table.proofs.Lists.{at_set}
 use Rattle.rate_budget.specs.Grant.{grants}
 use Rattle.rate_budget.specs.Budget.{grants_of}
 use Rattle.shared_budget.specs.declared.known.Asked.{Asked}
 use Rattle.shared_budget.specs.declared.known.Part.{Part}
 use Rattle.shared_budget.specs.declared.known.View.{View}
-use Rattle.shared_budget.specs.History.{askings, IsLegal, of_seat, GoesOn, AreOfSeats, HasPart}
-use Rattle.shared_budget.specs.Rule.{words_of, count_with, count_at, words_with, next_words, answer, own, Knows, Kept, newcomer, spent, seated, IsSeat, without_next, next_seat, with_parts, asked, Asks, Looks, Loads, Exchanges, OneHistory, Compares}
+use Rattle.shared_budget.specs.History.{askings, IsLegal, of_seat, AreOfSeats, HasPart}
+use Rattle.shared_budget.specs.Rule.{words_of, count_with, count_at, words_with, next_words, answer, own, Knows, Kept, newcomer, spent, seated, IsSeat, without_next, next_seat, with_parts, asked, Asks, Looks, Loads, Exchanges, Compares}
 use Rattle.shared_budget.proofs.Histories.{legal_after, words_after, refused}
 
 -- ---- lists of views

@@ -1,8 +1,7 @@
 -- An asking leaves the nodes of a seat.
 -- For the law `keeps` of `Limiter`.
-use Rattle.std.proofs.Common.{◌≡◌, ℕ, zero, suc, ◌==◌, Bool, ◌||◌, List, [], ◌∷◌, Some, slice_get, slice_set, refl, sym, ap, ◌∙◌, subst}
+use Rattle.std.proofs.Common.{◌≡◌, ℕ, zero, suc, ◌==◌, Bool, ◌||◌, List, [], ◌∷◌, Some, slice_get, slice_set, refl, ap, ◌∙◌}
 use Rattle.shared_budget.specs.declared.known.View.{View}
-use Rattle.shared_budget.specs.Rule.{Asks}
 use Rattle.shared_budget.specs.Seats.{Stand, has_node, AsksAt}
 
 set_keeps : (stands : List Stand) (place : ℕ) (s t : Stand) (m : ℕ) → slice_get stands place ≡ Some s → t.1.node ≡ s.1.node → has_node (slice_set stands place t) m ≡ has_node stands m

@@ -6,12 +6,14 @@
 //! are in `specs/`, their reading order in its `Lib`.
 #![tactic(auto)]
 
+mod budget;
 mod budget_seat;
 mod known;
+mod law;
 mod node_budget;
 mod node_seat;
 
+pub use budget::SharedBudget;
 pub use budget_seat::{BudgetSeat, Limiter};
 pub use known::{Asked, Part, View};
-pub use node_budget::{node_seats, reunite_node, stays_within};
-pub use node_seat::NodeSeat;
+pub use law::{asked_seats_may_be_compared, stays_within};
