@@ -3,7 +3,7 @@
 use Rattle.std.proofs.Common.{◌≡◌, ℕ, zero, suc, ◌+◌, ◌<◌, ◌≤◌, List, [], ◌∷◌, ◌++◌, All, Some, None, Option, length, map, option_map, slice_get, slice_set, slice_index_or, sym, refl, ap, ◌∙◌, subst, arith, length-append, length-set}
 use Rattle.std.specs.Option.{unwrap_or}
 use Rattle.std.proofs.lemmas.Option.{slice_get-map, slice_get_read, slice_get_within, get_or_from_slice_get}
-use Rattle.std.proofs.lemmas.List.Elements.{All-nil, All-cons, All-head, All-tail}
+use Rattle.std.proofs.lemmas.List.Elements.{All-nil, All-cons, All-head, All-push, All-tail}
 use Rattle.atomic_table.specs.Seated.{TableId}
 use Rattle.policy_tree.specs.declared.limiter_node.LimiterNode.{LimiterNode}
 use Rattle.shared_budget.specs.declared.known.View.{View}
@@ -344,3 +344,13 @@ pub each_within : EachStaysWithin
 each_within seats h place =
     let o = h place in
     (o.0, λ k d lt. ((o.1 k d lt).2, λ second. within _ _ second o.0 (o.1 k d lt).0))
+
+-- ---- seats that are taken from a list, asked and put back
+
+pub taken : (cells : List NodeCell) (xs ys : List (List Stand)) (x : List Stand) → All (HasCells cells) xs → xs ≡ ys ++ x ∷ [] → All (HasCells cells) ys × HasCells cells x
+taken cells xs ys x h is =
+    let P : List Stand → Type 0 = HasCells cells in
+    let all = subst (All P) is h in (all_front P ys (x ∷ []) all, all_last P ys x all)
+
+pub put_back : (cells : List NodeCell) (xs ys : List (List Stand)) (x x' : List Stand) → All (HasCells cells) ys → HasCells cells x → map cell_of x' ≡ map cell_of x → xs ≡ ys ++ x' ∷ [] → All (HasCells cells) xs
+put_back cells xs ys x x' h of same is = subst (All (HasCells cells)) (sym is) (All-push (HasCells cells) ys x' h (same ∙ of))
