@@ -12,6 +12,7 @@ mod known;
 mod law;
 mod node_budget;
 mod node_seat;
+mod one_thread;
 #[cfg(test)]
 mod tests;
 
