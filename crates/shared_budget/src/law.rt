@@ -1,0 +1,16 @@
+//! What holds of every history of seats, whoever asked.
+ghost use Rattle.shared_budget.specs.Seats.{StaysWithin};
+ghost use Rattle.shared_budget.specs.Budget.{NewSeatsAreOfOne, AskingKeepsCells, SameCellsSuffice, EachStaysWithin};
+
+/// In each second the grants of a node that count there add up to at most its limit.
+pub fn stays_within()
+    ensures history { StaysWithin }
+    ensures each { EachStaysWithin }
+{}
+
+/// The seats that one call makes may be compared, however often each was asked.
+pub fn asked_seats_may_be_compared()
+    ensures new { NewSeatsAreOfOne }
+    ensures asked { AskingKeepsCells }
+    ensures same { SameCellsSuffice }
+{}

@@ -1,0 +1,22 @@
+//! One limiter of spans per second for several seats, each of which may be on a thread of its own: each second's grants to
+//! all of them together are at most the limit.
+//!
+//! A limiter node has one cell of two words, the greatest second asked and the spans granted in it. Whatever the schedule,
+//! the node has one history of askings at every moment, in which each is answered by the askings before it. The definitions
+//! are in `specs/`, their reading order in its `Lib`.
+#![tactic(auto)]
+
+mod budget;
+mod budget_seat;
+mod known;
+mod law;
+mod node_budget;
+mod node_seat;
+mod one_thread;
+#[cfg(test)]
+mod tests;
+
+pub use budget::SharedBudget;
+pub use budget_seat::{BudgetSeat, Limiter};
+pub use known::{Asked, Part, View};
+pub use law::{asked_seats_may_be_compared, stays_within};
