@@ -1,0 +1,3 @@
+-- Which of the types that the jobs hold may go to another thread.
+pub mod Sent
+pub mod ShardSent

@@ -1,0 +1,14 @@
+//! Tests of the workers on threads of their own, by public calls alone: they stand above the crates that they call, which
+//! are then proved without them.
+#![tactic(auto)]
+
+#[cfg(test)]
+mod jobs;
+#[cfg(test)]
+mod memory_sink;
+#[cfg(test)]
+mod one_thread;
+#[cfg(test)]
+mod spans;
+#[cfg(test)]
+mod workers;

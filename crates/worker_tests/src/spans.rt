@@ -1,0 +1,106 @@
+//! The spans that the lanes send: which trace each is of, and what tells it again.
+ghost use Rattle.std.specs.Prelude.{◌≡◌, IsSome, true};
+ghost use Rattle.shard_core.specs.Taking.{has_ids};
+
+use otlp_types::{Arrival, Ids, Item, List, Record, Resource, Scope, Span, Status, Text};
+use span_ids::{ArrivalKey, ConnKey, SpanId, TraceId};
+use std::alloc::Global;
+use std::process::Abort;
+
+/// A span by the lane that sends it, and by its number there, from 0 on.
+pub type Sent = (u64, u64);
+
+/// The ids of four traces: of each of two shards one that has errors and is kept, and one that has none.
+#[derive(Clone, Copy)]
+pub struct Traces {
+    first_kept: Ids,
+    second_kept: Ids,
+    first_left: Ids,
+    second_left: Ids,
+}
+
+impl Traces {
+    /// The four traces.
+    pub fn new(rt: &impl Abort) -> Self {
+        Traces {
+            first_kept: ids_of(rt, "5b8efff798038103d269b633813fc610"),
+            second_kept: ids_of(rt, "5b8efff798038103d269b633813fc611"),
+            first_left: ids_of(rt, "5b8efff798038103d269b633813fc620"),
+            second_left: ids_of(rt, "5b8efff798038103d269b633813fc621"),
+        }
+    }
+}
+
+fn ids_of(rt: &impl Abort, trace: &str) -> Ids {
+    Ids {
+        trace: TraceId::parse(trace).expect(rt, "a trace id"),
+        span: SpanId::parse("eee19b7ec3c1b174").expect(rt, "a span id"),
+        parent: None,
+    }
+}
+
+/// Whether a lane's span of this number goes to the second shard.
+pub fn is_of_second(number: u64) -> bool {
+    number % 2 == 1
+}
+
+/// A lane's span, which its start and its end tell again. A lane's spans are of the four traces in turn.
+pub fn span_item(alloc: Global, traces: &Traces, lane: u16, number: u64) -> Item
+    ensures { has_ids result ≡ true }
+{
+    let (ids, code) = match number % 4 {
+        0 => (traces.first_kept, 2),
+        1 => (traces.second_kept, 2),
+        2 => (traces.first_left, 0),
+        _ => (traces.second_left, 0),
+    };
+    let conn = ConnKey { lane, ordinal: 0 };
+    Item::Span(Arrival {
+        key: ArrivalKey { conn, number },
+        moment: 0,
+        rec: record_of(alloc, ids, code, lane as u64, number),
+    })
+}
+
+fn record_of(alloc: Global, ids: Ids, code: i32, start: u64, end: u64) -> Record
+    ensures { IsSome result.span.ids }
+{
+    Record {
+        resource: Resource {
+            attributes: List::new(alloc),
+            dropped_attributes_count: 0,
+        },
+        resource_schema_url: Text::new(alloc),
+        scope: Scope {
+            name: Text::new(alloc),
+            version: Text::new(alloc),
+            attributes: List::new(alloc),
+            dropped_attributes_count: 0,
+        },
+        scope_schema_url: Text::new(alloc),
+        span: Span {
+            ids: Some(ids),
+            trace_state: Text::new(alloc),
+            flags: 0,
+            name: Text::new(alloc),
+            kind: 0,
+            start_time_unix_nano: start,
+            end_time_unix_nano: end,
+            attributes: List::new(alloc),
+            dropped_attributes_count: 0,
+            events: List::new(alloc),
+            dropped_events_count: 0,
+            links: List::new(alloc),
+            dropped_links_count: 0,
+            status: Status {
+                message: Text::new(alloc),
+                code,
+            },
+        },
+    }
+}
+
+/// Which span a record is.
+pub fn sent_of(rec: &Record) -> Sent {
+    (rec.span.start_time_unix_nano, rec.span.end_time_unix_nano)
+}
