@@ -1,0 +1,57 @@
+-- What a lane's thread did: the connections that its feed gave were served, one after the other.
+use Rattle.std.specs.Prelude.{◌≡◌, ◌⊎◌, ℕ, ◌-◌, ◌^◌, ◌<◌, Bool, true, false, MatchBool, List, [], ◌∷◌, Option, Some, None}
+use Rattle.otlp_types.specs.declared.arrival.Item.{Item}
+use Rattle.otlp_types.specs.declared.arrival.Item.TheVariants.{End}
+use Rattle.lane_queue.specs.Ends.{EndState, with_item, TakesItem, IsRefused}
+use Rattle.lane_seq.specs.Pushes.{LaneState}
+use Rattle.lane_seq.specs.declared.preparing.Conn.{Conn}
+use Rattle.http_lane.specs.declared.answer.ServeEnd.{ServeEnd}
+use Rattle.http_lane.specs.declared.answer.ServeEnd.TheVariants.{BookFull}
+use Rattle.http_lane.specs.Engine.{KnownReader, Served}
+use Rattle.http_lane.specs.Intake.{Submits, intake, first_conn, connected}
+
+-- what was known of a connection's reader and writer when the feed gave it
+pub record Connection : Type 0 where
+  pub reader : KnownReader
+  pub written : Option (List ℕ)
+
+abbrev pub connection : KnownReader → Option (List ℕ) → Connection
+connection reader written = record { reader = reader; written = written }
+
+-- a lane, and what it counted
+pub record LaneAt : Type 0 where
+  pub lane : LaneState (EndState Item)
+  pub counted : List ℕ
+
+abbrev pub lane_at : LaneState (EndState Item) → List ℕ → LaneAt
+lane_at lane counted = record { lane = lane; counted = counted }
+
+-- the connection ended because a count would have passed 2^64-1
+abbrev pub is_book_full : ServeEnd → Bool
+is_book_full BookFull = true
+is_book_full _ = false
+
+-- the connection was the lane's next one; it was served as some transcript says, and ended so
+abbrev pub ServedOne : (capacity : ℕ) → Connection → (old new : LaneAt) → ServeEnd → Type 0
+ServedOne capacity c old new end = (conn : Conn) × (reader : KnownReader) × (written : Option (List ℕ))
+    × Served (Submits (TakesItem capacity) (IsRefused capacity)) c.written written (intake (connected old.lane) (first_conn old.lane) old.counted) (intake new.lane conn new.counted) c.reader reader end
+
+module _ {F X : Type 0} (gives : F → Option X → F → Type 0) (known : X → Connection) (capacity : ℕ) where
+  -- the feed was asked no more: it gave nothing, or it had given 2^64-1 connections
+  abbrev pub Exhausts : (old : F) → (before : LaneAt) → (new : F) → Type 0
+  Exhausts old before new = gives old None new ⊎ ((before.lane.connected ≡ 2 ^ 64 - 1) × (new ≡ old))
+
+  -- the feed gave these connections, one after the other, and each was served; it was asked until it gave nothing, unless a count would have passed 2^64-1
+  abbrev pub ServesAll : List X → (old : F) → (before : LaneAt) → (new : F) → (after : LaneAt) → (is_full : Bool) → Type 0
+  ServesAll [] old before new after is_full = Exhausts old before new × (after ≡ before) × (is_full ≡ false)
+  ServesAll (x ∷ rest) old before new after is_full = (feed : F) × (lane : LaneAt) × (end : ServeEnd)
+      × gives old (Some x) feed × ServedOne capacity (known x) before lane end
+      × MatchBool (is_book_full end) ((rest ≡ []) × (new ≡ feed) × (after ≡ lane) × (is_full ≡ true)) (ServesAll rest feed lane new after is_full)
+
+  -- there are connections of which that is so
+  abbrev pub HasServed : (old : F) → (before : LaneAt) → (new : F) → (after : LaneAt) → (is_full : Bool) → Type 0
+  HasServed old before new after is_full = (given : List X) × ServesAll given old before new after is_full
+
+-- the end after an End of this number was pushed there
+abbrev pub with_end : (number : ℕ) → EndState Item → EndState Item
+with_end number end = with_item end (End number)

@@ -1,0 +1,158 @@
+//! The loop of a lane's thread.
+ghost use Rattle.std.specs.Prelude.{◌≡◌, ◌++◌, ◌∷◌, ◌≤◌, ◌<◌, ◌-◌, ◌^◌, [], ℕ, List, length, map, vec_capacity, vec_len};
+ghost use Rattle.lane_queue.specs.Ends.{EndState, queues};
+ghost use Rattle.lane_worker.specs.Serving.{LaneAt, connection, lane_at, ServedOne, HasServed, is_book_full, with_end};
+
+use crate::feed::Feed;
+use drop_ledger::Counter;
+use http_lane::{Clock as MomentClock, ServeEnd, Source, Stop, serve};
+use lane_queue::{Gate, Place, Room, Sender, SenderPort};
+use lane_seq::Lane;
+use otlp_types::Item;
+use std::alloc::Global;
+use std::io::Write;
+use std::sync::Wait;
+use std::time::Clock;
+
+/// What is left of a lane's thread.
+#[derive(Drop)]
+pub struct LaneEnd<C: Room> {
+    /// The ends at which it pushed, by shard.
+    pub senders: Vec<Sender<Item, C>>,
+    /// Whether a count would have passed 2^64-1.
+    pub is_full: bool,
+}
+
+/// Serves what the feed gives until it gives nothing, and then pushes the lane's End to each shard. After 2^64-1
+/// connections, or once a count would have passed 2^64-1, no further connection is asked for. `number` is the lane's, and
+/// `room` has room for its ends by shard.
+pub fn work<'r, F: Feed, C: Room, K: Counter, G: Gate, S: Stop, M: MomentClock, R: Wait + Clock>(
+    rt: &'r R,
+    alloc: Global,
+    number: u16,
+    lane: Lane<SenderPort<'r, Item, C, R>>,
+    room: Vec<Sender<Item, C>>,
+    feed: &mut F,
+    counter: &mut K,
+    gate: &G,
+    stop: &S,
+    clock: &M,
+) -> LaneEnd<C>
+    requires number { lane.number ≡ number }
+    requires room { (room.items ≡ []) × (length lane.ports ≤ vec_capacity room) }
+    ensures works { (after : LaneAt) × HasServed F.gives (λ x. connection (F.Reader.given x.0) (F.Writer.contents x.1)) C.capacity
+        feed.old (lane_at lane.entry (K.counted counter.old)) feed.new after result.is_full
+        × (after.counted ≡ K.counted counter.new)
+        × (result.senders.items ≡ map (with_end number) after.lane.ports) }
+    ensures same_queues { queues result.senders.items ≡ queues lane.entry.ports }
+{
+    let mut lane = lane;
+    let is_full = serve_all(
+        rt, alloc, number, &mut lane, feed, counter, gate, stop, clock,
+    );
+    let senders = end_all(rt, number, lane.end().ports, room);
+    LaneEnd { senders, is_full }
+}
+
+/// Pushes the End to each shard.
+fn end_all<'r, C: Room, R: Wait + Clock>(
+    rt: &R,
+    number: u16,
+    ports: Vec<SenderPort<'r, Item, C, R>>,
+    room: Vec<Sender<Item, C>>,
+) -> Vec<Sender<Item, C>>
+    requires { (room.items ≡ []) × (length ports.items ≤ vec_capacity room) }
+    ensures { result.items ≡ map (with_end number) ports.entry.items }
+{
+    let mut senders = room;
+    for port in ports {
+        let mut sender = port.end();
+        sender.push(rt, Item::End(number));
+        senders.push_reserved(sender);
+    }
+    senders
+}
+
+/// Serves what the feed gives, and says whether a count would have passed 2^64-1.
+fn serve_all<'r, F: Feed, C: Room, K: Counter, G: Gate, S: Stop, M: MomentClock, R: Wait + Clock>(
+    rt: &R,
+    alloc: Global,
+    number: u16,
+    lane: &mut Lane<SenderPort<'r, Item, C, R>>,
+    feed: &mut F,
+    counter: &mut K,
+    gate: &G,
+    stop: &S,
+    clock: &M,
+) -> bool
+    ensures served { HasServed F.gives (λ x. connection (F.Reader.given x.0) (F.Writer.contents x.1)) C.capacity
+        feed.old (lane_at lane.old (K.counted counter.old)) feed.new (lane_at lane.new (K.counted counter.new)) result }
+    ensures same_queues { queues lane.new.ports ≡ queues lane.old.ports }
+{
+    for _ in rt.forever() {
+        if lane.connected() == u64::MAX {
+            return false;
+        }
+        let Some((reader, writer)) = feed.next(rt) else {
+            return false;
+        };
+        let end = serve_next(
+            alloc, number, lane, counter, reader, writer, gate, stop, clock,
+        );
+        if is_book_full(&end) {
+            return true;
+        }
+    }
+    unreachable!()
+}
+
+/// Whether the connection ended because a count would have passed 2^64-1.
+fn is_book_full(end: &ServeEnd) -> bool
+    ensures { result ≡ is_book_full end.now }
+{
+    match end {
+        ServeEnd::BookFull => true,
+        _ => false,
+    }
+}
+
+/// Serves one connection.
+fn serve_next<
+    'r,
+    A: Source + Drop,
+    W: Write + Drop,
+    C: Room,
+    K: Counter,
+    G: Gate,
+    S: Stop,
+    M: MomentClock,
+    R: Wait,
+>(
+    alloc: Global,
+    number: u16,
+    lane: &mut Lane<SenderPort<'r, Item, C, R>>,
+    counter: &mut K,
+    reader: A,
+    writer: W,
+    gate: &G,
+    stop: &S,
+    clock: &M,
+) -> ServeEnd
+    requires { lane.old.connected < 2 ^ 64 - 1 }
+    ensures served { ServedOne C.capacity (connection (A.given reader) (W.contents writer)) (lane_at lane.old (K.counted counter.old)) (lane_at lane.new (K.counted counter.new)) result }
+    ensures same_queues { queues lane.new.ports ≡ queues lane.old.ports }
+{
+    let mut reader = reader;
+    let mut writer = writer;
+    let ordinal = lane.connected();
+    gate.reach(Place::Connected {
+        lane: number,
+        ordinal,
+    });
+    let end = serve(alloc, lane, counter, &mut reader, &mut writer, stop, clock);
+    gate.reach(Place::Served {
+        lane: number,
+        ordinal,
+    });
+    end
+}
