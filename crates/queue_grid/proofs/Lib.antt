@@ -1,0 +1,2 @@
+mod Dealing
+mod Grids
