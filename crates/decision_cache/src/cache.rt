@@ -1,3 +1,4 @@
+//! What was decided of traces that left the buffer, by verdict.
 ghost use Rattle.std.specs.Prelude.{◌≡◌, ◌∷◌, [], ℕ, List, Some, false, IfOk};
 
 use crate::traces::{Remembered, Traces};

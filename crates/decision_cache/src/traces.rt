@@ -1,3 +1,4 @@
+//! A bounded list of traces, the least recently put or found of which makes room.
 ghost use Rattle.std.specs.Prelude.{◌≡◌, [], false, IfOk};
 ghost use Rattle.decision_cache.specs.Lists.{is_held, renewed, PutAs};
 

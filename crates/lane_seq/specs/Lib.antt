@@ -1,3 +1,4 @@
+-- To be read in this order: Numbers, Replies, Pushes (a lane); Lists, Lends (one thread).
 pub mod Lends
 pub mod Lists
 pub mod Numbers

@@ -1,3 +1,4 @@
+//! The law that what is pushed to queues in one thread is one function of them.
 ghost use Rattle.lane_seq.specs.Lists.{ListPushesAreDetermined};
 
 /// What the pushes of a request do to queues in one thread is determined: a span is refused exactly where its queue

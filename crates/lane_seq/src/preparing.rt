@@ -1,3 +1,4 @@
+//! A request becomes arrivals with the next numbers of its connection.
 ghost use Rattle.std.specs.Prelude.{◌≡◌, ◌+◌, ◌^◌, ◌<◌, ◌≤◌, Some, None, length, filter, IfOk, IfErr};
 ghost use Rattle.std.specs.Result.{IsErrOf};
 ghost use Rattle.serde_json.specs.Data.{Data};

@@ -1,3 +1,4 @@
+//! Each arrival with valid ids goes to the queue of its trace's shard.
 ghost use Rattle.std.specs.Prelude.{◌≡◌, ◌+◌, ◌^◌, ◌<◌, ◌≤◌, length, filter, option_map};
 ghost use Rattle.lane_seq.specs.Numbers.{is_invalid};
 ghost use Rattle.lane_seq.specs.Replies.{IsReplyTo};

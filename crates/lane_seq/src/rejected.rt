@@ -1,3 +1,4 @@
+//! The spans of a request that go to no shard.
 ghost use Rattle.std.specs.Prelude.{◌+◌, ◌^◌, ◌<◌};
 
 /// How many spans of a request were not taken, for each cause.

@@ -1,3 +1,4 @@
+//! What a request is answered, as a status and a body.
 ghost use Rattle.std.specs.Prelude.{◌≡◌, ◌+◌, ◌^◌, ◌<◌, ◌≤◌, ◌++◌, OnOk, OnErr, length, vec_capacity, vec_len};
 ghost use Rattle.lane_seq.specs.Replies.{status_of, body_of, partial_success};
 

@@ -1,3 +1,4 @@
+//! The shard of a trace.
 ghost use Rattle.std.specs.Prelude.{◌≡◌, ◌<◌};
 ghost use Rattle.span_ids.specs.Route.{shard_of};
 

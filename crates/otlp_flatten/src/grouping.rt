@@ -1,3 +1,4 @@
+//! Records become a request again: neighbours of one resource, and of one scope, stand together.
 ghost use Rattle.std.specs.Prelude.{◌≡◌, ◌<◌, ℕ, Some, length, map, slice_get, option_map, IfOk, ◌≤◌};
 ghost use Rattle.std.specs.List.{AllByRecursion};
 ghost use Rattle.otlp_flatten.specs.Flat.{records_of, resource_records, scope_records};

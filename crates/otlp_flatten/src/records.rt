@@ -1,3 +1,4 @@
+//! A request becomes records, in document order.
 ghost use Rattle.std.specs.Prelude.{◌≡◌, ◌++◌, ◌-◌, ◌^◌, IfOk, OnOk, length, map, flat_map, min};
 ghost use Rattle.std.specs.List.{sum_by};
 ghost use Rattle.otlp_flatten.specs.Flat.{record_with, scope_records, resource_records, records_of};

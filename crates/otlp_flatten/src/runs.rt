@@ -1,3 +1,4 @@
+//! How many records at the head of a list have one resource, or one scope.
 ghost use Rattle.std.specs.Prelude.{◌≡◌, ◌<◌, ◌↔◌, length, IsTrue};
 ghost use Rattle.otlp_types.specs.declared.arrival.Record.{Record};
 ghost use Rattle.otlp_flatten.specs.Runs.{resource_of, scope_of, IsRun};

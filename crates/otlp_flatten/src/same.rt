@@ -1,3 +1,4 @@
+//! Whether two values of OTLP are the same.
 ghost use Rattle.std.specs.Prelude.{◌≡◌, ◌↔◌, IsTrue};
 
 use otlp_types::{AnyValue, KeyValue, Resource, Scope, Text};

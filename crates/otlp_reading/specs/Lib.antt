@@ -1,3 +1,4 @@
+-- To be read in this order: Decoding, Kinds, Reading (what a text reads as); Gives, Zero (for provers).
 pub mod Kinds
 pub mod Reading
 pub mod Gives

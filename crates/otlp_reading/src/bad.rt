@@ -1,3 +1,4 @@
+//! Why bytes are no request.
 use std::alloc::{AllocError, AllocFailed};
 
 /// Why no request was read.

@@ -1,3 +1,4 @@
+//! Records, arrivals, and what goes through the queues.
 ghost use Rattle.std.specs.Prelude.{◌≡◌, IfOk};
 
 use crate::list::{Text, TryClone};

@@ -1,3 +1,4 @@
+//! Lists and texts whose contents contracts compare, and copies of them.
 ghost use Rattle.std.specs.Prelude.{◌≡◌, [], ◌∷◌, ◌++◌, ◌↔◌, length, IsTrue, IfOk, OnOk, OnErr, string_bytes};
 
 use std::alloc::{AllocError, Global};

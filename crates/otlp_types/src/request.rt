@@ -1,3 +1,4 @@
+//! Requests: resources, scopes and their spans (OTLP 1.x, `trace.proto` v1).
 ghost use Rattle.std.specs.Prelude.{◌≡◌, IfOk};
 
 use crate::list::{List, Text, TryClone};

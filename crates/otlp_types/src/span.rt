@@ -1,3 +1,4 @@
+//! Spans, with their events and links (OTLP 1.x, `trace.proto` v1).
 ghost use Rattle.std.specs.Prelude.{◌≡◌, IfOk};
 
 use crate::list::{List, Text, TryClone};

@@ -1,3 +1,4 @@
+//! Attributes and their values (OTLP 1.x, `common.proto` v1).
 ghost use Rattle.std.specs.Prelude.{◌≡◌, IfOk};
 
 use crate::list::{List, Text, TryClone};

@@ -1,3 +1,4 @@
+//! What is wrong with some policies.
 ghost use Rattle.std.specs.Prelude.{◌≡◌};
 ghost use Rattle.policy_tree.specs.Faults.{number_of};
 

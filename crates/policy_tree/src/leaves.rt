@@ -1,3 +1,4 @@
+//! Faults of single policies: bounds that have crossed, lists with no value.
 ghost use Rattle.std.specs.Prelude.{◌≡◌};
 ghost use Rattle.policy_tree.specs.Tree.{some_leaf, some_leaf_in};
 ghost use Rattle.policy_tree.specs.Faults.{has_crossed_bounds, has_no_values};

@@ -1,3 +1,4 @@
+//! A policy that asks the limiter, by its number.
 /// A policy of the kind `RateLimiting`, by its number among all policies.
 ///
 /// The number is the policy's place in the walk over the list that takes a policy before its parts, from 0.

@@ -1,3 +1,4 @@
+//! Whether two policies of one list have the same name.
 ghost use Rattle.std.specs.Prelude.{◌≡◌, map};
 ghost use Rattle.policy_tree.specs.Faults.{named, has_name, has_same_names, has_doubled_names};
 

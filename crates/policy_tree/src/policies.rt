@@ -1,3 +1,4 @@
+//! Policies within their limits.
 ghost use Rattle.std.specs.Prelude.{◌≡◌, ◌≤◌, ◌+◌, ◌++◌, false, None, IfOk};
 ghost use Rattle.std.specs.Result.{result_err};
 ghost use Rattle.policy_tree.specs.Tree.{nodes, nodes_in, depth_in, has_empty_list, limits, limits_in, limiters};

@@ -1,3 +1,4 @@
+//! One policy: its name and its kind (tailsamplingprocessor README, "Policies").
 ghost use Rattle.std.specs.Prelude.{◌≡◌, IfOk};
 
 use otlp_types::{List, Text, TryClone};

@@ -1,3 +1,4 @@
+//! How many policies a tree has, how deep it is, and whether some list of it is empty.
 ghost use Rattle.std.specs.Prelude.{◌≡◌, min};
 ghost use Rattle.policy_tree.specs.Tree.{nodes, nodes_in, depth, depth_in, has_empty_and, has_empty_list};
 ghost use Rattle.policy_tree.specs.Meaning.{meaning, policy_meaning};

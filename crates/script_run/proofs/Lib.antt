@@ -20,3 +20,4 @@ pub mod Runs
 pub mod Agreeing
 pub mod CalmRuns
 pub mod Stopping
+mod ConnectionRows

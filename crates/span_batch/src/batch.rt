@@ -1,3 +1,4 @@
+//! Arrivals on their way to a line.
 ghost use Rattle.std.specs.Prelude.{◌≡◌, ◌+◌, ◌<◌, ◌≤◌, ◌++◌, ◌∷◌, ◌↔◌, [], length, IsTrue, IfOk, OnOk, IfErr, vec_len, vec_capacity};
 ghost use Rattle.span_batch.specs.Batches.{BatchState, IsLineOf, records_in};
 

@@ -1,3 +1,4 @@
+//! The law that a batch has one line.
 ghost use Rattle.span_batch.specs.Batches.{LineIsUnique};
 
 /// Records have one line, so what [`crate::Batch::line`] answers is determined by the records of the batch.

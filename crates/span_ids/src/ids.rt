@@ -1,3 +1,4 @@
+//! Trace ids and span ids.
 ghost use Rattle.std.specs.Prelude.{◌≡◌, Some, true, length, IfOk, string_bytes};
 ghost use Rattle.span_ids.specs.Id.{id_of, id_text, is_id};
 

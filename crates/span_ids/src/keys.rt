@@ -1,3 +1,4 @@
+//! Which connection, and which of its spans.
 /// A moment, in whole milliseconds. It is handed in by the caller and may go back.
 pub type Moment = u64;
 

@@ -1,3 +1,4 @@
+//! Why a span is dropped, and what is decided of a trace.
 ghost use Rattle.std.specs.Prelude.{◌≡◌};
 ghost use Rattle.span_ids.specs.Reasons.{number_of};
 

@@ -1,3 +1,4 @@
+//! The law that a sink of lines has taken the lines that were handed to it.
 ghost use Rattle.span_sink.specs.Hands.{TakesHandedLines};
 
 /// Of all lines that are handed over one after the other, the sink takes those whose call answered `Ok`, joined, and

@@ -1,3 +1,4 @@
+//! A configuration, and how a text is read as one.
 ghost use Rattle.std.specs.Prelude.{◌≡◌, ◌≢◌, ◌<◌, ◌≤◌, ◌/◌, Some, Ok, Err, IfOk, IfErr};
 ghost use Rattle.toml.specs.Errors.{IsBlank};
 ghost use Rattle.toml.specs.View.{table_view};

@@ -1,3 +1,4 @@
+//! What is wrong with a configuration.
 ghost use Rattle.std.specs.Prelude.{◌≡◌};
 ghost use Rattle.tsc_config.specs.Faults as spec;
 

@@ -1,3 +1,4 @@
+//! The types of policies, and the kinds of tables, by their keys.
 ghost use Rattle.std.specs.Prelude.{◌≡◌};
 ghost use Rattle.tsc_config.specs.Keys as spec;
 

@@ -1,3 +1,4 @@
+-- To be read in this order: Lines, Instructions, Script, Stops (what a script says); ToRead, Progress (how far it was read).
 pub mod Lines
 pub mod ToRead
 pub mod Instructions

@@ -1,2 +1,0 @@
-mod Dealing
-mod Grids

@@ -1,0 +1,54 @@
+-- The connections, queues and Ends of some scripts, computed on the definitions.
+-- No clause needs them: they show what the words of `Connections` and `World` say, which code and contracts follow.
+use Rattle.std.proofs.Common.{◌≡◌, ℕ, [], ◌∷◌, map, refl}
+use Rattle.lane_seq.specs.declared.preparing.Conn.{Conn}
+use Rattle.otlp_types.specs.declared.arrival.Item.TheVariants.{End}
+use Rattle.script_run.specs.Connections.{Contacts, lane_of, connection_of, with_connection, with_received}
+use Rattle.script_run.specs.World.{empty_queues, ends_from}
+
+-- no connection was used, of three lanes
+abbrev none_of_three : Contacts
+none_of_three = record { connections = []; connected = 0 ∷ 0 ∷ 0 ∷ [] }
+
+-- a connection of a lane, with this ordinal and next number
+abbrev conn : (lane ordinal next : ℕ) → Conn
+conn lane ordinal next = record { key = record { lane = lane; ordinal = ordinal }; next = next }
+
+-- a connection is served by the lane of its number modulo the number of lanes
+lane_of_numbers : map (λ n. lane_of n none_of_three) (0 ∷ 1 ∷ 2 ∷ 3 ∷ 7 ∷ []) ≡ 0 ∷ 1 ∷ 2 ∷ 0 ∷ 1 ∷ []
+lane_of_numbers = refl
+
+-- the first connection of a lane has ordinal 0, and so has the first of another
+first_of_lane_1 : connection_of 1 none_of_three ≡ conn 1 0 0
+first_of_lane_1 = refl
+
+-- connections 4 and 1 are both lane 1's: the one that came second has ordinal 1
+second_of_lane_1 : connection_of 1 (with_connection 4 none_of_three) ≡ conn 1 1 0
+second_of_lane_1 = refl
+
+-- a request that gave no span keeps its connection: it has ordinal 0 still, and the next one of its lane has 1
+refused_keeps_ordinal : connection_of 1 (with_connection 1 none_of_three) ≡ conn 1 0 0
+refused_keeps_ordinal = refl
+
+next_behind_refused : connection_of 4 (with_connection 1 none_of_three) ≡ conn 1 1 0
+next_behind_refused = refl
+
+-- spans that were received go on counting on their own connection alone
+numbers_go_on : connection_of 1 (with_received 1 3 (with_received 1 2 none_of_three)) ≡ conn 1 0 5
+numbers_go_on = refl
+
+numbers_of_another : connection_of 2 (with_received 1 3 none_of_three) ≡ conn 2 0 0
+numbers_of_another = refl
+
+-- a connection counts once among those of its lane, however often it is used
+counted_once : with_connection 1 (with_connection 1 none_of_three) ≡ record { connections = (1, conn 1 0 0) ∷ []; connected = 0 ∷ 1 ∷ 0 ∷ [] }
+counted_once = refl
+
+-- each shard's queue is empty and holds just so many
+two_queues : empty_queues 3 2 ≡ record { items = []; capacity = 3 } ∷ record { items = []; capacity = 3 } ∷ []
+two_queues = refl
+
+-- two lanes and the ticker end one after the other, each at both shards
+ends_of_three : ends_from {A = ℕ} 0 3 (7 ∷ 8 ∷ [])
+    ≡ ((End 0 ∷ []) ∷ (End 0 ∷ []) ∷ []) ∷ ((End 1 ∷ []) ∷ (End 1 ∷ []) ∷ []) ∷ ((End 2 ∷ []) ∷ (End 2 ∷ []) ∷ []) ∷ []
+ends_of_three = refl
