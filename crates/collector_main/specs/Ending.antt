@@ -1,5 +1,5 @@
 -- The last text and the exit status, and how each outcome arises.
-use Rattle.std.specs.Prelude.{◌≡◌, ◌≢◌, ◌⊎◌, ⊤, ◌++◌, ◌≤◌, ◌<◌, ℕ, Bool, true, false, not, List, [], ◌∷◌, map, length, slice_index, Option, Result, Ok, Err, codes, decimal}
+use Rattle.std.specs.Prelude.{◌≡◌, ◌⊎◌, ◌++◌, ◌<◌, ℕ, Bool, true, false, not, List, [], ◌∷◌, map, length, slice_index, Option, Result, codes, decimal}
 use Rattle.std.specs.List.{concat}
 use Rattle.std.specs.Io.KnownBytes.{Appends}
 use Rattle.std.specs.Str.{bytes_eq}
@@ -11,14 +11,15 @@ use Rattle.drop_ledger.specs.declared.count.Count.TheVariants.{Received, Handed,
 use Rattle.drop_ledger.specs.declared.report.Report.{Report}
 use Rattle.policy_tree.specs.Faults.{number_of as number_of_policy_fault}
 use Rattle.tsc_config.specs.Faults.{number_of}
-use Rattle.tsc_config.specs.Reading.{reading}
 use Rattle.tsc_config.specs.declared.config.Config.{Config}
 use Rattle.tsc_config.specs.declared.fault.ConfigFault.{ConfigFault}
-use Rattle.tsc_config.specs.declared.fault.ConfigFault.TheVariants.{Policy, NoMemory as ReadsNothing}
+use Rattle.tsc_config.specs.declared.fault.ConfigFault.TheVariants.{Policy}
 use Rattle.script_session.specs.declared.fault.RunFault.{RunFault}
 use Rattle.collector_main.specs.declared.program.Outcome.{Outcome}
 use Rattle.collector_main.specs.declared.program.Outcome.TheVariants.{Done, SinkDown, Usage, Unreadable, Configuration, Script, NoMemory, BookFull}
 use Rattle.collector_main.specs.Outcomes.{outcome_of, exit_status}
+use Rattle.collector_main.specs.Configuration.{FileFails, IsConfigOf}
+use Rattle.collector_main.specs.declared.configuration.FileFault.{FileFault}
 use Rattle.script_session.specs.Replay.{RunEnds, settings_by}
 
 -- ---- the last text
@@ -90,9 +91,11 @@ pub record HandsText (old : LineSinkState) (text : List ℕ) (written : Bool) (n
 
 -- ---- how each outcome arises
 
--- what the program was given, and what it left of that before its last text: its arguments, what its reader had left, and what its writer had taken
+-- what the program was given, and what it left of that before its last text: its arguments, what was read of the configuration's file, what its reader had left, and
+-- what its writer had taken
 pub record Course : Type 0 where
   pub arguments : List (List ℕ)
+  pub file : Result (List ℕ) FileFault
   pub unread : Option (List ℕ)
   pub unread_after : Option (List ℕ)
   pub taken : Option (List ℕ)
@@ -107,22 +110,10 @@ asks_replay _ = false
 abbrev pub NothingDone : Course → Type 0
 NothingDone course = (course.unread_after ≡ course.unread) × (course.taken_after ≡ course.taken)
 
--- the greatest length of a configuration, in bytes
-abbrev pub greatest_length : ℕ
-greatest_length = 1048576
-
--- this configuration is what some text of at most the greatest length is read as: no contract knows what a file holds
-abbrev pub IsRead : Config → Type 0
-IsRead config = (text : List ℕ) × (length text ≤ greatest_length) × (reading text ≡ Ok config)
-
--- some text of at most the greatest length is refused with this fault as its least one; or there was no memory to read it
-abbrev pub IsRefused : ConfigFault → Type 0
-IsRefused fault = (text : List ℕ) × (length text ≤ greatest_length) × (fault ≢ ReadsNothing → reading text ≡ Err fault)
-
 -- a configuration was read, and the run of the script by it had an answer of this outcome
 pub record RanTo (course : Course) (outcome : Outcome) : Type 0 where
   pub config : Config
-  pub is_read : IsRead config
+  pub is_read : IsConfigOf course.file config
   pub failures_after : ℕ
   pub answer : Result Report RunFault
   pub ends : RunEnds (record {
@@ -142,9 +133,9 @@ pub record RanTo (course : Course) (outcome : Outcome) : Type 0 where
 -- how an outcome arises where a replay is asked for: before the script, or by its run
 abbrev pub Replays : Course → Outcome → Type 0
 Replays course Usage = ⊥
-Replays course Unreadable = NothingDone course
-Replays course (Configuration fault) = IsRefused fault × NothingDone course
-Replays course NoMemory = NothingDone course ⊎ RanTo course NoMemory
+Replays course Unreadable = FileFails course.file Unreadable × NothingDone course
+Replays course (Configuration fault) = FileFails course.file (Configuration fault) × NothingDone course
+Replays course NoMemory = (FileFails course.file NoMemory × NothingDone course) ⊎ RanTo course NoMemory
 Replays course outcome = RanTo course outcome
 
 -- how an outcome arises: the arguments are wrong exactly where no replay is asked for, and then nothing is done
@@ -152,24 +143,18 @@ abbrev pub CameTo : Course → Outcome → Type 0
 CameTo course Usage = (asks_replay course.arguments ≡ false) × NothingDone course
 CameTo course outcome = (asks_replay course.arguments ≡ true) × Replays course outcome
 
--- how reading the configuration fails
-abbrev pub LoadFails : Outcome → Type 0
-LoadFails Unreadable = ⊤
-LoadFails NoMemory = ⊤
-LoadFails (Configuration fault) = IsRefused fault
-LoadFails _ = ⊥
-
 -- ---- the end of the program
 
 -- the last text was offered to the writer, of which it took a first part, and the exit status is that of the outcome
 abbrev pub Finishes : (taken : Option (List ℕ)) → Outcome → (taken_last : Option (List ℕ)) → (status : ℕ) → Type 0
 Finishes taken outcome taken_last status = (written : Bool) × WritesText taken (text_of outcome) written taken_last × (status ≡ exit_status outcome written)
 
--- the program did what the arguments say, and then wrote the text of the outcome
+-- the program did what the arguments say by what it read of the file, and then wrote the text of the outcome
 pub record EndsWith (arguments : List (List ℕ)) (unread unread_after taken taken_last : Option (List ℕ)) (status : ℕ) : Type 0 where
   pub outcome : Outcome
+  pub file : Result (List ℕ) FileFault
   pub between : Option (List ℕ)
-  pub came_to : CameTo (record { arguments = arguments; unread = unread; unread_after = unread_after; taken = taken; taken_after = between }) outcome
+  pub came_to : CameTo (record { arguments = arguments; file = file; unread = unread; unread_after = unread_after; taken = taken; taken_after = between }) outcome
   pub finishes : Finishes between outcome taken_last status
 
 -- there was no memory for the last text; nothing was read, and at most the text that says so was written

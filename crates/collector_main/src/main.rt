@@ -2,6 +2,7 @@
 //! input in one thread, and prints replies, the spans that it keeps as lines of JSON, and a report of every span's end.
 #![tactic(auto)]
 
+mod configuration;
 mod program;
 #[cfg(test)]
 mod tests;

@@ -1,9 +1,11 @@
 //! The program: its arguments, its configuration, its texts and its exit status.
-ghost use Rattle.std.specs.Prelude.{◌≡◌, ◌⊎◌, ◌+◌, ◌≤◌, ◌<◌, ◌++◌, map, false, IfOk, IfErr, IfSome, vec_capacity, vec_len, length, decimal, codes, string_bytes};
+ghost use Rattle.std.specs.Prelude.{◌≡◌, ◌+◌, ◌≤◌, ◌<◌, ◌++◌, ℕ, List, Result, is_some, map, false, vec_capacity, vec_len, length, decimal, codes, string_bytes};
+ghost use Rattle.collector_main.specs.Configuration.{file_of};
 ghost use Rattle.collector_main.specs.Outcomes.{outcome_of, exit_status};
-ghost use Rattle.collector_main.specs.Ending.{WritesText, HandsText, Finishes, CameTo, Ends, IsRead, LoadFails, text_of, name_of, report_text, fault_number, greatest_length};
-ghost use Rattle.collector_main.specs.declared.program.Outcome.TheVariants.{NoMemory, Unreadable};
+ghost use Rattle.collector_main.specs.Ending.{WritesText, HandsText, Finishes, CameTo, Replays, Ends, asks_replay, text_of, name_of, report_text, fault_number};
+ghost use Rattle.collector_main.specs.declared.program.Outcome.TheVariants.{NoMemory};
 
+use crate::configuration::{FileFault, config_of, read_file};
 use drop_ledger::{Count, Report};
 use itoa::Buffer;
 use lane_seq::put;
@@ -11,13 +13,9 @@ use script_session::{RunFault, replay_run};
 use span_ids::Reason;
 use span_sink::{LineSink, Sink, WriteSink};
 use std::alloc::Global;
-use std::fs;
-use std::io::{ErrorKind, Read, Write};
+use std::io::{Read, Write};
 use std::rt::Files;
-use tsc_config::{Config, ConfigFault, read};
-
-/// The longest configuration that is read, in bytes.
-const MAX_CONFIG_LEN: usize = 1_048_576;
+use tsc_config::ConfigFault;
 
 /// Room for a line of the report or of a refusal, in bytes.
 pub const TEXT_ROOM: usize = 128;
@@ -113,21 +111,52 @@ fn run<T: Files, R: Read, W: Write>(
     reader: &mut R,
     writer: W,
 ) -> (W, Outcome)
-    ensures { CameTo (record {
+    ensures { (file : Result (List ℕ) FileFault) × CameTo (record {
       arguments = map string_bytes arguments.now;
+      file = file;
       unread = R.remaining reader.old;
       unread_after = R.remaining reader.new;
       taken = W.contents writer;
       taken_after = W.contents result.0;
     }) result.1 }
 {
-    let [command, path] = arguments else {
+    let Some(path) = asked(arguments) else {
         return (writer, Outcome::Usage);
     };
-    if command.as_str() != "replay" {
-        return (writer, Outcome::Usage);
+    replay_by(alloc, read_file(rt, alloc, path), reader, writer)
+}
+
+/// The path of the configuration, where a replay is asked for.
+fn asked(arguments: &[String]) -> Option<&str>
+    ensures { is_some result ≡ asks_replay (map string_bytes arguments.now) }
+{
+    let [command, path] = arguments else {
+        return None;
+    };
+    if command.as_str() == "replay" {
+        Some(path.as_str())
+    } else {
+        None
     }
-    let config = match load(rt, alloc, path.as_str()) {
+}
+
+/// Runs the script by the configuration in what was read of its file.
+fn replay_by<R: Read, W: Write>(
+    alloc: Global,
+    file: Result<Vec<u8>, FileFault>,
+    reader: &mut R,
+    writer: W,
+) -> (W, Outcome)
+    ensures { (arguments : List (List ℕ)) → Replays (record {
+      arguments = arguments;
+      file = file_of (λ v. v.items) file;
+      unread = R.remaining reader.old;
+      unread_after = R.remaining reader.new;
+      taken = W.contents writer;
+      taken_after = W.contents result.0;
+    }) result.1 }
+{
+    let config = match config_of(alloc, file) {
         Ok(config) => config,
         Err(outcome) => return (writer, outcome),
     };
@@ -145,53 +174,6 @@ fn outcome_of(answer: Result<Report, RunFault>) -> Outcome
         Err(RunFault::Fault(line)) => Outcome::Script(line),
         Err(RunFault::BookFull) => Outcome::BookFull,
         Err(RunFault::SinkDown(_)) => Outcome::SinkDown,
-    }
-}
-
-/// Reads the configuration from its file.
-fn load<T: Files>(rt: &T, alloc: Global, path: &str) -> Result<Config, Outcome>
-    ensures waits { IfOk result (λ config. 0 < config.decision_wait) }
-    ensures lanes { IfOk result (λ config. 0 < config.lanes) }
-    ensures shards { IfOk result (λ config. 0 < config.shards) }
-    ensures traces { IfOk result (λ config. config.shards ≤ config.num_traces) }
-    ensures queue { IfOk result (λ config. 0 < config.queue_capacity) }
-    ensures batch { IfOk result (λ config. 0 < config.send_batch_size) }
-    ensures is_read { IfOk result IsRead }
-    ensures fails { IfErr result LoadFails }
-{
-    let bytes = read_file(rt, alloc, path)?;
-    let Ok(text) = String::from_utf8(bytes) else {
-        return Err(Outcome::Unreadable);
-    };
-    match read(alloc, text.as_str()) {
-        Ok(config) => Ok(config),
-        Err(fault) => Err(Outcome::Configuration(fault)),
-    }
-}
-
-fn read_file<T: Files>(rt: &T, alloc: Global, path: &str) -> Result<Vec<u8>, Outcome>
-    ensures within { IfOk result (λ bytes. length bytes.items ≤ greatest_length) }
-    ensures fails { IfErr result (λ outcome. (outcome ≡ Unreadable) ⊎ (outcome ≡ NoMemory)) }
-{
-    match fs::open(rt, path) {
-        Ok(file) => read_whole(alloc, file),
-        Err(_) => Err(Outcome::Unreadable),
-    }
-}
-
-/// Reads a configuration to its end, and refuses one that is too long.
-fn read_whole<F: Read + Drop>(alloc: Global, file: F) -> Result<Vec<u8>, Outcome>
-    ensures whole { IfOk result (λ bytes. IfSome (F.Read.remaining file) (λ text. bytes.items ≡ text)) }
-    ensures within { IfOk result (λ bytes. length bytes.items ≤ greatest_length) }
-    ensures fails { IfErr result (λ outcome. (outcome ≡ Unreadable) ⊎ (outcome ≡ NoMemory)) }
-{
-    let mut bytes = Vec::new(alloc);
-    let mut start = file.take(MAX_CONFIG_LEN as u64 + 1);
-    match start.read_to_end(&mut bytes) {
-        Ok(_) if bytes.len() <= MAX_CONFIG_LEN => Ok(bytes),
-        Ok(_) => Err(Outcome::Unreadable),
-        Err(error) if error.kind() == ErrorKind::OutOfMemory => Err(Outcome::NoMemory),
-        Err(_) => Err(Outcome::Unreadable),
     }
 }
 
