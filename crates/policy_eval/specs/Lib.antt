@@ -1,4 +1,5 @@
 pub mod Policies
 pub mod Meaning
+pub mod Given
 pub mod AskingLaws
 pub mod Laws

@@ -1,7 +1,7 @@
 -- Worked rows of a shard, by computation: what each journal releases, counts and leaves.
 use Rattle.std.specs.Prelude.{ℕ, Bool, true, false, pos, List, [], ◌∷◌, ◌++◌, map, reverse, length, take, Option, Some, None, ◌≡◌, refl}
 use Rattle.policy_tree.specs.Tree.{Policies, no_more, one_more, leaf, and_policy, rate_limiting, always_sample, status_code, latency}
-use Rattle.shard_core.specs.Journal.{Entry, Settings, notes}
+use Rattle.shard_core.specs.Journal.{Entry, Settings, notes, due_now, are_each_answered}
 use Rattle.shard_core.specs.Fate.{Fate, waits, is_released, is_counted, effect, output, under, fate}
 use Rattle.trace_buffer.specs.Buffer.{Episode}
 use Rattle.shard_core.specs.Standing.{Standing, standing}
@@ -45,7 +45,7 @@ arrival t n m code start end = record {
 }
 
 abbrev marked : Item → (refused lost : Bool) → Entry
-marked item refused lost = record { item = item; refused = refused; lost = lost }
+marked item refused lost = record { item = item; refused = refused; lost = lost; answers = [] }
 
 abbrev took : Item → Entry
 took item = marked item false false
@@ -61,6 +61,10 @@ marked_error t n m refused lost = marked (Span (arrival t n m 2 0 0)) refused lo
 
 abbrev tick : ℕ → Entry
 tick m = took (Tick m)
+
+-- a tick whose decisions get these answers of the limiter
+abbrev tick_with : ℕ → List (List Bool) → Entry
+tick_with m answers = record (tick m) { answers = answers }
 
 abbrev errors : Policies
 errors = one_more (leaf (status_code (pos 2 ∷ []))) no_more
@@ -245,7 +249,7 @@ abbrev ending : (t n end : ℕ) → Entry
 ending t n end = took (Span (arrival t n 1000 0 0 end))
 
 abbrev slow_items : List Entry
-slow_items = ending 1 0 0 ∷ ending 1 1 499999999 ∷ ending 2 2 500000000 ∷ ending 2 3 500000000 ∷ ending 3 4 500000000 ∷ tick 11000 ∷ []
+slow_items = ending 1 0 0 ∷ ending 1 1 499999999 ∷ ending 2 2 500000000 ∷ ending 2 3 500000000 ∷ ending 3 4 500000000 ∷ tick_with 11000 ([] ∷ (true ∷ []) ∷ (true ∷ []) ∷ []) ∷ []
 
 pub and_of_latency_and_rate : released (settings slow_few None 0 0) slow_items ≡ 2 ∷ 3 ∷ 4 ∷ []
 unfolding notes
@@ -255,10 +259,28 @@ pub and_of_latency_and_rate_counts : counted (settings slow_few None 0 0) slow_i
 unfolding notes
 and_of_latency_and_rate_counts = refl
 
--- of two decisions in one second the limiter grants the first alone
-pub limiter_in_turn : released (settings (one_more (rate_limiting 3) no_more) None 0 0) (span 1 0 0 ∷ span 1 1 0 ∷ span 2 2 0 ∷ span 2 3 0 ∷ tick 10000 ∷ []) ≡ 0 ∷ 1 ∷ []
+abbrev few : Policies
+few = one_more (rate_limiting 3) no_more
+
+abbrev two_twos : List (List Bool) → List Entry
+two_twos answers = span 1 0 0 ∷ span 1 1 0 ∷ span 2 2 0 ∷ span 2 3 0 ∷ tick_with 10000 answers ∷ []
+
+-- each decision gets its own answers; a missing one is a refusal
+pub limiter_in_turn : map (λ answers. released (settings few None 0 0) (two_twos answers)) (((true ∷ []) ∷ (false ∷ []) ∷ []) ∷ ((false ∷ []) ∷ (true ∷ []) ∷ []) ∷ ((true ∷ []) ∷ []) ∷ []) ≡ (0 ∷ 1 ∷ []) ∷ (2 ∷ 3 ∷ []) ∷ (0 ∷ 1 ∷ []) ∷ []
 unfolding notes
 limiter_in_turn = refl
+
+-- one answer for each asking, and one list for each decision, or the journal isn't answered
+abbrev pub answered_well : List (List Bool) → Bool
+unfolding notes
+answered_well answers =
+    let past = two_twos [] in
+    let s = settings few None 0 0 in
+    are_each_answered few (reverse past) (due_now s (reverse past)) answers
+
+pub as_many_as_asked : map answered_well (((true ∷ []) ∷ (false ∷ []) ∷ []) ∷ ((true ∷ []) ∷ []) ∷ ((true ∷ []) ∷ [] ∷ []) ∷ ((true ∷ []) ∷ (false ∷ true ∷ []) ∷ []) ∷ []) ≡ true ∷ false ∷ false ∷ false ∷ []
+unfolding notes
+as_many_as_asked = refl
 
 -- ---- what a shard holds
 
