@@ -1,7 +1,7 @@
 -- One more decision's answers in a journal's newest entry: what was known of the journal stays, and that decision is given by them.
 -- Serves the clause `decides` of `Shard::decide`.
 use Rattle.std.proofs.Common.{◌≡◌, ℕ, zero, suc, ◌+◌, ◌≤◌, Bool, true, false, not, ◌&&◌, cond, List, [], ◌∷◌, ◌++◌, length, take, drop, reverse, Option, Some, None, refl, sym, ap, subst, ◌∙◌, arith, add-one}
-use Rattle.shard_core.specs.Journal.{Entry, Settings, Journal, Opening, Decision, Notes, notes, notes_dealt, due_at, due_now, have_ended, has_ended, decision, decisions_in_turn, decisions_now, first_answers, after_item, after_span, after_decisions, undecided, spans_since, answered, are_each_answered, IsAnswered, IsAnsweredUpTo}
+use Rattle.shard_core.specs.Journal.{Entry, Settings, Journal, Opening, Decision, Notes, notes, notes_dealt, due_at, due_now, have_ended, has_ended, decision, decisions_in_turn, decisions_now, after_item, after_span, after_decisions, undecided, spans_since, answered, are_each_answered, IsAnswered, IsAnsweredUpTo}
 use Rattle.shard_core.specs.Standing.{standing, mark, mark_at, ends}
 use Rattle.policy_tree.specs.Tree.{Policies}
 use Rattle.policy_eval.specs.Given.{are_answered}
@@ -85,7 +85,8 @@ module _ (s : Settings) (e : Entry) (before : Journal) (more : List (List Bool))
 
   turn-same : (os : List Opening) (given : List (List Bool)) → decisions_in_turn s (other ∷ before) os given ≡ decisions_in_turn s (e ∷ before) os given
   turn-same [] given = refl
-  turn-same (o ∷ os) given = ap (λ (ds : List Decision). decision s (e ∷ before) o (first_answers given) ∷ ds) (turn-same os (drop 1 given))
+  turn-same (o ∷ os) [] = refl
+  turn-same (o ∷ os) (g ∷ given) = ap (λ (ds : List Decision). decision s (e ∷ before) o g ∷ ds) (turn-same os given)
 
   each-same : (policies : Policies) (os : List Opening) (given : List (List Bool)) → are_each_answered policies (other ∷ before) os given ≡ are_each_answered policies (e ∷ before) os given
   each-same policies [] [] = refl

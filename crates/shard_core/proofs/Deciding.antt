@@ -87,7 +87,7 @@ module _ (s : Settings) (room : HasRoom s.limit) where
       × ((answers : List Bool) → standing s (answered past answers) (k + 1) ≡ deciding st (verdict_given s.policies answers e.spans))
   decides-step x before k st e w h eq given f =
       let past : Journal = x ∷ before in
-      let g = known s room before w (stopped-before s room x before h) in
+      let g = known s room before w (stopped-before s room x before h) given.1 in
       let m = item_notes s room x before in
       let os = due_list s room x before in
       let n = notes_dealt s past k in
@@ -100,7 +100,7 @@ module _ (s : Settings) (room : HasRoom s.limit) where
       let o = opening_of (episode past n) (find (test past n) R) e (sym (find-episodes s room past n (have_ended past s.senders) (mark past) R) ∙ f2) in
       let p = o.0 in
       let rest = filter-from_find (test past n) R p o.1 in
-      let left : drop k os ≡ p ∷ rest.0 = ◌∙◌ {c = p ∷ rest.0} (sym (due-dealt s room x before k h w g)) rest.1 in
+      let left : drop k os ≡ p ∷ rest.0 = ◌∙◌ {c = p ∷ rest.0} (sym (due-dealt s room x before k h w g given)) rest.1 in
       let undecided : decided_as n p.at ≡ None = none-left (decided_as n p.at) _ (find-passes (test past n) R p o.1) in
       let spans : spans_since past p ≡ e.spans = sym (ap (λ (q : Episode). q.spans) (sym o.2) ∙ ap (λ (y : Option Verdict). spans_left (spans_since past p) y) undecided) in
       let places = front-places s room past m (sound_item s room before x.item x (notes s before) (sound_notes s room before)) in
@@ -182,7 +182,7 @@ module _ {L : Type 0} (asks : L → ℕ → ℕ → ℕ → Bool → L → Type 
 
   pub decides_nothing : (limiter : L) (past : Journal) (k : ℕ) → find (is_due_at (due_by h).0 (due_by h).1 (due_by h).2) h.standing.episodes ≡ None → StandsFor h past k → Does h Nothing limiter limiter [] past k
   decides_nothing limiter past k f s =
-      let gone = nothing_left (settings h) (room_of h l) past k h.standing w s.0 s.1 (sym (due_is h o) ∙ f) in
+      let gone = nothing_left (settings h) (room_of h l) past k h.standing w s.0 s.1 s.2 (sym (due_is h o) ∙ f) in
       let P = λ (os : List Opening). DecidesFirst asks h h Nothing limiter limiter [] past os in
       (subst P (sym gone) (refl, refl, refl), s, nothing_adds (settings h) past k)
 
@@ -284,7 +284,7 @@ some_next s room w (x ∷ before) k h g e f =
       step.4 answers ∙ ap (λ (es : List Episode). record st { episodes = es }) (first_set (is_due_held s.wait s.root_wait st) v st.episodes))
 
 next : (s : Settings) → HasRoom s.limit → 0 < s.wait → (past : Journal) (k : ℕ) → StoppedInTime s past → IsAnsweredUpTo s past k → (r : Option Episode) → find (is_due_held s.wait s.root_wait (standing s past k)) (standing s past k).episodes ≡ r → DecidesNext s past k r
-next s room w past k h g None f = nothing_left s room past k (standing s past k) w h refl f
+next s room w past k h g None f = nothing_left s room past k (standing s past k) w h refl g f
 next s room w past k h g (Some e) f = some_next s room w past k h g e f
 
 pub decides_standing : DecidesStanding

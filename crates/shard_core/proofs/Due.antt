@@ -8,7 +8,8 @@ use Rattle.std.proofs.Math.Seq.{set-append_seam}
 use Rattle.std.proofs.lemmas.Bool.Decides.{nat_tests}
 use Rattle.trace_buffer.specs.Buffer.{Episode, is_root_due}
 use Rattle.span_ids.specs.declared.outcome.Verdict.{Verdict}
-use Rattle.shard_core.specs.Journal.{Entry, StoppedInTime, Settings, Journal, Opening, Decision, Notes, Finding, joins, meets, opens, in_buffer, last_of, leaving, notes, notes_dealt, finding, decided_as, is_due, due_at, due_now, have_ended, has_ended, decisions_in_turn, decision, first_answers, after_item, after_span, after_finding, after_decisions, no_notes, clock}
+use Rattle.shard_core.specs.Journal.{Entry, StoppedInTime, Settings, Journal, Opening, Decision, Notes, Finding, joins, meets, opens, in_buffer, last_of, leaving, notes, notes_dealt, finding, decided_as, is_due, due_at, due_now, have_ended, has_ended, decisions_in_turn, decision, after_item, after_span, after_finding, after_decisions, no_notes, clock, spans_since, are_each_answered, IsAnswered, IsAnsweredUpTo}
+use Rattle.policy_eval.specs.Given.{are_answered}
 use Rattle.shard_core.specs.Standing.{Standing, root_left, first_root_since, episode, standing, mark, ends}
 use Rattle.otlp_types.specs.declared.span.Ids.{Ids}
 use Rattle.span_ids.specs.declared.ids.TraceId.{TraceId}
@@ -261,23 +262,25 @@ module _ (s : Settings) (room : HasRoom s.limit) where
   onto : (d : Decision) (ds earlier : List Decision) → reverse (d ∷ ds) ++ earlier ≡ reverse ds ++ (d ∷ earlier)
   onto d ds earlier = rw (reverse-cons d ds) (append_assoc (reverse ds) (d ∷ []) earlier)
 
-  -- after k of the decisions, the others are due
+  -- after k of the decisions, each by its answers, the others are due
   pub walk : (past : Journal) (noted : Notes) (k : ℕ) (os : List Opening) (answers : List (List Bool)) (earlier : List Decision) → Apart OtherPlace (front noted) →
-      filter (open_due past (now_with noted earlier)) (front noted) ≡ os →
+      are_each_answered s.policies past (take k os) answers ≡ true → filter (open_due past (now_with noted earlier)) (front noted) ≡ os →
       filter (open_due past (now_with noted (reverse (take k (in_turn past os answers)) ++ earlier))) (front noted) ≡ drop k os
-  walk past noted zero os answers earlier a e = e
-  walk past noted (suc k) [] answers earlier a e = e
-  walk past noted (suc k) (o ∷ os) answers earlier a e =
-      let d = decision s past o (first_answers answers) in
-      let next = walk past noted k os (drop 1 answers) (d ∷ earlier) a (step-due past noted d earlier (front noted) os a e) in
+  walk past noted zero os answers earlier a h e = e
+  walk past noted (suc k) [] answers earlier a h e = e
+  walk past noted (suc k) (o ∷ os) [] earlier a h e = cc
+  walk past noted (suc k) (o ∷ os) (g ∷ later) earlier a h e =
+      let d = decision s past o g in
+      let next = walk past noted k os later (d ∷ earlier) a (and-right (are_answered s.policies g (spans_since past o)) (are_each_answered s.policies past (take k os) later) h) (step-due past noted d earlier (front noted) os a e) in
       let P = λ (ds : List Decision). filter (open_due past (now_with noted ds)) (front noted) ≡ drop k os in
-      subst P (sym (onto d (take k (in_turn past os (drop 1 answers))) earlier)) next
+      subst P (sym (onto d (take k (in_turn past os later)) earlier)) next
 
-  pub turn-done : (past : Journal) (k : ℕ) (os : List Opening) (answers : List (List Bool)) → drop k os ≡ [] → (drop k (in_turn past os answers) ≡ []) × (take k (in_turn past os answers) ≡ in_turn past os answers)
-  turn-done past zero [] answers e = (refl, refl)
+  pub turn-done : (past : Journal) (k : ℕ) (os : List Opening) (answers : List (List Bool)) → drop k os ≡ [] → take k (in_turn past os answers) ≡ in_turn past os answers
+  turn-done past zero [] answers e = refl
   turn-done past zero (o ∷ os) answers e = cc
-  turn-done past (suc k) [] answers e = (refl, refl)
-  turn-done past (suc k) (o ∷ os) answers e = let d = decision s past o (first_answers answers) in let t = turn-done past k os (drop 1 answers) e in (t.0, ap (λ ds. d ∷ ds) t.1)
+  turn-done past (suc k) [] answers e = refl
+  turn-done past (suc k) (o ∷ os) [] e = refl
+  turn-done past (suc k) (o ∷ os) (g ∷ later) e = ap (λ ds. decision s past o g ∷ ds) (turn-done past k os later e)
 
   -- ---- every journal
 
@@ -298,37 +301,41 @@ module _ (s : Settings) (room : HasRoom s.limit) where
   abbrev pub due_list : Entry → Journal → List Opening
   due_list e before = due_at s e before e.item (notes s before)
 
-  pub due-dealt : (e : Entry) (before : Journal) (k : ℕ) → have_ended before s.senders ≡ false → 0 < s.wait → Known before →
+  pub due-dealt : (e : Entry) (before : Journal) (k : ℕ) → have_ended before s.senders ≡ false → 0 < s.wait → Known before → IsAnsweredUpTo s (e ∷ before) k →
       filter (open_due (e ∷ before) (notes_dealt s (e ∷ before) k)) (front (item_notes e before)) ≡ drop k (due_list e before)
-  due-dealt e before k h w g =
+  due-dealt e before k h w g given =
       let noted = notes s before in
       let m = item_notes e before in
       let item = sound_item s room before e.item e noted (sound_notes s room before) in
       let first : filter (open_due (e ∷ before) (now_with m m.decisions)) (front m) ≡ due_list e before = due-item e.item e.refused e.lost e.answers before noted h w (g h) in
-      let all = walk (e ∷ before) m k (due_list e before) e.answers m.decisions (front-places (e ∷ before) m item) first in
+      let all = walk (e ∷ before) m k (due_list e before) e.answers m.decisions (front-places (e ∷ before) m item) given.0 first in
       all
 
   pub all-dealt : (e : Entry) (before : Journal) (k : ℕ) → drop k (due_list e before) ≡ [] → notes_dealt s (e ∷ before) k ≡ notes s (e ∷ before)
   unfolding notes
   all-dealt e before k h =
       let t = turn-done (e ∷ before) k (due_list e before) e.answers h in
-      ap (λ ds. after_decisions ds (item_notes e before)) t.1
+      ap (λ ds. after_decisions ds (item_notes e before)) t
 
-  -- every journal that took no item after its ends
-  pub known : (past : Journal) → 0 < s.wait → Stopped past → Known past
+  taken-whole : (os : List Opening) → take (length os) os ≡ os
+  taken-whole [] = refl
+  taken-whole (o ∷ os) = ap (λ ps. o ∷ ps) (taken-whole os)
+
+  -- every journal that took no item after its ends, and each of whose decisions is answered
+  pub known : (past : Journal) → 0 < s.wait → Stopped past → IsAnswered s past → Known past
   unfolding notes
-  known [] w h = λ _. none_yet s.limit
+  known [] w h given = λ _. none_yet s.limit
     where
       none_yet : (limit : Option ℕ) → Each (λ (o : Opening). is_none (decided_as no_notes o.at) ≡ true → ripe [] 0 o ≡ false) (reverse (last_of limit []))
       none_yet None = tt
       none_yet (Some zero) = tt
       none_yet (Some (suc n)) = tt
-  known (e ∷ before) w h =
-      let g = known before w (stopped-before e before h) in
+  known (e ∷ before) w h given =
+      let g = known before w (stopped-before e before h) given.1 in
       let m = item_notes e before in
       let os = due_list e before in
       let k = length os in
-      let left = due-dealt e before k h w g in
+      let left = due-dealt e before k h w g (ap (λ (ps : List Opening). are_each_answered s.policies (e ∷ before) ps e.answers) (taken-whole os) ∙ given.0, given.1) in
       let none : drop k os ≡ [] = drop-length os in
       let all = all-dealt e before k none in
       let end : filter (open_due (e ∷ before) (notes s (e ∷ before))) (front m) ≡ [] = (let Q = λ (n : Notes). filter (open_due (e ∷ before) n) (front m) ≡ [] in subst Q all (left ∙ none)) in
@@ -411,15 +418,15 @@ module _ (s : Settings) (room : HasRoom s.limit) where
   none_mapped f None e = refl
   none_mapped f (Some o) e = cc
 
-  pub nothing_left : (past : Journal) (k : ℕ) (st : Standing) → 0 < s.wait → Stopped past → st ≡ standing s past k → find (DueIn st) st.episodes ≡ None → drop k (due_now s past) ≡ []
-  nothing_left [] k st w h e f = drop_nil k
-  nothing_left (x ∷ before) k st w h e f =
+  pub nothing_left : (past : Journal) (k : ℕ) (st : Standing) → 0 < s.wait → Stopped past → st ≡ standing s past k → IsAnsweredUpTo s past k → find (DueIn st) st.episodes ≡ None → drop k (due_now s past) ≡ []
+  nothing_left [] k st w h e given f = drop_nil k
+  nothing_left (x ∷ before) k st w h e given f =
       let past : Journal = x ∷ before in
       let n = notes_dealt s past k in
       let g : find (DueIn (standing s past k)) (map (episode past n) (front n)) ≡ None = (let P = λ (z : Standing). find (DueIn z) z.episodes ≡ None in subst P e f) in
       let g2 : find (is_due_by (have_ended past s.senders) (mark past) s.wait s.root_wait) (map (episode past n) (front n)) ≡ None = (let P = λ (b : Bool). find (is_due_by b (mark past) s.wait s.root_wait) (map (episode past n) (front n)) ≡ None in subst P (all_ended past s.senders) g) in
       let g3 : find (open_due past n) (front n) ≡ None = none_mapped (episode past n) (find (open_due past n) (front n)) (sym (find-episodes past n (have_ended past s.senders) (mark past) (front n)) ∙ g2) in
-      sym (due-dealt x before k h w (known before w (stopped-before x before h))) ∙ none-from_find (open_due past n) (front n) g3
+      sym (due-dealt x before k h w (known before w (stopped-before x before h) given.1) given) ∙ none-from_find (open_due past n) (front n) g3
 
   pub dealt-notes : (past : Journal) (k : ℕ) → drop k (due_now s past) ≡ [] → notes_dealt s past k ≡ notes s past
   unfolding notes

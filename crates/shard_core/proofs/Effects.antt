@@ -114,13 +114,13 @@ module _ (s : Settings) (room : HasRoom s.limit) where
   dealt-effect (e ∷ before) k h =
       let t = turn-done s room (e ∷ before) k (due_list s room e before) e.answers h in
       let done = λ (ds : List Decision). let x : Effect = record { released = ((effect s before).released ++ (effect_of_taking s e before).released) ++ (effect_of_decisions ds).released; counted = ((effect s before).counted ++ (effect_of_taking s e before).counted) ++ (effect_of_decisions ds).counted } in x in
-      ap done t.1
+      ap done t
 
 -- a shard in which nothing is due has dealt with each decision
 pub all_dealt : (h : Held) (past : Journal) (k : ℕ) → 0 < h.wait → 0 < h.limit → has_due h ≡ false → StandsFor h past k → effect_dealt (settings h) past k ≡ effect (settings h) past
 all_dealt h past k w l d t =
     let room = room_of h l in
-    dealt-effect (settings h) room past k (nothing_left (settings h) room past k h.standing w t.0 t.1 (find-from_any (is_due_in h) h.standing.episodes d))
+    dealt-effect (settings h) room past k (nothing_left (settings h) room past k h.standing w t.0 t.1 t.2 (find-from_any (is_due_in h) h.standing.episodes d))
 
 pub take_released : (h : Held) (item : Item) (answer : Taken) (past : Journal) (k : ℕ) → 0 < h.wait → 0 < h.limit → has_due h ≡ false → StandsFor h past k → answer ≡ answer_to (settings h) (entry item answer) past →
     released_dealt (settings h) (entry item answer ∷ past) 0 ≡ released_dealt (settings h) past k ++ released_by answer
@@ -225,4 +225,4 @@ nothing_adds s past k = (sym (append-nil (released_dealt s past k)), λ reason. 
 -- a shard in which nothing is due has answered each decision
 pub all_answered : (h : Held) (past : Journal) (k : ℕ) → 0 < h.wait → 0 < h.limit → has_due h ≡ false → StandsFor h past k → IsAnswered (settings h) past
 all_answered h past k w l d t =
-    all-answered (settings h) past k (nothing_left (settings h) (room_of h l) past k h.standing w t.0 t.1 (find-from_any (is_due_in h) h.standing.episodes d)) t.2
+    all-answered (settings h) past k (nothing_left (settings h) (room_of h l) past k h.standing w t.0 t.1 t.2 (find-from_any (is_due_in h) h.standing.episodes d)) t.2

