@@ -9,7 +9,6 @@
 mod answer;
 pub mod laws;
 mod shard;
-mod temporary;
 
 pub use answer::{Decided, Taken};
 pub use shard::Shard;
