@@ -1,12 +1,8 @@
 -- A decision by the answers that are given to it.
-use Rattle.std.specs.Prelude.{ℕ, Bool, if◌then◌else◌, List, drop, Option, Some, None, option_and_then, slice_get}
+use Rattle.std.specs.Prelude.{ℕ, Bool, if◌then◌else◌, List, Option, Some, None, option_and_then, slice_get}
 use Rattle.policy_eval.specs.Given.{are_answered}
-use Rattle.shard_core.specs.Journal.{Settings, Journal, Opening, due_now, decision, first_answers, spans_since}
+use Rattle.shard_core.specs.Journal.{Settings, Journal, Opening, due_now, decision, spans_since}
 use Rattle.shard_core.specs.Fate.{Effect, effect_of_decision}
-
--- the answers to the decision at a place
-abbrev pub answers_at : ℕ → List (List Bool) → List Bool
-answers_at place answers = first_answers (drop place answers)
 
 -- what the decision of this episode does by these answers, where there is one for each asking
 abbrev pub effect_answered : Settings → Journal → (answers : List Bool) → Opening → Option Effect

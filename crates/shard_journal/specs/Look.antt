@@ -3,7 +3,7 @@ use Rattle.std.specs.Prelude.{ℕ, Bool, false, length, Option, Some, None}
 use Rattle.otlp_types.specs.declared.span.Ids.{Ids}
 use Rattle.shard_core.specs.Journal.{Settings, Journal, Notes, due_now, notes, finding}
 use Rattle.shard_core.specs.Taking.{marks_apply_to}
-use Rattle.shard_journal.specs.Ledger.{short_notes}
+use Rattle.shard_journal.specs.Short.{short_notes}
 
 -- how many episodes are due at the journal's last item, and what is noted of it
 pub record Look : Type 0 where

@@ -9,7 +9,7 @@ use crate::answers::{due_count, marks_apply_to};
 use crate::entry::Entry;
 use crate::finding::finding;
 use crate::noted::Notes;
-use crate::noting::ledger_of;
+use crate::noting::notes_of;
 use crate::settings::Settings;
 use otlp_types::Ids;
 use std::alloc::{AllocError, Global};
@@ -44,11 +44,8 @@ impl LookBack {
         ensures { IfOk result (λ look. look ≡ look_of (settings_of settings.now) (reverse journal.now)) }
     {
         let due = due_count(alloc, settings, journal)?;
-        let ledger = ledger_of(alloc, settings, journal)?;
-        Ok(LookBack {
-            due,
-            noted: ledger.noted,
-        })
+        let noted = notes_of(alloc, settings, journal)?;
+        Ok(LookBack { due, noted })
     }
 
     /// How many episodes are due at the journal's last item.
