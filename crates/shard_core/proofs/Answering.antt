@@ -21,7 +21,7 @@ and-right true b h = h
 and-right false b h = cc
 
 -- the decision after so many that are answered is given by the next answers
-turn-next : (s : Settings) (past : Journal) (k : ℕ) (os : List Opening) (given : List (List Bool)) (answers : List Bool) (o : Opening) (rest : List Opening) → drop k os ≡ o ∷ rest →
+pub turn-next : (s : Settings) (past : Journal) (k : ℕ) (os : List Opening) (given : List (List Bool)) (answers : List Bool) (o : Opening) (rest : List Opening) → drop k os ≡ o ∷ rest →
     are_each_answered s.policies past (take k os) given ≡ true →
     take (suc k) (decisions_in_turn s past os (given ++ answers ∷ [])) ≡ take k (decisions_in_turn s past os given) ++ decision s past o answers ∷ []
 turn-next s past k [] given answers o rest e h = absurd (no_more k o rest e)
@@ -53,23 +53,23 @@ each-next policies past (suc k) (p ∷ os) (g ∷ given) answers o rest e h a = 
 -- ---- an entry with other answers
 
 module _ (s : Settings) (e : Entry) (before : Journal) (more : List (List Bool)) where
-  abbrev other : Entry
+  abbrev pub other : Entry
   other = record e { answers = more }
 
-  ended-same : (n : ℕ) → have_ended (other ∷ before) n ≡ have_ended (e ∷ before) n
+  pub ended-same : (n : ℕ) → have_ended (other ∷ before) n ≡ have_ended (e ∷ before) n
   ended-same zero = refl
   ended-same (suc n) = ap (λ b. has_ended (e ∷ before) n && b) (ended-same n)
 
-  ends-same : (n : ℕ) → ends (other ∷ before) n ≡ ends (e ∷ before) n
+  pub ends-same : (n : ℕ) → ends (other ∷ before) n ≡ ends (e ∷ before) n
   ends-same zero = refl
   ends-same (suc n) = ap (λ xs. xs ++ has_ended (e ∷ before) n ∷ []) (ends-same n)
 
-  mark-same : (item : Item) → mark_at other before (mark before) item ≡ mark_at e before (mark before) item
+  pub mark-same : (item : Item) → mark_at other before (mark before) item ≡ mark_at e before (mark before) item
   mark-same (Span a) = refl
   mark-same (Tick m) = refl
   mark-same (End sender) = refl
 
-  due-item-same : (item : Item) (noted : Notes) → due_at s other before item noted ≡ due_at s e before item noted
+  pub due-item-same : (item : Item) (noted : Notes) → due_at s other before item noted ≡ due_at s e before item noted
   due-item-same (Span a) noted = refl
   due-item-same (Tick m) noted = refl
   due-item-same (End sender) noted = ap (λ b. cond (b && not (have_ended before s.senders)) (undecided s noted) []) (ended-same s.senders)
@@ -78,17 +78,17 @@ module _ (s : Settings) (e : Entry) (before : Journal) (more : List (List Bool))
   ids-same None noted = refl
   ids-same (Some ids) noted = refl
 
-  item-same : (item : Item) (noted : Notes) → after_item s other before item noted ≡ after_item s e before item noted
+  pub item-same : (item : Item) (noted : Notes) → after_item s other before item noted ≡ after_item s e before item noted
   item-same (Span a) noted = ids-same a.rec.span.ids noted
   item-same (Tick m) noted = refl
   item-same (End sender) noted = refl
 
-  turn-same : (os : List Opening) (given : List (List Bool)) → decisions_in_turn s (other ∷ before) os given ≡ decisions_in_turn s (e ∷ before) os given
+  pub turn-same : (os : List Opening) (given : List (List Bool)) → decisions_in_turn s (other ∷ before) os given ≡ decisions_in_turn s (e ∷ before) os given
   turn-same [] given = refl
   turn-same (o ∷ os) [] = refl
   turn-same (o ∷ os) (g ∷ given) = ap (λ (ds : List Decision). decision s (e ∷ before) o g ∷ ds) (turn-same os given)
 
-  each-same : (policies : Policies) (os : List Opening) (given : List (List Bool)) → are_each_answered policies (other ∷ before) os given ≡ are_each_answered policies (e ∷ before) os given
+  pub each-same : (policies : Policies) (os : List Opening) (given : List (List Bool)) → are_each_answered policies (other ∷ before) os given ≡ are_each_answered policies (e ∷ before) os given
   each-same policies [] [] = refl
   each-same policies [] (g ∷ given) = refl
   each-same policies (o ∷ os) [] = refl
@@ -97,7 +97,7 @@ module _ (s : Settings) (e : Entry) (before : Journal) (more : List (List Bool))
   pub due-same : due_now s (other ∷ before) ≡ due_now s (e ∷ before)
   due-same = due-item-same e.item (notes s before)
 
-  standing-same : (noted : Notes) → standing_by s (other ∷ before) noted ≡ standing_by s (e ∷ before) noted
+  pub standing-same : (noted : Notes) → standing_by s (other ∷ before) noted ≡ standing_by s (e ∷ before) noted
   standing-same noted = rw (ends-same s.senders, mark-same e.item) refl
 
 -- what is due doesn't turn on answers
@@ -141,7 +141,7 @@ standing-answered s e before k answers o rest d h =
 
 -- ---- once all is dealt with
 
-taken-all : {X : Type 0} (k : ℕ) (xs : List X) → drop k xs ≡ [] → take k xs ≡ xs
+pub taken-all : {X : Type 0} (k : ℕ) (xs : List X) → drop k xs ≡ [] → take k xs ≡ xs
 taken-all zero [] e = refl
 taken-all zero (x ∷ xs) e = cc
 taken-all (suc k) [] e = refl

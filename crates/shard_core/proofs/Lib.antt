@@ -7,7 +7,7 @@ mod Remembering
 mod FoundAsHeld
 mod Due
 mod Keeping
-mod Answering
+pub mod Answering
 mod HeldSpans
 mod Forgetting
 mod Codes

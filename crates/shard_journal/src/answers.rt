@@ -1,6 +1,6 @@
 //! What a journal says, for those who hold it.
 ghost use Rattle.std.specs.Prelude.{◌≡◌, ◌∷◌, [], map, reverse, length, IfOk};
-ghost use Rattle.shard_core.specs.Journal.{due_now, leaving};
+ghost use Rattle.shard_core.specs.Journal.{due_now, leaving, spans_since};
 ghost use Rattle.shard_core.specs.Fate.{no_effect, counts, effect_of_verdict, effect_of_leaving, effect_of_span, effect_of_finding, effect_of_taking};
 ghost use Rattle.shard_journal.specs.Answered.{effect_answered, effect_answered_at};
 ghost use Rattle.shard_core.specs.Taking.{refusal_applies, cache_is_on, loss_applies, marks_apply_to};
@@ -14,7 +14,7 @@ use crate::noted::{Notes, Opening, leaving};
 use crate::noting::notes_of;
 use crate::settings::Settings;
 use crate::spans::spans_since;
-use otlp_types::{Arrival, Item, TryClone};
+use otlp_types::{Arrival, Item, List, TryClone};
 use policy_eval::judge;
 use span_ids::{Reason, Verdict};
 use std::alloc::{AllocError, Global};
@@ -29,6 +29,37 @@ pub fn due_count(alloc: Global, settings: &Settings, journal: &[Entry]) -> Resul
     let noted = notes_of(alloc, settings, before)?;
     let due = due_at(alloc, settings, journal, entry, before, &noted)?;
     Ok(due.len())
+}
+
+/// The spans of each episode that is due at the journal's last item, in order of opening.
+pub fn due_spans(
+    alloc: Global,
+    settings: &Settings,
+    journal: &[Entry],
+) -> Result<Vec<List<Arrival>>, AllocError>
+    ensures { IfOk result (λ spans. spans.items ≡ map (spans_since (reverse journal.now)) (due_now (settings_of settings.now) (reverse journal.now))) }
+{
+    let Some((entry, before)) = journal.split_last() else {
+        return Ok(Vec::new(alloc));
+    };
+    let noted = notes_of(alloc, settings, before)?;
+    let due = due_at(alloc, settings, journal, entry, before, &noted)?;
+    spans_of_each(alloc, journal, due.as_slice())
+}
+
+/// The spans of each of these openings' episodes.
+fn spans_of_each(
+    alloc: Global,
+    journal: &[Entry],
+    openings: &[Opening],
+) -> Result<Vec<List<Arrival>>, AllocError>
+    ensures { IfOk result (λ spans. spans.items ≡ map (spans_since (reverse journal.now)) openings.now) }
+{
+    let mut spans = Vec::new(alloc);
+    for opening in openings {
+        spans.push(List::from_vec(spans_since(alloc, journal, opening)?))?;
+    }
+    Ok(spans)
 }
 
 /// Whether these marks can apply to a span that finds this.
