@@ -11,7 +11,7 @@ pub struct Entry {
     /// Memory was refused to the put of the decision that its opening evicted.
     pub lost: bool,
     /// For each decision at the item, in order, the answers to its askings, in the order in which the policies ask.
-    pub answers: List<List<bool>>,
+    pub answers: Vec<List<bool>>,
 }
 
 impl Model for Entry {
@@ -23,7 +23,7 @@ impl Model for Entry {
 
     ghost coded = { Prim.hlevel (codes, any_value.the_row.coded) };
 
-    ghost view = { λ e. record { item = e.item; refused = e.refused; lost = e.lost; answers = e.answers } };
+    ghost view = { λ e. record { item = e.item; refused = e.refused; lost = e.lost; answers = e.answers.items } };
 }
 
 /// A span counted under a reason, by its key.

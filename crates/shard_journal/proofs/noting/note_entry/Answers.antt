@@ -14,5 +14,5 @@ returns c =
     let m = after_item s e before e.item n in
     let due = due_is s e before n c.args.noted.now c.as_slice.result.now c.requires.noted (c.as_slice.ensures.value ∙ c.in_ok-due.ensures) in
     on_ok_weaker c.decide_each.result
-    (λ f. f m (item_noted s e before n c.args.noted.now c.note_item.new.noted c.requires.noted c.in_ok-note_item.ensures) ∙ entry_noted s e before (reverse c.args.past.now) c.as_slice.result.now c.as_slice-2.result.now c.requires.past due (c.as_slice-2.ensures ∙ ap (λ (x : Entry). x.answers) c.entry.view_is))
+    (λ f. f m (item_noted s e before n c.args.noted.now c.note_item.new.noted c.requires.noted c.in_ok-note_item.ensures) ∙ entry_noted s e before (reverse c.args.past.now) c.as_slice.result.now c.as_slice-2.result.now c.requires.past due (c.as_slice-2.ensures.value ∙ ap (λ (x : Entry). x.answers) c.entry.view_is))
     c.decide_each.ensures
