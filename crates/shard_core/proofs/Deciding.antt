@@ -103,21 +103,26 @@ module _ (s : Settings) (room : HasRoom s.limit) where
       let left : drop k os ≡ p ∷ rest.0 = ◌∙◌ {c = p ∷ rest.0} (sym (due-dealt s room x before k h w g given)) rest.1 in
       let undecided : decided_as n p.at ≡ None = none-left (decided_as n p.at) _ (find-passes (test past n) R p o.1) in
       let spans : spans_since past p ≡ e.spans = sym (ap (λ (q : Episode). q.spans) (sym o.2) ∙ ap (λ (y : Option Verdict). spans_left (spans_since past p) y) undecided) in
-      let places = front-places s room past m (sound_item s room before x.item x (notes s before) (sound_notes s room before)) in
-      (p, rest.0, left, spans, λ answers.
-        let v = verdict_given s.policies answers e.spans in
-        let d = decision s past p answers in
-        let ds = take k (decisions_now s past) in
-        let judgement : d.verdict ≡ v = ap (verdict_given s.policies answers) spans in
-        let after = after_decisions (ds ++ d ∷ []) m in
-        let one_more : after.decisions ≡ d ∷ n.decisions = ap (λ q. q ++ m.decisions) (reverse-append ds (d ∷ [])) in
-        let moved = settle-map past after n d R one_more places o.1 in
-        let H = λ (es : List Episode). (let t : Standing = record { episodes = es; sampled = cache s n Sampled; non_sampled = cache s n NotSampled; clock = clock past; mark = mark past; ends = ends past s.senders } in t) in
-        let into : deciding st v ≡ deciding now v = ap (λ (t : Standing). deciding t v) eq in
-        let by_ends : deciding now v ≡ H (set_first (is_due_by (have_ended past s.senders) (mark past) s.wait s.root_wait) (settled v) (map (episode past n) R))
-        = ap (λ b. H (set_first (is_due_by b (mark past) s.wait s.root_wait) (settled v) (map (episode past n) R))) (all_ended s room past s.senders) in
-        let by_verdict = ap (λ (y : Verdict). H (set_first (is_due_by (have_ended past s.senders) (mark past) s.wait s.root_wait) (settled y) (map (episode past n) R))) (sym judgement) in
-        ap (standing s (answered past answers)) (take-one k) ∙ standing-answered s x before k answers p rest.0 left given ∙ sym (into ∙ by_ends ∙ by_verdict ∙ ap H moved))
+      let places = front-places s room past m (sound_item s room before x.item x (notes s before) (sound_notes s room before)) in (
+        p,
+        rest.0,
+        left,
+        spans,
+        λ answers.
+            let v = verdict_given s.policies answers e.spans in
+            let d = decision s past p answers in
+            let ds = take k (decisions_now s past) in
+            let judgement : d.verdict ≡ v = ap (verdict_given s.policies answers) spans in
+            let after = after_decisions (ds ++ d ∷ []) m in
+            let one_more : after.decisions ≡ d ∷ n.decisions = ap (λ q. q ++ m.decisions) (reverse-append ds (d ∷ [])) in
+            let moved = settle-map past after n d R one_more places o.1 in
+            let H = λ (es : List Episode). (let t : Standing = record { episodes = es; sampled = cache s n Sampled; non_sampled = cache s n NotSampled; clock = clock past; mark = mark past; ends = ends past s.senders } in t) in
+            let into : deciding st v ≡ deciding now v = ap (λ (t : Standing). deciding t v) eq in
+            let by_ends : deciding now v ≡ H (set_first (is_due_by (have_ended past s.senders) (mark past) s.wait s.root_wait) (settled v) (map (episode past n) R))
+            = ap (λ b. H (set_first (is_due_by b (mark past) s.wait s.root_wait) (settled v) (map (episode past n) R))) (all_ended s room past s.senders) in
+            let by_verdict = ap (λ (y : Verdict). H (set_first (is_due_by (have_ended past s.senders) (mark past) s.wait s.root_wait) (settled y) (map (episode past n) R))) (sym judgement) in
+            ap (standing s (answered past answers)) (take-one k) ∙ standing-answered s x before k answers p rest.0 left given ∙ sym (into ∙ by_ends ∙ by_verdict ∙ ap H moved),
+      )
 
 -- ---- by what the code asks the buffer
 
@@ -278,10 +283,15 @@ some_next : (s : Settings) → HasRoom s.limit → 0 < s.wait → (past : Journa
 some_next s room w [] k h g e f = absurd (none_found s k e s.limit f)
 some_next s room w (x ∷ before) k h g e f =
     let st = standing s (x ∷ before) k in
-    let step = decides-step s room x before k st e w h refl g f in
-    (step.0, step.1, step.2, step.3, λ answers.
-      let v = verdict_given s.policies answers e.spans in
-      step.4 answers ∙ ap (λ (es : List Episode). record st { episodes = es }) (first_set (is_due_held s.wait s.root_wait st) v st.episodes))
+    let step = decides-step s room x before k st e w h refl g f in (
+      step.0,
+      step.1,
+      step.2,
+      step.3,
+      λ answers.
+          let v = verdict_given s.policies answers e.spans in
+          step.4 answers ∙ ap (λ (es : List Episode). record st { episodes = es }) (first_set (is_due_held s.wait s.root_wait st) v st.episodes),
+    )
 
 next : (s : Settings) → HasRoom s.limit → 0 < s.wait → (past : Journal) (k : ℕ) → StoppedInTime s past → IsAnsweredUpTo s past k → (r : Option Episode) → find (is_due_held s.wait s.root_wait (standing s past k)) (standing s past k).episodes ≡ r → DecidesNext s past k r
 next s room w past k h g None f = nothing_left s room past k (standing s past k) w h refl g f

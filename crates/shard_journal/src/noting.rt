@@ -17,11 +17,7 @@ use std::alloc::{AllocError, Global};
 
 /// What is noted of a journal, each due episode decided by the answers that stand with the item.
 #[tactic(auto, using(crate::proofs::Newest::newest_more))]
-pub fn notes_of(
-    alloc: Global,
-    settings: &Settings,
-    journal: &[Entry],
-) -> Result<Notes, AllocError>
+pub fn notes_of(alloc: Global, settings: &Settings, journal: &[Entry]) -> Result<Notes, AllocError>
     ensures { IfOk result (λ noted. noted ≡ short_notes (notes (settings_of settings.now) (reverse journal.now))) }
 {
     let mut noted = Notes::new(alloc);
@@ -48,7 +44,14 @@ fn note_entry(
 {
     let due = due_at(alloc, settings, past, entry, before, noted)?;
     note_item(settings, past, entry, before, noted)?;
-    decide_each(alloc, settings, past, due.as_slice(), entry.answers.as_slice(), noted)
+    decide_each(
+        alloc,
+        settings,
+        past,
+        due.as_slice(),
+        entry.answers.as_slice(),
+        noted,
+    )
 }
 
 /// Notes an entry, before any decision.

@@ -122,8 +122,11 @@ returns-clause-decides g c =
     let by : c.due_by-mark.result ≡ due_by h = c.due_by-mark.ensures ∙ ap due_by (sym c.self.view_is) in
     let F = λ (d : ℕ × ℕ × ℕ). find (is_due_at d.0 d.1 d.2) c.self.inside.buffer.episodes ≡ Some e in
     let S = λ (d : ℕ × ℕ × ℕ). SettlesFirst h d.0 d.1 d.2 answers c.decided.result (new_held g c) in
-    subst P (c.self.view_is ∙ c.search.ensures) (answers, λ past k s.
-      decides_some asks h inv.0 inv.1 inv.3 (new_held g c) c.decided.result before after answers e past k (subst F by (due_found g c)) (subst S by (settles g c)) (subst A c.spans.ensures made.2) (subst Q c.spans.ensures made.3) s)
+    subst P (c.self.view_is ∙ c.search.ensures) (
+      answers,
+      λ past k s.
+          decides_some asks h inv.0 inv.1 inv.3 (new_held g c) c.decided.result before after answers e past k (subst F by (due_found g c)) (subst S by (settles g c)) (subst A c.spans.ensures made.2) (subst Q c.spans.ensures made.3) s,
+    )
 
 pub returns-clause-fewer : goal.returns-clause-fewer
 returns-clause-fewer g c =
