@@ -15,7 +15,7 @@ abbrev first_config : Config
 first_config = configured always None 0 0
 
 abbrev one_span : List Step
-one_span = receive 0 0 0 (plain 1 ∷ []) ∷ route 0 0 ∷ take 0 false false ∷ tick 0 10 ∷ decide 0 ∷ ship 0 ∷ pull ∷ hand ∷ close 0 ∷ end 0 0 ∷ end 0 1 ∷ []
+one_span = receive 0 0 0 (plain 1 ∷ []) ∷ route 0 0 ∷ take 0 false false ∷ tick 0 10 ∷ decide 0 [] ∷ ship 0 ∷ pull ∷ hand ∷ close 0 ∷ end 0 0 ∷ end 0 1 ∷ []
 
 pub one_span_through_the_world : option_map handed_numbers (run first_config 1 1 one_span) ≡ Some ((0 ∷ []) ∷ [])
 unfolding notes
@@ -32,7 +32,7 @@ second_tick_while_due = refl
 
 -- every step that this world has words for, but `fail`
 abbrev others : List Step
-others = receive 0 0 0 [] ∷ receive 0 1 7 (plain 1 ∷ []) ∷ route 0 0 ∷ refuse 0 0 ∷ take 0 false false ∷ take 0 true false ∷ take 0 false true ∷ tick 0 20 ∷ close 0 ∷ end 0 0 ∷ end 0 1 ∷ end 0 2 ∷ decide 0 ∷ ship 0 ∷ pull ∷ hand ∷ spoil NoMemory ∷ spoil ExporterDown ∷ []
+others = receive 0 0 0 [] ∷ receive 0 1 7 (plain 1 ∷ []) ∷ route 0 0 ∷ refuse 0 0 ∷ take 0 false false ∷ take 0 true false ∷ take 0 false true ∷ tick 0 20 ∷ close 0 ∷ end 0 0 ∷ end 0 1 ∷ end 0 2 ∷ decide 0 [] ∷ ship 0 ∷ pull ∷ hand ∷ spoil NoMemory ∷ spoil ExporterDown ∷ []
 
 pub only_fail_at_last : map (is_enabled_after first_config one_span) others ++ is_enabled_after first_config one_span fail ∷ []
     ≡ map (λ s. false) others ++ true ∷ []
@@ -89,7 +89,7 @@ no_such_shard = refl
 
 -- a sampled episode in the buffer, then a late span of its trace in the queue
 abbrev late_queued : List Step
-late_queued = send (error 1) ++ take 0 false false ∷ tick 0 10 ∷ decide 0 ∷ send (plain 1)
+late_queued = send (error 1) ++ take 0 false false ∷ tick 0 10 ∷ decide 0 [] ∷ send (plain 1)
 
 -- no memory is taken for a late span
 pub late_refused : is_enabled_after of_one late_queued (take 0 true false) ≡ false
@@ -106,7 +106,7 @@ late_taken = refl
 
 -- a sampled episode in the buffer of one, then a span of another trace in the queue
 abbrev evicting : List Step
-evicting = send (error 1) ++ take 0 false false ∷ tick 0 10 ∷ decide 0 ∷ send (plain 2)
+evicting = send (error 1) ++ take 0 false false ∷ tick 0 10 ∷ decide 0 [] ∷ send (plain 2)
 
 pub lost_put : is_enabled_after of_one evicting (take 0 false true) ≡ true
 unfolding notes
@@ -186,9 +186,9 @@ tick_after_the_tickers_end = refl
 
 -- two spans of one trace are released, and the first is in the batch of one
 abbrev batched : List Step
-batched = receive 0 0 0 (error 1 ∷ error 1 ∷ []) ∷ route 0 0 ∷ route 0 0 ∷ take 0 false false ∷ take 0 false false ∷ tick 0 10 ∷ decide 0 ∷ ship 0 ∷ ship 0 ∷ pull ∷ []
+batched = receive 0 0 0 (error 1 ∷ error 1 ∷ []) ∷ route 0 0 ∷ route 0 0 ∷ take 0 false false ∷ take 0 false false ∷ tick 0 10 ∷ decide 0 [] ∷ ship 0 ∷ ship 0 ∷ pull ∷ []
 
-pub decide_nothing : is_enabled_after of_one batched (decide 0) ≡ false
+pub decide_nothing : is_enabled_after of_one batched (decide 0 []) ≡ false
 unfolding notes
 decide_nothing = refl
 
@@ -242,7 +242,7 @@ abbrev of_two : Config
 of_two = record { policies = always; wait = 10; root_wait = 0; limit = Some 1; sampled_size = 1; non_sampled_size = 1; batch_size = 2 }
 
 -- two requests of one trace: its spans keep their order from the lane to the batch
-pub batch_of_two : option_map handed_numbers (run of_two 1 1 (receive 0 0 0 (plain 1 ∷ []) ∷ receive 0 0 0 (plain 1 ∷ []) ∷ route 0 0 ∷ route 0 0 ∷ take 0 false false ∷ take 0 false false ∷ tick 0 10 ∷ decide 0 ∷ ship 0 ∷ ship 0 ∷ pull ∷ pull ∷ hand ∷ [])) ≡ Some ((0 ∷ 1 ∷ []) ∷ [])
+pub batch_of_two : option_map handed_numbers (run of_two 1 1 (receive 0 0 0 (plain 1 ∷ []) ∷ receive 0 0 0 (plain 1 ∷ []) ∷ route 0 0 ∷ route 0 0 ∷ take 0 false false ∷ take 0 false false ∷ tick 0 10 ∷ decide 0 [] ∷ ship 0 ∷ ship 0 ∷ pull ∷ pull ∷ hand ∷ [])) ≡ Some ((0 ∷ 1 ∷ []) ∷ [])
 unfolding notes
 batch_of_two = refl
 
@@ -252,7 +252,7 @@ unfolding notes
 due_stays_buffered = refl
 
 -- a released span is unshipped, then exported
-pub decided_is_unshipped : option_map (λ w. places of_two w (key 0)) (run of_two 1 1 (send (plain 1) ++ take 0 false false ∷ tick 0 10 ∷ decide 0 ∷ [])) ≡ Some (unshipped 0 ∷ [])
+pub decided_is_unshipped : option_map (λ w. places of_two w (key 0)) (run of_two 1 1 (send (plain 1) ++ take 0 false false ∷ tick 0 10 ∷ decide 0 [] ∷ [])) ≡ Some (unshipped 0 ∷ [])
 unfolding notes
 decided_is_unshipped = refl
 
@@ -263,15 +263,15 @@ unfolding notes
 open_before_the_tickers_end = refl
 
 -- the Ends of all senders decide what is undecided; of one alone they don't
-pub one_end_decides_nothing : is_enabled_after first_config (send (plain 1) ++ take 0 false false ∷ close 0 ∷ end 0 0 ∷ []) (decide 0) ≡ false
+pub one_end_decides_nothing : is_enabled_after first_config (send (plain 1) ++ take 0 false false ∷ close 0 ∷ end 0 0 ∷ []) (decide 0 []) ≡ false
 unfolding notes
 one_end_decides_nothing = refl
 
-pub last_end_decides : is_enabled_after first_config (send (plain 1) ++ take 0 false false ∷ close 0 ∷ end 0 0 ∷ end 0 1 ∷ []) (decide 0) ≡ true
+pub last_end_decides : is_enabled_after first_config (send (plain 1) ++ take 0 false false ∷ close 0 ∷ end 0 0 ∷ end 0 1 ∷ []) (decide 0 []) ≡ true
 unfolding notes
 last_end_decides = refl
 
 -- a span in the open batch waits
-pub open_while_batched : option_map (is_closed first_config) (run first_config 1 1 (send (plain 1) ++ take 0 false false ∷ close 0 ∷ end 0 0 ∷ end 0 1 ∷ decide 0 ∷ ship 0 ∷ pull ∷ [])) ≡ Some false
+pub open_while_batched : option_map (is_closed first_config) (run first_config 1 1 (send (plain 1) ++ take 0 false false ∷ close 0 ∷ end 0 0 ∷ end 0 1 ∷ decide 0 [] ∷ ship 0 ∷ pull ∷ [])) ≡ Some false
 unfolding notes
 open_while_batched = refl
