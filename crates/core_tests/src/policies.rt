@@ -76,14 +76,17 @@ fn arrival_of(alloc: Global, given: Given) -> Result<Arrival, AllocError> {
     })
 }
 
-/// The verdict of the policies on these spans, with a limiter that has not been asked.
+/// The verdict of the policies on these spans, with a limiter that has not been asked. None where there is no span.
 fn verdict_at_first(
     alloc: Global,
     policies: &Policies,
     spans: &[Arrival],
-) -> Result<Verdict, AllocError> {
+) -> Result<Option<Verdict>, AllocError> {
+    if spans.is_empty() {
+        return Ok(None);
+    }
     let mut budgets = Budgets::new(alloc, policies)?;
-    Ok(evaluate(policies, spans, 0, &mut budgets))
+    Ok(Some(evaluate(policies, spans, 0, &mut budgets)))
 }
 
 /// Policies of these kinds, each with a name of its own.
@@ -105,7 +108,7 @@ fn is_sampled(alloc: Global, kinds: Vec<PolicyKind>, spans: Vec<Given>) -> Resul
     for given in spans {
         arrivals.push(arrival_of(alloc, given)?)?;
     }
-    Ok(verdict_at_first(alloc, &policies, &arrivals)? == Verdict::Sampled)
+    Ok(verdict_at_first(alloc, &policies, &arrivals)? == Some(Verdict::Sampled))
 }
 
 fn latency(threshold_ms: u64, upper_threshold_ms: u64) -> PolicyKind {

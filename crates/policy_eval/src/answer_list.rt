@@ -1,3 +1,4 @@
+//! The verdict by a list of answers.
 ghost use Rattle.std.specs.Prelude.{◌≡◌, ℕ, ◌+◌, ◌≤◌, drop, length};
 ghost use Rattle.policy_tree.specs.Tree.{nodes};
 ghost use Rattle.policy_tree.specs.Meaning.{meaning, policy_meaning};
