@@ -1,6 +1,6 @@
 //! Worked journals, played through what a journal says.
 use crate::spans::{policies_on, record_of};
-use otlp_types::{Arrival, Ids, Item};
+use otlp_types::{Arrival, Ids, Item, List};
 use shard_journal::{
     Effect, Entry, Finding, LookBack, Settings, clock, decision_at, effect_of_taking, finding_of,
     has_ended, have_ended, remembered,
@@ -100,10 +100,13 @@ fn decide_all(
 ) -> Result<(), AllocError> {
     let due = LookBack::new(alloc, settings, &played.journal)?.due();
     for place in 0..due {
-        let effect = decision_at(alloc, settings, &played.journal, place)?;
+        let effect = decision_at(alloc, settings, &played.journal, place, &[])?;
         note(played, &effect.expect(rt, "a decision"))?;
+        if let Some(last) = played.journal.last_mut() {
+            last.answers.push(List::new(alloc))?;
+        }
     }
-    assert!(rt; decision_at(alloc, settings, &played.journal, due)?.is_none());
+    assert!(rt; decision_at(alloc, settings, &played.journal, due, &[])?.is_none());
     Ok(())
 }
 
@@ -123,6 +126,7 @@ fn play(
             item: item_of(rt, alloc, *event),
             refused: false,
             lost: false,
+            answers: Vec::new(alloc),
         };
         let effect = effect_of_taking(alloc, settings, &played.journal, &entry)?;
         note(&mut played, &effect)?;

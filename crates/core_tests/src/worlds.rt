@@ -76,7 +76,10 @@ fn step_of(rt: &impl Abort, alloc: Global, choice: Choice) -> Result<Step, Alloc
         Choice::Tick { shard, moment } => Step::Tick { shard, moment },
         Choice::Close { lane } => Step::Close { lane },
         Choice::End { shard, sender } => Step::End { shard, sender },
-        Choice::Decide { shard } => Step::Decide { shard },
+        Choice::Decide { shard } => Step::Decide {
+            shard,
+            answers: Vec::new(alloc),
+        },
         Choice::Ship { shard } => Step::Ship { shard },
         Choice::Pull => Step::Pull,
         Choice::Hand => Step::Hand,
@@ -135,7 +138,10 @@ fn one_span(rt: &impl Abort, alloc: Global, ticks_again: bool) -> Result<Vec<Ste
             moment: 10,
         })?;
     }
-    steps.push(Step::Decide { shard: 0 })?;
+    steps.push(Step::Decide {
+        shard: 0,
+        answers: Vec::new(alloc),
+    })?;
     steps.push(Step::Ship { shard: 0 })?;
     steps.push(Step::Pull)?;
     steps.push(Step::Hand)?;
@@ -186,7 +192,10 @@ fn others(rt: &impl Abort, alloc: Global) -> Result<Vec<Step>, Fail> {
         shard: 0,
         sender: 2,
     })?;
-    steps.push(Step::Decide { shard: 0 })?;
+    steps.push(Step::Decide {
+        shard: 0,
+        answers: Vec::new(alloc),
+    })?;
     steps.push(Step::Ship { shard: 0 })?;
     steps.push(Step::Pull)?;
     steps.push(Step::Hand)?;
