@@ -1,0 +1,3 @@
+-- Which of the types that the threads are given and leave may go to another thread.
+pub mod Sent
+pub mod ShardSent

@@ -1,0 +1,22 @@
+-- What is moved to a lane's thread, and what that leaves, may go to another thread.
+-- For the call of spawn_with in start_lane.
+use denote.Param.Send.{IsSend, sendable}
+use denote.RattleType.{RattleType}
+use Rattle.lane_queue.proofs.ends.Sender.TheSendSync as push
+use Rattle.lane_queue.proofs.sender_port.SenderPort.TheSendSync as port
+use Rattle.lane_queue.specs.contracts.ends.Sender as sender
+use Rattle.lane_queue.specs.declared.rule.Room.{Ghosts}
+use Rattle.otlp_types.specs.contracts.arrival.Item as item
+use Rattle.std.proofs.Crossing.{crosses}
+use Rattle.pipeline.proofs.Sent.{item_send}
+use Rattle.pipeline.proofs.threads.start_lane.Goals as goal
+
+module _ (C : RattleType) (g : Ghosts C.Denot) where
+  push_item : IsSend (sender.the_row item.the_row C g)
+  push_item = push.the_send item.the_row C g item_send
+
+pub spawn_with-requires-send-F : goal.spawn_with-requires-send-F
+spawn_with-requires-send-F g c κs within = search (sendable, crosses, push_item, port.the_send, item_send, c.type_bounds.send-F, c.type_bounds.sync-B, c.type_bounds.sync-G, c.type_bounds.sync-P, c.type_bounds.sync-M, c.type_bounds.sync-R) depth 60
+
+pub spawn_with-requires-send-T : goal.spawn_with-requires-send-T
+spawn_with-requires-send-T g c κs within = search (sendable, crosses, push_item) depth 60
