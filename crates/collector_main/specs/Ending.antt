@@ -11,14 +11,17 @@ use Rattle.drop_ledger.specs.declared.count.Count.TheVariants.{Received, Handed,
 use Rattle.drop_ledger.specs.declared.report.Report.{Report}
 use Rattle.policy_tree.specs.Faults.{number_of as number_of_policy_fault}
 use Rattle.tsc_config.specs.Faults.{number_of}
-use Rattle.tsc_config.specs.Reading.{reading}
 use Rattle.tsc_config.specs.declared.config.Config.{Config}
 use Rattle.tsc_config.specs.declared.fault.ConfigFault.{ConfigFault}
 use Rattle.tsc_config.specs.declared.fault.ConfigFault.TheVariants.{Policy, NoMemory as ReadsNothing}
 use Rattle.script_session.specs.declared.fault.RunFault.{RunFault}
+use Rattle.collector_main.specs.declared.program.Command.{Command}
+use Rattle.collector_main.specs.declared.program.Command.TheVariants.{Replay, Serve}
 use Rattle.collector_main.specs.declared.program.Outcome.{Outcome}
-use Rattle.collector_main.specs.declared.program.Outcome.TheVariants.{Done, SinkDown, Usage, Unreadable, Configuration, Script, NoMemory, BookFull}
+use Rattle.collector_main.specs.declared.program.Outcome.TheVariants.{Done, SinkDown, Usage, Unreadable, Configuration, Script, NoMemory, BookFull, CannotListen}
 use Rattle.collector_main.specs.Outcomes.{outcome_of, exit_status}
+use Rattle.collector_main.specs.Configuration.{FileFails, IsConfigOf}
+use Rattle.collector_main.specs.declared.configuration.FileFault.{FileFault}
 use Rattle.script_session.specs.Replay.{RunEnds, settings_by}
 
 -- ---- the last text
@@ -72,6 +75,7 @@ text_of (Configuration fault) = codes "tsc: configuration refused: " ++ fault_nu
 text_of (Script line) = codes "tsc: script refused: line " ++ decimal line ++ codes "\n"
 text_of NoMemory = codes "tsc: no memory\n"
 text_of BookFull = codes "tsc: book full\n"
+text_of CannotListen = codes "tsc: cannot listen\n"
 
 -- the first part of a text was taken; it was written exactly where nothing is missing
 pub record WritesText (before : Option (List ℕ)) (text : List ℕ) (written : Bool) (after : Option (List ℕ)) : Type 0 where
@@ -90,39 +94,42 @@ pub record HandsText (old : LineSinkState) (text : List ℕ) (written : Bool) (n
 
 -- ---- how each outcome arises
 
--- what the program was given, and what it left of that before its last text: its arguments, what its reader had left, and what its writer had taken
+-- what the program was given, and what it left of that before its last text: its arguments, what was read of the configuration's file, what its reader had left, and
+-- what its writer had taken
 pub record Course : Type 0 where
   pub arguments : List (List ℕ)
+  pub file : Result (List ℕ) FileFault
   pub unread : Option (List ℕ)
   pub unread_after : Option (List ℕ)
   pub taken : Option (List ℕ)
   pub taken_after : Option (List ℕ)
 
--- there are two arguments, and the first is `replay`
+-- there are two arguments, and the first is this command
+abbrev pub asks : (command : List ℕ) → (arguments : List (List ℕ)) → Bool
+asks command (first ∷ path ∷ []) = bytes_eq first command
+asks command _ = false
+
+-- a script is to be run
 abbrev pub asks_replay : (arguments : List (List ℕ)) → Bool
-asks_replay (command ∷ path ∷ []) = bytes_eq command (codes "replay")
-asks_replay _ = false
+asks_replay arguments = asks (codes "replay") arguments
+
+-- the collector is to run on a listener
+abbrev pub asks_serve : (arguments : List (List ℕ)) → Bool
+asks_serve arguments = asks (codes "serve") arguments
+
+-- this is asked for
+abbrev pub AsksFor : Command → (arguments : List (List ℕ)) → Type 0
+AsksFor Replay arguments = asks_replay arguments ≡ true
+AsksFor Serve arguments = asks_serve arguments ≡ true
 
 -- nothing was read of the script, and nothing was written
 abbrev pub NothingDone : Course → Type 0
 NothingDone course = (course.unread_after ≡ course.unread) × (course.taken_after ≡ course.taken)
 
--- the greatest length of a configuration, in bytes
-abbrev pub greatest_length : ℕ
-greatest_length = 1048576
-
--- this configuration is what some text of at most the greatest length is read as: no contract knows what a file holds
-abbrev pub IsRead : Config → Type 0
-IsRead config = (text : List ℕ) × (length text ≤ greatest_length) × (reading text ≡ Ok config)
-
--- some text of at most the greatest length is refused with this fault as its least one; or there was no memory to read it
-abbrev pub IsRefused : ConfigFault → Type 0
-IsRefused fault = (text : List ℕ) × (length text ≤ greatest_length) × (fault ≢ ReadsNothing → reading text ≡ Err fault)
-
 -- a configuration was read, and the run of the script by it had an answer of this outcome
 pub record RanTo (course : Course) (outcome : Outcome) : Type 0 where
   pub config : Config
-  pub is_read : IsRead config
+  pub is_read : IsConfigOf course.file config
   pub failures_after : ℕ
   pub answer : Result Report RunFault
   pub ends : RunEnds (record {
@@ -142,22 +149,32 @@ pub record RanTo (course : Course) (outcome : Outcome) : Type 0 where
 -- how an outcome arises where a replay is asked for: before the script, or by its run
 abbrev pub Replays : Course → Outcome → Type 0
 Replays course Usage = ⊥
-Replays course Unreadable = NothingDone course
-Replays course (Configuration fault) = IsRefused fault × NothingDone course
-Replays course NoMemory = NothingDone course ⊎ RanTo course NoMemory
+Replays course CannotListen = ⊥
+Replays course Unreadable = FileFails course.file Unreadable × NothingDone course
+Replays course (Configuration fault) = FileFails course.file (Configuration fault) × NothingDone course
+Replays course NoMemory = (FileFails course.file NoMemory × NothingDone course) ⊎ RanTo course NoMemory
 Replays course outcome = RanTo course outcome
 
--- how an outcome arises: the arguments are wrong exactly where no replay is asked for, and then nothing is done
-abbrev pub CameTo : Course → Outcome → Type 0
-CameTo course Usage = (asks_replay course.arguments ≡ false) × NothingDone course
-CameTo course outcome = (asks_replay course.arguments ≡ true) × Replays course outcome
+-- a configuration was read, and nothing of the script
+pub record ServedTo (course : Course) : Type 0 where
+  pub config : Config
+  pub is_read : IsConfigOf course.file config
+  pub unread : course.unread_after ≡ course.unread
 
--- how reading the configuration fails
-abbrev pub LoadFails : Outcome → Type 0
-LoadFails Unreadable = ⊤
-LoadFails NoMemory = ⊤
-LoadFails (Configuration fault) = IsRefused fault
-LoadFails _ = ⊥
+-- how an outcome arises where the collector is to run on a listener
+abbrev pub Serves : Course → Outcome → Type 0
+Serves course Usage = ⊥
+Serves course (Script line) = ⊥
+Serves course Unreadable = FileFails course.file Unreadable × NothingDone course
+Serves course (Configuration fault) = FileFails course.file (Configuration fault) × NothingDone course
+Serves course NoMemory = (FileFails course.file NoMemory × NothingDone course) ⊎ ServedTo course
+Serves course CannotListen = ServedTo course × NothingDone course
+Serves course outcome = ServedTo course
+
+-- how an outcome arises: the arguments are wrong exactly where neither is asked for, and then nothing is done
+abbrev pub CameTo : Course → Outcome → Type 0
+CameTo course Usage = (asks_replay course.arguments ≡ false) × (asks_serve course.arguments ≡ false) × NothingDone course
+CameTo course outcome = ((asks_replay course.arguments ≡ true) × Replays course outcome) ⊎ ((asks_serve course.arguments ≡ true) × Serves course outcome)
 
 -- ---- the end of the program
 
@@ -165,11 +182,12 @@ LoadFails _ = ⊥
 abbrev pub Finishes : (taken : Option (List ℕ)) → Outcome → (taken_last : Option (List ℕ)) → (status : ℕ) → Type 0
 Finishes taken outcome taken_last status = (written : Bool) × WritesText taken (text_of outcome) written taken_last × (status ≡ exit_status outcome written)
 
--- the program did what the arguments say, and then wrote the text of the outcome
+-- the program did what the arguments say by what it read of the file, and then wrote the text of the outcome
 pub record EndsWith (arguments : List (List ℕ)) (unread unread_after taken taken_last : Option (List ℕ)) (status : ℕ) : Type 0 where
   pub outcome : Outcome
+  pub file : Result (List ℕ) FileFault
   pub between : Option (List ℕ)
-  pub came_to : CameTo (record { arguments = arguments; unread = unread; unread_after = unread_after; taken = taken; taken_after = between }) outcome
+  pub came_to : CameTo (record { arguments = arguments; file = file; unread = unread; unread_after = unread_after; taken = taken; taken_after = between }) outcome
   pub finishes : Finishes between outcome taken_last status
 
 -- there was no memory for the last text; nothing was read, and at most the text that says so was written

@@ -1,2 +1,3 @@
 pub mod Outcomes
+pub mod Configuration
 pub mod Ending

@@ -1,26 +1,39 @@
 //! The program: its arguments, its configuration, its texts and its exit status.
-ghost use Rattle.std.specs.Prelude.{◌≡◌, ◌⊎◌, ◌+◌, ◌≤◌, ◌<◌, ◌++◌, map, false, IfOk, IfErr, IfSome, vec_capacity, vec_len, length, decimal, codes, string_bytes};
-ghost use Rattle.collector_main.specs.Outcomes.{outcome_of, exit_status};
-ghost use Rattle.collector_main.specs.Ending.{WritesText, HandsText, Finishes, CameTo, Ends, IsRead, LoadFails, text_of, name_of, report_text, fault_number, greatest_length};
-ghost use Rattle.collector_main.specs.declared.program.Outcome.TheVariants.{NoMemory, Unreadable};
+ghost use Rattle.std.specs.Prelude.{◌≡◌, ◌+◌, ◌≤◌, ◌<◌, ◌++◌, ℕ, List, Result, IfSome, IfNone, map, false, vec_capacity, vec_len, length, decimal, codes, string_bytes};
+ghost use Rattle.collector_main.specs.Configuration.{file_of};
+ghost use Rattle.collector_main.specs.Outcomes.{outcome_of, served_to, exit_status};
+ghost use Rattle.collector_main.specs.Ending.{WritesText, HandsText, Finishes, AsksFor, CameTo, Replays, Serves, Ends, asks_replay, asks_serve, text_of, name_of, report_text, fault_number};
+ghost use Rattle.collector_main.specs.declared.program.Outcome.TheVariants.{NoMemory};
 
+use crate::configuration::{FileFault, config_of, read_file};
+use collector_serve::{WallClock, listen, serve_on};
 use drop_ledger::{Count, Report};
 use itoa::Buffer;
 use lane_seq::put;
+use pipeline::RunFault as ServeFault;
 use script_session::{RunFault, replay_run};
 use span_ids::Reason;
 use span_sink::{LineSink, Sink, WriteSink};
 use std::alloc::Global;
-use std::fs;
-use std::io::{ErrorKind, Read, Write};
+use std::io::{Read, Write};
+use std::net::{Net, TcpListener, TcpStream};
 use std::rt::Files;
-use tsc_config::{Config, ConfigFault, read};
-
-/// The longest configuration that is read, in bytes.
-const MAX_CONFIG_LEN: usize = 1_048_576;
+use std::sync::Wait;
+use std::thread::Threads;
+use std::time::Clock;
+use tsc_config::ConfigFault;
 
 /// Room for a line of the report or of a refusal, in bytes.
 pub const TEXT_ROOM: usize = 128;
+
+/// What the program is asked to do.
+#[derive(Clone, Copy)]
+enum Command {
+    /// To run a script.
+    Replay,
+    /// To run the collector on a listener.
+    Serve,
+}
 
 /// How the program ended.
 #[derive(Clone, Copy, Debug, PartialEq, Eq)]
@@ -41,10 +54,16 @@ pub enum Outcome {
     NoMemory,
     /// A count would have passed 2^64-1.
     BookFull,
+    /// The address can't be listened at.
+    CannotListen,
 }
 
 /// Runs the program with the arguments behind its own name. It gives the writer back beside the exit status.
-pub fn program<T: Files, R: Read, W: Write>(
+pub fn program<
+    T: Files + Net<Listener = TcpListener, Stream = TcpStream> + Threads + Wait + Clock + Sync,
+    R: Read,
+    W: Write + Drop,
+>(
     rt: &T,
     alloc: Global,
     arguments: &[String],
@@ -102,37 +121,122 @@ fn exit_status(outcome: &Outcome, written: bool) -> u8
         Outcome::Script(_) => 4,
         Outcome::NoMemory => 5,
         Outcome::BookFull => 7,
+        Outcome::CannotListen => 6,
     }
 }
 
-/// Does what the arguments say. `serve` is not there yet.
-fn run<T: Files, R: Read, W: Write>(
+/// Does what the arguments say.
+fn run<
+    T: Files + Net<Listener = TcpListener, Stream = TcpStream> + Threads + Wait + Clock + Sync,
+    R: Read,
+    W: Write + Drop,
+>(
     rt: &T,
     alloc: Global,
     arguments: &[String],
     reader: &mut R,
     writer: W,
 ) -> (W, Outcome)
-    ensures { CameTo (record {
+    ensures { (file : Result (List ℕ) FileFault) × CameTo (record {
       arguments = map string_bytes arguments.now;
+      file = file;
       unread = R.remaining reader.old;
       unread_after = R.remaining reader.new;
       taken = W.contents writer;
       taken_after = W.contents result.0;
     }) result.1 }
 {
-    let [command, path] = arguments else {
+    let Some((command, path)) = asked(arguments) else {
         return (writer, Outcome::Usage);
     };
-    if command.as_str() != "replay" {
-        return (writer, Outcome::Usage);
+    let file = read_file(rt, alloc, path);
+    match command {
+        Command::Replay => replay_by(alloc, file, reader, writer),
+        Command::Serve => serve_by(rt, alloc, file, writer),
     }
-    let config = match load(rt, alloc, path.as_str()) {
+}
+
+/// What the arguments ask for, and the path of the configuration.
+fn asked(arguments: &[String]) -> Option<(Command, &str)>
+    ensures some { IfSome result (λ x. AsksFor x.0 (map string_bytes arguments.now)) }
+    ensures none { IfNone result ((asks_replay (map string_bytes arguments.now) ≡ false) × (asks_serve (map string_bytes arguments.now) ≡ false)) }
+{
+    let [command, path] = arguments else {
+        return None;
+    };
+    if command.as_str() == "replay" {
+        return Some((Command::Replay, path.as_str()));
+    }
+    if command.as_str() == "serve" {
+        return Some((Command::Serve, path.as_str()));
+    }
+    None
+}
+
+/// Runs the script by the configuration in what was read of its file.
+fn replay_by<R: Read, W: Write>(
+    alloc: Global,
+    file: Result<Vec<u8>, FileFault>,
+    reader: &mut R,
+    writer: W,
+) -> (W, Outcome)
+    ensures { (arguments : List (List ℕ)) → Replays (record {
+      arguments = arguments;
+      file = file_of (λ v. v.items) file;
+      unread = R.remaining reader.old;
+      unread_after = R.remaining reader.new;
+      taken = W.contents writer;
+      taken_after = W.contents result.0;
+    }) result.1 }
+{
+    let config = match config_of(alloc, file) {
         Ok(config) => config,
         Err(outcome) => return (writer, outcome),
     };
     let (sink, answer) = replay_run(alloc, config, reader, WriteSink::new(writer));
     (sink.end(), outcome_of(answer))
+}
+
+/// Runs the collector by the configuration in what was read of its file.
+fn serve_by<
+    T: Files + Net<Listener = TcpListener, Stream = TcpStream> + Threads + Wait + Clock + Sync,
+    W: Write + Drop,
+>(
+    rt: &T,
+    alloc: Global,
+    file: Result<Vec<u8>, FileFault>,
+    writer: W,
+) -> (W, Outcome)
+    ensures { (arguments : List (List ℕ)) (unread : Option (List ℕ)) → Serves (record {
+      arguments = arguments;
+      file = file_of (λ v. v.items) file;
+      unread = unread;
+      unread_after = unread;
+      taken = W.contents writer;
+      taken_after = W.contents result.0;
+    }) result.1 }
+{
+    let config = match config_of(alloc, file) {
+        Ok(config) => config,
+        Err(outcome) => return (writer, outcome),
+    };
+    let Ok(listener) = listen(rt, config.listen.as_str()) else {
+        return (writer, Outcome::CannotListen);
+    };
+    let clock = WallClock::new(rt);
+    let (sink, answer) = serve_on(rt, alloc, config, &listener, WriteSink::new(writer), &clock);
+    (sink.end(), served_to(answer))
+}
+
+fn served_to(answer: Result<Report, ServeFault>) -> Outcome
+    ensures { result ≡ served_to answer }
+{
+    match answer {
+        Ok(report) => Outcome::Done(report),
+        Err(ServeFault::NoMemory) => Outcome::NoMemory,
+        Err(ServeFault::BookFull) => Outcome::BookFull,
+        Err(ServeFault::SinkDown(_)) => Outcome::SinkDown,
+    }
 }
 
 fn outcome_of(answer: Result<Report, RunFault>) -> Outcome
@@ -145,53 +249,6 @@ fn outcome_of(answer: Result<Report, RunFault>) -> Outcome
         Err(RunFault::Fault(line)) => Outcome::Script(line),
         Err(RunFault::BookFull) => Outcome::BookFull,
         Err(RunFault::SinkDown(_)) => Outcome::SinkDown,
-    }
-}
-
-/// Reads the configuration from its file.
-fn load<T: Files>(rt: &T, alloc: Global, path: &str) -> Result<Config, Outcome>
-    ensures waits { IfOk result (λ config. 0 < config.decision_wait) }
-    ensures lanes { IfOk result (λ config. 0 < config.lanes) }
-    ensures shards { IfOk result (λ config. 0 < config.shards) }
-    ensures traces { IfOk result (λ config. config.shards ≤ config.num_traces) }
-    ensures queue { IfOk result (λ config. 0 < config.queue_capacity) }
-    ensures batch { IfOk result (λ config. 0 < config.send_batch_size) }
-    ensures is_read { IfOk result IsRead }
-    ensures fails { IfErr result LoadFails }
-{
-    let bytes = read_file(rt, alloc, path)?;
-    let Ok(text) = String::from_utf8(bytes) else {
-        return Err(Outcome::Unreadable);
-    };
-    match read(alloc, text.as_str()) {
-        Ok(config) => Ok(config),
-        Err(fault) => Err(Outcome::Configuration(fault)),
-    }
-}
-
-fn read_file<T: Files>(rt: &T, alloc: Global, path: &str) -> Result<Vec<u8>, Outcome>
-    ensures within { IfOk result (λ bytes. length bytes.items ≤ greatest_length) }
-    ensures fails { IfErr result (λ outcome. (outcome ≡ Unreadable) ⊎ (outcome ≡ NoMemory)) }
-{
-    match fs::open(rt, path) {
-        Ok(file) => read_whole(alloc, file),
-        Err(_) => Err(Outcome::Unreadable),
-    }
-}
-
-/// Reads a configuration to its end, and refuses one that is too long.
-fn read_whole<F: Read + Drop>(alloc: Global, file: F) -> Result<Vec<u8>, Outcome>
-    ensures whole { IfOk result (λ bytes. IfSome (F.Read.remaining file) (λ text. bytes.items ≡ text)) }
-    ensures within { IfOk result (λ bytes. length bytes.items ≤ greatest_length) }
-    ensures fails { IfErr result (λ outcome. (outcome ≡ Unreadable) ⊎ (outcome ≡ NoMemory)) }
-{
-    let mut bytes = Vec::new(alloc);
-    let mut start = file.take(MAX_CONFIG_LEN as u64 + 1);
-    match start.read_to_end(&mut bytes) {
-        Ok(_) if bytes.len() <= MAX_CONFIG_LEN => Ok(bytes),
-        Ok(_) => Err(Outcome::Unreadable),
-        Err(error) if error.kind() == ErrorKind::OutOfMemory => Err(Outcome::NoMemory),
-        Err(_) => Err(Outcome::Unreadable),
     }
 }
 
@@ -220,6 +277,7 @@ fn say<S: Sink>(lines: &mut LineSink<S>, text: &mut Vec<u8>, outcome: &Outcome) 
         }
         Outcome::NoMemory => hand_line(lines, b"tsc: no memory\n"),
         Outcome::BookFull => hand_line(lines, b"tsc: book full\n"),
+        Outcome::CannotListen => hand_line(lines, b"tsc: cannot listen\n"),
     }
 }
 

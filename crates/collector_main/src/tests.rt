@@ -5,9 +5,13 @@ use script_session::{RunFault, replay_run};
 use span_ids::Reason;
 use span_sink::WriteSink;
 use std::io::{Read, Write};
+use std::net::{Net, TcpListener, TcpStream};
 use std::process::Abort;
 use std::rt::Files;
+use std::sync::Wait;
 use std::test::Fail;
+use std::thread::Threads;
+use std::time::Clock;
 use std::{fs, io};
 use tsc_config::read;
 
@@ -99,7 +103,7 @@ fn error_span_is_kept(rt: HostRuntime) -> Result<(), Fail> {
 
 /// Runs the program, and compares what it writes and its status.
 fn check_program(
-    rt: &(impl Abort + Files + AllocGlobal),
+    rt: &(impl Abort + Files + AllocGlobal + Net<Listener = TcpListener, Stream = TcpStream> + Threads + Wait + Clock + Sync),
     config: &str,
     script: &'static [u8],
     output: &[u8],
@@ -199,5 +203,6 @@ fn check_ending(
 fn endings(rt: HostRuntime) -> Result<(), Fail> {
     check_ending(&rt, Outcome::NoMemory, b"tsc: no memory\n", 5)?;
     check_ending(&rt, Outcome::BookFull, b"tsc: book full\n", 7)?;
+    check_ending(&rt, Outcome::CannotListen, b"tsc: cannot listen\n", 6)?;
     check_ending(&rt, Outcome::SinkDown, b"", 1)
 }

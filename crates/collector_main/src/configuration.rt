@@ -1,0 +1,86 @@
+//! The configuration: what is read of its file, and what that is read as.
+ghost use Rattle.std.specs.Prelude.{◌≡◌, ◌≢◌, Ok, Err, IfOk, IfErr};
+ghost use Rattle.std.specs.IoError.{error_kind};
+ghost use Rattle.tsc_config.specs.Values.{InRange};
+ghost use Rattle.collector_main.specs.Configuration.{BytesFail, FileFails, IsConfigIn, IsConfigOf, IsStart, file_of};
+
+use crate::program::Outcome;
+use std::alloc::Global;
+use std::io::{ErrorKind, Read};
+use std::rt::Files;
+use std::{fs, io};
+use tsc_config::{Config, read};
+
+/// The longest configuration that is read, in bytes.
+const MAX_CONFIG_LEN: usize = 1_048_576;
+
+/// Why the configuration's file was not read.
+#[derive(Clone, Copy, Debug, PartialEq, Eq)]
+pub enum FileFault {
+    /// There was no memory for what it holds.
+    NoMemory,
+    /// It can't be opened, or reading it failed.
+    Unreadable,
+}
+
+/// What the file holds, or of a file that is too long one byte more than may be read.
+pub fn read_file<T: Files>(rt: &T, alloc: Global, path: &str) -> Result<Vec<u8>, FileFault> {
+    match fs::open(rt, path) {
+        Ok(file) => told(read_start(alloc, file)),
+        Err(error) => told(Err(error)),
+    }
+}
+
+/// Reads to the end, or one byte more than may be read.
+fn read_start<F: Read + Drop>(alloc: Global, file: F) -> io::Result<Vec<u8>>
+    ensures { IfOk result (λ bytes. IsStart (F.Read.remaining file) bytes.items) }
+{
+    let mut bytes = Vec::new(alloc);
+    file.take(MAX_CONFIG_LEN as u64 + 1).read_to_end(&mut bytes)?;
+    Ok(bytes)
+}
+
+/// An error in opening or reading a file, by its kind.
+fn told(file: io::Result<Vec<u8>>) -> Result<Vec<u8>, FileFault>
+    ensures whole { IfOk file (λ bytes. result ≡ Ok bytes) }
+    ensures memory { IfErr file (λ error. error_kind error ≡ ErrorKind.OutOfMemory → result ≡ Err FileFault.NoMemory) }
+    ensures others { IfErr file (λ error. error_kind error ≢ ErrorKind.OutOfMemory → result ≡ Err FileFault.Unreadable) }
+{
+    match file {
+        Ok(bytes) => Ok(bytes),
+        Err(error) if error.kind() == ErrorKind::OutOfMemory => Err(FileFault::NoMemory),
+        Err(_) => Err(FileFault::Unreadable),
+    }
+}
+
+/// The configuration in what was read of its file.
+pub fn config_of(alloc: Global, file: Result<Vec<u8>, FileFault>) -> Result<Config, Outcome>
+    ensures ranges { IfOk result InRange }
+    ensures is_read { IfOk result (IsConfigOf (file_of (λ v. v.items) file)) }
+    ensures fails { IfErr result (FileFails (file_of (λ v. v.items) file)) }
+{
+    match file {
+        Ok(bytes) => config_in(alloc, bytes),
+        Err(FileFault::NoMemory) => Err(Outcome::NoMemory),
+        Err(FileFault::Unreadable) => Err(Outcome::Unreadable),
+    }
+}
+
+/// The configuration in these bytes: `Unreadable` where they aren't UTF-8 or too many, a fault where the text has it, and
+/// the fault of no memory where there was none to read it.
+pub fn config_in(alloc: Global, bytes: Vec<u8>) -> Result<Config, Outcome>
+    ensures ranges { IfOk result InRange }
+    ensures is_read { IfOk result (IsConfigIn bytes.items) }
+    ensures fails { IfErr result (BytesFail bytes.items) }
+{
+    if MAX_CONFIG_LEN < bytes.len() {
+        return Err(Outcome::Unreadable);
+    }
+    let Ok(text) = String::from_utf8(bytes) else {
+        return Err(Outcome::Unreadable);
+    };
+    match read(alloc, text.as_str()) {
+        Ok(config) => Ok(config),
+        Err(fault) => Err(Outcome::Configuration(fault)),
+    }
+}

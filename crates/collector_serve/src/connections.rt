@@ -1,0 +1,64 @@
+//! The connections that a listener takes.
+use http_lane::{Reads, Stop};
+use pipeline::Feed;
+use std::io;
+use std::net::{TcpListener, TcpStream};
+use std::sync::Wait;
+use std::thread;
+use std::time::{Clock, Duration};
+
+/// How long a read waits for bytes before it is a quiet turn, in milliseconds.
+const READ_TIMEOUT: u64 = 100;
+
+/// How long a lane waits before it looks for a connection again, in milliseconds.
+const PAUSE: u64 = 2;
+
+/// Connections of a listener that doesn't block, until a mark to stop is set. Several lanes may share the listener: each
+/// connection goes to one of them.
+#[derive(Drop)]
+pub struct Connections<'l, P: Stop> {
+    listener: &'l TcpListener,
+    stop: &'l P,
+}
+
+impl<'l, P: Stop> Connections<'l, P> {
+    /// The connections of this listener.
+    pub fn new(listener: &'l TcpListener, stop: &'l P) -> Self {
+        Connections { listener, stop }
+    }
+
+    /// A connection that is there and could be set up; one that can't be is closed.
+    fn accept(&self) -> Option<(Reads<TcpStream>, TcpStream)> {
+        let (stream, _) = self.listener.accept().ok()?;
+        set_up(stream).ok()
+    }
+}
+
+impl<'l, P: Stop> Feed for Connections<'l, P> {
+    type Reader = Reads<TcpStream>;
+
+    type Writer = TcpStream;
+
+    ghost gives = { λ old given new. Unit {0} };
+
+    fn next<R: Wait + Clock>(&mut self, rt: &R) -> Option<(Reads<TcpStream>, TcpStream)> {
+        for _ in rt.forever() {
+            if self.stop.is_set() {
+                return None;
+            }
+            if let Some(connection) = self.accept() {
+                return Some(connection);
+            }
+            thread::sleep(rt, Duration::from_millis(PAUSE));
+        }
+        unreachable!()
+    }
+}
+
+/// Both ends of a connection: answers go out at once, and a read waits only so long.
+fn set_up(stream: TcpStream) -> io::Result<(Reads<TcpStream>, TcpStream)> {
+    stream.set_nodelay(true)?;
+    stream.set_read_timeout(Some(Duration::from_millis(READ_TIMEOUT)))?;
+    let reader = stream.try_clone()?;
+    Ok((Reads { reader }, stream))
+}
