@@ -1,57 +1,9 @@
--- How the outcome of a run arises.
-use Rattle.std.proofs.Common.{◌≡◌, ℕ, true, List, Option, Result, Ok, Err, refl, sym, subst, inr}
-use Rattle.drop_ledger.specs.declared.report.Report.{Report}
-use Rattle.tsc_config.specs.declared.config.Config.{Config}
-use Rattle.script_session.specs.declared.fault.RunFault.{RunFault}
-use Rattle.script_session.specs.declared.fault.RunFault.TheVariants.{NoMemory, Refused, Fault, BookFull, SinkDown}
+-- How the outcome of a replay arises.
+-- For what `run` ensures where a replay was asked for.
+use Rattle.std.proofs.Common.{◌≡◌, true}
 use Rattle.collector_main.specs.declared.program.Outcome.{Outcome}
-use Rattle.collector_main.specs.Outcomes.{outcome_of}
-use Rattle.script_session.specs.Replay.{Run, RunEnds, settings_by}
 use Rattle.collector_main.specs.declared.program.Outcome.TheVariants as is
-use Rattle.collector_main.specs.Configuration.{IsConfigOf}
 use Rattle.collector_main.specs.Ending.{Course, CameTo, Replays, asks_replay}
-
--- a run of this course by this configuration
-abbrev RunOf : Course → Config → (failures failures_after : ℕ) → (taken taken_after : Option (List ℕ)) → Run
-RunOf course config failures failures_after taken taken_after = record {
-  settings = settings_by config;
-  sizes = record { batch = config.send_batch_size; queue = config.queue_capacity };
-  lanes = config.lanes;
-  shards = config.shards;
-  taken = taken;
-  failures = failures;
-  taken_after = taken_after;
-  failures_after = failures_after;
-  unread = course.unread;
-  unread_after = course.unread_after;
-}
-
--- the outcome of each answer
-ran : (course : Course) (config : Config) (failures_after : ℕ) → IsConfigOf course.file config → (answer : Result Report RunFault)
-    → RunEnds (RunOf course config 0 failures_after course.taken course.taken_after) answer → Replays course (outcome_of answer)
-ran course config failures_after is_read (Ok report) ends =
-    record { config = config; is_read = is_read; failures_after = failures_after; answer = Ok report; ends = ends; outcome_is = refl }
-ran course config failures_after is_read (Err NoMemory) ends =
-    inr (record { config = config; is_read = is_read; failures_after = failures_after; answer = Err NoMemory; ends = ends; outcome_is = refl })
-ran course config failures_after is_read (Err (Refused line)) ends =
-    record { config = config; is_read = is_read; failures_after = failures_after; answer = Err (Refused line); ends = ends; outcome_is = refl }
-ran course config failures_after is_read (Err (Fault line)) ends =
-    record { config = config; is_read = is_read; failures_after = failures_after; answer = Err (Fault line); ends = ends; outcome_is = refl }
-ran course config failures_after is_read (Err BookFull) ends =
-    record { config = config; is_read = is_read; failures_after = failures_after; answer = Err BookFull; ends = ends; outcome_is = refl }
-ran course config failures_after is_read (Err (SinkDown report)) ends =
-    record { config = config; is_read = is_read; failures_after = failures_after; answer = Err (SinkDown report); ends = ends; outcome_is = refl }
-
--- the same for a sink that has the writer's bytes and no failure at the start, and the writer's bytes at the end
-pub Replays-ran : (course : Course) (config : Config) (failures failures_after : ℕ) (taken taken_after : Option (List ℕ)) (answer : Result Report RunFault) (outcome : Outcome)
-    → IsConfigOf course.file config → taken ≡ course.taken → failures ≡ 0 → course.taken_after ≡ taken_after
-    → RunEnds (RunOf course config failures failures_after taken taken_after) answer → outcome ≡ outcome_of answer → Replays course outcome
-Replays-ran course config failures failures_after taken taken_after answer outcome is_read first none last ends outcome_is =
-    let P = λ (t : Option (List ℕ)). RunEnds (RunOf course config failures failures_after t taken_after) answer in
-    let Q = λ (n : ℕ). RunEnds (RunOf course config n failures_after course.taken taken_after) answer in
-    let R = λ (t : Option (List ℕ)). RunEnds (RunOf course config 0 failures_after course.taken t) answer in
-    let S = λ (o : Outcome). Replays course o in
-    subst S (sym outcome_is) (ran course config failures_after is_read answer (subst R (sym last) (subst Q none (subst P first ends))))
 
 -- a replay that was asked for
 pub CameTo-replays : (course : Course) (outcome : Outcome) → asks_replay course.arguments ≡ true → Replays course outcome → CameTo course outcome
