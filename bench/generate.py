@@ -1,18 +1,18 @@
 #!/usr/bin/env python3
-"""Writes a script of requests for `tsc replay` to standard output: generate.py SPANS [SEED], or generate.py alive TRACES [SEED].
+"""Writes a script of requests for `tsc replay` to standard output: generate.py SPANS, generate.py alive TRACES or generate.py single TRACES.
 
-Each request has 100 spans, of traces of 3 to 8 spans which are spread over neighbouring requests; a span has 10 to 15
-attributes with names of the OpenTelemetry semantic conventions, 5 % of the spans end in an error, and a tick comes each
-second. Requests come over 8 connections, 20 in a second.
+Each request has 100 spans (--of-a-request), of traces of 3 to 8 spans which are spread over neighbouring requests; a span has 10 to 15
+attributes with names of the OpenTelemetry semantic conventions, 5 % of the spans end in an error (--errors), and a tick comes each
+second. Requests come over 8 connections, 20 in a second where each has 100 spans.
 
-The second form opens so many traces, of one span without attributes each, in requests of 1000 spans at one moment, and then sends one span
-more to each of them in another order: all are alive at once, and each of the second spans looks its trace up.
+`alive` opens so many traces, of one span without attributes each, in requests of 1000 spans at one moment, and then sends one span
+more to each of them in another order: all are alive at once, and each of the second spans looks its trace up. `single` opens them with a
+small span each (a name and two times, under a resource and a scope) and sends no more.
 """
+import argparse
 import json
 import random
-import sys
 
-SPANS_OF_A_REQUEST = 100
 SPANS_OF_A_LARGE_REQUEST = 1000
 REQUEST_EVERY_MS = 50
 CONNECTIONS = 8
@@ -51,7 +51,7 @@ def attributes(draw):
     return [{"key": key, "value": value} for key, value in every[: draw.randint(10, 15)]]
 
 
-def span(draw, trace, parent, moment):
+def span(draw, trace, parent, moment, errors):
     start = moment * 1_000_000 + draw.randrange(1_000_000)
     took = int(draw.expovariate(1 / 80.0) * 1_000_000)
     made = {
@@ -62,14 +62,14 @@ def span(draw, trace, parent, moment):
         "startTimeUnixNano": str(start),
         "endTimeUnixNano": str(start + took),
         "attributes": attributes(draw),
-        "status": {"code": 2, "message": "upstream timed out"} if draw.random() < 0.05 else {},
+        "status": {"code": 2, "message": "upstream timed out"} if draw.random() < errors else {},
     }
     if parent:
         made["parentSpanId"] = parent
     return made
 
 
-def requests(draw, spans):
+def requests(draw, spans, of_a_request):
     """Lists of spans: about 30 traces are under way at a time, and each next span is of one of them."""
     under_way = []
     made = []
@@ -81,7 +81,7 @@ def requests(draw, spans):
         trace[1] -= 1
         if trace[1] == 0:
             under_way.remove(trace)
-        if len(made) == SPANS_OF_A_REQUEST:
+        if len(made) == of_a_request:
             yield made
             made = []
     if made:
@@ -105,35 +105,70 @@ def alive(traces, draw):
     print("close")
 
 
-def main():
-    if sys.argv[1] == "alive":
-        alive(int(sys.argv[2]), random.Random(int(sys.argv[3]) if len(sys.argv) > 3 else 1))
-        return
-    spans = int(sys.argv[1])
-    draw = random.Random(int(sys.argv[2]) if len(sys.argv) > 2 else 1)
+def single(traces, draw):
+    """A small span for each trace."""
+    for start in range(0, traces, SPANS_OF_A_LARGE_REQUEST):
+        spans = [
+            {
+                "traceId": "%032x" % draw.randrange(1, 2**128),
+                "spanId": "%016x" % draw.randrange(1, 2**64),
+                "name": "GET /cart",
+                "startTimeUnixNano": str(START_MS * 1_000_000),
+                "endTimeUnixNano": str(START_MS * 1_000_000 + draw.randrange(1_000_000_000)),
+            }
+            for _ in range(min(SPANS_OF_A_LARGE_REQUEST, traces - start))
+        ]
+        print("recv 0 %d %s" % (START_MS, request({"cart": spans})))
+    print("close")
+
+
+def request(by_service):
+    body = {
+        "resourceSpans": [
+            {
+                "resource": {"attributes": [{"key": "service.name", "value": text(service)}]},
+                "scopeSpans": [{"scope": {"name": "shop", "version": "1.4.2"}, "spans": ones}],
+            }
+            for service, ones in by_service.items()
+        ]
+    }
+    return json.dumps(body, separators=(",", ":"))
+
+
+def spread(spans, of_a_request, errors, draw):
+    """So many spans of traces that are under way together."""
     moment = START_MS
     ticked = moment
-    for number, traces in enumerate(requests(draw, spans)):
+    for number, traces in enumerate(requests(draw, spans, of_a_request)):
         by_service = {}
         for trace in traces:
-            one = span(draw, trace[0], trace[2], moment)
+            one = span(draw, trace[0], trace[2], moment, errors)
             trace[2] = one["spanId"]
             by_service.setdefault(draw.choice(SERVICES), []).append(one)
-        body = {
-            "resourceSpans": [
-                {
-                    "resource": {"attributes": [{"key": "service.name", "value": text(service)}]},
-                    "scopeSpans": [{"scope": {"name": "shop", "version": "1.4.2"}, "spans": ones}],
-                }
-                for service, ones in by_service.items()
-            ]
-        }
-        print("recv", number % CONNECTIONS, moment, json.dumps(body, separators=(",", ":")))
-        moment += REQUEST_EVERY_MS
+        print("recv", number % CONNECTIONS, moment, request(by_service))
+        if (number + 1) * of_a_request % 100 == 0:
+            moment += REQUEST_EVERY_MS
         while ticked + 1000 <= moment:
             ticked += 1000
             print("tick", ticked)
     print("close")
+
+
+def main():
+    words = argparse.ArgumentParser(description=__doc__, formatter_class=argparse.RawDescriptionHelpFormatter)
+    words.add_argument("what", help="how many spans, or `alive` or `single`")
+    words.add_argument("traces", nargs="?", type=int, help="how many traces, for `alive` and `single`")
+    words.add_argument("--seed", type=int, default=1)
+    words.add_argument("--errors", type=float, default=0.05, help="the share of spans that end in an error")
+    words.add_argument("--of-a-request", type=int, default=100, help="the spans of a request")
+    asked = words.parse_args()
+    draw = random.Random(asked.seed)
+    if asked.what == "alive":
+        alive(asked.traces, draw)
+    elif asked.what == "single":
+        single(asked.traces, draw)
+    else:
+        spread(int(asked.what), asked.of_a_request, asked.errors, draw)
 
 
 main()

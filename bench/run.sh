@@ -1,7 +1,7 @@
 #!/usr/bin/env bash
 # Times `tsc replay` on generated scripts: bench/run.sh [SPANS ..]. Prints spans in a second and the peak of memory. Each script of so many
-# spans is run as collector.toml says, and then with a root wait beside; last comes one with a million traces alive at once (alive.toml),
-# or with as many as ALIVE says.
+# spans is run as collector.toml says, and then with a root wait beside; last come a million traces alive at once, of two spans and then of a
+# single small one each (alive.toml), or as many as ALIVE says.
 # It is no part of the gate. The program must be built: (cd crates/collector_main && rt run -- serve). PROGRAM names another one.
 set -eu
 cd "$(dirname "$0")"
@@ -40,3 +40,5 @@ done
 alive=${ALIVE:-1000000}
 ./generate.py alive "$alive" > "$work/script"
 measure "all traces alive at once" alive.toml $((2 * alive))
+./generate.py single "$alive" > "$work/script"
+measure "traces of a single small span, all alive" alive.toml "$alive"

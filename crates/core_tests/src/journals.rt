@@ -1,6 +1,6 @@
 //! Worked journals, played through what a journal says.
 use crate::spans::{policies_on, record_of};
-use otlp_types::{Arrival, Ids, Item};
+use otlp_types::{Arrival, Ids, Item, List};
 use shard_journal::{
     Effect, Entry, Finding, LookBack, Settings, clock, decision_at, effect_of_taking, finding_of,
     has_ended, have_ended, remembered,
@@ -44,8 +44,8 @@ fn ids_of(rt: &impl Abort, trace: u8) -> Ids {
     }
 }
 
-fn item_of(rt: &impl Abort, alloc: Global, event: Event) -> Item {
-    match event {
+fn item_of(rt: &impl Abort, alloc: Global, event: Event) -> Result<Item, AllocError> {
+    Ok(match event {
         Event::Tick(moment) => Item::Tick(moment),
         Event::End(sender) => Item::End(sender),
         Event::Span(trace, number, moment, code) => Item::Span(Arrival {
@@ -57,9 +57,9 @@ fn item_of(rt: &impl Abort, alloc: Global, event: Event) -> Item {
                 number,
             },
             moment,
-            rec: record_of(alloc, Some(ids_of(rt, trace)), code, 0),
+            rec: record_of(alloc, Some(ids_of(rt, trace)), code, 0)?,
         }),
-    }
+    })
 }
 
 /// Two senders, a wait of ten seconds, room for one trace, and one policy: on this status code, or always.
@@ -100,10 +100,13 @@ fn decide_all(
 ) -> Result<(), AllocError> {
     let due = LookBack::new(alloc, settings, &played.journal)?.due();
     for place in 0..due {
-        let effect = decision_at(alloc, settings, &played.journal, place)?;
+        let effect = decision_at(alloc, settings, &played.journal, place, &[])?;
         note(played, &effect.expect(rt, "a decision"))?;
+        if let Some(last) = played.journal.last_mut() {
+            last.answers.push(List::new(alloc))?;
+        }
     }
-    assert!(rt; decision_at(alloc, settings, &played.journal, due)?.is_none());
+    assert!(rt; decision_at(alloc, settings, &played.journal, due, &[])?.is_none());
     Ok(())
 }
 
@@ -120,9 +123,10 @@ fn play(
     };
     for event in events {
         let entry = Entry {
-            item: item_of(rt, alloc, *event),
+            item: item_of(rt, alloc, *event)?,
             refused: false,
             lost: false,
+            answers: Vec::new(alloc),
         };
         let effect = effect_of_taking(alloc, settings, &played.journal, &entry)?;
         note(&mut played, &effect)?;

@@ -7,6 +7,10 @@ mod choices;
 #[cfg(test)]
 mod journals;
 #[cfg(test)]
+mod limited_shard;
+#[cfg(test)]
+mod limiter_over_shards;
+#[cfg(test)]
 mod looking_back;
 #[cfg(test)]
 mod policies;

@@ -1,6 +1,6 @@
 //! Each kind of policy at, below and above its bounds, and policies together.
 use crate::spans::record_of;
-use otlp_types::{AnyValue, Arrival, KeyValue, List, Text, TryClone};
+use otlp_types::{AnyValue, Arrival, KeyValue, List, Resource, Shared, Text, TryClone};
 use policy_eval::evaluate;
 use policy_tree::{Policies, Policy, PolicyKind, Wanted};
 use rate_budget::Budgets;
@@ -59,10 +59,14 @@ fn attributes(alloc: Global, value: Option<AnyValue>) -> Result<List<KeyValue>, 
 }
 
 fn arrival_of(alloc: Global, given: Given) -> Result<Arrival, AllocError> {
-    let mut rec = record_of(alloc, None, given.code, given.end);
+    let mut rec = record_of(alloc, None, given.code, given.end)?;
     rec.span.start_time_unix_nano = given.start;
     rec.span.attributes = attributes(alloc, given.own)?;
-    rec.resource.attributes = attributes(alloc, given.of_resource)?;
+    let resource = Resource {
+        attributes: attributes(alloc, given.of_resource)?,
+        dropped_attributes_count: 0,
+    };
+    rec.resource = Shared::new(alloc, resource)?;
     Ok(Arrival {
         key: ArrivalKey {
             conn: ConnKey {
@@ -76,14 +80,17 @@ fn arrival_of(alloc: Global, given: Given) -> Result<Arrival, AllocError> {
     })
 }
 
-/// The verdict of the policies on these spans, with a limiter that has not been asked.
+/// The verdict of the policies on these spans, with a limiter that has not been asked. None where there is no span.
 fn verdict_at_first(
     alloc: Global,
     policies: &Policies,
     spans: &[Arrival],
-) -> Result<Verdict, AllocError> {
+) -> Result<Option<Verdict>, AllocError> {
+    if spans.is_empty() {
+        return Ok(None);
+    }
     let mut budgets = Budgets::new(alloc, policies)?;
-    Ok(evaluate(policies, spans, 0, &mut budgets))
+    Ok(Some(evaluate(policies, spans, 0, &mut budgets)))
 }
 
 /// Policies of these kinds, each with a name of its own.
@@ -105,7 +112,7 @@ fn is_sampled(alloc: Global, kinds: Vec<PolicyKind>, spans: Vec<Given>) -> Resul
     for given in spans {
         arrivals.push(arrival_of(alloc, given)?)?;
     }
-    Ok(verdict_at_first(alloc, &policies, &arrivals)? == Verdict::Sampled)
+    Ok(verdict_at_first(alloc, &policies, &arrivals)? == Some(Verdict::Sampled))
 }
 
 fn latency(threshold_ms: u64, upper_threshold_ms: u64) -> PolicyKind {

@@ -1,15 +1,16 @@
 //! Random items through a shard, beside the plain program that looks back over them.
-ghost use Rattle.std.specs.Prelude.{◌≡◌, ◌<◌, true};
+ghost use Rattle.std.specs.Prelude.{◌≡◌, ◌<◌, IfOk, true};
 ghost use Rattle.shard_core.specs.Taking.{has_ids};
 
+use crate::limited_shard::{LimitedShard, Numbers};
 use crate::looking_back::{Entry, ITEMS, Kind, Past, TRACES, WAIT, is_root};
 use crate::shards::{ids_of, span_with};
 use crate::spans::policies_on;
 use decision_cache::Remembered;
 use otlp_types::Item;
-use shard_core::{Decided, Shard, Taken};
+use shard_core::{Decided, Taken};
 use span_ids::Reason;
-use std::alloc::Global;
+use std::alloc::{AllocError, Global};
 use std::process::Abort;
 use std::test::Fail;
 
@@ -37,8 +38,14 @@ fn entry_of(kind: Kind, moment: u64, taken: &Taken) -> Entry {
 }
 
 /// The item of a kind.
-fn item_of(rt: &impl Abort, alloc: Global, kind: Kind, moment: u64, place: u64) -> Item
-    ensures { has_ids result ≡ true }
+fn item_of(
+    rt: &impl Abort,
+    alloc: Global,
+    kind: Kind,
+    moment: u64,
+    place: u64,
+) -> Result<Item, AllocError>
+    ensures { IfOk result (λ item. has_ids item ≡ true) }
 {
     match kind {
         Kind::Span(trace, error, _) => {
@@ -46,8 +53,8 @@ fn item_of(rt: &impl Abort, alloc: Global, kind: Kind, moment: u64, place: u64) 
             let ids = ids_of(rt, id, is_root(place as usize));
             span_with(alloc, ids, place, moment, if error { 2 } else { 0 }, 0)
         }
-        Kind::Tick => Item::Tick(moment),
-        Kind::End => Item::End(0),
+        Kind::Tick => Ok(Item::Tick(moment)),
+        Kind::End => Ok(Item::End(0)),
     }
 }
 
@@ -55,12 +62,12 @@ fn item_of(rt: &impl Abort, alloc: Global, kind: Kind, moment: u64, place: u64) 
 fn take(
     rt: &impl Abort,
     alloc: Global,
-    shard: &mut Shard,
+    shard: &mut LimitedShard,
     past: &Past<'_>,
     kind: Kind,
     moment: u64,
-) -> Entry {
-    let item = item_of(rt, alloc, kind, moment, past.entries.len() as u64);
+) -> Result<Entry, AllocError> {
+    let item = item_of(rt, alloc, kind, moment, past.entries.len() as u64)?;
     assert!(rt; !shard.has_due());
     assert!(rt; !shard.finished());
     let taken = shard.take(item);
@@ -70,11 +77,11 @@ fn take(
         Kind::End => matches!(taken, Taken::Finished),
     };
     assert!(rt; is_right, "{kind:?} at {moment}: {taken:?}");
-    entry_of(kind, moment, &taken)
+    Ok(entry_of(kind, moment, &taken))
 }
 
 /// Decides all that is due, and compares what is answered.
-fn decide(rt: &impl Abort, shard: &mut Shard, past: &Past<'_>) {
+fn decide(rt: &impl Abort, shard: &mut LimitedShard, past: &Past<'_>) {
     let mut start = 0;
     for _ in 0..ITEMS {
         let decided = shard.decide();
@@ -103,16 +110,15 @@ fn run(
     requires { 0 < limit }
 {
     let policies = policies_on(alloc, Some(2))?;
-    let mut shard = Shard::new(
-        alloc,
-        policies,
-        WAIT,
+    let numbers = Numbers {
+        wait: WAIT,
         root_wait,
         limit,
         sampled,
         non_sampled,
-        1,
-    )?;
+        senders: 1,
+    };
+    let mut shard = LimitedShard::new(alloc, policies, numbers)?;
     let mut entries: Vec<Entry> = Vec::with_capacity(alloc, ITEMS)?;
     let mut number = seed;
     for place in 0..ITEMS {
@@ -135,7 +141,7 @@ fn run(
             Kind::Span(trace, random / 32 % 2 == 0, past.finding(trace))
         };
         let moment = if kind == Kind::End { 0 } else { moment };
-        let entry = take(rt, alloc, &mut shard, &past, kind, moment);
+        let entry = take(rt, alloc, &mut shard, &past, kind, moment)?;
         entries.push(entry)?;
         decide(
             rt,

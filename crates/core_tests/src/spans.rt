@@ -1,28 +1,30 @@
 //! Records and lists of policies for the tests.
-ghost use Rattle.std.specs.Prelude.{◌≡◌};
+ghost use Rattle.std.specs.Prelude.{◌≡◌, IfOk};
 
-use otlp_types::{Ids, List, Record, Resource, Scope, Span, Status, Text};
+use otlp_types::{Ids, List, Record, Resource, Scope, Shared, Span, Status, Text};
 use policy_tree::{Policies, Policy, PolicyKind};
-use std::alloc::Global;
+use std::alloc::{AllocError, Global};
 use std::test::Fail;
 
 /// A span with these ids, this status code and this end in nanoseconds, and nothing else.
-pub fn record_of(alloc: Global, ids: Option<Ids>, code: i32, end: u64) -> Record
-    ensures { result.span.ids ≡ ids }
+pub fn record_of(alloc: Global, ids: Option<Ids>, code: i32, end: u64) -> Result<Record, AllocError>
+    ensures { IfOk result (λ rec. rec.span.ids ≡ ids) }
 {
-    Record {
-        resource: Resource {
-            attributes: List::new(alloc),
-            dropped_attributes_count: 0,
-        },
-        resource_schema_url: Text::new(alloc),
-        scope: Scope {
-            name: Text::new(alloc),
-            version: Text::new(alloc),
-            attributes: List::new(alloc),
-            dropped_attributes_count: 0,
-        },
-        scope_schema_url: Text::new(alloc),
+    let resource = Resource {
+        attributes: List::new(alloc),
+        dropped_attributes_count: 0,
+    };
+    let scope = Scope {
+        name: Text::new(alloc),
+        version: Text::new(alloc),
+        attributes: List::new(alloc),
+        dropped_attributes_count: 0,
+    };
+    Ok(Record {
+        resource: Shared::new(alloc, resource)?,
+        resource_schema_url: Shared::new(alloc, Text::new(alloc))?,
+        scope: Shared::new(alloc, scope)?,
+        scope_schema_url: Shared::new(alloc, Text::new(alloc))?,
         span: Span {
             ids,
             trace_state: Text::new(alloc),
@@ -42,7 +44,7 @@ pub fn record_of(alloc: Global, ids: Option<Ids>, code: i32, end: u64) -> Record
                 code,
             },
         },
-    }
+    })
 }
 
 /// One policy of this kind.

@@ -6,8 +6,8 @@ ghost use Rattle.span_world.specs.Core.{config_of};
 use crate::choices::{Choice, Sent, choose};
 use crate::simulated::Simulated;
 use crate::spans::{policies_of, record_of};
-use otlp_types::{Ids, List, Record};
-use policy_tree::PolicyKind;
+use otlp_types::{Ids, List, Record, Text};
+use policy_tree::{Policy, PolicyKind};
 use span_ids::{Reason, SpanId, TraceId};
 use span_world::{Config, Refusal, Step, World};
 use std::alloc::{AllocError, Global};
@@ -34,7 +34,7 @@ fn ids_of(rt: &impl Abort, trace: u8, is_root: bool) -> Option<Ids> {
     })
 }
 
-fn record_of_sent(rt: &impl Abort, alloc: Global, sent: Sent) -> Record {
+fn record_of_sent(rt: &impl Abort, alloc: Global, sent: Sent) -> Result<Record, AllocError> {
     record_of(
         alloc,
         ids_of(rt, sent.trace, sent.root),
@@ -53,8 +53,8 @@ fn step_of(rt: &impl Abort, alloc: Global, choice: Choice) -> Result<Step, Alloc
             first,
             second,
         } => {
-            let mut records = vec![in alloc; record_of_sent(rt, alloc, first)]?;
-            records.push(record_of_sent(rt, alloc, second))?;
+            let mut records = vec![in alloc; record_of_sent(rt, alloc, first)?]?;
+            records.push(record_of_sent(rt, alloc, second)?)?;
             Step::Receive {
                 lane,
                 ordinal,
@@ -76,7 +76,10 @@ fn step_of(rt: &impl Abort, alloc: Global, choice: Choice) -> Result<Step, Alloc
         Choice::Tick { shard, moment } => Step::Tick { shard, moment },
         Choice::Close { lane } => Step::Close { lane },
         Choice::End { shard, sender } => Step::End { shard, sender },
-        Choice::Decide { shard } => Step::Decide { shard },
+        Choice::Decide { shard } => Step::Decide {
+            shard,
+            answers: Vec::new(alloc),
+        },
         Choice::Ship { shard } => Step::Ship { shard },
         Choice::Pull => Step::Pull,
         Choice::Hand => Step::Hand,
@@ -108,9 +111,9 @@ fn config_with(
     })
 }
 
-/// One span of trace 1 from its receipt to the closed world; `ticks_again` puts a second tick behind the first.
-fn one_span(rt: &impl Abort, alloc: Global, ticks_again: bool) -> Result<Vec<Step>, Fail> {
-    let records = vec![in alloc; record_of(alloc, ids_of(rt, 1, true), 0, 0)]?;
+/// One span of trace 1 from its receipt to the tick at which it is due.
+fn due_span(rt: &impl Abort, alloc: Global) -> Result<Vec<Step>, Fail> {
+    let records = vec![in alloc; record_of(alloc, ids_of(rt, 1, true), 0, 0)?]?;
     let mut steps = vec![in alloc;
         Step::Receive {
             lane: 0,
@@ -129,13 +132,22 @@ fn one_span(rt: &impl Abort, alloc: Global, ticks_again: bool) -> Result<Vec<Ste
         shard: 0,
         moment: 10,
     })?;
+    Ok(steps)
+}
+
+/// One span of trace 1 from its receipt to the closed world; `ticks_again` puts a second tick behind the first.
+fn one_span(rt: &impl Abort, alloc: Global, ticks_again: bool) -> Result<Vec<Step>, Fail> {
+    let mut steps = due_span(rt, alloc)?;
     if ticks_again {
         steps.push(Step::Tick {
             shard: 0,
             moment: 10,
         })?;
     }
-    steps.push(Step::Decide { shard: 0 })?;
+    steps.push(Step::Decide {
+        shard: 0,
+        answers: Vec::new(alloc),
+    })?;
     steps.push(Step::Ship { shard: 0 })?;
     steps.push(Step::Pull)?;
     steps.push(Step::Hand)?;
@@ -153,7 +165,7 @@ fn one_span(rt: &impl Abort, alloc: Global, ticks_again: bool) -> Result<Vec<Ste
 
 /// Every kind of step but `Fail`, in a world of one lane and one shard.
 fn others(rt: &impl Abort, alloc: Global) -> Result<Vec<Step>, Fail> {
-    let records = vec![in alloc; record_of(alloc, ids_of(rt, 2, true), 0, 0)]?;
+    let records = vec![in alloc; record_of(alloc, ids_of(rt, 2, true), 0, 0)?]?;
     let mut steps = vec![in alloc;
         Step::Receive {
             lane: 0,
@@ -186,7 +198,10 @@ fn others(rt: &impl Abort, alloc: Global) -> Result<Vec<Step>, Fail> {
         shard: 0,
         sender: 2,
     })?;
-    steps.push(Step::Decide { shard: 0 })?;
+    steps.push(Step::Decide {
+        shard: 0,
+        answers: Vec::new(alloc),
+    })?;
     steps.push(Step::Ship { shard: 0 })?;
     steps.push(Step::Pull)?;
     steps.push(Step::Hand)?;
@@ -240,6 +255,55 @@ fn second_tick_while_due(rt: HostRuntime) -> Result<(), Fail> {
         return Err(AllocError.into());
     }
     assert_eq!(&rt; refused, Some((4, Refusal::NotEnabled)));
+    Ok(())
+}
+
+/// The one decision of a policy that asks twice at most, and for the second time where the first asking is granted, by these
+/// answers: whether it is enabled, and then how many spans are counted.
+fn decided_by(rt: &impl Abort, alloc: Global, answers: &[bool]) -> Result<Option<usize>, Fail> {
+    let mut parts = List::new(alloc);
+    for name in ["first", "second"] {
+        parts.push(Policy {
+            name: Text::from_str(alloc, name)?,
+            kind: PolicyKind::RateLimiting {
+                spans_per_second: 0,
+            },
+        })?;
+    }
+    let config = config_with(alloc, PolicyKind::And { policies: parts }, 1, 0, 0, 1)?;
+    let mut world = match World::replay(alloc, 1, 1, config, due_span(rt, alloc)?) {
+        Ok(world) => world,
+        Err((_, Refusal::NoMemory)) => return Err(AllocError.into()),
+        Err((place, refusal)) => panic!(rt; "{refusal:?} at {place}"),
+    };
+    let decide = Step::Decide {
+        shard: 0,
+        answers: Vec::from_slice(alloc, answers)?,
+    };
+    match answered(world.step(decide))? {
+        Ok(()) => Ok(Some(world.counted().len())),
+        Err(refusal) => {
+            assert_eq!(rt; refusal, Refusal::NotEnabled);
+            Ok(None)
+        }
+    }
+}
+
+#[test]
+fn one_answer_for_each_asking(rt: HostRuntime) -> Result<(), Fail> {
+    let alloc = rt.alloc();
+    let rows: [(&[bool], Option<usize>); 7] = [
+        (&[], None),
+        (&[false], Some(1)),
+        (&[true], None),
+        (&[false, false], None),
+        (&[true, false], Some(1)),
+        (&[true, true], Some(0)),
+        (&[true, true, true], None),
+    ];
+    for (answers, counted) in rows {
+        assert_eq!(&rt; decided_by(&rt, alloc, answers)?, counted, "{answers:?}");
+    }
     Ok(())
 }
 

@@ -10,10 +10,10 @@ use std::time::Clock;
 /// Gives a lane its connections, one after the other.
 pub trait Feed {
     /// What a connection's bytes are read from.
-    type Reader: Source + Send + Drop;
+    type Reader: Source + Drop;
 
     /// What its answers are written to.
-    type Writer: Write + Send + Drop;
+    type Writer: Write + Drop;
 
     /// What one call does: the feed before it, what it gave, and the feed after it.
     ghost gives: { Self → Option (Self.Reader × Self.Writer) → Self → Type 0 };

@@ -46,9 +46,9 @@ fn resource_group<T: HasRecord>(alloc: Global, spans: &[T]) -> Result<ResourceSp
     }
     let first = spans[0].rec();
     Ok(ResourceSpans {
-        resource: first.resource.try_clone(alloc)?,
+        resource: first.resource.get().try_clone(alloc)?,
         scope_spans: groups,
-        schema_url: first.resource_schema_url.try_clone(alloc)?,
+        schema_url: first.resource_schema_url.get().try_clone(alloc)?,
     })
 }
 
@@ -65,8 +65,8 @@ fn scope_group<T: HasRecord>(alloc: Global, spans: &[T]) -> Result<ScopeSpans, A
     }
     let first = spans[0].rec();
     Ok(ScopeSpans {
-        scope: first.scope.try_clone(alloc)?,
+        scope: first.scope.get().try_clone(alloc)?,
         spans: copies,
-        schema_url: first.scope_schema_url.try_clone(alloc)?,
+        schema_url: first.scope_schema_url.get().try_clone(alloc)?,
     })
 }

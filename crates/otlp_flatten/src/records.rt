@@ -4,13 +4,13 @@ ghost use Rattle.std.specs.List.{sum_by};
 ghost use Rattle.otlp_flatten.specs.Flat.{record_with, scope_records, resource_records, records_of};
 
 use otlp_types::{
-    List, Record, Request, Resource, ResourceSpans, Scope, ScopeSpans, Span, Text, TryClone,
+    List, Record, Request, Resource, ResourceSpans, Scope, ScopeSpans, Shared, Span, Text,
 };
 use std::alloc::{AllocError, Global};
 
 /// The spans of a request in document order: resource, scope, span (`trace.proto` v1). `Err` only where memory was refused.
 ///
-/// Room for all of them is taken once, at the start. Each span is moved; its resource and scope are copied.
+/// Room for all of them is taken once, at the start. Each span is moved; spans of one resource, or of one scope, share it.
 pub fn flatten(alloc: Global, request: Request) -> Result<Vec<Record>, AllocError>
     ensures { IfOk result (λ records. records.items ≡ records_of request) }
 {
@@ -57,14 +57,16 @@ fn push_resource(
         scope_spans,
         schema_url,
     } = group;
+    let resource = Shared::new(alloc, resource)?;
+    let schema_url = Shared::new(alloc, schema_url)?;
     push_scopes(alloc, records, &resource, &schema_url, scope_spans)
 }
 
 fn push_scopes(
     alloc: Global,
     records: &mut Vec<Record>,
-    resource: &Resource,
-    resource_schema_url: &Text,
+    resource: &Shared<Resource>,
+    resource_schema_url: &Shared<Text>,
     groups: List<ScopeSpans>,
 ) -> Result<(), AllocError>
     ensures { OnOk result (records.new.items
@@ -79,8 +81,8 @@ fn push_scopes(
 fn push_scope(
     alloc: Global,
     records: &mut Vec<Record>,
-    resource: &Resource,
-    resource_schema_url: &Text,
+    resource: &Shared<Resource>,
+    resource_schema_url: &Shared<Text>,
     group: ScopeSpans,
 ) -> Result<(), AllocError>
     ensures { OnOk result (records.new.items
@@ -91,8 +93,9 @@ fn push_scope(
         spans,
         schema_url,
     } = group;
+    let scope = Shared::new(alloc, scope)?;
+    let schema_url = Shared::new(alloc, schema_url)?;
     push_spans(
-        alloc,
         records,
         resource,
         resource_schema_url,
@@ -103,47 +106,38 @@ fn push_scope(
 }
 
 fn push_spans(
-    alloc: Global,
     records: &mut Vec<Record>,
-    resource: &Resource,
-    resource_schema_url: &Text,
-    scope: &Scope,
-    scope_schema_url: &Text,
+    resource: &Shared<Resource>,
+    resource_schema_url: &Shared<Text>,
+    scope: &Shared<Scope>,
+    scope_schema_url: &Shared<Text>,
     spans: List<Span>,
 ) -> Result<(), AllocError>
     ensures { OnOk result (records.new.items ≡ records.old.items
         ++ map (record_with resource.now resource_schema_url.now scope.now scope_schema_url.now) spans) }
 {
     for span in spans.into_vec() {
-        let record = record_with(
-            alloc,
-            resource,
-            resource_schema_url,
-            scope,
-            scope_schema_url,
-            span,
-        )?;
+        let record = record_with(resource, resource_schema_url, scope, scope_schema_url, span)?;
         records.push(record)?;
     }
     Ok(())
 }
 
 fn record_with(
-    alloc: Global,
-    resource: &Resource,
-    resource_schema_url: &Text,
-    scope: &Scope,
-    scope_schema_url: &Text,
+    resource: &Shared<Resource>,
+    resource_schema_url: &Shared<Text>,
+    scope: &Shared<Scope>,
+    scope_schema_url: &Shared<Text>,
     span: Span,
 ) -> Result<Record, AllocError>
     ensures { IfOk result
         (λ r. r ≡ record_with resource.now resource_schema_url.now scope.now scope_schema_url.now span) }
 {
     Ok(Record {
-        resource: resource.try_clone(alloc)?,
-        resource_schema_url: resource_schema_url.try_clone(alloc)?,
-        scope: scope.try_clone(alloc)?,
-        scope_schema_url: scope_schema_url.try_clone(alloc)?,
+        resource: resource.share()?,
+        resource_schema_url: resource_schema_url.share()?,
+        scope: scope.share()?,
+        scope_schema_url: scope_schema_url.share()?,
         span,
     })
 }

@@ -36,14 +36,17 @@ impl HasRecord for Arrival {
 fn same_resource(a: &Record, b: &Record) -> bool
     ensures { IsTrue result ↔ (resource_of a.now ≡ resource_of b.now) }
 {
-    a.resource_schema_url.same(&b.resource_schema_url) && a.resource.same(&b.resource)
+    a.resource_schema_url
+        .get()
+        .same(b.resource_schema_url.get())
+        && a.resource.get().same(b.resource.get())
 }
 
 /// Whether two records have the same scope and scope schema URL.
 fn same_scope(a: &Record, b: &Record) -> bool
     ensures { IsTrue result ↔ (scope_of a.now ≡ scope_of b.now) }
 {
-    a.scope_schema_url.same(&b.scope_schema_url) && a.scope.same(&b.scope)
+    a.scope_schema_url.get().same(b.scope_schema_url.get()) && a.scope.get().same(b.scope.get())
 }
 
 /// How many spans at the front have the first one's resource and resource schema URL.

@@ -11,7 +11,8 @@ use Rattle.hex.proofs.OnLiterals.{hex_on_literals}
 use Rattle.serde_json.specs.Data.{Data, number, unsigned, string, object, Members, no_members, member, depth}
 use Rattle.serde_json.specs.Find.{of_integer}
 use Rattle.serde_json.specs.View.{items_of}
-use Rattle.serde_json.specs.Written.{members_have_float}
+use Rattle.otlp_json.specs.Canonical.{MembersCanonical}
+use Rattle.serde_json.proofs.Numbers.{number_of-decimal, number_of-negative}
 use Rattle.otlp_types.specs.declared.value.KeyValue.{KeyValue}
 use Rattle.otlp_types.specs.declared.span.Ids.{Ids}
 use Rattle.otlp_types.specs.declared.span.Status.{Status}
@@ -30,103 +31,30 @@ use Rattle.otlp_json.specs.Writing.{fields, text_field, u32_field, u64_field, en
 use Rattle.otlp_json.specs.ReadsBack.{PairReadsBack, ReadsBack, StatusReadsBack, EventReadsBack, LinkReadsBack, TraceReadsBack, IdReadsBack, OptionalIdReadsBack, ParentReadsBack, CountsReadBack, HeadReadsBack, TailReadsBack}
 use Rattle.otlp_reading.proofs.Spans.{SpanFields, span_of}
 use Rattle.otlp_json.proofs.NumbersBack.{u32-back, u64-back, enum-back}
-use Rattle.otlp_json.proofs.Table.{Table, found, IsField, IsTable, field-fields, table-plain, found-depth}
-use Rattle.otlp_json.proofs.ValuesBack.{text_field-present, text-back, message_field-present, message-within, items_field-present, objects-plain, AllRead, Within, list-back, kept-all, none-discarded, pair_again, pairs_field-is}
-
--- ---- fields
-
-if_present : (b : Bool) (d : Data) → IsField (Some d) → IsField (cond b None (Some d))
-if_present true d h = (refl, tt)
-if_present false d h = h
-
-u32_field-present : (n : ℕ) → IsField (u32_field n)
-u32_field-present n = if_present (n == 0) (number (unsigned n)) (refl, refl)
-
-u64_field-present : (n : ℕ) → IsField (u64_field n)
-u64_field-present n = if_present (n == 0) _ (refl, refl)
-
-enum_field-present : (z : ℤ) → IsField (enum_field z)
-enum_field-present (pos n) = if_present (n == 0) (number (of_integer (pos n))) (refl, refl)
-enum_field-present (negsuc n) = (refl, refl)
-
--- what the table has under a name is read as x
-at : {B : Type 0} (read : Option Data → Option B) (q : List ℕ) (fs : Table) (o : Option Data) (x : B) → IsTable fs → found q fs ≡ o → read o ≡ Some x → read (field q (fields fs)) ≡ Some x
-at read q fs o x table is back = ap read (field-fields q fs table ∙ is) ∙ back
-
-within_at : (q : List ℕ) (fs : Table) (o : Option Data) (n : ℕ) → IsTable fs → depth (object (fields fs)) ≤ n → found q fs ≡ o → Within o n
-within_at q fs o n table h is d e = found-depth q fs d n table h (is ∙ e)
-
--- ---- messages in fields
-
-inner_held : {A : Type 0} (meaning : Members → Option A) (ms : Members) (x : A) → meaning ms ≡ Some x → inner meaning (message_field ms) ≡ Some x
-inner_held meaning no_members x h = h
-inner_held meaning (member k d ms) x h = h
-
-inner-at : {A : Type 0} (meaning : Members → Option A) (f : A → Members) (x : A) (q : List ℕ) (fs : Table) → ReadsBack f meaning x → IsTable fs → depth (object (fields fs)) ≤ 127
-    → found q fs ≡ message_field (f x) → inner meaning (field q (fields fs)) ≡ Some x
-inner-at meaning f x q fs back table h is =
-    let within = message-within (f x) 127 (omega arith) (within_at q fs (message_field (f x)) 127 table h is) in
-    at (inner meaning) q fs (message_field (f x)) x table is (inner_held meaning (f x) x (back.again within))
-
-inner-present : {A : Type 0} (meaning : Members → Option A) (f : A → Members) (x : A) → ReadsBack f meaning x → IsField (message_field (f x))
-inner-present meaning f x back = message_field-present (f x) back.plain
-
--- ---- lists of messages
-
-all_again : {A : Type 0} (meaning : Members → Option A) (f : A → Members) (xs : List A) → AllByRecursion (ReadsBack f meaning) xs → AllRead 127 (message meaning) f (λ x. x) xs
-all_again meaning f [] h = tt
-all_again meaning f (x ∷ xs) h = (h.0.again, all_again meaning f xs h.1)
-
-all_plain : {A : Type 0} (meaning : Members → Option A) (f : A → Members) (xs : List A) → AllByRecursion (ReadsBack f meaning) xs → AllByRecursion (λ x. members_have_float (f x) ≡ false) xs
-all_plain meaning f [] h = tt
-all_plain meaning f (x ∷ xs) h = (h.0.plain, all_plain meaning f xs h.1)
-
-list-present : {A : Type 0} (meaning : Members → Option A) (f : A → Members) (xs : List A) → AllByRecursion (ReadsBack f meaning) xs → IsField (list_field (map f xs))
-list-present meaning f xs back = items_field-present (items_of (map object (map f xs))) (objects-plain f xs (all_plain meaning f xs back))
-
-list-at : {A : Type 0} (meaning : Members → Option A) (f : A → Members) (xs : List A) (q : List ℕ) (fs : Table) → AllByRecursion (ReadsBack f meaning) xs → IsTable fs → depth (object (fields fs)) ≤ 127
-    → found q fs ≡ list_field (map f xs) → list_of (message meaning) (field q (fields fs)) ≡ Some xs
-list-at meaning f xs q fs back table h is =
-    at (list_of (message meaning)) q fs (list_field (map f xs)) xs table is
-    (list-back 127 (message meaning) f (λ x. x) xs (all_again meaning f xs back) (within_at q fs (list_field (map f xs)) 127 table h is) ∙ ap Some (map-id xs))
-
--- ---- attributes
-
-small : (n k : ℕ) → n < 2 ^ 32 → k ≡ 0 → min (n + k) (2 ^ 32 - 1) ≡ n
-small n k h e = omega arith
-
-attributes_of : (ms : Members) (ps : List KeyValue) (n : ℕ) → n < 2 ^ 32 → list_of (message (key_value any_value)) (field (codes "attributes") ms) ≡ Some (map Some ps)
-    → u32 (field (codes "droppedAttributesCount") ms) ≡ Some n → attributes ms ≡ Some (ps, n)
-attributes_of ms ps n h all dropped = rw (all, dropped, kept-all ps, small n (discarded (map Some ps)) h (none-discarded ps))
-
-attributes-at : (ps : List KeyValue) (n : ℕ) (fs : Table) → AllByRecursion PairReadsBack ps → n < 2 ^ 32 → IsTable fs → depth (object (fields fs)) ≤ 127
-    → found (codes "attributes") fs ≡ attributes_field ps → found (codes "droppedAttributesCount") fs ≡ u32_field n → attributes (fields fs) ≡ Some (ps, n)
-attributes-at ps n fs back small table h is count =
-    attributes_of (fields fs) ps n small
-    (at (list_of (message (key_value any_value))) (codes "attributes") fs (attributes_field ps) (map Some ps) table is
-    (list-back 127 (message (key_value any_value)) pair_fields Some ps (pair_again 127 ps back) (within_at (codes "attributes") fs (attributes_field ps) 127 table h is)))
-    (at u32 (codes "droppedAttributesCount") fs (u32_field n) n table count (u32-back n small))
+use Rattle.otlp_json.proofs.Table.{Table, found, IsField, IsTable, field-fields, table-canonical, found-depth}
+use Rattle.otlp_json.proofs.ValuesBack.{text_field-present, text-back, message_field-present, message-within, items_field-present, objects-canonical, AllRead, Within, list-back, kept-all, none-discarded, pair_again, pairs_field-is}
+use Rattle.otlp_json.proofs.FieldsBack.{u32_field-present, u64_field-present, enum_field-present, at, inner-at, inner-present, list-present, list-at, attributes-at}
 
 -- ---- the messages
 
-abbrev status_table : Status → Table
+abbrev pub status_table : Status → Table
 status_table s = (codes "code", enum_field s.code) ∷ (codes "message", text_field s.message) ∷ []
 
-status-is : (s : Status) → IsTable (status_table s)
-status-is s = (refl, enum_field-present s.code, (refl, text_field-present s.message, tt))
+status-is : (s : Status) → FitsSigned w32 s.code → IsTable (status_table s)
+status-is s fits = (refl, enum_field-present s.code fits, (refl, text_field-present s.message, tt))
 
 status_of : (s : Status) (ms : Members) → text (field (codes "message") ms) ≡ Some s.message → enum (field (codes "code") ms) ≡ Some s.code → status ms ≡ Some s
 status_of s ms message code = rw (message, code)
 
 pub status-back : (s : Status) → FitsSigned w32 s.code → StatusReadsBack s
 status-back s fits = record {
-  plain = table-plain (status_table s) (status-is s);
+  canonical = table-canonical (status_table s) refl (status-is s fits);
   again = λ h. status_of s (fields (status_table s))
-      (at text (codes "message") (status_table s) (text_field s.message) s.message (status-is s) refl (text-back s.message))
-      (at enum (codes "code") (status_table s) (enum_field s.code) s.code (status-is s) refl (enum-back s.code fits));
+      (at text (codes "message") (status_table s) (text_field s.message) s.message (status-is s fits) refl (text-back s.message))
+      (at enum (codes "code") (status_table s) (enum_field s.code) s.code (status-is s fits) refl (enum-back s.code fits));
 }
 
-abbrev event_table : Event → Table
+abbrev pub event_table : Event → Table
 event_table e =
     (codes "attributes", attributes_field e.attributes)
     ∷ (codes "droppedAttributesCount", u32_field e.dropped_attributes_count)
@@ -134,8 +62,8 @@ event_table e =
     ∷ (codes "timeUnixNano", u64_field e.time_unix_nano)
     ∷ []
 
-event-is : (e : Event) → AllByRecursion PairReadsBack e.attributes → IsTable (event_table e)
-event-is e all = (refl, pairs_field-is e.attributes all, (refl, u32_field-present _, (refl, text_field-present e.name, (refl, u64_field-present _, tt))))
+event-is : (e : Event) → AllByRecursion PairReadsBack e.attributes → e.dropped_attributes_count < 2 ^ 32 → IsTable (event_table e)
+event-is e all dropped = (refl, pairs_field-is e.attributes all, (refl, u32_field-present _ dropped, (refl, text_field-present e.name, (refl, u64_field-present _, tt))))
 
 event_of : (e : Event) (ms : Members) → u64 (field (codes "timeUnixNano") ms) ≡ Some e.time_unix_nano → text (field (codes "name") ms) ≡ Some e.name
     → attributes ms ≡ Some (e.attributes, e.dropped_attributes_count) → event ms ≡ Some e
@@ -143,16 +71,16 @@ event_of e ms time name all = rw (time, name, all)
 
 pub event-back : (e : Event) → AllByRecursion PairReadsBack e.attributes → e.dropped_attributes_count < 2 ^ 32 → e.time_unix_nano < 2 ^ 64 → EventReadsBack e
 event-back e all dropped time =
-    let t : IsTable (event_table e) = event-is e all in
+    let t : IsTable (event_table e) = event-is e all dropped in
     record {
-      plain = table-plain (event_table e) t;
+      canonical = table-canonical (event_table e) refl t;
       again = λ h. event_of e (fields (event_table e))
           (at u64 (codes "timeUnixNano") (event_table e) (u64_field e.time_unix_nano) e.time_unix_nano t refl (u64-back e.time_unix_nano time))
           (at text (codes "name") (event_table e) (text_field e.name) e.name t refl (text-back e.name))
           (attributes-at e.attributes e.dropped_attributes_count (event_table e) all dropped t h refl refl);
     }
 
-abbrev link_table : Link → Table
+abbrev pub link_table : Link → Table
 link_table l =
     (codes "attributes", attributes_field l.attributes)
     ∷ (codes "droppedAttributesCount", u32_field l.dropped_attributes_count)
@@ -162,9 +90,9 @@ link_table l =
     ∷ (codes "traceState", text_field l.trace_state)
     ∷ []
 
-link-is : (l : Link) → AllByRecursion PairReadsBack l.attributes → IsTable (link_table l)
-link-is l all =
-    (refl, pairs_field-is l.attributes all, (refl, u32_field-present _, (refl, u32_field-present _, (refl, text_field-present l.span_id, (refl, text_field-present l.trace_id, (refl, text_field-present l.trace_state, tt))))))
+link-is : (l : Link) → AllByRecursion PairReadsBack l.attributes → l.dropped_attributes_count < 2 ^ 32 → l.flags < 2 ^ 32 → IsTable (link_table l)
+link-is l all dropped flags =
+    (refl, pairs_field-is l.attributes all, (refl, u32_field-present _ dropped, (refl, u32_field-present _ flags, (refl, text_field-present l.span_id, (refl, text_field-present l.trace_id, (refl, text_field-present l.trace_state, tt))))))
 
 link_of : (l : Link) (ms : Members) → text (field (codes "traceId") ms) ≡ Some l.trace_id → text (field (codes "spanId") ms) ≡ Some l.span_id
     → text (field (codes "traceState") ms) ≡ Some l.trace_state → attributes ms ≡ Some (l.attributes, l.dropped_attributes_count) → u32 (field (codes "flags") ms) ≡ Some l.flags → link ms ≡ Some l
@@ -172,9 +100,9 @@ link_of l ms trace span state all flags = rw (trace, span, state, all, flags)
 
 pub link-back : (l : Link) → AllByRecursion PairReadsBack l.attributes → l.dropped_attributes_count < 2 ^ 32 → l.flags < 2 ^ 32 → LinkReadsBack l
 link-back l all dropped flags =
-    let t : IsTable (link_table l) = link-is l all in
+    let t : IsTable (link_table l) = link-is l all dropped flags in
     record {
-      plain = table-plain (link_table l) t;
+      canonical = table-canonical (link_table l) refl t;
       again = λ h. link_of l (fields (link_table l))
           (at text (codes "traceId") (link_table l) (text_field l.trace_id) l.trace_id t refl (text-back l.trace_id))
           (at text (codes "spanId") (link_table l) (text_field l.span_id) l.span_id t refl (text-back l.span_id))
@@ -246,15 +174,15 @@ ids-at (Some i) fs table trace span parent a b c =
 
 trace_field-present : (o : Option Ids) → IsField (trace_field o)
 trace_field-present None = (refl, tt)
-trace_field-present (Some i) = (refl, refl)
+trace_field-present (Some i) = (refl, tt)
 
 span_field-present : (o : Option Ids) → IsField (span_field o)
 span_field-present None = (refl, tt)
-span_field-present (Some i) = (refl, refl)
+span_field-present (Some i) = (refl, tt)
 
 root_field-present : (p : Option (List ℕ)) → IsField (option_map (λ p. string (id_text p)) p)
 root_field-present None = (refl, tt)
-root_field-present (Some p) = (refl, refl)
+root_field-present (Some p) = (refl, tt)
 
 parent_field-present : (o : Option Ids) → IsField (parent_field o)
 parent_field-present None = (refl, tt)
@@ -262,7 +190,7 @@ parent_field-present (Some i) = root_field-present i.parent
 
 -- ---- the span
 
-abbrev span_table : Span → Table
+abbrev pub span_table : Span → Table
 span_table s =
     (codes "attributes", attributes_field s.attributes)
     ∷ (codes "droppedAttributesCount", u32_field s.dropped_attributes_count)
@@ -288,13 +216,13 @@ span-is s counts head tail = (
   pairs_field-is s.attributes counts.attributes,
   (
     refl,
-    u32_field-present _,
+    u32_field-present _ counts.dropped_attributes,
     (
       refl,
-      u32_field-present _,
+      u32_field-present _ counts.dropped_events,
       (
         refl,
-        u32_field-present _,
+        u32_field-present _ counts.dropped_links,
         (
           refl,
           u64_field-present _,
@@ -303,10 +231,10 @@ span-is s counts head tail = (
             list-present event event_fields s.events head.events,
             (
               refl,
-              u32_field-present _,
+              u32_field-present _ head.flags,
               (
                 refl,
-                enum_field-present s.kind,
+                enum_field-present s.kind head.kind,
                 (
                   refl,
                   list-present link link_fields s.links tail.links,
@@ -366,30 +294,30 @@ span_fields-are s counts head tail h =
 
 pub span-back : (s : Span) → CountsReadBack s → HeadReadsBack s → TailReadsBack s → ReadsBack span_fields span s
 span-back s counts head tail = record {
-  plain = table-plain (span_table s) (span-is s counts head tail);
+  canonical = table-canonical (span_table s) refl (span-is s counts head tail);
   again = λ h. span_of s (fields (span_table s)) (span_fields-are s counts head tail h);
 }
 
 -- ---- the request
 
-abbrev resource_table : Resource → Table
+abbrev pub resource_table : Resource → Table
 resource_table r = (codes "attributes", attributes_field r.attributes) ∷ (codes "droppedAttributesCount", u32_field r.dropped_attributes_count) ∷ []
 
-resource-is : (r : Resource) → AllByRecursion PairReadsBack r.attributes → IsTable (resource_table r)
-resource-is r all = (refl, pairs_field-is r.attributes all, (refl, u32_field-present _, tt))
+resource-is : (r : Resource) → AllByRecursion PairReadsBack r.attributes → r.dropped_attributes_count < 2 ^ 32 → IsTable (resource_table r)
+resource-is r all dropped = (refl, pairs_field-is r.attributes all, (refl, u32_field-present _ dropped, tt))
 
 resource_of : (r : Resource) (ms : Members) → attributes ms ≡ Some (r.attributes, r.dropped_attributes_count) → resource ms ≡ Some r
 resource_of r ms all = rw all
 
 pub resource-back : (r : Resource) → AllByRecursion PairReadsBack r.attributes → r.dropped_attributes_count < 2 ^ 32 → ReadsBack resource_fields resource r
 resource-back r all dropped =
-    let t : IsTable (resource_table r) = resource-is r all in
+    let t : IsTable (resource_table r) = resource-is r all dropped in
     record {
-      plain = table-plain (resource_table r) t;
+      canonical = table-canonical (resource_table r) refl t;
       again = λ h. resource_of r (fields (resource_table r)) (attributes-at r.attributes r.dropped_attributes_count (resource_table r) all dropped t h refl refl);
     }
 
-abbrev scope_table : Scope → Table
+abbrev pub scope_table : Scope → Table
 scope_table s =
     (codes "attributes", attributes_field s.attributes)
     ∷ (codes "droppedAttributesCount", u32_field s.dropped_attributes_count)
@@ -397,8 +325,8 @@ scope_table s =
     ∷ (codes "version", text_field s.version)
     ∷ []
 
-scope-is : (s : Scope) → AllByRecursion PairReadsBack s.attributes → IsTable (scope_table s)
-scope-is s all = (refl, pairs_field-is s.attributes all, (refl, u32_field-present _, (refl, text_field-present s.name, (refl, text_field-present s.version, tt))))
+scope-is : (s : Scope) → AllByRecursion PairReadsBack s.attributes → s.dropped_attributes_count < 2 ^ 32 → IsTable (scope_table s)
+scope-is s all dropped = (refl, pairs_field-is s.attributes all, (refl, u32_field-present _ dropped, (refl, text_field-present s.name, (refl, text_field-present s.version, tt))))
 
 scope_of : (s : Scope) (ms : Members) → text (field (codes "name") ms) ≡ Some s.name → text (field (codes "version") ms) ≡ Some s.version
     → attributes ms ≡ Some (s.attributes, s.dropped_attributes_count) → scope ms ≡ Some s
@@ -406,16 +334,16 @@ scope_of s ms name version all = rw (name, version, all)
 
 pub scope-back : (s : Scope) → AllByRecursion PairReadsBack s.attributes → s.dropped_attributes_count < 2 ^ 32 → ReadsBack scope_fields scope s
 scope-back s all dropped =
-    let t : IsTable (scope_table s) = scope-is s all in
+    let t : IsTable (scope_table s) = scope-is s all dropped in
     record {
-      plain = table-plain (scope_table s) t;
+      canonical = table-canonical (scope_table s) refl t;
       again = λ h. scope_of s (fields (scope_table s))
           (at text (codes "name") (scope_table s) (text_field s.name) s.name t refl (text-back s.name))
           (at text (codes "version") (scope_table s) (text_field s.version) s.version t refl (text-back s.version))
           (attributes-at s.attributes s.dropped_attributes_count (scope_table s) all dropped t h refl refl);
     }
 
-abbrev scope_spans_table : ScopeSpans → Table
+abbrev pub scope_spans_table : ScopeSpans → Table
 scope_spans_table g =
     (codes "schemaUrl", text_field g.schema_url)
     ∷ (codes "scope", message_field (scope_fields g.scope))
@@ -433,14 +361,14 @@ pub scope_spans-back : (g : ScopeSpans) → ReadsBack scope_fields scope g.scope
 scope_spans-back g s all =
     let t : IsTable (scope_spans_table g) = scope_spans-is g s all in
     record {
-      plain = table-plain (scope_spans_table g) t;
+      canonical = table-canonical (scope_spans_table g) refl t;
       again = λ h. scope_spans_of g (fields (scope_spans_table g))
           (inner-at scope scope_fields g.scope (codes "scope") (scope_spans_table g) s t h refl)
           (list-at span span_fields g.spans (codes "spans") (scope_spans_table g) all t h refl)
           (at text (codes "schemaUrl") (scope_spans_table g) (text_field g.schema_url) g.schema_url t refl (text-back g.schema_url));
     }
 
-abbrev resource_spans_table : ResourceSpans → Table
+abbrev pub resource_spans_table : ResourceSpans → Table
 resource_spans_table g =
     (codes "resource", message_field (resource_fields g.resource))
     ∷ (codes "schemaUrl", text_field g.schema_url)
@@ -460,14 +388,14 @@ pub resource_spans-back : (g : ResourceSpans) → ReadsBack resource_fields reso
 resource_spans-back g r all =
     let t : IsTable (resource_spans_table g) = resource_spans-is g r all in
     record {
-      plain = table-plain (resource_spans_table g) t;
+      canonical = table-canonical (resource_spans_table g) refl t;
       again = λ h. resource_spans_of g (fields (resource_spans_table g))
           (inner-at resource resource_fields g.resource (codes "resource") (resource_spans_table g) r t h refl)
           (list-at scope_spans scope_spans_fields g.scope_spans (codes "scopeSpans") (resource_spans_table g) all t h refl)
           (at text (codes "schemaUrl") (resource_spans_table g) (text_field g.schema_url) g.schema_url t refl (text-back g.schema_url));
     }
 
-abbrev request_table : Request → Table
+abbrev pub request_table : Request → Table
 request_table q = (codes "resourceSpans", list_field (map resource_spans_fields q.resource_spans)) ∷ []
 
 request-is : (q : Request) → AllByRecursion (ReadsBack resource_spans_fields resource_spans) q.resource_spans → IsTable (request_table q)
@@ -480,6 +408,6 @@ pub request-back : (q : Request) → AllByRecursion (ReadsBack resource_spans_fi
 request-back q all =
     let t : IsTable (request_table q) = request-is q all in
     record {
-      plain = table-plain (request_table q) t;
+      canonical = table-canonical (request_table q) refl t;
       again = λ h. request_from q (fields (request_table q)) (list-at resource_spans resource_spans_fields q.resource_spans (codes "resourceSpans") (request_table q) all t h refl);
     }

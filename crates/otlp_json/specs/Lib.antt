@@ -1,3 +1,4 @@
 pub mod Writing
-pub mod SpanParts
+pub mod Canonical
+pub mod Tokens
 pub mod ReadsBack

@@ -17,13 +17,16 @@ mod request;
 mod span;
 mod writing;
 
+use json::Writer;
 pub use laws::levels_suffice;
 pub use otlp_reading::Bad;
 use otlp_stream::plain_request;
 use otlp_types::Request;
-use serde_json::Value;
 use std::alloc::{AllocError, Global};
 use writing::Written;
+
+/// The room that a text takes at first, in bytes.
+const ROOM: usize = 4096;
 
 /// The request that the bytes write: JSON in UTF-8, nesting at most 127 deep, read as the JSON encoding of OTLP 1.x
 /// says.
@@ -52,5 +55,7 @@ pub fn encode(alloc: Global, request: &Request) -> Result<Vec<u8>, AllocError>
         → IsJson bytes.items (data_of request.now)
         × (request_of (data_of request.now) ≡ Some request.now)) }
 {
-    Value::Object(request.write(alloc)?).to_vec(alloc)
+    let mut out = Writer::new(Vec::with_capacity(alloc, ROOM)?);
+    request.write(alloc, &mut out)?;
+    Ok(out.into_inner())
 }

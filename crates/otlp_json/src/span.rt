@@ -1,51 +1,59 @@
 //! Spans and what they hold, written.
-ghost use Rattle.std.specs.Prelude.{◌≡◌, IfOk, OnOk, option_map};
-ghost use Rattle.serde_json.specs.View.{view, members_view};
+ghost use Rattle.std.specs.Prelude.{◌≡◌, IfOk, OnOk, codes};
 ghost use Rattle.otlp_reading.specs.Reading.{status, event, link, span};
-ghost use Rattle.otlp_json.specs.Writing.{trace_field, span_field, parent_field, status_fields, event_fields, link_fields, span_fields};
-ghost use Rattle.otlp_json.specs.SpanParts.{span_counts, span_head, span_tail};
+ghost use Rattle.otlp_json.specs.Tokens.{Adds, AddsField, span_counts, span_head, span_tail};
+ghost use Rattle.otlp_json.specs.Writing.{trace_field, span_field, parent_field, status_fields, event_fields, link_fields, span_fields, message_field};
 ghost use Rattle.otlp_json.specs.ReadsBack.{ReadsBack, StatusReadsBack, EventReadsBack, LinkReadsBack, TraceReadsBack, IdReadsBack, ParentReadsBack, CountsReadBack, HeadReadsBack, TailReadsBack};
 
 use crate::writing;
-use crate::writing::{Written, add, list};
+use crate::writing::{Written, list};
+use json::Writer;
 use otlp_types::{Event, Ids, Link, Span, Status};
-use serde_json::{Map, Value};
 use std::alloc::{AllocError, Global};
 
 /// The field `traceId`.
-fn trace_id(alloc: Global, ids: &Option<Ids>) -> Result<Option<Value>, AllocError>
-    ensures field { IfOk result (λ o. option_map view o ≡ trace_field ids.now) }
-    ensures back { IfOk result (λ _. TraceReadsBack ids.now) }
+fn trace_id(alloc: Global, out: &mut Writer, ids: &Option<Ids>) -> Result<(), AllocError>
+    ensures field { OnOk result (AddsField out.old out.new (codes "traceId") (trace_field ids.now)) }
+    ensures back { OnOk result (TraceReadsBack ids.now) }
 {
-    match ids {
-        Some(ids) => Ok(Some(Value::String(ids.trace.text(alloc)?))),
-        None => Ok(None),
-    }
+    let Some(ids) = ids else {
+        return Ok(());
+    };
+    let text = ids.trace.text(alloc)?;
+    out.key("traceId")?;
+    out.string(text.as_str())?;
+    Ok(())
 }
 
 /// The field `spanId`.
-fn span_id(alloc: Global, ids: &Option<Ids>) -> Result<Option<Value>, AllocError>
-    ensures field { IfOk result (λ o. option_map view o ≡ span_field ids.now) }
-    ensures back { IfOk result (λ _. IdReadsBack ids.now) }
+fn span_id(alloc: Global, out: &mut Writer, ids: &Option<Ids>) -> Result<(), AllocError>
+    ensures field { OnOk result (AddsField out.old out.new (codes "spanId") (span_field ids.now)) }
+    ensures back { OnOk result (IdReadsBack ids.now) }
 {
-    match ids {
-        Some(ids) => Ok(Some(Value::String(ids.span.text(alloc)?))),
-        None => Ok(None),
-    }
+    let Some(ids) = ids else {
+        return Ok(());
+    };
+    let text = ids.span.text(alloc)?;
+    out.key("spanId")?;
+    out.string(text.as_str())?;
+    Ok(())
 }
 
 /// The field `parentSpanId`, which a root has not.
-fn parent_span_id(alloc: Global, ids: &Option<Ids>) -> Result<Option<Value>, AllocError>
-    ensures field { IfOk result (λ o. option_map view o ≡ parent_field ids.now) }
-    ensures back { IfOk result (λ _. ParentReadsBack ids.now) }
+fn parent_span_id(alloc: Global, out: &mut Writer, ids: &Option<Ids>) -> Result<(), AllocError>
+    ensures field { OnOk result (AddsField out.old out.new (codes "parentSpanId") (parent_field ids.now)) }
+    ensures back { OnOk result (ParentReadsBack ids.now) }
 {
-    match ids {
-        Some(ids) => match &ids.parent {
-            Some(parent) => Ok(Some(Value::String(parent.text(alloc)?))),
-            None => Ok(None),
-        },
-        None => Ok(None),
-    }
+    let Some(ids) = ids else {
+        return Ok(());
+    };
+    let Some(parent) = &ids.parent else {
+        return Ok(());
+    };
+    let text = parent.text(alloc)?;
+    out.key("parentSpanId")?;
+    out.string(text.as_str())?;
+    Ok(())
 }
 
 impl Written for Status {
@@ -53,13 +61,26 @@ impl Written for Status {
 
     ghost reads_back = { StatusReadsBack };
 
-    fn write(&self, alloc: Global) -> Result<Map<String, Value>, AllocError> {
-        let mut members = Map::new(alloc);
-        let message = writing::text(alloc, &self.message)?;
-        add(&mut members, alloc, "message", message)?;
-        add(&mut members, alloc, "code", writing::enumeration(self.code))?;
-        Ok(members)
+    fn write(&self, alloc: Global, out: &mut Writer) -> Result<(), AllocError> {
+        out.begin_object()?;
+        writing::enumeration(out, "code", self.code)?;
+        writing::text(out, "message", &self.message)?;
+        out.end_object()?;
+        Ok(())
     }
+}
+
+/// The field `status`, unless all its fields are left out.
+fn status_of(alloc: Global, out: &mut Writer, status: &Status) -> Result<(), AllocError>
+    ensures field { OnOk result (AddsField out.old out.new (codes "status") (message_field (status_fields status.now))) }
+    ensures back { OnOk result (StatusReadsBack status.now) }
+{
+    if status.code == 0 && status.message.as_str().is_empty() {
+        return Ok(());
+    }
+    out.key("status")?;
+    status.write(alloc, out)?;
+    Ok(())
 }
 
 impl Written for Event {
@@ -67,17 +88,14 @@ impl Written for Event {
 
     ghost reads_back = { EventReadsBack };
 
-    fn write(&self, alloc: Global) -> Result<Map<String, Value>, AllocError> {
-        let mut members = Map::new(alloc);
-        let time = writing::u64(alloc, self.time_unix_nano)?;
-        add(&mut members, alloc, "timeUnixNano", time)?;
-        let name = writing::text(alloc, &self.name)?;
-        add(&mut members, alloc, "name", name)?;
-        let dropped = writing::u32(self.dropped_attributes_count);
-        add(&mut members, alloc, "droppedAttributesCount", dropped)?;
-        let attributes = list(alloc, self.attributes.as_slice())?;
-        add(&mut members, alloc, "attributes", attributes)?;
-        Ok(members)
+    fn write(&self, alloc: Global, out: &mut Writer) -> Result<(), AllocError> {
+        out.begin_object()?;
+        list(alloc, out, "attributes", self.attributes.as_slice())?;
+        writing::u32(out, "droppedAttributesCount", self.dropped_attributes_count)?;
+        writing::text(out, "name", &self.name)?;
+        writing::u64(out, "timeUnixNano", self.time_unix_nano)?;
+        out.end_object()?;
+        Ok(())
     }
 }
 
@@ -86,20 +104,16 @@ impl Written for Link {
 
     ghost reads_back = { LinkReadsBack };
 
-    fn write(&self, alloc: Global) -> Result<Map<String, Value>, AllocError> {
-        let mut members = Map::new(alloc);
-        let trace_state = writing::text(alloc, &self.trace_state)?;
-        add(&mut members, alloc, "traceState", trace_state)?;
-        let trace_id = writing::text(alloc, &self.trace_id)?;
-        add(&mut members, alloc, "traceId", trace_id)?;
-        let span_id = writing::text(alloc, &self.span_id)?;
-        add(&mut members, alloc, "spanId", span_id)?;
-        add(&mut members, alloc, "flags", writing::u32(self.flags))?;
-        let dropped = writing::u32(self.dropped_attributes_count);
-        add(&mut members, alloc, "droppedAttributesCount", dropped)?;
-        let attributes = list(alloc, self.attributes.as_slice())?;
-        add(&mut members, alloc, "attributes", attributes)?;
-        Ok(members)
+    fn write(&self, alloc: Global, out: &mut Writer) -> Result<(), AllocError> {
+        out.begin_object()?;
+        list(alloc, out, "attributes", self.attributes.as_slice())?;
+        writing::u32(out, "droppedAttributesCount", self.dropped_attributes_count)?;
+        writing::u32(out, "flags", self.flags)?;
+        writing::text(out, "spanId", &self.span_id)?;
+        writing::text(out, "traceId", &self.trace_id)?;
+        writing::text(out, "traceState", &self.trace_state)?;
+        out.end_object()?;
+        Ok(())
     }
 }
 
@@ -108,78 +122,52 @@ impl Written for Span {
 
     ghost reads_back = { ReadsBack span_fields span };
 
-    fn write(&self, alloc: Global) -> Result<Map<String, Value>, AllocError> {
-        let mut members = Map::new(alloc);
-        write_tail(alloc, self, &mut members)?;
-        write_head(alloc, self, &mut members)?;
-        write_counts(alloc, self, &mut members)?;
-        Ok(members)
+    fn write(&self, alloc: Global, out: &mut Writer) -> Result<(), AllocError> {
+        out.begin_object()?;
+        write_counts(alloc, out, self)?;
+        write_head(alloc, out, self)?;
+        write_tail(alloc, out, self)?;
+        out.end_object()?;
+        Ok(())
     }
 }
 
-/// The fields from `links` on, in order of their names.
-fn write_tail(
-    alloc: Global,
-    span: &Span,
-    members: &mut Map<String, Value>,
-) -> Result<(), AllocError>
-    ensures fields { OnOk result (members_view members.new.entries
-        ≡ span_tail span.now (members_view members.old.entries)) }
-    ensures back { OnOk result (TailReadsBack span.now) }
+/// The attributes and the counts.
+fn write_counts(alloc: Global, out: &mut Writer, span: &Span) -> Result<(), AllocError>
+    ensures fields { OnOk result (Adds out.old out.new (span_counts span.now)) }
+    ensures back { OnOk result (CountsReadBack span.now) }
 {
-    let trace_state = writing::text(alloc, &span.trace_state)?;
-    add(members, alloc, "traceState", trace_state)?;
-    add(members, alloc, "traceId", trace_id(alloc, &span.ids)?)?;
-    let status = writing::message(span.status.write(alloc)?);
-    add(members, alloc, "status", status)?;
-    let start = writing::u64(alloc, span.start_time_unix_nano)?;
-    add(members, alloc, "startTimeUnixNano", start)?;
-    add(members, alloc, "spanId", span_id(alloc, &span.ids)?)?;
-    let parent = parent_span_id(alloc, &span.ids)?;
-    add(members, alloc, "parentSpanId", parent)?;
-    let name = writing::text(alloc, &span.name)?;
-    add(members, alloc, "name", name)?;
-    let links = list(alloc, span.links.as_slice())?;
-    add(members, alloc, "links", links)?;
+    list(alloc, out, "attributes", span.attributes.as_slice())?;
+    writing::u32(out, "droppedAttributesCount", span.dropped_attributes_count)?;
+    writing::u32(out, "droppedEventsCount", span.dropped_events_count)?;
+    writing::u32(out, "droppedLinksCount", span.dropped_links_count)?;
     Ok(())
 }
 
 /// The fields from `endTimeUnixNano` to `kind`.
-fn write_head(
-    alloc: Global,
-    span: &Span,
-    members: &mut Map<String, Value>,
-) -> Result<(), AllocError>
-    ensures fields { OnOk result (members_view members.new.entries
-        ≡ span_head span.now (members_view members.old.entries)) }
+fn write_head(alloc: Global, out: &mut Writer, span: &Span) -> Result<(), AllocError>
+    ensures fields { OnOk result (Adds out.old out.new (span_head span.now)) }
     ensures back { OnOk result (HeadReadsBack span.now) }
 {
-    add(members, alloc, "kind", writing::enumeration(span.kind))?;
-    add(members, alloc, "flags", writing::u32(span.flags))?;
-    let events = list(alloc, span.events.as_slice())?;
-    add(members, alloc, "events", events)?;
-    let end = writing::u64(alloc, span.end_time_unix_nano)?;
-    add(members, alloc, "endTimeUnixNano", end)?;
+    writing::u64(out, "endTimeUnixNano", span.end_time_unix_nano)?;
+    list(alloc, out, "events", span.events.as_slice())?;
+    writing::u32(out, "flags", span.flags)?;
+    writing::enumeration(out, "kind", span.kind)?;
     Ok(())
 }
 
-/// The attributes and the counts.
-fn write_counts(
-    alloc: Global,
-    span: &Span,
-    members: &mut Map<String, Value>,
-) -> Result<(), AllocError>
-    ensures fields { OnOk result (members_view members.new.entries
-        ≡ span_counts span.now (members_view members.old.entries)) }
-    ensures back { OnOk result (CountsReadBack span.now) }
+/// The fields from `links` on, in order of their names.
+fn write_tail(alloc: Global, out: &mut Writer, span: &Span) -> Result<(), AllocError>
+    ensures fields { OnOk result (Adds out.old out.new (span_tail span.now)) }
+    ensures back { OnOk result (TailReadsBack span.now) }
 {
-    let dropped_links = writing::u32(span.dropped_links_count);
-    add(members, alloc, "droppedLinksCount", dropped_links)?;
-    let dropped_events = writing::u32(span.dropped_events_count);
-    add(members, alloc, "droppedEventsCount", dropped_events)?;
-    let dropped = writing::u32(span.dropped_attributes_count);
-    add(members, alloc, "droppedAttributesCount", dropped)?;
-    let attributes = list(alloc, span.attributes.as_slice())?;
-    add(members, alloc, "attributes", attributes)?;
+    list(alloc, out, "links", span.links.as_slice())?;
+    writing::text(out, "name", &span.name)?;
+    parent_span_id(alloc, out, &span.ids)?;
+    span_id(alloc, out, &span.ids)?;
+    writing::u64(out, "startTimeUnixNano", span.start_time_unix_nano)?;
+    status_of(alloc, out, &span.status)?;
+    trace_id(alloc, out, &span.ids)?;
+    writing::text(out, "traceState", &span.trace_state)?;
     Ok(())
 }

@@ -24,18 +24,33 @@ pub enum Stop {
 }
 
 impl From<AllocError> for Stop {
+    ghost use Rattle.std.specs.Prelude.{◌≡◌};
+    ghost use Rattle.otlp_stream.specs.declared.take.Stop.TheVariants.{NoMemory};
+
+    ghost from_gives = { λ _ e. e ≡ NoMemory };
+
     fn from(_refused: AllocError) -> Stop {
         Stop::NoMemory
     }
 }
 
 impl<T: Drop> From<AllocFailed<T>> for Stop {
+    ghost use Rattle.std.specs.Prelude.{◌≡◌};
+    ghost use Rattle.otlp_stream.specs.declared.take.Stop.TheVariants.{NoMemory};
+
+    ghost from_gives = { λ _ e. e ≡ NoMemory };
+
     fn from(_refused: AllocFailed<T>) -> Stop {
         Stop::NoMemory
     }
 }
 
 impl From<Invalid> for Stop {
+    ghost use Rattle.std.specs.Prelude.{◌≡◌};
+    ghost use Rattle.otlp_stream.specs.declared.take.Stop.TheVariants.{Declined};
+
+    ghost from_gives = { λ _ e. e ≡ Declined };
+
     fn from(_invalid: Invalid) -> Stop {
         Stop::Declined
     }

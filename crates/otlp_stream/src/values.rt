@@ -260,5 +260,17 @@ pub fn attributes(alloc: Global, reader: &mut Reader<'_>, depth: usize) -> Resul
     ensures { IfOk result (λ x. TakesAs (present kept_attributes) depth reader.old reader.new x) }
 {
     let (kept, discarded) = key_values(alloc, reader, depth, LEVELS)?;
-    Ok(Kept { kept, discarded })
+    Ok(Kept {
+        kept: fitted(kept),
+        discarded,
+    })
+}
+
+/// The list, which gives up the room that it has no use for: spans wait with their attributes.
+fn fitted<T>(list: List<T>) -> List<T>
+    ensures { result ≡ list }
+{
+    let mut items = list.into_vec();
+    items.shrink_to_fit();
+    List::from_vec(items)
 }

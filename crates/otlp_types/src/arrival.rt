@@ -3,17 +3,20 @@ ghost use Rattle.std.specs.Prelude.{◌≡◌, IfOk};
 
 use crate::list::{Text, TryClone};
 use crate::request::{Resource, Scope};
+use crate::shared::Shared;
 use crate::span::Span;
 use span_ids::{ArrivalKey, Moment};
 use std::alloc::{AllocError, Global};
 
 /// A span with the resource and the scope that it was sent under, and the schema URLs of both.
+///
+/// What it was sent under it shares with the other spans of its request.
 #[derive(Debug, Drop)]
 pub struct Record {
-    pub resource: Resource,
-    pub resource_schema_url: Text,
-    pub scope: Scope,
-    pub scope_schema_url: Text,
+    pub resource: Shared<Resource>,
+    pub resource_schema_url: Shared<Text>,
+    pub scope: Shared<Scope>,
+    pub scope_schema_url: Shared<Text>,
     pub span: Span,
 }
 
@@ -51,10 +54,10 @@ pub enum Shipment {
 impl TryClone for Record {
     fn try_clone(&self, alloc: Global) -> Result<Record, AllocError> {
         Ok(Record {
-            resource: self.resource.try_clone(alloc)?,
-            resource_schema_url: self.resource_schema_url.try_clone(alloc)?,
-            scope: self.scope.try_clone(alloc)?,
-            scope_schema_url: self.scope_schema_url.try_clone(alloc)?,
+            resource: self.resource.share()?,
+            resource_schema_url: self.resource_schema_url.share()?,
+            scope: self.scope.share()?,
+            scope_schema_url: self.scope_schema_url.share()?,
             span: self.span.try_clone(alloc)?,
         })
     }

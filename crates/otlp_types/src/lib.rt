@@ -1,17 +1,20 @@
 //! Requests to take traces as plain data, their spans as records, and what goes between the parts.
 //!
 //! A contract sees each type as plain data: a [`List`] is the list of its elements and a [`Text`] the list of its
-//! bytes, so that a copy equals its source. Fields that have their default are empty, 0 or `None`.
+//! bytes, so that a copy equals its source; a [`Shared`] is the value that it holds. Fields that have their default are
+//! empty, 0 or `None`.
 #![tactic(auto)]
 
 mod arrival;
 mod list;
 mod request;
+mod shared;
 mod span;
 mod value;
 
 pub use arrival::{Arrival, Item, Record, Shipment};
 pub use list::{List, Text, TryClone};
 pub use request::{Request, Resource, ResourceSpans, Scope, ScopeSpans};
+pub use shared::Shared;
 pub use span::{Event, Ids, Link, Span, Status};
 pub use value::{AnyValue, KeyValue};

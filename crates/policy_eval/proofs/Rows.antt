@@ -9,7 +9,7 @@ use Rattle.otlp_types.specs.declared.value.KeyValue.{KeyValue}
 use Rattle.span_ids.specs.declared.outcome.Verdict.TheVariants.{Sampled as ForIt, NotSampled as AgainstIt}
 
 -- a span: its status code, start and end, its attributes and those of its resource
-abbrev arrival : (code start end : ℕ) → (own of_resource : List KeyValue) → Arrival
+abbrev pub arrival : (code start end : ℕ) → (own of_resource : List KeyValue) → Arrival
 arrival code start end own of_resource = record {
   key = record { conn = record { lane = 0; ordinal = 0 }; number = 0 };
   moment = 0;
@@ -104,14 +104,14 @@ pub truths : map (λ (b : Bool). leaf_answer (attribute (101 ∷ 110 ∷ 118 ∷
 truths = refl
 
 -- an `and` asks no further after a no; a top policy is asked all the same
-abbrev no_then_rate : Policies
+abbrev pub no_then_rate : Policies
 no_then_rate = one_more (and_policy (one_more (leaf (span_count 2 0)) (one_more (rate_limiting 3) no_more))) (one_more (rate_limiting 4) no_more)
 
 pub asks_no_further : asked_nodes no_then_rate (λ n. true) (arrival 0 0 0 [] [] ∷ []) ≡ 3 ∷ []
 asks_no_further = refl
 
 -- an `and` of a latency of 500 and a limit of 3: the limiter isn't asked for 499 ms
-abbrev slow_and_granted : Policies
+abbrev pub slow_and_granted : Policies
 slow_and_granted = one_more (and_policy (one_more (leaf (latency 500 0)) (one_more (rate_limiting 3) no_more))) no_more
 
 pub and_of_latency_and_rate : map (λ (end : ℕ). asked_nodes slow_and_granted (λ n. true) (arrival 0 0 end [] [] ∷ [])) (499999999 ∷ 500000000 ∷ []) ≡ [] ∷ (2 ∷ []) ∷ []

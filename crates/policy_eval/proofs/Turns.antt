@@ -1,24 +1,25 @@
 -- The walk over the parts of an `and` and over the top policies, policy by policy.
-use Rattle.std.proofs.Common.{◌≡◌, ℕ, suc, ◌+◌, ◌-◌, ◌^◌, min, ◌≤◌, ◌<◌, Bool, true, false, ◌&&◌, List, [], ◌∷◌, ◌++◌, length, drop, get_or, refl, sym, ap, subst, ◌∙◌, arith, append-nil, drop-cons, add-one}
+-- For the clauses `evaluates` of `evaluate` and `answers` of `answer`.
+use Rattle.std.proofs.Common.{◌≡◌, ℕ, suc, ◌+◌, ◌-◌, ◌^◌, min, ◌≤◌, ◌<◌, ◌==◌, Bool, true, false, ◌&&◌, List, [], ◌∷◌, ◌++◌, length, drop, get_or, refl, sym, ap, subst, ◌∙◌, arith, append-nil, append_assoc, drop-cons, add-one}
+use Rattle.std.proofs.lemmas.Bool.Decides.{nat_tests}
 use Rattle.policy_tree.specs.declared.limiter_node.LimiterNode.{LimiterNode}
 use Rattle.policy_tree.specs.declared.policy.Policy.{Policy as Named}
-use Rattle.policy_tree.specs.Tree.{Policy, Policies, no_more, one_more, nodes, nodes_in, limits, limits_in}
+use Rattle.policy_tree.specs.Tree.{Policy, leaf, rate_limiting, and_policy, Policies, no_more, one_more, nodes, nodes_in, limits, limits_in}
 use Rattle.policy_tree.specs.Meaning.{meaning, policy_meaning}
 use Rattle.policy_eval.specs.Policies as spec
+use Rattle.policy_eval.specs.Given.{answer_given, each_samples_given, left_by, left_by_parts, nodes_asked, nodes_asked_in_turn, answers_given, nodes_asked_at_top, asked_given, Asked, Evaluates}
+use Rattle.policy_eval.specs.Walks.{Answers}
 use Rattle.otlp_types.specs.declared.arrival.Arrival.{Arrival}
-use Rattle.policy_eval.specs.Meaning.{answer_of, after_asking, is_for, seen_with, knows, GrantsFrom, SameFrom}
+use Rattle.policy_eval.specs.Meaning.{answer_of, is_for, none_seen, seen_with, verdict_of_seen, knows}
 use Rattle.policy_eval.specs.declared.answer.Seen.{Seen}
 use Rattle.policy_eval.specs.declared.answer.Answer.{Answer}
 use Rattle.policy_eval.specs.declared.answer.Answer.TheVariants.{Sample, NotSample}
-use Rattle.policy_eval.proofs.Verdicts.{Tells, tells-more}
+use Rattle.span_ids.specs.declared.outcome.Verdict.{Verdict}
+use Rattle.policy_eval.proofs.Verdicts.{Tells, tells-more, tells-all}
 
 -- the policies from i on are that policy and the others
 pub next_part : (ps : List Named) (i : ℕ) (p : Named) → i < length ps → p ≡ get_or ps i p → meaning (drop i ps) ≡ one_more (policy_meaning p) (meaning (drop (i + 1) ps))
 next_part ps i p h e = ap meaning (drop-cons ps i p h) ∙ ap (λ (q : Named). one_more (policy_meaning q) (meaning (drop (suc i) ps))) (sym e) ∙ ap (λ k. one_more (policy_meaning p) (meaning (drop k ps))) (sym (add-one i))
-
-after-append : {S : Type 0} (after : S → ℕ → ℕ → ℕ → S) (second spans : ℕ) (ms ns : List ℕ) (s : S) → after_asking after second spans (ms ++ ns) s ≡ after_asking after second spans ns (after_asking after second spans ms s)
-after-append after second spans [] ns s = refl
-after-append after second spans (m ∷ ms) ns s = after-append after second spans ms ns (after s m second spans)
 
 pub samples-is : (a : spec.Answer) → is_for (answer_of a) ≡ spec.samples a
 samples-is spec.sample = refl
@@ -56,104 +57,180 @@ knows-first has p rest node h = and-left (knows has (limits p node)) (knows has 
 pub knows-rest : (old new : ℕ → Bool) (p : Policy) (rest : Policies) (node : ℕ) → ((m : ℕ) → new m ≡ old m) → knows old (limits_in (one_more p rest) node) ≡ true → knows new (limits_in rest (node + nodes p)) ≡ true
 knows-rest old new p rest node e h = knows-same old new (limits_in rest (node + nodes p)) e ∙ and-right (knows old (limits p node)) (knows old (limits_in rest (node + nodes p))) (sym (knows-append old (limits p node) (limits_in rest (node + nodes p))) ∙ h)
 
-module _ (S : Type 0) (has : S → ℕ → Bool) (after_ask : S → ℕ → ℕ → ℕ → S) (grants : S → ℕ → ℕ → ℕ → Bool) (second : ℕ) (spans : List Arrival) where
-  -- what the asking of one policy told
-  pub record Part (s t : S) (p : Policy) (next : ℕ) (a : Answer) : Type 0 where
-    pub answer : (granted : ℕ → Bool) → GrantsFrom (grants s) second (length spans) next granted → a ≡ answer_of (spec.answer p next granted spans)
-    pub asks : (granted : ℕ → Bool) → GrantsFrom (grants s) second (length spans) next granted → t ≡ after_asking after_ask second (length spans) (spec.asked p next granted spans) s
-    pub others : SameFrom (grants s) (grants t) (next + nodes p)
-    pub keeps : (m : ℕ) → has t m ≡ has s m
+-- ---- a limiter that is asked
 
-module _ (S : Type 0) (has : S → ℕ → Bool) (after_ask : S → ℕ → ℕ → ℕ → S) (grants : S → ℕ → ℕ → ℕ → Bool) (s0 : S) (policy : Policy) (node second : ℕ) (spans : List Arrival) where
+-- some askings, and then others
+pub asked-append : {S : Type 0} (asks : S → ℕ → ℕ → ℕ → Bool → S → Type 0) (second n : ℕ) (ms ns : List ℕ) (bs cs : List Bool) (s t u : S) → Asked asks second n ms bs s t → Asked asks second n ns cs t u → Asked asks second n (ms ++ ns) (bs ++ cs) s u
+asked-append {S} asks second n [] ns [] cs s t u h k = let P = λ (x : S). Asked asks second n ns cs x u in subst P h k
+asked-append asks second n [] ns (b ∷ bs) cs s t u h k = absurd h
+asked-append asks second n (m ∷ ms) ns [] cs s t u h k = absurd h
+asked-append asks second n (m ∷ ms) ns (b ∷ bs) cs s t u h k = (h.0, h.1, asked-append asks second n ms ns bs cs h.0 t u h.2 k)
+
+-- there is one answer for each asking
+pub asked-lengths : {S : Type 0} (asks : S → ℕ → ℕ → ℕ → Bool → S → Type 0) (second n : ℕ) (ms : List ℕ) (bs : List Bool) (s t : S) → Asked asks second n ms bs s t → length ms ≡ length bs
+asked-lengths asks second n [] [] s t h = refl
+asked-lengths asks second n [] (b ∷ bs) s t h = absurd h
+asked-lengths asks second n (m ∷ ms) [] s t h = absurd h
+asked-lengths asks second n (m ∷ ms) (b ∷ bs) s t h = ap suc (asked-lengths asks second n ms bs h.0 t h.2)
+
+same-eqb : (m n : ℕ) → m ≡ n → (m == n) ≡ true
+same-eqb m n h = grind (arith, nat_tests)
+
+module _ (S : Type 0) (asks : S → ℕ → ℕ → ℕ → Bool → S → Type 0) (second : ℕ) (spans : List Arrival) where
+  -- a policy that asks nothing
+  pub answers-leaf : (s : S) (l : _) (node : ℕ) (a : Answer) → a ≡ answer_of (spec.leaf_answer l spans) → Answers asks (leaf l) node second spans a s s
+  answers-leaf s l node a e = ([], [], record { answers = λ later. e; leaves = λ later. refl; asks = λ later. refl }, refl)
+
+  -- a limiter
+  pub answers-rate : (s t : S) (limit node : ℕ) (b : Bool) (a : Answer) → a ≡ answer_of (spec.plain b) → asks s node second (length spans) b t → Answers asks (rate_limiting limit) node second spans a s t
+  answers-rate s t limit node b a e h = (b ∷ [], node ∷ [], record { answers = λ later. e; leaves = λ later. refl; asks = λ later. refl }, (t, h, refl))
+
+module _ (S : Type 0) (has : S → ℕ → Bool) (asks : S → ℕ → ℕ → ℕ → Bool → S → Type 0) (s0 : S) (policy : Policy) (node second : ℕ) (spans : List Arrival) where
   -- of an `and` the parts `rest` are still to be asked, from number `next` on
   pub record Turn (s : S) (rest : Policies) (next : ℕ) : Type 0 where
     pub counted : next + nodes_in rest ≡ node + nodes policy
     pub within : node + nodes policy ≤ 64
-    pub after : node + 1 ≤ next
     pub known : knows (has s) (limits_in rest next) ≡ true
     pub kept : (m : ℕ) → has s m ≡ has s0 m
-    pub same : SameFrom (grants s0) (grants s) next
-    pub answers : (granted : ℕ → Bool) → GrantsFrom (grants s0) second (length spans) node granted → spec.answer policy node granted spans ≡ spec.plain (spec.each_samples rest next granted spans)
-    pub asks : (granted : ℕ → Bool) → GrantsFrom (grants s0) second (length spans) node granted →
-        after_asking after_ask second (length spans) (spec.asked_in_turn rest next granted spans) s ≡ after_asking after_ask second (length spans) (spec.asked policy node granted spans) s0
+    pub mine : List Bool
+    pub asked : List ℕ
+    pub so_far : Asked asks second (length spans) asked mine s0 s
+    pub answers : (later : List Bool) → answer_given policy (mine ++ later) spans ≡ spec.plain (each_samples_given rest later spans)
+    pub leaves : (later : List Bool) → left_by policy (mine ++ later) spans ≡ left_by_parts rest later spans
+    pub asking : (later : List Bool) → nodes_asked policy node (mine ++ later) spans ≡ asked ++ nodes_asked_in_turn rest next later spans
 
-  grants-now : (s : S) (next : ℕ) (granted : ℕ → Bool) → node + 1 ≤ next → SameFrom (grants s0) (grants s) next → GrantsFrom (grants s0) second (length spans) node granted → GrantsFrom (grants s) second (length spans) next granted
-  grants-now s next granted h e g = λ m k. e m second (length spans) k ∙ g m (omega arith)
-
-  pub turn-more : (s t : S) (p : Policy) (rest : Policies) (next : ℕ) (a : Answer) → Turn s (one_more p rest) next → Part S has after_ask grants second spans s t p next a → is_for a ≡ true → Turn t rest (next + nodes p)
-  turn-more s t p rest next a w part h = record {
-    counted = omega (arith, w.counted);
-    within = w.within;
-    after = omega (arith, w.after);
-    known = knows-rest (has s) (has t) p rest next part.keeps w.known;
-    kept = λ m. part.keeps m ∙ w.kept m;
-    same = λ m k j i. part.others m k j i ∙ w.same m k j (omega arith);
-    answers = λ granted g.
-        let now = grants-now s next granted w.after w.same g in
-        let yes : spec.samples (spec.answer p next granted spans) ≡ true = sym (samples-is (spec.answer p next granted spans)) ∙ ap is_for (sym (part.answer granted now)) ∙ h in
-        w.answers granted g ∙ rw yes;
-    asks = λ granted g.
-        let now = grants-now s next granted w.after w.same g in
-        let yes : spec.samples (spec.answer p next granted spans) ≡ true = sym (samples-is (spec.answer p next granted spans)) ∙ ap is_for (sym (part.answer granted now)) ∙ h in
-        let tail = spec.asked_in_turn rest (next + nodes p) granted spans in
-        let all : spec.asked_in_turn (one_more p rest) next granted spans ≡ spec.asked p next granted spans ++ tail = rw yes in
-        ap (after_asking after_ask second (length spans) tail) (part.asks granted now)
-        ∙ sym (after-append after_ask second (length spans) (spec.asked p next granted spans) tail s)
-        ∙ ap (λ ns. after_asking after_ask second (length spans) ns s) (sym all)
-        ∙ w.asks granted g;
+  -- before the first part
+  pub turn-first : (parts : Policies) → policy ≡ and_policy parts → node + nodes policy ≤ 64 → knows (has s0) (limits policy node) ≡ true → Turn s0 parts (node + 1)
+  turn-first parts e within known = record {
+    counted = let k : nodes policy ≡ nodes_in parts + 1 = ap nodes e in omega (arith, k);
+    within = within;
+    known = let P = λ (p : Policy). knows (has s0) (limits p node) ≡ true in subst P e known;
+    kept = λ m. refl;
+    mine = [];
+    asked = [];
+    so_far = refl;
+    answers = λ later. ap (λ p. answer_given p later spans) e;
+    leaves = λ later. ap (λ p. left_by p later spans) e;
+    asking = λ later. ap (λ p. nodes_asked p node later spans) e;
   }
+
+  pub turn-more : (s t : S) (p : Policy) (rest : Policies) (next : ℕ) (a : Answer) → Turn s (one_more p rest) next → Answers asks p next second spans a s t → ((m : ℕ) → has t m ≡ has s m) → is_for a ≡ true → Turn t rest (next + nodes p)
+  turn-more s t p rest next a w part keeps h =
+      let its = part.2 in
+      let yes : (later : List Bool) → spec.samples (answer_given p (part.0 ++ later) spans) ≡ true = λ later. sym (samples-is (answer_given p (part.0 ++ later) spans)) ∙ sym (ap is_for (its.answers later)) ∙ h in
+      record {
+        counted = omega (arith, w.counted);
+        within = w.within;
+        known = knows-rest (has s) (has t) p rest next keeps w.known;
+        kept = λ m. keeps m ∙ w.kept m;
+        mine = w.mine ++ part.0;
+        asked = w.asked ++ part.1;
+        so_far = asked-append asks second (length spans) w.asked part.1 w.mine part.0 s0 s t w.so_far part.3;
+        answers = λ later. ap (λ bs. answer_given policy bs spans) (append_assoc w.mine part.0 later) ∙ w.answers (part.0 ++ later)
+            ∙ (let e : spec.plain (each_samples_given (one_more p rest) (part.0 ++ later) spans) ≡ spec.plain (each_samples_given rest later spans) = rw (yes later, its.leaves later) in e);
+        leaves = λ later. ap (λ bs. left_by policy bs spans) (append_assoc w.mine part.0 later) ∙ w.leaves (part.0 ++ later)
+            ∙ (let e : left_by_parts (one_more p rest) (part.0 ++ later) spans ≡ left_by_parts rest later spans = rw (yes later, its.leaves later) in e);
+        asking = λ later. ap (λ bs. nodes_asked policy node bs spans) (append_assoc w.mine part.0 later) ∙ w.asking (part.0 ++ later)
+            ∙ (let e : nodes_asked_in_turn (one_more p rest) next (part.0 ++ later) spans ≡ part.1 ++ nodes_asked_in_turn rest (next + nodes p) later spans = rw (yes later, its.leaves later, its.asks later) in
+            ap (λ ns. w.asked ++ ns) e ∙ sym (append_assoc w.asked part.1 (nodes_asked_in_turn rest (next + nodes p) later spans)));
+      }
 
   -- a part that doesn't sample ends the walk
-  pub turn-stop : (s t : S) (p : Policy) (rest : Policies) (next : ℕ) (a : Answer) → Turn s (one_more p rest) next → Part S has after_ask grants second spans s t p next a → is_for a ≡ false → Part S has after_ask grants second spans s0 t policy node NotSample
-  turn-stop s t p rest next a w part h = record {
-    answer = λ granted g.
-        let now = grants-now s next granted w.after w.same g in
-        let no : spec.samples (spec.answer p next granted spans) ≡ false = sym (samples-is (spec.answer p next granted spans)) ∙ ap is_for (sym (part.answer granted now)) ∙ h in
-        let none : spec.plain (spec.each_samples (one_more p rest) next granted spans) ≡ spec.not_sample = rw no in
-        sym (ap answer_of (w.answers granted g ∙ none));
-    asks = λ granted g.
-        let now = grants-now s next granted w.after w.same g in
-        let no : spec.samples (spec.answer p next granted spans) ≡ false = sym (samples-is (spec.answer p next granted spans)) ∙ ap is_for (sym (part.answer granted now)) ∙ h in
-        let all : spec.asked_in_turn (one_more p rest) next granted spans ≡ spec.asked p next granted spans = rw no (append-nil (spec.asked p next granted spans)) in
-        part.asks granted now ∙ ap (λ ns. after_asking after_ask second (length spans) ns s) (sym all) ∙ w.asks granted g;
-    others = λ m k j i. part.others m k j (omega (arith, w.counted)) ∙ w.same m k j (omega (arith, w.counted));
-    keeps = λ m. part.keeps m ∙ w.kept m;
-  }
+  pub turn-stop : (s t : S) (p : Policy) (rest : Policies) (next : ℕ) (a : Answer) → Turn s (one_more p rest) next → Answers asks p next second spans a s t → is_for a ≡ false → Answers asks policy node second spans NotSample s0 t
+  turn-stop s t p rest next a w part h =
+      let its = part.2 in
+      let no : (later : List Bool) → spec.samples (answer_given p (part.0 ++ later) spans) ≡ false = λ later. sym (samples-is (answer_given p (part.0 ++ later) spans)) ∙ sym (ap is_for (its.answers later)) ∙ h in (
+        w.mine ++ part.0,
+        w.asked ++ part.1,
+        record {
+          answers = λ later.
+              let e : spec.plain (each_samples_given (one_more p rest) (part.0 ++ later) spans) ≡ spec.not_sample = rw (no later) in
+              sym (ap answer_of (ap (λ bs. answer_given policy bs spans) (append_assoc w.mine part.0 later) ∙ w.answers (part.0 ++ later) ∙ e));
+          leaves = λ later.
+              let e : left_by_parts (one_more p rest) (part.0 ++ later) spans ≡ later = rw (no later) (its.leaves later) in
+              ap (λ bs. left_by policy bs spans) (append_assoc w.mine part.0 later) ∙ w.leaves (part.0 ++ later) ∙ e;
+          asks = λ later.
+              let e : nodes_asked_in_turn (one_more p rest) next (part.0 ++ later) spans ≡ part.1 = rw (no later) (append-nil (nodes_asked p next (part.0 ++ later) spans) ∙ its.asks later) in
+              ap (λ bs. nodes_asked policy node bs spans) (append_assoc w.mine part.0 later) ∙ w.asking (part.0 ++ later) ∙ ap (λ ns. w.asked ++ ns) e;
+        },
+        asked-append asks second (length spans) w.asked part.1 w.mine part.0 s0 s t w.so_far part.3,
+      )
 
   -- after the last part
-  pub turn-last : (s : S) (next : ℕ) → Turn s no_more next → Part S has after_ask grants second spans s0 s policy node Sample
-  turn-last s next w = record {
-    answer = λ granted g. sym (ap answer_of (w.answers granted g));
-    asks = λ granted g. w.asks granted g;
-    others = λ m k j i. w.same m k j (omega (arith, w.counted));
-    keeps = w.kept;
-  }
+  pub turn-last : (s : S) (next : ℕ) → Turn s no_more next → Answers asks policy node second spans Sample s0 s
+  turn-last s next w = (
+    w.mine,
+    w.asked,
+    record {
+      answers = λ later. sym (ap answer_of (w.answers later));
+      leaves = w.leaves;
+      asks = λ later. w.asking later ∙ append-nil w.asked;
+    },
+    w.so_far,
+  )
 
 -- ---- the top policies
 
-module _ (S : Type 0) (has : S → ℕ → Bool) (after_ask : S → ℕ → ℕ → ℕ → S) (grants : S → ℕ → ℕ → ℕ → Bool) (s0 : S) (all : Policies) (second : ℕ) (spans : List Arrival) where
-  abbrev granted : ℕ → Bool
-  granted = λ node. grants s0 node second (length spans)
-
+module _ (S : Type 0) (has : S → ℕ → Bool) (asks : S → ℕ → ℕ → ℕ → Bool → S → Type 0) (s0 : S) (all : Policies) (second : ℕ) (spans : List Arrival) where
   -- the policies `rest` are still to be asked, from number `next` on
   pub record Top (s : S) (rest : Policies) (next : ℕ) (seen : Seen) : Type 0 where
     pub counted : next + nodes_in rest ≡ nodes_in all
     pub within : nodes_in all ≤ 64
     pub known : knows (has s) (limits_in rest next) ≡ true
-    pub same : SameFrom (grants s0) (grants s) next
-    pub tells : Tells seen (spec.answers rest next granted spans) (spec.answers all 0 granted spans)
-    pub asks : after_asking after_ask second (length spans) (spec.asked_at_top rest next granted spans) s ≡ after_asking after_ask second (length spans) (spec.asked_at_top all 0 granted spans) s0
+    pub kept : (m : ℕ) → has s m ≡ has s0 m
+    pub mine : List Bool
+    pub asked : List ℕ
+    pub so_far : Asked asks second (length spans) asked mine s0 s
+    pub tells : (later : List Bool) → Tells seen (answers_given rest later spans) (answers_given all (mine ++ later) spans)
+    pub asking : (later : List Bool) → nodes_asked_at_top all 0 (mine ++ later) spans ≡ asked ++ nodes_asked_at_top rest next later spans
 
-  pub top-more : (s t : S) (p : Policy) (rest : Policies) (next : ℕ) (seen : Seen) (a : Answer) → Top s (one_more p rest) next seen → Part S has after_ask grants second spans s t p next a → Top t rest (next + nodes p) (seen_with a seen)
-  top-more s t p rest next seen a w part =
-      let now : GrantsFrom (grants s) second (length spans) next granted = λ m k. w.same m second (length spans) k in
-      let P = λ (x : Answer). Tells (seen_with x seen) (spec.answers rest (next + nodes p) granted spans) (spec.answers all 0 granted spans) in
+  -- before the first policy
+  pub top-first : nodes_in all ≤ 64 → knows (has s0) (limits_in all 0) ≡ true → Top s0 all 0 none_seen
+  top-first within known = record {
+    counted = omega arith;
+    within = within;
+    known = known;
+    kept = λ m. refl;
+    mine = [];
+    asked = [];
+    so_far = refl;
+    tells = λ later. record { sample = refl; not_sample = refl; inverted_sample = refl; inverted_not_sample = refl };
+    asking = λ later. refl;
+  }
+
+  pub top-more : (s t : S) (p : Policy) (rest : Policies) (next : ℕ) (seen : Seen) (a : Answer) → Top s (one_more p rest) next seen → Answers asks p next second spans a s t → ((m : ℕ) → has t m ≡ has s m) → Top t rest (next + nodes p) (seen_with a seen)
+  top-more s t p rest next seen a w part keeps =
+      let its = part.2 in
       record {
         counted = omega (arith, w.counted);
         within = w.within;
-        known = knows-rest (has s) (has t) p rest next part.keeps w.known;
-        same = λ m k j i. part.others m k j i ∙ w.same m k j (omega arith);
-        tells = subst P (sym (part.answer granted now)) (tells-more seen (spec.answer p next granted spans) (spec.answers rest (next + nodes p) granted spans) (spec.answers all 0 granted spans) w.tells);
-        asks = ap (after_asking after_ask second (length spans) (spec.asked_at_top rest (next + nodes p) granted spans)) (part.asks granted now)
-            ∙ sym (after-append after_ask second (length spans) (spec.asked p next granted spans) (spec.asked_at_top rest (next + nodes p) granted spans) s) ∙ w.asks;
+        known = knows-rest (has s) (has t) p rest next keeps w.known;
+        kept = λ m. keeps m ∙ w.kept m;
+        mine = w.mine ++ part.0;
+        asked = w.asked ++ part.1;
+        so_far = asked-append asks second (length spans) w.asked part.1 w.mine part.0 s0 s t w.so_far part.3;
+        tells = λ later.
+            let first = answer_given p (part.0 ++ later) spans in
+            let told : Tells (seen_with (answer_of first) seen) (answers_given rest (left_by p (part.0 ++ later) spans) spans) (answers_given all (w.mine ++ (part.0 ++ later)) spans)
+            = tells-more seen first (answers_given rest (left_by p (part.0 ++ later) spans) spans) (answers_given all (w.mine ++ (part.0 ++ later)) spans) (w.tells (part.0 ++ later)) in
+            let P = λ (bs : List Bool). Tells (seen_with (answer_of first) seen) (answers_given rest bs spans) (answers_given all (w.mine ++ (part.0 ++ later)) spans) in
+            let Q = λ (bs : List Bool). Tells (seen_with (answer_of first) seen) (answers_given rest later spans) (answers_given all bs spans) in
+            let R = λ (x : Answer). Tells (seen_with x seen) (answers_given rest later spans) (answers_given all ((w.mine ++ part.0) ++ later) spans) in
+            subst R (sym (its.answers later)) (subst Q (sym (append_assoc w.mine part.0 later)) (subst P (its.leaves later) told));
+        asking = λ later. ap (λ bs. nodes_asked_at_top all 0 bs spans) (append_assoc w.mine part.0 later) ∙ w.asking (part.0 ++ later)
+            ∙ (let e : nodes_asked_at_top (one_more p rest) next (part.0 ++ later) spans ≡ part.1 ++ nodes_asked_at_top rest (next + nodes p) later spans = rw (its.leaves later, its.asks later) in
+            ap (λ ns. w.asked ++ ns) e ∙ sym (append_assoc w.asked part.1 (nodes_asked_at_top rest (next + nodes p) later spans)));
       }
+
+  -- after the last policy
+  pub top-last : (s : S) (next : ℕ) (seen : Seen) (verdict : Verdict) → Top s no_more next seen → verdict ≡ verdict_of_seen seen → Evaluates asks all second spans verdict s0 s
+  top-last s next seen verdict w e =
+      let full : w.mine ++ [] ≡ w.mine = append-nil w.mine in
+      let asked : asked_given all w.mine spans ≡ w.asked = ap (λ bs. nodes_asked_at_top all 0 bs spans) (sym full) ∙ w.asking [] ∙ append-nil w.asked in
+      let P = λ (bs : List Bool). verdict_of_seen seen ≡ spec.verdict_of_answers (answers_given all bs spans) in
+      let Q = λ (ns : List ℕ). Asked asks second (length spans) ns w.mine s0 s in (
+        w.mine,
+        e ∙ subst P full (tells-all seen (answers_given all (w.mine ++ []) spans) (w.tells [])),
+        same-eqb (length (asked_given all w.mine spans)) (length w.mine) (ap length asked ∙ asked-lengths asks second (length spans) w.asked w.mine s0 s w.so_far),
+        subst Q (sym asked) w.so_far,
+      )

@@ -1,54 +1,19 @@
 -- The counts of a limiter after a decision are those of the askings of all decisions.
-use Rattle.std.proofs.Common.{◌≡◌, ℕ, ◌+◌, ◌<◌, ◌≤◌, ◌==◌, Bool, true, false, ◌&&◌, ◌||◌, cond, List, [], ◌∷◌, ◌++◌, map, reverse, length, refl, sym, ap, subst, ◌∙◌, arith, append_assoc}
+use Rattle.std.proofs.Common.{◌≡◌, ℕ, ◌+◌, ◌<◌, ◌≤◌, ◌==◌, Bool, true, false, ◌&&◌, ◌||◌, List, [], ◌∷◌, ◌++◌, map, reverse, length, refl, sym, ap, subst, ◌∙◌, arith, append_assoc}
 use Rattle.std.proofs.lemmas.Bool.Decides.{nat_tests}
 use Rattle.std.proofs.lemmas.List.{reverse-append}
-use mathlib.Core.Path.{fun_ext}
 use Rattle.policy_tree.specs.declared.limiter_node.LimiterNode.{LimiterNode}
-use Rattle.policy_tree.specs.Tree.{Policy, leaf, rate_limiting, and_policy, Policies, no_more, one_more, nodes, nodes_in, limiters}
+use Rattle.policy_tree.specs.Tree.{Policies, nodes_in, limiters}
 use Rattle.rate_budget.specs.Grant.{Asking, granted_after}
-use Rattle.rate_budget.specs.Budget.{limiter_counts, limiter_of, has_node, grants_at, after}
-use Rattle.rate_budget.specs.Rising.{Rises, rises-lower, rises-upper, rises-append}
+use Rattle.rate_budget.specs.Budget.{limiter_counts, limiter_of, has_node, grants_at, after, AsksBudgets}
+use Rattle.rate_budget.specs.Rising.{Rises}
 use Rattle.rate_budget.specs.BudgetLaws.{counts-grant, counts-after, limits-law}
 use Rattle.rate_budget.specs.declared.count.LimiterCount.{LimiterCount}
 use Rattle.otlp_types.specs.declared.arrival.Arrival.{Arrival}
-use Rattle.policy_eval.specs.Policies.{samples, answer, asked, asked_in_turn, asked_at_top, asked_nodes, verdict}
-use Rattle.policy_eval.specs.Meaning.{after_asking, knows}
-
--- ---- a decision asks each node at most once
-
--- none, or these
-rises-if : (b : Bool) (a c : ℕ) (ns : List ℕ) → a ≤ c → Rises a c ns → Rises a c (cond b ns [])
-rises-if true a c ns h r = r
-rises-if false a c ns h r = h
-
-mutual
-  -- the nodes that a policy asks rise
-  asked-rise : (p : Policy) (node : ℕ) (granted : ℕ → Bool) (spans : List Arrival) → Rises node (node + nodes p) (asked p node granted spans)
-  asked-rise (leaf l) node granted spans = omega arith
-  asked-rise (rate_limiting limit) node granted spans = (omega arith, omega arith)
-  asked-rise (and_policy parts) node granted spans =
-      let up = asked_in_turn-rise parts (node + 1) granted spans in
-      let ns = asked_in_turn parts (node + 1) granted spans in
-      let low = rises-lower node (node + 1) (node + 1 + nodes_in parts) ns (omega arith) up in
-      rises-upper node (node + 1 + nodes_in parts) (node + (nodes_in parts + 1)) ns (omega arith) low
-
-  -- and so do those that the parts of an `and` ask
-  asked_in_turn-rise : (ps : Policies) (node : ℕ) (granted : ℕ → Bool) (spans : List Arrival) → Rises node (node + nodes_in ps) (asked_in_turn ps node granted spans)
-  asked_in_turn-rise no_more node granted spans = omega arith
-  asked_in_turn-rise (one_more p rest) node granted spans =
-      let ns = asked_in_turn rest (node + nodes p) granted spans in
-      let b = samples (answer p node granted spans) in
-      let others = rises-if b (node + nodes p) (node + nodes p + nodes_in rest) ns (omega arith) (asked_in_turn-rise rest (node + nodes p) granted spans) in
-      let all = rises-append node (node + nodes p) (node + nodes p + nodes_in rest) (asked p node granted spans) (cond b ns []) (asked-rise p node granted spans) others in
-      rises-upper node (node + nodes p + nodes_in rest) (node + (nodes p + nodes_in rest)) (asked p node granted spans ++ cond b ns []) (omega arith) all
-
--- and so do those that the top policies ask
-pub asked_at_top-rise : (ps : Policies) (node : ℕ) (granted : ℕ → Bool) (spans : List Arrival) → Rises node (node + nodes_in ps) (asked_at_top ps node granted spans)
-asked_at_top-rise no_more node granted spans = omega arith
-asked_at_top-rise (one_more p rest) node granted spans =
-    let ns = asked_at_top rest (node + nodes p) granted spans in
-    let all = rises-append node (node + nodes p) (node + nodes p + nodes_in rest) (asked p node granted spans) ns (asked-rise p node granted spans) (asked_at_top-rise rest (node + nodes p) granted spans) in
-    rises-upper node (node + nodes p + nodes_in rest) (node + (nodes p + nodes_in rest)) (asked p node granted spans ++ ns) (omega arith) all
+use Rattle.policy_eval.specs.Policies.{verdict, asked_nodes}
+use Rattle.policy_eval.specs.Given.{verdict_given, asked_given, Asked}
+use Rattle.policy_eval.specs.GivenLaws.{top-rise, decides-as}
+use Rattle.policy_eval.specs.Meaning.{knows}
 
 -- ---- the counts
 
@@ -68,39 +33,37 @@ eqb-less a b h = grind (arith, nat_tests)
 granted-other : (policies : Policies) (a : Asking) (earlier : List Asking) (second spans node : ℕ) → (a.node == node) ≡ false → granted_after policies earlier second spans node ≡ granted_after policies (a ∷ earlier) second spans node
 granted-other policies a earlier second spans node h = rw h
 
--- nodes that rise, asked in turn, are granted what they were before the first asking
-asked-in-turn-counts : (policies : Policies) (earlier : List Asking) (second spans first behind : ℕ) (granted : ℕ → Bool) (ms : List ℕ) → Rises first behind ms →
-    ((m : ℕ) → first ≤ m → granted m ≡ granted_after policies earlier second spans m) →
-    after_asking after second spans ms (limiter_counts policies earlier) ≡ limiter_counts policies (reverse (askings_by granted second spans ms) ++ earlier)
-asked-in-turn-counts policies earlier second spans first behind granted [] r h = refl
-asked-in-turn-counts policies earlier second spans first behind granted (m ∷ ms) r h =
+-- nodes that rise, asked in turn, are answered as the askings before the first say, and leave the counts of all askings
+asked-in-turn : (policies : Policies) (earlier : List Asking) (second spans first behind : ℕ) (granted : ℕ → Bool) (ms : List ℕ) (bs : List Bool) (old new : List LimiterCount) → Rises first behind ms →
+    ((m : ℕ) → first ≤ m → granted m ≡ granted_after policies earlier second spans m) → old ≡ limiter_counts policies earlier → Asked AsksBudgets second spans ms bs old new →
+    (bs ≡ map granted ms) × (new ≡ limiter_counts policies (reverse (askings_by granted second spans ms) ++ earlier))
+asked-in-turn policies earlier second spans first behind granted [] [] old new r h e k = (refl, k ∙ e)
+asked-in-turn policies earlier second spans first behind granted [] (b ∷ bs) old new r h e k = absurd k
+asked-in-turn policies earlier second spans first behind granted (m ∷ ms) [] old new r h e k = absurd k
+asked-in-turn policies earlier second spans first behind granted (m ∷ ms) (b ∷ bs) old new r h e k =
     let a : Asking = record { node = m; second = second; spans = spans; granted = granted m } in
-    let step = counts-after policies a earlier (h m r.0) in
-    let others = asked-in-turn-counts policies (a ∷ earlier) second spans (m + 1) behind granted ms r.1
-    (λ k l. h k (omega (arith, r.0, l)) ∙ granted-other policies a earlier second spans k (eqb-less m k (omega (arith, l)))) in
-    ap (after_asking after second spans ms) step ∙ others ∙ ap (limiter_counts policies) (reverse-first a (askings_by granted second spans ms) earlier)
+    let answer : b ≡ granted m = k.1.0 ∙ ap (λ (cs : List LimiterCount). grants_at cs m second spans) e ∙ counts-grant policies earlier m second spans ∙ sym (h m r.0) in
+    let next : k.0 ≡ limiter_counts policies (a ∷ earlier) = k.1.1 ∙ ap (λ (cs : List LimiterCount). after cs m second spans) e ∙ counts-after policies a earlier (h m r.0) in
+    let others = asked-in-turn policies (a ∷ earlier) second spans (m + 1) behind granted ms bs k.0 new r.1
+    (λ n l. h n (omega (arith, r.0, l)) ∙ granted-other policies a earlier second spans n (eqb-less m n (omega (arith, l)))) next k.2 in
+    (let x = others.0 in cc, others.1 ∙ ap (limiter_counts policies) (reverse-first a (askings_by granted second spans ms) earlier))
 
--- counts that are those of the askings so far give the verdict that these askings give, and are then those of the decision's askings, too
-abbrev pub DecidesByCounts : Policies → List Asking → (second : ℕ) → List Arrival → List LimiterCount → Type 0
-DecidesByCounts policies earlier second spans counts =
-    let now : ℕ → Bool = λ node. grants_at counts node second (length spans) in
-    let granted : ℕ → Bool = granted_after policies earlier second (length spans) in
-    (verdict policies now spans ≡ verdict policies granted spans)
-    × (after_asking after second (length spans) (asked_nodes policies now spans) counts ≡ limiter_counts policies (reverse (askings_by granted second (length spans) (asked_nodes policies granted spans)) ++ earlier))
+-- the decision is that of the policies where the limiter answers as the askings so far say, and the counts are then those of the decision's askings, too
+pub record DecidesByCounts (policies : Policies) (earlier : List Asking) (second : ℕ) (spans : List Arrival) (answers : List Bool) (new : List LimiterCount) : Type 0 where
+  pub answers_are : answers ≡ map (granted_after policies earlier second (length spans)) (asked_given policies answers spans)
+  pub asked_are : asked_given policies answers spans ≡ asked_nodes policies (granted_after policies earlier second (length spans)) spans
+  pub verdict_is : verdict_given policies answers spans ≡ verdict policies (granted_after policies earlier second (length spans)) spans
+  pub counts_are : new ≡ limiter_counts policies (reverse (askings_by (granted_after policies earlier second (length spans)) second (length spans) (asked_given policies answers spans)) ++ earlier)
 
 -- counts decide as the askings do that they stand for
-pub decides_by_counts : (policies : Policies) (earlier : List Asking) (second : ℕ) (spans : List Arrival) (counts : List LimiterCount) → counts ≡ limiter_counts policies earlier → DecidesByCounts policies earlier second spans counts
-decides_by_counts policies earlier second spans counts e =
-    let n = length spans in
-    let now : ℕ → Bool = λ node. grants_at counts node second n in
-    let granted : ℕ → Bool = granted_after policies earlier second n in
-    let same : now ≡ granted = fun_ext (λ node. ap (λ (cs : List LimiterCount). grants_at cs node second n) e ∙ counts-grant policies earlier node second n) in
-    let ms = asked_nodes policies granted spans in (
-      ap (λ (g : ℕ → Bool). verdict policies g spans) same,
-      ap (λ (g : ℕ → Bool). after_asking after second n (asked_nodes policies g spans) counts) same
-          ∙ ap (after_asking after second n ms) e
-          ∙ asked-in-turn-counts policies earlier second n 0 (0 + nodes_in policies) granted ms (asked_at_top-rise policies 0 granted spans) (λ m h. refl),
-    )
+pub decides_by_counts : (policies : Policies) (earlier : List Asking) (second : ℕ) (spans : List Arrival) (answers : List Bool) (old new : List LimiterCount) → old ≡ limiter_counts policies earlier →
+    Asked AsksBudgets second (length spans) (asked_given policies answers spans) answers old new → DecidesByCounts policies earlier second spans answers new
+decides_by_counts policies earlier second spans answers old new e h =
+    let granted = granted_after policies earlier second (length spans) in
+    let ms = asked_given policies answers spans in
+    let k = asked-in-turn policies earlier second (length spans) 0 (0 + nodes_in policies) granted ms answers old new (top-rise policies 0 answers spans) (λ m l. refl) e h in
+    let d = decides-as policies granted answers spans k.0 in
+    record { answers_are = k.0; asked_are = d.1; verdict_is = d.0; counts_are = k.1 }
 
 -- ---- the nodes
 
@@ -127,6 +90,9 @@ pub counts_know : (policies : Policies) (counts : List LimiterCount) → map lim
 counts_know policies counts e = let P = λ (ls : List LimiterNode). knows (has_node counts) ls ≡ true in subst P e (knows-own counts)
 
 -- and stay so
-pub counts_stay : (counts : List LimiterCount) (second spans : ℕ) (ms : List ℕ) → map limiter_of (after_asking after second spans ms counts) ≡ map limiter_of counts
-counts_stay counts second spans [] = refl
-counts_stay counts second spans (m ∷ ms) = counts_stay (after counts m second spans) second spans ms ∙ limits-law counts m second spans
+pub counts_stay : (second spans : ℕ) (ms : List ℕ) (bs : List Bool) (old new : List LimiterCount) → Asked AsksBudgets second spans ms bs old new → map limiter_of new ≡ map limiter_of old
+counts_stay second spans [] [] old new h = ap (map limiter_of) h
+counts_stay second spans [] (b ∷ bs) old new h = absurd h
+counts_stay second spans (m ∷ ms) [] old new h = absurd h
+counts_stay second spans (m ∷ ms) (b ∷ bs) old new h =
+    counts_stay second spans ms bs h.0 new h.2 ∙ ap (map limiter_of) h.1.1 ∙ limits-law old m second spans

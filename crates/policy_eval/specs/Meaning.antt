@@ -1,5 +1,5 @@
--- The program's answers, and the askings of a limiter.
-use Rattle.std.specs.Prelude.{ℕ, ◌≤◌, ◌≡◌, Bool, true, false, not, ◌&&◌, if◌then◌else◌, List, [], ◌∷◌}
+-- The program's answers, and the nodes that a limiter knows.
+use Rattle.std.specs.Prelude.{ℕ, Bool, true, false, not, ◌&&◌, if◌then◌else◌, List}
 use Rattle.std.specs.List.{list_all}
 use Rattle.policy_eval.specs.Policies as spec
 use Rattle.policy_tree.specs.declared.limiter_node.LimiterNode.{LimiterNode}
@@ -23,6 +23,10 @@ is_for InvertedSample = true
 is_for NotSample = false
 is_for InvertedNotSample = false
 
+-- no answer was given
+abbrev pub none_seen : Seen
+none_seen = record { sample = false; not_sample = false; inverted_sample = false; inverted_not_sample = false }
+
 -- which answers were given, with one more
 abbrev pub seen_with : Answer → Seen → Seen
 seen_with Sample s = record s { sample = true }
@@ -38,21 +42,8 @@ verdict_of_seen s =
     else if s.inverted_sample && not s.not_sample then Sampled
     else NotSampled
 
--- ---- a limiter, by what it grants at a node in a second for a number of spans
+-- ---- the limiter nodes
 
--- the limiter after these nodes were asked in turn
-abbrev pub after_asking : {S : Type 0} → (after : S → ℕ → ℕ → ℕ → S) → (second spans : ℕ) → List ℕ → S → S
-after_asking after second spans [] s = s
-after_asking after second spans (n ∷ rest) s = after_asking after second spans rest (after s n second spans)
-
--- it knows each of these limiter nodes
+-- a limiter of these nodes knows each of these limiter nodes
 abbrev pub knows : (has_node : ℕ → Bool) → List LimiterNode → Bool
 knows has_node nodes = list_all (λ (l : LimiterNode). has_node l.node) nodes
-
--- at the nodes from `node` on it grants so
-abbrev pub GrantsFrom : (grants_at : ℕ → ℕ → ℕ → Bool) → (second spans node : ℕ) → (granted : ℕ → Bool) → Type 0
-GrantsFrom grants_at second spans node granted = (m : ℕ) → node ≤ m → grants_at m second spans ≡ granted m
-
--- at the nodes from `node` on nothing changed
-abbrev pub SameFrom : (old new : ℕ → ℕ → ℕ → Bool) → (node : ℕ) → Type 0
-SameFrom old new node = (m s k : ℕ) → node ≤ m → new m s k ≡ old m s k

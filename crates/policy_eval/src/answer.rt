@@ -1,6 +1,6 @@
 ghost use Rattle.std.specs.Prelude.{◌≡◌, if◌then◌else◌};
 ghost use Rattle.policy_eval.specs.Policies.{plain, inverted};
-ghost use Rattle.policy_eval.specs.Meaning.{answer_of, is_for, seen_with, verdict_of_seen};
+ghost use Rattle.policy_eval.specs.Meaning.{answer_of, is_for, none_seen, seen_with, verdict_of_seen};
 
 use span_ids::Verdict;
 
@@ -61,6 +61,18 @@ pub struct Seen {
 }
 
 impl Seen {
+    /// No answer.
+    pub fn none() -> Seen
+        ensures { result ≡ none_seen }
+    {
+        Seen {
+            sample: false,
+            not_sample: false,
+            inverted_sample: false,
+            inverted_not_sample: false,
+        }
+    }
+
     /// These answers, and one more.
     pub fn with(self, answer: Answer) -> Seen
         ensures { result ≡ seen_with answer self }

@@ -10,7 +10,11 @@ pub fn matches(key: &str, wanted: &Wanted, spans: &[Arrival]) -> bool
     ensures { result ≡ matches key.now (wanted_of wanted.now) spans.now }
 {
     spans.iter().any(|arrival| has_wanted(key, wanted, arrival.rec.span.attributes.as_slice())
-        || has_wanted(key, wanted, arrival.rec.resource.attributes.as_slice()))
+        || has_wanted(
+            key,
+            wanted,
+            arrival.rec.resource.get().attributes.as_slice(),
+        ))
 }
 
 fn has_wanted(key: &str, wanted: &Wanted, attributes: &[KeyValue]) -> bool

@@ -1,7 +1,7 @@
-ghost use Rattle.policy_eval.specs.Laws.{AskedNodesRise, DecisionsKeepTheCounts};
+ghost use Rattle.policy_eval.specs.Laws.{AnswersByTheNode, AnswersAreByTheNode, AskedNodesRise, DecisionsKeepTheCounts};
 
-/// A `Budgets` that stands for the askings of some decisions gives the next one the verdict that these askings give, and
-/// then stands for the askings of that decision, too.
+/// A `Budgets` that stands for the askings of some decisions gives the next one the answers, and so the verdict, that these
+/// askings give, and then stands for the askings of that decision, too.
 pub fn decisions_keep_the_counts()
     ensures { DecisionsKeepTheCounts }
 {}
@@ -9,4 +9,10 @@ pub fn decisions_keep_the_counts()
 /// A decision asks limiter nodes in the order of their numbers, each at most once.
 pub fn asked_nodes_rise()
     ensures { AskedNodesRise }
+{}
+
+/// To give the askings a list of answers is to give each node an answer: either way the policies decide alike.
+pub fn answers_are_by_the_node()
+    ensures given { AnswersByTheNode }
+    ensures back { AnswersAreByTheNode }
 {}

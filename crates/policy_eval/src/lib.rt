@@ -5,10 +5,13 @@
 #![tactic(auto)]
 
 mod answer;
+mod answer_list;
 mod attribute;
 mod latency;
 mod laws;
+mod leaf;
 mod verdict;
 
-pub use laws::{asked_nodes_rise, decisions_keep_the_counts};
+pub use answer_list::{judge, verdict_given};
+pub use laws::{answers_are_by_the_node, asked_nodes_rise, decisions_keep_the_counts};
 pub use verdict::evaluate;

@@ -1,12 +1,12 @@
-ghost use Rattle.std.specs.Prelude.{◌≡◌, ℕ, ◌+◌, ◌/◌, ◌≤◌, Bool, true, length};
+ghost use Rattle.std.specs.Prelude.{◌≡◌, ℕ, ◌+◌, ◌/◌, ◌<◌, ◌≤◌, Bool, true, length};
 ghost use Rattle.policy_tree.specs.Tree.{nodes, limits, limiters};
 ghost use Rattle.policy_tree.specs.Meaning.{meaning, policy_meaning};
-ghost use Rattle.policy_eval.specs.Policies.{verdict, asked_nodes, answer as answer_of_policy, asked, has_status};
-ghost use Rattle.policy_eval.specs.Meaning.{answer_of, after_asking, knows, GrantsFrom, SameFrom};
+ghost use Rattle.policy_eval.specs.Meaning.{knows};
+ghost use Rattle.policy_eval.specs.Given.{Evaluates};
+ghost use Rattle.policy_eval.specs.Walks.{Answers};
 
 use crate::answer::{Answer, Seen};
-use crate::attribute::matches;
-use crate::latency::{is_slow, is_within};
+use crate::leaf::leaf_answer;
 use otlp_types::Arrival;
 use policy_tree::{Policies, Policy, PolicyKind};
 use rate_budget::Limiter;
@@ -22,18 +22,14 @@ pub fn evaluate<L: Limiter>(
     now: Moment,
     limiter: &mut L,
 ) -> Verdict
-    requires { knows (L.has_node limiter.old) (limiters (meaning policies.now)) ≡ true }
-    ensures verdict { result ≡ verdict (meaning policies.now) (λ node. L.grants_at limiter.old node (now / 1000) (length spans.now)) spans.now }
-    ensures asks { limiter.new ≡ after_asking L.after (now / 1000) (length spans.now) (asked_nodes (meaning policies.now) (λ node. L.grants_at limiter.old node (now / 1000) (length spans.now)) spans.now) limiter.old }
+    requires nodes { knows (L.has_node limiter.old) (limiters (meaning policies.now)) ≡ true }
+    requires spans { 0 < length spans.now }
+    ensures evaluates { Evaluates L.asks (meaning policies.now) (now / 1000) spans.now result limiter.old limiter.new }
+    ensures keeps { (m : ℕ) → L.has_node limiter.new m ≡ L.has_node limiter.old m }
 {
     let second = now / 1000;
     let mut next = 0;
-    let mut seen = Seen {
-        sample: false,
-        not_sample: false,
-        inverted_sample: false,
-        inverted_not_sample: false,
-    };
+    let mut seen = Seen::none();
     for policy in policies.as_slice() {
         let given = answer(policy, next, spans, second, limiter);
         seen = seen.with(given);
@@ -52,27 +48,11 @@ fn answer<L: Limiter>(
 ) -> Answer
     requires numbers { node + nodes (policy_meaning policy.now) ≤ 64 }
     requires known { knows (L.has_node limiter.old) (limits (policy_meaning policy.now) node) ≡ true }
-    ensures answer { (granted : ℕ → Bool) → GrantsFrom (L.grants_at limiter.old) second (length spans.now) node granted → result ≡ answer_of (answer_of_policy (policy_meaning policy.now) node granted spans.now) }
-    ensures asks { (granted : ℕ → Bool) → GrantsFrom (L.grants_at limiter.old) second (length spans.now) node granted → limiter.new ≡ after_asking L.after second (length spans.now) (asked (policy_meaning policy.now) node granted spans.now) limiter.old }
-    ensures others { SameFrom (L.grants_at limiter.old) (L.grants_at limiter.new) (node + nodes (policy_meaning policy.now)) }
+    requires spans { 0 < length spans.now }
+    ensures answers { Answers L.asks (policy_meaning policy.now) node second spans.now result limiter.old limiter.new }
     ensures keeps { (m : ℕ) → L.has_node limiter.new m ≡ L.has_node limiter.old m }
 {
     match &policy.kind {
-        PolicyKind::AlwaysSample => Answer::Sample,
-        PolicyKind::Latency {
-            threshold_ms,
-            upper_threshold_ms,
-        } => Answer::plain(is_slow(*threshold_ms, *upper_threshold_ms, spans)),
-        PolicyKind::StatusCode { codes } => Answer::plain(has_status(codes.as_slice(), spans)),
-        PolicyKind::Attribute {
-            key,
-            wanted,
-            invert_match,
-        } => Answer::of_match(matches(key.as_str(), wanted, spans), *invert_match),
-        PolicyKind::SpanCount {
-            min_spans,
-            max_spans,
-        } => Answer::plain(is_within(*min_spans, *max_spans, spans.len() as u64)),
         PolicyKind::RateLimiting { .. } => Answer::plain(limiter.ask(
             node,
             second,
@@ -89,13 +69,10 @@ fn answer<L: Limiter>(
             }
             Answer::Sample
         }
+        PolicyKind::AlwaysSample
+        | PolicyKind::Latency { .. }
+        | PolicyKind::StatusCode { .. }
+        | PolicyKind::Attribute { .. }
+        | PolicyKind::SpanCount { .. } => leaf_answer(&policy.kind, spans),
     }
-}
-
-fn has_status(codes: &[i32], spans: &[Arrival]) -> bool
-    ensures { result ≡ has_status codes.now spans.now }
-{
-    spans
-        .iter()
-        .any(|arrival| codes.contains(&arrival.rec.span.status.code))
 }

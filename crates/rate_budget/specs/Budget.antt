@@ -57,3 +57,11 @@ abbrev pub StandsAfter : Policies → List Asking → (node second n : ℕ) → 
 StandsAfter policies askings node second n answer new =
     let asking : Asking = record { node = node; second = second; spans = n; granted = answer } in
     (answer ≡ granted_after policies askings second n node) × (new ≡ limiter_counts policies (asking ∷ askings))
+
+-- what an asking makes of the counts: its answer, and they afterwards, are functions of what they stand for
+abbrev pub AsksBudgets : (old : List LimiterCount) → (node second n : ℕ) → (answer : Bool) → (new : List LimiterCount) → Type 0
+AsksBudgets old node second n answer new = (answer ≡ grants_at old node second n) × (new ≡ after old node second n)
+
+-- an asking changes no answer at another node
+abbrev pub OthersStay : Type 0
+OthersStay = (counts : List LimiterCount) (node second n m k j : ℕ) → (node == m) ≡ false → grants_at (after counts node second n) m k j ≡ grants_at counts m k j

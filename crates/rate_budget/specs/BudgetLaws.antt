@@ -6,7 +6,7 @@ use Rattle.policy_tree.specs.Tree.{Policies, nodes_in, limiters}
 use Rattle.rate_budget.specs.Grant.{Asking, latest_second, granted_in, grants, askings_of, granted_among, granted_after}
 use Rattle.rate_budget.specs.Rising.{Rises, rises-lower, numbers, limits_in-rise}
 use Rattle.rate_budget.specs.declared.count.LimiterCount.{LimiterCount}
-use Rattle.rate_budget.specs.Budget.{count_of, limiter_count, limiter_counts, spent_in, grants_of, asked_count, limiter_of, has_node, grants_at, after}
+use Rattle.rate_budget.specs.Budget.{count_of, limiter_count, limiter_counts, spent_in, grants_of, asked_count, limiter_of, has_node, grants_at, after, AsksBudgets}
 
 -- ---- one count
 
@@ -90,6 +90,10 @@ keeps-law (c ∷ cs) node second n m = (elim (c.node == node) as (λ b. has_node
   | true ↦ refl
   | false ↦ ap (λ b. (c.node == m) || b) (keeps-law cs node second n m)
 ])
+
+-- and so does one with an answer
+pub budgets-keep : (old new : List LimiterCount) (node second n : ℕ) (answer : Bool) (m : ℕ) → AsksBudgets old node second n answer new → has_node new m ≡ has_node old m
+budgets-keep old new node second n answer m h = ap (λ (cs : List LimiterCount). has_node cs m) h.1 ∙ keeps-law old node second n m
 
 -- an asking leaves each node with its limit
 pub limits-law : (cs : List LimiterCount) (node second n : ℕ) → map limiter_of (after cs node second n) ≡ map limiter_of cs

@@ -2,7 +2,7 @@ ghost use Rattle.std.specs.Prelude.{◌≡◌, ℕ, ◌+◌, ◌==◌, Bool, tru
 ghost use Rattle.policy_tree.specs.Tree.{Policies as tree_of};
 ghost use Rattle.policy_tree.specs.Meaning.{meaning};
 ghost use Rattle.rate_budget.specs.Grant.{Asking};
-ghost use Rattle.rate_budget.specs.Budget.{limiter_counts, has_node as has_node_in, grants_at as grants_by, after as after_by, StandsAfter};
+ghost use Rattle.rate_budget.specs.Budget.{limiter_counts, has_node as has_node_in, grants_at as grants_by, after as after_by, AsksBudgets, StandsAfter};
 
 use crate::count::LimiterCount;
 use crate::limiter::Limiter;
@@ -74,25 +74,21 @@ fn ask_in(counts: &mut [LimiterCount], node: u16, second: u64, n: u64) -> bool
 }
 
 impl Limiter for Budgets {
-    ghost use Rattle.rate_budget.specs.BudgetLaws.{others-law, keeps-law};
+    ghost use Rattle.rate_budget.specs.BudgetLaws.{budgets-keep};
 
     ghost has_node = { has_node_in };
 
-    ghost grants_at = { grants_by };
+    ghost asks = { AsksBudgets };
 
-    ghost after = { after_by };
-
-    /// Whether `n` spans in this second are granted to the node. It takes no memory.
-    fn ask(&mut self, node: u16, second: u64, n: u64) -> bool
-        requires { has_node_in self.old node ≡ true }
-        ensures answer { result ≡ grants_by self.old node second n }
-        ensures after { self.new ≡ after_by self.old node second n }
-        ensures stands { (policies : tree_of) (askings : List Asking) → self.old ≡ limiter_counts policies askings → StandsAfter policies askings node second n result self.new }
+    /// Whether so many spans in this second are granted to the node. It takes no memory.
+    fn ask(&mut self, node: u16, second: u64, spans: u64) -> bool
+        requires node { has_node_in self.old node ≡ true }
+        requires spans { 0 < spans }
+        ensures asked { AsksBudgets self.old node second spans result self.new }
+        ensures stands { (policies : tree_of) (askings : List Asking) → self.old ≡ limiter_counts policies askings → StandsAfter policies askings node second spans result self.new }
     {
-        self.ask_node(node, second, n)
+        self.ask_node(node, second, spans)
     }
 
-    ghost others = { others-law };
-
-    ghost keeps = { keeps-law };
+    ghost keeps = { budgets-keep };
 }

@@ -29,7 +29,8 @@ use Rattle.span_exporter.specs.declared.answer.Flushed.{Flushed}
 use Rattle.span_exporter.specs.declared.answer.Flushed.TheVariants.{Handed, Spoiled, Empty}
 use Rattle.script_run.specs.Requests.{Reading, reads, refuses, IsTakenFor}
 use Rattle.script_run.specs.Sending.{Sent, spans_of, AreBatches, SendsAll}
-use Rattle.script_run.specs.World.{was_sent, Takes, TakesEach, TakesRounds, entry_of}
+use Rattle.script_run.specs.World.{was_sent, Turn, with_entry, Takes, TakesEach, TakesRounds, entry_of}
+use Rattle.rate_budget.specs.Grant.{Asking}
 use Rattle.script_run.specs.Calm.{is_for_memory, is_refusal, IsUnmarked}
 use Rattle.script_run.proofs.Writing.{sends_writes}
 use Rattle.script_run.proofs.Calm.{up_before_all, unmarked_entry, rounds_before}
@@ -54,41 +55,45 @@ no_marks : (e : Bool) (f : Bool) → (e || f) ≡ false → (e ≡ false) × (f 
 no_marks true f h = absurd (cc h)
 no_marks false f h = (refl, h)
 
--- a shard to which no memory is refused takes its items in one way
-takes_same : (s : Settings) (items : List Item) (before a b : Journal) → Takes s before items a → Takes s before items b → IsUnmarked a → IsUnmarked b → a ≡ b
+-- a shard to which no memory is refused takes its items in one way, and the limiter is asked the same
+takes_same : (s : Settings) (items : List Item) (before a b : Turn) → Takes s before items a → Takes s before items b → IsUnmarked a.journal → IsUnmarked b.journal → a ≡ b
 takes_same s [] before a b h g u v = h ∙ sym g
 takes_same s (item ∷ more) before a b h g u v =
     let m = no_marks h.0 h.1 (unmarked_entry s item more before a h u) in
     let n = no_marks g.0 g.1 (unmarked_entry s item more before b g v) in
-    let one : entry_of item g.0 g.1 ≡ entry_of item h.0 h.1 = λ i. record { item = item; refused = (n.0 ∙ sym m.0) i; lost = (n.1 ∙ sym m.1) i } in
-    takes_same s more (entry_of item h.0 h.1 ∷ before) a b h.3 (subst (λ (e : Entry). Takes s (e ∷ before) more b) one g.3) u v
+    let one : entry_of item g.0 g.1 ≡ entry_of item h.0 h.1 = λ i. record { item = item; refused = (n.0 ∙ sym m.0) i; lost = (n.1 ∙ sym m.1) i; answers = [] } in
+    takes_same s more (with_entry s before (entry_of item h.0 h.1)) a b h.3 (subst (λ (e : Entry). Takes s (with_entry s before e) more b) one g.3) u v
 
 -- in a round the shards take and release the same
-each_same : (s : Settings) (before : List Journal) (items : List (List Item)) (a b : List Journal) (x y : List Arrival) → TakesEach s before items a x → TakesEach s before items b y
-    → AllByRecursion IsUnmarked a → AllByRecursion IsUnmarked b → (a ≡ b) × (x ≡ y)
-each_same s [] [] [] [] x y h g u v = (refl, h ∙ sym g)
-each_same s [] [] [] (l ∷ ls) x y h g u v = absurd g
-each_same s [] [] (k ∷ ks) b x y h g u v = absurd h
-each_same s [] (own ∷ others) a b x y h g u v = absurd h
-each_same s (j ∷ js) [] a b x y h g u v = absurd h
-each_same s (j ∷ js) (own ∷ others) [] b x y h g u v = absurd h
-each_same s (j ∷ js) (own ∷ others) (k ∷ ks) [] x y h g u v = absurd g
-each_same s (j ∷ js) (own ∷ others) (k ∷ ks) (l ∷ ls) x y h g u v =
-    let first = takes_same s own j k l h.2.0 g.2.0 u.0 v.0 in
-    let rest = each_same s js others ks ls h.1 g.1 h.3 g.3 u.1 v.1 in
-    let out = parts_same (output s j) (output s j) h.0 g.0 refl (sym h.2.1 ∙ (ap (output s) first ∙ g.2.1)) in (
-      ap (λ (z : Journal). z ∷ ks) first ∙ ap (λ (z : List Journal). l ∷ z) rest.0,
-      h.4 ∙ (ap (λ (z : List Arrival). z ++ h.1) out.1 ∙ (ap (λ (z : List Arrival). g.0 ++ z) rest.1 ∙ sym g.4)),
+each_same : (s : Settings) (before : List Journal) (asked : List Asking) (items : List (List Item)) (a b : List Journal) (p q : List Asking) (x y : List Arrival) → TakesEach s before asked items a p x → TakesEach s before asked items b q y
+    → AllByRecursion IsUnmarked a → AllByRecursion IsUnmarked b → (a ≡ b) × (x ≡ y) × (p ≡ q)
+each_same s [] asked [] [] [] p q x y h g u v = (refl, h.0 ∙ sym g.0, h.1 ∙ sym g.1)
+each_same s [] asked [] [] (l ∷ ls) p q x y h g u v = absurd g
+each_same s [] asked [] (k ∷ ks) b p q x y h g u v = absurd h
+each_same s [] asked (own ∷ others) a b p q x y h g u v = absurd h
+each_same s (j ∷ js) asked [] a b p q x y h g u v = absurd h
+each_same s (j ∷ js) asked (own ∷ others) [] b p q x y h g u v = absurd h
+each_same s (j ∷ js) asked (own ∷ others) (k ∷ ks) [] p q x y h g u v = absurd g
+each_same s (j ∷ js) asked (own ∷ others) (k ∷ ks) (l ∷ ls) p q x y h g u v =
+    let first = takes_same s own (record { journal = j; askings = asked }) (record { journal = k; askings = h.2 }) (record { journal = l; askings = g.2 }) h.3.0 g.3.0 u.0 v.0 in
+    let here : k ≡ l = ap (λ (z : Turn). z.journal) first in
+    let lent : h.2 ≡ g.2 = ap (λ (z : Turn). z.askings) first in
+    let rest = each_same s js h.2 others ks ls p q h.1 g.1 h.4 (subst (λ (z : List Asking). TakesEach s js z others ls q g.1) (sym lent) g.4) u.1 v.1 in
+    let out = parts_same (output s j) (output s j) h.0 g.0 refl (sym h.3.1 ∙ (ap (output s) here ∙ g.3.1)) in (
+      ap (λ (z : Journal). z ∷ ks) here ∙ ap (λ (z : List Journal). l ∷ z) rest.0,
+      h.5 ∙ (ap (λ (z : List Arrival). z ++ h.1) out.1 ∙ (ap (λ (z : List Arrival). g.0 ++ z) rest.1 ∙ sym g.5)),
+      rest.2,
     )
 
 -- the shards take the same and release the same
-pub rounds_same : (s : Settings) (before : List Journal) (rounds : List (List (List Item))) (a b : List Journal) (x y : List Arrival) → TakesRounds s before rounds a x → TakesRounds s before rounds b y
-    → AllByRecursion IsUnmarked a → AllByRecursion IsUnmarked b → (a ≡ b) × (x ≡ y)
-rounds_same s before [] a b x y h g u v = (h.0 ∙ sym g.0, h.1 ∙ sym g.1)
-rounds_same s before (items ∷ more) a b x y h g u v =
-    let first = each_same s before items h.0 g.0 h.1 g.1 h.3 g.3 (rounds_before s h.0 more a h.2 h.4 u) (rounds_before s g.0 more b g.2 g.4 v) in
-    let rest = rounds_same s h.0 more a b h.2 g.2 h.4 (subst (λ (z : List Journal). TakesRounds s z more b g.2) (sym first.0) g.4) u v in
-    (rest.0, h.5 ∙ (ap (λ (z : List Arrival). z ++ h.2) first.1 ∙ (ap (λ (z : List Arrival). g.1 ++ z) rest.1 ∙ sym g.5)))
+pub rounds_same : (s : Settings) (before : List Journal) (asked : List Asking) (rounds : List (List (List Item))) (a b : List Journal) (p q : List Asking) (x y : List Arrival) → TakesRounds s before asked rounds a p x → TakesRounds s before asked rounds b q y
+    → AllByRecursion IsUnmarked a → AllByRecursion IsUnmarked b → (a ≡ b) × (x ≡ y) × (p ≡ q)
+rounds_same s before asked [] a b p q x y h g u v = (h.0 ∙ sym g.0, h.2 ∙ sym g.2, h.1 ∙ sym g.1)
+rounds_same s before asked (items ∷ more) a b p q x y h g u v =
+    let first = each_same s before asked items h.0 g.0 h.1 g.1 h.2 g.2 h.4 g.4 (rounds_before s h.0 h.1 more a p h.3 h.5 u) (rounds_before s g.0 g.1 more b q g.3 g.5 v) in
+    let moved = subst (λ (z : List Journal). TakesRounds s z h.1 more b q g.3) (sym first.0) (subst (λ (z : List Asking). TakesRounds s g.0 z more b q g.3) (sym first.2) g.5) in
+    let rest = rounds_same s h.0 h.1 more a b p q h.3 g.3 h.5 moved u v in
+    (rest.0, h.6 ∙ (ap (λ (z : List Arrival). z ++ h.3) first.1 ∙ (ap (λ (z : List Arrival). g.2 ++ z) rest.1 ∙ sym g.6)), rest.2)
 
 -- ---- batches
 

@@ -5,6 +5,7 @@ use Rattle.otlp_types.specs.declared.arrival.Arrival.{Arrival}
 use Rattle.otlp_types.specs.declared.arrival.Item.{Item}
 use Rattle.span_ids.specs.declared.outcome.Reason.{Reason}
 use Rattle.span_ids.specs.declared.outcome.Reason.TheVariants.{InvalidId, QueueFull, NoMemory, Evicted, NotSampled, LateNotSampled, ExporterDown}
+use Rattle.rate_budget.specs.Grant.{Asking}
 use Rattle.shard_core.specs.Journal.{Settings, Journal}
 use Rattle.span_sink.specs.LineSinks.{LineSinkState}
 use Rattle.span_exporter.specs.Exports.{Sends, Spoils, WritesLine}
@@ -14,7 +15,7 @@ use Rattle.lane_seq.specs.declared.reply.Reply.{Reply}
 use Rattle.lane_seq.specs.declared.reply.Reply.TheVariants.{Busy}
 use Rattle.tsc_script.specs.Instructions.{Instruction, receive, tick, close}
 use Rattle.script_run.specs.Requests.{Reading, reads, refuses, reply_line}
-use Rattle.script_run.specs.World.{World, Sizes, Event, replied, was_sent, Takes, TakesEach, TakesRounds, RunsToQuiet, RepliesAndRuns, Answers, Plays, PlaysAll, after_reply, entry_of}
+use Rattle.script_run.specs.World.{World, Sizes, Event, replied, was_sent, Turn, with_entry, Takes, TakesEach, TakesRounds, RunsToQuiet, RepliesAndRuns, Answers, Plays, PlaysAll, after_reply, entry_of}
 use Rattle.script_run.specs.Writing.{Writes, WritesAll}
 use Rattle.script_run.specs.Calm.{is_refusal, is_marked, IsUnmarked, Calm}
 use Rattle.script_run.proofs.Writing.{sends_writes}
@@ -72,27 +73,28 @@ up_before_all (event ∷ more) old new up h = up_before old h.0 (up_before_all m
 -- ---- the journals
 
 -- a journal that is unmarked was so before its last items
-unmarked_before : (s : Settings) (items : List Item) (before after : Journal) → Takes s before items after → IsUnmarked after → IsUnmarked before
-unmarked_before s [] before after h u = subst IsUnmarked h u
-unmarked_before s (item ∷ more) before after h u = (unmarked_before s more (entry_of item h.0 h.1 ∷ before) after h.3 u).1
+unmarked_before : (s : Settings) (items : List Item) (before after : Turn) → Takes s before items after → IsUnmarked after.journal → IsUnmarked before.journal
+unmarked_before s [] before after h u = subst (λ (z : Turn). IsUnmarked z.journal) h u
+unmarked_before s (item ∷ more) before after h u = (unmarked_before s more (with_entry s before (entry_of item h.0 h.1)) after h.3 u).1
 
 -- an entry that was taken is unmarked
-pub unmarked_entry : (s : Settings) (item : Item) (more : List Item) (before after : Journal) → (h : Takes s before (item ∷ more) after) → IsUnmarked after → is_marked (entry_of item h.0 h.1) ≡ false
-unmarked_entry s item more before after h u = (unmarked_before s more (entry_of item h.0 h.1 ∷ before) after h.3 u).0
+pub unmarked_entry : (s : Settings) (item : Item) (more : List Item) (before after : Turn) → (h : Takes s before (item ∷ more) after) → IsUnmarked after.journal → is_marked (entry_of item h.0 h.1) ≡ false
+unmarked_entry s item more before after h u = (unmarked_before s more (with_entry s before (entry_of item h.0 h.1)) after h.3 u).0
 
 -- journals that are unmarked were so before a round
-each_before : (s : Settings) (before : List Journal) (items : List (List Item)) (after : List Journal) (released : List Arrival) → TakesEach s before items after released
+each_before : (s : Settings) (before : List Journal) (asked : List Asking) (items : List (List Item)) (after : List Journal) (asked_now : List Asking) (released : List Arrival) → TakesEach s before asked items after asked_now released
     → AllByRecursion IsUnmarked after → AllByRecursion IsUnmarked before
-each_before s [] items after released h u = tt
-each_before s (j ∷ js) [] after released h u = absurd h
-each_before s (j ∷ js) (own ∷ others) [] released h u = absurd h
-each_before s (j ∷ js) (own ∷ others) (k ∷ ks) released h u = (unmarked_before s own j k h.2.0 u.0, each_before s js others ks h.1 h.3 u.1)
+each_before s [] asked items after asked_now released h u = tt
+each_before s (j ∷ js) asked [] after asked_now released h u = absurd h
+each_before s (j ∷ js) asked (own ∷ others) [] asked_now released h u = absurd h
+each_before s (j ∷ js) asked (own ∷ others) (k ∷ ks) asked_now released h u =
+    (unmarked_before s own (record { journal = j; askings = asked }) (record { journal = k; askings = h.2 }) h.3.0 u.0, each_before s js h.2 others ks asked_now h.1 h.4 u.1)
 
 -- journals that are unmarked were so before several rounds
-pub rounds_before : (s : Settings) (before : List Journal) (rounds : List (List (List Item))) (after : List Journal) (released : List Arrival) → TakesRounds s before rounds after released
+pub rounds_before : (s : Settings) (before : List Journal) (asked : List Asking) (rounds : List (List (List Item))) (after : List Journal) (asked_now : List Asking) (released : List Arrival) → TakesRounds s before asked rounds after asked_now released
     → AllByRecursion IsUnmarked after → AllByRecursion IsUnmarked before
-rounds_before s before [] after released h u = subst (AllByRecursion IsUnmarked) h.0 u
-rounds_before s before (items ∷ more) after released h u = each_before s before items h.0 h.1 h.3 (rounds_before s h.0 more after h.2 h.4 u)
+rounds_before s before asked [] after asked_now released h u = subst (AllByRecursion IsUnmarked) h.0 u
+rounds_before s before asked (items ∷ more) after asked_now released h u = each_before s before asked items h.0 h.1 h.2 h.4 (rounds_before s h.0 h.1 more after asked_now h.3 h.5 u)
 
 -- ---- the world
 
@@ -101,7 +103,7 @@ module _ (s : Settings) (sizes : Sizes) where
   pub calm_before_runs : (old new : World) (rounds : List (List (List Item))) → RunsToQuiet s sizes old rounds new → Calm new → Calm old
   calm_before_runs old new rounds r c = record {
     events = all_left (λ event. is_refusal event ≡ false) old.events (map was_sent r.batches) (subst (AllByRecursion (λ event. is_refusal event ≡ false)) (ap (λ (z : World). z.events) r.becomes) c.events);
-    journals = rounds_before s old.journals rounds new.journals r.released r.takes c.journals;
+    journals = rounds_before s old.journals old.askings rounds new.journals new.askings r.released r.takes c.journals;
     up = up_before_all (map was_sent r.batches) old.sink new.sink c.up (sends_writes r.batches old.sink new.sink r.sends.sends);
   }
 

@@ -37,14 +37,14 @@ module _ (s : Settings) (sizes : Sizes) where
   -- runs from such worlds lead to such worlds
   runs_same : (old a b : World) (sink : LineSinkState) (rounds : List (List (List Item))) → RunsToQuiet s sizes old rounds a → RunsToQuiet s sizes (record old { sink = sink }) rounds b → Calm a → Calm b → IsSame a b
   runs_same old a b sink rounds h g c d =
-      let took = rounds_same s old.journals rounds a.journals b.journals h.released g.released h.takes g.takes c.journals d.journals in
+      let took = rounds_same s old.journals old.askings rounds a.journals b.journals a.askings b.askings h.released g.released h.takes g.takes c.journals d.journals in
       let own : AllByRecursion (λ event. is_refusal event ≡ false) (old.events ++ map was_sent h.batches) = subst (AllByRecursion (λ event. is_refusal event ≡ false)) (ap (λ (z : World). z.events) h.becomes) c.events in
       let other : AllByRecursion (λ event. is_refusal event ≡ false) (old.events ++ map was_sent g.batches) = subst (AllByRecursion (λ event. is_refusal event ≡ false)) (ap (λ (z : World). z.events) g.becomes) d.events in
       let batches : h.batches ≡ g.batches = batches_same sizes.batch h.batches g.batches h.sends.are_batches g.sends.are_batches (h.sends.are_all ∙ (took.1 ∙ sym g.sends.are_all))
       (all_handed sizes.batch old.sink a.sink h.batches h.sends.are_batches h.sends.sends c.up (all_right (λ event. is_refusal event ≡ false) old.events (map was_sent h.batches) own))
       (all_handed sizes.batch sink b.sink g.batches g.sends.are_batches g.sends.sends d.up (all_right (λ event. is_refusal event ≡ false) old.events (map was_sent g.batches) other)) in
-      let first : record old { journals = a.journals; events = old.events ++ map was_sent h.batches; sink = b.sink } ≡ record a { sink = b.sink } = ap (λ (z : World). let w : World = record z { sink = b.sink } in w) (sym h.becomes) in
-      g.becomes ∙ ((λ i. record old { journals = sym took.0 i; events = old.events ++ map was_sent (sym batches i); sink = b.sink }) ∙ first)
+      let first : record old { journals = a.journals; askings = a.askings; events = old.events ++ map was_sent h.batches; sink = b.sink } ≡ record a { sink = b.sink } = ap (λ (z : World). let w : World = record z { sink = b.sink } in w) (sym h.becomes) in
+      g.becomes ∙ ((λ i. record old { journals = sym took.0 i; askings = sym took.2 i; events = old.events ++ map was_sent (sym batches i); sink = b.sink }) ∙ first)
 
   -- so do a reply and a run
   replies_same : (old a b : World) (sink : LineSinkState) (reply : Reply) (rounds : List (List (List Item))) → RepliesAndRuns s sizes old reply rounds a → RepliesAndRuns s sizes (record old { sink = sink }) reply rounds b → Calm a → Calm b → IsSame a b
@@ -177,6 +177,7 @@ calm_runs_agree unique s sizes lanes shards first played a b h g c d =
       received = ap (λ (z : World). z.received) (sym same);
       full = ap (λ (z : World). z.full) (sym same);
       journals = ap (λ (z : World). z.journals) (sym same);
+      askings = ap (λ (z : World). z.askings) (sym same);
       events = sym events;
       closed = ap (λ (z : World). z.closed) (sym same);
       counts = λ count. ap (λ (z : World). number_of s z count) (sym same);

@@ -9,7 +9,10 @@ use Rattle.span_world.specs.World.{Config, Lane, World as Core}
 use Rattle.span_world.specs.Step.{sender_is_done}
 use Rattle.span_world.specs.Places.{buffered_spans}
 use Rattle.span_world.proofs.Finishing.{nothing_buffered}
-use Rattle.script_run.specs.World.{World, Sizes, entry_of, TakesEach, TakesRounds, to_each, ends_from}
+use Rattle.script_run.specs.World.{World, Sizes, Turn, entry_of, with_entry, TakesEach, TakesRounds, to_each, ends_from}
+use Rattle.script_run.specs.Limiting.{with_answers}
+use Rattle.rate_budget.specs.Grant.{Asking}
+use Rattle.script_run.proofs.Answering.{answers_fit}
 use Rattle.script_run.specs.CoreRun.{core_config}
 use Rattle.script_run.proofs.Stands.{quiet_shard, lanes_from, no_queues, HasNoEnd}
 use Rattle.script_run.proofs.QuietRuns.{Leads, leads_same, leads_then}
@@ -47,31 +50,34 @@ ended_more e past (suc n) h = let p = and_parts (has_ended past n) (have_ended p
     both a true false f g = absurd (cc g)
 
 -- the End of the next sender is taken
-next_ended : (s : Settings) (sender : ℕ) (refused lost : Bool) (past : Journal) → Ended s sender past → Ended s (suc sender) (entry_of (End sender) refused lost ∷ past)
+next_ended : (s : Settings) (sender : ℕ) (refused lost : Bool) (past : Turn) → Ended s sender past.journal → Ended s (suc sender) (with_entry s past (entry_of (End sender) refused lost)).journal
 next_ended s sender refused lost past h = record {
   before = all;
-  later = λ other l. ap (λ b. b || has_ended past other) (ne_eqb sender other (λ q. omega (arith, l, q))) ∙ h.later other (omega (arith, l));
-  last = λ q. nothing_buffered s sender refused lost past (subst (λ n. have_ended (e ∷ past) n ≡ true) q all) (subst (λ n. have_ended past n ≡ false) q (ap (λ b. b && have_ended past sender) (h.later sender (omega arith))));
+  later = λ other l. ap (λ b. b || has_ended past.journal other) (ne_eqb sender other (λ q. omega (arith, l, q))) ∙ h.later other (omega (arith, l));
+  last = λ q. nothing_buffered s sender refused lost e.answers past.journal (answers_fit s (entry_of (End sender) refused lost) past.journal past.askings)
+      (subst (λ n. have_ended (e ∷ past.journal) n ≡ true) q all) (subst (λ n. have_ended past.journal n ≡ false) q (ap (λ b. b && have_ended past.journal sender) (h.later sender (omega arith))));
 }
   where
     e : Entry
-    e = entry_of (End sender) refused lost
+    e = with_answers s past.journal past.askings (entry_of (End sender) refused lost)
 
-    all : have_ended (e ∷ past) (suc sender) ≡ true
-    all = ap (λ b. (b || has_ended past sender) && have_ended (e ∷ past) sender) (eq-eqb sender sender refl) ∙ ended_more e past sender h.before
+    all : have_ended (e ∷ past.journal) (suc sender) ≡ true
+    all = ap (λ b. (b || has_ended past.journal sender) && have_ended (e ∷ past.journal) sender) (eq-eqb sender sender refl) ∙ ended_more e past.journal sender h.before
 
 -- each shard takes the End of the next sender
-takes_ends : (s : Settings) (sender : ℕ) (pasts each nexts : List Journal) (released : List Arrival) → TakesEach s pasts (to_each (End sender) each) nexts released
+takes_ends : (s : Settings) (sender : ℕ) (pasts : List Journal) (asked : List Asking) (each nexts : List Journal) (asked_now : List Asking) (released : List Arrival) → TakesEach s pasts asked (to_each (End sender) each) nexts asked_now released
     → AllByRecursion (Ended s sender) pasts → AllByRecursion (Ended s (sender + 1)) nexts
-takes_ends s sender [] [] [] released h o = tt
-takes_ends s sender (past ∷ pasts) (one ∷ each) (next ∷ nexts) released h o = (
-  subst (Ended s (sender + 1)) (sym h.2.0.3) (subst (λ n. Ended s n (entry_of (End sender) h.2.0.0 h.2.0.1 ∷ past)) (sym (add-one sender)) (next_ended s sender h.2.0.0 h.2.0.1 past o.0)),
-  takes_ends s sender pasts each nexts h.1 h.3 o.1,
-)
-takes_ends s sender [] [] (next ∷ nexts) released h o = absurd h
-takes_ends s sender [] (one ∷ each) nexts released h o = absurd h
-takes_ends s sender (past ∷ pasts) [] nexts released h o = absurd h
-takes_ends s sender (past ∷ pasts) (one ∷ each) [] released h o = absurd h
+takes_ends s sender [] asked [] [] asked_now released h o = tt
+takes_ends s sender (past ∷ pasts) asked (one ∷ each) (next ∷ nexts) asked_now released h o =
+    let before : Turn = record { journal = past; askings = asked } in (
+      subst (λ (z : Turn). Ended s (sender + 1) z.journal) (sym h.3.0.3)
+          (subst (λ n. Ended s n (with_entry s before (entry_of (End sender) h.3.0.0 h.3.0.1)).journal) (sym (add-one sender)) (next_ended s sender h.3.0.0 h.3.0.1 before o.0)),
+      takes_ends s sender pasts h.2 each nexts asked_now h.1 h.4 o.1,
+    )
+takes_ends s sender [] asked [] (next ∷ nexts) asked_now released h o = absurd h
+takes_ends s sender [] asked (one ∷ each) nexts asked_now released h o = absurd h
+takes_ends s sender (past ∷ pasts) asked [] nexts asked_now released h o = absurd h
+takes_ends s sender (past ∷ pasts) asked (one ∷ each) [] asked_now released h o = absurd h
 
 -- ---- who may end
 
@@ -103,33 +109,34 @@ sender_done c k w lanes sender closed l n shards exported counted place J = subs
     go found (is_past f p) = rw f (eq-eqb sender (length k.lanes) (omega (arith, n, p, ap (λ (z : List Lane). length z) l, length_lanes w 0 lanes)))
 
 -- each shard may take the End of the next sender
-may_take_ends : (c : Config) (k : Core) (s : Settings) (sender : ℕ) (pasts each nexts : List Journal) (released : List Arrival) → IsDone c k sender
-    → TakesEach s pasts (to_each (End sender) each) nexts released → AllByRecursion (Ended s sender) pasts → AllTakable c k (no_queues pasts) pasts (to_each (End sender) each)
-may_take_ends c k s sender [] [] nexts released d h o = tt
-may_take_ends c k s sender (past ∷ pasts) (one ∷ each) (next ∷ nexts) released d h o = (ended sender refl refl (o.0.later sender (omega arith)) d, may_take_ends c k s sender pasts each nexts h.1 d h.3 o.1)
-may_take_ends c k s sender [] (one ∷ each) nexts released d h o = absurd h
-may_take_ends c k s sender (past ∷ pasts) [] nexts released d h o = absurd h
-may_take_ends c k s sender (past ∷ pasts) (one ∷ each) [] released d h o = absurd h
+may_take_ends : (c : Config) (k : Core) (s : Settings) (sender : ℕ) (pasts : List Journal) (asked : List Asking) (each nexts : List Journal) (asked_now : List Asking) (released : List Arrival) → IsDone c k sender
+    → TakesEach s pasts asked (to_each (End sender) each) nexts asked_now released → AllByRecursion (Ended s sender) pasts → AllTakable c k (no_queues pasts) pasts (to_each (End sender) each)
+may_take_ends c k s sender [] asked [] nexts asked_now released d h o = tt
+may_take_ends c k s sender (past ∷ pasts) asked (one ∷ each) (next ∷ nexts) asked_now released d h o = (ended sender refl refl (o.0.later sender (omega arith)) d, may_take_ends c k s sender pasts h.2 each nexts asked_now h.1 d h.4 o.1)
+may_take_ends c k s sender [] asked (one ∷ each) nexts asked_now released d h o = absurd h
+may_take_ends c k s sender (past ∷ pasts) asked [] nexts asked_now released d h o = absurd h
+may_take_ends c k s sender (past ∷ pasts) asked (one ∷ each) [] asked_now released d h o = absurd h
 
 -- ---- the rounds
 
 -- from a world where all Ends from this sender's on are still to be taken, steps lead to one where all were
-pub takes_all_ends : (s : Settings) (sizes : Sizes) (w : World) (senders sender : ℕ) (pasts each nexts : List Journal) (before released : List Arrival) (k : Core)
-    → w.closed ≡ true → sender + senders ≡ s.senders → Shipped s w (no_queues pasts) pasts before k → AllByRecursion (Ended s sender) pasts → TakesRounds s pasts (ends_from sender senders each) nexts released
+pub takes_all_ends : (s : Settings) (sizes : Sizes) (w : World) (senders sender : ℕ) (pasts : List Journal) (asked : List Asking) (each nexts : List Journal) (asked_now : List Asking) (before released : List Arrival) (k : Core)
+    → w.closed ≡ true → sender + senders ≡ s.senders → Shipped s w (no_queues pasts) pasts before k → AllByRecursion (Ended s sender) pasts → TakesRounds s pasts asked (ends_from sender senders each) nexts asked_now released
     → (after : Core) × Leads (core_config s sizes) k after × Shipped s w (no_queues nexts) nexts (before ++ released) after × AllByRecursion (Ended s s.senders) nexts
-takes_all_ends s sizes w zero sender pasts each nexts before released k closed n h o t = (k, leads_same (core_config s sizes) k k refl, ships, subst (λ (z : List Journal). AllByRecursion (Ended s s.senders) z) (sym t.0) (subst (λ m. AllByRecursion (Ended s m) pasts) all o))
+takes_all_ends s sizes w zero sender pasts asked each nexts asked_now before released k closed n h o t =
+    (k, leads_same (core_config s sizes) k k refl, ships, subst (λ (z : List Journal). AllByRecursion (Ended s s.senders) z) (sym t.0) (subst (λ m. AllByRecursion (Ended s m) pasts) all o))
   where
     all : sender ≡ s.senders
     all = omega (arith, n)
 
     ships : Shipped s w (no_queues nexts) nexts (before ++ released) k
-    ships = subst (λ (z : List Journal). Shipped s w (no_queues z) z (before ++ released) k) (sym t.0) (subst (λ (z : List Arrival). Shipped s w (no_queues pasts) pasts z k) (sym (ap (λ (z : List Arrival). before ++ z) t.1 ∙ append-nil before)) h)
-takes_all_ends s sizes w (suc senders) sender pasts each nexts before released k closed n h o t =
-    let one = ships_round s sizes w k (no_queues pasts) pasts t.0 (to_each (End sender) each) before t.1 h
-    (may_take_ends (core_config s sizes) k s sender pasts each t.0 t.1 (sender_done (core_config s sizes) k w (length w.contacts.connected) sender closed h.lanes (omega (arith, n, h.senders))) t.3 o) t.3 in
-    let more = takes_all_ends s sizes w senders (sender + 1) t.0 each nexts (before ++ t.1) t.2 one.0 closed (omega (arith, n)) one.2 (takes_ends s sender pasts each t.0 t.1 t.3 o) t.4 in (
+    ships = subst (λ (z : List Journal). Shipped s w (no_queues z) z (before ++ released) k) (sym t.0) (subst (λ (z : List Arrival). Shipped s w (no_queues pasts) pasts z k) (sym (ap (λ (z : List Arrival). before ++ z) t.2 ∙ append-nil before)) h)
+takes_all_ends s sizes w (suc senders) sender pasts asked each nexts asked_now before released k closed n h o t =
+    let one = ships_round s sizes w k (no_queues pasts) pasts asked t.0 t.1 (to_each (End sender) each) before t.2 h
+    (may_take_ends (core_config s sizes) k s sender pasts asked each t.0 t.1 t.2 (sender_done (core_config s sizes) k w (length w.contacts.connected) sender closed h.lanes (omega (arith, n, h.senders))) t.4 o) t.4 in
+    let more = takes_all_ends s sizes w senders (sender + 1) t.0 t.1 each nexts asked_now (before ++ t.2) t.3 one.0 closed (omega (arith, n)) one.2 (takes_ends s sender pasts asked each t.0 t.1 t.2 t.4 o) t.5 in (
       more.0,
       leads_then (core_config s sizes) k one.0 more.0 one.1 more.1,
-      subst (λ (z : List Arrival). Shipped s w (no_queues nexts) nexts z more.0) (append_assoc before t.1 t.2 ∙ ap (λ (z : List Arrival). before ++ z) (sym t.5)) more.2,
+      subst (λ (z : List Arrival). Shipped s w (no_queues nexts) nexts z more.0) (append_assoc before t.2 t.3 ∙ ap (λ (z : List Arrival). before ++ z) (sym t.6)) more.2,
       more.3,
     )

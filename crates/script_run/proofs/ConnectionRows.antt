@@ -1,10 +1,18 @@
--- The connections, queues and Ends of some scripts, computed on the definitions.
+-- The connections, moments, queues and Ends of some scripts, computed on the definitions.
 -- No clause needs them: they show what the words of `Connections` and `World` say, which code and contracts follow.
-use Rattle.std.proofs.Common.{◌≡◌, ℕ, [], ◌∷◌, map, refl}
+use Rattle.std.proofs.Common.{◌≡◌, ℕ, List, [], ◌∷◌, map, refl}
 use Rattle.lane_seq.specs.declared.preparing.Conn.{Conn}
-use Rattle.otlp_types.specs.declared.arrival.Item.TheVariants.{End}
+use Rattle.lane_seq.specs.Numbers.{arrivals_from}
+use Rattle.otlp_types.specs.declared.arrival.Arrival.{Arrival}
+use Rattle.otlp_types.specs.declared.arrival.Item.TheVariants.{End, Tick}
 use Rattle.script_run.specs.Connections.{Contacts, lane_of, connection_of, with_connection, with_received}
-use Rattle.script_run.specs.World.{empty_queues, ends_from}
+use Rattle.script_run.specs.Requests.{arrivals_of}
+use Rattle.script_run.specs.World.{World, Sizes, Plays, Receives, RunsToQuiet, empty_queues, ends_from}
+use Rattle.shard_core.specs.Journal.{Settings}
+use Rattle.span_world.proofs.Samples.{plain}
+use Rattle.tsc_script.specs.Instructions.{receive, tick}
+use Rattle.otlp_flatten.specs.Flat.{records_of}
+use Rattle.otlp_types.specs.declared.request.Request.{Request}
 
 -- no connection was used, of three lanes
 abbrev none_of_three : Contacts
@@ -52,3 +60,22 @@ two_queues = refl
 ends_of_three : ends_from {A = ℕ} 0 3 (7 ∷ 8 ∷ [])
     ≡ ((End 0 ∷ []) ∷ (End 0 ∷ []) ∷ []) ∷ ((End 1 ∷ []) ∷ (End 1 ∷ []) ∷ []) ∷ ((End 2 ∷ []) ∷ (End 2 ∷ []) ∷ []) ∷ []
 ends_of_three = refl
+
+-- ---- moments
+
+-- each span of a request has the moment at which it was read, and the connection's next number
+moments_of_two : map (λ (a : Arrival). a.moment) (arrivals_from (conn 1 0 5).key 5 77 (plain 1 ∷ plain 2 ∷ [])) ≡ 77 ∷ 77 ∷ []
+moments_of_two = refl
+
+numbers_of_two : map (λ (a : Arrival). a.key.number) (arrivals_from (conn 1 0 5).key 5 77 (plain 1 ∷ plain 2 ∷ [])) ≡ 5 ∷ 6 ∷ []
+numbers_of_two = refl
+
+arrivals_at_77 : (request : Request) → arrivals_of (conn 1 0 5) 77 request ≡ arrivals_from (conn 1 0 5).key 5 77 (records_of request)
+arrivals_at_77 request = refl
+
+-- a line `recv 4 77 ..` is read on connection 4 at that moment, and `tick 77` tells each shard that moment
+read_at_77 : (s : Settings) (sizes : Sizes) (old new : World) (body : List ℕ) → Plays s sizes old (receive 4 77 body) new → Receives s sizes old 4 77 body new
+read_at_77 s sizes old new body h = h.2
+
+told_77 : (s : Settings) (sizes : Sizes) (old new : World) → Plays s sizes old (tick 77) new → RunsToQuiet s sizes old (map (λ j. Tick 77 ∷ []) old.journals ∷ []) new
+told_77 s sizes old new h = h.2

@@ -8,6 +8,7 @@ pub mod Playing
 pub mod Whole
 pub mod Calm
 pub mod QuietRuns
+pub mod Answering
 pub mod TakingOne
 pub mod TakingRounds
 pub mod TakingItems

@@ -73,23 +73,23 @@ both_values false e f = absurd (cc f)
 reaches_new : (s : Settings) (sizes : Sizes) (old new : World) (k after : Core) (b : List (List (List Item))) (runs : RunsToQuiet s sizes old b new) → 0 < sizes.batch → old.closed ≡ false
     → Leads (core_config s sizes) k after → Shipped s old (no_queues new.journals) new.journals runs.released after → AllByRecursion HasNoEnd new.journals → Reaches s sizes k new (no_queues new.journals)
 reaches_new s sizes old new k after b runs holds is_open h ships no_end = subst (λ (z : World). Reaches s sizes k z (no_queues z.journals)) (sym runs.becomes)
-    (reaches_after s sizes k after (record old { journals = new.journals; events = old.events ++ map was_sent runs.batches; sink = new.sink }) (no_queues new.journals) h
-    (sends_released s sizes old new.journals runs.released after runs.batches new.sink holds ships (λ e. no_end) (λ e. both_values old.closed is_open e) runs.sends))
+    (reaches_after s sizes k after (record old { journals = new.journals; askings = new.askings; events = old.events ++ map was_sent runs.batches; sink = new.sink }) (no_queues new.journals) h
+    (sends_released s sizes old new.journals new.askings runs.released after runs.batches new.sink holds ships (λ e. no_end) (λ e. both_values old.closed is_open e) runs.sends))
 
 -- each shard takes these items, none of which is an End
 takes_round : (s : Settings) (sizes : Sizes) (old new : World) (queues : List (List Arrival)) (items : List (List Item)) (k : Core) → 0 < sizes.batch → Stands s sizes old queues k → old.closed ≡ false
     → AllTakable (core_config s sizes) k queues old.journals items → AllByRecursion (AllByRecursion IsNoEnd) items → RunsToQuiet s sizes old (items ∷ []) new → Reaches s sizes k new (no_queues new.journals)
 takes_round s sizes old new queues items k holds h is_open t n runs = reaches_new s sizes old new k done.0 (items ∷ []) runs holds is_open done.1 (subst (λ (z : List Arrival). Shipped s old (no_queues new.journals) new.journals z done.0) all done.2)
-    (takes_no_ends s old.journals items new.journals runs.takes.1 n taken (h.«open» is_open))
+    (takes_no_ends s old.journals old.askings items new.journals runs.takes.1 runs.takes.2 n taken (h.«open» is_open))
   where
-    taken : TakesEach s old.journals items new.journals runs.takes.1
-    taken = subst (λ (z : List Journal). TakesEach s old.journals items z runs.takes.1) (sym runs.takes.4.0) runs.takes.3
+    taken : TakesEach s old.journals old.askings items new.journals runs.takes.1 runs.takes.2
+    taken = subst (λ (z : List Journal). TakesEach s old.journals old.askings items z runs.takes.1 runs.takes.2) (sym runs.takes.5.0) runs.takes.4
 
-    all : runs.takes.1 ≡ runs.released
-    all = sym (runs.takes.5 ∙ (ap (λ (z : List Arrival). runs.takes.1 ++ z) runs.takes.4.1 ∙ append-nil runs.takes.1))
+    all : runs.takes.2 ≡ runs.released
+    all = sym (runs.takes.6 ∙ (ap (λ (z : List Arrival). runs.takes.2 ++ z) runs.takes.5.2 ∙ append-nil runs.takes.2))
 
-    done : (after : Core) × Leads (core_config s sizes) k after × Shipped s old (no_queues new.journals) new.journals runs.takes.1 after
-    done = ships_round s sizes old k queues old.journals new.journals items [] runs.takes.1 (shipped_nothing s sizes old queues k h) t taken
+    done : (after : Core) × Leads (core_config s sizes) k after × Shipped s old (no_queues new.journals) new.journals runs.takes.2 after
+    done = ships_round s sizes old k queues old.journals old.askings new.journals runs.takes.1 items [] runs.takes.2 (shipped_nothing s sizes old queues k h) t taken
 
 -- the shards take what is queued
 pub takes_queued : (s : Settings) (sizes : Sizes) (old new : World) (queues : List (List Arrival)) (k : Core) → 0 < sizes.batch
@@ -102,7 +102,7 @@ pub takes_nothing : (s : Settings) (sizes : Sizes) (old new : World) (k : Core) 
     → Stands s sizes old (no_queues old.journals) k → old.closed ≡ false → RunsToQuiet s sizes old [] new → Reaches s sizes k new (no_queues new.journals)
 takes_nothing s sizes old new k holds h is_open runs = reaches_new s sizes old new k k [] runs holds is_open (leads_same (core_config s sizes) k k refl)
     (subst (λ (z : List Journal). Shipped s old (no_queues z) z runs.released k) (sym runs.takes.0)
-    (subst (λ (z : List Arrival). Shipped s old (no_queues old.journals) old.journals z k) (sym runs.takes.1) (shipped_nothing s sizes old (no_queues old.journals) k h)))
+    (subst (λ (z : List Arrival). Shipped s old (no_queues old.journals) old.journals z k) (sym runs.takes.2) (shipped_nothing s sizes old (no_queues old.journals) k h)))
     (subst (λ (z : List Journal). AllByRecursion HasNoEnd z) (sym runs.takes.0) (h.«open» is_open))
 
 -- each shard takes a tick
@@ -118,9 +118,9 @@ pub closes : (s : Settings) (sizes : Sizes) (old new : World) (k : Core) → 0 <
     → Stands s sizes old (no_queues old.journals) k → old.closed ≡ false
     → RunsToQuiet s sizes (record old { closed = true }) (ends_from 0 (length old.contacts.connected + 1) old.journals) new → Reaches s sizes k new (no_queues new.journals)
 closes s sizes old new k holds h is_open runs = subst (λ (z : World). Reaches s sizes k z (no_queues z.journals)) (sym runs.becomes)
-    (reaches_after s sizes k all.0 (record w { journals = new.journals; events = old.events ++ map was_sent runs.batches; sink = new.sink }) (no_queues new.journals)
+    (reaches_after s sizes k all.0 (record w { journals = new.journals; askings = new.askings; events = old.events ++ map was_sent runs.batches; sink = new.sink }) (no_queues new.journals)
     (leads_then c k k_closed all.0 ends all.1)
-    (sends_released s sizes w new.journals runs.released all.0 runs.batches new.sink holds all.2 (λ e. absurd (cc e)) (λ e. all_finished s new.journals all.3) runs.sends))
+    (sends_released s sizes w new.journals new.askings runs.released all.0 runs.batches new.sink holds all.2 (λ e. absurd (cc e)) (λ e. all_finished s new.journals all.3) runs.sends))
   where
     c : Config
     c = core_config s sizes
@@ -151,5 +151,5 @@ closes s sizes old new k holds h is_open runs = subst (λ (z : World). Reaches s
     }
 
     all : (after : Core) × Leads c k_closed after × Shipped s w (no_queues new.journals) new.journals runs.released after × AllByRecursion (Ended s s.senders) new.journals
-    all = takes_all_ends s sizes w (lanes + 1) 0 old.journals old.journals new.journals [] runs.released k_closed refl (omega (arith, h.senders)) ships
+    all = takes_all_ends s sizes w (lanes + 1) 0 old.journals old.askings old.journals new.journals new.askings [] runs.released k_closed refl (omega (arith, h.senders)) ships
         (none_ended s old.journals (omega (arith, h.senders)) (h.«open» is_open)) runs.takes

@@ -7,13 +7,14 @@ use Rattle.otlp_types.specs.declared.arrival.Item.{Item}
 use Rattle.span_ids.specs.declared.outcome.Reason.{Reason}
 use Rattle.span_ids.specs.declared.outcome.Reason.TheVariants.{InvalidId, QueueFull, NoMemory, Evicted, NotSampled, LateNotSampled, ExporterDown}
 use Rattle.lane_seq.specs.Numbers.{is_invalid}
+use Rattle.rate_budget.specs.Grant.{Asking}
 use Rattle.shard_core.specs.Journal.{Settings, Journal, due_now, have_ended}
 use Rattle.shard_core.specs.Fate.{DroppedSpan, under}
 use Rattle.span_sink.specs.LineSinks.{LineSinkState}
 use Rattle.drop_ledger.specs.declared.count.Count.{Count}
 use Rattle.drop_ledger.specs.declared.count.Count.TheVariants.{Received, Handed, Dropped}
 use Rattle.span_world.specs.World.{Config, Lane, Shard, World as Core, settings}
-use Rattle.span_world.specs.Places.{HeldKey, handed, counted_under, exported, held_at, held_by_lanes, held_by_shards, held, is_waiting, buffered_spans, IsClosed}
+use Rattle.span_world.specs.Places.{HeldKey, handed, counted_under, held_at, held_by_lanes, held_by_shards, held, is_waiting, buffered_spans, IsClosed}
 use Rattle.span_world.specs.Headline.{handed_spans}
 use Rattle.script_run.specs.Sending.{Sent, spans_of, SendsInBatches}
 use Rattle.script_run.specs.World.{World, Sizes, was_sent, TakesEach}
@@ -139,10 +140,10 @@ pub settings_are : (s : Settings) (sizes : Sizes) (w : World) (k : Core) → k.l
 settings_are s sizes w k l n = ap (λ (z : ℕ). record s { senders = z }) (ap (λ (z : ℕ). z + 1) (ap (λ (z : List Lane). length z) l ∙ length_lanes w 0 (length w.contacts.connected)) ∙ sym n)
 
 -- a round: each shard in its turn takes its items
-pub ships_round : (s : Settings) (sizes : Sizes) (w : World) (k : Core) (queues : List (List Arrival)) (pasts nexts : List Journal) (items : List (List Item)) (before released : List Arrival)
-    → Shipped s w queues pasts before k → AllTakable (core_config s sizes) k queues pasts items → TakesEach s pasts items nexts released
+pub ships_round : (s : Settings) (sizes : Sizes) (w : World) (k : Core) (queues : List (List Arrival)) (pasts : List Journal) (asked : List Asking) (nexts : List Journal) (asked_now : List Asking) (items : List (List Item)) (before released : List Arrival)
+    → Shipped s w queues pasts before k → AllTakable (core_config s sizes) k queues pasts items → TakesEach s pasts asked items nexts asked_now released
     → (after : Core) × Leads (core_config s sizes) k after × Shipped s w (no_queues nexts) nexts (before ++ released) after
-ships_round s sizes w k queues pasts nexts items before released h t e = (after, leads_then c k _ after (leads_same c k _ begins) round.leads, ships)
+ships_round s sizes w k queues pasts asked nexts asked_now items before released h t e = (after, leads_then c k _ after (leads_same c k _ begins) round.leads, ships)
   where
     c : Config
     c = core_config s sizes
@@ -151,7 +152,7 @@ ships_round s sizes w k queues pasts nexts items before released h t e = (after,
     same = settings_are s sizes w k h.lanes h.senders
 
     round : Rounded c k [] queues pasts nexts before released k.counted
-    round = rounds c k [] queues pasts items nexts released t (subst (λ (z : Settings). TakesEach z pasts items nexts released) (sym same) e) before k.counted
+    round = rounds c k [] queues pasts asked items nexts asked_now released t (subst (λ (z : Settings). TakesEach z pasts asked items nexts asked_now released) (sym same) e) before k.counted
 
     after : Core
     after = with_shards c k (shards_with (own c k) (no_queues nexts) nexts) (before ++ released) round.counted
@@ -182,10 +183,10 @@ same_queues [] = refl
 same_queues (past ∷ pasts) = ap suc (same_queues pasts)
 
 -- the batches are sent
-pub sends_released : (s : Settings) (sizes : Sizes) (w : World) (pasts : List Journal) (released : List Arrival) (k : Core) (batches : List Sent) (sink : LineSinkState) → 0 < sizes.batch
+pub sends_released : (s : Settings) (sizes : Sizes) (w : World) (pasts : List Journal) (asked : List Asking) (released : List Arrival) (k : Core) (batches : List Sent) (sink : LineSinkState) → 0 < sizes.batch
     → Shipped s w (no_queues pasts) pasts released k → (w.closed ≡ false → AllByRecursion HasNoEnd pasts) → (w.closed ≡ true → AllByRecursion (Finished s) pasts) → SendsInBatches sizes.batch w.sink released batches sink
-    → Reaches s sizes k (record w { journals = pasts; events = w.events ++ map was_sent batches; sink = sink }) (no_queues pasts)
-sends_released s sizes w pasts released k batches sink holds h runs finished b = (run.0, after, run.1, stands)
+    → Reaches s sizes k (record w { journals = pasts; askings = asked; events = w.events ++ map was_sent batches; sink = sink }) (no_queues pasts)
+sends_released s sizes w pasts asked released k batches sink holds h runs finished b = (run.0, after, run.1, stands)
   where
     c : Config
     c = core_config s sizes
@@ -197,7 +198,7 @@ sends_released s sizes w pasts released k batches sink holds h runs finished b =
     after = sending c k [] [] (k.handed ++ handed_in (map was_sent batches)) all.counted sink.is_down
 
     new : World
-    new = record w { journals = pasts; events = w.events ++ map was_sent batches; sink = sink }
+    new = record w { journals = pasts; askings = asked; events = w.events ++ map was_sent batches; sink = sink }
 
     begins : k ≡ sending c k (spans_of batches) [] k.handed k.counted w.sink.is_down
     begins = ap (λ (z : List Arrival). sending c k z k.batch k.handed k.counted k.down) (h.exported ∙ sym b.are_all)

@@ -6,7 +6,8 @@ use Rattle.otlp_types.specs.declared.arrival.Item.{Item}
 use Rattle.otlp_types.specs.declared.arrival.Item.TheVariants.{Span, Tick}
 use Rattle.shard_core.specs.Journal.{Settings, Journal, is_end_of, has_ended}
 use Rattle.span_world.specs.World.{Config, World as Core, ticker}
-use Rattle.script_run.specs.World.{entry_of, Takes, TakesEach, to_each}
+use Rattle.script_run.specs.World.{Turn, entry_of, with_entry, Takes, TakesEach, to_each}
+use Rattle.rate_budget.specs.Grant.{Asking}
 use Rattle.script_run.proofs.Stands.{no_queues, HasNoEnd}
 use Rattle.script_run.proofs.TakingRounds.{queued, ticked, AllTakable}
 
@@ -31,23 +32,24 @@ abbrev pub IsNoEnd : Item → Type 0
 IsNoEnd item = (sender : ℕ) → is_end_of sender item ≡ false
 
 -- a shard that takes no End has none in its journal
-takes_no_end : (s : Settings) (items : List Item) (past next : Journal) → AllByRecursion IsNoEnd items → Takes s past items next → HasNoEnd past → HasNoEnd next
-takes_no_end s [] past next n h o = subst HasNoEnd (sym h) o
-takes_no_end s (item ∷ items) past next n h o = takes_no_end s items (entry_of item h.0 h.1 ∷ past) next n.1 h.3 (λ sender. neither (is_end_of sender item) (has_ended past sender) (n.0 sender) (o sender))
+takes_no_end : (s : Settings) (items : List Item) (past next : Turn) → AllByRecursion IsNoEnd items → Takes s past items next → HasNoEnd past.journal → HasNoEnd next.journal
+takes_no_end s [] past next n h o = subst (λ (z : Turn). HasNoEnd z.journal) (sym h) o
+takes_no_end s (item ∷ items) past next n h o = takes_no_end s items (with_entry s past (entry_of item h.0 h.1)) next n.1 h.3 (λ sender. neither (is_end_of sender item) (has_ended past.journal sender) (n.0 sender) (o sender))
   where
     neither : (a b : Bool) → a ≡ false → b ≡ false → (a || b) ≡ false
     neither true b e f = e
     neither false b e f = f
 
 -- where no item is an End, still no sender has ended
-pub takes_no_ends : (s : Settings) (pasts : List Journal) (items : List (List Item)) (nexts : List Journal) (released : List Arrival) → AllByRecursion (AllByRecursion IsNoEnd) items
-    → TakesEach s pasts items nexts released → AllByRecursion HasNoEnd pasts → AllByRecursion HasNoEnd nexts
-takes_no_ends s [] [] [] released n h o = tt
-takes_no_ends s (past ∷ pasts) (own ∷ items) (next ∷ nexts) released n h o = (takes_no_end s own past next n.0 h.2.0 o.0, takes_no_ends s pasts items nexts h.1 n.1 h.3 o.1)
-takes_no_ends s [] [] (next ∷ nexts) released n h o = absurd h
-takes_no_ends s [] (own ∷ items) nexts released n h o = absurd h
-takes_no_ends s (past ∷ pasts) [] nexts released n h o = absurd h
-takes_no_ends s (past ∷ pasts) (own ∷ items) [] released n h o = absurd h
+pub takes_no_ends : (s : Settings) (pasts : List Journal) (asked : List Asking) (items : List (List Item)) (nexts : List Journal) (asked_now : List Asking) (released : List Arrival) → AllByRecursion (AllByRecursion IsNoEnd) items
+    → TakesEach s pasts asked items nexts asked_now released → AllByRecursion HasNoEnd pasts → AllByRecursion HasNoEnd nexts
+takes_no_ends s [] asked [] [] asked_now released n h o = tt
+takes_no_ends s (past ∷ pasts) asked (own ∷ items) (next ∷ nexts) asked_now released n h o =
+    (takes_no_end s own (record { journal = past; askings = asked }) (record { journal = next; askings = h.2 }) n.0 h.3.0 o.0, takes_no_ends s pasts h.2 items nexts asked_now h.1 n.1 h.4 o.1)
+takes_no_ends s [] asked [] (next ∷ nexts) asked_now released n h o = absurd h
+takes_no_ends s [] asked (own ∷ items) nexts asked_now released n h o = absurd h
+takes_no_ends s (past ∷ pasts) asked [] nexts asked_now released n h o = absurd h
+takes_no_ends s (past ∷ pasts) asked (own ∷ items) [] asked_now released n h o = absurd h
 
 -- the spans of a queue are no Ends
 spans_no_end : (queue : List Arrival) → AllByRecursion IsNoEnd (map Span queue)

@@ -3,13 +3,14 @@ use Rattle.std.proofs.Common.{◌≡◌, ℕ, ◌+◌, Bool, true, false, cond, 
 use Rattle.std.proofs.lemmas.Bool.Decides.{nat_tests}
 use Rattle.otlp_types.specs.declared.arrival.Arrival.{Arrival}
 use Rattle.otlp_types.specs.declared.arrival.Item.TheVariants.{Span, Tick, End}
-use Rattle.shard_core.specs.Journal.{Settings, Entry, Journal, Decision, due_now, decisions_now, has_ended}
+use Rattle.shard_core.specs.Journal.{Settings, Entry, Journal, Opening, due_now, decision, decisions_in_turn, decisions_now, spans_since, are_each_answered, has_ended}
+use Rattle.policy_eval.specs.Given.{are_answered}
 use Rattle.shard_core.specs.Fate.{Effect, no_effect, ◌then◌, DroppedSpan, effect, effect_of_taking, effect_of_decision, effect_of_decisions}
 use Rattle.shard_core.specs.Taking.{marks_apply_to_ids}
 use Rattle.span_world.specs.World.{Config, Shard, World as Core, settings, ticker, has_due}
 use Rattle.span_world.specs.Step.{take as take_step, tick, end, decide, ship, take_on, tick_on, end_on, decide_on, ship_on, sender_is_done, after_decision}
-use Rattle.span_world.proofs.Finishing.{length_decisions}
 use Rattle.script_run.specs.World.{entry_of}
+use Rattle.script_run.proofs.Answering.{given_to, AreGiven, next_effect}
 use Rattle.script_run.proofs.Stands.{quiet_shard}
 use Rattle.script_run.proofs.QuietRuns.{Leads, leads_same, leads_one, leads_then}
 
@@ -43,6 +44,14 @@ passes_third true b d x e f g = absurd (cc e)
 passes_third false true d x e f g = absurd (cc f)
 passes_third false false true x e f g = refl
 passes_third false false false x e f g = absurd (cc g)
+
+and_left : (a b : Bool) → (a && b) ≡ true → a ≡ true
+and_left true b h = refl
+and_left false b h = absurd (cc h)
+
+and_right : (a b : Bool) → (a && b) ≡ true → b ≡ true
+and_right true b h = h
+and_right false b h = absurd (cc h)
 
 -- no number is below itself
 not_below_itself : (n : ℕ) → nat_lt n n ≡ false
@@ -88,37 +97,47 @@ module _ (c : Config) (k : Core) where
     abbrev pub among : Shard → (exported : List Arrival) → (counted : List DroppedSpan) → Core
     among sh exported counted = with_shards (front ++ sh ∷ rest) exported counted
 
-    -- the oldest episode that is due is decided
-    decides_one : (q u X : List Arrival) (J : Journal) (n : ℕ) (C : List DroppedSpan) (d : Decision) → slice_get (decisions_now own J) n ≡ Some d
-        → Leads c (among (shard q J n u) X C) (among (shard q J (n + 1) (u ++ (effect_of_decision d).released)) X (C ++ (effect_of_decision d).counted))
-    decides_one q u X J n C d e = leads_one c _ _ (decide (length front)) (ap (option_and_then (decide_on c w (length front))) (mid_get front sh rest)
-        ∙ (ap (option_map (λ (d : Decision). after_decision w (length front) sh (effect_of_decision d))) e
-        ∙ ap (λ (z : List Shard). Some (with_shards z X (C ++ (effect_of_decision d).counted))) (mid_set front sh (shard q J (n + 1) (u ++ (effect_of_decision d).released)) rest)))
+    -- the oldest episode that is due is decided by these answers
+    decides_one : (q u X : List Arrival) (e : Entry) (J : Journal) (given : List (List Bool)) (n : ℕ) (C : List DroppedSpan) (o : Opening) (answers : List Bool) → slice_get (due_now own (e ∷ J)) n ≡ Some o
+        → are_answered c.policies answers (spans_since (e ∷ J) o) ≡ true → (let d = decision own (e ∷ J) o answers in
+        Leads c (among (shard q (given_to e given ∷ J) n u) X C) (among (shard q (given_to e (given ++ answers ∷ []) ∷ J) (n + 1) (u ++ (effect_of_decision d).released)) X (C ++ (effect_of_decision d).counted)))
+    decides_one q u X e J given n C o answers due fits = leads_one c _ _ (decide (length front) answers) (ap (option_and_then (decide_on c w (length front) answers)) (mid_get front sh rest)
+        ∙ (ap (option_map (after_decision w (length front) sh answers)) (next_effect own e J given n o answers due fits)
+        ∙ ap (λ (z : List Shard). Some (with_shards z X (C ++ did.counted))) (mid_set front sh (shard q (given_to e (given ++ answers ∷ []) ∷ J) (n + 1) (u ++ did.released)) rest)))
       where
         sh : Shard
-        sh = shard q J n u
+        sh = shard q (given_to e given ∷ J) n u
 
         w : Core
-        w = among (shard q J n u) X C
+        w = among (shard q (given_to e given ∷ J) n u) X C
 
-    -- the episodes that are due are decided in turn
-    decides_all : (q u X : List Arrival) (J : Journal) (C : List DroppedSpan) (dealt ds : List Decision) → decisions_now own J ≡ dealt ++ ds
-        → Leads c (among (shard q J (length dealt) u) X C)
-        (among (shard q J (length (due_now own J)) (u ++ (effect_of_decisions ds).released)) X (C ++ (effect_of_decisions ds).counted))
-    decides_all q u X J C dealt [] e = leads_same c _ _ (cc (append-nil u, append-nil C, all))
+        did : Effect
+        did = effect_of_decision (decision own (e ∷ J) o answers)
+
+    -- the episodes that are due are decided in turn, by their answers
+    decides_all : (q u X : List Arrival) (e : Entry) (J : Journal) (C : List DroppedSpan) (given left : List (List Bool)) (before os : List Opening) → due_now own (e ∷ J) ≡ before ++ os
+        → are_each_answered own.policies (e ∷ J) os left ≡ true → (let ds = decisions_in_turn own (e ∷ J) os left in
+        Leads c (among (shard q (given_to e given ∷ J) (length before) u) X C)
+        (among (shard q (given_to e (given ++ left) ∷ J) (length (due_now own (e ∷ J))) (u ++ (effect_of_decisions ds).released)) X (C ++ (effect_of_decisions ds).counted)))
+    decides_all q u X e J C given [] before [] is fits = leads_same c _ _ (cc (append-nil u, append-nil C, append-nil given, all))
       where
-        all : length dealt ≡ length (due_now own J)
-        all = sym (ap (λ (z : List Decision). length z) (e ∙ append-nil dealt)) ∙ length_decisions own J
-    decides_all q u X J C dealt (d ∷ ds) e = leads_then c _ _ _ (decides_one q u X J (length dealt) C d (ap (λ (z : List Decision). slice_get z (length dealt)) e ∙ mid_get dealt d ds))
-        (leads_then c _ _ _ (leads_same c _ _ (ap (λ (n : ℕ). among (shard q J n (u ++ one.released)) X (C ++ one.counted)) longer))
-        (leads_then c _ _ _ (decides_all q (u ++ one.released) X J (C ++ one.counted) (dealt ++ d ∷ []) ds (e ∙ sym (append_assoc dealt (d ∷ []) ds)))
-        (leads_same c _ _ (cc (append_assoc u one.released (effect_of_decisions ds).released, append_assoc C one.counted (effect_of_decisions ds).counted)))))
+        all : length before ≡ length (due_now own (e ∷ J))
+        all = sym (ap (λ (z : List Opening). length z) (is ∙ append-nil before))
+    decides_all q u X e J C given (a ∷ left) before [] is fits = absurd (cc fits)
+    decides_all q u X e J C given [] before (o ∷ os) is fits = absurd (cc fits)
+    decides_all q u X e J C given (a ∷ left) before (o ∷ os) is fits = leads_then c _ _ _ (decides_one q u X e J given (length before) C o a (ap (λ (z : List Opening). slice_get z (length before)) is ∙ mid_get before o os) (and_left _ _ fits))
+        (leads_then c _ _ _ (leads_same c _ _ (ap (λ (n : ℕ). among (shard q (given_to e (given ++ a ∷ []) ∷ J) n (u ++ one.released)) X (C ++ one.counted)) longer))
+        (leads_then c _ _ _ (decides_all q (u ++ one.released) X e J (C ++ one.counted) (given ++ a ∷ []) left (before ++ o ∷ []) os (is ∙ sym (append_assoc before (o ∷ []) os)) (and_right _ _ fits))
+        (leads_same c _ _ (cc (append_assoc u one.released more.released, append_assoc C one.counted more.counted, append_assoc given (a ∷ []) left)))))
       where
         one : Effect
-        one = effect_of_decision d
+        one = effect_of_decision (decision own (e ∷ J) o a)
 
-        longer : length dealt + 1 ≡ length (dealt ++ d ∷ [])
-        longer = omega (arith, length-append dealt (d ∷ []))
+        more : Effect
+        more = effect_of_decisions (decisions_in_turn own (e ∷ J) os left)
+
+        longer : length before + 1 ≡ length (before ++ o ∷ [])
+        longer = omega (arith, length-append before (o ∷ []))
 
     -- the spans that were released go to the exporter in turn
     ships_all : (q u X : List Arrival) (J : Journal) (n : ℕ) (C : List DroppedSpan) → Leads c (among (shard q J n u) X C) (among (shard q J n []) (X ++ u) C)
@@ -134,10 +153,10 @@ module _ (c : Config) (k : Core) where
             ∙ ap (λ (z : List Shard). Some (with_shards z (X ++ a ∷ []) C)) (mid_set front (shard q J n (a ∷ u)) (shard q J n u) rest)
 
     -- once an entry was taken, all that is due is decided and all that was released is shipped
-    settles : (q X : List Arrival) (J : Journal) (e : Entry) (C : List DroppedSpan)
-        → Leads c (among (shard q (e ∷ J) 0 (effect_of_taking own e J).released) X (C ++ (effect_of_taking own e J).counted))
+    settles : (q X : List Arrival) (J : Journal) (e : Entry) (C : List DroppedSpan) → AreGiven own e J
+        → Leads c (among (shard q (given_to e [] ∷ J) 0 (effect_of_taking own e J).released) X (C ++ (effect_of_taking own e J).counted))
         (among (quiet_shard own q (e ∷ J)) (X ++ (gain own e J).released) (C ++ (gain own e J).counted))
-    settles q X J e C = leads_then c _ _ _ (decides_all q did.released X (e ∷ J) (C ++ did.counted) [] (decisions_now own (e ∷ J)) refl)
+    settles q X J e C fits = leads_then c _ _ _ (decides_all q did.released X e J (C ++ did.counted) [] e.answers [] (due_now own (e ∷ J)) refl fits)
         (leads_then c _ _ _ (leads_same c _ _ (ap (λ (z : List DroppedSpan). among (shard q (e ∷ J) (length (due_now own (e ∷ J))) (gain own e J).released) X z) (append_assoc C did.counted ds.counted)))
         (ships_all q (gain own e J).released X (e ∷ J) (length (due_now own (e ∷ J))) (C ++ (gain own e J).counted)))
       where
@@ -157,52 +176,53 @@ module _ (c : Config) (k : Core) where
         → Leads c (among (quiet_shard own before J) X C) (among (quiet_shard own after (e ∷ J)) (X ++ (gain own e J).released) (C ++ (gain own e J).counted))
 
     -- a quiet shard takes the first span of its queue
-    pub takes_span : (a : Arrival) (q : List Arrival) (J : Journal) (refused lost : Bool) → marks_apply_to_ids own J refused lost a.rec.span.ids ≡ true
-        → TakesQuietly (a ∷ q) q J (entry_of (Span a) refused lost)
-    takes_span a q J refused lost marks X C = leads_then c _ _ _ (leads_one c _ _ (take_step (length front) refused lost) one) (settles q X J e C)
+    pub takes_span : (a : Arrival) (q : List Arrival) (J : Journal) (refused lost : Bool) (given : List (List Bool)) → marks_apply_to_ids own J refused lost a.rec.span.ids ≡ true
+        → AreGiven own (given_to (entry_of (Span a) refused lost) given) J → TakesQuietly (a ∷ q) q J (given_to (entry_of (Span a) refused lost) given)
+    takes_span a q J refused lost given marks fits X C = leads_then c _ _ _ (leads_one c _ _ (take_step (length front) refused lost) one) (settles q X J e C fits)
       where
         e : Entry
-        e = entry_of (Span a) refused lost
+        e = given_to (entry_of (Span a) refused lost) given
 
         w : Core
         w = among (quiet_shard own (a ∷ q) J) X C
 
         one : option_and_then (λ (sh : Shard). take_on c w (length front) refused lost sh sh.queue) (slice_get (front ++ quiet_shard own (a ∷ q) J ∷ rest) (length front))
-            ≡ Some (among (shard q (e ∷ J) 0 (effect_of_taking own e J).released) X (C ++ (effect_of_taking own e J).counted))
+            ≡ Some (among (shard q (given_to e [] ∷ J) 0 (effect_of_taking own e J).released) X (C ++ (effect_of_taking own e J).counted))
         one = ap (option_and_then (λ (sh : Shard). take_on c w (length front) refused lost sh sh.queue)) (mid_get front (quiet_shard own (a ∷ q) J) rest)
             ∙ (passes (has_due own (quiet_shard own (a ∷ q) J)) (marks_apply_to_ids own J refused lost a.rec.span.ids) _ (nothing_due (a ∷ q) J) marks
-            ∙ ap (λ (z : List Shard). Some (with_shards z X (C ++ (effect_of_taking own e J).counted))) (mid_set front (quiet_shard own (a ∷ q) J) (shard q (e ∷ J) 0 (effect_of_taking own e J).released) rest))
+            ∙ ap (λ (z : List Shard). Some (with_shards z X (C ++ (effect_of_taking own e J).counted))) (mid_set front (quiet_shard own (a ∷ q) J) (shard q (given_to e [] ∷ J) 0 (effect_of_taking own e J).released) rest))
 
     -- a quiet shard takes a tick
-    pub takes_tick : (moment : ℕ) (q : List Arrival) (J : Journal) → has_ended J (ticker k) ≡ false → TakesQuietly q q J (entry_of (Tick moment) false false)
-    takes_tick moment q J runs X C = leads_then c _ _ _ (leads_one c _ _ (tick (length front) moment) one) (settles q X J e C)
+    pub takes_tick : (moment : ℕ) (q : List Arrival) (J : Journal) (given : List (List Bool)) → has_ended J (ticker k) ≡ false → AreGiven own (given_to (entry_of (Tick moment) false false) given) J
+        → TakesQuietly q q J (given_to (entry_of (Tick moment) false false) given)
+    takes_tick moment q J given runs fits X C = leads_then c _ _ _ (leads_one c _ _ (tick (length front) moment) one) (settles q X J e C fits)
       where
         e : Entry
-        e = entry_of (Tick moment) false false
+        e = given_to (entry_of (Tick moment) false false) given
 
         w : Core
         w = among (quiet_shard own q J) X C
 
         one : option_and_then (tick_on c w (length front) moment) (slice_get (front ++ quiet_shard own q J ∷ rest) (length front))
-            ≡ Some (among (shard q (e ∷ J) 0 (effect_of_taking own e J).released) X (C ++ (effect_of_taking own e J).counted))
+            ≡ Some (among (shard q (given_to e [] ∷ J) 0 (effect_of_taking own e J).released) X (C ++ (effect_of_taking own e J).counted))
         one = ap (option_and_then (tick_on c w (length front) moment)) (mid_get front (quiet_shard own q J) rest)
             ∙ (passes_none (has_due own (quiet_shard own q J)) (has_ended J (ticker k)) _ (nothing_due q J) runs
-            ∙ ap (λ (z : List Shard). Some (with_shards z X (C ++ (effect_of_taking own e J).counted))) (mid_set front (quiet_shard own q J) (shard q (e ∷ J) 0 (effect_of_taking own e J).released) rest))
+            ∙ ap (λ (z : List Shard). Some (with_shards z X (C ++ (effect_of_taking own e J).counted))) (mid_set front (quiet_shard own q J) (shard q (given_to e [] ∷ J) 0 (effect_of_taking own e J).released) rest))
 
     -- a quiet shard takes an End
-    pub takes_end : (sender : ℕ) (q : List Arrival) (J : Journal) → has_ended J sender ≡ false
+    pub takes_end : (sender : ℕ) (q : List Arrival) (J : Journal) (given : List (List Bool)) → has_ended J sender ≡ false → AreGiven own (given_to (entry_of (End sender) false false) given) J
         → ((X : List Arrival) (C : List DroppedSpan) → sender_is_done (among (quiet_shard own q J) X C) (length front) (quiet_shard own q J) sender (slice_get k.lanes sender) ≡ true)
-        → TakesQuietly q q J (entry_of (End sender) false false)
-    takes_end sender q J runs done X C = leads_then c _ _ _ (leads_one c _ _ (end (length front) sender) one) (settles q X J e C)
+        → TakesQuietly q q J (given_to (entry_of (End sender) false false) given)
+    takes_end sender q J given runs fits done X C = leads_then c _ _ _ (leads_one c _ _ (end (length front) sender) one) (settles q X J e C fits)
       where
         e : Entry
-        e = entry_of (End sender) false false
+        e = given_to (entry_of (End sender) false false) given
 
         w : Core
         w = among (quiet_shard own q J) X C
 
         one : option_and_then (end_on c w (length front) sender) (slice_get (front ++ quiet_shard own q J ∷ rest) (length front))
-            ≡ Some (among (shard q (e ∷ J) 0 (effect_of_taking own e J).released) X (C ++ (effect_of_taking own e J).counted))
+            ≡ Some (among (shard q (given_to e [] ∷ J) 0 (effect_of_taking own e J).released) X (C ++ (effect_of_taking own e J).counted))
         one = ap (option_and_then (end_on c w (length front) sender)) (mid_get front (quiet_shard own q J) rest)
             ∙ (passes_third (has_due own (quiet_shard own q J)) (has_ended J sender) (sender_is_done w (length front) (quiet_shard own q J) sender (slice_get k.lanes sender)) _ (nothing_due q J) runs (done X C)
-            ∙ ap (λ (z : List Shard). Some (with_shards z X (C ++ (effect_of_taking own e J).counted))) (mid_set front (quiet_shard own q J) (shard q (e ∷ J) 0 (effect_of_taking own e J).released) rest))
+            ∙ ap (λ (z : List Shard). Some (with_shards z X (C ++ (effect_of_taking own e J).counted))) (mid_set front (quiet_shard own q J) (shard q (given_to e [] ∷ J) 0 (effect_of_taking own e J).released) rest))

@@ -7,11 +7,14 @@ use Rattle.otlp_types.specs.declared.arrival.Arrival.{Arrival}
 use Rattle.otlp_types.specs.declared.arrival.Item.{Item}
 use Rattle.otlp_types.specs.declared.arrival.Item.TheVariants.{Span, Tick, End}
 use Rattle.span_ids.specs.declared.outcome.Reason.{Reason}
-use Rattle.shard_core.specs.Journal.{Journal, has_ended}
+use Rattle.shard_core.specs.Journal.{Entry, Journal, has_ended}
 use Rattle.shard_core.specs.Fate.{Effect, no_effect, ◌then◌, DroppedSpan, effect, is_same_reason, under}
 use Rattle.span_world.specs.World.{Config, Shard, World as Core, ticker}
 use Rattle.span_world.specs.Step.{sender_is_done}
-use Rattle.script_run.specs.World.{entry_of, Takes, TakesEach}
+use Rattle.script_run.specs.World.{Turn, entry_of, with_entry, Takes, TakesEach}
+use Rattle.script_run.specs.Limiting.{with_answers}
+use Rattle.rate_budget.specs.Grant.{Asking}
+use Rattle.script_run.proofs.Answering.{AreGiven, answers_fit}
 use Rattle.script_run.specs.Counts.{dropped_by_journal}
 use Rattle.script_run.proofs.Stands.{quiet_shard, shards_with, no_queues}
 use Rattle.script_run.proofs.QuietRuns.{Leads, leads_same, leads_then}
@@ -56,48 +59,59 @@ module _ (c : Config) (k : Core) where
     })
 
     -- a shard takes an item and then others
-    more_turned : (before after_queue : List Arrival) (J after : Journal) (item : Item) (refused lost : Bool) (X : List Arrival) (C : List DroppedSpan)
-        → TakesQuietly c k front rest before after_queue J (entry_of item refused lost)
-        → ((Y : List Arrival) (D : List DroppedSpan) → Turned after_queue (entry_of item refused lost ∷ J) after Y D) → Turned before J after X C
-    more_turned before after_queue J after item refused lost X C h f = record {
+    more_turned : (before after_queue : List Arrival) (J after : Journal) (e : Entry) (X : List Arrival) (C : List DroppedSpan)
+        → TakesQuietly c k front rest before after_queue J e
+        → ((Y : List Arrival) (D : List DroppedSpan) → Turned after_queue (e ∷ J) after Y D) → Turned before J after X C
+    more_turned before after_queue J after e X C h f = record {
       did = one then more.did;
-      is = more.is ∙ (ap (λ (z : Effect). z then more.did) (effect_more (own c k) (entry_of item refused lost) J) ∙ then_assoc (effect (own c k) J) one more.did);
+      is = more.is ∙ (ap (λ (z : Effect). z then more.did) (effect_more (own c k) e J) ∙ then_assoc (effect (own c k) J) one more.did);
       leads = leads_then c _ _ _ (h X C) (leads_then c _ _ _ more.leads (leads_same c _ _ (cc (append_assoc X one.released more.did.released, append_assoc C one.counted more.did.counted))));
     }
       where
         one : Effect
-        one = gain (own c k) (entry_of item refused lost) J
+        one = gain (own c k) e J
 
-        more : Turned after_queue (entry_of item refused lost ∷ J) after (X ++ one.released) (C ++ one.counted)
+        more : Turned after_queue (e ∷ J) after (X ++ one.released) (C ++ one.counted)
         more = f (X ++ one.released) (C ++ one.counted)
 
+    -- the entry with the limiter's answers
+    abbrev decided : Turn → Item → (refused lost : Bool) → Entry
+    decided t item refused lost = with_answers (own c k) t.journal t.askings (entry_of item refused lost)
+
+    fits : (t : Turn) (item : Item) (refused lost : Bool) → AreGiven (own c k) (decided t item refused lost) t.journal
+    fits t item refused lost = answers_fit (own c k) (entry_of item refused lost) t.journal t.askings
+
     -- a shard takes the spans of its queue
-    spans_turned : (queue : List Arrival) (J after : Journal) → Takes (own c k) J (map Span queue) after → (X : List Arrival) (C : List DroppedSpan) → Turned queue J after X C
-    spans_turned [] J after h X C = none_turned J after X C h
-    spans_turned (a ∷ queue) J after h X C = more_turned (a ∷ queue) queue J after (Span a) h.0 h.1 X C (takes_span c k front rest a queue J h.0 h.1 h.2)
-        (spans_turned queue (entry_of (Span a) h.0 h.1 ∷ J) after h.3)
+    spans_turned : (queue : List Arrival) (t after : Turn) → Takes (own c k) t (map Span queue) after → (X : List Arrival) (C : List DroppedSpan) → Turned queue t.journal after.journal X C
+    spans_turned [] t after h X C = none_turned t.journal after.journal X C (ap (λ (z : Turn). z.journal) h)
+    spans_turned (a ∷ queue) t after h X C = more_turned (a ∷ queue) queue t.journal after.journal (decided t (Span a) h.0 h.1) X C
+        (takes_span c k front rest a queue t.journal h.0 h.1 (decided t (Span a) h.0 h.1).answers h.2 (fits t (Span a) h.0 h.1))
+        (spans_turned queue (with_entry (own c k) t (entry_of (Span a) h.0 h.1)) after h.3)
 
     -- a shard takes an item that memory is not refused to
-    unmarked_turned : (item : Item) (J after : Journal) (refused lost : Bool) → (not refused && not lost) ≡ true → after ≡ entry_of item refused lost ∷ J
-        → TakesQuietly c k front rest [] [] J (entry_of item false false) → (X : List Arrival) (C : List DroppedSpan) → Turned [] J after X C
-    unmarked_turned item J after true lost m e h X C = absurd (cc m)
-    unmarked_turned item J after false true m e h X C = absurd (cc m)
-    unmarked_turned item J after false false m e h X C = more_turned [] [] J after item false false X C h (λ Y D. none_turned (entry_of item false false ∷ J) after Y D e)
+    unmarked_turned : (item : Item) (t after : Turn) (refused lost : Bool) → (not refused && not lost) ≡ true → after ≡ with_entry (own c k) t (entry_of item refused lost)
+        → TakesQuietly c k front rest [] [] t.journal (decided t item false false) → (X : List Arrival) (C : List DroppedSpan) → Turned [] t.journal after.journal X C
+    unmarked_turned item t after true lost m e h X C = absurd (cc m)
+    unmarked_turned item t after false true m e h X C = absurd (cc m)
+    unmarked_turned item t after false false m e h X C = more_turned [] [] t.journal after.journal (decided t item false false) X C h
+        (λ Y D. none_turned (decided t item false false ∷ t.journal) after.journal Y D (ap (λ (z : Turn). z.journal) e))
 
     -- a shard takes a tick
-    tick_turned : (moment : ℕ) (J after : Journal) → has_ended J (ticker k) ≡ false → Takes (own c k) J (Tick moment ∷ []) after → (X : List Arrival) (C : List DroppedSpan) → Turned [] J after X C
-    tick_turned moment J after runs h = unmarked_turned (Tick moment) J after h.0 h.1 h.2 h.3 (takes_tick c k front rest moment [] J runs)
+    tick_turned : (moment : ℕ) (t after : Turn) → has_ended t.journal (ticker k) ≡ false → Takes (own c k) t (Tick moment ∷ []) after → (X : List Arrival) (C : List DroppedSpan) → Turned [] t.journal after.journal X C
+    tick_turned moment t after runs h = unmarked_turned (Tick moment) t after h.0 h.1 h.2 h.3
+        (takes_tick c k front rest moment [] t.journal (decided t (Tick moment) false false).answers runs (fits t (Tick moment) false false))
 
     -- a shard takes an End
-    end_turned : (sender : ℕ) (J after : Journal) → has_ended J sender ≡ false → IsDone sender → Takes (own c k) J (End sender ∷ []) after → (X : List Arrival) (C : List DroppedSpan) → Turned [] J after X C
-    end_turned sender J after runs done h = unmarked_turned (End sender) J after h.0 h.1 h.2 h.3
-        (takes_end c k front rest sender [] J runs (λ X C. done (front ++ quiet_shard (own c k) [] J ∷ rest) X C (length front) J))
+    end_turned : (sender : ℕ) (t after : Turn) → has_ended t.journal sender ≡ false → IsDone sender → Takes (own c k) t (End sender ∷ []) after → (X : List Arrival) (C : List DroppedSpan) → Turned [] t.journal after.journal X C
+    end_turned sender t after runs done h = unmarked_turned (End sender) t after h.0 h.1 h.2 h.3
+        (takes_end c k front rest sender [] t.journal (decided t (End sender) false false).answers runs (fits t (End sender) false false)
+        (λ X C. done (front ++ quiet_shard (own c k) [] t.journal ∷ rest) X C (length front) t.journal))
 
     -- a shard takes its items
-    turned : (queue : List Arrival) (J after : Journal) (items : List Item) → Takable queue J items → Takes (own c k) J items after → (X : List Arrival) (C : List DroppedSpan) → Turned queue J after X C
-    turned queue J after items (queued e) h = spans_turned queue J after (subst (λ (z : List Item). Takes (own c k) J z after) e h)
-    turned queue J after items (ticked moment q e runs) h = rw q (tick_turned moment J after runs (subst (λ (z : List Item). Takes (own c k) J z after) e h))
-    turned queue J after items (ended sender q e runs done) h = rw q (end_turned sender J after runs done (subst (λ (z : List Item). Takes (own c k) J z after) e h))
+    turned : (queue : List Arrival) (t after : Turn) (items : List Item) → Takable queue t.journal items → Takes (own c k) t items after → (X : List Arrival) (C : List DroppedSpan) → Turned queue t.journal after.journal X C
+    turned queue t after items (queued e) h = spans_turned queue t after (subst (λ (z : List Item). Takes (own c k) t z after) e h)
+    turned queue t after items (ticked moment q e runs) h = rw q (tick_turned moment t after runs (subst (λ (z : List Item). Takes (own c k) t z after) e h))
+    turned queue t after items (ended sender q e runs done) h = rw q (end_turned sender t after runs done (subst (λ (z : List Item). Takes (own c k) t z after) e h))
 
   -- each shard may take its items
   abbrev pub AllTakable : (queues : List (List Arrival)) → List Journal → (items : List (List Item)) → Type 0
@@ -148,17 +162,17 @@ module _ (c : Config) (k : Core) where
       own_counts reason = ap (λ (z : Effect). length (under reason z.counted)) one.is ∙ under_append reason (effect (own c k) past).counted one.did.counted
 
   -- each shard in its turn takes its items, where each may
-  pub rounds : (front : List Shard) (queues : List (List Arrival)) (pasts : List Journal) (items : List (List Item)) (nexts : List Journal) (released : List Arrival)
-      → AllTakable queues pasts items → TakesEach (own c k) pasts items nexts released → (X : List Arrival) (C : List DroppedSpan) → Rounded front queues pasts nexts X released C
-  rounds front [] [] [] [] released t h X C = rw h (record {
+  pub rounds : (front : List Shard) (queues : List (List Arrival)) (pasts : List Journal) (asked : List Asking) (items : List (List Item)) (nexts : List Journal) (asked_now : List Asking) (released : List Arrival)
+      → AllTakable queues pasts items → TakesEach (own c k) pasts asked items nexts asked_now released → (X : List Arrival) (C : List DroppedSpan) → Rounded front queues pasts nexts X released C
+  rounds front [] [] asked [] [] asked_now released t h X C = rw (h.0) (record {
     counted = C;
     counts = λ reason. refl;
     leads = leads_same c _ _ (ap (λ (z : List Arrival). with_shards c k (front ++ []) z C) (sym (append-nil X)));
   })
-  rounds front (queue ∷ queues) (past ∷ pasts) (items ∷ others) (next ∷ nexts) released t h X C =
-      let one = turned front (shards_with (own c k) queues pasts) queue past next items t.0 h.2.0 X C in
-      rounded_more front queue queues past next pasts nexts X h.0 h.1 released C h.2.1 h.4 one
-      (rounds (front ++ quiet_shard (own c k) [] next ∷ []) queues pasts others nexts h.1 t.1 h.3 (X ++ one.did.released) (C ++ one.did.counted))
-  rounds front [] [] [] (next ∷ nexts) released t h X C = absurd h
-  rounds front (queue ∷ queues) (past ∷ pasts) (items ∷ others) [] released t h X C = absurd h
-  rounds front queues pasts items nexts released t h X C = absurd t
+  rounds front (queue ∷ queues) (past ∷ pasts) asked (items ∷ others) (next ∷ nexts) asked_now released t h X C =
+      let one = turned front (shards_with (own c k) queues pasts) queue (record { journal = past; askings = asked }) (record { journal = next; askings = h.2 }) items t.0 h.3.0 X C in
+      rounded_more front queue queues past next pasts nexts X h.0 h.1 released C h.3.1 h.5 one
+      (rounds (front ++ quiet_shard (own c k) [] next ∷ []) queues pasts h.2 others nexts asked_now h.1 t.1 h.4 (X ++ one.did.released) (C ++ one.did.counted))
+  rounds front [] [] asked [] (next ∷ nexts) asked_now released t h X C = absurd h
+  rounds front (queue ∷ queues) (past ∷ pasts) asked (items ∷ others) [] asked_now released t h X C = absurd h
+  rounds front queues pasts asked items nexts asked_now released t h X C = absurd t

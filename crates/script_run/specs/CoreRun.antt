@@ -1,5 +1,5 @@
 -- What makes a played script a run of the core.
-use Rattle.std.specs.Prelude.{◌≡◌, ℕ, ◌==◌, Bool, true, false, ◌&&◌, not, List, [], length, map, filter, flat_map, slice_get, Some}
+use Rattle.std.specs.Prelude.{◌≡◌, ℕ, ◌==◌, Bool, true, ◌&&◌, not, List, [], length, map, filter, flat_map, slice_get, Some}
 use Rattle.std.specs.List.{list_all}
 use Rattle.otlp_types.specs.declared.arrival.Arrival.{Arrival}
 use Rattle.shard_core.specs.Journal.{Settings}

@@ -7,7 +7,7 @@ use Rattle.shard_core.specs.Journal.{Settings, Journal}
 use Rattle.shard_core.specs.Fate.{is_same_reason, effect, under}
 use Rattle.lane_seq.specs.Numbers.{is_invalid}
 use Rattle.span_exporter.specs.declared.answer.Flushed.{Flushed}
-use Rattle.span_exporter.specs.declared.answer.Flushed.TheVariants.{Handed as WasHanded, Spoiled, Empty}
+use Rattle.span_exporter.specs.declared.answer.Flushed.TheVariants.{Handed as WasHanded, Spoiled}
 use Rattle.drop_ledger.specs.Places.{place_of}
 use Rattle.drop_ledger.specs.declared.count.Count.{Count}
 use Rattle.drop_ledger.specs.declared.count.Count.TheVariants.{Received, Handed, Dropped}

@@ -33,12 +33,13 @@ EachIsARunOfCore = OfEachScript (λ s sizes lanes shards first after. IsRunOfCor
 abbrev pub EachWritesItsEvents : Type 0
 EachWritesItsEvents = OfEachScript (λ s sizes lanes shards first after. WritesAll first after.events after.sink × FailedOnce first after.sink)
 
--- two runs did the same: they received the same spans on the same connections, their shards took the same, their events and their counts are the same; where the bytes of the sink are known at first, they are the same at last
+-- two runs did the same: they received the same spans on the same connections, their shards took the same, their limiter was asked the same, their events and their counts are the same; where the bytes of the sink are known at first, they are the same at last
 pub record Agrees (s : Settings) (first : LineSinkState) (a b : World) : Type 0 where
   pub contacts : a.contacts ≡ b.contacts
   pub received : a.received ≡ b.received
   pub full : a.full ≡ b.full
   pub journals : a.journals ≡ b.journals
+  pub askings : a.askings ≡ b.askings
   pub events : a.events ≡ b.events
   pub closed : a.closed ≡ b.closed
   pub counts : (count : Count) → number_of s a count ≡ number_of s b count

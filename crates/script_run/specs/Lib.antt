@@ -1,6 +1,7 @@
 pub mod Connections
 pub mod Requests
 pub mod Sending
+pub mod Limiting
 pub mod World
 pub mod Counts
 pub mod Writing

@@ -8,12 +8,14 @@ use Rattle.lane_queue.specs.Queues.{QueueState, TakesLast, IsFull}
 use Rattle.lane_seq.specs.Pushes.{Receives as IsPushed}
 use Rattle.lane_seq.specs.declared.reply.Reply.{Reply}
 use Rattle.lane_seq.specs.declared.reply.Reply.TheVariants.{Busy}
+use Rattle.rate_budget.specs.Grant.{Asking}
 use Rattle.shard_core.specs.Journal.{Settings, Journal, Entry}
 use Rattle.shard_core.specs.Fate.{output}
 use Rattle.shard_core.specs.Taking.{marks_apply}
 use Rattle.span_sink.specs.LineSinks.{LineSinkState}
 use Rattle.span_exporter.specs.Exports.{WritesLine}
 use Rattle.tsc_script.specs.Instructions.{Instruction, receive, tick, close}
+use Rattle.script_run.specs.Limiting.{with_answers, askings_after}
 use Rattle.script_run.specs.Connections.{Contacts, connection_of, with_connection, with_received}
 use Rattle.script_run.specs.Requests.{Reading, reads, refuses, IsTakenFor, arrivals_of, reply_line}
 use Rattle.script_run.specs.Sending.{Sent, SendsInBatches}
@@ -23,12 +25,13 @@ pub data Event : Type 0 where
   replied : Reply → Event
   was_sent : Sent → Event
 
--- Between two lines of a script: the connections, the spans that were received and how many of them found their queue full, what each shard has taken, what was written in turn, what that left of the sink, and whether the script was closed. All that was due is decided, and all that was released was sent.
+-- Between two lines of a script: the connections, the spans that were received and how many of them found their queue full, what each shard has taken, what the limiter was asked, the latest asking first, what was written in turn, what that left of the sink, and whether the script was closed. All that was due is decided, and all that was released was sent.
 pub record World : Type 0 where
   pub contacts : Contacts
   pub received : List Arrival
   pub full : ℕ
   pub journals : List Journal
+  pub askings : List Asking
   pub events : List Event
   pub sink : LineSinkState
   pub closed : Bool
@@ -40,6 +43,7 @@ new_world lanes shards sink = record {
   received = [];
   full = 0;
   journals = replicate shards [];
+  askings = [];
   events = [];
   sink = sink;
   closed = false;
@@ -50,40 +54,49 @@ pub record Sizes : Type 0 where
   pub batch : ℕ
   pub queue : ℕ
 
--- an item as it stands in the journal: whether memory was refused to it, or to the decision that its opening put out of the buffer
+-- an item as it is taken: whether memory was refused to it, or to the decision that its opening put out of the buffer; no decision at it is answered yet
 abbrev pub entry_of : Item → (refused lost : Bool) → Entry
-entry_of item refused lost = record { item = item; refused = refused; lost = lost }
+entry_of item refused lost = record { item = item; refused = refused; lost = lost; answers = [] }
+
+-- What a shard has taken, and what the limiter was asked by all shards, the latest asking first.
+pub record Turn : Type 0 where
+  pub journal : Journal
+  pub askings : List Asking
+
+-- the shard has taken this item too, and decided all that is due at it by the limiter's answers
+abbrev pub with_entry : Settings → Turn → Entry → Turn
+with_entry s old e = record { journal = with_answers s old.journal old.askings e ∷ old.journal; askings = askings_after s old.journal old.askings e }
 
 -- the shard takes these items in turn; memory may be refused where taking one takes memory
-abbrev pub Takes : Settings → Journal → List Item → Journal → Type 0
+abbrev pub Takes : Settings → Turn → List Item → Turn → Type 0
 Takes s before [] after = after ≡ before
-Takes s before (item ∷ more) after = (refused lost : Bool) × (marks_apply s (entry_of item refused lost) before ≡ true)
-    × Takes s (entry_of item refused lost ∷ before) more after
+Takes s before (item ∷ more) after = (refused lost : Bool) × (marks_apply s (entry_of item refused lost) before.journal ≡ true)
+    × Takes s (with_entry s before (entry_of item refused lost)) more after
 
 -- the shard takes these items and decides all that is due, which releases these spans
-abbrev pub TakesFor : Settings → Journal → List Item → Journal → (released : List Arrival) → Type 0
-TakesFor s before items after released = Takes s before items after × (output s after ≡ output s before ++ released)
+abbrev pub TakesFor : Settings → Turn → List Item → Turn → (released : List Arrival) → Type 0
+TakesFor s before items after released = Takes s before items after × (output s after.journal ≡ output s before.journal ++ released)
 
--- each shard in its turn takes its items; what the first one releases comes first
-abbrev pub TakesEach : Settings → (before : List Journal) → (items : List (List Item)) → (after : List Journal) → (released : List Arrival) → Type 0
-TakesEach s [] [] [] released = released ≡ []
-TakesEach s (j ∷ js) (own ∷ others) (k ∷ ks) released = (first : List Arrival) × (rest : List Arrival)
-    × TakesFor s j own k first × TakesEach s js others ks rest × (released ≡ first ++ rest)
-TakesEach s _ _ _ released = ⊥
+-- each shard in its turn takes its items, and the limiter is lent to each in turn; what the first one releases comes first
+abbrev pub TakesEach : Settings → (before : List Journal) → (asked : List Asking) → (items : List (List Item)) → (after : List Journal) → (asked_now : List Asking) → (released : List Arrival) → Type 0
+TakesEach s [] asked [] [] asked_now released = (released ≡ []) × (asked_now ≡ asked)
+TakesEach s (j ∷ js) asked (own ∷ others) (k ∷ ks) asked_now released = (first : List Arrival) × (rest : List Arrival) × (between : List Asking)
+    × TakesFor s (record { journal = j; askings = asked }) own (record { journal = k; askings = between }) first × TakesEach s js between others ks asked_now rest × (released ≡ first ++ rest)
+TakesEach s _ _ _ _ _ released = ⊥
 
 -- several rounds, one after the other: in each, each shard takes its items
-abbrev pub TakesRounds : Settings → (before : List Journal) → (rounds : List (List (List Item))) → (after : List Journal) → (released : List Arrival) → Type 0
-TakesRounds s before [] after released = (after ≡ before) × (released ≡ [])
-TakesRounds s before (items ∷ more) after released = (between : List Journal) × (first : List Arrival) × (rest : List Arrival)
-    × TakesEach s before items between first × TakesRounds s between more after rest × (released ≡ first ++ rest)
+abbrev pub TakesRounds : Settings → (before : List Journal) → (asked : List Asking) → (rounds : List (List (List Item))) → (after : List Journal) → (asked_now : List Asking) → (released : List Arrival) → Type 0
+TakesRounds s before asked [] after asked_now released = (after ≡ before) × (asked_now ≡ asked) × (released ≡ [])
+TakesRounds s before asked (items ∷ more) after asked_now released = (between : List Journal) × (asked_between : List Asking) × (first : List Arrival) × (rest : List Arrival)
+    × TakesEach s before asked items between asked_between first × TakesRounds s between asked_between more after asked_now rest × (released ≡ first ++ rest)
 
 -- The shards take these items in rounds and decide all that is due. What that releases is sent in batches.
 pub record RunsToQuiet (s : Settings) (sizes : Sizes) (old : World) (rounds : List (List (List Item))) (new : World) : Type 0 where
   pub released : List Arrival
-  pub takes : TakesRounds s old.journals rounds new.journals released
+  pub takes : TakesRounds s old.journals old.askings rounds new.journals new.askings released
   pub batches : List Sent
   pub sends : SendsInBatches sizes.batch old.sink released batches new.sink
-  pub becomes : new ≡ record old { journals = new.journals; events = old.events ++ map was_sent batches; sink = new.sink }
+  pub becomes : new ≡ record old { journals = new.journals; askings = new.askings; events = old.events ++ map was_sent batches; sink = new.sink }
 
 -- the world after a reply, which left this of the sink
 abbrev pub after_reply : Reply → LineSinkState → World → World

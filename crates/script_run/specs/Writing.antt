@@ -1,12 +1,11 @@
 -- What the events of a script leave of the sink.
-use Rattle.std.specs.Prelude.{◌≡◌, ℕ, ◌+◌, if◌then◌else◌, List, [], ◌∷◌}
+use Rattle.std.specs.Prelude.{◌≡◌, ◌+◌, if◌then◌else◌, List, [], ◌∷◌}
 use Rattle.otlp_types.specs.declared.arrival.Arrival.{Arrival}
 use Rattle.span_sink.specs.LineSinks.{LineSinkState}
 use Rattle.span_exporter.specs.Exports.{WritesLine, Sends}
 use Rattle.span_exporter.specs.declared.answer.Flushed.{Flushed}
 use Rattle.span_exporter.specs.declared.answer.Flushed.TheVariants.{Handed, Spoiled, Empty}
 use Rattle.script_run.specs.Requests.{reply_line}
-use Rattle.script_run.specs.Sending.{Sent}
 use Rattle.script_run.specs.World.{Event, replied, was_sent}
 
 -- an event writes its line: the reply's, or that of the batch; once a write has failed nothing is written

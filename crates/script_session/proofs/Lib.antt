@@ -2,6 +2,8 @@ pub mod Adds
 pub mod Replies
 pub mod Numbers
 pub mod Pulls
+pub mod Nodes
+pub mod Decides
 pub mod Runs
 pub mod Several
 pub mod Submitted

@@ -11,6 +11,7 @@ use Rattle.lane_seq.specs.Numbers.{is_invalid}
 use Rattle.lane_seq.specs.Replies.{IsReplyTo}
 use Rattle.lane_seq.specs.declared.reply.Reply.{Reply}
 use Rattle.lane_seq.specs.declared.reply.Reply.TheVariants.{Done, Partial, BadData, Busy}
+use Rattle.rate_budget.specs.Grant.{Asking}
 use Rattle.shard_core.specs.Journal.{Settings, Journal}
 use Rattle.span_sink.specs.LineSinks.{LineSinkState}
 use Rattle.drop_ledger.specs.Places.{place_of}
@@ -41,10 +42,10 @@ grow : (l t d b u v w : ℕ) → u ≡ t + d → v ≡ w + b → l + (u + v) ≡
 grow l t d b u v w p q = omega arith
 
 -- the shards took journals further, and batches were sent
-pub number-quiet : (s : Settings) (w : World) (nows : List Journal) (batches : List Sent) (sink : LineSinkState) (dropped : Reason → ℕ)
+pub number-quiet : (s : Settings) (w : World) (nows : List Journal) (asked : List Asking) (batches : List Sent) (sink : LineSinkState) (dropped : Reason → ℕ)
     → ((reason : Reason) → dropped_by_all s reason nows ≡ dropped_by_all s reason w.journals + dropped reason)
-    → (k : Count) → number_of s (record w { journals = nows; events = w.events ++ map was_sent batches; sink = sink }) k ≡ number_of s w k + (at_reasons dropped k + counted_in batches k)
-number-quiet s w nows batches sink dropped e k =
+    → (k : Count) → number_of s (record w { journals = nows; askings = asked; events = w.events ++ map was_sent batches; sink = sink }) k ≡ number_of s w k + (at_reasons dropped k + counted_in batches k)
+number-quiet s w nows asked batches sink dropped e k =
     let lanes = counted_at_lanes w k in
     grow lanes (counted_at_shards s w.journals k) (at_reasons dropped k) (counted_in batches k) (counted_at_shards s nows k) (sum_by (counted_at k) (w.events ++ map was_sent batches)) (sum_by (counted_at k) w.events)
     (shards-grow s w.journals nows dropped e k) (sum_by-append (counted_at k) w.events (map was_sent batches) ∙ ap (λ n. sum_by (counted_at k) w.events + n) (sent-counts batches k))

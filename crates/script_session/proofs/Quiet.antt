@@ -14,7 +14,7 @@ use Rattle.script_run.specs.Sending.{SendsInBatches}
 use Rattle.script_run.specs.World.{World, Sizes, was_sent, RunsToQuiet, Plays, PlaysAll}
 use Rattle.script_run.specs.Counts.{number_of, counted_for, Reports}
 use Rattle.script_session.specs.Adding.{Adds, at_reasons, counted_in}
-use Rattle.script_session.specs.Pulling.{Export, HaveReleased, HaveSettings, AreQuiet, AreOpen, ends_of, has_none_due, ends_in, EachTakes, RoundsTaken, AreOf}
+use Rattle.script_session.specs.Pulling.{Export, Counts, HaveReleased, HaveSettings, AreQuiet, AreOpen, ends_of, has_none_due, ends_in, EachTakes, RoundsTaken, AreOf}
 use Rattle.script_session.proofs.Adds.{Adds-then, Reports-grow}
 use Rattle.script_session.proofs.Numbers.{number-quiet}
 use Rattle.script_session.proofs.Pulls.{sent-in_batches}
@@ -50,47 +50,49 @@ released-length (h ∷ hs) [] has = absurd has
 released-length (h ∷ hs) (p ∷ ps) has = ap suc (released-length hs ps has.1)
 
 -- one round
-pub one-round : (old new : List Held) (items : List (List Item)) (before after : Export) → EachTakes old before items new after → RoundsTaken old before (items ∷ []) new after
-one-round old new items before after t = RoundsTaken-push old old new [] items before before after (λ s alike. alike) (RoundsTaken-none old before) t
+pub one-round : (old new : List Held) (first last : Counts) (items : List (List Item)) (before after : Export) → EachTakes old first before items new last after → RoundsTaken old first before (items ∷ []) new last after
+one-round old new first last items before after t = RoundsTaken-push old old new first first last [] items before before after (λ s alike. alike) (RoundsTaken-none old first before) t
 
 regroup : (all n d c b f : ℕ) → all ≡ n + (d + c) → c ≡ b + f → all ≡ n + ((d + b) + f)
 regroup all n d c b f p q = omega arith
 
 -- rounds were taken and the rest of the batch was sent
-pub quiets : (s : Settings) (sizes : Sizes) (w : World) (contacts : Contacts) (old new : List Held) (before between final : Export) (closed : Bool) (rounds : List (List (List Item)))
-    → AreOf s w contacts old before.0 before.1 closed → before.0.size ≡ sizes.batch → length before.0.batch ≡ 0
-    → RoundsTaken old before rounds new between → HaveSettings s new
+pub quiets : (s : Settings) (sizes : Sizes) (w : World) (contacts : Contacts) (old new : List Held) (first last : Counts) (before between final : Export) (closed : Bool) (rounds : List (List (List Item)))
+    → AreOf s w contacts old first before.0 before.1 closed → before.0.size ≡ sizes.batch → length before.0.batch ≡ 0
+    → RoundsTaken old first before rounds new last between → HaveSettings s new
     → length between.0.batch < between.0.size
     → ((flushed : Flushed) × Sends between.0.sink between.0.batch flushed final.0.sink × Adds between.1 (λ count. counted_for count flushed) final.1)
-    → (after : World) × RunsToQuiet s sizes w rounds after × AreOf s after contacts new final.0 final.1 closed
-quiets s sizes w contacts old new before between final closed rounds are size_is empty takes alike room sent =
-    let t = takes.takes s w.journals are.settings_are are.released_all in
+    → (after : World) × RunsToQuiet s sizes w rounds after × AreOf s after contacts new last final.0 final.1 closed
+quiets s sizes w contacts old new first last before between final closed rounds are size_is empty takes alike room sent =
+    let t = takes.takes s w.journals w.askings are.settings_are are.released_all are.limiter_is in
     let went = sent-in_batches before between final.0.sink t.released t.dropped sent.0 empty t.pulls room sent.1 in
     let P = λ (k : LineSinkState). SendsInBatches sizes.batch k t.released went.batches final.0.sink in
     let Q = λ (n : ℕ). SendsInBatches n before.0.sink t.released went.batches final.0.sink in
-    let after : World = record w { journals = t.nows; events = w.events ++ map was_sent went.batches; sink = final.0.sink } in (
+    let after : World = record w { journals = t.nows; askings = t.asked_now; events = w.events ++ map was_sent went.batches; sink = final.0.sink } in (
       after,
       record { released = t.released; takes = t.takes; batches = went.batches; sends = subst P are.sink_is (subst Q size_is went.sends); becomes = refl },
       record {
         contacts_are = are.contacts_are;
         settings_are = alike;
         released_all = t.have_released;
+        limiter_is = t.limiter_is;
         sink_is = refl;
         reports = Reports-grow s w after before.1 final.1 (λ k. (at_reasons t.dropped k + counted_in t.pulls.batches k) + counted_for k sent.0)
             (λ k. regroup (number_of s after k) (number_of s w k) (at_reasons t.dropped k) (counted_in went.batches k) (counted_in t.pulls.batches k) (counted_for k sent.0)
-            (number-quiet s w t.nows went.batches final.0.sink t.dropped t.drops k) (went.counts k))
+            (number-quiet s w t.nows t.asked_now went.batches final.0.sink t.dropped t.drops k) (went.counts k))
             are.reports (Adds-then before.1 between.1 final.1 _ _ _ (λ k. refl) t.pulls.adds sent.2);
         closed_is = are.closed_is;
       },
     )
 
 -- nothing but the mark changes at a close
-pub closes : (s : Settings) (w : World) (contacts : Contacts) (shards : List Held) (exporter : ExporterState) (report : Option (List ℕ)) (closed : Bool) → AreOf s w contacts shards exporter report closed
-    → AreOf s (record w { closed = true }) contacts shards exporter report true
-closes s w contacts shards exporter report closed are = record {
+pub closes : (s : Settings) (w : World) (contacts : Contacts) (shards : List Held) (limiter : Counts) (exporter : ExporterState) (report : Option (List ℕ)) (closed : Bool) → AreOf s w contacts shards limiter exporter report closed
+    → AreOf s (record w { closed = true }) contacts shards limiter exporter report true
+closes s w contacts shards limiter exporter report closed are = record {
   contacts_are = are.contacts_are;
   settings_are = are.settings_are;
   released_all = are.released_all;
+  limiter_is = are.limiter_is;
   sink_is = are.sink_is;
   reports = reported report are.reports;
   closed_is = refl;

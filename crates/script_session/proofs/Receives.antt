@@ -5,6 +5,8 @@ use Rattle.lane_queue.specs.Queues.{QueueState}
 use Rattle.lane_seq.specs.declared.reply.Reply.{Reply}
 use Rattle.lane_seq.specs.declared.reply.Reply.TheVariants.{Done, Partial, BadData, Busy}
 use Rattle.lane_seq.specs.Replies.{IsReplyTo}
+use Rattle.rate_budget.specs.Grant.{Asking}
+use Rattle.rate_budget.specs.Budget.{limiter_counts}
 use Rattle.shard_core.specs.Journal.{Settings, Journal}
 use Rattle.shard_core.specs.Held.{Held}
 use Rattle.span_sink.specs.LineSinks.{LineSinkState}
@@ -17,7 +19,7 @@ use Rattle.script_run.specs.World.{World, Sizes, RunsToQuiet, RepliesAndRuns, Re
 use Rattle.script_run.specs.Counts.{number_of, counted_for}
 use Rattle.script_session.specs.Adding.{Adds}
 use Rattle.script_session.specs.Submitting.{Submits, is_received, received_by}
-use Rattle.script_session.specs.Pulling.{Export, HaveSettings, HaveReleased, RoundsTaken, AreOf, items_in}
+use Rattle.script_session.specs.Pulling.{Export, Counts, HaveSettings, HaveReleased, RoundsTaken, AreOf, items_in}
 use Rattle.script_session.proofs.Adds.{Reports-grow}
 use Rattle.script_session.proofs.Numbers.{number-received, number-replied, refusal-counts}
 use Rattle.script_session.proofs.Quiet.{quiets}
@@ -27,6 +29,7 @@ pub record Answered (s : Settings) (sizes : Sizes) (w : World) (number moment : 
   pub mid : World
   pub contacts : later ≡ mid.contacts
   pub journals : mid.journals ≡ w.journals
+  pub askings : mid.askings ≡ w.askings
   pub closed : mid.closed ≡ w.closed
   pub numbers : (k : Count) → number_of s mid k ≡ number_of s w k + received_by reply k
   pub leads : (sink : LineSinkState) (end : World) → WritesLine w.sink (reply_line reply) sink → RunsToQuiet s sizes (after_reply reply sink mid) rounds end → Receives s sizes w number moment body end
@@ -58,6 +61,7 @@ module _ (s : Settings) (sizes : Sizes) (w : World) (number moment : ℕ) (body 
         mid = w;
         contacts = d.3;
         journals = refl;
+        askings = refl;
         closed = refl;
         numbers = none-counted w refuses_it (λ k. refl);
         leads = λ sink end line runs.
@@ -72,6 +76,7 @@ module _ (s : Settings) (sizes : Sizes) (w : World) (number moment : ℕ) (body 
         mid = mid;
         contacts = d.2;
         journals = refl;
+        askings = refl;
         closed = refl;
         numbers = none-counted mid refuses_it (λ k. refl);
         leads = λ sink end line runs.
@@ -86,6 +91,7 @@ module _ (s : Settings) (sizes : Sizes) (w : World) (number moment : ℕ) (body 
         mid = mid;
         contacts = d.3;
         journals = refl;
+        askings = refl;
         closed = refl;
         numbers = number-received s w number arrivals d.2.refused reply d.2.replied;
         leads = λ sink end line runs.
@@ -94,26 +100,28 @@ module _ (s : Settings) (sizes : Sizes) (w : World) (number moment : ℕ) (body 
       }
 
 -- a request was read or refused, what the reply tells was counted, and the shards took what was received
-pub receives : (s : Settings) (sizes : Sizes) (w : World) (number moment : ℕ) (body : List ℕ) (known later : Contacts) (before after : List (QueueState Item)) (reply : Reply) (old new : List Held)
+pub receives : (s : Settings) (sizes : Sizes) (w : World) (number moment : ℕ) (body : List ℕ) (known later : Contacts) (before after : List (QueueState Item)) (reply : Reply) (old new : List Held) (start last : Counts)
     (first noted : ExporterState) (report counted : Option (List ℕ)) (between final : Export) (closed : Bool) (rounds : List (List (List Item)))
-    → AreOf s w known old first report closed → before ≡ empty_queues sizes.queue (length w.journals) → Submits known number moment body before reply after later
+    → AreOf s w known old start first report closed → before ≡ empty_queues sizes.queue (length w.journals) → Submits known number moment body before reply after later
     → (is_received reply ≡ true → rounds ≡ items_in after ∷ []) → (is_received reply ≡ false → rounds ≡ [])
     → WritesLine first.sink (reply_line reply) noted.sink → Adds report (received_by reply) counted → noted.size ≡ sizes.batch → length noted.batch ≡ 0
-    → RoundsTaken old (noted, counted) rounds new between → HaveSettings s new
+    → RoundsTaken old start (noted, counted) rounds new last between → HaveSettings s new
     → length between.0.batch < between.0.size
     → ((flushed : Flushed) × Sends between.0.sink between.0.batch flushed final.0.sink × Adds between.1 (λ count. counted_for count flushed) final.1)
-    → (end : World) × Receives s sizes w number moment body end × AreOf s end later new final.0 final.1 closed
-receives s sizes w number moment body known later before after reply old new first noted report counted between final closed rounds are before_is submits on_read on_refused line adds size_is empty takes alike room sent =
+    → (end : World) × Receives s sizes w number moment body end × AreOf s end later new last final.0 final.1 closed
+receives s sizes w number moment body known later before after reply old new start last first noted report counted between final closed rounds are before_is submits on_read on_refused line adds size_is empty takes alike room sent =
     let S = λ (k : Contacts). Submits k number moment body before reply after later in
     let E = λ (q : List (QueueState Item)). Submits w.contacts number moment body q reply after later in
     let W = λ (k : LineSinkState). WritesLine k (reply_line reply) noted.sink in
     let a = answered s sizes w number moment body later after reply rounds on_read on_refused (subst E before_is (subst S are.contacts_are submits)) in
     let mid = after_reply reply noted.sink a.mid in
     let R = λ (js : List Journal). HaveReleased old js in
-    let q = quiets s sizes mid later old new (noted, counted) between final closed rounds (record {
+    let L = λ (asked : List Asking). start ≡ limiter_counts s.policies asked in
+    let q = quiets s sizes mid later old new start last (noted, counted) between final closed rounds (record {
       contacts_are = a.contacts;
       settings_are = are.settings_are;
       released_all = subst R (sym a.journals) are.released_all;
+      limiter_is = subst L (sym a.askings) are.limiter_is;
       sink_is = refl;
       reports = Reports-grow s w mid report counted (received_by reply) (λ k. number-replied s a.mid reply noted.sink k ∙ a.numbers k) are.reports adds;
       closed_is = are.closed_is ∙ sym a.closed;

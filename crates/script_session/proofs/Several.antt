@@ -5,13 +5,15 @@ use Rattle.std.proofs.lemmas.List.Sums.{sum_by-cons}
 use Rattle.otlp_types.specs.declared.arrival.Arrival.{Arrival}
 use Rattle.otlp_types.specs.declared.arrival.Item.{Item}
 use Rattle.otlp_types.specs.declared.arrival.Item.TheVariants.{Span, Tick, End}
+use Rattle.rate_budget.specs.Grant.{Asking}
+use Rattle.rate_budget.specs.Budget.{limiter_counts}
 use Rattle.shard_core.specs.Journal.{Settings, Journal}
-use Rattle.shard_core.specs.Held.{Held, has_due}
+use Rattle.shard_core.specs.Held.{Held, settings, has_due}
 use Rattle.shard_core.specs.Taking.{ends_after}
 use Rattle.span_ids.specs.declared.outcome.Reason.{Reason}
-use Rattle.script_run.specs.World.{TakesFor, TakesEach, TakesRounds, to_each, ends_from}
+use Rattle.script_run.specs.World.{Turn, TakesFor, TakesEach, TakesRounds, to_each, ends_from}
 use Rattle.script_run.specs.Counts.{dropped_by_journal}
-use Rattle.script_session.specs.Pulling.{Export, TakesItems, HaveSettings, AreQuiet, HaveReleased, dropped_by_all, Taking, EachTakes, RoundsTaken, is_queued}
+use Rattle.script_session.specs.Pulling.{Export, Counts, TakesItems, HaveSettings, AreQuiet, HaveReleased, dropped_by_all, Taking, EachTakes, RoundsTaken, is_queued}
 use Rattle.script_session.proofs.Adds.{none-dropped, plus-none, plus-two}
 use Rattle.script_session.proofs.Pulls.{PullsAll-none, PullsAll-append}
 
@@ -38,53 +40,62 @@ queued-keeps_ends (End sender) ends h = absurd (cc h)
 
 -- ---- the first shard, and the others
 
-pub EachTakes-none : (e : Export) → EachTakes [] e [] [] e
-EachTakes-none e = record { takes = λ s pasts alike has. by_pasts s pasts has }
+pub EachTakes-none : (limiter : Counts) (e : Export) → EachTakes [] limiter e [] [] limiter e
+EachTakes-none limiter e = record { takes = λ s pasts asked alike has is. by_pasts s pasts asked has is }
   where
-    by_pasts : (s : Settings) (pasts : List Journal) → HaveReleased [] pasts → Taking (TakesEach s pasts []) s pasts e [] e
-    by_pasts s [] has = record {
+    by_pasts : (s : Settings) (pasts : List Journal) (asked : List Asking) → HaveReleased [] pasts → limiter ≡ limiter_counts s.policies asked → Taking (TakesEach s pasts asked []) s pasts e [] limiter e
+    by_pasts s [] asked has is = record {
       nows = [];
+      asked_now = asked;
       released = [];
       dropped = λ reason. 0;
       have_released = tt;
-      takes = refl;
+      limiter_is = is;
+      takes = (refl, refl);
       drops = λ reason. plus-none (dropped_by_all s reason []);
       pulls = PullsAll-none e _ none-dropped;
     }
-    by_pasts s (p ∷ ps) has = absurd has
+    by_pasts s (p ∷ ps) asked has is = absurd has
 
 -- there is no shard
-pub EachTakes-empty : (shards : List Held) (items : List (List Item)) (e : Export) → length shards ≡ 0 → length items ≡ length shards → EachTakes shards e items shards e
-EachTakes-empty [] [] e none same = EachTakes-none e
-EachTakes-empty [] (i ∷ is) e none same = absurd (omega (arith, same))
-EachTakes-empty (h ∷ hs) items e none same = absurd (omega (arith, none))
+pub EachTakes-empty : (shards : List Held) (items : List (List Item)) (limiter : Counts) (e : Export) → length shards ≡ 0 → length items ≡ length shards → EachTakes shards limiter e items shards limiter e
+EachTakes-empty [] [] limiter e none same = EachTakes-none limiter e
+EachTakes-empty [] (i ∷ is) limiter e none same = absurd (omega (arith, same))
+EachTakes-empty (h ∷ hs) items limiter e none same = absurd (omega (arith, none))
 
 -- of the first and of the others
 plus-each : (all first rest before one others x y : ℕ) → all ≡ first + rest → before ≡ one + others → first ≡ one + x → rest ≡ others + y → all ≡ before + (x + y)
 plus-each all first rest before one others x y a b c d = omega arith
 
-pub EachTakes-cons : (old new : Held) (olds news : List Held) (own : List Item) (others : List (List Item)) (before between after : Export)
-    → TakesItems old before own new between → EachTakes olds between others news after → EachTakes (old ∷ olds) before (own ∷ others) (new ∷ news) after
-EachTakes-cons old new olds news own others before between after t e = record { takes = λ s pasts alike has. by_pasts s pasts alike has }
+pub EachTakes-cons : (old new : Held) (olds news : List Held) (start lent last : Counts) (own : List Item) (others : List (List Item)) (before between after : Export) → settings new ≡ settings old
+    → TakesItems old start before own new lent between → EachTakes olds lent between others news last after → EachTakes (old ∷ olds) start before (own ∷ others) (new ∷ news) last after
+EachTakes-cons old new olds news start lent last own others before between after same t e = record { takes = λ s pasts asked alike has is. by_pasts s pasts asked alike has is }
   where
-    by_pasts : (s : Settings) (pasts : List Journal) → HaveSettings s (old ∷ olds) → HaveReleased (old ∷ olds) pasts → Taking (TakesEach s pasts (own ∷ others)) s pasts before (new ∷ news) after
-    by_pasts s [] alike has = absurd has
-    by_pasts s (p ∷ ps) alike has =
-        let first = t.takes p has.0 in
+    by_pasts : (s : Settings) (pasts : List Journal) (asked : List Asking) → HaveSettings s (old ∷ olds) → HaveReleased (old ∷ olds) pasts → start ≡ limiter_counts s.policies asked
+        → Taking (TakesEach s pasts asked (own ∷ others)) s pasts before (new ∷ news) last after
+    by_pasts s [] asked alike has is = absurd has
+    by_pasts s (p ∷ ps) asked alike has is =
+        let past : Turn = record { journal = p; askings = asked } in
+        let L = λ (x : Settings). start ≡ limiter_counts x.policies asked in
+        let first = t.takes past (record { released_all = has.0; limiter_is = subst L (sym alike.0) is }) in
+        let now = first.0 in
         let one = first.2 in
-        let rest = e.takes s ps alike.1 has.1 in
-        let P = λ (x : Settings). TakesFor x p own first.0 one.released in
-        let Q = λ (x : Settings). (reason : Reason) → dropped_by_journal x reason first.0 ≡ dropped_by_journal x reason p + one.dropped reason in
+        let M = λ (x : Settings). lent ≡ limiter_counts x.policies now.askings in
+        let rest = e.takes s ps now.askings alike.1 has.1 (subst M (same ∙ alike.0) first.1.limiter_is) in
+        let P = λ (x : Settings). TakesFor x past own now one.released in
+        let Q = λ (x : Settings). (reason : Reason) → dropped_by_journal x reason now.journal ≡ dropped_by_journal x reason p + one.dropped reason in
         let drops : Q s = subst Q alike.0 one.drops in
         record {
-          nows = first.0 ∷ rest.nows;
+          nows = now.journal ∷ rest.nows;
+          asked_now = rest.asked_now;
           released = one.released ++ rest.released;
           dropped = λ reason. one.dropped reason + rest.dropped reason;
-          have_released = (first.1, rest.have_released);
-          takes = (one.released, rest.released, subst P alike.0 one.takes, rest.takes, refl);
-          drops = λ reason. plus-each (dropped_by_all s reason (first.0 ∷ rest.nows)) (dropped_by_journal s reason first.0) (dropped_by_all s reason rest.nows)
+          have_released = (first.1.released_all, rest.have_released);
+          limiter_is = rest.limiter_is;
+          takes = (one.released, rest.released, now.askings, subst P alike.0 one.takes, rest.takes, refl);
+          drops = λ reason. plus-each (dropped_by_all s reason (now.journal ∷ rest.nows)) (dropped_by_journal s reason now.journal) (dropped_by_all s reason rest.nows)
               (dropped_by_all s reason (p ∷ ps)) (dropped_by_journal s reason p) (dropped_by_all s reason ps) (one.dropped reason) (rest.dropped reason)
-              (sum_by-cons (dropped_by_journal s reason) first.0 rest.nows) (sum_by-cons (dropped_by_journal s reason) p ps) (drops reason) (rest.drops reason);
+              (sum_by-cons (dropped_by_journal s reason) now.journal rest.nows) (sum_by-cons (dropped_by_journal s reason) p ps) (drops reason) (rest.drops reason);
           pulls = PullsAll-append before between after one.released rest.released one.dropped rest.dropped one.pulls rest.pulls;
         }
 
@@ -95,42 +106,54 @@ AreQuiet-cons item old new olds news ends_is quiet rest ends q = ((ends_is ∙ a
 
 -- ---- rounds
 
-pub RoundsTaken-none : (shards : List Held) (e : Export) → RoundsTaken shards e [] shards e
-RoundsTaken-none shards e = record {
-  takes = λ s pasts alike has.
+pub RoundsTaken-none : (shards : List Held) (limiter : Counts) (e : Export) → RoundsTaken shards limiter e [] shards limiter e
+RoundsTaken-none shards limiter e = record {
+  takes = λ s pasts asked alike has is.
       record {
         nows = pasts;
+        asked_now = asked;
         released = [];
         dropped = λ reason. 0;
         have_released = has;
-        takes = (refl, refl);
+        limiter_is = is;
+        takes = (refl, refl, refl);
         drops = λ reason. plus-none (dropped_by_all s reason pasts);
         pulls = PullsAll-none e _ none-dropped;
       };
 }
 
-TakesRounds-push : (s : Settings) (a b c : List Journal) (rounds : List (List (List Item))) (last : List (List Item)) (xs ys : List Arrival)
-    → TakesRounds s a rounds b xs → TakesEach s b last c ys → TakesRounds s a (rounds ++ last ∷ []) c (xs ++ ys)
-TakesRounds-push s a b c [] last xs ys t e =
-    let P = λ (j : List Journal). TakesEach s j last c ys in
-    (c, ys, [], subst P t.0 e, (refl, refl), ap (λ (zs : List Arrival). zs ++ ys) t.1 ∙ sym (append-nil ys))
-TakesRounds-push s a b c (round ∷ rounds) last xs ys t e =
-    (t.0, t.1, t.2 ++ ys, t.3, TakesRounds-push s t.0 b c rounds last t.2 ys t.4 e, ap (λ (zs : List Arrival). zs ++ ys) t.5 ∙ append_assoc t.1 t.2 ys)
+TakesRounds-push : (s : Settings) (a b c : List Journal) (asked lent last_asked : List Asking) (rounds : List (List (List Item))) (last : List (List Item)) (xs ys : List Arrival)
+    → TakesRounds s a asked rounds b lent xs → TakesEach s b lent last c last_asked ys → TakesRounds s a asked (rounds ++ last ∷ []) c last_asked (xs ++ ys)
+TakesRounds-push s a b c asked lent last_asked [] last xs ys t e =
+    let P = λ (j : List Journal). TakesEach s j lent last c last_asked ys in
+    let Q = λ (x : List Asking). TakesEach s a x last c last_asked ys in
+    (c, last_asked, ys, [], subst Q t.1 (subst P t.0 e), (refl, refl, refl), ap (λ (zs : List Arrival). zs ++ ys) t.2 ∙ sym (append-nil ys))
+TakesRounds-push s a b c asked lent last_asked (round ∷ rounds) last xs ys t e = (
+  t.0,
+  t.1,
+  t.2,
+  t.3 ++ ys,
+  t.4,
+  TakesRounds-push s t.0 b c t.1 lent last_asked rounds last t.3 ys t.5 e,
+  ap (λ (zs : List Arrival). zs ++ ys) t.6 ∙ append_assoc t.2 t.3 ys,
+)
 
 -- one more round
-pub RoundsTaken-push : (old mid new : List Held) (rounds : List (List (List Item))) (last : List (List Item)) (before between after : Export)
+pub RoundsTaken-push : (old mid new : List Held) (start lent end : Counts) (rounds : List (List (List Item))) (last : List (List Item)) (before between after : Export)
     → ((s : Settings) → HaveSettings s old → HaveSettings s mid)
-    → RoundsTaken old before rounds mid between → EachTakes mid between last new after → RoundsTaken old before (rounds ++ last ∷ []) new after
-RoundsTaken-push old mid new rounds last before between after keeps r e = record {
-  takes = λ s pasts alike has.
-      let so_far = r.takes s pasts alike has in
-      let step = e.takes s so_far.nows (keeps s alike) so_far.have_released in
+    → RoundsTaken old start before rounds mid lent between → EachTakes mid lent between last new end after → RoundsTaken old start before (rounds ++ last ∷ []) new end after
+RoundsTaken-push old mid new start lent end rounds last before between after keeps r e = record {
+  takes = λ s pasts asked alike has is.
+      let so_far = r.takes s pasts asked alike has is in
+      let step = e.takes s so_far.nows so_far.asked_now (keeps s alike) so_far.have_released so_far.limiter_is in
       record {
         nows = step.nows;
+        asked_now = step.asked_now;
         released = so_far.released ++ step.released;
         dropped = λ reason. so_far.dropped reason + step.dropped reason;
         have_released = step.have_released;
-        takes = TakesRounds-push s pasts so_far.nows step.nows rounds last so_far.released step.released so_far.takes step.takes;
+        limiter_is = step.limiter_is;
+        takes = TakesRounds-push s pasts so_far.nows step.nows asked so_far.asked_now step.asked_now rounds last so_far.released step.released so_far.takes step.takes;
         drops = λ reason. plus-two (dropped_by_all s reason step.nows) (dropped_by_all s reason so_far.nows) (dropped_by_all s reason pasts) (so_far.dropped reason) (step.dropped reason) (step.drops reason) (so_far.drops reason);
         pulls = PullsAll-append before between after so_far.released step.released so_far.dropped step.dropped so_far.pulls step.pulls;
       };

@@ -6,12 +6,18 @@ use Rattle.otlp_types.specs.declared.arrival.Arrival.{Arrival}
 use Rattle.otlp_types.specs.declared.arrival.Item.{Item}
 use Rattle.otlp_types.specs.declared.arrival.Item.TheVariants.{Span, Tick, End}
 use Rattle.lane_queue.specs.Queues.{QueueState}
-use Rattle.shard_core.specs.Journal.{Settings, Journal}
+use Rattle.policy_tree.specs.Tree.{limiters}
+use Rattle.policy_tree.specs.Meaning.{meaning}
+use Rattle.policy_eval.specs.Meaning.{knows}
+use Rattle.rate_budget.specs.Grant.{Asking}
+use Rattle.rate_budget.specs.Budget.{limiter_counts, has_node}
+use Rattle.rate_budget.specs.declared.count.LimiterCount.{LimiterCount}
+use Rattle.shard_core.specs.Journal.{Entry, Settings, Journal}
 use Rattle.shard_core.specs.Fate.{effect, effect_dealt, released_dealt, dropped_dealt}
 use Rattle.shard_core.specs.Held.{Held, StandsFor, settings, has_due}
 use Rattle.span_exporter.specs.Exports.{ExporterState}
 use Rattle.script_run.specs.Sending.{Sent, spans_of, SendsAll}
-use Rattle.script_run.specs.World.{World, TakesFor, TakesEach, TakesRounds}
+use Rattle.script_run.specs.World.{World, Turn, with_entry, TakesFor, TakesEach, TakesRounds}
 use Rattle.script_run.specs.Counts.{dropped_by_journal, Reports}
 use Rattle.script_run.specs.Connections.{Contacts}
 use Rattle.script_session.specs.Adding.{Adds, at_reasons, counted_in}
@@ -36,28 +42,42 @@ pub record HasReleasedAll (held : Held) (past : Journal) : Type 0 where
   pub stands : StandsFor held past dealt
   pub all_dealt : effect_dealt (settings held) past dealt ≡ effect (settings held) past
 
--- the shard took these items; what that released went into the batch, and what it dropped was counted
-pub record TakesAndPulls (s : Settings) (past : Journal) (items : List Item) (old : Export) (after : Journal) (new : Export) : Type 0 where
+-- the limiter: its counts
+abbrev pub Counts : Type 0
+Counts = List LimiterCount
+
+-- the limiter has the limiter nodes of the shard's policies
+abbrev pub has_nodes_of : Counts → Held → Bool
+has_nodes_of limiter h = knows (has_node limiter) (limiters (meaning h.policies))
+
+-- the shard took these items and asked the limiter; what that released went into the batch, and what it dropped was counted
+pub record TakesAndPulls (s : Settings) (past : Turn) (items : List Item) (old : Export) (after : Turn) (new : Export) : Type 0 where
   pub released : List Arrival
   pub dropped : Reason → ℕ
   pub takes : TakesFor s past items after released
-  pub drops : (reason : Reason) → dropped_by_journal s reason after ≡ dropped_by_journal s reason past + dropped reason
+  pub drops : (reason : Reason) → dropped_by_journal s reason after.journal ≡ dropped_by_journal s reason past.journal + dropped reason
   pub pulls : PullsAll old released dropped new
 
--- a shard that has released all took these items and decided all that was due; what that released went into the batch, and it has released all again
-pub record TakesItems (old : Held) (before : Export) (items : List Item) (new : Held) (after : Export) : Type 0 where
-  pub takes : (past : Journal) → HasReleasedAll old past
-      → (now : Journal) × HasReleasedAll new now × TakesAndPulls (settings old) past items before now after
+-- the shard has released and counted all that was due at the journal, and the limiter has just these askings
+pub record HasTaken (held : Held) (limiter : Counts) (turn : Turn) : Type 0 where
+  pub released_all : HasReleasedAll held turn.journal
+  pub limiter_is : limiter ≡ limiter_counts (settings held).policies turn.askings
 
--- all that was due was decided; what that released went into the batch, and what it dropped was counted
-pub record DecidesAll (old : Held) (past : Journal) (dealt : ℕ) (before : Export) (new : Held) (after : Export) : Type 0 where
-  pub dealt_now : ℕ
-  pub stands : StandsFor new past dealt_now
-  pub all_dealt : effect_dealt (settings old) past dealt_now ≡ effect (settings old) past
+-- a shard that has released all took these items and decided all that was due by the limiter; what that released went into the batch, and it has released all again
+pub record TakesItems (old : Held) (first : Counts) (before : Export) (items : List Item) (new : Held) (last : Counts) (after : Export) : Type 0 where
+  pub takes : (past : Turn) → HasTaken old first past
+      → (now : Turn) × HasTaken new last now × TakesAndPulls (settings old) past items before now after
+
+-- all that was due at the entry was decided by the limiter; what that released went into the batch, and what it dropped was counted
+pub record DecidesAll (s : Settings) (e : Entry) (past : Turn) (before : Export) (new : Held) (last : Counts) (after : Export) : Type 0 where
+  pub dealt : ℕ
+  pub stands : StandsFor new (with_entry s past e).journal dealt
+  pub all_dealt : effect_dealt s (with_entry s past e).journal dealt ≡ effect s (with_entry s past e).journal
+  pub limiter_is : last ≡ limiter_counts s.policies (with_entry s past e).askings
   pub released : List Arrival
   pub dropped : Reason → ℕ
-  pub releases : released_dealt (settings old) past dealt_now ≡ released_dealt (settings old) past dealt ++ released
-  pub drops : (reason : Reason) → dropped_dealt (settings old) past dealt_now reason ≡ dropped_dealt (settings old) past dealt reason + dropped reason
+  pub releases : released_dealt s (with_entry s past e).journal dealt ≡ released_dealt s (e ∷ past.journal) 0 ++ released
+  pub drops : (reason : Reason) → dropped_dealt s (with_entry s past e).journal dealt reason ≡ dropped_dealt s (e ∷ past.journal) 0 reason + dropped reason
   pub pulls : PullsAll before released dropped after
 
 -- ---- several shards
@@ -77,6 +97,10 @@ AreQuiet ends shards = AllByRecursion (IsQuiet ends) shards
 -- each shard is quiet, and some sender has not ended
 abbrev pub AreOpen : List Held → Type 0
 AreOpen shards = (ends : List Bool) × AreQuiet ends shards × (list_all (λ b. b) ends ≡ false)
+
+-- the limiter has the limiter nodes of each shard's policies
+abbrev pub has_all_nodes : Counts → List Held → Bool
+has_all_nodes limiter shards = list_all (has_nodes_of limiter) shards
 
 -- nothing is due in any shard
 abbrev pub has_none_due : List Held → Bool
@@ -100,23 +124,27 @@ HaveReleased _ _ = ⊥
 abbrev pub dropped_by_all : Settings → Reason → List Journal → ℕ
 dropped_by_all s reason pasts = sum_by (dropped_by_journal s reason) pasts
 
--- shards with these journals have taken what `Takes` says of the journals now and the spans released; these went into the batch, and what was dropped was counted
-pub record Taking (Takes : List Journal → List Arrival → Type 0) (s : Settings) (pasts : List Journal) (before : Export) (new : List Held) (after : Export) : Type 0 where
+-- shards with these journals have taken what `Takes` says of the journals now, the limiter's askings now and the spans released; these went into the batch, and what was dropped was counted
+pub record Taking (Takes : List Journal → List Asking → List Arrival → Type 0) (s : Settings) (pasts : List Journal) (before : Export) (new : List Held) (last : Counts) (after : Export) : Type 0 where
   pub nows : List Journal
+  pub asked_now : List Asking
   pub released : List Arrival
   pub dropped : Reason → ℕ
   pub have_released : HaveReleased new nows
-  pub takes : Takes nows released
+  pub limiter_is : last ≡ limiter_counts s.policies asked_now
+  pub takes : Takes nows asked_now released
   pub drops : (reason : Reason) → dropped_by_all s reason nows ≡ dropped_by_all s reason pasts + dropped reason
   pub pulls : PullsAll before released dropped after
 
--- each shard in its turn took its items; what that released went into the batch, and what it dropped was counted
-pub record EachTakes (old : List Held) (before : Export) (items : List (List Item)) (new : List Held) (after : Export) : Type 0 where
-  pub takes : (s : Settings) (pasts : List Journal) → HaveSettings s old → HaveReleased old pasts → Taking (TakesEach s pasts items) s pasts before new after
+-- each shard in its turn took its items, and the limiter was lent to each in turn; what that released went into the batch, and what it dropped was counted
+pub record EachTakes (old : List Held) (first : Counts) (before : Export) (items : List (List Item)) (new : List Held) (last : Counts) (after : Export) : Type 0 where
+  pub takes : (s : Settings) (pasts : List Journal) (asked : List Asking) → HaveSettings s old → HaveReleased old pasts → first ≡ limiter_counts s.policies asked
+      → Taking (TakesEach s pasts asked items) s pasts before new last after
 
 -- the same in several rounds
-pub record RoundsTaken (old : List Held) (before : Export) (rounds : List (List (List Item))) (new : List Held) (after : Export) : Type 0 where
-  pub takes : (s : Settings) (pasts : List Journal) → HaveSettings s old → HaveReleased old pasts → Taking (TakesRounds s pasts rounds) s pasts before new after
+pub record RoundsTaken (old : List Held) (first : Counts) (before : Export) (rounds : List (List (List Item))) (new : List Held) (last : Counts) (after : Export) : Type 0 where
+  pub takes : (s : Settings) (pasts : List Journal) (asked : List Asking) → HaveSettings s old → HaveReleased old pasts → first ≡ limiter_counts s.policies asked
+      → Taking (TakesRounds s pasts asked rounds) s pasts before new last after
 
 -- a span with valid ids
 abbrev pub is_queued : Item → Bool
@@ -140,11 +168,12 @@ rounds_of received queues = if received then items_in queues ∷ [] else []
 abbrev pub HoldsQueued : QueueState Item → Type 0
 HoldsQueued queue = list_all is_queued queue.items ≡ true
 
--- the connections, the shards, the exporter, the report and whether all is closed are those of a world, and the shards have these settings
-pub record AreOf (s : Settings) (w : World) (contacts : Contacts) (shards : List Held) (exporter : ExporterState) (report : Option (List ℕ)) (closed : Bool) : Type 0 where
+-- the connections, the shards, the limiter, the exporter, the report and whether all is closed are those of a world, and the shards have these settings
+pub record AreOf (s : Settings) (w : World) (contacts : Contacts) (shards : List Held) (limiter : Counts) (exporter : ExporterState) (report : Option (List ℕ)) (closed : Bool) : Type 0 where
   pub contacts_are : contacts ≡ w.contacts
   pub settings_are : HaveSettings s shards
   pub released_all : HaveReleased shards w.journals
+  pub limiter_is : limiter ≡ limiter_counts s.policies w.askings
   pub sink_is : exporter.sink ≡ w.sink
   pub reports : Reports s w report
   pub closed_is : closed ≡ w.closed

@@ -1,5 +1,7 @@
 //! A script is run in one thread.
 ghost use Rattle.std.specs.Prelude.{◌≡◌, ◌-◌, ◌^◌, ◌<◌, ◌≤◌, [], false, Some, IfOk, replicate, vec_capacity};
+ghost use Rattle.policy_tree.specs.Meaning.{meaning};
+ghost use Rattle.rate_budget.specs.Budget.{limiter_counts};
 ghost use Rattle.tsc_config.specs.declared.config.Config.{Config};
 ghost use Rattle.script_session.specs.declared.replying.TheConstants.{MAX_REPLY_LINE};
 ghost use Rattle.script_run.specs.World.{empty_queues};
@@ -14,6 +16,7 @@ use crate::session::Session;
 use drop_ledger::Report;
 use lane_queue::ListPort;
 use otlp_types::{Item, TryClone};
+use rate_budget::Budgets;
 use shard_core::Shard;
 use span_exporter::Exporter;
 use span_sink::{LineSink, Sink};
@@ -64,6 +67,7 @@ pub fn replay_run<R: Read, S: Sink>(
         connections,
         queues,
         shards,
+        limiter,
         text,
     } = parts;
     let session = Session {
@@ -72,6 +76,7 @@ pub fn replay_run<R: Read, S: Sink>(
         queues,
         queue_capacity: config.queue_capacity,
         shards,
+        limiter,
         exporter,
         text,
         report: Some(Report::new()),
@@ -86,6 +91,7 @@ struct Parts {
     connections: Connections,
     queues: Vec<ListPort<Item>>,
     shards: Vec<Shard>,
+    limiter: Budgets,
     text: Vec<u8>,
 }
 
@@ -99,12 +105,14 @@ fn parts_of(alloc: Global, config: &Config) -> Result<Parts, AllocError>
     ensures connections { IfOk result (λ parts. parts.connections ≡ record { connections = []; connected = replicate config.now.lanes 0 }) }
     ensures queues { IfOk result (λ parts. parts.queues.items ≡ empty_queues config.now.queue_capacity config.now.shards) }
     ensures shards { IfOk result (λ parts. AreNew config.now config.now.shards parts.shards.items) }
+    ensures limiter { IfOk result (λ parts. parts.limiter ≡ limiter_counts (meaning config.now.policies) []) }
     ensures text { IfOk result (λ parts. MAX_REPLY_LINE ≤ vec_capacity parts.text) }
 {
     Ok(Parts {
         connections: Connections::new(alloc, config.lanes)?,
         queues: new_queues(alloc, config.queue_capacity, config.shards)?,
         shards: new_shards(alloc, config, config.shards)?,
+        limiter: Budgets::new(alloc, &config.policies)?,
         text: Vec::with_capacity(alloc, MAX_REPLY_LINE)?,
     })
 }
@@ -168,7 +176,7 @@ fn run_session<R: Read, S: Sink>(
     requires up { session.exporter.sink.is_down ≡ false }
     requires nothing_counted { session.report ≡ Some (replicate 9 0) }
     ensures { (config : Config) → CanPlay (settings_by config) (record { batch = session.exporter.size; queue = session.queue_capacity }) config.lanes → session.connections ≡ record { connections = []; connected = replicate config.lanes 0 }
-        → AreNew config config.shards session.shards.items
+        → AreNew config config.shards session.shards.items → session.limiter ≡ limiter_counts (meaning config.policies) []
         → RunEnds (record {
           settings = settings_by config;
           sizes = record { batch = session.exporter.size; queue = session.queue_capacity };

@@ -6,7 +6,7 @@ ghost use Rattle.span_exporter.specs.Exports.{WritesLine};
 ghost use Rattle.script_session.specs.declared.replying.TheConstants.{MAX_REPLY_LINE};
 ghost use Rattle.script_run.specs.Requests.{reply_line};
 ghost use Rattle.script_run.specs.World.{World, Plays, PlaysAll, empty_queues};
-ghost use Rattle.script_session.specs.Pulling.{AreOf, has_none_due, ends_in, ends_of};
+ghost use Rattle.script_session.specs.Pulling.{AreOf, has_all_nodes, has_none_due, ends_in, ends_of};
 ghost use Rattle.script_session.specs.Answers.{AnswersStop};
 
 use crate::connections::Connections;
@@ -21,6 +21,7 @@ use drop_ledger::Report;
 use lane_queue::ListPort;
 use lane_seq::Reply;
 use otlp_types::Item;
+use rate_budget::Budgets;
 use shard_core::Shard;
 use span_exporter::Exporter;
 use span_ids::Moment;
@@ -40,6 +41,8 @@ pub struct Session<S: Sink> {
     /// How many spans the queue of a shard holds.
     pub queue_capacity: usize,
     pub shards: Vec<Shard>,
+    /// The one limiter of all shards.
+    pub limiter: Budgets,
     pub exporter: Exporter<S>,
     /// Room for a reply line.
     pub text: Vec<u8>,
@@ -47,6 +50,7 @@ pub struct Session<S: Sink> {
     pub report: Option<Report>,
     /// Whether the lanes and the ticker have ended.
     pub closed: bool,
+    ghost nodes: { has_all_nodes limiter shards.items ≡ true },
     ghost none_due: { has_none_due shards.items ≡ true },
     ghost ends: { ends_in shards.items ≡ map (λ _. ends_of (length connections.connected) closed) shards.items },
     ghost some: { 0 < length shards.items },
@@ -69,6 +73,7 @@ impl<S: Sink> Session<S> {
             queues: _,
             queue_capacity: _,
             shards: _,
+            limiter: _,
             exporter,
             text: _,
             report,
@@ -81,9 +86,9 @@ impl<S: Sink> Session<S> {
     fn receive(&mut self, number: u64, moment: Moment, body: &[u8])
         requires open { self.old.closed ≡ false }
         requires up { self.old.exporter.sink.is_down ≡ false }
-        ensures plays { (s : Settings) (w : World) → AreOf s w self.old.connections self.old.shards.items self.old.exporter self.old.report self.old.closed
+        ensures plays { (s : Settings) (w : World) → AreOf s w self.old.connections self.old.shards.items self.old.limiter self.old.exporter self.old.report self.old.closed
             → (after : World) × Plays s (record { batch = self.old.exporter.size; queue = self.old.queue_capacity }) w (receive number moment body.now) after
-            × AreOf s after self.new.connections self.new.shards.items self.new.exporter self.new.report self.new.closed }
+            × AreOf s after self.new.connections self.new.shards.items self.new.limiter self.new.exporter self.new.report self.new.closed }
         ensures size { self.new.exporter.size ≡ self.old.exporter.size }
         ensures queue { self.new.queue_capacity ≡ self.old.queue_capacity }
         ensures stays_open { self.new.closed ≡ false }
@@ -105,6 +110,7 @@ impl<S: Sink> Session<S> {
             is_received(&reply),
             &mut self.shards,
             &mut self.queues,
+            &mut self.limiter,
             &mut self.exporter,
             &mut self.report,
         );
@@ -115,9 +121,9 @@ impl<S: Sink> Session<S> {
     fn tick(&mut self, moment: Moment)
         requires open { self.old.closed ≡ false }
         requires up { self.old.exporter.sink.is_down ≡ false }
-        ensures plays { (s : Settings) (w : World) → AreOf s w self.old.connections self.old.shards.items self.old.exporter self.old.report self.old.closed
+        ensures plays { (s : Settings) (w : World) → AreOf s w self.old.connections self.old.shards.items self.old.limiter self.old.exporter self.old.report self.old.closed
             → (after : World) × Plays s (record { batch = self.old.exporter.size; queue = self.old.queue_capacity }) w (tick moment) after
-            × AreOf s after self.new.connections self.new.shards.items self.new.exporter self.new.report self.new.closed }
+            × AreOf s after self.new.connections self.new.shards.items self.new.limiter self.new.exporter self.new.report self.new.closed }
         ensures size { self.new.exporter.size ≡ self.old.exporter.size }
         ensures queue { self.new.queue_capacity ≡ self.old.queue_capacity }
         ensures stays_open { self.new.closed ≡ false }
@@ -125,6 +131,7 @@ impl<S: Sink> Session<S> {
     {
         tell_each(
             &mut self.shards,
+            &mut self.limiter,
             &mut self.exporter,
             &mut self.report,
             Signal::Tick(moment),
@@ -135,9 +142,9 @@ impl<S: Sink> Session<S> {
     /// Ends the lanes, and then the ticker.
     fn close(&mut self)
         requires { self.old.closed ≡ false }
-        ensures plays { (s : Settings) (w : World) → AreOf s w self.old.connections self.old.shards.items self.old.exporter self.old.report self.old.closed
+        ensures plays { (s : Settings) (w : World) → AreOf s w self.old.connections self.old.shards.items self.old.limiter self.old.exporter self.old.report self.old.closed
             → (after : World) × Plays s (record { batch = self.old.exporter.size; queue = self.old.queue_capacity }) w close after
-            × AreOf s after self.new.connections self.new.shards.items self.new.exporter self.new.report self.new.closed }
+            × AreOf s after self.new.connections self.new.shards.items self.new.limiter self.new.exporter self.new.report self.new.closed }
         ensures size { self.new.exporter.size ≡ self.old.exporter.size }
         ensures queue { self.new.queue_capacity ≡ self.old.queue_capacity }
         ensures closes { self.new.closed ≡ true }
@@ -145,6 +152,7 @@ impl<S: Sink> Session<S> {
     {
         end_all(
             &mut self.shards,
+            &mut self.limiter,
             &mut self.exporter,
             &mut self.report,
             self.connections.lanes(),
@@ -157,9 +165,9 @@ impl<S: Sink> Session<S> {
     fn obey(&mut self, command: Command<'_>)
         requires open { self.old.closed ≡ false }
         requires up { self.old.exporter.sink.is_down ≡ true → instruction_of_command command ≡ close }
-        ensures plays { (s : Settings) (w : World) → AreOf s w self.old.connections self.old.shards.items self.old.exporter self.old.report self.old.closed
+        ensures plays { (s : Settings) (w : World) → AreOf s w self.old.connections self.old.shards.items self.old.limiter self.old.exporter self.old.report self.old.closed
             → (after : World) × Plays s (record { batch = self.old.exporter.size; queue = self.old.queue_capacity }) w (instruction_of_command command.entry) after
-            × AreOf s after self.new.connections self.new.shards.items self.new.exporter self.new.report self.new.closed }
+            × AreOf s after self.new.connections self.new.shards.items self.new.limiter self.new.exporter self.new.report self.new.closed }
         ensures size { self.new.exporter.size ≡ self.old.exporter.size }
         ensures queue { self.new.queue_capacity ≡ self.old.queue_capacity }
         ensures closed { self.new.closed ≡ is_close (instruction_of_command command.entry) }
@@ -179,9 +187,9 @@ impl<S: Sink> Session<S> {
 
 impl<S: Sink> Machine for Session<S> {
     ghost leads = { λ start instructions now. (now.exporter.size ≡ start.exporter.size) × (now.queue_capacity ≡ start.queue_capacity)
-        × ((s : Settings) (w : World) → AreOf s w start.connections start.shards.items start.exporter start.report start.closed
+        × ((s : Settings) (w : World) → AreOf s w start.connections start.shards.items start.limiter start.exporter start.report start.closed
         → (after : World) × PlaysAll s (record { batch = start.exporter.size; queue = start.queue_capacity }) w instructions after
-        × AreOf s after now.connections now.shards.items now.exporter now.report now.closed) };
+        × AreOf s after now.connections now.shards.items now.limiter now.exporter now.report now.closed) };
 
     ghost is_up = { λ now. not now.exporter.sink.is_down };
 

@@ -1,25 +1,28 @@
 ghost use Rattle.std.specs.Prelude.{◌≡◌, ℕ, ◌<◌, List, [], ◌∷◌, Bool, true, false, length, map, if◌then◌else◌};
 ghost use Rattle.std.specs.List.{AllByRecursion, list_all};
-ghost use Rattle.shard_core.specs.Journal.{Journal, Settings};
+ghost use Rattle.rate_budget.specs.Budget.{limiter_counts, has_node};
+ghost use Rattle.shard_core.specs.Journal.{Entry, Settings};
 ghost use Rattle.shard_core.specs.Held.{StandsFor, has_due, is_finished, settings};
 ghost use Rattle.shard_core.specs.Taking.{has_ids, ends_after, released_by, released_in, dropped_by, dropped_in};
-ghost use Rattle.script_run.specs.World.{to_each};
+ghost use Rattle.script_run.specs.World.{Turn, to_each};
 ghost use Rattle.script_session.specs.Signals.{item_of};
-ghost use Rattle.script_session.specs.Pulling.{PullsAll, TakesItems, DecidesAll, AreOpen, AreQuiet, HaveSettings, EachTakes, RoundsTaken, rounds_of, is_queued, emptied, items_in, HoldsQueued};
+ghost use Rattle.script_session.specs.Pulling.{PullsAll, TakesItems, DecidesAll, has_nodes_of, has_all_nodes, AreOpen, AreQuiet, HaveSettings, EachTakes, RoundsTaken, rounds_of, is_queued, emptied, items_in, HoldsQueued};
 
 use crate::pulling::{count, pull, pull_all};
 use crate::signal::Signal;
 use drop_ledger::{Count, Report};
 use lane_queue::ListPort;
 use otlp_types::Item;
+use rate_budget::Budgets;
 use shard_core::{Decided, Shard, Taken};
 use span_exporter::Exporter;
 use span_ids::Reason;
 use span_sink::Sink;
 
-/// Takes an item, and puts what that releases into the batch.
+/// Takes an item, decides all that is due by the limiter, and puts what that releases into the batch.
 pub fn take_item<S: Sink>(
     shard: &mut Shard,
+    limiter: &mut Budgets,
     exporter: &mut Exporter<S>,
     report: &mut Option<Report>,
     item: Item,
@@ -27,8 +30,10 @@ pub fn take_item<S: Sink>(
     requires nothing_due { has_due shard.old ≡ false }
     requires running { is_finished shard.old ≡ false }
     requires ids { has_ids item ≡ true }
+    requires nodes { has_nodes_of limiter.old shard.old ≡ true }
     requires room { length exporter.old.batch < exporter.old.size }
-    ensures takes { TakesItems shard.old (exporter.old, report.old) (item ∷ []) shard.new (exporter.new, report.new) }
+    ensures takes { TakesItems shard.old limiter.old (exporter.old, report.old) (item ∷ []) shard.new limiter.new (exporter.new, report.new) }
+    ensures nodes { (node : ℕ) → has_node limiter.new node ≡ has_node limiter.old node }
     ensures nothing_due { has_due shard.new ≡ false }
     ensures ends { shard.new.standing.ends ≡ ends_after item shard.old.standing.ends }
     ensures settings { settings shard.new ≡ settings shard.old }
@@ -38,7 +43,7 @@ pub fn take_item<S: Sink>(
 {
     let taken = shard.take(item);
     pull_taken(exporter, report, taken);
-    decide_all(shard, exporter, report);
+    decide_all(shard, limiter, exporter, report);
 }
 
 /// Puts what an item released at once into the batch.
@@ -65,11 +70,18 @@ fn pull_taken<S: Sink>(exporter: &mut Exporter<S>, report: &mut Option<Report>, 
     }
 }
 
-/// Decides all that is due, and puts what that releases into the batch.
-fn decide_all<S: Sink>(shard: &mut Shard, exporter: &mut Exporter<S>, report: &mut Option<Report>)
-    requires { length exporter.old.batch < exporter.old.size }
-    ensures decides { (past : Journal) (dealt : ℕ) → StandsFor shard.old past dealt
-        → DecidesAll shard.old past dealt (exporter.old, report.old) shard.new (exporter.new, report.new) }
+/// Decides all that is due by the limiter, and puts what that releases into the batch.
+fn decide_all<S: Sink>(
+    shard: &mut Shard,
+    limiter: &mut Budgets,
+    exporter: &mut Exporter<S>,
+    report: &mut Option<Report>,
+)
+    requires nodes { has_nodes_of limiter.old shard.old ≡ true }
+    requires room { length exporter.old.batch < exporter.old.size }
+    ensures decides { (e : Entry) (past : Turn) → e.answers ≡ [] → StandsFor shard.old (e ∷ past.journal) 0 → limiter.old ≡ limiter_counts (settings shard.old).policies past.askings
+        → DecidesAll (settings shard.old) e past (exporter.old, report.old) shard.new limiter.new (exporter.new, report.new) }
+    ensures nodes { (node : ℕ) → has_node limiter.new node ≡ has_node limiter.old node }
     ensures nothing_due { has_due shard.new ≡ false }
     ensures ends { shard.new.standing.ends ≡ shard.old.standing.ends }
     ensures settings { settings shard.new ≡ settings shard.old }
@@ -78,7 +90,7 @@ fn decide_all<S: Sink>(shard: &mut Shard, exporter: &mut Exporter<S>, report: &m
     ensures stays_down { exporter.old.sink.is_down ≡ true → exporter.new.sink.is_down ≡ true }
 {
     'deciding: loop {
-        let decided = shard.decide();
+        let decided = shard.decide(limiter);
         if let Decided::Nothing = decided {
             return;
         }
@@ -100,18 +112,21 @@ fn pull_decided<S: Sink>(exporter: &mut Exporter<S>, report: &mut Option<Report>
     }
 }
 
-/// Takes what a queue holds, in order.
+/// Takes what a queue holds, in order, and decides by the limiter.
 pub fn drain<S: Sink>(
     shard: &mut Shard,
     queue: &mut ListPort<Item>,
+    limiter: &mut Budgets,
     exporter: &mut Exporter<S>,
     report: &mut Option<Report>,
 )
     requires nothing_due { has_due shard.old ≡ false }
     requires running { is_finished shard.old ≡ false }
     requires queued { list_all is_queued queue.old.items ≡ true }
+    requires nodes { has_nodes_of limiter.old shard.old ≡ true }
     requires room { length exporter.old.batch < exporter.old.size }
-    ensures takes { TakesItems shard.old (exporter.old, report.old) queue.old.items shard.new (exporter.new, report.new) }
+    ensures takes { TakesItems shard.old limiter.old (exporter.old, report.old) queue.old.items shard.new limiter.new (exporter.new, report.new) }
+    ensures nodes { (node : ℕ) → has_node limiter.new node ≡ has_node limiter.old node }
     ensures emptied { queue.new ≡ record queue.old { items = [] } }
     ensures nothing_due { has_due shard.new ≡ false }
     ensures ends { shard.new.standing.ends ≡ shard.old.standing.ends }
@@ -124,22 +139,27 @@ pub fn drain<S: Sink>(
         let Some(item) = queue.pop() else {
             return;
         };
-        take_item(shard, exporter, report, item);
+        take_item(shard, limiter, exporter, report, item);
     }
 }
 
 /// Each shard in its turn takes what its queue holds.
+#[tactic(auto, using(crate::proofs::Nodes::others_have_nodes))]
 pub fn take_queued<S: Sink>(
     shards: &mut [Shard],
     queues: &mut [ListPort<Item>],
+    limiter: &mut Budgets,
     exporter: &mut Exporter<S>,
     report: &mut Option<Report>,
 )
     requires same { length queues.old ≡ length shards.old }
     requires open { AreOpen shards.old }
     requires queued { AllByRecursion HoldsQueued queues.old }
+    requires nodes { has_all_nodes limiter.old shards.old ≡ true }
     requires room { length exporter.old.batch < exporter.old.size }
-    ensures takes { EachTakes shards.old (exporter.old, report.old) (items_in queues.old) shards.new (exporter.new, report.new) }
+    ensures takes { EachTakes shards.old limiter.old (exporter.old, report.old) (items_in queues.old) shards.new limiter.new (exporter.new, report.new) }
+    ensures nodes { has_all_nodes limiter.new shards.new ≡ true }
+    ensures same_nodes { (node : ℕ) → has_node limiter.new node ≡ has_node limiter.old node }
     ensures emptied { queues.new ≡ map emptied queues.old }
     ensures quiet { (ends : List Bool) → AreQuiet ends shards.old → AreQuiet ends shards.new }
     ensures settings { (s : Settings) → HaveSettings s shards.old → HaveSettings s shards.new }
@@ -154,8 +174,8 @@ pub fn take_queued<S: Sink>(
     let Some((queue, rest)) = queues.split_first_mut() else {
         return;
     };
-    drain(shard, queue, exporter, report);
-    take_queued(others, rest, exporter, report);
+    drain(shard, queue, limiter, exporter, report);
+    take_queued(others, rest, limiter, exporter, report);
 }
 
 /// Where a request's spans were received, each shard in its turn takes what its queue holds.
@@ -163,14 +183,17 @@ pub fn take_received<S: Sink>(
     received: bool,
     shards: &mut Vec<Shard>,
     queues: &mut Vec<ListPort<Item>>,
+    limiter: &mut Budgets,
     exporter: &mut Exporter<S>,
     report: &mut Option<Report>,
 )
     requires same { length queues.old.items ≡ length shards.old.items }
     requires open { AreOpen shards.old.items }
     requires queued { AllByRecursion HoldsQueued queues.old.items }
+    requires nodes { has_all_nodes limiter.old shards.old.items ≡ true }
     requires room { length exporter.old.batch < exporter.old.size }
-    ensures takes { RoundsTaken shards.old.items (exporter.old, report.old) (rounds_of received queues.old.items) shards.new.items (exporter.new, report.new) }
+    ensures takes { RoundsTaken shards.old.items limiter.old (exporter.old, report.old) (rounds_of received queues.old.items) shards.new.items limiter.new (exporter.new, report.new) }
+    ensures nodes { has_all_nodes limiter.new shards.new.items ≡ true }
     ensures emptied { queues.new.items ≡ (if received then map emptied queues.old.items else queues.old.items) }
     ensures quiet { (ends : List Bool) → AreQuiet ends shards.old.items → AreQuiet ends shards.new.items }
     ensures settings { (s : Settings) → HaveSettings s shards.old.items → HaveSettings s shards.new.items }
@@ -180,20 +203,25 @@ pub fn take_received<S: Sink>(
     ensures stays_down { exporter.old.sink.is_down ≡ true → exporter.new.sink.is_down ≡ true }
 {
     if received {
-        take_queued(shards, queues, exporter, report);
+        take_queued(shards, queues, limiter, exporter, report);
     }
 }
 
-/// Each shard in its turn is told the same.
+/// Each shard in its turn is told the same, and decides by the one limiter.
+#[tactic(auto, using(crate::proofs::Nodes::others_have_nodes))]
 pub fn tell_each<S: Sink>(
     shards: &mut [Shard],
+    limiter: &mut Budgets,
     exporter: &mut Exporter<S>,
     report: &mut Option<Report>,
     signal: Signal,
 )
     requires open { AreOpen shards.old }
+    requires nodes { has_all_nodes limiter.old shards.old ≡ true }
     requires room { length exporter.old.batch < exporter.old.size }
-    ensures takes { EachTakes shards.old (exporter.old, report.old) (to_each (item_of signal) shards.old) shards.new (exporter.new, report.new) }
+    ensures takes { EachTakes shards.old limiter.old (exporter.old, report.old) (to_each (item_of signal) shards.old) shards.new limiter.new (exporter.new, report.new) }
+    ensures nodes { has_all_nodes limiter.new shards.new ≡ true }
+    ensures same_nodes { (node : ℕ) → has_node limiter.new node ≡ has_node limiter.old node }
     ensures quiet { (ends : List Bool) → AreQuiet ends shards.old → AreQuiet (ends_after (item_of signal) ends) shards.new }
     ensures settings { (s : Settings) → HaveSettings s shards.old → HaveSettings s shards.new }
     ensures length { length shards.new ≡ length shards.old }
@@ -204,6 +232,6 @@ pub fn tell_each<S: Sink>(
     let Some((shard, others)) = shards.split_first_mut() else {
         return;
     };
-    take_item(shard, exporter, report, signal.item());
-    tell_each(others, exporter, report, signal);
+    take_item(shard, limiter, exporter, report, signal.item());
+    tell_each(others, limiter, exporter, report, signal);
 }

@@ -7,7 +7,6 @@ use Rattle.span_ids.specs.declared.outcome.Verdict.TheVariants.{Sampled, NotSamp
 use Rattle.span_ids.specs.declared.outcome.Reason.TheVariants.{NoMemory}
 use Rattle.otlp_types.specs.declared.arrival.Arrival.{Arrival}
 use Rattle.policy_tree.specs.declared.policy.Policy.{Policy}
-use Rattle.rate_budget.specs.declared.count.LimiterCount.{LimiterCount}
 use Rattle.trace_buffer.specs.Buffer.{Episode, Buffer, append_first, episode_of, state_of, state_of_verdict, after_opening, opening_episode, leaves}
 use Rattle.trace_buffer.specs.declared.episode.State.TheVariants.{Undecided, Decided}
 use Rattle.trace_buffer.specs.declared.episode.Evicted.{Evicted}
@@ -57,12 +56,12 @@ late_loss : (a : Arrival) (v : Verdict) → is_loss (answer_to_late a v) ≡ fal
 late_loss a Sampled = refl
 late_loss a NotSampled = refl
 
-module _ (p : List Policy) (w root_wait : ℕ) (b : Buffer) (c : CacheLists) (k : List LimiterCount) (cl mk : ℕ) (en : List Bool) (a : Arrival) (t : TraceId) where
+module _ (p : List Policy) (w root_wait : ℕ) (b : Buffer) (c : CacheLists) (cl mk : ℕ) (en : List Bool) (a : Arrival) (t : TraceId) where
   abbrev old : Held
-  old = held_of p w root_wait b c k cl mk en
+  old = held_of p w root_wait b c cl mk en
 
   abbrev new_of : Buffer → CacheLists → Held
-  new_of d e = held_of p w root_wait d e k (max a.moment cl) mk en
+  new_of d e = held_of p w root_wait d e (max a.moment cl) mk en
 
   abbrev s : Settings
   s = settings old

@@ -2,27 +2,29 @@
 use Rattle.std.proofs.Common.{◌≡◌, ℕ, zero, suc, ◌+◌, ◌/◌, ◌<◌, nat_le, ◌==◌, Bool, true, false, ◌&&◌, ◌||◌, cond, List, [], ◌∷◌, ◌++◌, map, reverse, length, take, drop, Option, Some, None, option_map, refl, sym, ap, subst, ◌∙◌, arith, add-one}
 use Rattle.std.specs.List.{list_all, list_any, find, filter}
 use Rattle.std.specs.Option.{is_none, is_some}
-use Rattle.policy_eval.specs.AskingLaws.{decides_by_counts}
-use Rattle.rate_budget.specs.Budget.{limiter_counts}
-use Rattle.rate_budget.specs.declared.count.LimiterCount.{LimiterCount}
+use Rattle.std.proofs.lemmas.List.{reverse-append}
+use Rattle.policy_tree.specs.Meaning.{meaning}
+use Rattle.policy_eval.specs.Given.{verdict_given, asked_given, are_answered, Asked}
 use Rattle.trace_buffer.specs.Buffer.{Episode, settled, settle_first, is_due_at, is_root_due, opened_by}
-use Rattle.shard_core.specs.Journal.{Entry, Settings, Journal, StoppedInTime, last_of, Opening, Decision, Notes, in_buffer, notes, notes_dealt, decided_as, due_now, decision, decisions_now, have_ended, askings_made, clock, spans_since}
+use Rattle.shard_core.specs.Journal.{Entry, Settings, Journal, StoppedInTime, last_of, Opening, Decision, Notes, in_buffer, notes, notes_dealt, decided_as, due_now, decision, decisions_now, have_ended, clock, spans_since, after_decisions, answered, IsAnsweredUpTo}
 use Rattle.shard_core.specs.Standing.{Standing, standing, episode, cache, mark, ends, spans_left}
 use Rattle.span_ids.specs.declared.outcome.Verdict.{Verdict}
 use Rattle.span_ids.specs.declared.outcome.Verdict.TheVariants.{Sampled, NotSampled}
 use Rattle.otlp_types.specs.declared.arrival.Arrival.{Arrival}
 use Rattle.shard_core.specs.Held.{Held, settings, StandsFor, has_due, is_finished, is_due_in, is_due_by, due_by}
-use Rattle.shard_core.specs.Taking.{waiting, Releases, Decides, DecidesFirst}
-use Rattle.shard_core.specs.Holding.{SettlesFirst, verdict_held, counts_asked}
+use Rattle.shard_core.specs.Taking.{waiting, Releases, DecidesFirst, AddsDecision, journal_after, dealt_after}
+use Rattle.shard_core.specs.Holding.{SettlesFirst}
 use Rattle.shard_core.specs.declared.answer.Decided.{Decided}
-use Rattle.shard_core.specs.declared.answer.Decided.TheVariants.{Nothing}
+use Rattle.shard_core.specs.declared.answer.Decided.TheVariants.{Release, Nothing, Dropped as NotReleased}
 use Rattle.shard_core.specs.Deciding.{decide_first, is_due_held, DecidesNext, DecidesStanding}
 use Rattle.shard_core.proofs.Lists.{set_first, filter-from_find, find-each, find-passes, Each-weaken}
 use Rattle.shard_core.proofs.ListFacts.{Each, Pairs as Apart}
 use Rattle.shard_core.proofs.Notes.{HasRoom}
 use Rattle.shard_core.proofs.Sound.{sound_item, sound_notes}
-use Rattle.shard_core.proofs.Due.{front, front-places, OtherPlace, eqb-same, open_due, decisions-item, known, stopped-before, item_notes, due_list, due-dealt, turn-next, turn-done, nothing_left, all_ended, find-episodes, episode-due, DueIn}
+use Rattle.shard_core.proofs.Due.{front, front-places, OtherPlace, eqb-same, open_due, known, stopped-before, item_notes, due_list, due-dealt, nothing_left, all_ended, find-episodes, episode-due, DueIn}
 use Rattle.shard_core.proofs.Stands.{room_of}
+use Rattle.shard_core.proofs.Answering.{standing-answered, answered-next}
+use Rattle.shard_core.proofs.Effects.{nothing_adds, decision_adds}
 
 decided_as-own : (m noted : Notes) (d : Decision) (o : Opening) → m.decisions ≡ d ∷ noted.decisions → (d.opening.at == o.at) ≡ true → decided_as m o.at ≡ Some d.verdict
 decided_as-own m noted d o e h = rw (e, h) refl
@@ -76,16 +78,16 @@ module _ (s : Settings) (room : HasRoom s.limit) where
   take-one k = add-one k
 
   -- what the k-th decision at the last item leaves
-  abbrev deciding : Standing → Episode → Verdict → Standing
-  deciding st e v = record st { episodes = set_first (DueIn s room st) (settled v) st.episodes; limiter_counts = counts_asked s.policies st e.spans }
+  abbrev deciding : Standing → Verdict → Standing
+  deciding st v = record st { episodes = set_first (DueIn s room st) (settled v) st.episodes }
 
-  pub decides-step : (x : Entry) (before : Journal) (k : ℕ) (st : Standing) (e : Episode) (v : Verdict) → let past : Journal = x ∷ before in
-      0 < s.wait → have_ended before s.senders ≡ false → st ≡ standing s past k → find (DueIn s room st) st.episodes ≡ Some e → v ≡ verdict_held s.policies st e.spans →
-      (later : List Decision) × (d : Decision) × (drop k (decisions_now s past) ≡ d ∷ later) × (d.spans ≡ e.spans) × (d.verdict ≡ v) × (deciding st e v ≡ standing s past (k + 1))
-  decides-step x before k st e v w h eq f judged =
+  pub decides-step : (x : Entry) (before : Journal) (k : ℕ) (st : Standing) (e : Episode) → let past : Journal = x ∷ before in
+      0 < s.wait → have_ended before s.senders ≡ false → st ≡ standing s past k → IsAnsweredUpTo s past k → find (DueIn s room st) st.episodes ≡ Some e →
+      (o : Opening) × (later : List Opening) × (drop k (due_now s past) ≡ o ∷ later) × (spans_since past o ≡ e.spans)
+      × ((answers : List Bool) → standing s (answered past answers) (k + 1) ≡ deciding st (verdict_given s.policies answers e.spans))
+  decides-step x before k st e w h eq given f =
       let past : Journal = x ∷ before in
-      let g = known s room before w (stopped-before s room x before h) in
-      let noted = notes s before in
+      let g = known s room before w (stopped-before s room x before h) given.1 in
       let m = item_notes s room x before in
       let os = due_list s room x before in
       let n = notes_dealt s past k in
@@ -98,32 +100,29 @@ module _ (s : Settings) (room : HasRoom s.limit) where
       let o = opening_of (episode past n) (find (test past n) R) e (sym (find-episodes s room past n (have_ended past s.senders) (mark past) R) ∙ f2) in
       let p = o.0 in
       let rest = filter-from_find (test past n) R p o.1 in
-      let left : drop k os ≡ p ∷ rest.0 = ◌∙◌ {c = p ∷ rest.0} (sym (due-dealt s room x before k h w g)) rest.1 in
-      let next = turn-next s room past k os noted.decisions p rest.0 left in
-      let ds = decisions_now s past in
-      let earlier = reverse (take k ds) ++ noted.decisions in
-      let d = decision s past p earlier in
+      let left : drop k os ≡ p ∷ rest.0 = ◌∙◌ {c = p ∷ rest.0} (sym (due-dealt s room x before k h w g given)) rest.1 in
       let undecided : decided_as n p.at ≡ None = none-left (decided_as n p.at) _ (find-passes (test past n) R p o.1) in
-      let spans : d.spans ≡ e.spans = sym (ap (λ (q : Episode). q.spans) (sym o.2) ∙ ap (λ (y : Option Verdict). spans_left (spans_since past p) y) undecided) in
-      let same : m.decisions ≡ noted.decisions = decisions-item s room x before noted x.item in
-      let counts : n.decisions ≡ earlier = ap (λ q. reverse (take k ds) ++ q) same in
-      let law = decides_by_counts s.policies (askings_made earlier) (clock past / 1000) d.spans now.limiter_counts (ap (λ (q : List Decision). limiter_counts s.policies (askings_made q)) counts) in
-      let judgement : d.verdict ≡ v = sym (judged ∙ ap (λ (t : Standing). verdict_held s.policies t e.spans) eq ∙ ap (verdict_held s.policies now) (sym spans) ∙ law.0) in
-      let after = notes_dealt s past (suc k) in
-      let onto_noted : after.decisions ≡ reverse (take (suc k) ds) ++ noted.decisions = ap (λ q. reverse (take (suc k) ds) ++ q) same in
-      let onto_item : d ∷ earlier ≡ d ∷ n.decisions = ap (λ q. d ∷ (reverse (take k ds) ++ q)) (sym same) in
-      let one_more : after.decisions ≡ d ∷ n.decisions = ◌∙◌ {b = reverse (take (suc k) ds) ++ noted.decisions} onto_noted (◌∙◌ {b = d ∷ earlier} next.1 onto_item) in
-      let places = front-places s room past m (sound_item s room before x.item x noted (sound_notes s room before)) in
-      let moved = settle-map past after n d R one_more places o.1 in
-      let asked : counts_asked s.policies now e.spans ≡ limiter_counts s.policies (askings_made after.decisions)
-      = ap (counts_asked s.policies now) (sym spans) ∙ law.1 ∙ ap (λ (q : List Decision). limiter_counts s.policies (askings_made q)) (sym (◌∙◌ {b = reverse (take (suc k) ds) ++ noted.decisions} onto_noted next.1)) in
-      let H = λ (es : List Episode) (ks : List LimiterCount). (let t : Standing = record { episodes = es; sampled = cache s n Sampled; non_sampled = cache s n NotSampled; limiter_counts = ks; clock = clock past; mark = mark past; ends = ends past s.senders } in t) in
-      let C = counts_asked s.policies now e.spans in
-      let into : deciding st e v ≡ deciding now e v = ap (λ (t : Standing). deciding t e v) eq in
-      let by_ends : deciding now e v ≡ H (set_first (is_due_by (have_ended past s.senders) (mark past) s.wait s.root_wait) (settled v) (map (episode past n) R)) C
-      = ap (λ b. H (set_first (is_due_by b (mark past) s.wait s.root_wait) (settled v) (map (episode past n) R)) C) (all_ended s room past s.senders) in
-      let by_verdict = ap (λ (y : Verdict). H (set_first (is_due_by (have_ended past s.senders) (mark past) s.wait s.root_wait) (settled y) (map (episode past n) R)) C) (sym judgement) in
-      (next.0.0, d, next.0.1, spans, judgement, into ∙ by_ends ∙ by_verdict ∙ ap (λ es. H es C) moved ∙ ap (H (map (episode past after) R)) asked ∙ ap (standing s past) (sym (take-one k)))
+      let spans : spans_since past p ≡ e.spans = sym (ap (λ (q : Episode). q.spans) (sym o.2) ∙ ap (λ (y : Option Verdict). spans_left (spans_since past p) y) undecided) in
+      let places = front-places s room past m (sound_item s room before x.item x (notes s before) (sound_notes s room before)) in (
+        p,
+        rest.0,
+        left,
+        spans,
+        λ answers.
+            let v = verdict_given s.policies answers e.spans in
+            let d = decision s past p answers in
+            let ds = take k (decisions_now s past) in
+            let judgement : d.verdict ≡ v = ap (verdict_given s.policies answers) spans in
+            let after = after_decisions (ds ++ d ∷ []) m in
+            let one_more : after.decisions ≡ d ∷ n.decisions = ap (λ q. q ++ m.decisions) (reverse-append ds (d ∷ [])) in
+            let moved = settle-map past after n d R one_more places o.1 in
+            let H = λ (es : List Episode). (let t : Standing = record { episodes = es; sampled = cache s n Sampled; non_sampled = cache s n NotSampled; clock = clock past; mark = mark past; ends = ends past s.senders } in t) in
+            let into : deciding st v ≡ deciding now v = ap (λ (t : Standing). deciding t v) eq in
+            let by_ends : deciding now v ≡ H (set_first (is_due_by (have_ended past s.senders) (mark past) s.wait s.root_wait) (settled v) (map (episode past n) R))
+            = ap (λ b. H (set_first (is_due_by b (mark past) s.wait s.root_wait) (settled v) (map (episode past n) R))) (all_ended s room past s.senders) in
+            let by_verdict = ap (λ (y : Verdict). H (set_first (is_due_by (have_ended past s.senders) (mark past) s.wait s.root_wait) (settled y) (map (episode past n) R))) (sym judgement) in
+            ap (standing s (answered past answers)) (take-one k) ∙ standing-answered s x before k answers p rest.0 left given ∙ sym (into ∙ by_ends ∙ by_verdict ∙ ap H moved),
+      )
 
 -- ---- by what the code asks the buffer
 
@@ -180,47 +179,65 @@ has_due_is h o = ap is_some (due_is h o) ∙ sym (any_found (is_due_in h) h.stan
 pub nothing_due : (h : Held) → opened_by h.standing.clock h.standing.episodes ≡ true → find (is_due_at (due_by h).0 (due_by h).1 (due_by h).2) h.standing.episodes ≡ None → has_due h ≡ false
 nothing_due h o f = sym (has_due_is h o) ∙ ap is_some f
 
-nothing-decided : (s : Settings) (room : HasRoom s.limit) (past : Journal) (k : ℕ) → drop k (due_now s past) ≡ [] → drop k (decisions_now s past) ≡ []
-nothing-decided s room [] zero e = refl
-nothing-decided s room [] (suc k) e = refl
-nothing-decided s room (x ∷ before) k e = (turn-done s room (x ∷ before) k (due_list s room x before) (notes s before).decisions e).0
+-- what a decision does by these answers of the limiter
+module _ {L : Type 0} (asks : L → ℕ → ℕ → ℕ → Bool → L → Type 0) (h : Held) (w : 0 < h.wait) (l : 0 < h.limit) (o : opened_by h.standing.clock h.standing.episodes ≡ true) where
+  abbrev Does : (new : Held) → Decided → (before after : L) → (answers : List Bool) → Journal → ℕ → Type 0
+  Does new answer before after answers past k = DecidesFirst asks h new answer before after answers past (drop k (due_now (settings h) past))
+      × StandsFor new (journal_after answer past answers) (dealt_after answer k) × AddsDecision (settings h) answer answers past k
 
-pub decides_nothing : (h : Held) (past : Journal) (k : ℕ) → 0 < h.wait → 0 < h.limit → opened_by h.standing.clock h.standing.episodes ≡ true → find (is_due_at (due_by h).0 (due_by h).1 (due_by h).2) h.standing.episodes ≡ None → StandsFor h past k → Decides h h Nothing past k
-decides_nothing h past k w l o f s =
-    let room = room_of h l in
-    let left = nothing_left (settings h) room past k h.standing w s.0 s.1 in
-    let gone = left (sym (due_is h o) ∙ f) in
-    let P = λ (ds : List Decision). DecidesFirst h h Nothing past k ds in
-    subst P (sym (nothing-decided (settings h) room past k gone)) (refl, refl)
+  pub decides_nothing : (limiter : L) (past : Journal) (k : ℕ) → find (is_due_at (due_by h).0 (due_by h).1 (due_by h).2) h.standing.episodes ≡ None → StandsFor h past k → Does h Nothing limiter limiter [] past k
+  decides_nothing limiter past k f s =
+      let gone = nothing_left (settings h) (room_of h l) past k h.standing w s.0 s.1 s.2 (sym (due_is h o) ∙ f) in
+      let P = λ (os : List Opening). DecidesFirst asks h h Nothing limiter limiter [] past os in
+      (subst P (sym gone) (refl, refl, refl), s, nothing_adds (settings h) past k)
 
-decides-in : (h new : Held) (answer : Decided) (e : Episode) (x : Entry) (before : Journal) (k : ℕ) → let past : Journal = x ∷ before in 0 < h.wait → 0 < h.limit → opened_by h.standing.clock h.standing.episodes ≡ true → find (is_due_at (due_by h).0 (due_by h).1 (due_by h).2) h.standing.episodes ≡ Some e →
-    SettlesFirst h (due_by h).0 (due_by h).1 (due_by h).2 answer new → StandsFor h past k → Decides h new answer past k
-decides-in h new answer e x before k w l o f t s =
-    let past : Journal = x ∷ before in
-    let room = room_of h l in
-    let settle = t e f in
-    let v = settle.0 in
-    let step = decides-step (settings h) room x before k h.standing e v w s.0 s.1 (sym (due_is h o) ∙ f) settle.1 in
-    let d = step.1 in
-    let P = λ (ds : List Decision). DecidesFirst h new answer past k ds in
-    let Q = λ (n : Held). StandsFor n past (k + 1) in
-    let R = λ (spans : List Arrival). Releases answer spans v in
-    let IsAnswer = λ (y : Verdict). Releases answer d.spans y in
-    let due = settle_same (due_by h).0 (due_by h).1 (due_by h).2 v (is_due_in h) h.standing.episodes (due_each (is_finished h) h.standing.clock h.standing.mark h.wait h.root_wait h.standing.episodes o) in
-    let is : new ≡ record h { standing = deciding (settings h) room h.standing e v } = settle.3 ∙ ap (λ (es : List Episode). record h { standing = record h.standing { episodes = es; limiter_counts = counts_asked (settings h).policies h.standing e.spans } }) due in
-    subst P (sym step.2) (subst IsAnswer (sym step.4) (subst R (sym step.3) settle.2), subst Q (sym is) (s.0, step.5))
+  decides-in : (new : Held) (answer : Decided) (before after : L) (answers : List Bool) (e : Episode) (x : Entry) (earlier : Journal) (k : ℕ) → let past : Journal = x ∷ earlier in
+      find (is_due_at (due_by h).0 (due_by h).1 (due_by h).2) h.standing.episodes ≡ Some e → SettlesFirst h (due_by h).0 (due_by h).1 (due_by h).2 answers answer new →
+      are_answered (settings h).policies answers e.spans ≡ true → Asked asks (h.standing.clock / 1000) (length e.spans) (asked_given (settings h).policies answers e.spans) answers before after →
+      StandsFor h past k → Does new answer before after answers past k
+  decides-in new answer before after answers e x earlier k f t a q s =
+      let past : Journal = x ∷ earlier in
+      let policies = (settings h).policies in
+      let settle = t e f in
+      let step = decides-step (settings h) (room_of h l) x earlier k h.standing e w s.0 s.1 s.2 (sym (due_is h o) ∙ f) in
+      let p = step.0 in
+      let v = verdict_given policies answers e.spans in
+      let R = λ (spans : List Arrival). Releases answer spans (verdict_given policies answers spans) in
+      let A = λ (spans : List Arrival). are_answered policies answers spans ≡ true in
+      let Q = λ (spans : List Arrival) (c : ℕ). Asked asks (c / 1000) (length spans) (asked_given policies answers spans) answers before after in
+      let same = sym step.3 in
+      let released = subst R same settle.0 in
+      let fits = subst A same a in
+      let clocks : h.standing.clock ≡ clock past = ap (λ (st : Standing). st.clock) s.1 in
+      let asked = subst (λ (c : ℕ). Q (spans_since past p) c) clocks (subst (λ (spans : List Arrival). Q spans h.standing.clock) same q) in
+      let P = λ (os : List Opening). DecidesFirst asks h new answer before after answers past os in
+      let first = subst P (sym step.2) (released, fits, asked) in
+      let due = settle_same (due_by h).0 (due_by h).1 (due_by h).2 v (is_due_in h) h.standing.episodes (due_each (is_finished h) h.standing.clock h.standing.mark h.wait h.root_wait h.standing.episodes o) in
+      let is : new ≡ record h { standing = deciding (settings h) (room_of h l) h.standing v } = settle.1 ∙ ap (λ (es : List Episode). record h { standing = record h.standing { episodes = es } }) due in
+      let S = λ (n : Held). StandsFor n (answered past answers) (k + 1) in
+      let U = λ (n : ℕ). IsAnsweredUpTo (settings h) (answered past answers) n in
+      let stands = subst S (sym is) (s.0, sym (step.4 answers), subst U (sym (add-one k)) (answered-next (settings h) past k answers p step.1 step.2 s.2 fits)) in
+      (first, by_answer answer released stands, decision_adds (settings h) x earlier k answer answers p step.1 step.2 s.2 released)
+    where
+      by_answer : (y : Decided) → Releases y (spans_since (x ∷ earlier) (decides-step (settings h) (room_of h l) x earlier k h.standing e w s.0 s.1 s.2 (sym (due_is h o) ∙ f)).0) (verdict_given (settings h).policies answers (spans_since (x ∷ earlier) (decides-step (settings h) (room_of h l) x earlier k h.standing e w s.0 s.1 s.2 (sym (due_is h o) ∙ f)).0)) →
+          StandsFor new (answered (x ∷ earlier) answers) (k + 1) → StandsFor new (journal_after y (x ∷ earlier) answers) (dealt_after y k)
+      by_answer (Release v) r g = g
+      by_answer (NotReleased n) r g = g
+      by_answer Nothing r g = absurd r
 
-pub decides_some : (h new : Held) (answer : Decided) (e : Episode) (past : Journal) (k : ℕ) → 0 < h.wait → 0 < h.limit → opened_by h.standing.clock h.standing.episodes ≡ true → find (is_due_at (due_by h).0 (due_by h).1 (due_by h).2) h.standing.episodes ≡ Some e →
-    SettlesFirst h (due_by h).0 (due_by h).1 (due_by h).2 answer new → StandsFor h past k → Decides h new answer past k
-decides_some h new answer e [] k w l o f t s =
-    let none : h.standing.episodes ≡ map (episode [] (notes_dealt (settings h) [] k)) (reverse (in_buffer (settings h) (notes_dealt (settings h) [] k))) = ap (λ (st : Standing). st.episodes) s.1 in
-    let P = λ (es : List Episode). find (is_due_at (due_by h).0 (due_by h).1 (due_by h).2) es ≡ Some e in
-    absurd (no_openings h.limit (subst P none f))
-  where
-    no_openings : (n : ℕ) → find (is_due_at (due_by h).0 (due_by h).1 (due_by h).2) (map (episode [] (notes_dealt (settings h) [] k)) (reverse (take n []))) ≡ Some e → ⊥
-    no_openings zero f = cc f
-    no_openings (suc n) f = cc f
-decides_some h new answer e (x ∷ before) k w l o f t s = decides-in h new answer e x before k w l o f t s
+  pub decides_some : (new : Held) (answer : Decided) (before after : L) (answers : List Bool) (e : Episode) (past : Journal) (k : ℕ) →
+      find (is_due_at (due_by h).0 (due_by h).1 (due_by h).2) h.standing.episodes ≡ Some e → SettlesFirst h (due_by h).0 (due_by h).1 (due_by h).2 answers answer new →
+      are_answered (settings h).policies answers e.spans ≡ true → Asked asks (h.standing.clock / 1000) (length e.spans) (asked_given (settings h).policies answers e.spans) answers before after →
+      StandsFor h past k → Does new answer before after answers past k
+  decides_some new answer before after answers e [] k f t a q s =
+      let none : h.standing.episodes ≡ map (episode [] (notes_dealt (settings h) [] k)) (reverse (in_buffer (settings h) (notes_dealt (settings h) [] k))) = ap (λ (st : Standing). st.episodes) s.1 in
+      let P = λ (es : List Episode). find (is_due_at (due_by h).0 (due_by h).1 (due_by h).2) es ≡ Some e in
+      absurd (no_openings h.limit (subst P none f))
+    where
+      no_openings : (n : ℕ) → find (is_due_at (due_by h).0 (due_by h).1 (due_by h).2) (map (episode [] (notes_dealt (settings h) [] k)) (reverse (take n []))) ≡ Some e → ⊥
+      no_openings zero f = cc f
+      no_openings (suc n) f = cc f
+  decides_some new answer before after answers e (x ∷ earlier) k f t a q s = decides-in new answer before after answers e x earlier k f t a q s
 
 -- ---- what is left to decide
 
@@ -245,11 +262,11 @@ count-less m w r v (x ∷ es) y e = (elim (is_due_at m w r x) as (λ b. is_due_a
   | false ↦ λ h e. less-tail x (is_none x.verdict) (settle_first m w r v es) es refl (count-less m w r v es y e)
 ]) refl e
 
-pub waits_less : (h new : Held) (m w r : ℕ) (e : Episode) (answer : Decided) → find (is_due_at m w r) h.standing.episodes ≡ Some e → SettlesFirst h m w r answer new → waiting new < waiting h
-waits_less h new m w r e answer f t =
+pub waits_less : (h new : Held) (m w r : ℕ) (answers : List Bool) (e : Episode) (answer : Decided) → find (is_due_at m w r) h.standing.episodes ≡ Some e → SettlesFirst h m w r answers answer new → waiting new < waiting h
+waits_less h new m w r answers e answer f t =
     let s = t e f in
     let P = λ (es : List Episode). open_in es < waiting h in
-    subst P (sym (ap (λ (n : Held). n.standing.episodes) s.3)) (count-less m w r s.0 h.standing.episodes e f)
+    subst P (sym (ap (λ (n : Held). n.standing.episodes) s.1)) (count-less m w r (verdict_given (meaning h.policies) answers e.spans) h.standing.episodes e f)
 
 -- ---- the next decision
 
@@ -262,18 +279,23 @@ none_found s k e None f = cc f
 none_found s k e (Some zero) f = cc f
 none_found s k e (Some (suc n)) f = cc f
 
-some_next : (s : Settings) → HasRoom s.limit → 0 < s.wait → (past : Journal) (k : ℕ) → StoppedInTime s past → (e : Episode) → find (is_due_held s.wait s.root_wait (standing s past k)) (standing s past k).episodes ≡ Some e → DecidesNext s past k (Some e)
-some_next s room w [] k h e f = absurd (none_found s k e s.limit f)
-some_next s room w (x ∷ before) k h e f =
+some_next : (s : Settings) → HasRoom s.limit → 0 < s.wait → (past : Journal) (k : ℕ) → StoppedInTime s past → IsAnsweredUpTo s past k → (e : Episode) → find (is_due_held s.wait s.root_wait (standing s past k)) (standing s past k).episodes ≡ Some e → DecidesNext s past k (Some e)
+some_next s room w [] k h g e f = absurd (none_found s k e s.limit f)
+some_next s room w (x ∷ before) k h g e f =
     let st = standing s (x ∷ before) k in
-    let v = verdict_held s.policies st e.spans in
-    let step = decides-step s room x before k st e v w h refl f refl in
-    let first = first_set (is_due_held s.wait s.root_wait st) v st.episodes in
-    (step.0, step.1, step.2, step.3, step.4, sym step.5 ∙ ap (λ (es : List Episode). record st { episodes = es; limiter_counts = counts_asked s.policies st e.spans }) first)
+    let step = decides-step s room x before k st e w h refl g f in (
+      step.0,
+      step.1,
+      step.2,
+      step.3,
+      λ answers.
+          let v = verdict_given s.policies answers e.spans in
+          step.4 answers ∙ ap (λ (es : List Episode). record st { episodes = es }) (first_set (is_due_held s.wait s.root_wait st) v st.episodes),
+    )
 
-next : (s : Settings) → HasRoom s.limit → 0 < s.wait → (past : Journal) (k : ℕ) → StoppedInTime s past → (r : Option Episode) → find (is_due_held s.wait s.root_wait (standing s past k)) (standing s past k).episodes ≡ r → DecidesNext s past k r
-next s room w past k h None f = nothing-decided s room past k (nothing_left s room past k (standing s past k) w h refl f)
-next s room w past k h (Some e) f = some_next s room w past k h e f
+next : (s : Settings) → HasRoom s.limit → 0 < s.wait → (past : Journal) (k : ℕ) → StoppedInTime s past → IsAnsweredUpTo s past k → (r : Option Episode) → find (is_due_held s.wait s.root_wait (standing s past k)) (standing s past k).episodes ≡ r → DecidesNext s past k r
+next s room w past k h g None f = nothing_left s room past k (standing s past k) w h refl g f
+next s room w past k h g (Some e) f = some_next s room w past k h g e f
 
 pub decides_standing : DecidesStanding
-decides_standing s past dealt room w h = next s room w past dealt h (find (is_due_held s.wait s.root_wait (standing s past dealt)) (standing s past dealt).episodes) refl
+decides_standing s past dealt room w h g = next s room w past dealt h g (find (is_due_held s.wait s.root_wait (standing s past dealt)) (standing s past dealt).episodes) refl

@@ -8,7 +8,8 @@ use Rattle.std.proofs.Math.Seq.{set-append_seam}
 use Rattle.std.proofs.lemmas.Bool.Decides.{nat_tests}
 use Rattle.trace_buffer.specs.Buffer.{Episode, is_root_due}
 use Rattle.span_ids.specs.declared.outcome.Verdict.{Verdict}
-use Rattle.shard_core.specs.Journal.{Entry, StoppedInTime, Settings, Journal, Opening, Decision, Notes, Finding, joins, meets, opens, in_buffer, last_of, leaving, notes, notes_dealt, finding, decided_as, is_due, due_at, due_now, have_ended, has_ended, decisions_in_turn, decision, after_item, after_span, after_finding, after_decisions, no_notes, clock}
+use Rattle.shard_core.specs.Journal.{Entry, StoppedInTime, Settings, Journal, Opening, Decision, Notes, Finding, joins, meets, opens, in_buffer, last_of, leaving, notes, notes_dealt, finding, decided_as, is_due, due_at, due_now, have_ended, has_ended, decisions_in_turn, decision, after_item, after_span, after_finding, after_decisions, no_notes, clock, spans_since, are_each_answered, IsAnswered, IsAnsweredUpTo}
+use Rattle.policy_eval.specs.Given.{are_answered}
 use Rattle.shard_core.specs.Standing.{Standing, root_left, first_root_since, episode, standing, mark, ends}
 use Rattle.otlp_types.specs.declared.span.Ids.{Ids}
 use Rattle.span_ids.specs.declared.ids.TraceId.{TraceId}
@@ -80,14 +81,14 @@ module _ (s : Settings) (room : HasRoom s.limit) where
 
   -- ---- the clock, the mark and the ends
 
-  mark-item : (item : Item) (refused lost : Bool) (before : Journal) → mark before ≤ clock before → let e : Entry = record { item = item; refused = refused; lost = lost } in mark (e ∷ before) ≤ clock (e ∷ before)
-  mark-item (Span a) refused lost before h = omega arith
-  mark-item (Tick m) refused lost before h = omega arith
-  mark-item (End sender) refused lost before h = omega arith
+  mark-item : (item : Item) (refused lost : Bool) (given : List (List Bool)) (before : Journal) → mark before ≤ clock before → let e : Entry = record { item = item; refused = refused; lost = lost; answers = given } in mark (e ∷ before) ≤ clock (e ∷ before)
+  mark-item (Span a) refused lost given before h = omega arith
+  mark-item (Tick m) refused lost given before h = omega arith
+  mark-item (End sender) refused lost given before h = omega arith
 
   pub mark-clock : (past : Journal) → mark past ≤ clock past
   mark-clock [] = omega arith
-  mark-clock (e ∷ before) = mark-item e.item e.refused e.lost before (mark-clock before)
+  mark-clock (e ∷ before) = mark-item e.item e.refused e.lost e.answers before (mark-clock before)
 
   and-left : (a b : Bool) → (a && b) ≡ true → a ≡ true
   and-left true b h = refl
@@ -108,13 +109,13 @@ module _ (s : Settings) (room : HasRoom s.limit) where
   pub ended-before : (e : Entry) (before : Journal) (n : ℕ) → have_ended (e ∷ before) n ≡ false → have_ended before n ≡ false
   ended-before e before n h = false-if _ (λ k. let t = ended-more e before n k in cc)
 
-  ended-span : (a : Arrival) (refused lost : Bool) (before : Journal) (n : ℕ) → let e : Entry = record { item = Span a; refused = refused; lost = lost } in have_ended (e ∷ before) n ≡ have_ended before n
-  ended-span a refused lost before zero = refl
-  ended-span a refused lost before (suc n) = rw (ended-span a refused lost before n)
+  ended-span : (a : Arrival) (refused lost : Bool) (given : List (List Bool)) (before : Journal) (n : ℕ) → let e : Entry = record { item = Span a; refused = refused; lost = lost; answers = given } in have_ended (e ∷ before) n ≡ have_ended before n
+  ended-span a refused lost given before zero = refl
+  ended-span a refused lost given before (suc n) = rw (ended-span a refused lost given before n)
 
-  ended-tick : (m : ℕ) (refused lost : Bool) (before : Journal) (n : ℕ) → let e : Entry = record { item = Tick m; refused = refused; lost = lost } in have_ended (e ∷ before) n ≡ have_ended before n
-  ended-tick m refused lost before zero = refl
-  ended-tick m refused lost before (suc n) = rw (ended-tick m refused lost before n)
+  ended-tick : (m : ℕ) (refused lost : Bool) (given : List (List Bool)) (before : Journal) (n : ℕ) → let e : Entry = record { item = Tick m; refused = refused; lost = lost; answers = given } in have_ended (e ∷ before) n ≡ have_ended before n
+  ended-tick m refused lost given before zero = refl
+  ended-tick m refused lost given before (suc n) = rw (ended-tick m refused lost given before n)
 
   -- ---- what is due
 
@@ -189,38 +190,38 @@ module _ (s : Settings) (room : HasRoom s.limit) where
   and-true true = refl
   and-true false = refl
 
-  due-tick : (m : ℕ) (refused lost : Bool) (before : Journal) (noted : Notes) → let e : Entry = record { item = Tick m; refused = refused; lost = lost } in
+  due-tick : (m : ℕ) (refused lost : Bool) (given : List (List Bool)) (before : Journal) (noted : Notes) → let e : Entry = record { item = Tick m; refused = refused; lost = lost; answers = given } in
       have_ended before s.senders ≡ false → filter (open_due (e ∷ before) noted) (front noted) ≡ due_at s e before (Tick m) noted
-  due-tick m refused lost before noted h =
-      let e : Entry = record { item = Tick m; refused = refused; lost = lost } in
+  due-tick m refused lost given before noted h =
+      let e : Entry = record { item = Tick m; refused = refused; lost = lost; answers = given } in
       filter-same (open_due (e ∷ before) noted) (λ o. is_none (decided_as noted o.at) && is_due s (e ∷ before) o) (front noted)
-      (Each-all (λ o. open_due (e ∷ before) noted o ≡ (is_none (decided_as noted o.at) && is_due s (e ∷ before) o)) (λ o. ap (λ b. is_none (decided_as noted o.at) && (b || ripe (e ∷ before) (clock (e ∷ before)) o)) (ended-tick m refused lost before s.senders ∙ h) ∙ ap (λ b. is_none (decided_as noted o.at) && (nat_le (o.moment + s.wait) (clock (e ∷ before)) || b)) (due_by_first_root s.root_wait (clock (e ∷ before)) (e ∷ before) o)) (front noted))
+      (Each-all (λ o. open_due (e ∷ before) noted o ≡ (is_none (decided_as noted o.at) && is_due s (e ∷ before) o)) (λ o. ap (λ b. is_none (decided_as noted o.at) && (b || ripe (e ∷ before) (clock (e ∷ before)) o)) (ended-tick m refused lost given before s.senders ∙ h) ∙ ap (λ b. is_none (decided_as noted o.at) && (nat_le (o.moment + s.wait) (clock (e ∷ before)) || b)) (due_by_first_root s.root_wait (clock (e ∷ before)) (e ∷ before) o)) (front noted))
       ∙ sym (filter-filter (is_due s (e ∷ before)) (λ o. is_none (decided_as noted o.at)) (front noted))
       ∙ ap (filter (is_due s (e ∷ before))) (filter-reverse (λ o. is_none (decided_as noted o.at)) (in_buffer s noted))
 
-  due-end : (sender : ℕ) (refused lost : Bool) (before : Journal) (noted : Notes) → let e : Entry = record { item = End sender; refused = refused; lost = lost } in
+  due-end : (sender : ℕ) (refused lost : Bool) (given : List (List Bool)) (before : Journal) (noted : Notes) → let e : Entry = record { item = End sender; refused = refused; lost = lost; answers = given } in
       have_ended before s.senders ≡ false → NotDue before (mark before) noted → (b : Bool) → have_ended (e ∷ before) s.senders ≡ b →
       filter (open_due (e ∷ before) noted) (front noted) ≡ due_at s e before (End sender) noted
-  due-end sender refused lost before noted h w true k =
-      let e : Entry = record { item = End sender; refused = refused; lost = lost } in
+  due-end sender refused lost given before noted h w true k =
+      let e : Entry = record { item = End sender; refused = refused; lost = lost; answers = given } in
       filter-same (open_due (e ∷ before) noted) (λ o. is_none (decided_as noted o.at)) (front noted)
       (Each-all (λ o. open_due (e ∷ before) noted o ≡ is_none (decided_as noted o.at)) (λ o. rw k (and-true (is_none (decided_as noted o.at)))) (front noted))
       ∙ filter-reverse (λ o. is_none (decided_as noted o.at)) (in_buffer s noted) ∙ rw (k, h)
-  due-end sender refused lost before noted h w false k =
-      let e : Entry = record { item = End sender; refused = refused; lost = lost } in
+  due-end sender refused lost given before noted h w false k =
+      let e : Entry = record { item = End sender; refused = refused; lost = lost; answers = given } in
       filter-none (open_due (e ∷ before) noted) (front noted) (not_due-false (e ∷ before) noted k (not_due-later e before (mark before) noted (omega (arith, mark-clock before)) w)) ∙ rw k
 
   -- right after an item, what is due is what the journal says
-  pub due-item : (item : Item) (refused lost : Bool) (before : Journal) (noted : Notes) → let e : Entry = record { item = item; refused = refused; lost = lost } in
+  pub due-item : (item : Item) (refused lost : Bool) (given : List (List Bool)) (before : Journal) (noted : Notes) → let e : Entry = record { item = item; refused = refused; lost = lost; answers = given } in
       have_ended before s.senders ≡ false → 0 < s.wait → NotDue before (mark before) noted →
       filter (open_due (e ∷ before) (after_item s e before item noted)) (front (after_item s e before item noted)) ≡ due_at s e before item noted
-  due-item (Span a) refused lost before noted h k w =
-      let e : Entry = record { item = Span a; refused = refused; lost = lost } in
+  due-item (Span a) refused lost given before noted h k w =
+      let e : Entry = record { item = Span a; refused = refused; lost = lost; answers = given } in
       let n = after_span s a.rec.span.ids e before noted in
       filter-none (open_due (e ∷ before) n) (front n)
-      (not_due-false (e ∷ before) n (ended-span a refused lost before s.senders ∙ h) (not_due-ids e before noted (mark before) a.rec.span.ids (omega (arith, mark-clock before)) k (not_due-later e before (mark before) noted (omega (arith, mark-clock before)) w)))
-  due-item (Tick m) refused lost before noted h k w = due-tick m refused lost before noted h
-  due-item (End sender) refused lost before noted h k w = let e : Entry = record { item = End sender; refused = refused; lost = lost } in due-end sender refused lost before noted h w (have_ended (e ∷ before) s.senders) refl
+      (not_due-false (e ∷ before) n (ended-span a refused lost given before s.senders ∙ h) (not_due-ids e before noted (mark before) a.rec.span.ids (omega (arith, mark-clock before)) k (not_due-later e before (mark before) noted (omega (arith, mark-clock before)) w)))
+  due-item (Tick m) refused lost given before noted h k w = due-tick m refused lost given before noted h
+  due-item (End sender) refused lost given before noted h k w = let e : Entry = record { item = End sender; refused = refused; lost = lost; answers = given } in due-end sender refused lost given before noted h w (have_ended (e ∷ before) s.senders) refl
 
   -- ---- decisions, in turn
 
@@ -255,47 +256,31 @@ module _ (s : Settings) (room : HasRoom s.limit) where
         gone ∙ step-due past noted d ds os rest a.1 k
   ]) refl e
 
-  abbrev pub in_turn : Journal → List Opening → List Decision → List Decision
-  in_turn past os earlier = decisions_in_turn s past os earlier
+  abbrev pub in_turn : Journal → List Opening → List (List Bool) → List Decision
+  in_turn past os answers = decisions_in_turn s past os answers
 
   onto : (d : Decision) (ds earlier : List Decision) → reverse (d ∷ ds) ++ earlier ≡ reverse ds ++ (d ∷ earlier)
   onto d ds earlier = rw (reverse-cons d ds) (append_assoc (reverse ds) (d ∷ []) earlier)
 
-  -- after k of the decisions, the others are due
-  pub walk : (past : Journal) (noted : Notes) (k : ℕ) (os : List Opening) (earlier : List Decision) → Apart OtherPlace (front noted) →
-      filter (open_due past (now_with noted earlier)) (front noted) ≡ os →
-      filter (open_due past (now_with noted (reverse (take k (in_turn past os earlier)) ++ earlier))) (front noted) ≡ drop k os
-  walk past noted zero os earlier a e = e
-  walk past noted (suc k) [] earlier a e = e
-  walk past noted (suc k) (o ∷ os) earlier a e =
-      let d = decision s past o earlier in
-      let next = walk past noted k os (d ∷ earlier) a (step-due past noted d earlier (front noted) os a e) in
+  -- after k of the decisions, each by its answers, the others are due
+  pub walk : (past : Journal) (noted : Notes) (k : ℕ) (os : List Opening) (answers : List (List Bool)) (earlier : List Decision) → Apart OtherPlace (front noted) →
+      are_each_answered s.policies past (take k os) answers ≡ true → filter (open_due past (now_with noted earlier)) (front noted) ≡ os →
+      filter (open_due past (now_with noted (reverse (take k (in_turn past os answers)) ++ earlier))) (front noted) ≡ drop k os
+  walk past noted zero os answers earlier a h e = e
+  walk past noted (suc k) [] answers earlier a h e = e
+  walk past noted (suc k) (o ∷ os) [] earlier a h e = cc
+  walk past noted (suc k) (o ∷ os) (g ∷ later) earlier a h e =
+      let d = decision s past o g in
+      let next = walk past noted k os later (d ∷ earlier) a (and-right (are_answered s.policies g (spans_since past o)) (are_each_answered s.policies past (take k os) later) h) (step-due past noted d earlier (front noted) os a e) in
       let P = λ (ds : List Decision). filter (open_due past (now_with noted ds)) (front noted) ≡ drop k os in
-      subst P (sym (onto d (take k (in_turn past os (d ∷ earlier))) earlier)) next
+      subst P (sym (onto d (take k (in_turn past os later)) earlier)) next
 
-  -- the next decision
-  no_more : (k : ℕ) (o : Opening) (rest : List Opening) → drop k [] ≡ o ∷ rest → ⊥
-  no_more zero o rest e = cc
-  no_more (suc k) o rest e = cc
-
-  pub turn-next : (past : Journal) (k : ℕ) (os : List Opening) (earlier : List Decision) (o : Opening) (rest : List Opening) → drop k os ≡ o ∷ rest →
-      let before = reverse (take k (in_turn past os earlier)) ++ earlier in let d = decision s past o before in
-      ((later : List Decision) × (drop k (in_turn past os earlier) ≡ d ∷ later)) × (reverse (take (suc k) (in_turn past os earlier)) ++ earlier ≡ d ∷ before)
-  turn-next past k [] earlier o rest e = absurd (no_more k o rest e)
-  turn-next past zero (p ∷ os) earlier o rest e = let same : p ≡ o = cc in (let P = λ (q : Opening). ((later : List Decision) × (in_turn past (p ∷ os) earlier ≡ decision s past q earlier ∷ later)) × ((decision s past p earlier ∷ earlier) ≡ decision s past q earlier ∷ earlier) in
-      subst P same ((_, refl), refl))
-  turn-next past (suc k) (p ∷ os) earlier o rest e =
-      let d = decision s past p earlier in
-      let next = turn-next past k os (d ∷ earlier) o rest e in
-      let here = onto d (take k (in_turn past os (d ∷ earlier))) earlier in
-      let there = onto d (take (suc k) (in_turn past os (d ∷ earlier))) earlier in
-      rw here (next.0, there ∙ next.1)
-
-  pub turn-done : (past : Journal) (k : ℕ) (os : List Opening) (earlier : List Decision) → drop k os ≡ [] → (drop k (in_turn past os earlier) ≡ []) × (take k (in_turn past os earlier) ≡ in_turn past os earlier)
-  turn-done past zero [] earlier e = (refl, refl)
-  turn-done past zero (o ∷ os) earlier e = cc
-  turn-done past (suc k) [] earlier e = (refl, refl)
-  turn-done past (suc k) (o ∷ os) earlier e = let d = decision s past o earlier in let t = turn-done past k os (d ∷ earlier) e in (t.0, ap (λ ds. d ∷ ds) t.1)
+  pub turn-done : (past : Journal) (k : ℕ) (os : List Opening) (answers : List (List Bool)) → drop k os ≡ [] → take k (in_turn past os answers) ≡ in_turn past os answers
+  turn-done past zero [] answers e = refl
+  turn-done past zero (o ∷ os) answers e = cc
+  turn-done past (suc k) [] answers e = refl
+  turn-done past (suc k) (o ∷ os) [] e = refl
+  turn-done past (suc k) (o ∷ os) (g ∷ later) e = ap (λ ds. decision s past o g ∷ ds) (turn-done past k os later e)
 
   -- ---- every journal
 
@@ -316,40 +301,41 @@ module _ (s : Settings) (room : HasRoom s.limit) where
   abbrev pub due_list : Entry → Journal → List Opening
   due_list e before = due_at s e before e.item (notes s before)
 
-  pub due-dealt : (e : Entry) (before : Journal) (k : ℕ) → have_ended before s.senders ≡ false → 0 < s.wait → Known before →
+  pub due-dealt : (e : Entry) (before : Journal) (k : ℕ) → have_ended before s.senders ≡ false → 0 < s.wait → Known before → IsAnsweredUpTo s (e ∷ before) k →
       filter (open_due (e ∷ before) (notes_dealt s (e ∷ before) k)) (front (item_notes e before)) ≡ drop k (due_list e before)
-  due-dealt e before k h w g =
+  due-dealt e before k h w g given =
       let noted = notes s before in
       let m = item_notes e before in
-      let same : m.decisions ≡ noted.decisions = decisions-item e before noted e.item in
       let item = sound_item s room before e.item e noted (sound_notes s room before) in
-      let first : filter (open_due (e ∷ before) (now_with m m.decisions)) (front m) ≡ due_list e before = due-item e.item e.refused e.lost before noted h w (g h) in
-      let all = walk (e ∷ before) m k (due_list e before) m.decisions (front-places (e ∷ before) m item) first in
-      let P = λ (ds : List Decision). filter (open_due (e ∷ before) (now_with m (reverse (take k (in_turn (e ∷ before) (due_list e before) ds)) ++ m.decisions))) (front m) ≡ drop k (due_list e before) in
-      subst P same all
+      let first : filter (open_due (e ∷ before) (now_with m m.decisions)) (front m) ≡ due_list e before = due-item e.item e.refused e.lost e.answers before noted h w (g h) in
+      let all = walk (e ∷ before) m k (due_list e before) e.answers m.decisions (front-places (e ∷ before) m item) given.0 first in
+      all
 
   pub all-dealt : (e : Entry) (before : Journal) (k : ℕ) → drop k (due_list e before) ≡ [] → notes_dealt s (e ∷ before) k ≡ notes s (e ∷ before)
   unfolding notes
   all-dealt e before k h =
-      let noted = notes s before in
-      let t = turn-done (e ∷ before) k (due_list e before) noted.decisions h in
-      ap (λ ds. after_decisions ds (item_notes e before)) t.1
+      let t = turn-done (e ∷ before) k (due_list e before) e.answers h in
+      ap (λ ds. after_decisions ds (item_notes e before)) t
 
-  -- every journal that took no item after its ends
-  pub known : (past : Journal) → 0 < s.wait → Stopped past → Known past
+  taken-whole : (os : List Opening) → take (length os) os ≡ os
+  taken-whole [] = refl
+  taken-whole (o ∷ os) = ap (λ ps. o ∷ ps) (taken-whole os)
+
+  -- every journal that took no item after its ends, and each of whose decisions is answered
+  pub known : (past : Journal) → 0 < s.wait → Stopped past → IsAnswered s past → Known past
   unfolding notes
-  known [] w h = λ _. none_yet s.limit
+  known [] w h given = λ _. none_yet s.limit
     where
       none_yet : (limit : Option ℕ) → Each (λ (o : Opening). is_none (decided_as no_notes o.at) ≡ true → ripe [] 0 o ≡ false) (reverse (last_of limit []))
       none_yet None = tt
       none_yet (Some zero) = tt
       none_yet (Some (suc n)) = tt
-  known (e ∷ before) w h =
-      let g = known before w (stopped-before e before h) in
+  known (e ∷ before) w h given =
+      let g = known before w (stopped-before e before h) given.1 in
       let m = item_notes e before in
       let os = due_list e before in
       let k = length os in
-      let left = due-dealt e before k h w g in
+      let left = due-dealt e before k h w g (ap (λ (ps : List Opening). are_each_answered s.policies (e ∷ before) ps e.answers) (taken-whole os) ∙ given.0, given.1) in
       let none : drop k os ≡ [] = drop-length os in
       let all = all-dealt e before k none in
       let end : filter (open_due (e ∷ before) (notes s (e ∷ before))) (front m) ≡ [] = (let Q = λ (n : Notes). filter (open_due (e ∷ before) n) (front m) ≡ [] in subst Q all (left ∙ none)) in
@@ -371,13 +357,13 @@ module _ (s : Settings) (room : HasRoom s.limit) where
   all_ended past zero = refl
   all_ended past (suc n) = list_all-append (λ b. b) (ends past n) (has_ended past n ∷ []) ∙ (rw (all_ended past n) (and-swap (have_ended past n) (has_ended past n)))
 
-  pub ends-span : (a : Arrival) (refused lost : Bool) (before : Journal) (n : ℕ) → let e : Entry = record { item = Span a; refused = refused; lost = lost } in ends (e ∷ before) n ≡ ends before n
-  ends-span a refused lost before zero = refl
-  ends-span a refused lost before (suc n) = rw (ends-span a refused lost before n)
+  pub ends-span : (a : Arrival) (refused lost : Bool) (given : List (List Bool)) (before : Journal) (n : ℕ) → let e : Entry = record { item = Span a; refused = refused; lost = lost; answers = given } in ends (e ∷ before) n ≡ ends before n
+  ends-span a refused lost given before zero = refl
+  ends-span a refused lost given before (suc n) = rw (ends-span a refused lost given before n)
 
-  pub ends-tick : (m : ℕ) (refused lost : Bool) (before : Journal) (n : ℕ) → let e : Entry = record { item = Tick m; refused = refused; lost = lost } in ends (e ∷ before) n ≡ ends before n
-  ends-tick m refused lost before zero = refl
-  ends-tick m refused lost before (suc n) = rw (ends-tick m refused lost before n)
+  pub ends-tick : (m : ℕ) (refused lost : Bool) (given : List (List Bool)) (before : Journal) (n : ℕ) → let e : Entry = record { item = Tick m; refused = refused; lost = lost; answers = given } in ends (e ∷ before) n ≡ ends before n
+  ends-tick m refused lost given before zero = refl
+  ends-tick m refused lost given before (suc n) = rw (ends-tick m refused lost given before n)
 
   ends-other : (sender n : ℕ) (x : Bool) (ys : List Bool) (b : Bool) → length ys ≡ n → nat_lt sender n ≡ b → (n == sender) ≡ false → slice_set (ys ++ x ∷ []) sender true ≡ slice_set ys sender true ++ x ∷ []
   ends-other sender n x ys true l e f = let inside : sender < length ys = grind (arith, nat_tests) in set-append_left ys (x ∷ []) sender true inside
@@ -392,9 +378,9 @@ module _ (s : Settings) (room : HasRoom s.limit) where
       rw (f, at, ← l) (set-append_seam ys x [] true ∙ ap (λ zs. zs ++ true ∷ []) (sym (set_past ys (length ys) true (omega arith))))
   ends-last sender n x ys false l e f = rw f (ends-other sender n x ys (nat_lt sender n) l refl e)
 
-  pub ends-end : (sender : ℕ) (refused lost : Bool) (before : Journal) (n : ℕ) → let e : Entry = record { item = End sender; refused = refused; lost = lost } in ends (e ∷ before) n ≡ slice_set (ends before n) sender true
-  ends-end sender refused lost before zero = refl
-  ends-end sender refused lost before (suc n) = rw (ends-end sender refused lost before n) (sym (ends-last sender n (has_ended before n) (ends before n) (sender == n) (length-ends before n) (grind (arith, nat_tests)) refl))
+  pub ends-end : (sender : ℕ) (refused lost : Bool) (given : List (List Bool)) (before : Journal) (n : ℕ) → let e : Entry = record { item = End sender; refused = refused; lost = lost; answers = given } in ends (e ∷ before) n ≡ slice_set (ends before n) sender true
+  ends-end sender refused lost given before zero = refl
+  ends-end sender refused lost given before (suc n) = rw (ends-end sender refused lost given before n) (sym (ends-last sender n (has_ended before n) (ends before n) (sender == n) (length-ends before n) (grind (arith, nat_tests)) refl))
 
   -- ---- the shard's side of what is due
 
@@ -432,15 +418,15 @@ module _ (s : Settings) (room : HasRoom s.limit) where
   none_mapped f None e = refl
   none_mapped f (Some o) e = cc
 
-  pub nothing_left : (past : Journal) (k : ℕ) (st : Standing) → 0 < s.wait → Stopped past → st ≡ standing s past k → find (DueIn st) st.episodes ≡ None → drop k (due_now s past) ≡ []
-  nothing_left [] k st w h e f = drop_nil k
-  nothing_left (x ∷ before) k st w h e f =
+  pub nothing_left : (past : Journal) (k : ℕ) (st : Standing) → 0 < s.wait → Stopped past → st ≡ standing s past k → IsAnsweredUpTo s past k → find (DueIn st) st.episodes ≡ None → drop k (due_now s past) ≡ []
+  nothing_left [] k st w h e given f = drop_nil k
+  nothing_left (x ∷ before) k st w h e given f =
       let past : Journal = x ∷ before in
       let n = notes_dealt s past k in
       let g : find (DueIn (standing s past k)) (map (episode past n) (front n)) ≡ None = (let P = λ (z : Standing). find (DueIn z) z.episodes ≡ None in subst P e f) in
       let g2 : find (is_due_by (have_ended past s.senders) (mark past) s.wait s.root_wait) (map (episode past n) (front n)) ≡ None = (let P = λ (b : Bool). find (is_due_by b (mark past) s.wait s.root_wait) (map (episode past n) (front n)) ≡ None in subst P (all_ended past s.senders) g) in
       let g3 : find (open_due past n) (front n) ≡ None = none_mapped (episode past n) (find (open_due past n) (front n)) (sym (find-episodes past n (have_ended past s.senders) (mark past) (front n)) ∙ g2) in
-      sym (due-dealt x before k h w (known before w (stopped-before x before h))) ∙ none-from_find (open_due past n) (front n) g3
+      sym (due-dealt x before k h w (known before w (stopped-before x before h) given.1) given) ∙ none-from_find (open_due past n) (front n) g3
 
   pub dealt-notes : (past : Journal) (k : ℕ) → drop k (due_now s past) ≡ [] → notes_dealt s past k ≡ notes s past
   unfolding notes

@@ -3,11 +3,12 @@ use Rattle.std.proofs.Common.{◌≡◌, ℕ, zero, suc, ◌+◌, ◌<◌, Bool,
 use Rattle.std.specs.List.{filter}
 use Rattle.std.proofs.lemmas.List.{map-append}
 use Rattle.std.proofs.lemmas.List.Elements.{filter-append}
-use Rattle.shard_core.specs.Journal.{Entry, Settings, Journal, Decision, Notes, Finding, joins, meets, opens, Opening, notes, finding, leaving, decided_as, spans_since, due_now, decisions_now, has_finished}
+use Rattle.shard_core.specs.Journal.{Entry, Settings, Journal, Decision, Notes, Finding, joins, meets, opens, Opening, notes, finding, leaving, decided_as, spans_since, due_now, decision, decisions_now, has_finished, answered, IsAnswered, IsAnsweredUpTo}
 use Rattle.shard_core.specs.Standing.{spans_left}
 use Rattle.shard_core.specs.Fate.{DroppedSpan, Effect, counts, under, is_same_reason, effect, effect_dealt, effect_of_taking, effect_of_item, effect_of_span, effect_of_finding, effect_of_leaving, effect_of_leaving_decided, effect_of_verdict, effect_of_decision, effect_of_decisions, released_dealt, dropped_dealt}
 use Rattle.shard_core.specs.Held.{Held, settings, StandsFor, has_due, is_due_in}
-use Rattle.shard_core.specs.Taking.{entry, answer_to, answer_to_ids, answer_to_item, answer_to_finding, evicted_of, spans_left_by, released_by, dropped_by, released_in, dropped_in, dealt_after, Releases, Decides, DecidesFirst}
+use Rattle.shard_core.specs.Taking.{entry, answer_to, answer_to_ids, answer_to_item, answer_to_finding, evicted_of, spans_left_by, released_by, dropped_by, released_in, dropped_in, Releases, AddsDecision}
+use Rattle.policy_eval.specs.Given.{verdict_given}
 use Rattle.shard_core.specs.declared.answer.Taken.{Taken}
 use Rattle.shard_core.specs.declared.answer.Taken.TheVariants.{Ended, Finished}
 use Rattle.shard_core.specs.declared.answer.Decided.{Decided}
@@ -24,6 +25,7 @@ use Rattle.shard_core.proofs.Lists.{find-from_any}
 use Rattle.shard_core.proofs.Notes.{HasRoom}
 use Rattle.shard_core.proofs.Due.{nothing_left, turn-done, due_list}
 use Rattle.shard_core.proofs.Stands.{room_of}
+use Rattle.shard_core.proofs.Answering.{decisions-answered, all-answered}
 
 -- ---- how many are counted
 
@@ -110,15 +112,15 @@ module _ (s : Settings) (room : HasRoom s.limit) where
   dealt-effect : (past : Journal) (k : ℕ) → drop k (due_now s past) ≡ [] → effect_dealt s past k ≡ effect s past
   dealt-effect [] k h = refl
   dealt-effect (e ∷ before) k h =
-      let t = turn-done s room (e ∷ before) k (due_list s room e before) (notes s before).decisions h in
+      let t = turn-done s room (e ∷ before) k (due_list s room e before) e.answers h in
       let done = λ (ds : List Decision). let x : Effect = record { released = ((effect s before).released ++ (effect_of_taking s e before).released) ++ (effect_of_decisions ds).released; counted = ((effect s before).counted ++ (effect_of_taking s e before).counted) ++ (effect_of_decisions ds).counted } in x in
-      ap done t.1
+      ap done t
 
 -- a shard in which nothing is due has dealt with each decision
 pub all_dealt : (h : Held) (past : Journal) (k : ℕ) → 0 < h.wait → 0 < h.limit → has_due h ≡ false → StandsFor h past k → effect_dealt (settings h) past k ≡ effect (settings h) past
 all_dealt h past k w l d t =
     let room = room_of h l in
-    dealt-effect (settings h) room past k (nothing_left (settings h) room past k h.standing w t.0 t.1 (find-from_any (is_due_in h) h.standing.episodes d))
+    dealt-effect (settings h) room past k (nothing_left (settings h) room past k h.standing w t.0 t.1 t.2 (find-from_any (is_due_in h) h.standing.episodes d))
 
 pub take_released : (h : Held) (item : Item) (answer : Taken) (past : Journal) (k : ℕ) → 0 < h.wait → 0 < h.limit → has_due h ≡ false → StandsFor h past k → answer ≡ answer_to (settings h) (entry item answer) past →
     released_dealt (settings h) (entry item answer ∷ past) 0 ≡ released_dealt (settings h) past k ++ released_by answer
@@ -156,17 +158,6 @@ releases-dropped reason (NotReleased n) spans Sampled r = absurd r
 releases-dropped reason (NotReleased n) spans NotSampled r = number-counts reason NotSampledReason (is_same_reason NotSampledReason reason) refl spans ∙ ap (λ k. cond (is_same_reason NotSampledReason reason) k 0) (sym r)
 releases-dropped reason Nothing spans v r = absurd r
 
-releases-after : (answer : Decided) (spans : List Arrival) (v : Verdict) (k : ℕ) → Releases answer spans v → k + 1 ≡ dealt_after answer k
-releases-after (Release xs) spans v k r = refl
-releases-after (NotReleased n) spans v k r = refl
-releases-after Nothing spans v k r = absurd r
-
-take-more : (k : ℕ) (ds : List Decision) (d : Decision) (later : List Decision) → drop k ds ≡ d ∷ later → take (suc k) ds ≡ take k ds ++ d ∷ []
-take-more zero [] d later h = cc
-take-more (suc k) [] d later h = cc
-take-more zero (x ∷ ds) d later h = let same : x ≡ d = cc in ap (λ y. y ∷ []) same
-take-more (suc k) (x ∷ ds) d later h = ap (λ ys. x ∷ ys) (take-more k ds d later h)
-
 push-released : (ds : List Decision) (d : Decision) → (effect_of_decisions (ds ++ d ∷ [])).released ≡ (effect_of_decisions ds).released ++ (effect_of_decision d).released
 push-released [] d = append-nil (effect_of_decision d).released
 push-released (x ∷ ds) d = ap (λ ys. (effect_of_decision x).released ++ ys) (push-released ds d) ∙ sym (append_assoc (effect_of_decision x).released (effect_of_decisions ds).released (effect_of_decision d).released)
@@ -175,67 +166,63 @@ push-counted : (ds : List Decision) (d : Decision) → (effect_of_decisions (ds 
 push-counted [] d = append-nil (effect_of_decision d).counted
 push-counted (x ∷ ds) d = ap (λ ys. (effect_of_decision x).counted ++ ys) (push-counted ds d) ∙ sym (append_assoc (effect_of_decision x).counted (effect_of_decisions ds).counted (effect_of_decision d).counted)
 
-dropped-nil : (k : ℕ) (d : Decision) (later : List Decision) → drop k [] ≡ d ∷ later → ⊥
-dropped-nil zero d later h = cc
-dropped-nil (suc k) d later h = cc
+module _ (s : Settings) (e : Entry) (before : Journal) (k : ℕ) (answers : List Bool) (o : Opening) (rest : List Opening) (left : drop k (due_now s (e ∷ before)) ≡ o ∷ rest) (given : IsAnsweredUpTo s (e ∷ before) k) where
+  abbrev past : Journal
+  past = e ∷ before
 
--- one more decision is dealt with
-more-released : (s : Settings) (past : Journal) (k : ℕ) (d : Decision) (later : List Decision) → drop k (decisions_now s past) ≡ d ∷ later → released_dealt s past (suc k) ≡ released_dealt s past k ++ (effect_of_decision d).released
-more-released s [] k d later h = absurd (dropped-nil k d later h)
-more-released s (e ∷ before) k d later h =
-    let ds = decisions_now s (e ∷ before) in
-    let before_all = (effect s before).released ++ (effect_of_taking s e before).released in
-    ap (λ (xs : List Decision). before_all ++ (effect_of_decisions xs).released) (take-more k ds d later h)
-    ∙ ap (λ ys. before_all ++ ys) (push-released (take k ds) d)
-    ∙ sym (append_assoc before_all (effect_of_decisions (take k ds)).released (effect_of_decision d).released)
+  abbrev d : Decision
+  d = decision s past o answers
 
-more-dropped : (s : Settings) (past : Journal) (k : ℕ) (d : Decision) (later : List Decision) (reason : Reason) → drop k (decisions_now s past) ≡ d ∷ later → dropped_dealt s past (suc k) reason ≡ dropped_dealt s past k reason + number reason (effect_of_decision d).counted
-more-dropped s [] k d later reason h = absurd (dropped-nil k d later h)
-more-dropped s (e ∷ before) k d later reason h =
-    let ds = decisions_now s (e ∷ before) in
-    let before_all = (effect s before).counted ++ (effect_of_taking s e before).counted in
-    ap (number reason) (ap (λ (xs : List Decision). before_all ++ (effect_of_decisions xs).counted) (take-more k ds d later h)
-    ∙ ap (λ ys. before_all ++ ys) (push-counted (take k ds) d)
-    ∙ sym (append_assoc before_all (effect_of_decisions (take k ds)).counted (effect_of_decision d).counted))
-    ∙ number-append reason (before_all ++ (effect_of_decisions (take k ds)).counted) (effect_of_decision d).counted
+  abbrev ds : List Decision
+  ds = take k (decisions_now s past)
 
-released-first : (old new : Held) (answer : Decided) (past : Journal) (k : ℕ) (ds : List Decision) → drop k (decisions_now (settings old) past) ≡ ds → DecidesFirst old new answer past k ds →
-    released_dealt (settings old) past (dealt_after answer k) ≡ released_dealt (settings old) past k ++ released_in answer
-released-first old new answer past k [] e d =
-    let P = λ (x : Decided). released_dealt (settings old) past (dealt_after x k) ≡ released_dealt (settings old) past k ++ released_in x in
-    subst P (sym d.0) (sym (append-nil (released_dealt (settings old) past k)))
-released-first old new answer past k (x ∷ later) e d =
-    ap (released_dealt (settings old) past) (sym (releases-after answer x.spans x.verdict k d.0) ∙ add-one k)
-    ∙ more-released (settings old) past k x later e
-    ∙ ap (λ ys. released_dealt (settings old) past k ++ ys) (releases-released answer x.spans x.verdict d.0)
+  -- one more decision is dealt with
+  more-released : released_dealt s (answered past answers) (suc k) ≡ released_dealt s past k ++ (effect_of_decision d).released
+  more-released =
+      let before_all = (effect s before).released ++ (effect_of_taking s e before).released in
+      ap (λ (xs : List Decision). before_all ++ (effect_of_decisions xs).released) (decisions-answered s e before k answers o rest left given)
+      ∙ ap (λ ys. before_all ++ ys) (push-released ds d)
+      ∙ sym (append_assoc before_all (effect_of_decisions ds).released (effect_of_decision d).released)
 
-pub decide_released : (old new : Held) (answer : Decided) (past : Journal) (k : ℕ) → Decides old new answer past k →
-    released_dealt (settings old) past (dealt_after answer k) ≡ released_dealt (settings old) past k ++ released_in answer
-decide_released old new answer past k d = released-first old new answer past k (drop k (decisions_now (settings old) past)) refl d
+  more-dropped : (reason : Reason) → dropped_dealt s (answered past answers) (suc k) reason ≡ dropped_dealt s past k reason + number reason (effect_of_decision d).counted
+  more-dropped reason =
+      let before_all = (effect s before).counted ++ (effect_of_taking s e before).counted in
+      ap (number reason) (ap (λ (xs : List Decision). before_all ++ (effect_of_decisions xs).counted) (decisions-answered s e before k answers o rest left given)
+      ∙ ap (λ ys. before_all ++ ys) (push-counted ds d)
+      ∙ sym (append_assoc before_all (effect_of_decisions ds).counted (effect_of_decision d).counted))
+      ∙ number-append reason (before_all ++ (effect_of_decisions ds).counted) (effect_of_decision d).counted
+
+  adds-released : released_dealt s (answered past answers) (k + 1) ≡ released_dealt s past k ++ (effect_of_decision d).released
+  adds-released = ap (released_dealt s (answered past answers)) (add-one k) ∙ more-released
+
+  adds-dropped : (reason : Reason) → dropped_dealt s (answered past answers) (k + 1) reason ≡ dropped_dealt s past k reason + number reason (effect_of_decision d).counted
+  adds-dropped reason = ap (λ n. dropped_dealt s (answered past answers) n reason) (add-one k) ∙ more-dropped reason
+
+-- a decision adds what its answer tells
+pub decision_adds : (s : Settings) (e : Entry) (before : Journal) (k : ℕ) (answer : Decided) (answers : List Bool) (o : Opening) (rest : List Opening) → let past : Journal = e ∷ before in
+    drop k (due_now s past) ≡ o ∷ rest → IsAnsweredUpTo s past k → Releases answer (spans_since past o) (verdict_given s.policies answers (spans_since past o)) → AddsDecision s answer answers past k
+decision_adds s e before k (Release xs) answers o rest left given r =
+    let past : Journal = e ∷ before in
+    let v = verdict_given s.policies answers (spans_since past o) in (
+      adds-released s e before k answers o rest left given ∙ ap (λ ys. released_dealt s past k ++ ys) (releases-released (Release xs) (spans_since past o) v r),
+      λ reason. adds-dropped s e before k answers o rest left given reason ∙ ap (λ n. dropped_dealt s past k reason + n) (releases-dropped reason (Release xs) (spans_since past o) v r),
+    )
+decision_adds s e before k (NotReleased n) answers o rest left given r =
+    let past : Journal = e ∷ before in
+    let v = verdict_given s.policies answers (spans_since past o) in (
+      adds-released s e before k answers o rest left given ∙ ap (λ ys. released_dealt s past k ++ ys) (releases-released (NotReleased n) (spans_since past o) v r),
+      λ reason. adds-dropped s e before k answers o rest left given reason ∙ ap (λ n. dropped_dealt s past k reason + n) (releases-dropped reason (NotReleased n) (spans_since past o) v r),
+    )
+decision_adds s e before k Nothing answers o rest left given r = absurd r
 
 zero-more : (n : ℕ) → n ≡ n + 0
 zero-more n = omega arith
 
-dropped-first : (old new : Held) (answer : Decided) (past : Journal) (k : ℕ) (reason : Reason) (ds : List Decision) → drop k (decisions_now (settings old) past) ≡ ds → DecidesFirst old new answer past k ds →
-    dropped_dealt (settings old) past (dealt_after answer k) reason ≡ dropped_dealt (settings old) past k reason + dropped_in reason answer
-dropped-first old new answer past k reason [] e d =
-    let P = λ (x : Decided). dropped_dealt (settings old) past (dealt_after x k) reason ≡ dropped_dealt (settings old) past k reason + dropped_in reason x in
-    subst P (sym d.0) (zero-more (dropped_dealt (settings old) past k reason))
-dropped-first old new answer past k reason (x ∷ later) e d =
-    ap (λ n. dropped_dealt (settings old) past n reason) (sym (releases-after answer x.spans x.verdict k d.0) ∙ add-one k)
-    ∙ more-dropped (settings old) past k x later reason e
-    ∙ ap (λ n. dropped_dealt (settings old) past k reason + n) (releases-dropped reason answer x.spans x.verdict d.0)
+-- no decision adds nothing
+pub nothing_adds : (s : Settings) (past : Journal) (k : ℕ) → AddsDecision s Nothing [] past k
+nothing_adds s past k = (sym (append-nil (released_dealt s past k)), λ reason. zero-more (dropped_dealt s past k reason))
 
-pub decide_dropped : (old new : Held) (answer : Decided) (past : Journal) (k : ℕ) (reason : Reason) → Decides old new answer past k →
-    dropped_dealt (settings old) past (dealt_after answer k) reason ≡ dropped_dealt (settings old) past k reason + dropped_in reason answer
-decide_dropped old new answer past k reason d = dropped-first old new answer past k reason (drop k (decisions_now (settings old) past)) refl d
-
-stands-first : (old new : Held) (answer : Decided) (past : Journal) (k : ℕ) (ds : List Decision) → DecidesFirst old new answer past k ds → StandsFor old past k → StandsFor new past (dealt_after answer k)
-stands-first old new answer past k [] d t =
-    let P = λ (x : Decided). StandsFor new past (dealt_after x k) in
-    let Q = λ (h : Held). StandsFor h past k in
-    subst P (sym d.0) (subst Q (sym d.1) t)
-stands-first old new answer past k (x ∷ later) d t = let P = λ (n : ℕ). StandsFor new past n in subst P (releases-after answer x.spans x.verdict k d.0) d.1
-
-pub decide_stands : (old new : Held) (answer : Decided) (past : Journal) (k : ℕ) → Decides old new answer past k → StandsFor old past k → StandsFor new past (dealt_after answer k)
-decide_stands old new answer past k d t = stands-first old new answer past k (drop k (decisions_now (settings old) past)) d t
+-- a shard in which nothing is due has answered each decision
+pub all_answered : (h : Held) (past : Journal) (k : ℕ) → 0 < h.wait → 0 < h.limit → has_due h ≡ false → StandsFor h past k → IsAnswered (settings h) past
+all_answered h past k w l d t =
+    all-answered (settings h) past k (nothing_left (settings h) (room_of h l) past k h.standing w t.0 t.1 t.2 (find-from_any (is_due_in h) h.standing.episodes d)) t.2

@@ -1,5 +1,5 @@
 -- The fate of a span, right after it was taken.
-use Rattle.std.proofs.Common.{◌≡◌, ℕ, ◌<◌, Bool, true, false, cond, ◌||◌, ◌==◌, ◌∷◌, length, Option, Some, None, option_map, refl, sym, ap, ◌∙◌, arith, ne_eqb, eq-eqb}
+use Rattle.std.proofs.Common.{[], ◌≡◌, ℕ, ◌<◌, Bool, true, false, cond, ◌||◌, ◌==◌, ◌∷◌, length, Option, Some, None, option_map, refl, sym, ap, ◌∙◌, arith, ne_eqb, eq-eqb}
 use Rattle.std.specs.List.{list_any}
 use Rattle.shard_core.specs.Journal.{Entry, Settings, Journal, Opening, Decision, Notes, Finding, joins, meets, opens, notes, finding, finding_of, finding_at, is_in_buffer, is_remembered, latest_episode, decided_as, after_span, after_finding, clock}
 use Rattle.shard_core.specs.Fate.{fate, fate_of_finding, fate_of_member_decided}
@@ -20,7 +20,7 @@ use Rattle.shard_core.proofs.Stands.{room_of}
 
 module _ (s : Settings) (room : HasRoom s.limit) where
   -- a span is followed by no decision
-  notes-span : (a : Arrival) (refused lost : Bool) (before : Journal) → let e : Entry = record { item = Span a; refused = refused; lost = lost } in notes s (e ∷ before) ≡ after_span s a.rec.span.ids e before (notes s before)
+  notes-span : (a : Arrival) (refused lost : Bool) (before : Journal) → let e : Entry = record { item = Span a; refused = refused; lost = lost; answers = [] } in notes s (e ∷ before) ≡ after_span s a.rec.span.ids e before (notes s before)
   unfolding notes
   notes-span a refused lost before = refl
 
@@ -64,10 +64,10 @@ module _ (s : Settings) (room : HasRoom s.limit) where
       ap (λ b. fate_of_member_decided b (decided_as m n)) inside ∙ ap (fate_of_member_decided true) undecided
 
   told-ids : (a : Arrival) (ids : Ids) (before : Journal) (refused lost : Bool) → a.rec.span.ids ≡ Some ids →
-      let e : Entry = record { item = Span a; refused = refused; lost = lost } in fate s (e ∷ before) before refused ids ≡ fate_told (answer_to_ids s refused lost before a (Some ids))
+      let e : Entry = record { item = Span a; refused = refused; lost = lost; answers = [] } in fate s (e ∷ before) before refused ids ≡ fate_told (answer_to_ids s refused lost before a (Some ids))
   told-ids a ids before true lost i = refl
   told-ids a ids before false lost i =
-      let e : Entry = record { item = Span a; refused = false; lost = lost } in
+      let e : Entry = record { item = Span a; refused = false; lost = lost; answers = [] } in
       let f = finding s (notes s before) ids.trace in
       let here : notes s (e ∷ before) ≡ after_finding s ids.trace lost (length before) (clock (e ∷ before)) (notes s before) f
       = notes-span a false lost before ∙ ap (λ (o : Option Ids). after_span s o e before (notes s before)) i in

@@ -9,7 +9,7 @@ use Rattle.span_ids.specs.declared.outcome.Verdict.TheVariants.{Sampled, NotSamp
 use Rattle.trace_buffer.specs.Buffer.{Episode}
 use Rattle.decision_cache.specs.Touches.{last_touched, touches_since}
 use Rattle.decision_cache.proofs.Laws.{same-eq, holds_where_remembered}
-use Rattle.shard_core.specs.Journal.{Settings, Journal, Opening, Decision, Notes, joins, meets, opens, finding, finding_of, finding_at, notes, notes_dealt, in_buffer, is_in_buffer, decided_as, latest_episode, is_cached, is_remembered, cache_size, due_now, due_at, decisions_at, decisions_in_turn, decision, after_item, after_decisions}
+use Rattle.shard_core.specs.Journal.{Settings, Journal, Opening, Decision, Notes, joins, meets, opens, finding, finding_of, finding_at, notes, notes_dealt, in_buffer, is_in_buffer, decided_as, latest_episode, is_cached, is_remembered, cache_size, due_now, due_at, decisions_at, decisions_in_turn, after_item, after_decisions}
 use Rattle.shard_core.specs.Standing.{standing, episode}
 use Rattle.shard_core.specs.Laws.{State, state_found, state_cached, state_by, state_in, FoundAsHeld}
 use Rattle.shard_core.proofs.ListFacts.{Each, Each-weaker, Each-reverse, Pairs, Pairs-right}
@@ -43,9 +43,10 @@ find_episode past noted t (o ∷ os) = (elim (same_trace o.trace t) as (λ b. co
 
 -- ---- each decision was dealt with
 
-length_turns : (s : Settings) (J : Journal) (os : List Opening) (earlier : List Decision) → length (decisions_in_turn s J os earlier) ≡ length os
-length_turns s J [] earlier = refl
-length_turns s J (o ∷ os) earlier = ap suc (length_turns s J os (decision s J o earlier ∷ earlier))
+length_turns : (s : Settings) (J : Journal) (os : List Opening) (answers : List (List Bool)) → length (decisions_in_turn s J os answers) ≤ length os
+length_turns s J [] answers = omega arith
+length_turns s J (o ∷ os) [] = omega arith
+length_turns s J (o ∷ os) (a ∷ answers) = let n = length_turns s J os answers in omega (arith, n)
 
 take_whole : {X : Type 0} (n : ℕ) (xs : List X) → length xs ≤ n → take n xs ≡ xs
 take_whole zero [] h = refl
@@ -58,7 +59,7 @@ unfolding notes
 all_dealt s [] dealt h = refl
 all_dealt s (e ∷ before) dealt h =
     let noted = notes s before in
-    let n = length_turns s (e ∷ before) (due_at s e before e.item noted) noted.decisions in
+    let n = length_turns s (e ∷ before) (due_at s e before e.item noted) e.answers in
     ap (λ ds. after_decisions ds (after_item s e before e.item noted)) (take_whole dealt (decisions_at s e before noted) (omega (arith, n, h)))
 
 -- ---- by what the buffer and the caches hold

@@ -17,9 +17,8 @@ use Rattle.decision_cache.specs.declared.traces.Remembered.{Remembered}
 use Rattle.decision_cache.specs.declared.traces.Remembered.TheVariants.{Kept, Off}
 use Rattle.decision_cache.proofs.Laws.{same-eq, same-sym}
 use Rattle.decision_cache.proofs.Stands.{stands-put, stands-asked}
-use Rattle.shard_core.specs.Journal.{Entry, Settings, Journal, Opening, Decision, Notes, Finding, joins, meets, opens, clock, finding, notes, in_buffer, is_in_buffer, last_of, leaving, decided_as, latest_episode, spans_since, item_spans, is_of_trace, ids_have_trace, askings_made, after_item, after_span, after_finding, touch, touch_of_leaving, touch_of_leaving_decided}
+use Rattle.shard_core.specs.Journal.{Entry, Settings, Journal, Opening, Decision, Notes, Finding, joins, meets, opens, clock, finding, notes, in_buffer, is_in_buffer, last_of, leaving, decided_as, latest_episode, spans_since, item_spans, is_of_trace, ids_have_trace, after_item, after_span, after_finding, touch, touch_of_leaving, touch_of_leaving_decided}
 use Rattle.shard_core.specs.Standing.{Standing, episode, episodes, cache, root_among, first_root_since, root_left, spans_left, mark, ends}
-use Rattle.rate_budget.specs.Budget.{limiter_counts}
 use Rattle.shard_core.specs.Keeping.{caches, with_caches, buffer, after_leaving_decided, after_leaving, after_opening_in, after_unknown, after_known, after_episode, after_span_of, after_span_in, after_entry, KeepsStanding}
 use Rattle.shard_core.specs.Laws.{state_cached, state_found}
 use Rattle.shard_core.specs.Taking.{has_ids, evicted_of}
@@ -77,7 +76,6 @@ standing_by s past noted = record {
   episodes = episodes s past noted;
   sampled = cache s noted Sampled;
   non_sampled = cache s noted NotSampled;
-  limiter_counts = limiter_counts s.policies (askings_made noted.decisions);
   clock = clock past;
   mark = mark past;
   ends = ends past s.senders;
@@ -88,7 +86,6 @@ standing_of s noted es sampled non_sampled c k ended = record {
   episodes = es;
   sampled = sampled;
   non_sampled = non_sampled;
-  limiter_counts = limiter_counts s.policies (askings_made noted.decisions);
   clock = c;
   mark = k;
   ends = ended;
@@ -200,7 +197,7 @@ asked_none : (r : Option Verdict) → option_map (λ (x : Verdict). Some x) r �
 asked_none None e = refl
 asked_none (Some x) e = absurd (cc e)
 
-module _ (s : Settings) (m : ℕ) (lim : s.limit ≡ Some (suc m)) (past : Journal) (a : Arrival) (ids : Ids) (i : a.rec.span.ids ≡ Some ids) where
+module _ (s : Settings) (m : ℕ) (lim : s.limit ≡ Some (suc m)) (past : Journal) (a : Arrival) (ids : Ids) (i : a.rec.span.ids ≡ Some ids) (given : List (List Bool)) where
   room : HasRoom s.limit
   room e = absurd (cc (lim, e))
 
@@ -214,7 +211,7 @@ module _ (s : Settings) (m : ℕ) (lim : s.limit ≡ Some (suc m)) (past : Journ
   t = ids.trace
 
   abbrev entry_of : (refused lost : Bool) → Entry
-  entry_of refused lost = record { item = Span a; refused = refused; lost = lost }
+  entry_of refused lost = record { item = Span a; refused = refused; lost = lost; answers = given }
 
   sound : Sound s past noted
   sound = sound_notes s room past
@@ -233,7 +230,7 @@ module _ (s : Settings) (m : ℕ) (lim : s.limit ≡ Some (suc m)) (past : Journ
   clocked = record held { clock = max a.moment (clock past) }
 
   same_ends : (refused lost : Bool) → ends (entry_of refused lost ∷ past) s.senders ≡ ends past s.senders
-  same_ends refused lost = ends-span s room a refused lost past s.senders
+  same_ends refused lost = ends-span s room a refused lost given past s.senders
 
   -- nothing but the clock changes
   quiet : (refused lost : Bool) → map (episode (entry_of refused lost ∷ past) noted) front ≡ map (episode past noted) front → standing_by s (entry_of refused lost ∷ past) noted ≡ clocked
@@ -516,10 +513,10 @@ module _ (s : Settings) (m : ℕ) (lim : s.limit ≡ Some (suc m)) (past : Journ
 -- ---- an item
 
 module _ (s : Settings) (m : ℕ) (lim : s.limit ≡ Some (suc m)) (past : Journal) where
-  span_ids : (a : Arrival) (refused lost : Bool) (ids : Option Ids) → a.rec.span.ids ≡ ids → has_ids (Span a) ≡ true → let e : Entry = record { item = Span a; refused = refused; lost = lost } in
+  span_ids : (a : Arrival) (refused lost : Bool) (given : List (List Bool)) (ids : Option Ids) → a.rec.span.ids ≡ ids → has_ids (Span a) ≡ true → let e : Entry = record { item = Span a; refused = refused; lost = lost; answers = given } in
       standing_by s (e ∷ past) (after_span s ids e past (notes s past)) ≡ after_span_in s (suc m) refused lost a ids (record (standing_by s past (notes s past)) { clock = max a.moment (clock past) })
-  span_ids a refused lost None i h = absurd (cc (i, h))
-  span_ids a refused lost (Some ids) i h = span_holds s m lim past a ids i refused lost
+  span_ids a refused lost given None i h = absurd (cc (i, h))
+  span_ids a refused lost given (Some ids) i h = span_holds s m lim past a ids i given refused lost
 
   lim_room : HasRoom s.limit
   lim_room e = absurd (cc (lim, e))
@@ -532,19 +529,19 @@ module _ (s : Settings) (m : ℕ) (lim : s.limit ≡ Some (suc m)) (past : Journ
       (Each-all (λ o. episode (later ∷ past) (notes s past) o ≡ episode past (notes s past) o) (reverse (in_buffer s (notes s past)))
       (λ o. episode_same later past (notes s past) o (f o)))
 
-  item_holds : (item : Item) (refused lost : Bool) → has_ids item ≡ true → let e : Entry = record { item = item; refused = refused; lost = lost } in
+  item_holds : (item : Item) (refused lost : Bool) (given : List (List Bool)) → has_ids item ≡ true → let e : Entry = record { item = item; refused = refused; lost = lost; answers = given } in
       standing_by s (e ∷ past) (after_item s e past item (notes s past)) ≡ after_entry s (suc m) refused lost item (standing_by s past (notes s past))
-  item_holds (Span a) refused lost h = span_ids a refused lost a.rec.span.ids refl h
-  item_holds (Tick k) refused lost h =
-      let e : Entry = record { item = Tick k; refused = refused; lost = lost } in
-      same_parts s (notes s past) _ _ _ _ _ _ (max k (clock past)) (max k (clock past)) _ _ (no_spans e (λ o. refl)) refl refl (ends-tick s lim_room k refused lost past s.senders)
-  item_holds (End sender) refused lost h =
-      let e : Entry = record { item = End sender; refused = refused; lost = lost } in
+  item_holds (Span a) refused lost given h = span_ids a refused lost given a.rec.span.ids refl h
+  item_holds (Tick k) refused lost given h =
+      let e : Entry = record { item = Tick k; refused = refused; lost = lost; answers = given } in
+      same_parts s (notes s past) _ _ _ _ _ _ (max k (clock past)) (max k (clock past)) _ _ (no_spans e (λ o. refl)) refl refl (ends-tick s lim_room k refused lost given past s.senders)
+  item_holds (End sender) refused lost given h =
+      let e : Entry = record { item = End sender; refused = refused; lost = lost; answers = given } in
       ap (λ c. standing_of s (notes s past) (episodes s (e ∷ past) (notes s past)) (cache s (notes s past) Sampled) (cache s (notes s past) NotSampled) c (mark past) (ends (e ∷ past) s.senders)) (zero-max (clock past))
-      ∙ same_parts s (notes s past) _ _ _ _ _ _ (clock past) (mark past) _ _ (no_spans e (λ o. refl)) refl refl (ends-end s lim_room sender refused lost past s.senders)
+      ∙ same_parts s (notes s past) _ _ _ _ _ _ (clock past) (mark past) _ _ (no_spans e (λ o. refl)) refl refl (ends-end s lim_room sender refused lost given past s.senders)
 
 pub keeps_standing : KeepsStanding
 keeps_standing s zero past dealt e lim h d ids = absurd (omega (arith, h))
 keeps_standing s (suc m) past dealt e lim h d ids =
-    item_holds s m lim past e.item e.refused e.lost ids
+    item_holds s m lim past e.item e.refused e.lost e.answers ids
     ∙ ap (λ (n : Notes). after_entry s (suc m) e.refused e.lost e.item (standing_by s past n)) (sym (all_dealt s past dealt d))

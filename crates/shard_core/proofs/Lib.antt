@@ -7,6 +7,8 @@ mod Remembering
 mod FoundAsHeld
 mod Due
 mod Keeping
+pub mod Answering
+mod HeldSpans
 mod Forgetting
 mod Codes
 mod Rows

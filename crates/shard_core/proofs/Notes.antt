@@ -56,9 +56,9 @@ none_own o at refused (Tick m) l = refl
 none_own o at refused (End i) l = refl
 none_own o at refused (Span a) l = ap (λ (b : Bool). cond (b && is_of_trace o.trace a && not refused) (a ∷ []) []) (lt-leb o.at at l)
 
-pub spans_more : (J : Journal) (o : Opening) (item : Item) (refused lost : Bool) → o.at ≤ length J
-    → spans_since (record { item = item; refused = refused; lost = lost } ∷ J) o ≡ spans_since J o ++ own_spans o.trace refused item
-spans_more J o item refused lost l = ap (λ (z : List Arrival). spans_since J o ++ z) (own_is o (length J) refused item l)
+pub spans_more : (J : Journal) (o : Opening) (item : Item) (refused lost : Bool) (given : List (List Bool)) → o.at ≤ length J
+    → spans_since (record { item = item; refused = refused; lost = lost; answers = given } ∷ J) o ≡ spans_since J o ++ own_spans o.trace refused item
+spans_more J o item refused lost given l = ap (λ (z : List Arrival). spans_since J o ++ z) (own_is o (length J) refused item l)
 
 pub spans_before : (J : Journal) (o : Opening) → length J ≤ o.at → spans_since J o ≡ []
 spans_before [] o l = refl

@@ -11,7 +11,7 @@ use Rattle.otlp_types.specs.declared.arrival.Item.TheVariants.{Span, Tick, End}
 use Rattle.decision_cache.specs.Lists.{is_held}
 use Rattle.decision_cache.specs.Touches.{Touch, is_same_verdict, last_touched, last_touch, touches_since}
 use Rattle.decision_cache.proofs.Laws.{same-eq, same-sym, verdict-refl, touched-other, not_brought_in, holds_where_remembered}
-use Rattle.shard_core.specs.Journal.{Entry, Settings, Journal, Opening, Decision, Notes, Finding, joins, meets, opens, clock, in_buffer, is_in_buffer, last_of, leaving, decided_as, latest_episode, cache_size, is_cached, is_remembered, finding, finding_of, finding_at, touch, touch_of_leaving, touch_of_leaving_decided, after_finding, after_span, after_item, after_decisions, no_notes, notes, decisions_at, decisions_in_turn, decision, due_at}
+use Rattle.shard_core.specs.Journal.{Entry, Settings, Journal, Opening, Decision, Notes, Finding, joins, meets, opens, clock, in_buffer, is_in_buffer, last_of, leaving, decided_as, latest_episode, cache_size, is_cached, is_remembered, finding, finding_of, finding_at, touch, touch_of_leaving, touch_of_leaving_decided, after_finding, after_span, after_item, after_decisions, no_notes, notes, decisions_at, decisions_in_turn, due_at}
 use Rattle.shard_core.proofs.ListFacts.{Each, Each-left, Each-right, Each-weaker, Each-reverse, Pairs, Pairs-left, Pairs-across, Each-split}
 use Rattle.shard_core.proofs.Find.{found, not_found, find_past, find_front, any_none, any_split}
 use Rattle.shard_core.proofs.Notes.{HasRoom, IsOlder, Sound, buffer_front, same_refl}
@@ -536,9 +536,10 @@ Each-self p (o ∷ os) front whole e q f = (
 buffered_each : (s : Settings) (noted : Notes) → Each (λ (o : Opening). is_in_buffer s noted o.at ≡ true) (in_buffer s noted)
 buffered_each s noted = Each-self (λ o. true) (in_buffer s noted) [] (in_buffer s noted) refl (λ x o. x.at == o.at) (λ o. eq-eqb o.at o.at refl)
 
-turns_each : (s : Settings) (P : Opening → Type 0) (J : Journal) (os : List Opening) (earlier : List Decision) → Each P os → Each (λ (d : Decision). P d.opening) (decisions_in_turn s J os earlier)
-turns_each s P J [] earlier h = tt
-turns_each s P J (o ∷ os) earlier h = (h.0, turns_each s P J os (decision s J o earlier ∷ earlier) h.1)
+turns_each : (s : Settings) (P : Opening → Type 0) (J : Journal) (os : List Opening) (answers : List (List Bool)) → Each P os → Each (λ (d : Decision). P d.opening) (decisions_in_turn s J os answers)
+turns_each s P J [] answers h = tt
+turns_each s P J (o ∷ os) [] h = tt
+turns_each s P J (o ∷ os) (a ∷ answers) h = (h.0, turns_each s P J os answers h.1)
 
 item_keeps_tick : (s : Settings) (e : Entry) (J : Journal) (item : Item) (noted : Notes) → Each (λ (o : Opening). is_in_buffer s (after_item s e J item noted) o.at ≡ true) (due_at s e J item noted)
 item_keeps_tick s e J (Span a) noted = tt
@@ -551,5 +552,5 @@ remembering_notes s room [] = remembering_none s
 remembering_notes s room (e ∷ J) =
     let noted = notes s J in
     remembering_decided s (after_item s e J e.item noted) (suc (length J)) (decisions_at s e J noted)
-    (turns_each s (λ (o : Opening). is_in_buffer s (after_item s e J e.item noted) o.at ≡ true) (e ∷ J) (due_at s e J e.item noted) noted.decisions (item_keeps_tick s e J e.item noted))
+    (turns_each s (λ (o : Opening). is_in_buffer s (after_item s e J e.item noted) o.at ≡ true) (e ∷ J) (due_at s e J e.item noted) e.answers (item_keeps_tick s e J e.item noted))
     (remembering_item s room J e.item e noted (sound_notes s room J) (remembering_notes s room J))

@@ -1,7 +1,7 @@
 -- Worked rows of a shard, by computation: what each journal releases, counts and leaves.
 use Rattle.std.specs.Prelude.{ℕ, Bool, true, false, pos, List, [], ◌∷◌, ◌++◌, map, reverse, length, take, Option, Some, None, ◌≡◌, refl}
 use Rattle.policy_tree.specs.Tree.{Policies, no_more, one_more, leaf, and_policy, rate_limiting, always_sample, status_code, latency}
-use Rattle.shard_core.specs.Journal.{Entry, Settings, notes}
+use Rattle.shard_core.specs.Journal.{Entry, Settings, Journal, Opening, notes, due_now, are_each_answered}
 use Rattle.shard_core.specs.Fate.{Fate, waits, is_released, is_counted, effect, output, under, fate}
 use Rattle.trace_buffer.specs.Buffer.{Episode}
 use Rattle.shard_core.specs.Standing.{Standing, standing}
@@ -45,7 +45,7 @@ arrival t n m code start end = record {
 }
 
 abbrev marked : Item → (refused lost : Bool) → Entry
-marked item refused lost = record { item = item; refused = refused; lost = lost }
+marked item refused lost = record { item = item; refused = refused; lost = lost; answers = [] }
 
 abbrev took : Item → Entry
 took item = marked item false false
@@ -61,6 +61,10 @@ marked_error t n m refused lost = marked (Span (arrival t n m 2 0 0)) refused lo
 
 abbrev tick : ℕ → Entry
 tick m = took (Tick m)
+
+-- a tick whose decisions get these answers of the limiter
+abbrev tick_with : ℕ → List (List Bool) → Entry
+tick_with m answers = record (tick m) { answers = answers }
 
 abbrev errors : Policies
 errors = one_more (leaf (status_code (pos 2 ∷ []))) no_more
@@ -79,13 +83,24 @@ plain = settings errors None 0 0
 abbrev closing : List Entry
 closing = took (End 0) ∷ took (End 1) ∷ []
 
+-- no limiter's answers for each of these decisions, where none stand with the item
+abbrev pub answers_for : List (List Bool) → List Opening → List (List Bool)
+answers_for [] due = map (λ o. []) due
+answers_for (a ∷ later) due = a ∷ later
+
+-- the journal, where each decision was given its answers: none, where none stand with the item
+abbrev pub decided : Settings → Journal → Journal
+unfolding notes
+decided s [] = []
+decided s (e ∷ before) = let past = decided s before in record e { answers = answers_for e.answers (due_now s (e ∷ past)) } ∷ past
+
 -- the numbers of what was released, in order
 abbrev released : Settings → List Entry → List ℕ
-released s taken = map (λ (a : Arrival). a.key.number) (output s (reverse taken))
+released s taken = map (λ (a : Arrival). a.key.number) (output s (decided s (reverse taken)))
 
 -- how many were counted under want of memory, eviction, a decision against them, and late
 abbrev counted : Settings → List Entry → List ℕ
-counted s taken = let all = (effect s (reverse taken)).counted in length (under NoMemory all) ∷ length (under Evicted all) ∷ length (under DecidedAgainst all) ∷ length (under LateNotSampled all) ∷ []
+counted s taken = let all = (effect s (decided s (reverse taken))).counted in length (under NoMemory all) ∷ length (under Evicted all) ∷ length (under DecidedAgainst all) ∷ length (under LateNotSampled all) ∷ []
 
 -- ---- no limit, no caches
 
@@ -149,7 +164,7 @@ ends_of_all = refl
 
 -- the fate of a span, where it was taken after the first items
 abbrev fate_after : (first later : List Entry) → (t n : ℕ) → Entry → Fate
-fate_after first later t n e = fate plain (reverse (first ++ e ∷ later)) (reverse first) e.refused (ids t n)
+fate_after first later t n e = fate plain (decided plain (reverse (first ++ e ∷ later))) (decided plain (reverse first)) e.refused (ids t n)
 
 pub fates : fate_after [] [] 1 0 (error 1 0 0) ∷ fate_after [] (tick 10000 ∷ []) 1 0 (error 1 0 0) ∷ fate_after [] (tick 10000 ∷ []) 1 0 (span 1 0 0)
     ∷ fate_after (span 1 0 0 ∷ tick 10000 ∷ []) [] 1 1 (error 1 1 0) ∷ fate_after (error 1 0 0 ∷ tick 10000 ∷ []) [] 1 1 (span 1 1 0) ∷ fate_after [] [] 1 0 (marked_error 1 0 0 true false) ∷ []
@@ -245,7 +260,7 @@ abbrev ending : (t n end : ℕ) → Entry
 ending t n end = took (Span (arrival t n 1000 0 0 end))
 
 abbrev slow_items : List Entry
-slow_items = ending 1 0 0 ∷ ending 1 1 499999999 ∷ ending 2 2 500000000 ∷ ending 2 3 500000000 ∷ ending 3 4 500000000 ∷ tick 11000 ∷ []
+slow_items = ending 1 0 0 ∷ ending 1 1 499999999 ∷ ending 2 2 500000000 ∷ ending 2 3 500000000 ∷ ending 3 4 500000000 ∷ tick_with 11000 ([] ∷ (true ∷ []) ∷ (true ∷ []) ∷ []) ∷ []
 
 pub and_of_latency_and_rate : released (settings slow_few None 0 0) slow_items ≡ 2 ∷ 3 ∷ 4 ∷ []
 unfolding notes
@@ -255,17 +270,35 @@ pub and_of_latency_and_rate_counts : counted (settings slow_few None 0 0) slow_i
 unfolding notes
 and_of_latency_and_rate_counts = refl
 
--- of two decisions in one second the limiter grants the first alone
-pub limiter_in_turn : released (settings (one_more (rate_limiting 3) no_more) None 0 0) (span 1 0 0 ∷ span 1 1 0 ∷ span 2 2 0 ∷ span 2 3 0 ∷ tick 10000 ∷ []) ≡ 0 ∷ 1 ∷ []
+abbrev few : Policies
+few = one_more (rate_limiting 3) no_more
+
+abbrev two_twos : List (List Bool) → List Entry
+two_twos answers = span 1 0 0 ∷ span 1 1 0 ∷ span 2 2 0 ∷ span 2 3 0 ∷ tick_with 10000 answers ∷ []
+
+-- each decision is given its own answers; one without any is still to be decided
+pub limiter_in_turn : map (λ answers. released (settings few None 0 0) (two_twos answers)) (((true ∷ []) ∷ (false ∷ []) ∷ []) ∷ ((false ∷ []) ∷ (true ∷ []) ∷ []) ∷ ((true ∷ []) ∷ []) ∷ []) ≡ (0 ∷ 1 ∷ []) ∷ (2 ∷ 3 ∷ []) ∷ (0 ∷ 1 ∷ []) ∷ []
 unfolding notes
 limiter_in_turn = refl
+
+-- one answer for each asking, and one list for each decision, or the journal isn't answered
+abbrev pub answered_well : List (List Bool) → Bool
+unfolding notes
+answered_well answers =
+    let past = two_twos [] in
+    let s = settings few None 0 0 in
+    are_each_answered few (reverse past) (due_now s (reverse past)) answers
+
+pub as_many_as_asked : map answered_well (((true ∷ []) ∷ (false ∷ []) ∷ []) ∷ ((true ∷ []) ∷ []) ∷ ((true ∷ []) ∷ [] ∷ []) ∷ ((true ∷ []) ∷ (false ∷ true ∷ []) ∷ []) ∷ []) ≡ true ∷ false ∷ false ∷ false ∷ []
+unfolding notes
+as_many_as_asked = refl
 
 -- ---- what a shard holds
 
 -- with the first of three decisions dealt with
 abbrev pub half : Standing
 unfolding notes
-half = standing (settings errors (Some 3) 2 2) (reverse (error 3 0 0 ∷ tick 10000 ∷ error 1 1 10000 ∷ span 2 2 10000 ∷ error 4 3 10000 ∷ span 3 4 30000 ∷ tick 20000 ∷ [])) 1
+half = standing (settings errors (Some 3) 2 2) (decided (settings errors (Some 3) 2 2) (reverse (error 3 0 0 ∷ tick 10000 ∷ error 1 1 10000 ∷ span 2 2 10000 ∷ error 4 3 10000 ∷ span 3 4 30000 ∷ tick 20000 ∷ []))) 1
 
 pub half_spans : map (λ (e : Episode). map (λ (a : Arrival). a.key.number) e.spans) half.episodes ≡ [] ∷ (2 ∷ []) ∷ (3 ∷ []) ∷ []
 unfolding notes
@@ -277,7 +310,7 @@ half_verdicts = refl
 
 abbrev pub two_cached : Standing
 unfolding notes
-two_cached = standing (settings errors (Some 1) 2 2) (reverse (error 1 0 0 ∷ tick 10000 ∷ error 2 1 10000 ∷ tick 20000 ∷ error 3 2 20000 ∷ span 1 3 20500 ∷ took (End 1) ∷ [])) 0
+two_cached = standing (settings errors (Some 1) 2 2) (decided (settings errors (Some 1) 2 2) (reverse (error 1 0 0 ∷ tick 10000 ∷ error 2 1 10000 ∷ tick 20000 ∷ error 3 2 20000 ∷ span 1 3 20500 ∷ took (End 1) ∷ []))) 0
 
 pub last_touched_first : two_cached.sampled ≡ (1 ∷ []) ∷ (2 ∷ []) ∷ []
 unfolding notes
@@ -300,7 +333,7 @@ child t n m =
 
 abbrev pub roots : List Entry → List (Option ℕ)
 unfolding notes
-roots items = map (λ (e : Episode). e.first_root) (standing (settings errors None 0 0) (reverse items) 0).episodes
+roots items = map (λ (e : Episode). e.first_root) (standing (settings errors None 0 0) (decided (settings errors None 0 0) (reverse items)) 0).episodes
 
 -- a root before a tick, and the same root behind it: its own moment is the same, the clock at it is not
 pub root_before_a_tick : roots (child 1 0 0 ∷ span 1 1 0 ∷ tick 5 ∷ []) ≡ Some 0 ∷ []
@@ -316,7 +349,7 @@ pub first_of_two_roots : roots (span 1 0 3 ∷ child 2 1 4 ∷ span 1 2 7 ∷ []
 unfolding notes
 first_of_two_roots = refl
 
-pub decided_keeps_none : map (λ (e : Episode). e.first_root) (standing (settings errors None 0 0) (tick 10000 ∷ span 1 0 0 ∷ []) 1).episodes ≡ None ∷ []
+pub decided_keeps_none : map (λ (e : Episode). e.first_root) (standing (settings errors None 0 0) (decided (settings errors None 0 0) (tick 10000 ∷ span 1 0 0 ∷ [])) 1).episodes ≡ None ∷ []
 unfolding notes
 decided_keeps_none = refl
 

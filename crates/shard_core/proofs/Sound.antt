@@ -2,7 +2,7 @@
 use Rattle.std.proofs.Common.{◌≡◌, ℕ, zero, suc, ◌<◌, Bool, true, false, cond, ◌==◌, List, [], ◌∷◌, ◌++◌, length, filter, reverse, take, find, slice_get, Option, Some, None, is_none, option_map, option_to_list, refl, ap, sym, ◌∙◌, arith}
 use Rattle.std.proofs.lemmas.List.{append-nil}
 use Rattle.std.proofs.Math.Numerals.{sub-one}
-use Rattle.shard_core.specs.Journal.{Settings, Journal, clock, Opening, Decision, Notes, last_of, in_buffer, leaving, undecided, finding, due_at, is_due, has_finished, decision, decisions_in_turn, after_finding, after_span, after_item, after_decisions, no_notes, decisions_at, notes, notes_dealt, Entry}
+use Rattle.shard_core.specs.Journal.{Settings, Journal, clock, Opening, Decision, Notes, last_of, in_buffer, leaving, undecided, finding, due_at, is_due, has_finished, decisions_in_turn, after_finding, after_span, after_item, after_decisions, no_notes, decisions_at, notes, notes_dealt, Entry}
 use Rattle.otlp_types.specs.declared.span.Ids.{Ids}
 use Rattle.span_ids.specs.declared.ids.TraceId.{TraceId}
 use Rattle.otlp_types.specs.declared.arrival.Item.{Item}
@@ -93,9 +93,10 @@ sound_decided s J noted ds l h = record {
   apart = Pairs-weaker (IsApart (is_open noted)) (IsApart (is_open (after_decisions ds noted))) (in_buffer s noted) (λ newer older a p. a (open_before noted ds older p)) h.apart;
 }
 
-in_turn_below : (s : Settings) (J : Journal) (n : ℕ) (os : List Opening) (earlier : List Decision) → Each (λ (o : Opening). o.at < n) os → Each (λ (d : Decision). d.opening.at < n) (decisions_in_turn s J os earlier)
-in_turn_below s J n [] earlier h = tt
-in_turn_below s J n (o ∷ os) earlier h = (h.0, in_turn_below s J n os (decision s J o earlier ∷ earlier) h.1)
+in_turn_below : (s : Settings) (J : Journal) (n : ℕ) (os : List Opening) (answers : List (List Bool)) → Each (λ (o : Opening). o.at < n) os → Each (λ (d : Decision). d.opening.at < n) (decisions_in_turn s J os answers)
+in_turn_below s J n [] answers h = tt
+in_turn_below s J n (o ∷ os) [] h = tt
+in_turn_below s J n (o ∷ os) (a ∷ answers) h = (h.0, in_turn_below s J n os answers h.1)
 
 -- what holds of each opening of the buffer that is undecided holds of each that is due
 pub Each-undecided : (P : Opening → Type 0) (s : Settings) (noted : Notes) → Each P (in_buffer s noted) → Each P (undecided s noted)
@@ -114,7 +115,7 @@ pub Each-buffer : (P : Opening → Type 0) (s : Settings) (noted : Notes) → Ea
 Each-buffer P s noted h = let f = buffer_front s.limit noted.openings in Each-left P (in_buffer s noted) f.0 (rw f.1 at h)
 
 pub decisions_below : (s : Settings) (e : Entry) (J : Journal) (noted : Notes) → Sound s J noted → Each (λ (d : Decision). d.opening.at < length (e ∷ J)) (decisions_at s e J noted)
-decisions_below s e J noted h = in_turn_below s (e ∷ J) (suc (length J)) (due_at s e J e.item noted) noted.decisions
+decisions_below s e J noted h = in_turn_below s (e ∷ J) (suc (length J)) (due_at s e J e.item noted) e.answers
     (Each-due (λ (o : Opening). o.at < suc (length J)) s e J e.item noted (Each-buffer (λ (o : Opening). o.at < suc (length J)) s noted
     (Each-weaker (λ (o : Opening). o.at < length J) (λ (o : Opening). o.at < suc (length J)) noted.openings (λ o l. omega arith) h.below)))
 

@@ -8,13 +8,10 @@ use Rattle.otlp_types.specs.declared.arrival.Arrival.{Arrival}
 use Rattle.otlp_types.specs.declared.arrival.Item.TheVariants.{Span, Tick, End}
 use Rattle.span_ids.specs.declared.ids.TraceId.{TraceId}
 use Rattle.policy_tree.specs.declared.policy.Policy.{Policy}
-use Rattle.policy_tree.specs.Meaning.{meaning}
-use Rattle.rate_budget.specs.Budget.{limiter_counts}
-use Rattle.rate_budget.specs.declared.count.LimiterCount.{LimiterCount}
 use Rattle.trace_buffer.specs.Buffer.{Episode, Buffer, leaves}
 use Rattle.trace_buffer.specs.declared.episode.Evicted.{Evicted}
 use Rattle.decision_cache.specs.Lists.{CacheLists}
-use Rattle.shard_core.specs.Journal.{Entry, Settings, Journal, StoppedInTime, Opening, Notes, Finding, joins, meets, opens, notes, finding, leaving, decided_as, due_now, have_ended}
+use Rattle.shard_core.specs.Journal.{Entry, Settings, Journal, StoppedInTime, Opening, Notes, Finding, joins, meets, opens, notes, finding, leaving, decided_as, due_now, have_ended, are_each_answered, IsAnswered, IsAnsweredUpTo}
 use Rattle.shard_core.specs.Standing.{Standing, standing, ends}
 use Rattle.shard_core.specs.Held.{Held, held_of, settings, settings_of, StandsFor, has_due, is_finished, is_due_in}
 use Rattle.shard_core.specs.Keeping.{buffer, after_span_of, after_span_in, after_entry}
@@ -28,6 +25,7 @@ use Rattle.shard_core.proofs.Notes.{HasRoom}
 use Rattle.shard_core.proofs.Due.{nothing_left, all_ended, length-ends}
 use Rattle.shard_core.proofs.FoundAsHeld.{found_as_held, all_dealt}
 use Rattle.shard_core.proofs.Keeping.{keeps_standing, leaves_held, standing_by}
+use Rattle.shard_core.proofs.Answering.{all-answered}
 
 pub room_of : (h : Held) → 0 < h.limit → HasRoom (settings h).limit
 room_of h l e = let z : h.limit ≡ 0 = cc e in absurd (omega (arith, l, z))
@@ -46,21 +44,29 @@ pub record Ready (h : Held) (past : Journal) (k : ℕ) : Type 0 where
   pub stands : h.standing ≡ standing (settings h) past k
   pub dealt : length (due_now (settings h) past) ≤ k
   pub runs : have_ended past (length h.standing.ends) ≡ false
+  pub answered : IsAnswered (settings h) past
 
 pub ready : (h : Held) (past : Journal) (k : ℕ) → 0 < h.wait → 0 < h.limit → has_due h ≡ false → is_finished h ≡ false → StandsFor h past k → Ready h past k
 ready h past k w l d f s =
     let room = room_of h l in
+    let left = nothing_left (settings h) room past k h.standing w s.0 s.1 s.2 (find-from_any (is_due_in h) h.standing.episodes d) in
     record {
       stands = s.1;
-      dealt = dropped_all k (due_now (settings h) past) (nothing_left (settings h) room past k h.standing w s.0 s.1 (find-from_any (is_due_in h) h.standing.episodes d));
+      dealt = dropped_all k (due_now (settings h) past) left;
+      answered = all-answered (settings h) past k left s.2;
       runs = sym (all_ended (settings h) room past (length h.standing.ends)) ∙ ap (λ (st : Standing). list_all (λ b. b) st.ends) (sym s.1) ∙ f;
     }
 
+-- nothing is due right after a span, and after another item what is due is still to be answered
+none_taken_due : (s : Settings) (e : Entry) (past : Journal) → IsAnswered s past → e.answers ≡ [] → IsAnsweredUpTo s (e ∷ past) 0
+none_taken_due s e past g h = (ap (are_each_answered s.policies (e ∷ past) []) h, g)
+
 -- a shard that holds what stands for a journal
-stands_at : (h : Held) → 0 < h.limit → (past : Journal) (k : ℕ) → StoppedInTime (settings h) past → StandsFor (record h { standing = standing (settings h) past k }) past k
-stands_at h l past k s =
-    let P = λ (n : ℕ). StoppedInTime (settings_of h.policies h.wait h.root_wait h.limit h.sampled_size h.non_sampled_size n) past × (standing (settings h) past k ≡ standing (settings_of h.policies h.wait h.root_wait h.limit h.sampled_size h.non_sampled_size n) past k) in
-    subst P (sym (length-ends (settings h) (room_of h l) past (length h.standing.ends))) (s, refl)
+stands_at : (h : Held) → 0 < h.limit → (past : Journal) (k : ℕ) → StoppedInTime (settings h) past → IsAnsweredUpTo (settings h) past k → StandsFor (record h { standing = standing (settings h) past k }) past k
+stands_at h l past k s g =
+    let Q = λ (n : ℕ). settings_of h.policies h.wait h.root_wait h.limit h.sampled_size h.non_sampled_size n in
+    let P = λ (n : ℕ). StoppedInTime (Q n) past × (standing (settings h) past k ≡ standing (Q n) past k) × IsAnsweredUpTo (Q n) past k in
+    subst P (sym (length-ends (settings h) (room_of h l) past (length h.standing.ends))) (s, refl, g)
 
 -- ---- a span
 
@@ -82,11 +88,11 @@ module _ (h : Held) (a : Arrival) (ids : Ids) (past : Journal) (k : ℕ) (i : a.
   f = finding s noted ids.trace
 
   entry_of : (refused lost : Bool) → Entry
-  entry_of refused lost = record { item = Span a; refused = refused; lost = lost }
+  entry_of refused lost = record { item = Span a; refused = refused; lost = lost; answers = [] }
 
-  span_held : (refused lost : Bool) → let e : Entry = record { item = Span a; refused = refused; lost = lost } in after_span_of s h.limit refused lost ids.trace a st ≡ standing s (e ∷ past) 0
+  span_held : (refused lost : Bool) → let e : Entry = record { item = Span a; refused = refused; lost = lost; answers = [] } in after_span_of s h.limit refused lost ids.trace a st ≡ standing s (e ∷ past) 0
   span_held refused lost =
-      let e : Entry = record { item = Span a; refused = refused; lost = lost } in
+      let e : Entry = record { item = Span a; refused = refused; lost = lost; answers = [] } in
       sym (keeps_standing s h.limit past k e refl l g.dealt (ap is_some i)
       ∙ ap (λ (x : Standing). after_entry s h.limit refused lost (Span a) x) (sym g.stands)
       ∙ ap (λ (o : Option Ids). after_span_in s h.limit refused lost a o st) i)
@@ -100,7 +106,7 @@ module _ (h : Held) (a : Arrival) (ids : Ids) (past : Journal) (k : ℕ) (i : a.
       let lim : s.limit ≡ Some (suc m.0) = ap (λ (n : ℕ). Some n) m.1 in
       ap (λ (x : Standing). leaves (buffer h.limit x)) (g.stands ∙ ap (standing_by s past) (all_dealt s past k g.dealt))
       ∙ ap (λ n. leaves (buffer n (standing_by s past noted))) m.1
-      ∙ leaves_held s m.0 lim past a ids i
+      ∙ leaves_held s m.0 lim past a ids i []
 
   answer_found : (lost : Bool) (x : Finding) → answer_by_state s h.limit lost a st (state_found x) ≡ answer_to_finding s lost past noted a x
   answer_found lost (joins o) = refl
@@ -123,7 +129,7 @@ module _ (h : Held) (a : Arrival) (ids : Ids) (past : Journal) (k : ℕ) (i : a.
   span_stands new answer t =
       let P = λ (n : Held). StandsFor n (entry (Span a) answer ∷ past) 0 in
       let is : new ≡ record h { standing = standing s (entry (Span a) answer ∷ past) 0 } = t.0 ∙ ap (λ (x : Standing). record h { standing = x }) (span_held (is_refusal answer) (is_loss answer)) in
-      (subst P (sym is) (stands_at h l (entry (Span a) answer ∷ past) 0 g.runs), t.1 ∙ answer_is (is_refusal answer) (is_loss answer), marks_are (is_refusal answer) (is_loss answer) t.2)
+      (subst P (sym is) (stands_at h l (entry (Span a) answer ∷ past) 0 g.runs (none_taken_due s (entry (Span a) answer) past g.answered refl)), t.1 ∙ answer_is (is_refusal answer) (is_loss answer), marks_are (is_refusal answer) (is_loss answer) t.2)
 
 span-ids : (h : Held) (a : Arrival) (ids : Option Ids) (past : Journal) (k : ℕ) → a.rec.span.ids ≡ ids → is_some ids ≡ true → 0 < h.limit → Ready h past k → (new : Held) (answer : Taken) → TakesSpan h a ids answer new →
     StandsFor new (entry (Span a) answer ∷ past) 0 × (answer ≡ answer_to (settings h) (entry (Span a) answer) past) × (marks_apply (settings h) (entry (Span a) answer) past ≡ true)
@@ -140,7 +146,7 @@ pub takes_tick : (h : Held) (m : ℕ) (past : Journal) (k : ℕ) → 0 < h.limit
 takes_tick h m past k l g =
     let x = entry (Tick m) Ticked in
     let P = λ (st : Standing). StandsFor (record h { standing = st }) (x ∷ past) 0 in
-    subst P (keeps_standing (settings h) h.limit past k x refl l g.dealt refl ∙ ap (held_after_tick m) (sym g.stands)) (stands_at h l (x ∷ past) 0 g.runs)
+    subst P (keeps_standing (settings h) h.limit past k x refl l g.dealt refl ∙ ap (held_after_tick m) (sym g.stands)) (stands_at h l (x ∷ past) 0 g.runs (none_taken_due (settings h) x past g.answered refl))
 
 end_held : (h : Held) (sender : ℕ) (answer : Taken) (past : Journal) (k : ℕ) → 0 < h.limit → Ready h past k → standing (settings h) (entry (End sender) answer ∷ past) 0 ≡ held_after_end sender h.standing
 end_held h sender answer past k l g = keeps_standing (settings h) h.limit past k (entry (End sender) answer) refl l g.dealt refl ∙ ap (held_after_end sender) (sym g.stands)
@@ -149,7 +155,7 @@ pub takes_end : (h : Held) (sender : ℕ) (answer : Taken) (past : Journal) (k :
 takes_end h sender answer past k l g =
     let x = entry (End sender) answer in
     let P = λ (st : Standing). StandsFor (record h { standing = st }) (x ∷ past) 0 in
-    subst P (end_held h sender answer past k l g) (stands_at h l (x ∷ past) 0 g.runs)
+    subst P (end_held h sender answer past k l g) (stands_at h l (x ∷ past) 0 g.runs (none_taken_due (settings h) x past g.answered refl))
 
 if-same : (b c : Bool) → c ≡ false → (if b then Finished else Ended) ≡ (if b && not c then Finished else Ended)
 if-same true c e = rw e refl
@@ -177,22 +183,22 @@ none_taken : {X : Type 0} (n : ℕ) → take {A = X} n [] ≡ []
 none_taken zero = refl
 none_taken (suc n) = refl
 
-pub new_stands : (policies : List Policy) (wait root_wait n : ℕ) (b : Buffer) (c : CacheLists) (counts : List LimiterCount) (ended : List Bool) → b.episodes ≡ [] → c.sampled.traces ≡ [] → c.not_sampled.traces ≡ [] → counts ≡ limiter_counts (meaning policies) [] → ended ≡ replicate n false →
-    StandsFor (held_of policies wait root_wait b c counts 0 0 ended) [] 0
-new_stands policies wait root_wait n b c counts ended e x y q f =
+pub new_stands : (policies : List Policy) (wait root_wait n : ℕ) (b : Buffer) (c : CacheLists) (ended : List Bool) → b.episodes ≡ [] → c.sampled.traces ≡ [] → c.not_sampled.traces ≡ [] → ended ≡ replicate n false →
+    StandsFor (held_of policies wait root_wait b c 0 0 ended) [] 0
+new_stands policies wait root_wait n b c ended e x y f =
     let z : ended ≡ ends [] (length ended) = f ∙ sym (no-ends n) ∙ ap (ends []) (sym (ap length f ∙ length-replicate n false)) in
-    let h = held_of policies wait root_wait b c counts 0 0 ended in
-    (tt, parts b.episodes c.sampled.traces c.not_sampled.traces counts ended b.limit c.sampled.size c.not_sampled.size e x y q z)
+    let h = held_of policies wait root_wait b c 0 0 ended in
+    (tt, parts b.episodes c.sampled.traces c.not_sampled.traces ended b.limit c.sampled.size c.not_sampled.size e x y z, tt)
   where
-    parts : (es : List Episode) (ss ns : List TraceId) (ks : List LimiterCount) (en : List Bool) (l i j : ℕ) → es ≡ [] → ss ≡ [] → ns ≡ [] → ks ≡ limiter_counts (meaning policies) [] → en ≡ ends [] (length en) →
-        (let st : Standing = record { episodes = es; sampled = ss; non_sampled = ns; limiter_counts = ks; clock = 0; mark = 0; ends = en } in st) ≡ standing (settings_of policies wait root_wait l i j (length en)) [] 0
-    parts es ss ns ks en l i j e x y q z =
+    parts : (es : List Episode) (ss ns : List TraceId) (en : List Bool) (l i j : ℕ) → es ≡ [] → ss ≡ [] → ns ≡ [] → en ≡ ends [] (length en) →
+        (let st : Standing = record { episodes = es; sampled = ss; non_sampled = ns; clock = 0; mark = 0; ends = en } in st) ≡ standing (settings_of policies wait root_wait l i j (length en)) [] 0
+    parts es ss ns en l i j e x y z =
         let a = none_taken {X = Opening} l in
         let b = none_taken {X = TraceId} i in
         let c = none_taken {X = TraceId} j in
-        let st = λ (es : List Episode) (ss ns : List TraceId) (ks : List LimiterCount) (xs : List Bool). (let r : Standing = record { episodes = es; sampled = ss; non_sampled = ns; limiter_counts = ks; clock = 0; mark = 0; ends = xs } in r) in
-        ap (λ es. st es ss ns ks en) e ∙ ap (λ ss. st [] ss ns ks en) (x ∙ sym b) ∙ ap (λ ns. st [] (take i []) ns ks en) (y ∙ sym c) ∙ ap (λ ks. st [] (take i []) (take j []) ks en) q ∙ ap (st [] (take i []) (take j []) (limiter_counts (meaning policies) [])) z
-        ∙ ap (λ (os : List Opening). st (map (λ o. record { trace = o.trace; moment = o.moment; first_root = None; spans = []; verdict = None }) (reverse os)) (take i []) (take j []) (limiter_counts (meaning policies) []) (ends [] (length en))) (sym a)
+        let st = λ (es : List Episode) (ss ns : List TraceId) (xs : List Bool). (let r : Standing = record { episodes = es; sampled = ss; non_sampled = ns; clock = 0; mark = 0; ends = xs } in r) in
+        ap (λ es. st es ss ns en) e ∙ ap (λ ss. st [] ss ns en) (x ∙ sym b) ∙ ap (λ ns. st [] (take i []) ns en) (y ∙ sym c) ∙ ap (st [] (take i []) (take j [])) z
+        ∙ ap (λ (os : List Opening). st (map (λ o. record { trace = o.trace; moment = o.moment; first_root = None; spans = []; verdict = None }) (reverse os)) (take i []) (take j []) (ends [] (length en))) (sym a)
 
 -- a new shard has a sender that has not ended
 pub new_runs : (n : ℕ) (ended : List Bool) → ended ≡ replicate n false → 0 < n → list_all (λ b. b) ended ≡ false

@@ -2,9 +2,9 @@
 use Rattle.std.specs.Prelude.{◌≡◌, ◌≢◌, ◌<◌, ◌+◌, ℕ, Bool, if◌then◌else◌, List, [], ◌∷◌, drop, find, Option, Some, None}
 use Rattle.std.specs.List.{list_all}
 use Rattle.trace_buffer.specs.Buffer.{Episode, settled}
-use Rattle.shard_core.specs.Journal.{Settings, Journal, Decision, StoppedInTime, decisions_now}
+use Rattle.shard_core.specs.Journal.{Settings, Journal, Opening, StoppedInTime, due_now, spans_since, answered, IsAnsweredUpTo}
 use Rattle.shard_core.specs.Held.{is_due_by}
-use Rattle.shard_core.specs.Holding.{verdict_held, counts_asked}
+use Rattle.policy_eval.specs.Given.{verdict_given}
 use Rattle.shard_core.specs.Standing.{Standing, standing}
 use Rattle.span_ids.specs.declared.outcome.Verdict.{Verdict}
 
@@ -17,20 +17,17 @@ decide_first p v (e ∷ rest) = if p e then settled v e ∷ rest else e ∷ deci
 abbrev pub is_due_held : (wait root_wait : ℕ) → Standing → Episode → Bool
 is_due_held wait root_wait st e = is_due_by (list_all (λ b. b) st.ends) st.mark wait root_wait e
 
--- what a shard holds after the first episode that is due was decided: its spans are handed out, and its limiter was asked
-abbrev pub after_deciding : Settings → Standing → Episode → Standing
-after_deciding s st e = record st {
-  episodes = decide_first (is_due_held s.wait s.root_wait st) (verdict_held s.policies st e.spans) st.episodes;
-  limiter_counts = counts_asked s.policies st e.spans;
-}
+-- what a shard holds after the first episode that is due was decided so: its spans are handed out
+abbrev pub after_deciding : Settings → Standing → Verdict → Standing
+after_deciding s st v = record st { episodes = decide_first (is_due_held s.wait s.root_wait st) v st.episodes }
 
--- the next decision, by the first episode that is due
+-- the next decision, by the first episode that is due: whatever the limiter answers, it is on the spans that the shard holds
 abbrev pub DecidesNext : Settings → Journal → (dealt : ℕ) → Option Episode → Type 0
-DecidesNext s past dealt None = drop dealt (decisions_now s past) ≡ []
-DecidesNext s past dealt (Some e) = (later : List Decision) × (d : Decision) × (drop dealt (decisions_now s past) ≡ d ∷ later) × (d.spans ≡ e.spans)
-    × (d.verdict ≡ verdict_held s.policies (standing s past dealt) e.spans) × (standing s past (dealt + 1) ≡ after_deciding s (standing s past dealt) e)
+DecidesNext s past dealt None = drop dealt (due_now s past) ≡ []
+DecidesNext s past dealt (Some e) = (o : Opening) × (later : List Opening) × (drop dealt (due_now s past) ≡ o ∷ later) × (spans_since past o ≡ e.spans)
+    × ((answers : List Bool) → standing s (answered past answers) (dealt + 1) ≡ after_deciding s (standing s past dealt) (verdict_given s.policies answers e.spans))
 
--- For a limit and a wait of at least 1, and a journal that took no item after its Ends were complete: what is due in a shard is the journal's next decision, and what a shard holds after it is computed from what it held before.
+-- For a limit and a wait of at least 1, and a journal that took no item after its Ends were complete and whose decisions so far are answered: what is due in a shard is the journal's next decision, and what a shard holds after it is computed from what it held before.
 abbrev pub DecidesStanding : Type 0
-DecidesStanding = (s : Settings) (past : Journal) (dealt : ℕ) → s.limit ≢ Some 0 → 0 < s.wait → StoppedInTime s past
+DecidesStanding = (s : Settings) (past : Journal) (dealt : ℕ) → s.limit ≢ Some 0 → 0 < s.wait → StoppedInTime s past → IsAnsweredUpTo s past dealt
     → let st = standing s past dealt in DecidesNext s past dealt (find (is_due_held s.wait s.root_wait st) st.episodes)

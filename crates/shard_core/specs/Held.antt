@@ -1,12 +1,11 @@
 -- What a caller sees of a shard, and when it stands for a journal.
 use Rattle.std.specs.Prelude.{ℕ, ◌+◌, ◌≡◌, Bool, ◌&&◌, ◌||◌, nat_le, is_none, List, if◌then◌else◌, length, Some}
 use Rattle.std.specs.List.{list_any, list_all}
-use Rattle.shard_core.specs.Journal.{Settings, Journal, StoppedInTime}
+use Rattle.shard_core.specs.Journal.{Settings, Journal, StoppedInTime, IsAnsweredUpTo}
 use Rattle.trace_buffer.specs.Buffer.{Episode, is_root_due}
 use Rattle.shard_core.specs.Standing.{Standing, standing}
 use Rattle.trace_buffer.specs.Buffer.{Buffer}
 use Rattle.decision_cache.specs.Lists.{CacheLists}
-use Rattle.rate_budget.specs.declared.count.LimiterCount.{LimiterCount}
 use Rattle.policy_tree.specs.Meaning.{meaning}
 use Rattle.policy_tree.specs.declared.policy.Policy.{Policy}
 
@@ -21,15 +20,15 @@ pub record Held : Type 0 where
   pub standing : Standing
 
 -- a shard by its parts
-abbrev pub held_of : List Policy → (wait root_wait : ℕ) → Buffer → CacheLists → List LimiterCount → (clock mark : ℕ) → List Bool → Held
-held_of policies wait root_wait b c counts clock mark ends = record {
+abbrev pub held_of : List Policy → (wait root_wait : ℕ) → Buffer → CacheLists → (clock mark : ℕ) → List Bool → Held
+held_of policies wait root_wait b c clock mark ends = record {
   policies = policies;
   wait = wait;
   root_wait = root_wait;
   limit = b.limit;
   sampled_size = c.sampled.size;
   non_sampled_size = c.not_sampled.size;
-  standing = record { episodes = b.episodes; sampled = c.sampled.traces; non_sampled = c.not_sampled.traces; limiter_counts = counts; clock = clock; mark = mark; ends = ends };
+  standing = record { episodes = b.episodes; sampled = c.sampled.traces; non_sampled = c.not_sampled.traces; clock = clock; mark = mark; ends = ends };
 }
 
 -- the settings of a shard
@@ -60,6 +59,6 @@ has_due h = list_any (is_due_in h) h.standing.episodes
 abbrev pub due_by : Held → ℕ × ℕ × ℕ
 due_by h = if is_finished h then (h.standing.clock, 0, 0) else (h.standing.mark, h.wait, h.root_wait)
 
--- the shard stands for the journal, where of the decisions at its last item the first `dealt` were dealt with
+-- the shard stands for the journal, where of the decisions at its last item the first `dealt` were dealt with, and just these and all before are answered
 abbrev pub StandsFor : Held → Journal → (dealt : ℕ) → Type 0
-StandsFor h past dealt = StoppedInTime (settings h) past × (h.standing ≡ standing (settings h) past dealt)
+StandsFor h past dealt = StoppedInTime (settings h) past × (h.standing ≡ standing (settings h) past dealt) × IsAnsweredUpTo (settings h) past dealt

@@ -1,16 +1,12 @@
 -- What the code of a shard does to what it holds: words of its private functions, beside the definitions.
-use Rattle.std.specs.Prelude.{ℕ, ◌/◌, ◌≡◌, max, length, Bool, true, false, not, ◌&&◌, ◌||◌, is_none, if◌then◌else◌, List, slice_set, find, Option, Some, None}
+use Rattle.std.specs.Prelude.{ℕ, ◌≡◌, max, Bool, true, false, not, ◌&&◌, ◌||◌, is_none, if◌then◌else◌, List, slice_set, find, Option, Some, None}
 use Rattle.shard_core.specs.Standing.{Standing}
 use Rattle.trace_buffer.specs.Buffer.{Episode, leaves, settle_first, is_due_at}
 use Rattle.trace_buffer.specs.declared.episode.Evicted.{Evicted}
 use Rattle.decision_cache.specs.Lists.{CacheLists, Remembers, is_held_in_either}
 use Rattle.decision_cache.specs.declared.traces.Remembered.{Remembered}
-use Rattle.policy_tree.specs.Tree.{Policies}
 use Rattle.policy_tree.specs.Meaning.{meaning}
-use Rattle.policy_eval.specs.Policies.{verdict, asked_nodes}
-use Rattle.policy_eval.specs.Meaning.{after_asking}
-use Rattle.rate_budget.specs.Budget.{grants_at, after}
-use Rattle.rate_budget.specs.declared.count.LimiterCount.{LimiterCount}
+use Rattle.policy_eval.specs.Given.{verdict_given}
 use Rattle.otlp_types.specs.declared.span.Ids.{Ids}
 use Rattle.span_ids.specs.declared.ids.TraceId.{TraceId}
 use Rattle.otlp_types.specs.declared.arrival.Arrival.{Arrival}
@@ -107,16 +103,8 @@ held_after_end sender h = record h { ends = slice_set h.ends sender true }
 
 -- ---- a decision
 
--- the verdict on these spans, by what a shard holds
-abbrev pub verdict_held : Policies → Standing → List Arrival → Verdict
-verdict_held policies h spans = verdict policies (λ node. grants_at h.limiter_counts node (h.clock / 1000) (length spans)) spans
-
--- the limiter counts once it was given
-abbrev pub counts_asked : Policies → Standing → List Arrival → List LimiterCount
-counts_asked policies h spans = after_asking after (h.clock / 1000) (length spans) (asked_nodes policies (λ node. grants_at h.limiter_counts node (h.clock / 1000) (length spans)) spans) h.limiter_counts
-
--- the first episode that is due by this mark is decided
-abbrev pub SettlesFirst : (old : Held) → (mark wait root_wait : ℕ) → Decided → (new : Held) → Type 0
-SettlesFirst old mark wait root_wait answer new = (e : Episode) → find (is_due_at mark wait root_wait) old.standing.episodes ≡ Some e →
-    (v : Verdict) × (v ≡ verdict_held (meaning old.policies) old.standing e.spans) × Releases answer e.spans v
-    × (new ≡ record old { standing = record old.standing { episodes = settle_first mark wait root_wait v old.standing.episodes; limiter_counts = counts_asked (meaning old.policies) old.standing e.spans } })
+-- the first episode that is due by this mark is decided by these answers of the limiter
+abbrev pub SettlesFirst : (old : Held) → (mark wait root_wait : ℕ) → (answers : List Bool) → Decided → (new : Held) → Type 0
+SettlesFirst old mark wait root_wait answers answer new = (e : Episode) → find (is_due_at mark wait root_wait) old.standing.episodes ≡ Some e →
+    let v = verdict_given (meaning old.policies) answers e.spans in
+    Releases answer e.spans v × (new ≡ record old { standing = record old.standing { episodes = settle_first mark wait root_wait v old.standing.episodes } })

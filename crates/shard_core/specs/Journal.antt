@@ -1,11 +1,10 @@
 -- What a shard has done, looking back over the items that it has taken (tailsamplingprocessor README: `decision_wait`, `num_traces`, `decision_cache`).
 -- A journal is a list of entries, the newest first: the journal before an entry is the list behind it, whose length is the entry's position.
-use Rattle.std.specs.Prelude.{ℕ, zero, suc, ◌+◌, ◌-◌, ◌/◌, max, Bool, true, false, not, ◌&&◌, ◌||◌, if◌then◌else◌, ◌==◌, nat_lt, nat_le, is_none, List, [], ◌∷◌, ◌++◌, map, reverse, length, take, slice_get, filter, find, Option, Some, None, option_map, ◌≡◌}
+use Rattle.std.specs.Prelude.{ℕ, zero, suc, ◌+◌, ◌-◌, max, Bool, true, false, not, ◌&&◌, ◌||◌, if◌then◌else◌, ◌==◌, nat_lt, nat_le, is_none, List, [], ◌∷◌, ◌++◌, map, reverse, length, take, slice_get, filter, find, Option, Some, None, option_map, ◌≡◌}
 use Rattle.std.specs.List.{list_any}
 use Rattle.trace_buffer.specs.Buffer.{are_of_root}
 use Rattle.policy_tree.specs.Tree.{Policies}
-use Rattle.policy_eval.specs.Policies.{verdict, asked_nodes}
-use Rattle.rate_budget.specs.Grant.{Asking, granted_after}
+use Rattle.policy_eval.specs.Given.{verdict_given, are_answered}
 use Rattle.span_ids.specs.Same.{same_trace}
 use Rattle.decision_cache.specs.Touches.{Touch, last_touched, touches_since}
 use Rattle.otlp_types.specs.declared.span.Ids.{Ids}
@@ -17,10 +16,12 @@ use Rattle.span_ids.specs.declared.outcome.Verdict.{Verdict}
 use Rattle.span_ids.specs.declared.outcome.Verdict.TheVariants.{Sampled, NotSampled}
 
 -- An item that a shard has taken, with its marks: memory was refused to the span itself, or to the put of the decision that its opening evicted.
+-- With it stand the limiter's answers: for each decision at the item, in order, those to its askings, in the order in which the policies ask.
 pub record Entry : Type 0 where
   pub item : Item
   pub refused : Bool
   pub lost : Bool
+  pub answers : List (List Bool)
 
 -- the settings of a shard: times are milliseconds, a `root_wait` of 0 is off, a `limit` of None is no limit
 pub record Settings : Type 0 where
@@ -83,11 +84,10 @@ pub record Opening : Type 0 where
   pub trace : TraceId
   pub moment : ℕ
 
--- the decision of an episode, on the spans that it had, with the limiter's askings
+-- the decision of an episode, on the spans that it had
 pub record Decision : Type 0 where
   pub opening : Opening
   pub spans : List Arrival
-  pub askings : List Asking
   pub verdict : Verdict
 
 -- what the items did: openings, decisions, touches
@@ -218,31 +218,15 @@ due_at s e before (End sender) noted = if has_finished s e before then undecided
 
 -- ---- decisions
 
--- the askings of these decisions, the latest first
-abbrev pub askings_made : List Decision → List Asking
-askings_made [] = []
-askings_made (d ∷ earlier) = reverse d.askings ++ askings_made earlier
+-- the decision of an episode at the journal's end, where the limiter answers so
+abbrev pub decision : Settings → Journal → Opening → (answers : List Bool) → Decision
+decision s past o answers = let spans = spans_since past o in record { opening = o; spans = spans; verdict = verdict_given s.policies answers spans }
 
--- the decision on these spans in that second, where the limiter answers so
-abbrev pub decision_by : Policies → Opening → List Arrival → (second : ℕ) → (granted : ℕ → Bool) → Decision
-decision_by policies o spans second granted = record {
-  opening = o;
-  spans = spans;
-  askings = map (λ node. record { node = node; second = second; spans = length spans; granted = granted node }) (asked_nodes policies granted spans);
-  verdict = verdict policies granted spans;
-}
-
--- the decision of an episode at the journal's end, after these decisions: the limiter grants by their askings
-abbrev pub decision : Settings → Journal → Opening → (earlier : List Decision) → Decision
-decision s past o earlier =
-    let spans = spans_since past o in
-    let second = clock past / 1000 in
-    decision_by s.policies o spans second (granted_after s.policies (askings_made earlier) second (length spans))
-
--- the decisions of these episodes, one after the other
-abbrev pub decisions_in_turn : Settings → Journal → List Opening → (earlier : List Decision) → List Decision
-decisions_in_turn s past [] earlier = []
-decisions_in_turn s past (o ∷ rest) earlier = let d = decision s past o earlier in d ∷ decisions_in_turn s past rest (d ∷ earlier)
+-- the decisions of these episodes, in order, each by its answers: as many as were given answers, the others are still to be decided
+abbrev pub decisions_in_turn : Settings → Journal → List Opening → (answers : List (List Bool)) → List Decision
+decisions_in_turn s past [] answers = []
+decisions_in_turn s past (o ∷ rest) [] = []
+decisions_in_turn s past (o ∷ rest) (a ∷ later) = decision s past o a ∷ decisions_in_turn s past rest later
 
 -- ---- the notes of a journal
 
@@ -290,9 +274,9 @@ no_notes = record { openings = []; decisions = []; touches = [] }
 
 -- the decisions at the item just taken, in order of opening
 abbrev pub decisions_at : Settings → Entry → (before : Journal) → Notes → List Decision
-decisions_at s e before noted = decisions_in_turn s (e ∷ before) (due_at s e before e.item noted) noted.decisions
+decisions_at s e before noted = decisions_in_turn s (e ∷ before) (due_at s e before e.item noted) e.answers
 
--- the notes of a journal, each due episode decided
+-- the notes of a journal, each due episode decided whose decision was given answers
 unfoldable pub notes : Settings → Journal → Notes
 notes s [] = no_notes
 notes s (e ∷ before) = let noted = notes s before in after_decisions (decisions_at s e before noted) (after_item s e before e.item noted)
@@ -302,7 +286,7 @@ abbrev pub due_now : Settings → Journal → List Opening
 due_now s [] = []
 due_now s (e ∷ before) = due_at s e before e.item (notes s before)
 
--- their decisions
+-- their decisions, as far as they were given answers
 abbrev pub decisions_now : Settings → Journal → List Decision
 decisions_now s [] = []
 decisions_now s (e ∷ before) = decisions_at s e before (notes s before)
@@ -316,3 +300,27 @@ notes_dealt s (e ∷ before) dealt = let noted = notes s before in after_decisio
 abbrev pub StoppedInTime : Settings → Journal → Type 0
 StoppedInTime s [] = Unit {0}
 StoppedInTime s (e ∷ before) = have_ended before s.senders ≡ false
+
+-- ---- the limiter's answers
+
+-- the journal, where the next decision at its last item is given these answers
+abbrev pub answered : Journal → (answers : List Bool) → Journal
+answered [] answers = []
+answered (e ∷ before) answers = record e { answers = e.answers ++ answers ∷ [] } ∷ before
+
+-- the decisions of just these episodes are answered, each with one answer for each asking
+abbrev pub are_each_answered : Policies → Journal → List Opening → (answers : List (List Bool)) → Bool
+are_each_answered policies past [] [] = true
+are_each_answered policies past [] (a ∷ later) = false
+are_each_answered policies past (o ∷ rest) [] = false
+are_each_answered policies past (o ∷ rest) (a ∷ later) = are_answered policies a (spans_since past o) && are_each_answered policies past rest later
+
+-- each decision of the journal is answered
+abbrev pub IsAnswered : Settings → Journal → Type 0
+IsAnswered s [] = Unit {0}
+IsAnswered s (e ∷ before) = (are_each_answered s.policies (e ∷ before) (due_now s (e ∷ before)) e.answers ≡ true) × IsAnswered s before
+
+-- the same, where of the decisions at the last item just the first `dealt` are answered
+abbrev pub IsAnsweredUpTo : Settings → Journal → (dealt : ℕ) → Type 0
+IsAnsweredUpTo s [] dealt = Unit {0}
+IsAnsweredUpTo s (e ∷ before) dealt = (are_each_answered s.policies (e ∷ before) (take dealt (due_now s (e ∷ before))) e.answers ≡ true) × IsAnswered s before

@@ -1,9 +1,7 @@
 -- What a shard holds that stands for a journal.
 use Rattle.std.specs.Prelude.{ℕ, zero, suc, Bool, List, [], ◌∷◌, ◌++◌, length, map, reverse, take, Option, Some, None}
-use Rattle.rate_budget.specs.Budget.{limiter_counts}
-use Rattle.rate_budget.specs.declared.count.LimiterCount.{LimiterCount}
 use Rattle.decision_cache.specs.Touches.{last_touched}
-use Rattle.shard_core.specs.Journal.{Settings, Journal, Opening, Notes, clock, has_ended, in_buffer, decided_as, cache_size, item_spans, spans_since, askings_made, notes_dealt}
+use Rattle.shard_core.specs.Journal.{Settings, Journal, Opening, Notes, clock, has_ended, in_buffer, decided_as, cache_size, item_spans, spans_since, notes_dealt}
 use Rattle.trace_buffer.specs.Buffer.{Episode, root_before}
 use Rattle.span_ids.specs.declared.ids.TraceId.{TraceId}
 use Rattle.otlp_types.specs.declared.arrival.Arrival.{Arrival}
@@ -18,7 +16,6 @@ pub record Standing : Type 0 where
   pub episodes : List Episode
   pub sampled : List TraceId
   pub non_sampled : List TraceId
-  pub limiter_counts : List LimiterCount
   pub clock : ℕ
   pub mark : ℕ
   pub ends : List Bool
@@ -80,7 +77,6 @@ standing s past dealt =
       episodes = episodes s past noted;
       sampled = cache s noted Sampled;
       non_sampled = cache s noted NotSampled;
-      limiter_counts = limiter_counts s.policies (askings_made noted.decisions);
       clock = clock past;
       mark = mark past;
       ends = ends past s.senders;

@@ -1,12 +1,13 @@
 -- What `take` and `decide` answer.
-use Rattle.std.specs.Prelude.{ℕ, ◌+◌, ◌≡◌, ◌==◌, nat_lt, max, Bool, true, false, not, ◌&&◌, ◌||◌, is_none, is_some, if◌then◌else◌, List, [], ◌∷◌, length, drop, filter, slice_set, Option, Some, None, option_map, option_and_then}
-use Rattle.shard_core.specs.Journal.{Settings, Journal, Opening, Notes, Finding, joins, meets, opens, Decision, notes, finding, leaving, decided_as, cache_size, has_finished, decisions_now, item_moment}
+use Rattle.std.specs.Prelude.{ℕ, ◌+◌, ◌/◌, ◌≡◌, ◌==◌, nat_lt, max, Bool, true, false, not, ◌&&◌, ◌||◌, is_none, is_some, if◌then◌else◌, List, [], ◌∷◌, ◌++◌, length, drop, filter, slice_set, Option, Some, None, option_map, option_and_then}
+use Rattle.shard_core.specs.Journal.{Settings, Journal, Opening, Notes, Finding, joins, meets, opens, notes, finding, leaving, decided_as, cache_size, has_finished, due_now, item_moment, spans_since, clock, answered}
 use Rattle.shard_core.specs.Standing.{episode}
 use Rattle.trace_buffer.specs.Buffer.{evicted_as}
 use Rattle.trace_buffer.specs.declared.episode.Evicted.{Evicted}
 use Rattle.decision_cache.specs.declared.traces.Remembered.{Remembered}
 use Rattle.decision_cache.specs.declared.traces.Remembered.TheVariants.{Kept as InCache, Off, Lost}
-use Rattle.shard_core.specs.Fate.{Fate, waits, is_released, is_counted, fate, is_same_reason}
+use Rattle.shard_core.specs.Fate.{Fate, waits, is_released, is_counted, fate, is_same_reason, released_dealt, dropped_dealt}
+use Rattle.policy_eval.specs.Given.{verdict_given, asked_given, are_answered, Asked}
 use Rattle.otlp_types.specs.declared.span.Ids.{Ids}
 use Rattle.otlp_types.specs.declared.arrival.Arrival.{Arrival}
 use Rattle.otlp_types.specs.declared.arrival.Item.{Item}
@@ -34,9 +35,9 @@ abbrev pub is_loss : Taken → Bool
 is_loss (Kept evicted (Some Lost)) = true
 is_loss _ = false
 
--- the item as the shard's answer marks it
+-- the item as the shard's answer marks it, with no decision answered yet
 abbrev pub entry : Item → Taken → Entry
-entry item answer = record { item = item; refused = is_refusal answer; lost = is_loss answer }
+entry item answer = record { item = item; refused = is_refusal answer; lost = is_loss answer; answers = [] }
 
 -- the answer to a late span, by the verdict that it meets
 abbrev pub answer_to_late : Arrival → Verdict → Taken
@@ -180,15 +181,6 @@ Releases (Release v) spans Sampled = v.items ≡ spans
 Releases (NotReleased n) spans NotSampled = n ≡ length spans
 Releases _ spans v = ⊥
 
--- what `decide` does, by the decisions that it has still to deal with
-abbrev pub DecidesFirst : (old new : Held) → Decided → Journal → (dealt : ℕ) → List Decision → Type 0
-DecidesFirst old new answer past dealt [] = (answer ≡ Nothing) × (new ≡ old)
-DecidesFirst old new answer past dealt (d ∷ later) = Releases answer d.spans d.verdict × StandsFor new past (dealt + 1)
-
--- what `decide` does to a shard that stands for a journal with so many decisions dealt with
-abbrev pub Decides : (old new : Held) → Decided → Journal → (dealt : ℕ) → Type 0
-Decides old new answer past dealt = DecidesFirst old new answer past dealt (drop dealt (decisions_now (settings old) past))
-
 -- the spans that a decision's answer hands over, in order
 abbrev pub released_in : Decided → List Arrival
 released_in (Release v) = v.items
@@ -203,3 +195,35 @@ dropped_in reason _ = 0
 abbrev pub dealt_after : Decided → (dealt : ℕ) → ℕ
 dealt_after Nothing dealt = dealt
 dealt_after _ dealt = dealt + 1
+
+-- the journal after this answer, where the limiter gave these to the decision
+abbrev pub journal_after : Decided → Journal → (answers : List Bool) → Journal
+journal_after Nothing past answers = past
+journal_after _ past answers = answered past answers
+
+-- What `decide` does to a shard and a limiter by these answers of the limiter, by the episodes that are still to be decided: nothing, where none is;
+-- else the first is decided on its spans as the policies say with these answers, and the limiter was asked just what they ask, in this second, for the number of its spans.
+abbrev pub DecidesFirst : {L : Type 0} → (asks : L → ℕ → ℕ → ℕ → Bool → L → Type 0) → (old new : Held) → Decided → (before after : L) → (answers : List Bool) → Journal → List Opening → Type 0
+DecidesFirst asks old new answer before after answers past [] = (answer ≡ Nothing) × (new ≡ old) × (after ≡ before)
+DecidesFirst asks old new answer before after answers past (o ∷ later) =
+    let policies = (settings old).policies in
+    let spans = spans_since past o in
+    Releases answer spans (verdict_given policies answers spans)
+    × (are_answered policies answers spans ≡ true)
+    × Asked asks (clock past / 1000) (length spans) (asked_given policies answers spans) answers before after
+
+-- what was released and counted by this answer
+abbrev pub AddsDecision : Settings → Decided → (answers : List Bool) → Journal → (dealt : ℕ) → Type 0
+AddsDecision s answer answers past dealt =
+    let later = journal_after answer past answers in
+    let n = dealt_after answer dealt in
+    (released_dealt s later n ≡ released_dealt s past dealt ++ released_in answer)
+    × ((reason : Reason) → dropped_dealt s later n reason ≡ dropped_dealt s past dealt reason + dropped_in reason answer)
+
+-- What `decide` does: there are answers of the limiter by which the first due episode is decided, whichever journal the shard stood for; it then stands for that
+-- journal with these answers and one more decision dealt with.
+abbrev pub Decides : {L : Type 0} → (asks : L → ℕ → ℕ → ℕ → Bool → L → Type 0) → (old new : Held) → Decided → (before after : L) → Type 0
+Decides asks old new answer before after = (answers : List Bool) × ((past : Journal) (dealt : ℕ) → StandsFor old past dealt →
+    DecidesFirst asks old new answer before after answers past (drop dealt (due_now (settings old) past))
+    × StandsFor new (journal_after answer past answers) (dealt_after answer dealt)
+    × AddsDecision (settings old) answer answers past dealt)

@@ -1,7 +1,10 @@
 ghost use Rattle.std.specs.Prelude.{◌≡◌, ◌⊎◌, ℕ, replicate, [], ◌∷◌, ◌++◌, ◌+◌, if◌then◌else◌, ◌<◌, ◌≤◌, max, Bool, IsTrue, IsSome, true, false, length, OnOk, IfOk, position, Some, None};
 ghost use Rattle.span_ids.specs.declared.outcome.Reason.{Reason};
 ghost use Rattle.span_ids.specs.Same.{same_trace};
-ghost use Rattle.shard_core.specs.Journal.{Journal};
+ghost use Rattle.shard_core.specs.Journal.{Journal, IsAnswered};
+ghost use Rattle.policy_tree.specs.Tree.{limiters};
+ghost use Rattle.policy_tree.specs.Meaning.{meaning};
+ghost use Rattle.policy_eval.specs.Meaning.{knows};
 ghost use Rattle.shard_core.specs.Fate.{effect, effect_dealt, output, released_dealt, dropped_dealt};
 ghost use Rattle.shard_core.specs.Taking.{Releases, answer_to_late};
 ghost use Rattle.shard_core.specs.Holding.{KeepsAs, leaves_forgotten};
@@ -11,7 +14,7 @@ use decision_cache::DecisionCache;
 use otlp_types::{Arrival, Ids, Item};
 use policy_eval::evaluate;
 use policy_tree::Policies;
-use rate_budget::Budgets;
+use rate_budget::Limiter;
 use span_ids::{Moment, Reason, Verdict};
 use std::alloc::{AllocError, Global};
 use std::marker::Model;
@@ -29,31 +32,27 @@ pub struct Shard {
     root_wait: Moment,
     buffer: TraceBuffer,
     cache: DecisionCache,
-    budgets: Budgets,
     clock: Moment,
     mark: Moment,
     ends: Vec<bool>,
 }
 
 impl Model for Shard {
-    ghost use Rattle.std.specs.Prelude.{◌<◌, ◌≡◌, map, true};
+    ghost use Rattle.std.specs.Prelude.{◌<◌, ◌≡◌, true};
     ghost use Rattle.shard_core.specs.Held.{Held, held_of};
-    ghost use Rattle.shard_core.specs.Forgotten.{traces, AreForgotten};
+    ghost use Rattle.shard_core.specs.Forgotten.{traces, have_spans, AreForgotten};
     ghost use Rattle.trace_buffer.specs.Buffer.{opened_by};
     ghost use Rattle.std.specs.Coded.{codes};
     ghost use Rattle.otlp_types.specs.contracts.value.AnyValue as any_value;
     ghost use Rattle.policy_tree.specs.contracts.policy.PolicyKind as kind;
-    ghost use Rattle.policy_tree.specs.Tree.{limiters};
-    ghost use Rattle.policy_tree.specs.Meaning.{meaning};
-    ghost use Rattle.rate_budget.specs.Budget.{limiter_of};
 
     ghost Value = { Held };
 
     ghost coded = { Prim.hlevel (codes, any_value.the_row.coded, kind.the_row.coded) };
 
-    ghost view = { λ s. held_of s.policies s.wait s.root_wait s.buffer s.cache s.budgets s.clock s.mark s.ends.items };
+    ghost view = { λ s. held_of s.policies s.wait s.root_wait s.buffer s.cache s.clock s.mark s.ends.items };
 
-    ghost invariant = { λ s. (0 < s.wait) × (0 < s.buffer.limit) × (map limiter_of s.budgets ≡ limiters (meaning s.policies)) × (opened_by s.clock s.buffer.episodes ≡ true) × AreForgotten (traces s.buffer.episodes) s.cache };
+    ghost invariant = { λ s. (0 < s.wait) × (0 < s.buffer.limit) × (have_spans s.buffer.episodes ≡ true) × (opened_by s.clock s.buffer.episodes ≡ true) × AreForgotten (traces s.buffer.episodes) s.cache };
 }
 
 impl Shard {
@@ -85,14 +84,12 @@ impl Shard {
         ensures running { IfOk result (λ shard. is_finished shard ≡ false) }
         ensures ends { IfOk result (λ shard. shard.standing.ends ≡ replicate senders false) }
     {
-        let budgets = Budgets::new(alloc, &policies)?;
         Ok(Shard {
             policies,
             wait,
             root_wait,
             buffer: TraceBuffer::new(alloc, limit)?,
             cache: DecisionCache::new(alloc, sampled, non_sampled)?,
-            budgets,
             clock: 0,
             mark: 0,
             ends: vec![in alloc; false; senders]?,
@@ -214,13 +211,17 @@ impl Shard {
         self.buffer.search(mark, wait, root_wait);
     }
 
-    /// Decides the due trace that was opened first. It takes no memory.
-    pub fn decide(&mut self) -> Decided
-        ensures decides { (past : Journal) (dealt : ℕ) → StandsFor self.old past dealt → Decides self.old self.new result past dealt }
-        ensures stands { (past : Journal) (dealt : ℕ) → StandsFor self.old past dealt → StandsFor self.new past (dealt_after result dealt) }
-        ensures released { (past : Journal) (dealt : ℕ) → StandsFor self.old past dealt → released_dealt (settings self.old) past (dealt_after result dealt) ≡ released_dealt (settings self.old) past dealt ++ released_in result }
-        ensures dropped { (past : Journal) (dealt : ℕ) (reason : Reason) → StandsFor self.old past dealt → dropped_dealt (settings self.old) past (dealt_after result dealt) reason ≡ dropped_dealt (settings self.old) past dealt reason + dropped_in reason result }
+    /// Decides the due trace that was opened first. It takes no memory; it waits only where the limiter does.
+    ///
+    /// The limiter is one of the policies' limiter nodes, and is asked just what they ask for the trace's spans. Where no
+    /// trace is due it isn't asked.
+    pub fn decide<L: Limiter>(&mut self, limiter: &mut L) -> Decided
+        requires nodes { knows (L.has_node limiter.old) (limiters (meaning self.old.policies)) ≡ true }
+        ensures decides { Decides L.asks self.old self.new result limiter.old limiter.new }
+        ensures unchanged { result ≡ Decided.Nothing → (self.new ≡ self.old) × (limiter.new ≡ limiter.old) }
+        ensures keeps { (node : ℕ) → L.has_node limiter.new node ≡ L.has_node limiter.old node }
         ensures all_dealt { result ≡ Decided.Nothing → (past : Journal) (dealt : ℕ) → StandsFor self.old past dealt → effect_dealt (settings self.old) past dealt ≡ effect (settings self.old) past }
+        ensures answered { result ≡ Decided.Nothing → (past : Journal) (dealt : ℕ) → StandsFor self.old past dealt → IsAnswered (settings self.old) past }
         ensures output { result ≡ Decided.Nothing → (past : Journal) (dealt : ℕ) → StandsFor self.old past dealt → released_dealt (settings self.old) past dealt ≡ output (settings self.old) past }
         ensures nothing { result ≡ Decided.Nothing → has_due self.new ≡ false }
         ensures fewer { (result ≡ Decided.Nothing) ⊎ (waiting self.new < waiting self.old) }
@@ -235,7 +236,7 @@ impl Shard {
         let Some(episode) = self.buffer.next_due(mark, wait, root_wait) else {
             return Decided::Nothing;
         };
-        let verdict = evaluate(&self.policies, episode.spans(), now, &mut self.budgets);
+        let verdict = evaluate(&self.policies, episode.spans(), now, limiter);
         let spans = self.buffer.settle(mark, wait, root_wait, verdict);
         decided(verdict, spans)
     }

@@ -13,7 +13,7 @@ use Rattle.otlp_types.specs.declared.span.Ids.{Ids}
 use Rattle.span_ids.specs.declared.ids.TraceId.{TraceId}
 use Rattle.span_ids.specs.declared.outcome.Verdict.{Verdict}
 use Rattle.span_ids.specs.declared.outcome.Reason.TheVariants.{Evicted}
-use Rattle.shard_journal.specs.Ledger.{without_spans, short_notes}
+use Rattle.shard_journal.specs.Short.{without_spans, short_notes}
 
 decided_in : (at : ℕ) (ds : List Decision) → option_map (λ (d : Decision). d.verdict) (find (λ (d : Decision). d.opening.at == at) (map without_spans ds)) ≡ option_map (λ (d : Decision). d.verdict) (find (λ (d : Decision). d.opening.at == at) ds)
 decided_in at [] = refl

@@ -1,5 +1,6 @@
 pub mod Settings
 pub mod Touched
 pub mod Found
-pub mod Ledger
+pub mod Short
+pub mod Answered
 pub mod Look

@@ -1,20 +1,21 @@
 //! What a journal says, for those who hold it.
-ghost use Rattle.std.specs.Prelude.{◌≡◌, ◌∷◌, [], map, reverse, length, slice_get, option_map, IfOk};
-ghost use Rattle.shard_core.specs.Journal.{due_now, decisions_now, leaving};
-ghost use Rattle.shard_core.specs.Fate.{no_effect, counts, effect_of_verdict, effect_of_leaving, effect_of_span, effect_of_finding, effect_of_taking, effect_of_decision};
+ghost use Rattle.std.specs.Prelude.{◌≡◌, ◌∷◌, [], map, reverse, length, IfOk};
+ghost use Rattle.shard_core.specs.Journal.{due_now, leaving, spans_since};
+ghost use Rattle.shard_core.specs.Fate.{no_effect, counts, effect_of_verdict, effect_of_leaving, effect_of_span, effect_of_finding, effect_of_taking};
+ghost use Rattle.shard_journal.specs.Answered.{effect_answered, effect_answered_at};
 ghost use Rattle.shard_core.specs.Taking.{refusal_applies, cache_is_on, loss_applies, marks_apply_to};
 ghost use Rattle.shard_journal.specs.Settings.{settings_of};
 ghost use Rattle.shard_journal.specs.Found.{the_finding};
 
-use crate::deciding::{decide, decide_each};
 use crate::due::due_at;
 use crate::entry::{DroppedSpan, Effect, Entry};
 use crate::finding::{Found, cache_size, finding};
-use crate::noted::{Notes, leaving};
-use crate::noting::ledger_of;
+use crate::noted::{Notes, Opening, leaving};
+use crate::noting::notes_of;
 use crate::settings::Settings;
 use crate::spans::spans_since;
-use otlp_types::{Arrival, Ids, Item, TryClone};
+use otlp_types::{Arrival, Item, List, TryClone};
+use policy_eval::judge;
 use span_ids::{Reason, Verdict};
 use std::alloc::{AllocError, Global};
 
@@ -25,9 +26,40 @@ pub fn due_count(alloc: Global, settings: &Settings, journal: &[Entry]) -> Resul
     let Some((entry, before)) = journal.split_last() else {
         return Ok(0);
     };
-    let ledger = ledger_of(alloc, settings, before)?;
-    let due = due_at(alloc, settings, journal, entry, before, &ledger.noted)?;
+    let noted = notes_of(alloc, settings, before)?;
+    let due = due_at(alloc, settings, journal, entry, before, &noted)?;
     Ok(due.len())
+}
+
+/// The spans of each episode that is due at the journal's last item, in order of opening.
+pub fn due_spans(
+    alloc: Global,
+    settings: &Settings,
+    journal: &[Entry],
+) -> Result<Vec<List<Arrival>>, AllocError>
+    ensures { IfOk result (λ spans. spans.items ≡ map (spans_since (reverse journal.now)) (due_now (settings_of settings.now) (reverse journal.now))) }
+{
+    let Some((entry, before)) = journal.split_last() else {
+        return Ok(Vec::new(alloc));
+    };
+    let noted = notes_of(alloc, settings, before)?;
+    let due = due_at(alloc, settings, journal, entry, before, &noted)?;
+    spans_of_each(alloc, journal, due.as_slice())
+}
+
+/// The spans of each of these openings' episodes.
+fn spans_of_each(
+    alloc: Global,
+    journal: &[Entry],
+    openings: &[Opening],
+) -> Result<Vec<List<Arrival>>, AllocError>
+    ensures { IfOk result (λ spans. spans.items ≡ map (spans_since (reverse journal.now)) openings.now) }
+{
+    let mut spans = Vec::new(alloc);
+    for opening in openings {
+        spans.push(List::from_vec(spans_since(alloc, journal, opening)?))?;
+    }
+    Ok(spans)
 }
 
 /// Whether these marks can apply to a span that finds this.
@@ -103,9 +135,9 @@ fn effect_of_span(
         let spans = one_span(alloc, arrival)?;
         return counted(alloc, Reason::NoMemory, spans.as_slice());
     }
-    let ledger = ledger_of(alloc, settings, before)?;
-    let found = finding(settings, &ledger.noted, ids.trace);
-    effect_of_finding(alloc, settings, before, &ledger.noted, arrival, found)
+    let noted = notes_of(alloc, settings, before)?;
+    let found = finding(settings, &noted, ids.trace);
+    effect_of_finding(alloc, settings, before, &noted, arrival, found)
 }
 
 fn effect_of_finding(
@@ -149,26 +181,43 @@ fn effect_of_leaving(
     }
 }
 
-/// What the decision at this place does, of the decisions at the journal's last item in order of opening.
+/// What the decision at this place does by these answers of the limiter, of the decisions at the journal's last item in
+/// order of opening. `None` where no episode is due at that place, or the number of answers isn't that of the askings.
 pub fn decision_at(
     alloc: Global,
     settings: &Settings,
     journal: &[Entry],
     place: usize,
+    answers: &[bool],
 ) -> Result<Option<Effect>, AllocError>
-    ensures { IfOk result (λ effect. effect ≡ option_map effect_of_decision (slice_get (decisions_now (settings_of settings.now) (reverse journal.now)) place)) }
+    ensures { IfOk result (λ effect. effect ≡ effect_answered_at (settings_of settings.now) (reverse journal.now) place answers.now) }
 {
     let Some((entry, before)) = journal.split_last() else {
         return Ok(None);
     };
-    let mut ledger = ledger_of(alloc, settings, before)?;
-    let due = due_at(alloc, settings, journal, entry, before, &ledger.noted)?;
+    let noted = notes_of(alloc, settings, before)?;
+    let due = due_at(alloc, settings, journal, entry, before, &noted)?;
     if place >= due.len() {
         return Ok(None);
     }
-    decide_each(alloc, settings, journal, &due[..place], &mut ledger)?;
-    let decided = decide(alloc, settings, journal, &due[place], &mut ledger)?;
-    let effect = effect_of_verdict(alloc, Reason::NotSampled, decided.spans, decided.verdict)?;
+    effect_answered(alloc, settings, journal, answers, &due[place])
+}
+
+/// What the decision of this episode at the journal's end does by these answers, where there is one for each asking.
+fn effect_answered(
+    alloc: Global,
+    settings: &Settings,
+    journal: &[Entry],
+    answers: &[bool],
+    opening: &Opening,
+) -> Result<Option<Effect>, AllocError>
+    ensures { IfOk result (λ effect. effect ≡ effect_answered (settings_of settings.now) (reverse journal.now) answers.now opening.now) }
+{
+    let spans = spans_since(alloc, journal, opening)?;
+    let Some(verdict) = judge(&settings.policies, spans.as_slice(), answers) else {
+        return Ok(None);
+    };
+    let effect = effect_of_verdict(alloc, Reason::NotSampled, spans, verdict)?;
     Ok(Some(effect))
 }
 

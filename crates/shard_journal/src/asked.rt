@@ -6,7 +6,7 @@ ghost use Rattle.shard_journal.specs.Found.{kind_of};
 
 use crate::entry::Entry;
 use crate::finding::{Found, finding};
-use crate::noting::ledger_of;
+use crate::noting::notes_of;
 use crate::settings::Settings;
 use span_ids::{TraceId, Verdict};
 use std::alloc::{AllocError, Global};
@@ -31,8 +31,8 @@ pub fn finding_of(
 ) -> Result<Finding, AllocError>
     ensures { IfOk result (λ found. found ≡ kind_of (finding (settings_of settings.now) (notes (settings_of settings.now) (reverse journal.now)) trace)) }
 {
-    let ledger = ledger_of(alloc, settings, journal)?;
-    match finding(settings, &ledger.noted, trace) {
+    let noted = notes_of(alloc, settings, journal)?;
+    match finding(settings, &noted, trace) {
         Found::Joins(_) => Ok(Finding::Joins),
         Found::Meets(_, verdict) => Ok(Finding::Meets(verdict)),
         Found::Opens => Ok(Finding::Opens),

@@ -1,8 +1,8 @@
-use otlp_types::{Arrival, Item};
+use otlp_types::{Arrival, Item, List};
 use span_ids::{ArrivalKey, Reason};
 use std::marker::Model;
 
-/// An item that a shard took, with its marks.
+/// An item that a shard took, with its marks, and the limiter's answers to the decisions at it.
 #[derive(Debug, Drop)]
 pub struct Entry {
     pub item: Item,
@@ -10,6 +10,8 @@ pub struct Entry {
     pub refused: bool,
     /// Memory was refused to the put of the decision that its opening evicted.
     pub lost: bool,
+    /// For each decision at the item, in order, the answers to its askings, in the order in which the policies ask.
+    pub answers: Vec<List<bool>>,
 }
 
 impl Model for Entry {
@@ -21,7 +23,7 @@ impl Model for Entry {
 
     ghost coded = { Prim.hlevel (codes, any_value.the_row.coded) };
 
-    ghost view = { λ e. record { item = e.item; refused = e.refused; lost = e.lost } };
+    ghost view = { λ e. record { item = e.item; refused = e.refused; lost = e.lost; answers = e.answers.items } };
 }
 
 /// A span counted under a reason, by its key.

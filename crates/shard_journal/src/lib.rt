@@ -11,7 +11,6 @@ mod deciding;
 mod due;
 mod entry;
 mod finding;
-mod ledger;
 mod looking;
 mod moments;
 mod noted;

@@ -1,24 +1,28 @@
 //! What looking back over a journal finds, kept so that questions about it take no memory.
-ghost use Rattle.std.specs.Prelude.{◌≡◌, reverse, IfOk};
+ghost use Rattle.std.specs.Prelude.{◌≡◌, reverse, is_some, IfOk};
 ghost use Rattle.shard_core.specs.Journal.{Journal};
 ghost use Rattle.shard_core.specs.Taking.{marks_apply_to_ids};
 ghost use Rattle.shard_journal.specs.Settings.{settings_of};
 ghost use Rattle.shard_journal.specs.Look.{look_of};
+ghost use Rattle.shard_journal.specs.Answered.{effect_answered_at};
 
-use crate::answers::{due_count, marks_apply_to};
+use crate::answers::{due_count, due_spans, marks_apply_to};
 use crate::entry::Entry;
 use crate::finding::finding;
 use crate::noted::Notes;
-use crate::noting::ledger_of;
+use crate::noting::notes_of;
 use crate::settings::Settings;
-use otlp_types::Ids;
+use otlp_types::{Arrival, Ids, List};
+use policy_eval::judge;
 use std::alloc::{AllocError, Global};
 use std::marker::Model;
 
-/// What looking back over a journal found: how many episodes are due at its last item, and what is noted of it.
+/// What looking back over a journal found: how many episodes are due at its last item, the spans of each, and what is
+/// noted of it.
 #[derive(Debug, Drop)]
 pub struct LookBack {
     due: usize,
+    spans: Vec<List<Arrival>>,
     noted: Notes,
 }
 
@@ -31,7 +35,7 @@ impl Model for LookBack {
 
     ghost coded = { Prim.hlevel (codes, any_value.the_row.coded) };
 
-    ghost view = { λ l. record { due = l.due; noted = l.noted } };
+    ghost view = { λ l. record { due = l.due; spans = l.spans.items; noted = l.noted } };
 }
 
 impl LookBack {
@@ -44,11 +48,9 @@ impl LookBack {
         ensures { IfOk result (λ look. look ≡ look_of (settings_of settings.now) (reverse journal.now)) }
     {
         let due = due_count(alloc, settings, journal)?;
-        let ledger = ledger_of(alloc, settings, journal)?;
-        Ok(LookBack {
-            due,
-            noted: ledger.noted,
-        })
+        let spans = due_spans(alloc, settings, journal)?;
+        let noted = notes_of(alloc, settings, journal)?;
+        Ok(LookBack { due, spans, noted })
     }
 
     /// How many episodes are due at the journal's last item.
@@ -56,6 +58,18 @@ impl LookBack {
         ensures { result ≡ self.now.due }
     {
         self.due
+    }
+
+    /// Whether an episode is due at this place, of those due at the journal's last item in order of opening, and its
+    /// decision has as many askings as there are answers.
+    pub fn is_answered(&self, settings: &Settings, place: usize, answers: &[bool]) -> bool
+        ensures { (past : Journal) → self.now ≡ look_of (settings_of settings.now) past → result ≡ is_some (effect_answered_at (settings_of settings.now) past place answers.now) }
+    {
+        if place < self.spans.len() {
+            judge(&settings.policies, self.spans[place].as_slice(), answers).is_some()
+        } else {
+            false
+        }
     }
 
     /// Whether these marks can apply to a span with these ids that is taken after the journal: memory is refused at most

@@ -60,7 +60,7 @@ impl Opening {
     }
 }
 
-/// The decision of an episode. Its spans and what the limiter was asked are left out.
+/// The decision of an episode. Its spans are left out.
 #[derive(Clone, Copy, Debug)]
 pub struct Decision {
     opening: Opening,
@@ -77,7 +77,7 @@ impl Model for Decision {
 
     ghost coded = { Prim.hlevel (codes, any_value.the_row.coded) };
 
-    ghost view = { λ d. record { opening = d.opening; spans = []; askings = []; verdict = d.verdict } };
+    ghost view = { λ d. record { opening = d.opening; spans = []; verdict = d.verdict } };
 
     ghost inverse = { λ d. record { opening = d.opening; verdict = d.verdict } };
 }
@@ -86,7 +86,7 @@ impl Decision {
     ghost use Rattle.std.specs.Prelude.{[]};
 
     pub fn new(opening: Opening, verdict: Verdict) -> Decision
-        ensures { result ≡ record { opening = opening; spans = []; askings = []; verdict = verdict } }
+        ensures { result ≡ record { opening = opening; spans = []; verdict = verdict } }
     {
         Decision { opening, verdict }
     }

@@ -2,40 +2,31 @@
 ghost use Rattle.std.specs.Prelude.{◌≡◌, ◌∷◌, reverse, IfOk, OnOk, option_to_list};
 ghost use Rattle.shard_core.specs.Journal.{opens, finding, leaving, touch_of_leaving, after_finding, after_item, notes};
 ghost use Rattle.shard_journal.specs.Settings.{settings_of};
-ghost use Rattle.shard_journal.specs.Ledger.{ledger_of};
+ghost use Rattle.shard_journal.specs.Short.{short_notes};
 
 use crate::deciding::decide_each;
 use crate::due::due_at;
 use crate::entry::Entry;
 use crate::finding::{Found, finding, is_in_buffer};
-use crate::ledger::Ledger;
 use crate::moments::clock;
 use crate::noted::{Notes, Opening, Touch, leaving};
 use crate::settings::Settings;
 use otlp_types::Item;
-use rate_budget::Budgets;
 use span_ids::{Moment, TraceId};
 use std::alloc::{AllocError, Global};
 
-/// What is noted of a journal, each due episode decided.
+/// What is noted of a journal, each due episode decided by the answers that stand with the item.
 #[tactic(auto, using(crate::proofs::Newest::newest_more))]
-pub fn ledger_of(
-    alloc: Global,
-    settings: &Settings,
-    journal: &[Entry],
-) -> Result<Ledger, AllocError>
-    ensures { IfOk result (λ ledger. ledger ≡ ledger_of (settings_of settings.now) (notes (settings_of settings.now) (reverse journal.now))) }
+pub fn notes_of(alloc: Global, settings: &Settings, journal: &[Entry]) -> Result<Notes, AllocError>
+    ensures { IfOk result (λ noted. noted ≡ short_notes (notes (settings_of settings.now) (reverse journal.now))) }
 {
-    let mut ledger = Ledger {
-        noted: Notes::new(alloc),
-        budgets: Budgets::new(alloc, &settings.policies)?,
-    };
+    let mut noted = Notes::new(alloc);
     for at in 0..journal.len() {
         let past = &journal[..at + 1];
         let before = &journal[..at];
-        note_entry(alloc, settings, past, &journal[at], before, &mut ledger)?;
+        note_entry(alloc, settings, past, &journal[at], before, &mut noted)?;
     }
-    Ok(ledger)
+    Ok(noted)
 }
 
 /// Notes an entry, and decides what is due at it: `past` is `before` and that entry.
@@ -45,15 +36,22 @@ fn note_entry(
     past: &[Entry],
     entry: &Entry,
     before: &[Entry],
-    ledger: &mut Ledger,
+    noted: &mut Notes,
 ) -> Result<(), AllocError>
     requires past { reverse past.now ≡ entry.now ∷ reverse before.now }
-    requires noted { ledger.old ≡ ledger_of (settings_of settings.now) (notes (settings_of settings.now) (reverse before.now)) }
-    ensures { OnOk result (ledger.new ≡ ledger_of (settings_of settings.now) (notes (settings_of settings.now) (reverse past.now))) }
+    requires noted { noted.old ≡ short_notes (notes (settings_of settings.now) (reverse before.now)) }
+    ensures { OnOk result (noted.new ≡ short_notes (notes (settings_of settings.now) (reverse past.now))) }
 {
-    let due = due_at(alloc, settings, past, entry, before, &ledger.noted)?;
-    note_item(settings, past, entry, before, &mut ledger.noted)?;
-    decide_each(alloc, settings, past, due.as_slice(), ledger)
+    let due = due_at(alloc, settings, past, entry, before, noted)?;
+    note_item(settings, past, entry, before, noted)?;
+    decide_each(
+        alloc,
+        settings,
+        past,
+        due.as_slice(),
+        entry.answers.as_slice(),
+        noted,
+    )
 }
 
 /// Notes an entry, before any decision.

@@ -14,12 +14,13 @@ use Rattle.drop_ledger.proofs.Gains.{tallies_none}
 use Rattle.lane_queue.specs.Ends.{EndState, ReceiverState, with_item, TakesAt}
 use Rattle.lane_queue.specs.Merges.{IsMergeOf}
 use Rattle.lane_queue.proofs.Merging.{merge_more}
-use Rattle.shard_core.specs.Journal.{Entry, Settings, Journal, has_ended, have_ended}
+use Rattle.shard_core.specs.Journal.{Entry, Settings, Journal, has_ended, have_ended, IsAnswered}
 use Rattle.shard_core.specs.Fate.{Effect, effect, effect_dealt, under}
 use Rattle.shard_core.specs.Held.{Held, settings, StandsFor, is_finished}
 use Rattle.shard_core.specs.Standing.{Standing, ends}
 use Rattle.shard_core.specs.Taking.{has_ids, marks_apply}
 use Rattle.shard_core.specs.Marked.{MarksApply}
+use Rattle.shard_worker.specs.Asking.{AskedBy}
 use Rattle.shard_worker.specs.Work.{shipments, items, with_ids, journal_of, counted_in, Works}
 use Rattle.shard_worker.specs.Turns.{counted_dealt, HasDone, TakesItem}
 
@@ -51,39 +52,39 @@ merged_more n place item old new popped e is takes merge =
     subst (λ l. IsMergeOf new l) (sym (items_more popped place e ∙ ap (λ i. items popped ++ (place, i) ∷ []) is)) (merge_more n place item old new (items popped) takes merge)
 
 -- what the loop keeps of what was popped
-abbrev pub Kept : Settings → List (EndState Item) → TallyState → Held → List Shipment → TallyState → List (ℕ × Entry) → Type 0
-Kept s ends before shard shipped tally popped = IsMergeOf ends (items popped) × MarksApply s (journal_of popped) × HasDone before shard shipped tally (journal_of popped)
+abbrev pub Kept : {L : Type 0} → (asks : L → ℕ → ℕ → ℕ → Bool → L → Type 0) → (first : L) → Settings → List (EndState Item) → TallyState → Held → List Shipment → TallyState → L → List (ℕ × Entry) → Type 0
+Kept asks first s ends before shard shipped tally limiter popped = IsMergeOf ends (items popped) × MarksApply s (journal_of popped) × HasDone asks first before shard shipped tally limiter (journal_of popped)
 
 abbrev pub unmarked : Item → Entry
-unmarked item = record { item = item; refused = false; lost = false }
+unmarked item = record { item = item; refused = false; lost = false; answers = [] }
 
 -- a span without valid ids was popped
-pub kept_skipping : (n place : ℕ) (item : Item) (s : Settings) (old new : List (EndState Item)) (before : TallyState) (shard : Held) (shipped : List Shipment) (tally : TallyState) (popped : List (ℕ × Entry))
-    → has_ids item ≡ false → TakesAt n place item old new → Kept s old before shard shipped tally popped → Kept s new before shard shipped tally (popped ++ (place, unmarked item) ∷ [])
-kept_skipping n place item s old new before shard shipped tally popped none takes kept =
+pub kept_skipping : {L : Type 0} (asks : L → ℕ → ℕ → ℕ → Bool → L → Type 0) (first : L) (n place : ℕ) (item : Item) (s : Settings) (old new : List (EndState Item)) (before : TallyState) (shard : Held) (shipped : List Shipment) (tally : TallyState) (limiter : L) (popped : List (ℕ × Entry))
+    → has_ids item ≡ false → TakesAt n place item old new → Kept asks first s old before shard shipped tally limiter popped → Kept asks first s new before shard shipped tally limiter (popped ++ (place, unmarked item) ∷ [])
+kept_skipping asks first n place item s old new before shard shipped tally limiter popped none takes kept =
     let same = journal_one popped place (unmarked item) false none in (
       merged_more n place item old new popped (unmarked item) refl takes kept.0,
       subst (λ J. MarksApply s J) (sym same) kept.1,
-      subst (λ J. HasDone before shard shipped tally J) (sym same) kept.2,
+      subst (λ J. HasDone asks first before shard shipped tally limiter J) (sym same) kept.2,
     )
 
 -- an item was popped and taken
-pub kept_taking : (n place : ℕ) (item : Item) (s : Settings) (old new : List (EndState Item)) (before : TallyState) (shard : Held) (shipped : List Shipment) (tally : TallyState) (popped : List (ℕ × Entry))
+pub kept_taking : {L : Type 0} (asks : L → ℕ → ℕ → ℕ → Bool → L → Type 0) (first : L) (n place : ℕ) (item : Item) (s : Settings) (old new : List (EndState Item)) (before : TallyState) (shard : Held) (shipped : List Shipment) (tally : TallyState) (limiter : L) (popped : List (ℕ × Entry))
     → settings shard ≡ s → has_ids item ≡ true → TakesAt n place item old new → IsMergeOf old (items popped) → MarksApply s (journal_of popped)
-    → (t : TakesItem before shard shipped tally item (journal_of popped)) → Kept s new before shard shipped tally (popped ++ (place, t.taken) ∷ [])
-kept_taking n place item s old new before shard shipped tally popped is some takes merge marks t =
+    → (t : TakesItem asks first before shard shipped tally limiter item (journal_of popped)) → Kept asks first s new before shard shipped tally limiter (popped ++ (place, t.taken) ∷ [])
+kept_taking asks first n place item s old new before shard shipped tally limiter popped is some takes merge marks t =
     let same = journal_one popped place t.taken true (ap has_ids t.item_is ∙ some) in (
       merged_more n place item old new popped t.taken t.item_is takes merge,
       subst (λ J. MarksApply s J) (sym same) (subst (λ z. marks_apply z t.taken (journal_of popped) ≡ true) is t.marked, marks),
-      subst (λ J. HasDone before shard shipped tally J) (sym same) t.done,
+      subst (λ J. HasDone asks first before shard shipped tally limiter J) (sym same) t.done,
     )
 
 -- nothing was popped
-pub kept_none : (s : Settings) (ends : List (EndState Item)) (shard : Held) (shipped : List Shipment) (tally : TallyState) → IsMergeOf ends [] → StandsFor shard [] 0 → shipped ≡ [] → Kept s ends tally shard shipped tally []
-kept_none s ends shard shipped tally merge stands none = (
+pub kept_none : {L : Type 0} (asks : L → ℕ → ℕ → ℕ → Bool → L → Type 0) (first : L) (s : Settings) (ends : List (EndState Item)) (shard : Held) (shipped : List Shipment) (tally : TallyState) → IsMergeOf ends [] → StandsFor shard [] 0 → shipped ≡ [] → Kept asks first s ends tally shard shipped tally first []
+kept_none asks first s ends shard shipped tally merge stands none = (
   merge,
   tt,
-  record { dealt = 0; all_dealt = refl; at = record { stands = stands; shipped_is = none; counted = tallies_none (counted_dealt (settings shard) [] 0) tally nothing } },
+  record { dealt = 0; all_dealt = refl; answered = tt; at = record { stands = stands; shipped_is = none; counted = tallies_none (counted_dealt (settings shard) [] 0) tally nothing; asked = refl } },
 ) where
   nothing : (count : Count) → counted_dealt (settings shard) [] 0 count ≡ 0
   nothing Received = refl
@@ -108,10 +109,10 @@ all_ended past zero = refl
 all_ended past (suc n) = list_all-append (λ b. b) (ends past n) (has_ended past n ∷ []) ∙ ap (λ a. a && (has_ended past n && true)) (all_ended past n) ∙ both_sides (have_ended past n) (has_ended past n)
 
 -- the last End was taken
-pub works : (number : ℕ) (s : Settings) (shard : Held) (receiver : ReceiverState Item) (items_shipped : List Shipment) (sender : EndState Shipment) (before tally : TallyState) (popped : List (ℕ × Entry))
-    → settings shard ≡ s → is_finished shard ≡ true → sender.items ≡ items_shipped ++ End number ∷ [] → Kept s receiver.ends before shard items_shipped tally popped
-    → Works number s shard receiver sender before tally popped
-works number s shard receiver items_shipped sender before tally popped is finished shipped kept =
+pub works : {L : Type 0} (asks : L → ℕ → ℕ → ℕ → Bool → L → Type 0) (first : L) (number : ℕ) (s : Settings) (shard : Held) (receiver : ReceiverState Item) (items_shipped : List Shipment) (sender : EndState Shipment) (before tally : TallyState) (limiter : L) (popped : List (ℕ × Entry))
+    → settings shard ≡ s → is_finished shard ≡ true → sender.items ≡ items_shipped ++ End number ∷ [] → Kept asks first s receiver.ends before shard items_shipped tally limiter popped
+    → Works asks number s shard receiver sender before tally first limiter popped
+works asks first number s shard receiver items_shipped sender before tally limiter popped is finished shipped kept =
     let J = journal_of popped in
     let done = kept.2 in
     let same : effect_dealt s J done.dealt ≡ effect s J = subst (λ z. effect_dealt z J done.dealt ≡ effect z J) is done.all_dealt in
@@ -121,6 +122,8 @@ works number s shard receiver items_shipped sender before tally popped is finish
       dealt = done.dealt;
       stands = done.at.stands;
       marked = kept.1;
+      answered = subst (λ z. IsAnswered z J) is done.answered;
+      asked = subst (λ z. AskedBy asks z J first limiter) is done.at.asked;
       shipped = shipped ∙ ap (λ l. l ++ End number ∷ []) (done.at.shipped_is ∙ ap (λ z. shipments (effect_dealt z J done.dealt).released) is ∙ ap (λ (e : Effect). shipments e.released) same);
       counted = λ some. let h = subst (λ z. Tallies (counted_dealt z J done.dealt) before tally) is done.at.counted some in (h.0, (h.1.0, h.1.1, λ count. h.1.2 count ∙ counts count));
     } where
@@ -130,10 +133,10 @@ works number s shard receiver items_shipped sender before tally popped is finish
       counts (Dropped reason) = ap (λ (e : Effect). length (under reason e.counted)) (subst (λ z. effect_dealt z (journal_of popped) kept.2.dealt ≡ effect z (journal_of popped)) is kept.2.all_dealt)
 
 -- the same of the values that were given back
-pub works_ended : (number turns_number : ℕ) (s : Settings) (shard shard' : Held) (receiver receiver' : ReceiverState Item) (sender sender' : EndState Shipment) (before tally tally' : TallyState) (popped : List (ℕ × Entry))
-    → settings shard ≡ s → is_finished shard ≡ true → turns_number ≡ number → sender' ≡ with_item sender (End turns_number) → shard' ≡ shard → receiver' ≡ receiver → tally' ≡ tally
-    → Kept s receiver.ends before shard sender.items tally popped → Works number s shard' receiver' sender' before tally' popped
-works_ended number turns_number s shard shard' receiver receiver' sender sender' before tally tally' popped is finished numbers shipped same_shard same_receiver same_tally kept =
-    let P : Held → ReceiverState Item → TallyState → Type 0 = λ h r t. Works number s h r sender' before t popped in
-    let here = works number s shard receiver sender.items sender' before tally popped is finished (ap (λ (e : EndState Shipment). e.items) shipped ∙ ap (λ n. sender.items ++ End n ∷ []) numbers) kept in
-    subst (λ h. P h receiver' tally') (sym same_shard) (subst (λ r. P shard r tally') (sym same_receiver) (subst (λ t. P shard receiver t) (sym same_tally) here))
+pub works_ended : {L : Type 0} (asks : L → ℕ → ℕ → ℕ → Bool → L → Type 0) (first : L) (number turns_number : ℕ) (s : Settings) (shard shard' : Held) (receiver receiver' : ReceiverState Item) (sender sender' : EndState Shipment) (before tally tally' : TallyState) (limiter limiter' : L) (popped : List (ℕ × Entry))
+    → settings shard ≡ s → is_finished shard ≡ true → turns_number ≡ number → sender' ≡ with_item sender (End turns_number) → shard' ≡ shard → limiter' ≡ limiter → receiver' ≡ receiver → tally' ≡ tally
+    → Kept asks first s receiver.ends before shard sender.items tally limiter popped → Works asks number s shard' receiver' sender' before tally' first limiter' popped
+works_ended {L} asks first number turns_number s shard shard' receiver receiver' sender sender' before tally tally' limiter limiter' popped is finished numbers shipped same_shard same_limiter same_receiver same_tally kept =
+    let P : Held → ReceiverState Item → TallyState → L → Type 0 = λ h r t l. Works asks number s h r sender' before t first l popped in
+    let here = works asks first number s shard receiver sender.items sender' before tally limiter popped is finished (ap (λ (e : EndState Shipment). e.items) shipped ∙ ap (λ n. sender.items ++ End n ∷ []) numbers) kept in
+    subst (λ h. P h receiver' tally' limiter') (sym same_shard) (subst (λ r. P shard r tally' limiter') (sym same_receiver) (subst (λ t. P shard receiver t limiter') (sym same_tally) (subst (λ l. P shard receiver tally l) (sym same_limiter) here)))

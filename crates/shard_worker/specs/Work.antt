@@ -1,5 +1,5 @@
 -- What a shard's thread did.
-use Rattle.std.specs.Prelude.{◌≡◌, ℕ, true, List, [], ◌∷◌, ◌++◌, map, filter, reverse, length}
+use Rattle.std.specs.Prelude.{◌≡◌, ℕ, Bool, true, List, [], ◌∷◌, ◌++◌, map, filter, reverse, length}
 use Rattle.otlp_types.specs.declared.arrival.Arrival.{Arrival}
 use Rattle.otlp_types.specs.declared.arrival.Item.{Item}
 use Rattle.otlp_types.specs.declared.arrival.Shipment.{Shipment}
@@ -9,11 +9,12 @@ use Rattle.drop_ledger.specs.declared.count.Count.TheVariants.{Received, Handed,
 use Rattle.drop_ledger.specs.Places.{TallyState, Tallies}
 use Rattle.lane_queue.specs.Ends.{EndState, ReceiverState}
 use Rattle.lane_queue.specs.Merges.{IsMergeOf}
-use Rattle.shard_core.specs.Journal.{Entry, Settings, Journal, have_ended}
+use Rattle.shard_core.specs.Journal.{Entry, Settings, Journal, have_ended, IsAnswered}
 use Rattle.shard_core.specs.Fate.{effect, output, under}
 use Rattle.shard_core.specs.Held.{Held, StandsFor}
 use Rattle.shard_core.specs.Marked.{MarksApply}
 use Rattle.shard_core.specs.Taking.{has_ids}
+use Rattle.shard_worker.specs.Asking.{AskedBy}
 
 -- the spans, as the exporter takes them
 abbrev pub shipments : List Arrival → List Shipment
@@ -37,8 +38,9 @@ counted_in s past Received = 0
 counted_in s past Handed = 0
 counted_in s past (Dropped reason) = length (under reason (effect s past).counted)
 
--- A shard of these settings that had taken nothing popped these items, each marked as the shard took it, and ended with this shard, receiver and sender.
-pub record Works (number : ℕ) (s : Settings) (shard : Held) (receiver : ReceiverState Item) (sender : EndState Shipment) (before after : TallyState) (popped : List (ℕ × Entry)) : Type 0 where
+-- A shard of these settings that had taken nothing popped these items, each marked as the shard took it and with the limiter's answers to the decisions at it, and ended with this shard, receiver and sender;
+-- the limiter went from one state to the other.
+pub record Works {L : Type 0} (asks : L → ℕ → ℕ → ℕ → Bool → L → Type 0) (number : ℕ) (s : Settings) (shard : Held) (receiver : ReceiverState Item) (sender : EndState Shipment) (before after : TallyState) (first last : L) (popped : List (ℕ × Entry)) : Type 0 where
   -- they are what was popped of each sender's queue, in order
   pub of_queues : IsMergeOf receiver.ends (items popped)
   -- every sender's End is among them
@@ -48,6 +50,10 @@ pub record Works (number : ℕ) (s : Settings) (shard : Held) (receiver : Receiv
   pub stands : StandsFor shard (journal_of popped) dealt
   -- memory was refused only where taking an item takes memory
   pub marked : MarksApply s (journal_of popped)
+  -- each decision has its answers, one for each of its askings
+  pub answered : IsAnswered s (journal_of popped)
+  -- the limiter had just the askings of these decisions, in order, and gave these answers
+  pub asked : AskedBy asks s (journal_of popped) first last
   -- what was shipped is that journal's output, and then the End
   pub shipped : sender.items ≡ shipments (output s (journal_of popped)) ++ End number ∷ []
   -- what was counted is what that journal counts

@@ -1,13 +1,14 @@
 -- The seats of all limiter nodes: what the first call gives, what an asking leaves, and what the last call compares.
-use Rattle.std.specs.Prelude.{◌≡◌, ℕ, ◌+◌, ◌≤◌, Bool, List, [], ◌∷◌, All, map, length, option_map, slice_get}
+use Rattle.std.specs.Prelude.{◌≡◌, ℕ, ◌+◌, ◌≤◌, Bool, true, List, [], ◌∷◌, All, map, length, option_map, slice_get}
 use Rattle.std.specs.Option.{unwrap_or}
+use Rattle.std.specs.List.{list_all}
 use Rattle.atomic_table.specs.Seated.{TableId}
 use Rattle.policy_tree.specs.declared.limiter_node.LimiterNode.{LimiterNode}
 use Rattle.rate_budget.specs.Grant.{granted_in}
 use Rattle.shared_budget.specs.declared.known.Asked.{Asked}
 use Rattle.shared_budget.specs.History.{askings}
 use Rattle.shared_budget.specs.Rule.{seated}
-use Rattle.shared_budget.specs.Seats.{Stand, StandsIn, HaveOneHistory, AsksAt}
+use Rattle.shared_budget.specs.Seats.{Stand, StandsIn, HaveOneHistory, has_node, AsksAt}
 
 -- ---- what the first call gives
 
@@ -46,6 +47,10 @@ AreOfOneBudget seats = (cells : List NodeCell) × All (λ (seat : List Stand). m
 -- new seats have the same cells
 abbrev pub NewSeatsAreOfOne : Type 0
 NewSeatsAreOfOne = (nodes : List LimiterNode) (seats : ℕ) (all : List (List Stand)) → AreNewSeats nodes seats all → AreOfOneBudget all
+
+-- a new seat is at each of the nodes
+abbrev pub NewSeatsHaveNodes : Type 0
+NewSeatsHaveNodes = (nodes : List LimiterNode) (seats : ℕ) (all : List (List Stand)) → AreNewSeats nodes seats all → All (λ (seat : List Stand). list_all (λ (l : LimiterNode). has_node seat l.node) nodes ≡ true) all
 
 -- an asking leaves a seat's cells, and its numbers
 abbrev pub AskingKeepsCells : Type 0

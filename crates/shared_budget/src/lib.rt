@@ -12,11 +12,10 @@ mod known;
 mod law;
 mod node_budget;
 mod node_seat;
-mod one_thread;
 #[cfg(test)]
 mod tests;
 
 pub use budget::SharedBudget;
-pub use budget_seat::{BudgetSeat, Limiter};
+pub use budget_seat::BudgetSeat;
 pub use known::{Asked, Part, View};
-pub use law::{asked_seats_may_be_compared, stays_within};
+pub use law::{asked_seats_may_be_compared, new_seats_have_nodes, stays_within};

@@ -2,10 +2,10 @@
 ghost use Rattle.std.specs.Prelude.{◌≡◌, ◌≤◌, ◌*◌, map};
 ghost use Rattle.shared_budget.specs.Budget.{cell_of, AreOfOneBudget};
 
-use crate::{BudgetSeat, Limiter, SharedBudget};
+use crate::{BudgetSeat, SharedBudget};
 use otlp_types::Text;
 use policy_tree::{Policies, Policy, PolicyKind};
-use rate_budget::Budgets;
+use rate_budget::Limiter;
 use std::alloc::{AllocError, Global};
 use std::sync::Wait;
 use std::test::Fail;
@@ -190,18 +190,6 @@ fn nodes_of_two_seats(rt: HostRuntime) -> Result<(), Fail> {
             None => !granted,
         };
         assert_eq!(rt; answer, granted, "{spans} in {second}");
-    }
-    Ok(())
-}
-
-#[test]
-fn limiter_in_one_thread(rt: HostRuntime) -> Result<(), Fail> {
-    let alloc = rt.alloc();
-    let policies = Policies::new(alloc, vec![in alloc; rate(alloc, "a", 3)?]?)?;
-    let mut budgets = Budgets::new(alloc, &policies)?;
-    for (spans, granted) in [(2, true), (2, false), (1, true)] {
-        assert!(rt; budgets.has_node(0));
-        assert_eq!(rt; Limiter::ask(&mut budgets, 0, 5, spans), granted, "{spans}");
     }
     Ok(())
 }

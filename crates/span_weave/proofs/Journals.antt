@@ -5,12 +5,12 @@ use Rattle.std.proofs.lemmas.List.{reverse-append}
 use native.Mathlib.Decide.{ℕ_discrete}
 use Rattle.otlp_types.specs.declared.arrival.Item.{Item}
 use Rattle.otlp_types.specs.declared.arrival.Item.TheVariants.{Span, Tick, End}
-use Rattle.shard_core.specs.Journal.{Settings, Entry, Journal, is_end_of, has_ended, have_ended}
+use Rattle.shard_core.specs.Journal.{Settings, Entry, Journal, is_end_of, has_ended, have_ended, IsAnswered}
 use Rattle.shard_core.specs.Taking.{marks_apply}
 use Rattle.shard_core.specs.Marked.{MarksApply}
 use Rattle.span_weave.specs.Threads.{Try, pushed_in, items_of}
 use Rattle.span_weave.proofs.Lists.{of_here, of_there}
-use Rattle.span_weave.proofs.Worlds.{entry_of}
+use Rattle.span_weave.proofs.Worlds.{entry_of, AreGiven}
 
 -- ---- the journal of what was popped
 
@@ -44,8 +44,8 @@ all_ended J zero h = refl
 all_ended J (suc n) h = ap (λ b. b && have_ended J n) (h n (omega arith)) ∙ all_ended J n (λ k l. h k (omega (arith, l)))
 
 -- an End is its sender's
-pub end_here : (k : ℕ) (refused lost : Bool) (J : Journal) → has_ended (entry_of (End k) refused lost ∷ J) k ≡ true
-end_here k refused lost J = ap (λ b. b || has_ended J k) (eq-eqb k k refl)
+pub end_here : (k : ℕ) (refused lost : Bool) (given : List (List Bool)) (J : Journal) → has_ended (entry_of (End k) refused lost given ∷ J) k ≡ true
+end_here k refused lost given J = ap (λ b. b || has_ended J k) (eq-eqb k k refl)
 
 -- the item is no End of another sender
 abbrev pub IsNoEndOfOthers : (sender : ℕ) → Item → Type 0
@@ -103,6 +103,22 @@ pub marks_after : (s : Settings) (popped : List (ℕ × Entry)) (J : Journal) �
 marks_after s [] J h = tt
 marks_after s (x ∷ rest) J h = ((older_marks s rest (x.1 ∷ J) h).0, marks_after s rest (x.1 ∷ J) h)
 
+-- ---- answers
+
+-- the decisions at these entries, the oldest first, are answered after this journal
+abbrev pub AnsweredAfter : Settings → Journal → List (ℕ × Entry) → Type 0
+AnsweredAfter s J [] = Unit {0}
+AnsweredAfter s J (x ∷ rest) = AreGiven s x.1 J × AnsweredAfter s (x.1 ∷ J) rest
+
+-- a journal that is answered has an answered older part
+older_answers : (s : Settings) (popped : List (ℕ × Entry)) (J : Journal) → IsAnswered s (journal_after J popped) → IsAnswered s J
+older_answers s [] J h = h
+older_answers s (x ∷ rest) J h = (older_answers s rest (x.1 ∷ J) h).1
+
+pub answers_after : (s : Settings) (popped : List (ℕ × Entry)) (J : Journal) → IsAnswered s (journal_after J popped) → AnsweredAfter s J popped
+answers_after s [] J h = tt
+answers_after s (x ∷ rest) J h = ((older_answers s rest (x.1 ∷ J) h).0, answers_after s rest (x.1 ∷ J) h)
+
 -- a tick and an End carry no mark
 pub no_marks : (refused lost : Bool) → (not refused && not lost) ≡ true → (refused ≡ false) × (lost ≡ false)
 no_marks true lost e = absurd (cc e)
@@ -110,9 +126,9 @@ no_marks false true e = absurd (cc e)
 no_marks false false e = (refl, refl)
 
 -- the marks of an entry with this item
-pub marks_of_item : (s : Settings) (e : Entry) (J : Journal) (item : Item) → e.item ≡ item → marks_apply s e J ≡ true → marks_apply s (entry_of item e.refused e.lost) J ≡ true
-marks_of_item s e J item is h = subst (λ (i : Item). marks_apply s (entry_of i e.refused e.lost) J ≡ true) is h
+pub marks_of_item : (s : Settings) (e : Entry) (J : Journal) (item : Item) → e.item ≡ item → marks_apply s e J ≡ true → marks_apply s (entry_of item e.refused e.lost e.answers) J ≡ true
+marks_of_item s e J item is h = subst (λ (i : Item). marks_apply s (entry_of i e.refused e.lost e.answers) J ≡ true) is h
 
 -- an entry without marks
-pub plain_entry : (s : Settings) (e : Entry) (J : Journal) (item : Item) → e.item ≡ item → (e.refused ≡ false) × (e.lost ≡ false) → e ≡ entry_of item false false
-plain_entry s e J item is h = ap (λ (i : Item). entry_of i e.refused e.lost) is ∙ ap (λ b. entry_of item b e.lost) h.0 ∙ ap (λ b. entry_of item false b) h.1
+pub plain_entry : (s : Settings) (e : Entry) (J : Journal) (item : Item) → e.item ≡ item → (e.refused ≡ false) × (e.lost ≡ false) → e ≡ entry_of item false false e.answers
+plain_entry s e J item is h = ap (λ (i : Item). entry_of i e.refused e.lost e.answers) is ∙ ap (λ b. entry_of item b e.lost e.answers) h.0 ∙ ap (λ b. entry_of item false b e.answers) h.1

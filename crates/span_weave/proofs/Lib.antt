@@ -16,5 +16,6 @@ pub mod Numbering
 pub mod Popping
 pub mod Acts
 pub mod Tries
-mod WrongThreads
+pub mod WrongThreads
+mod WrongAnswers
 mod WorkedThreads

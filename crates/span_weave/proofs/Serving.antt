@@ -6,22 +6,29 @@ use Rattle.otlp_types.specs.declared.arrival.Arrival.{Arrival}
 use Rattle.otlp_types.specs.declared.arrival.Item.TheVariants.{Span, Tick, End}
 use Rattle.span_ids.specs.declared.outcome.Reason.{Reason}
 use Rattle.span_ids.specs.declared.outcome.Reason.TheVariants.{QueueFull}
-use Rattle.shard_core.specs.Journal.{Settings, Entry, Journal, Decision, due_now, decisions_now, has_ended}
+use Rattle.shard_core.specs.Journal.{Settings, Entry, Journal, Opening, due_now, decision, decisions_in_turn, decisions_now, are_each_answered, has_ended}
 use Rattle.shard_core.specs.Fate.{DroppedSpan, Effect, counts, effect, effect_of_decision, effect_of_decisions}
 use Rattle.shard_core.specs.Taking.{marks_apply_to_ids}
 use Rattle.span_world.specs.World.{Config, Shard, World, goes_to}
 use Rattle.span_world.specs.Step.{route, refuse, take as take_step, tick, end, decide}
-use Rattle.span_world.proofs.Finishing.{length_decisions}
 use Rattle.span_weave.specs.Threads.{Try, pushed, full, span_of, was_pushed, pushed_in, refused_in}
 use Rattle.span_weave.proofs.Lists.{set_at, set_same, set_other, First, first_of_filter, any_of_filter}
 use Rattle.span_weave.proofs.Counting.{number, number_append, number_counts, if_same, if_same_plus, if_same_none}
 use Rattle.span_weave.proofs.Runs.{Leads, LeadsBy, leads_same, leads_one, leads_then, by_one, by_quiet, by_then, then_quiet}
-use Rattle.span_weave.proofs.Worlds.{Model, entry_of, own, stood, dealing, did, fresh, state, refuse_step, route_step, take_one, tick_one, end_lane, end_ticker, decide_one}
+use Rattle.span_weave.proofs.Worlds.{Model, entry_of, given_to, AreGiven, own, stood, dealing, did, fresh, state, refuse_step, route_step, take_one, tick_one, end_lane, end_ticker, decide_one}
 
 -- what stands behind a front
 behind_front : {X : Type 0} (front : List X) (x : X) (back : List X) → slice_get (front ++ x ∷ back) (length front) ≡ Some x
 behind_front [] x back = refl
 behind_front (y ∷ front) x back = behind_front front x back
+
+and_left : (a b : Bool) → (a && b) ≡ true → a ≡ true
+and_left true b h = refl
+and_left false b h = absurd (cc h)
+
+and_right : (a b : Bool) → (a && b) ≡ true → b ≡ true
+and_right true b h = h
+and_right false b h = absurd (cc h)
 
 module _ (c : Config) (lanes shards : ℕ) (received : ℕ → List Arrival) (m : Model) (s : ℕ) (below : s < shards) where
   -- the settings of the shard
@@ -62,34 +69,40 @@ module _ (c : Config) (lanes shards : ℕ) (received : ℕ → List Arrival) (m 
 
   -- ---- all that is due is decided
 
-  -- the decisions that are left are made in turn
-  decides_all : (u : ℕ → List Arrival) (J : Journal) (out : List Arrival) (C : List DroppedSpan) (dealt ds : List Decision) → decisions_now S J ≡ dealt ++ ds
-      → Leads c (W u (dealing c lanes shards received J (length dealt) out) C)
-      (W u (dealing c lanes shards received J (length (due_now S J)) (out ++ (effect_of_decisions ds).released)) (C ++ (effect_of_decisions ds).counted))
-  decides_all u J out C dealt [] e = leads_same c _ _ (cc (append-nil out, append-nil C, all))
+  -- the decisions that are left are made in turn, by their answers
+  decides_all : (u : ℕ → List Arrival) (e : Entry) (J : Journal) (out : List Arrival) (C : List DroppedSpan) (given left : List (List Bool)) (before os : List Opening) → due_now S (e ∷ J) ≡ before ++ os
+      → are_each_answered S.policies (e ∷ J) os left ≡ true → (let ds = decisions_in_turn S (e ∷ J) os left in
+      Leads c (W u (dealing c lanes shards received (given_to e given ∷ J) (length before) out) C)
+      (W u (dealing c lanes shards received (given_to e (given ++ left) ∷ J) (length (due_now S (e ∷ J))) (out ++ (effect_of_decisions ds).released)) (C ++ (effect_of_decisions ds).counted)))
+  decides_all u e J out C given [] before [] is fits = leads_same c _ _ (cc (append-nil out, append-nil C, append-nil given, all))
     where
-      all : length dealt ≡ length (due_now S J)
-      all = sym (ap (λ (z : List Decision). length z) (e ∙ append-nil dealt)) ∙ length_decisions S J
-  decides_all u J out C dealt (d ∷ ds) e =
-      leads_then c _ _ _ (leads_one c _ _ (decide s) (λ l k. refl) (decide_one c lanes shards received m s below u C J (length dealt) out d (ap (λ (z : List Decision). slice_get z (length dealt)) e ∙ behind_front dealt d ds)))
-      (leads_then c _ _ _ (leads_same c _ _ (ap (λ (n : ℕ). W u (dealing c lanes shards received J n (out ++ one.released)) (C ++ one.counted)) longer))
-      (leads_then c _ _ _ (decides_all u J (out ++ one.released) (C ++ one.counted) (dealt ++ d ∷ []) ds (e ∙ sym (append_assoc dealt (d ∷ []) ds)))
-      (leads_same c _ _ (cc (append_assoc out one.released (effect_of_decisions ds).released, append_assoc C one.counted (effect_of_decisions ds).counted)))))
+      all : length before ≡ length (due_now S (e ∷ J))
+      all = sym (ap (λ (z : List Opening). length z) (is ∙ append-nil before))
+  decides_all u e J out C given (a ∷ left) before [] is fits = absurd (cc fits)
+  decides_all u e J out C given [] before (o ∷ os) is fits = absurd (cc fits)
+  decides_all u e J out C given (a ∷ left) before (o ∷ os) is fits =
+      leads_then c _ _ _ (leads_one c _ _ (decide s a) (λ l k. refl) (decide_one c lanes shards received m s below u C e J given (length before) out o a (ap (λ (z : List Opening). slice_get z (length before)) is ∙ behind_front before o os) (and_left _ _ fits)))
+      (leads_then c _ _ _ (leads_same c _ _ (ap (λ (n : ℕ). W u (dealing c lanes shards received (given_to e (given ++ a ∷ []) ∷ J) n (out ++ one.released)) (C ++ one.counted)) longer))
+      (leads_then c _ _ _ (decides_all u e J (out ++ one.released) (C ++ one.counted) (given ++ a ∷ []) left (before ++ o ∷ []) os (is ∙ sym (append_assoc before (o ∷ []) os)) (and_right _ _ fits))
+      (leads_same c _ _ (cc (append_assoc out one.released more.released, append_assoc C one.counted more.counted, append_assoc given (a ∷ []) left)))))
     where
       one : Effect
-      one = effect_of_decision d
+      one = effect_of_decision (decision S (e ∷ J) o a)
 
-      longer : length dealt + 1 ≡ length (dealt ++ d ∷ [])
-      longer = omega (arith, length-append dealt (d ∷ []))
+      more : Effect
+      more = effect_of_decisions (decisions_in_turn S (e ∷ J) os left)
+
+      longer : length before + 1 ≡ length (before ++ o ∷ [])
+      longer = omega (arith, length-append before (o ∷ []))
 
   -- what is counted once an entry was taken and all that was due was decided
   abbrev pub with_counts : List DroppedSpan → Entry → Journal → List DroppedSpan
   with_counts C e J = (C ++ (did c lanes shards received e J).counted) ++ (effect_of_decisions (decisions_now S (e ∷ J))).counted
 
   -- The decisions of the last item, one after the other, deal with all that is due.
-  pub settles : (u : ℕ → List Arrival) (C : List DroppedSpan) (e : Entry) (J : Journal)
+  pub settles : (u : ℕ → List Arrival) (C : List DroppedSpan) (e : Entry) (J : Journal) → AreGiven S e J
       → Leads c (W u (fresh c lanes shards received e J) (C ++ (did c lanes shards received e J).counted)) (W u (still (e ∷ J)) (with_counts C e J))
-  settles u C e J = decides_all u (e ∷ J) ((effect S J).released ++ (did c lanes shards received e J).released) (C ++ (did c lanes shards received e J).counted) [] (decisions_now S (e ∷ J)) refl
+  settles u C e J fits = decides_all u e J ((effect S J).released ++ (did c lanes shards received e J).released) (C ++ (did c lanes shards received e J).counted) [] e.answers [] (due_now S (e ∷ J)) refl fits
 
   settled_number : (reason : Reason) (C : List DroppedSpan) (e : Entry) (J : Journal)
       → number reason (with_counts C e J) + number reason (effect S J).counted ≡ number reason C + number reason (with_counts (effect S J).counted e J)
@@ -159,29 +172,29 @@ module _ (c : Config) (lanes shards : ℕ) (received : ℕ → List Arrival) (m 
   }
 
   -- the lane's first span for the shard is routed, and taken
-  serve_span : (u : ℕ → List Arrival) (C : List DroppedSpan) (J : Journal) (l : ℕ) (a : Arrival) (left : List Arrival) (refused lost : Bool) → l < lanes → filter (goes s) (u l) ≡ a ∷ left
-      → marks_apply_to_ids S J refused lost a.rec.span.ids ≡ true → Served u C J l (entry_of (Span a) refused lost) left 0 (true ∷ [])
-  serve_span u C J l a left refused lost lane_is e marks =
+  serve_span : (u : ℕ → List Arrival) (C : List DroppedSpan) (J : Journal) (l : ℕ) (a : Arrival) (left : List Arrival) (refused lost : Bool) (given : List (List Bool)) → l < lanes → filter (goes s) (u l) ≡ a ∷ left
+      → AreGiven S (entry_of (Span a) refused lost given) J → marks_apply_to_ids S J refused lost a.rec.span.ids ≡ true → Served u C J l (entry_of (Span a) refused lost given) left 0 (true ∷ [])
+  serve_span u C J l a left refused lost given lane_is e fits marks =
       let f = first_of_filter (goes s) (u l) a left e in
       let v = set_at u l f.rest in
       record {
         unrouted = v;
-        counted = with_counts C (entry_of (Span a) refused lost) J;
+        counted = with_counts C (entry_of (Span a) refused lost given) J;
         leads = then_quiet c lanes (only l (true ∷ [])) _ _ _ (by_one c lanes _ _ (route l s) (route_step c lanes shards received m s below u C l lane_is a f.rest f.takes (still J)))
-            (leads_then c _ _ _ (leads_one c _ _ (take_step s refused lost) (λ l k. refl) (take_one c lanes shards received m s below v C a J refused lost marks)) (settles v C (entry_of (Span a) refused lost) J));
+            (leads_then c _ _ _ (leads_one c _ _ (take_step s refused lost) (λ l k. refl) (take_one c lanes shards received m s below v C a J refused lost given marks)) (settles v C (entry_of (Span a) refused lost given) J fits));
         left_is = ap (filter (goes s)) (set_same u l f.rest) ∙ f.leaves;
         lanes_same = λ j apart. set_other u l j f.rest apart;
         others = λ j q apart. kept u l a left f j q apart;
-        number_is = λ reason. omega (arith, settled_number reason C (entry_of (Span a) refused lost) J, if_same_none QueueFull reason);
+        number_is = λ reason. omega (arith, settled_number reason C (entry_of (Span a) refused lost given) J, if_same_none QueueFull reason);
       }
 
   -- an entry that leaves the lanes as they are
-  serve_plain : (u : ℕ → List Arrival) (C : List DroppedSpan) (J : Journal) (l : ℕ) (e : Entry) (left : List Arrival) → filter (goes s) (u l) ≡ left
+  serve_plain : (u : ℕ → List Arrival) (C : List DroppedSpan) (J : Journal) (l : ℕ) (e : Entry) (left : List Arrival) → filter (goes s) (u l) ≡ left → AreGiven S e J
       → Leads c (W u (still J) C) (W u (fresh c lanes shards received e J) (C ++ (did c lanes shards received e J).counted)) → Served u C J l e left 0 []
-  serve_plain u C J l e left is took = record {
+  serve_plain u C J l e left is fits took = record {
     unrouted = u;
     counted = with_counts C e J;
-    leads = by_quiet c lanes (only l []) _ _ (λ j k i. only_none l j k) (leads_then c _ _ _ took (settles u C e J));
+    leads = by_quiet c lanes (only l []) _ _ (λ j k i. only_none l j k) (leads_then c _ _ _ took (settles u C e J fits));
     left_is = is;
     lanes_same = λ j apart. refl;
     others = λ j q apart. refl;
@@ -189,19 +202,19 @@ module _ (c : Config) (lanes shards : ℕ) (received : ℕ → List Arrival) (m 
   }
 
   -- a lane's End, where none of its spans is left
-  serve_end : (u : ℕ → List Arrival) (C : List DroppedSpan) (J : Journal) (l : ℕ) → l < lanes → filter (goes s) (u l) ≡ [] → has_ended J l ≡ false → Served u C J l (entry_of (End l) false false) [] 0 []
-  serve_end u C J l lane_is e runs = serve_plain u C J l (entry_of (End l) false false) [] e
-      (leads_one c _ _ (end s l) (λ l k. refl) (end_lane c lanes shards received m s below u C l J lane_is (any_of_filter (goes s) (u l) e) runs))
+  serve_end : (u : ℕ → List Arrival) (C : List DroppedSpan) (J : Journal) (l : ℕ) (given : List (List Bool)) → l < lanes → filter (goes s) (u l) ≡ [] → AreGiven S (entry_of (End l) false false given) J → has_ended J l ≡ false → Served u C J l (entry_of (End l) false false given) [] 0 []
+  serve_end u C J l given lane_is e fits runs = serve_plain u C J l (entry_of (End l) false false given) [] e fits
+      (leads_one c _ _ (end s l) (λ l k. refl) (end_lane c lanes shards received m s below u C l J given lane_is (any_of_filter (goes s) (u l) e) runs))
 
   -- a tick
-  pub serve_tick : (u : ℕ → List Arrival) (C : List DroppedSpan) (J : Journal) (moment : ℕ) → has_ended J lanes ≡ false → Served u C J lanes (entry_of (Tick moment) false false) (filter (goes s) (u lanes)) 0 []
-  serve_tick u C J moment runs = serve_plain u C J lanes (entry_of (Tick moment) false false) (filter (goes s) (u lanes)) refl
-      (leads_one c _ _ (tick s moment) (λ l k. refl) (tick_one c lanes shards received m s below u C moment J runs))
+  pub serve_tick : (u : ℕ → List Arrival) (C : List DroppedSpan) (J : Journal) (moment : ℕ) (given : List (List Bool)) → AreGiven S (entry_of (Tick moment) false false given) J → has_ended J lanes ≡ false → Served u C J lanes (entry_of (Tick moment) false false given) (filter (goes s) (u lanes)) 0 []
+  serve_tick u C J moment given fits runs = serve_plain u C J lanes (entry_of (Tick moment) false false given) (filter (goes s) (u lanes)) refl fits
+      (leads_one c _ _ (tick s moment) (λ l k. refl) (tick_one c lanes shards received m s below u C moment J given runs))
 
   -- the ticker's End
-  pub serve_end_ticker : (u : ℕ → List Arrival) (C : List DroppedSpan) (J : Journal) → has_ended J lanes ≡ false → Served u C J lanes (entry_of (End lanes) false false) (filter (goes s) (u lanes)) 0 []
-  serve_end_ticker u C J runs = serve_plain u C J lanes (entry_of (End lanes) false false) (filter (goes s) (u lanes)) refl
-      (leads_one c _ _ (end s lanes) (λ l k. refl) (end_ticker c lanes shards received m s below u C J runs))
+  pub serve_end_ticker : (u : ℕ → List Arrival) (C : List DroppedSpan) (J : Journal) (given : List (List Bool)) → AreGiven S (entry_of (End lanes) false false given) J → has_ended J lanes ≡ false → Served u C J lanes (entry_of (End lanes) false false given) (filter (goes s) (u lanes)) 0 []
+  serve_end_ticker u C J given fits runs = serve_plain u C J lanes (entry_of (End lanes) false false given) (filter (goes s) (u lanes)) refl fits
+      (leads_one c _ _ (end s lanes) (λ l k. refl) (end_ticker c lanes shards received m s below u C J given runs))
 
   -- ---- the tries before an item
 
@@ -216,10 +229,10 @@ module _ (c : Config) (lanes shards : ℕ) (received : ℕ → List Arrival) (m 
     pub pushed_later : pushed_in rest ≡ later
 
   -- all of a lane's tries up to the one that put the span in
-  pub serve_tries : (tries : List Try) (u : ℕ → List Arrival) (C : List DroppedSpan) (J : Journal) (l : ℕ) (a : Arrival) (later : List Arrival) (refused lost : Bool) → l < lanes
-      → pushed_in tries ≡ a ∷ later → filter (goes s) (u l) ≡ map span_of tries → marks_apply_to_ids S J refused lost a.rec.span.ids ≡ true → Tried u C J l (entry_of (Span a) refused lost) tries later
-  serve_tries [] u C J l a later refused lost lane_is g e marks = absurd (cc g)
-  serve_tries (pushed x ∷ tries) u C J l a later refused lost lane_is g e marks =
+  pub serve_tries : (tries : List Try) (u : ℕ → List Arrival) (C : List DroppedSpan) (J : Journal) (l : ℕ) (a : Arrival) (later : List Arrival) (refused lost : Bool) (given : List (List Bool)) → l < lanes
+      → pushed_in tries ≡ a ∷ later → filter (goes s) (u l) ≡ map span_of tries → AreGiven S (entry_of (Span a) refused lost given) J → marks_apply_to_ids S J refused lost a.rec.span.ids ≡ true → Tried u C J l (entry_of (Span a) refused lost given) tries later
+  serve_tries [] u C J l a later refused lost given lane_is g e fits marks = absurd (cc g)
+  serve_tries (pushed x ∷ tries) u C J l a later refused lost given lane_is g e fits marks =
       let head : x ≡ a = cc g in
       let tail : pushed_in tries ≡ later = cc g in
       record {
@@ -227,31 +240,31 @@ module _ (c : Config) (lanes shards : ℕ) (received : ℕ → List Arrival) (m 
         many = 0;
         made = true ∷ [];
         made_is = refl;
-        served = subst (λ (y : Arrival). Served u C J l (entry_of (Span y) refused lost) (map span_of tries) 0 (true ∷ [])) head
-            (serve_span u C J l x (map span_of tries) refused lost lane_is e (subst (λ (y : Arrival). marks_apply_to_ids S J refused lost y.rec.span.ids ≡ true) (sym head) marks));
+        served = subst (λ (y : Arrival). Served u C J l (entry_of (Span y) refused lost given) (map span_of tries) 0 (true ∷ [])) head
+            (serve_span u C J l x (map span_of tries) refused lost given lane_is e (subst (λ (y : Arrival). AreGiven S (entry_of (Span y) refused lost given) J) (sym head) fits) (subst (λ (y : Arrival). marks_apply_to_ids S J refused lost y.rec.span.ids ≡ true) (sym head) marks));
         refused = omega arith;
         pushed_later = tail;
       }
-  serve_tries (full x ∷ tries) u C J l a later refused lost lane_is g e marks =
+  serve_tries (full x ∷ tries) u C J l a later refused lost given lane_is g e fits marks =
       let r = refuses u C J l x (map span_of tries) lane_is e in
-      let t = serve_tries tries r.unrouted r.counted J l a later refused lost lane_is g r.left_is marks in
+      let t = serve_tries tries r.unrouted r.counted J l a later refused lost given lane_is g r.left_is fits marks in
       record {
         rest = t.rest;
         many = t.many + 1;
         made = false ∷ t.made;
         made_is = ap (λ (z : List Bool). false ∷ z) t.made_is;
-        served = after_refusal u C J l (entry_of (Span a) refused lost) (map span_of tries) (map span_of t.rest) t.many t.made r t.served;
+        served = after_refusal u C J l (entry_of (Span a) refused lost given) (map span_of tries) (map span_of t.rest) t.many t.made r t.served;
         refused = omega (arith, t.refused);
         pushed_later = t.pushed_later;
       }
 
   -- all of a lane's tries that are left, where none put a span in, and then its End
-  pub end_tries : (tries : List Try) (u : ℕ → List Arrival) (C : List DroppedSpan) (J : Journal) (l : ℕ) → l < lanes
-      → pushed_in tries ≡ [] → filter (goes s) (u l) ≡ map span_of tries → has_ended J l ≡ false → Served u C J l (entry_of (End l) false false) [] (length (refused_in tries)) (map was_pushed tries)
-  end_tries [] u C J l lane_is g e runs = serve_end u C J l lane_is e runs
-  end_tries (pushed x ∷ tries) u C J l lane_is g e runs = absurd (cc g)
-  end_tries (full x ∷ tries) u C J l lane_is g e runs =
+  pub end_tries : (tries : List Try) (u : ℕ → List Arrival) (C : List DroppedSpan) (J : Journal) (l : ℕ) (given : List (List Bool)) → l < lanes
+      → pushed_in tries ≡ [] → filter (goes s) (u l) ≡ map span_of tries → AreGiven S (entry_of (End l) false false given) J → has_ended J l ≡ false → Served u C J l (entry_of (End l) false false given) [] (length (refused_in tries)) (map was_pushed tries)
+  end_tries [] u C J l given lane_is g e fits runs = serve_end u C J l given lane_is e fits runs
+  end_tries (pushed x ∷ tries) u C J l given lane_is g e fits runs = absurd (cc g)
+  end_tries (full x ∷ tries) u C J l given lane_is g e fits runs =
       let r = refuses u C J l x (map span_of tries) lane_is e in
-      let t = end_tries tries r.unrouted r.counted J l lane_is g r.left_is runs in
+      let t = end_tries tries r.unrouted r.counted J l given lane_is g r.left_is fits runs in
       let one : length (refused_in tries) + 1 ≡ length (refused_in (full x ∷ tries)) = omega arith in
-      subst (λ (n : ℕ). Served u C J l (entry_of (End l) false false) [] n (false ∷ map was_pushed tries)) one (after_refusal u C J l (entry_of (End l) false false) (map span_of tries) [] (length (refused_in tries)) (map was_pushed tries) r t)
+      subst (λ (n : ℕ). Served u C J l (entry_of (End l) false false given) [] n (false ∷ map was_pushed tries)) one (after_refusal u C J l (entry_of (End l) false false given) (map span_of tries) [] (length (refused_in tries)) (map was_pushed tries) r t)

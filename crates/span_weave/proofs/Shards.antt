@@ -18,10 +18,10 @@ use Rattle.span_weave.proofs.Lists.{set_at, set_same, set_other}
 use Rattle.span_weave.proofs.Sums.{sum_none, sum_set}
 use Rattle.span_weave.proofs.Counting.{number, if_same, if_same_plus, if_same_none}
 use Rattle.span_weave.proofs.Runs.{LeadsBy, leads_same, by_quiet, by_then}
-use Rattle.span_weave.proofs.Worlds.{Model, entry_of}
+use Rattle.span_weave.proofs.Worlds.{Model, entry_of, AreGiven}
 use Rattle.span_weave.proofs.Serving.{S, W, still, goes, only, Served, serve_tries, end_tries, serve_tick, serve_end_ticker}
 use Rattle.span_world.proofs.Finishing.{nothing_buffered}
-use Rattle.span_weave.proofs.Journals.{journal_after, MarksApplyAfter, not_all, all_ended, end_here, IsNoEndOfOthers, end_of_one, LaneOwes, TickerOwes, items_here, lane_owes_there, ticker_owes_there, no_marks, marks_of_item, plain_entry}
+use Rattle.span_weave.proofs.Journals.{journal_after, MarksApplyAfter, AnsweredAfter, not_all, all_ended, end_here, IsNoEndOfOthers, end_of_one, LaneOwes, TickerOwes, items_here, lane_owes_there, ticker_owes_there, no_marks, marks_of_item, plain_entry}
 
 module _ (c : Config) (lanes shards : ℕ) (received : ℕ → List Arrival) (m : Model) (s : ℕ) (below : s < shards) where
   -- the settings of the shard
@@ -47,6 +47,7 @@ module _ (c : Config) (lanes shards : ℕ) (received : ℕ → List Arrival) (m 
   pub record Ready (u : ℕ → List Arrival) (J : Journal) (tries : ℕ → List Try) (ticks : List ℕ) (popped : List (ℕ × Entry)) : Type 0 where
     pub of_senders : AllByRecursion (λ (x : ℕ × Entry). x.0 ≤ lanes) popped
     pub marked : MarksApplyAfter O J popped
+    pub answered : AnsweredAfter O J popped
     pub tried : (l : ℕ) → l < lanes → left_for s (u l) ≡ map span_of (tries l)
     pub lanes_owe : (l : ℕ) → l < lanes → LaneOwes J l (tries l) (items_of l popped)
     pub ticker_owes : TickerOwes J lanes ticks (items_of lanes popped)
@@ -99,6 +100,7 @@ module _ (c : Config) (lanes shards : ℕ) (received : ℕ → List Arrival) (m 
     ready = record {
       of_senders = r.of_senders.1;
       marked = r.marked.1;
+      answered = r.answered.1;
       tried = λ l b. tried l b (ℕ_discrete l x.0);
       lanes_owe = λ l b. lanes_owe l b (ℕ_discrete l x.0);
       ticker_owes = ticker_owes_there J x rest lanes ticks other (λ e. absurd (omega (arith, e, lane_is))) r.ticker_owes;
@@ -135,6 +137,7 @@ module _ (c : Config) (lanes shards : ℕ) (received : ℕ → List Arrival) (m 
     ready = record {
       of_senders = r.of_senders.1;
       marked = r.marked.1;
+      answered = r.answered.1;
       tried = λ l b. ap (left_for s) (served.lanes_same l (apart l b)) ∙ r.tried l b;
       lanes_owe = λ l b. lane_owes_there J x rest l (tries l) other (apart l b) (r.lanes_owe l b);
       ticker_owes = owes;
@@ -163,19 +166,19 @@ module _ (c : Config) (lanes shards : ℕ) (received : ℕ → List Arrival) (m 
       is_end : pushed_in (tries l) ≡ [] → e.item ≡ End l → items_of l rest ≡ [] → has_ended J l ≡ false → Head u C J tries ticks x rest
       is_end none is over runs =
           let plain = no_marks e.refused e.lost (marks_of_item O e J (End l) is r.marked.0) in
-          let same : e ≡ entry_of (End l) false false = plain_entry O e J (End l) is plain in
+          let same : e ≡ entry_of (End l) false false e.answers = plain_entry O e J (End l) is plain in
           head_of_lane u C J tries ticks x rest r lane_is [] (length (refused_in (tries l))) (map was_pushed (tries l))
-          (subst (λ (y : Entry). ServedHere u C J l y [] (length (refused_in (tries l))) (map was_pushed (tries l))) (sym same) (end_tries c lanes shards received m s below (tries l) u C J l lane_is none (r.tried l lane_is) runs))
+          (subst (λ (y : Entry). ServedHere u C J l y [] (length (refused_in (tries l))) (map was_pushed (tries l))) (sym same) (end_tries c lanes shards received m s below (tries l) u C J l e.answers lane_is none (r.tried l lane_is) (subst (λ (y : Entry). AreGiven O y J) same r.answered.0) runs))
           (sym (append-nil (map was_pushed (tries l))))
           (omega arith)
-          (inr (over, refl, subst (λ (y : Entry). has_ended (y ∷ J) l ≡ true) (sym same) (end_here l false false J)))
+          (inr (over, refl, subst (λ (y : Entry). has_ended (y ∷ J) l ≡ true) (sym same) (end_here l false false e.answers J)))
           (subst (λ (i : Item). IsNoEndOfOthers l i) (sym is) (end_of_one l)) (λ none. (is, runs))
 
       -- the item is the first span that the lane's tries put in
       is_span : (a : Arrival) (later : List Arrival) → pushed_in (tries l) ≡ a ∷ later → e.item ≡ Span a → items_of l rest ≡ map (λ a. Span a) later ++ End l ∷ [] → has_ended J l ≡ false → Head u C J tries ticks x rest
       is_span a later some is more runs =
-          let same : e ≡ entry_of (Span a) e.refused e.lost = ap (λ (i : Item). entry_of i e.refused e.lost) is in
-          let t = serve_tries c lanes shards received m s below (tries l) u C J l a later e.refused e.lost lane_is some (r.tried l lane_is) (marks_of_item O e J (Span a) is r.marked.0) in
+          let same : e ≡ entry_of (Span a) e.refused e.lost e.answers = ap (λ (i : Item). entry_of i e.refused e.lost e.answers) is in
+          let t = serve_tries c lanes shards received m s below (tries l) u C J l a later e.refused e.lost e.answers lane_is some (r.tried l lane_is) (subst (λ (y : Entry). AreGiven O y J) same r.answered.0) (marks_of_item O e J (Span a) is r.marked.0) in
           head_of_lane u C J tries ticks x rest r lane_is t.rest t.many t.made
           (subst (λ (y : Entry). ServedHere u C J l y (map span_of t.rest) t.many t.made) (sym same) t.served)
           t.made_is
@@ -212,10 +215,10 @@ module _ (c : Config) (lanes shards : ℕ) (received : ℕ → List Arrival) (m 
       is_end : e.item ≡ End lanes → items_of lanes rest ≡ [] → has_ended J lanes ≡ false → Head u C J tries ticks x rest
       is_end is over runs =
           let plain = no_marks e.refused e.lost (marks_of_item O e J (End lanes) is r.marked.0) in
-          let same : e ≡ entry_of (End lanes) false false = plain_entry O e J (End lanes) is plain in
+          let same : e ≡ entry_of (End lanes) false false e.answers = plain_entry O e J (End lanes) is plain in
           head_of_ticker u C J tries ticks x rest r is_ticker (left_for s (u lanes)) []
-          (subst (λ (k : ℕ). ServedHere u C J k e (left_for s (u lanes)) 0 []) (sym is_ticker) (subst (λ (y : Entry). ServedHere u C J lanes y (left_for s (u lanes)) 0 []) (sym same) (serve_end_ticker c lanes shards received m s below u C J runs)))
-          (inr (over, subst (λ (y : Entry). has_ended (y ∷ J) lanes ≡ true) (sym same) (end_here lanes false false J)))
+          (subst (λ (k : ℕ). ServedHere u C J k e (left_for s (u lanes)) 0 []) (sym is_ticker) (subst (λ (y : Entry). ServedHere u C J lanes y (left_for s (u lanes)) 0 []) (sym same) (serve_end_ticker c lanes shards received m s below u C J e.answers (subst (λ (y : Entry). AreGiven O y J) same r.answered.0) runs)))
+          (inr (over, subst (λ (y : Entry). has_ended (y ∷ J) lanes ≡ true) (sym same) (end_here lanes false false e.answers J)))
           (subst (λ (k : ℕ). IsNoEndOfOthers k e.item) (sym is_ticker) (subst (λ (i : Item). IsNoEndOfOthers lanes i) (sym is) (end_of_one lanes)))
           (λ none. (is ∙ ap (λ k. End k) (sym is_ticker), ap (has_ended J) is_ticker ∙ runs))
 
@@ -223,9 +226,9 @@ module _ (c : Config) (lanes shards : ℕ) (received : ℕ → List Arrival) (m 
       is_tick : (moment : ℕ) (later : List ℕ) → e.item ≡ Tick moment → items_of lanes rest ≡ map (λ m. Tick m) later ++ End lanes ∷ [] → has_ended J lanes ≡ false → Head u C J tries ticks x rest
       is_tick moment later is more runs =
           let plain = no_marks e.refused e.lost (marks_of_item O e J (Tick moment) is r.marked.0) in
-          let same : e ≡ entry_of (Tick moment) false false = plain_entry O e J (Tick moment) is plain in
+          let same : e ≡ entry_of (Tick moment) false false e.answers = plain_entry O e J (Tick moment) is plain in
           head_of_ticker u C J tries ticks x rest r is_ticker (left_for s (u lanes)) later
-          (subst (λ (k : ℕ). ServedHere u C J k e (left_for s (u lanes)) 0 []) (sym is_ticker) (subst (λ (y : Entry). ServedHere u C J lanes y (left_for s (u lanes)) 0 []) (sym same) (serve_tick c lanes shards received m s below u C J moment runs)))
+          (subst (λ (k : ℕ). ServedHere u C J k e (left_for s (u lanes)) 0 []) (sym is_ticker) (subst (λ (y : Entry). ServedHere u C J lanes y (left_for s (u lanes)) 0 []) (sym same) (serve_tick c lanes shards received m s below u C J moment e.answers (subst (λ (y : Entry). AreGiven O y J) same r.answered.0) runs)))
           (inl (more, subst (λ (y : Entry). has_ended (y ∷ J) lanes ≡ false) (sym same) runs))
           (subst (λ (k : ℕ). IsNoEndOfOthers k e.item) (sym is_ticker) (subst (λ (i : Item). IsNoEndOfOthers lanes i) (sym is) (λ j apart. refl)))
           (λ none. absurd (never later (sym none ∙ (ap (λ k. items_of k rest) is_ticker ∙ more))))
@@ -301,9 +304,9 @@ module _ (c : Config) (lanes shards : ℕ) (received : ℕ → List Arrival) (m 
       ended k b (no n) = lane_ended k (omega (arith, b, n))
 
   -- the first item, and then the others
-  woven_more : (u : ℕ → List Arrival) (C : List DroppedSpan) (J : Journal) (tries : ℕ → List Try) (ticks : List ℕ) (x : ℕ × Entry) (rest : List (ℕ × Entry)) → x.0 ≤ lanes → (h : Head u C J tries ticks x rest)
+  woven_more : (u : ℕ → List Arrival) (C : List DroppedSpan) (J : Journal) (tries : ℕ → List Try) (ticks : List ℕ) (x : ℕ × Entry) (rest : List (ℕ × Entry)) → x.0 ≤ lanes → AreGiven O x.1 J → (h : Head u C J tries ticks x rest)
       → WovenShard h.served.unrouted h.served.counted (x.1 ∷ J) h.tries_left rest → WovenShard u C J tries (x ∷ rest)
-  woven_more u C J tries ticks x rest sender h more = record {
+  woven_more u C J tries ticks x rest sender fits h more = record {
     unrouted = more.unrouted;
     counted = more.counted;
     leads = by_then c lanes (only c lanes shards received m s below x.0 h.made) (for_shard h.tries_left) (for_shard tries) _ _ _ (λ l k b. joined l b (s == k)) h.served.leads more.leads;
@@ -323,9 +326,9 @@ module _ (c : Config) (lanes shards : ℕ) (received : ℕ → List Arrival) (m 
       is_last none =
           let last = h.last (ap (items_of x.0) none) in
           let all : have_ended (x.1 ∷ J) (lanes + 1) ≡ true = ap (λ (z : List (ℕ × Entry)). have_ended (journal_after (x.1 ∷ J) z) (lanes + 1)) (sym none) ∙ more.ended in
-          let same : x.1 ≡ entry_of (End x.0) x.1.refused x.1.lost = ap (λ (i : Item). entry_of i x.1.refused x.1.lost) last.0 in
+          let same : x.1 ≡ entry_of (End x.0) x.1.refused x.1.lost x.1.answers = ap (λ (i : Item). entry_of i x.1.refused x.1.lost x.1.answers) last.0 in
           subst (λ (e : Entry). buffered_spans O (e ∷ J) (length (due_now O (e ∷ J))) ≡ []) (sym same)
-          (nothing_buffered O x.0 x.1.refused x.1.lost J (subst (λ (e : Entry). have_ended (e ∷ J) (lanes + 1) ≡ true) same all) (not_all J (lanes + 1) x.0 (omega (arith, sender)) last.1))
+          (nothing_buffered O x.0 x.1.refused x.1.lost x.1.answers J (subst (λ (e : Entry). AreGiven O e J) same fits) (subst (λ (e : Entry). have_ended (e ∷ J) (lanes + 1) ≡ true) same all) (not_all J (lanes + 1) x.0 (omega (arith, sender)) last.1))
 
       by_rest : (z : List (ℕ × Entry)) → rest ≡ z → buffered_spans O (journal_after (x.1 ∷ J) rest) (length (due_now O (journal_after (x.1 ∷ J) rest))) ≡ []
       by_rest [] e = ap (λ (z : List (ℕ × Entry)). buffered_spans O (journal_after (x.1 ∷ J) z) (length (due_now O (journal_after (x.1 ∷ J) z)))) e ∙ is_last e
@@ -339,4 +342,4 @@ module _ (c : Config) (lanes shards : ℕ) (received : ℕ → List Arrival) (m 
   weave_shard [] u C J tries ticks r = woven_nothing u C J tries ticks r
   weave_shard (x ∷ rest) u C J tries ticks r =
       let h = head u C J tries ticks x rest r in
-      woven_more u C J tries ticks x rest r.of_senders.0 h (weave_shard rest h.served.unrouted h.served.counted (x.1 ∷ J) h.tries_left h.ticks_left h.ready)
+      woven_more u C J tries ticks x rest r.of_senders.0 r.answered.0 h (weave_shard rest h.served.unrouted h.served.counted (x.1 ∷ J) h.tries_left h.ticks_left h.ready)

@@ -6,7 +6,7 @@ use Rattle.otlp_types.specs.declared.arrival.Item.TheVariants.{Tick, End}
 use Rattle.otlp_types.specs.declared.span.Ids.{Ids}
 use Rattle.span_ids.specs.declared.outcome.Reason.{Reason}
 use Rattle.span_ids.specs.declared.outcome.Reason.TheVariants.{InvalidId, QueueFull, NoMemory, Evicted, NotSampled, LateNotSampled, ExporterDown}
-use Rattle.shard_core.specs.Journal.{Settings, Journal, have_ended}
+use Rattle.shard_core.specs.Journal.{Settings, Journal, IsAnswered, have_ended}
 use Rattle.shard_core.specs.Fate.{effect, output}
 use Rattle.span_world.specs.World.{Config, Lane, Shard, World, new_world, goes_to, ids_go_to}
 use Rattle.span_world.specs.Step.{has_ids}
@@ -19,7 +19,7 @@ use Rattle.span_weave.proofs.Sums.{sum_same, sum_plus, sum_swap}
 use Rattle.span_weave.proofs.Counting.{number, if_same, if_same_plus, if_same_none}
 use Rattle.span_weave.proofs.Runs.{LeadsBy, quiet_then, then_quiet}
 use Rattle.span_weave.proofs.Worlds.{Model, own, lane_of, world}
-use Rattle.span_weave.proofs.Journals.{journal_after, journal_is, marks_after}
+use Rattle.span_weave.proofs.Journals.{journal_after, journal_is, marks_after, answers_after}
 use Rattle.span_weave.proofs.AllShards.{journal_at, done, for_shards, ReadyAt, WovenShards, weave_shards}
 use Rattle.span_weave.proofs.Exporting.{shipped_out, Exported, export_acts}
 use Rattle.span_weave.proofs.Receiving.{lacks_ids, begun, Begun, all_arrive}
@@ -88,6 +88,7 @@ module _ (c : Config) (lanes shards : ℕ) (t : Threads) (end : Export) (some : 
   ready s below = record {
     of_senders = h.of_senders s below;
     marked = marks_after O (t.popped s) [] (subst (MarksApply O) (sym (same_journal s)) (h.marked s below));
+    answered = answers_after O (t.popped s) [] (subst (IsAnswered O) (sym (same_journal s)) (h.answered s below));
     tried = λ l i. goes_of_valid shards s (t.received l) ∙ sym (h.tried l s i below);
     lanes_owe = λ l i. inl (h.of_lane l s i below, refl);
     ticker_owes = inl (h.of_ticker s below, refl);

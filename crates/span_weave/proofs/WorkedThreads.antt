@@ -7,7 +7,7 @@ use Rattle.otlp_types.specs.declared.arrival.Item.TheVariants.{Span, Tick, End}
 use Rattle.span_ids.specs.declared.outcome.Reason.{Reason}
 use Rattle.span_ids.specs.declared.outcome.Reason.TheVariants.{InvalidId, QueueFull, NoMemory, Evicted, NotSampled, LateNotSampled, ExporterDown}
 use Rattle.lane_queue.specs.Merges.{of}
-use Rattle.shard_core.specs.Journal.{Entry, notes}
+use Rattle.shard_core.specs.Journal.{IsAnswered, Entry, notes}
 use Rattle.shard_core.specs.Fate.{output, under}
 use Rattle.shard_core.specs.Marked.{MarksApply}
 use Rattle.span_world.specs.World.{Config, World, settings_for, goes_to}
@@ -60,17 +60,21 @@ tries (suc lane) zero = []
 tries (suc lane) (suc shard) = pushed decided_first ∷ pushed late ∷ []
 
 abbrev from : (sender : ℕ) → Arrival → ℕ × Entry
-from sender a = (sender, entry_of (Span a) false false)
+from sender a = (sender, entry_of (Span a) false false [])
 
 abbrev ended : (sender : ℕ) → ℕ × Entry
-ended sender = (sender, entry_of (End sender) false false)
+ended sender = (sender, entry_of (End sender) false false [])
+
+-- the End with which an episode is decided, whose decision asks no limiter
+abbrev ended_last : (sender : ℕ) → ℕ × Entry
+ended_last sender = (sender, entry_of (End sender) false false ([] ∷ []))
 
 abbrev ticked : ℕ × Entry
-ticked = (2, entry_of (Tick 10) false false)
+ticked = (2, entry_of (Tick 10) false false ([] ∷ []))
 
 abbrev popped : (shard : ℕ) → List (ℕ × Entry)
 popped zero = from 0 leaves ∷ ended 1 ∷ from 0 stays ∷ ticked ∷ ended 0 ∷ ended 2 ∷ []
-popped (suc shard) = from 1 decided_first ∷ ticked ∷ from 1 late ∷ from 0 decided_last ∷ ended 0 ∷ ended 2 ∷ ended 1 ∷ []
+popped (suc shard) = from 1 decided_first ∷ ticked ∷ from 1 late ∷ from 0 decided_last ∷ ended 0 ∷ ended 2 ∷ ended_last 1 ∷ []
 
 abbrev acts : List Act
 acts = pulled 1 decided_first ∷ handed_over ∷ pulled 0 stays ∷ handed_over ∷ pulled 1 late ∷ failed ∷ spoiled ExporterDown ∷ pulled 1 decided_last ∷ spoiled ExporterDown ∷ []
@@ -107,6 +111,7 @@ meets = record {
   of_ticker = below_two (λ shard. items_of 2 (did.popped shard) ≡ map (λ m. Tick m) (did.ticks shard) ++ End 2 ∷ []) refl refl;
   of_senders = below_two _ (omega arith, (omega arith, (omega arith, (omega arith, (omega arith, (omega arith, tt)))))) (omega arith, (omega arith, (omega arith, (omega arith, (omega arith, (omega arith, (omega arith, tt)))))));
   marked = below_two (λ shard. MarksApply (settings_for config 3) (journal_of did shard)) (refl, (refl, (refl, (refl, (refl, (refl, tt)))))) (refl, (refl, (refl, (refl, (refl, (refl, (refl, tt)))))));
+  answered = below_two (λ shard. IsAnswered (settings_for config 3) (journal_of did shard)) (refl, (refl, (refl, (refl, (refl, (refl, tt)))))) (refl, (refl, (refl, (refl, (refl, (refl, (refl, tt)))))));
   shipped = below_two (λ shard. of shard (pulls did.acts) ≡ output (settings_for config 3) (journal_of did shard)) refl refl;
   of_shards = (omega arith, (omega arith, (omega arith, (omega arith, tt))));
   exports = refl;
@@ -117,8 +122,8 @@ meets = record {
 abbrev steps : List Step
 steps = receive 0 0 0 (leaves.rec ∷ []) ∷ receive 0 1 0 (lacks_ids.rec ∷ []) ∷ receive 0 0 0 (stays.rec ∷ finds_full.rec ∷ decided_last.rec ∷ []) ∷ close 0
     ∷ receive 1 0 0 (decided_first.rec ∷ []) ∷ receive 1 0 11 (late.rec ∷ []) ∷ close 1
-    ∷ route 0 0 ∷ take 0 false false ∷ end_step 0 1 ∷ route 0 0 ∷ take 0 false false ∷ tick 0 10 ∷ decide 0 ∷ refuse 0 0 ∷ end_step 0 0 ∷ end_step 0 2
-    ∷ route 1 1 ∷ take 1 false false ∷ tick 1 10 ∷ decide 1 ∷ route 1 1 ∷ take 1 false false ∷ route 0 1 ∷ take 1 false false ∷ end_step 1 0 ∷ end_step 1 2 ∷ end_step 1 1 ∷ decide 1
+    ∷ route 0 0 ∷ take 0 false false ∷ end_step 0 1 ∷ route 0 0 ∷ take 0 false false ∷ tick 0 10 ∷ decide 0 [] ∷ refuse 0 0 ∷ end_step 0 0 ∷ end_step 0 2
+    ∷ route 1 1 ∷ take 1 false false ∷ tick 1 10 ∷ decide 1 [] ∷ route 1 1 ∷ take 1 false false ∷ route 0 1 ∷ take 1 false false ∷ end_step 1 0 ∷ end_step 1 2 ∷ end_step 1 1 ∷ decide 1 []
     ∷ ship 1 ∷ pull ∷ hand ∷ ship 0 ∷ pull ∷ hand ∷ ship 1 ∷ pull ∷ fail ∷ spoil ExporterDown ∷ ship 1 ∷ pull ∷ spoil ExporterDown ∷ []
 
 -- and the world after them

@@ -11,8 +11,8 @@ use Rattle.span_ids.specs.declared.outcome.Reason.{Reason}
 use Rattle.span_ids.specs.declared.outcome.Reason.TheVariants.{InvalidId, QueueFull, NoMemory, Evicted, NotSampled, LateNotSampled, ExporterDown}
 use Rattle.span_ids.specs.declared.outcome.Verdict.TheVariants.{Sampled}
 use Rattle.lane_queue.specs.Merges.{of}
-use Rattle.shard_core.specs.Journal.{Settings, Entry, Journal, notes, remembered}
-use Rattle.shard_core.specs.Fate.{DroppedSpan, Fate, waits, fate, output, under, is_same_reason}
+use Rattle.shard_core.specs.Journal.{IsAnswered, Settings, Entry, Journal, notes, remembered}
+use Rattle.shard_core.specs.Fate.{DroppedSpan, Fate, waits, fate, output}
 use Rattle.shard_core.specs.Marked.{MarksApply}
 use Rattle.span_world.specs.World.{Config, Lane, Shard, World, new_world, settings_for, settings, has_due, goes_to, same_key}
 use Rattle.span_world.specs.Places.{Place, HeldKey, unrouted, queued, buffered, unshipped, exported, in_batch, handed, counted_under, is_waiting, held_at, buffered_spans, held_by_lanes, held_by_shards, held}
@@ -21,44 +21,49 @@ use Rattle.span_world.proofs.Parts as SpanWorldParts
 use Rattle.span_world.proofs.Samples.{always, configured, plain, ids_of}
 use Rattle.span_world.proofs.Balance.{same_settings}
 use Rattle.span_world.proofs.OnePlace.{run_keeps}
+use Rattle.span_world.proofs.AllAnswered.{answered_new}
 use Rattle.span_weave.specs.Threads.{Try, Threads, pushed, span_of, pushed_in, Act, pulled, handed_over, pulls, items_of, journal_of, Export, new_export, after_acts, AreNumbered}
 use Rattle.span_weave.specs.Woven.{counted_in_all, Woven}
 use Rattle.span_weave.proofs.Worlds.{entry_of}
+use Rattle.span_weave.proofs.Counting.{none_counted}
 use Rattle.span_weave.proofs.Numbering.{numbered_from}
 
 -- ---- all promises but one
 
 -- the promises that are broken here
-data Promise : Type 0 where
+pub data Promise : Type 0 where
   tries_in_order : Promise
   popped_in_order : Promise
   marks_that_apply : Promise
+  answer_for_each_asking : Promise
   shipped_is_output : Promise
   batch_is_empty : Promise
 
-abbrev number_of : Promise → ℕ
+abbrev pub number_of : Promise → ℕ
 number_of tries_in_order = 0
 number_of popped_in_order = 1
 number_of marks_that_apply = 2
-number_of shipped_is_output = 3
-number_of batch_is_empty = 4
+number_of answer_for_each_asking = 3
+number_of shipped_is_output = 4
+number_of batch_is_empty = 5
 
 -- nothing where the promise is the one that is broken, else this
-abbrev unless_same : Bool → Type 0 → Type 0
+abbrev pub unless_same : Bool → Type 0 → Type 0
 unless_same true T = Unit {0}
 unless_same false T = T
 
-abbrev Unless : (broken p : Promise) → Type 0 → Type 0
+abbrev pub Unless : (broken p : Promise) → Type 0 → Type 0
 Unless broken p T = unless_same (number_of broken == number_of p) T
 
 -- all of `Meets` but this promise
-record MeetsBut (broken : Promise) (c : Config) (lanes shards : ℕ) (t : Threads) (end : Export) : Type 0 where
+pub record MeetsBut (broken : Promise) (c : Config) (lanes shards : ℕ) (t : Threads) (end : Export) : Type 0 where
   pub numbered : (lane : ℕ) → lane < lanes → AreNumbered lane (t.received lane)
   pub tried : Unless broken tries_in_order ((lane shard : ℕ) → lane < lanes → shard < shards → map span_of (t.tries lane shard) ≡ filter (goes_to shards shard) (t.received lane))
   pub of_lane : Unless broken popped_in_order ((lane shard : ℕ) → lane < lanes → shard < shards → items_of lane (t.popped shard) ≡ map (λ a. Span a) (pushed_in (t.tries lane shard)) ++ End lane ∷ [])
   pub of_ticker : (shard : ℕ) → shard < shards → items_of lanes (t.popped shard) ≡ map (λ m. Tick m) (t.ticks shard) ++ End lanes ∷ []
   pub of_senders : (shard : ℕ) → shard < shards → AllByRecursion (λ (x : ℕ × Entry). x.0 ≤ lanes) (t.popped shard)
   pub marked : Unless broken marks_that_apply ((shard : ℕ) → shard < shards → MarksApply (settings_for c (lanes + 1)) (journal_of t shard))
+  pub answered : Unless broken answer_for_each_asking ((shard : ℕ) → shard < shards → IsAnswered (settings_for c (lanes + 1)) (journal_of t shard))
   pub shipped : Unless broken shipped_is_output ((shard : ℕ) → shard < shards → of shard (pulls t.acts) ≡ output (settings_for c (lanes + 1)) (journal_of t shard))
   pub of_shards : AllByRecursion (λ (x : ℕ × Arrival). x.0 < shards) (pulls t.acts)
   pub exports : after_acts c new_export t.acts ≡ Some end
@@ -76,19 +81,19 @@ holds : (t : Threads) (end : Export) (w : Woven config 1 1 t end) → HoldsOf co
 holds t end w = SpanWorldParts.headline config 1 1 w.steps w.after (λ e. cc e) w.runs
 
 own_settings : (t : Threads) (end : Export) (w : Woven config 1 1 t end) → settings config w.after ≡ own
-own_settings t end w = run_keeps config (λ (x : World). settings config x ≡ own) (λ x next stepped e. same_settings config x next stepped ∙ e) w.steps (new_world 1 1) w.after refl w.runs
+own_settings t end w = (run_keeps config (λ (x : World). settings config x ≡ own) (λ e. cc e) (λ x next stepped e. same_settings config x next stepped ∙ e) w.steps (new_world 1 1) w.after refl (answered_new own 1 1) w.runs).0
 
 -- spans of one connection and trace were handed over in received order
 abbrev HandedInOrder : List (List Arrival) → Type 0
 HandedInOrder batches = AllPairs ComesFirst (flat_map (λ batch. batch) batches)
 
 -- its one shard, whose journal is this
-record OneShard (w : World) (J : Journal) : Type 0 where
+pub record OneShard (w : World) (J : Journal) : Type 0 where
   pub shard : Shard
   pub there : slice_get w.shards 0 ≡ Some shard
   pub journal : shard.journal ≡ J
 
-one_shard : (w : World) (J : Journal) → option_map (λ (sh : Shard). sh.journal) (slice_get w.shards 0) ≡ Some J → OneShard w J
+pub one_shard : (w : World) (J : Journal) → option_map (λ (sh : Shard). sh.journal) (slice_get w.shards 0) ≡ Some J → OneShard w J
 one_shard w J e = go (slice_get w.shards 0) refl e
   where
     go : (o : Option Shard) → slice_get w.shards 0 ≡ o → option_map (λ (sh : Shard). sh.journal) o ≡ Some J → OneShard w J
@@ -111,38 +116,38 @@ module _ (k : ArrivalKey) (place : Place) where
 
 -- ---- the threads
 
-abbrev first : Arrival
+abbrev pub first : Arrival
 first = record { key = record { conn = record { lane = 0; ordinal = 0 }; number = 0 }; moment = 0; rec = plain 1 }
 
 abbrev second : Arrival
 second = record { key = record { conn = record { lane = 0; ordinal = 0 }; number = 1 }; moment = 1; rec = plain 1 }
 
 -- one lane and one shard
-abbrev did : (received : List Arrival) → (tries : List Try) → (ticks : List ℕ) → (popped : List (ℕ × Entry)) → List Act → Threads
+abbrev pub did : (received : List Arrival) → (tries : List Try) → (ticks : List ℕ) → (popped : List (ℕ × Entry)) → List Act → Threads
 did received tries ticks popped acts = record { received = λ lane. received; tries = λ lane shard. tries; ticks = λ shard. ticks; popped = λ shard. popped; acts = acts }
 
-abbrev made : List (List Arrival) → Export
+abbrev pub made : List (List Arrival) → Export
 made batches = record { batch = []; handed = batches; counted = []; down = false }
 
 -- the ends of the lane and of the ticker
-abbrev ends : List (ℕ × Entry)
-ends = (0, entry_of (End 0) false false) ∷ (1, entry_of (End 1) false false) ∷ []
+abbrev pub ends : List (ℕ × Entry)
+ends = (0, entry_of (End 0) false false []) ∷ (1, entry_of (End 1) false false []) ∷ []
 
-abbrev taken : Arrival → ℕ × Entry
-taken a = (0, entry_of (Span a) false false)
+abbrev pub taken : Arrival → ℕ × Entry
+taken a = (0, entry_of (Span a) false false [])
 
 abbrev ticked : ℕ × Entry
-ticked = (1, entry_of (Tick 11) false false)
+ticked = (1, entry_of (Tick 11) false false ([] ∷ []))
 
 -- what holds of the number 0 holds of each below 1
-only_zero : (P : ℕ → Type 0) → P 0 → (k : ℕ) → k < 1 → P k
+pub only_zero : (P : ℕ → Type 0) → P 0 → (k : ℕ) → k < 1 → P k
 only_zero P h zero l = h
 only_zero P h (suc k) l = absurd (omega (arith, l))
 
 two_numbered : (lane : ℕ) → lane < 1 → AreNumbered lane (first ∷ second ∷ [])
 two_numbered = only_zero (λ lane. AreNumbered lane (first ∷ second ∷ [])) (numbered_from 0 (first ∷ second ∷ []) (refl, refl, (refl, refl, tt)))
 
-one_numbered : (lane : ℕ) → lane < 1 → AreNumbered lane (first ∷ [])
+pub one_numbered : (lane : ℕ) → lane < 1 → AreNumbered lane (first ∷ [])
 one_numbered = only_zero (λ lane. AreNumbered lane (first ∷ [])) (numbered_from 0 (first ∷ []) (refl, refl, tt))
 
 -- no run hands over the second of the two spans first
@@ -166,6 +171,7 @@ tried_backwards_meets = record {
   of_ticker = λ shard j. refl;
   of_senders = λ shard j. (omega arith, (omega arith, (omega arith, (omega arith, (omega arith, tt)))));
   marked = λ shard j. (refl, (refl, (refl, (refl, (refl, tt)))));
+  answered = λ shard j. (refl, (refl, (refl, (refl, (refl, tt)))));
   shipped = only_zero (λ shard. of shard (pulls tried_backwards.acts) ≡ output own (journal_of tried_backwards shard)) refl;
   of_shards = (omega arith, (omega arith, tt));
   exports = refl;
@@ -189,6 +195,7 @@ popped_backwards_meets = record {
   of_ticker = λ shard j. refl;
   of_senders = λ shard j. (omega arith, (omega arith, (omega arith, (omega arith, (omega arith, tt)))));
   marked = λ shard j. (refl, (refl, (refl, (refl, (refl, tt)))));
+  answered = λ shard j. (refl, (refl, (refl, (refl, (refl, tt)))));
   shipped = only_zero (λ shard. of shard (pulls popped_backwards.acts) ≡ output own (journal_of popped_backwards shard)) refl;
   of_shards = (omega arith, (omega arith, tt));
   exports = refl;
@@ -212,6 +219,7 @@ shipped_backwards_meets = record {
   of_ticker = λ shard j. refl;
   of_senders = λ shard j. (omega arith, (omega arith, (omega arith, (omega arith, (omega arith, tt)))));
   marked = λ shard j. (refl, (refl, (refl, (refl, (refl, tt)))));
+  answered = λ shard j. (refl, (refl, (refl, (refl, (refl, tt)))));
   shipped = tt;
   of_shards = (omega arith, (omega arith, tt));
   exports = refl;
@@ -235,6 +243,7 @@ ended_early_meets = record {
   of_ticker = λ shard j. refl;
   of_senders = λ shard j. (omega arith, (omega arith, (omega arith, tt)));
   marked = λ shard j. (refl, (refl, (refl, tt)));
+  answered = λ shard j. (refl, (refl, (refl, tt)));
   shipped = only_zero (λ shard. of shard (pulls ended_early.acts) ≡ output own (journal_of ended_early shard)) refl;
   of_shards = tt;
   exports = refl;
@@ -252,14 +261,15 @@ behind_end w one = record {
   valid = refl;
   refused = false;
   lost = false;
+  answers = [];
   later = [];
-  before = entry_of (End 1) false false ∷ entry_of (End 0) false false ∷ [];
+  before = entry_of (End 1) false false [] ∷ entry_of (End 0) false false [] ∷ [];
   split = one.journal;
 }
 
 -- the fate of that span by a journal
 abbrev fate_by : Settings → Journal → Fate
-fate_by s past = fate s past (entry_of (End 1) false false ∷ entry_of (End 0) false false ∷ []) false (ids_of 1)
+fate_by s past = fate s past (entry_of (End 1) false false [] ∷ entry_of (End 0) false false [] ∷ []) false (ids_of 1)
 
 pub ended_early_is_no_run : Woven config 1 1 ended_early (made []) → ⊥
 unfolding notes
@@ -287,7 +297,7 @@ ended_early_is_no_run w =
 
 -- a late span, marked as if memory had been refused to it
 abbrev late_refused : ℕ × Entry
-late_refused = (0, entry_of (Span second) true false)
+late_refused = (0, entry_of (Span second) true false [])
 
 abbrev marked_late : Threads
 marked_late = did (first ∷ second ∷ []) (pushed first ∷ pushed second ∷ []) (11 ∷ []) (taken first ∷ ticked ∷ late_refused ∷ ends) (pulled 0 first ∷ handed_over ∷ [])
@@ -301,6 +311,7 @@ marked_late_meets = record {
   of_ticker = λ shard j. refl;
   of_senders = λ shard j. (omega arith, (omega arith, (omega arith, (omega arith, (omega arith, tt)))));
   marked = tt;
+  answered = λ shard j. (refl, (refl, (refl, (refl, (refl, tt)))));
   shipped = only_zero (λ shard. of shard (pulls marked_late.acts) ≡ output own (journal_of marked_late shard)) refl;
   of_shards = (omega arith, tt);
   exports = refl;
@@ -309,7 +320,7 @@ marked_late_meets = record {
 
 -- the journal before that span
 abbrev before_late : Journal
-before_late = entry_of (Tick 11) false false ∷ entry_of (Span first) false false ∷ []
+before_late = entry_of (Tick 11) false false ([] ∷ []) ∷ entry_of (Span first) false false [] ∷ []
 
 abbrev late_one : (w : World) → OneShard w (journal_of marked_late 0) → Taken w
 late_one w one = record {
@@ -321,7 +332,8 @@ late_one w one = record {
   valid = refl;
   refused = true;
   lost = false;
-  later = entry_of (End 1) false false ∷ entry_of (End 0) false false ∷ [];
+  answers = [];
+  later = entry_of (End 1) false false [] ∷ entry_of (End 0) false false [] ∷ [];
   before = before_late;
   split = one.journal;
 }
@@ -352,6 +364,7 @@ left_in_batch_meets = record {
   of_ticker = λ shard j. refl;
   of_senders = λ shard j. (omega arith, (omega arith, (omega arith, (omega arith, tt))));
   marked = λ shard j. (refl, (refl, (refl, (refl, tt))));
+  answered = λ shard j. (refl, (refl, (refl, (refl, tt))));
   shipped = only_zero (λ shard. of shard (pulls left_in_batch.acts) ≡ output own (journal_of left_in_batch shard)) refl;
   of_shards = (omega arith, tt);
   exports = refl;
@@ -407,23 +420,6 @@ world_waits w none nothing =
     (both_wait (lanes ++ shards ++ export) batch (both_wait (lanes ++ shards) export (both_wait lanes shards (lanes_wait 0 w.lanes) (shards_wait s 0 w.shards)) (held_waits exported refl w.exported)) (held_waits in_batch refl w.batch))
     (subst AllWait (sym over_none) refl))
     (subst AllWait (sym counted_none) refl)
-
--- where under each reason nothing is counted, nothing is
-none_counted : (counted : List DroppedSpan) → ((r : Reason) → length (under r counted) ≡ 0) → counted ≡ []
-none_counted [] none = refl
-none_counted (n ∷ rest) none =
-    let others = filter (λ (d : DroppedSpan). is_same_reason d.reason n.reason) rest in
-    let one : length (under n.reason (n ∷ rest)) ≡ suc (length (map (λ (d : DroppedSpan). d.key) others)) = ap (λ b. length (map (λ (d : DroppedSpan). d.key) (cond b (n ∷ others) others))) (same_reason n.reason) in
-    absurd (omega (arith, one, none n.reason))
-  where
-    same_reason : (r : Reason) → is_same_reason r r ≡ true
-    same_reason InvalidId = refl
-    same_reason QueueFull = refl
-    same_reason NoMemory = refl
-    same_reason Evicted = refl
-    same_reason NotSampled = refl
-    same_reason LateNotSampled = refl
-    same_reason ExporterDown = refl
 
 first_received : (lanes : List Lane) → option_map (λ (l : Lane). l.received) (slice_get lanes 0) ≡ Some (first ∷ []) → list_any (λ (l : Lane). list_any (λ a. same_key a.key first.key) l.received) lanes ≡ true
 first_received [] e = absurd (cc e)

@@ -6,7 +6,7 @@ use Rattle.otlp_types.specs.declared.arrival.Item.{Item}
 use Rattle.otlp_types.specs.declared.arrival.Item.TheVariants.{Span, Tick, End}
 use Rattle.span_ids.specs.declared.outcome.Reason.{Reason}
 use Rattle.span_ids.specs.declared.outcome.Reason.TheVariants.{NoMemory, ExporterDown}
-use Rattle.shard_core.specs.Journal.{Entry, Journal}
+use Rattle.shard_core.specs.Journal.{Entry, Journal, IsAnswered}
 use Rattle.shard_core.specs.Fate.{DroppedSpan, counts, output}
 use Rattle.shard_core.specs.Marked.{MarksApply}
 use Rattle.lane_queue.specs.Merges.{of}
@@ -69,7 +69,7 @@ pub record Threads : Type 0 where
   pub tries : (lane shard : ℕ) → List Try
   -- the moments of the ticks that the ticker sent to a shard, in order
   pub ticks : (shard : ℕ) → List ℕ
-  -- what a shard popped, the oldest first: each item with the number of its sender, and with the marks of its taking
+  -- what a shard popped, the oldest first: each item with the number of its sender, with the marks of its taking, and with the limiter's answers to the decisions at it
   pub popped : (shard : ℕ) → List (ℕ × Entry)
   -- what the exporter did, in order
   pub acts : List Act
@@ -134,6 +134,8 @@ pub record Meets (c : Config) (lanes shards : ℕ) (t : Threads) (end : Export) 
   pub of_senders : (shard : ℕ) → shard < shards → AllByRecursion (λ (x : ℕ × Entry). x.0 ≤ lanes) (t.popped shard)
   -- memory was refused only where taking an item takes memory
   pub marked : (shard : ℕ) → shard < shards → MarksApply (settings_for c (lanes + 1)) (journal_of t shard)
+  -- each decision that was due was given the limiter's answers, one for each asking
+  pub answered : (shard : ℕ) → shard < shards → IsAnswered (settings_for c (lanes + 1)) (journal_of t shard)
   -- the exporter pulled of a shard the output of that shard's journal, in order
   pub shipped : (shard : ℕ) → shard < shards → of shard (pulls t.acts) ≡ output (settings_for c (lanes + 1)) (journal_of t shard)
   -- the exporter pulled of no other shard

@@ -14,6 +14,7 @@
 //! | `of_lane`, `of_ticker` | `shard_worker::work` (`of_queues`, `ended`), `lane_queue::reunite` (one history of each queue), `popped_then_held_is_pushed`, and [`all_was_popped`] |
 //! | `of_senders` | `shard_worker::work` (`of_queues`: each popped item has the place of a queue) |
 //! | `marked` | `shard_worker::work` (`marked`) |
+//! | `answered` | `shard_worker::work` (`answered`) |
 //! | `shipped`, `of_shards` | `shard_worker::work` (`shipped`), `span_exporter::work` (`of_queues`, `ended`), `reunite`, and [`all_was_pulled`] |
 //! | `exports` | `span_exporter::work` (`leads`, `no_notes`), and [`calls_are_acts`] |
 //! | `flushed` | `span_exporter::work` (`none_left`) |

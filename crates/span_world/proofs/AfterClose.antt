@@ -2,7 +2,7 @@
 use Rattle.std.proofs.Common.{◌≡◌, ℕ, zero, suc, ◌+◌, ◌<◌, Bool, true, false, cond, not, ◌&&◌, ◌||◌, ◌==◌, List, [], ◌∷◌, ◌++◌, length, filter, flat_map, slice_get, Option, Some, None, refl, ap, sym, subst, ◌∙◌, arith, length-append, eqb-true}
 use Rattle.std.specs.List.{list_all}
 use Rattle.std.proofs.lemmas.Bool.{and_parts, not-true, eqb-false}
-use Rattle.shard_core.specs.Journal.{Settings, Journal, clock, Opening, Decision, finding, spans_since, due_at, after_finding, after_span, after_item, has_ended, have_ended, notes, decisions_now, notes_dealt}
+use Rattle.shard_core.specs.Journal.{answered, decision, due_now, Settings, Journal, clock, Opening, Decision, finding, spans_since, due_at, after_finding, after_span, after_item, has_ended, have_ended, notes, decisions_now, notes_dealt}
 use Rattle.otlp_types.specs.declared.span.Ids.{Ids}
 use Rattle.otlp_types.specs.declared.arrival.Arrival.{Arrival}
 use Rattle.otlp_types.specs.declared.arrival.Item.{Item}
@@ -11,7 +11,11 @@ use Rattle.span_world.specs.World.{Config, Lane, Shard, World, settings, ticker,
 use Rattle.span_world.specs.Step.{Step, receive, route, refuse, take as take_step, tick, close, end, decide, ship, pull, hand, fail, spoil, next_for, take_on, sender_is_done, ship_on, pull_from, spoil_applies, is_empty, step}
 use Rattle.span_world.specs.Places.{Place, HeldKey, unrouted, queued, buffered, unshipped, exported, in_batch, handed, is_waiting, held_at, buffered_spans, held_by_lanes, held_by_shard, held_by_shards, held, IsClosed}
 use Rattle.shard_core.proofs.Notes.{HasRoom, own_spans, same_refl, spans_more, Sound, Meeting, it_joins, it_meets, it_opens, meeting}
-use Rattle.span_world.specs.Headline.{EachNothingAfterClose}
+use Rattle.span_world.specs.Headline.{NothingAfterClose, EachNothingAfterClose}
+use Rattle.shard_journal.specs.Answered.{effect_answered, effect_answered_at}
+use Rattle.span_world.proofs.Answered.{next_there, content_same}
+use Rattle.span_world.proofs.AllAnswered.{AllAnswered}
+use Rattle.span_world.proofs.OnePlace.{of_each_answered}
 use Rattle.shard_core.proofs.ListFacts.{Each, Each-left, Each-right, Each-both, Each-split}
 use Rattle.shard_core.proofs.Sound.{Each-buffer, Each-undecided, sound_notes}
 use Rattle.span_world.proofs.Content.{content, content_is, one_more}
@@ -23,49 +27,49 @@ use Rattle.span_world.proofs.Steps.{and_then_some, map_some, some_if, some_unles
 abbrev HasSpan : Journal → Opening → Type 0
 HasSpan J o = 0 < length (spans_since J o)
 
-grows : (item : Item) (refused lost : Bool) (J : Journal) (os : List Opening) → Each (λ (o : Opening). o.at < length J) os → Each (HasSpan J) os → Each (HasSpan (record { item = item; refused = refused; lost = lost } ∷ J)) os
-grows item refused lost J os l h = Each-both (λ (o : Opening). o.at < length J) (HasSpan J) (HasSpan (record { item = item; refused = refused; lost = lost } ∷ J)) os
-    (λ o x y. omega (arith, ap length (spans_more J o item refused lost (omega arith)), length-append (spans_since J o) (own_spans o.trace refused item))) l h
+grows : (item : Item) (refused lost : Bool) (given : List (List Bool)) (J : Journal) (os : List Opening) → Each (λ (o : Opening). o.at < length J) os → Each (HasSpan J) os → Each (HasSpan (record { item = item; refused = refused; lost = lost; answers = given } ∷ J)) os
+grows item refused lost given J os l h = Each-both (λ (o : Opening). o.at < length J) (HasSpan J) (HasSpan (record { item = item; refused = refused; lost = lost; answers = given } ∷ J)) os
+    (λ o x y. omega (arith, ap length (spans_more J o item refused lost given (omega arith)), length-append (spans_since J o) (own_spans o.trace refused item))) l h
 
 module _ (s : Settings) (room : HasRoom s.limit) (J : Journal) (h : Each (HasSpan J) (notes s J).openings) where
   sound : Sound s J (notes s J)
   sound = sound_notes s room J
 
-  old_grow : (item : Item) (refused lost : Bool) → Each (HasSpan (record { item = item; refused = refused; lost = lost } ∷ J)) (notes s J).openings
-  old_grow item refused lost = grows item refused lost J (notes s J).openings sound.below h
+  old_grow : (item : Item) (refused lost : Bool) (given : List (List Bool)) → Each (HasSpan (record { item = item; refused = refused; lost = lost; answers = given } ∷ J)) (notes s J).openings
+  old_grow item refused lost given = grows item refused lost given J (notes s J).openings sound.below h
 
-  found_grow : (a : Arrival) (ids : Ids) (lost : Bool) → a.rec.span.ids ≡ Some ids
-      → Each (HasSpan (record { item = Span a; refused = false; lost = lost } ∷ J)) (after_finding s ids.trace lost (length J) (clock (record { item = Span a; refused = false; lost = lost } ∷ J)) (notes s J) (finding s (notes s J) ids.trace)).openings
-  found_grow a ids lost has = go (meeting s J (notes s J) ids.trace sound)
+  found_grow : (a : Arrival) (ids : Ids) (lost : Bool) (given : List (List Bool)) → a.rec.span.ids ≡ Some ids
+      → Each (HasSpan (record { item = Span a; refused = false; lost = lost; answers = given } ∷ J)) (after_finding s ids.trace lost (length J) (clock (record { item = Span a; refused = false; lost = lost; answers = given } ∷ J)) (notes s J) (finding s (notes s J) ids.trace)).openings
+  found_grow a ids lost given has = go (meeting s J (notes s J) ids.trace sound)
     where
-      old : Each (HasSpan (record { item = Span a; refused = false; lost = lost } ∷ J)) (notes s J).openings
-      old = old_grow (Span a) false lost
+      old : Each (HasSpan (record { item = Span a; refused = false; lost = lost; answers = given } ∷ J)) (notes s J).openings
+      old = old_grow (Span a) false lost given
 
       new : Opening
-      new = record { at = length J; trace = ids.trace; moment = clock (record { item = Span a; refused = false; lost = lost } ∷ J) }
+      new = record { at = length J; trace = ids.trace; moment = clock (record { item = Span a; refused = false; lost = lost; answers = given } ∷ J) }
 
-      go : Meeting s (notes s J) ids.trace → Each (HasSpan (record { item = Span a; refused = false; lost = lost } ∷ J)) (after_finding s ids.trace lost (length J) (clock (record { item = Span a; refused = false; lost = lost } ∷ J)) (notes s J) (finding s (notes s J) ids.trace)).openings
+      go : Meeting s (notes s J) ids.trace → Each (HasSpan (record { item = Span a; refused = false; lost = lost; answers = given } ∷ J)) (after_finding s ids.trace lost (length J) (clock (record { item = Span a; refused = false; lost = lost; answers = given } ∷ J)) (notes s J) (finding s (notes s J) ids.trace)).openings
       go (it_joins o newer older e same d l n f fi) = rw fi old
       go (it_meets o v l d f fi) = rw fi old
-      go (it_opens f fi) = rw fi ((omega (arith, ap length (one_more s room J (notes s J) sound a ids has lost new (omega arith) (same_refl ids.trace)), length-append (spans_since J new) (a ∷ [])), old))
+      go (it_opens f fi) = rw fi ((omega (arith, ap length (one_more s room J (notes s J) sound a ids has lost given new (omega arith) (same_refl ids.trace)), length-append (spans_since J new) (a ∷ [])), old))
 
-  item_grow : (item : Item) (refused lost : Bool) → Each (HasSpan (record { item = item; refused = refused; lost = lost } ∷ J)) (after_item s (record { item = item; refused = refused; lost = lost }) J item (notes s J)).openings
-  item_grow (Tick m) refused lost = old_grow (Tick m) refused lost
-  item_grow (End i) refused lost = old_grow (End i) refused lost
-  item_grow (Span a) refused lost = go a.rec.span.ids refl
+  item_grow : (item : Item) (refused lost : Bool) (given : List (List Bool)) → Each (HasSpan (record { item = item; refused = refused; lost = lost; answers = given } ∷ J)) (after_item s (record { item = item; refused = refused; lost = lost; answers = given }) J item (notes s J)).openings
+  item_grow (Tick m) refused lost given = old_grow (Tick m) refused lost given
+  item_grow (End i) refused lost given = old_grow (End i) refused lost given
+  item_grow (Span a) refused lost given = go a.rec.span.ids refl
     where
-      marked : (ids : Ids) → a.rec.span.ids ≡ Some ids → (refused : Bool) → Each (HasSpan (record { item = Span a; refused = refused; lost = lost } ∷ J)) (after_span s (Some ids) (record { item = Span a; refused = refused; lost = lost }) J (notes s J)).openings
-      marked ids e true = old_grow (Span a) true lost
-      marked ids e false = found_grow a ids lost e
+      marked : (ids : Ids) → a.rec.span.ids ≡ Some ids → (refused : Bool) → Each (HasSpan (record { item = Span a; refused = refused; lost = lost; answers = given } ∷ J)) (after_span s (Some ids) (record { item = Span a; refused = refused; lost = lost; answers = given }) J (notes s J)).openings
+      marked ids e true = old_grow (Span a) true lost given
+      marked ids e false = found_grow a ids lost given e
 
-      go : (ids : Option Ids) → a.rec.span.ids ≡ ids → Each (HasSpan (record { item = Span a; refused = refused; lost = lost } ∷ J)) (after_span s ids (record { item = Span a; refused = refused; lost = lost }) J (notes s J)).openings
-      go None e = old_grow (Span a) refused lost
+      go : (ids : Option Ids) → a.rec.span.ids ≡ ids → Each (HasSpan (record { item = Span a; refused = refused; lost = lost; answers = given } ∷ J)) (after_span s ids (record { item = Span a; refused = refused; lost = lost; answers = given }) J (notes s J)).openings
+      go None e = old_grow (Span a) refused lost given
       go (Some ids) e = marked ids e refused
 
 pub have_spans : (s : Settings) → HasRoom s.limit → (J : Journal) → Each (HasSpan J) (notes s J).openings
 unfolding notes
 have_spans s room [] = tt
-have_spans s room (e ∷ J) = item_grow s room J (have_spans s room J) e.item e.refused e.lost
+have_spans s room (e ∷ J) = item_grow s room J (have_spans s room J) e.item e.refused e.lost e.answers
 
 decided_spans : (s : Settings) → HasRoom s.limit → (J : Journal) (dealt : ℕ) (d : Decision) → slice_get (decisions_now s J) dealt ≡ Some d → 0 < length d.spans
 decided_spans s room [] dealt d is = absurd (cc is)
@@ -74,12 +78,12 @@ decided_spans s room (e ∷ J) dealt d is = omega (arith, ap length turn.spans, 
     sound : Sound s J (notes s J)
     sound = sound_notes s room J
 
-    turn : InTurn s (e ∷ J) (due_at s e J e.item (notes s J)) (notes s J).decisions dealt d
-    turn = in_turn s (e ∷ J) (due_at s e J e.item (notes s J)) (notes s J).decisions dealt d (Pairs-due IsEarlier s e J e.item (notes s J) (undecided_ascend s J (notes s J) sound)) is
+    turn : InTurn s (e ∷ J) (due_at s e J e.item (notes s J)) e.answers dealt d
+    turn = in_turn s (e ∷ J) (due_at s e J e.item (notes s J)) e.answers dealt d (Pairs-due IsEarlier s e J e.item (notes s J) (undecided_ascend s J (notes s J) sound)) is
 
     all : Each (HasSpan (e ∷ J)) (due_at s e J e.item (notes s J))
     all = Each-due (HasSpan (e ∷ J)) s e J e.item (notes s J) (Each-undecided (HasSpan (e ∷ J)) s (notes s J) (Each-buffer (HasSpan (e ∷ J)) s (notes s J)
-        (grows e.item e.refused e.lost J (notes s J).openings sound.below (have_spans s room J))))
+        (grows e.item e.refused e.lost e.answers J (notes s J).openings sound.below (have_spans s room J))))
 
 -- ---- nothing waits
 
@@ -150,7 +154,7 @@ get_below [] i x e = absurd (cc e)
 get_below (y ∷ xs) zero x e = omega arith
 get_below (y ∷ xs) (suc i) x e = omega (arith, get_below xs i x e)
 
-module _ (c : Config) (room : HasRoom c.limit) (w : World) (closed : IsClosed c w) where
+module _ (c : Config) (room : HasRoom c.limit) (w : World) (given : AllAnswered (settings c w) w.shards) (closed : IsClosed c w) where
   still : Each Still (held c w)
   still = none_passes (λ (h : HeldKey). is_waiting h.place) (held c w) closed.nothing_waits
 
@@ -219,12 +223,18 @@ module _ (c : Config) (room : HasRoom c.limit) (w : World) (closed : IsClosed c 
       let b = and_parts _ (sender_is_done w shard k.0 sender (slice_get w.lanes sender)) m.0 in
       let d = and_parts (not (has_due (settings c w) k.0)) (not (has_ended k.0.journal sender)) b.0 in
       absurd (both (has_ended k.0.journal sender) (sender_ended shard k.0 sender k.1 (is_sender shard k.0 sender (slice_get w.lanes sender) refl b.1)) (not-true (has_ended k.0.journal sender) d.1))
-  not_enabled (decide shard) next e =
+  not_enabled (decide shard answers) next e =
+      let s = settings c w in
       let k = and_then_some _ (slice_get w.shards shard) next e in
-      let m = map_some _ (slice_get (decisions_now (settings c w) k.0.journal) k.0.dealt) next k.2 in
-      let d = dealt_with (settings c w) room k.0.journal k.0.dealt m.0 m.1 in
-      let z : length (content (settings c w) k.0.journal (notes_dealt (settings c w) k.0.journal k.0.dealt)) ≡ 0 = ap length (at_shard shard k.0 k.1).buffer in
-      absurd (omega (arith, ap length d.was, length-append d.older (m.0.spans ++ d.newer), length-append m.0.spans d.newer, z, decided_spans (settings c w) room k.0.journal k.0.dealt m.0 m.1))
+      let m = map_some _ (effect_answered_at s k.0.journal k.0.dealt answers) next k.2 in
+      let n = and_then_some (effect_answered s k.0.journal answers) (slice_get (due_now s k.0.journal) k.0.dealt) m.0 m.1 in
+      let up = given shard k.0 k.1 in
+      let J = answered k.0.journal answers in
+      let there = next_there s room k.0.journal k.0.dealt answers n.0 n.1 up in
+      let d = dealt_with s room J k.0.dealt (decision s k.0.journal n.0 answers) there in
+      let same = ap length (content_same s room k.0.journal k.0.dealt answers n.0 n.1 up) in
+      let z : length (content s k.0.journal (notes_dealt s k.0.journal k.0.dealt)) ≡ 0 = ap length (at_shard shard k.0 k.1).buffer in
+      absurd (omega (arith, ap length d.was, same, length-append d.older (spans_since k.0.journal n.0 ++ d.newer), length-append (spans_since k.0.journal n.0) d.newer, z, decided_spans s room J k.0.dealt (decision s k.0.journal n.0 answers) there))
   not_enabled (ship shard) next e =
       let k = and_then_some _ (slice_get w.shards shard) next e in
       let f : ship_on w shard k.0 [] ≡ Some next = subst (λ (q : List Arrival). ship_on w shard k.0 q ≡ Some next) (at_shard shard k.0 k.1).unsent k.2 in
@@ -239,4 +249,4 @@ module _ (c : Config) (room : HasRoom c.limit) (w : World) (closed : IsClosed c 
       absurd (both (is_empty w.batch) (ap is_empty no_batch) (or_both (is_empty w.batch) (not (spoil_applies w reason)) m.0).0)
 
 pub nothing_after_close : EachNothingAfterClose
-nothing_after_close c lanes shards steps w room e closed s next f = not_enabled c room w closed s next f
+nothing_after_close = of_each_answered (λ c w. Unit {0}) NothingAfterClose (λ c room lanes shards. tt) (λ c room w next st h. tt) (λ c room w h given closed s next f. not_enabled c room w given closed s next f)

@@ -1,7 +1,7 @@
 -- Each step keeps, for each key, how often it stands somewhere beside how often it was received.
 use Rattle.std.proofs.Common.{◌≡◌, ℕ, suc, ◌+◌, Bool, true, false, not, List, [], ◌∷◌, ◌++◌, length, map, filter, flat_map, count_by, Option, Some, None, refl, ap, ◌∙◌, arith}
 use Rattle.std.proofs.Math.Numerals.{add-one}
-use Rattle.shard_core.specs.Journal.{Settings, Journal, Decision, notes, notes_dealt, Entry}
+use Rattle.shard_core.specs.Journal.{Settings, Journal, Decision, notes, notes_dealt, Entry, answered}
 use Rattle.shard_core.specs.Fate.{DroppedSpan, Effect, counts, effect_of_verdict, effect_of_decision, effect_of_span}
 use Rattle.otlp_types.specs.declared.span.Ids.{Ids}
 use Rattle.span_ids.specs.declared.ids.TraceId.{TraceId}
@@ -20,7 +20,8 @@ use Rattle.shard_core.proofs.Notes.{HasRoom}
 use Rattle.shard_core.proofs.ListFacts.{tally, tally-append, tally-map, tally-flat_map_map, tally-halves, total, total-set, length_filter, length-slice_set, flat_map-append'}
 use Rattle.span_world.proofs.Content.{content, content_is, Taking, kept, late, dropped, took_span as span_taken, stays_by_tick, stays_by_end, all_dealt}
 use Rattle.span_world.proofs.Dealing.{Dealing, dealt_with}
-use Rattle.span_world.proofs.Steps.{Stepped, received_by, routed, refused_by, took_span, took_tick, closed_by, took_end, decided_one, shipped, pulled, handed_over, failed, spoiled}
+use Rattle.span_world.proofs.Answered.{content_same}
+use Rattle.span_world.proofs.Steps.{Stepped, received_by, routed, refused_by, took_span, took_tick, closed_by, took_end, answered_by, decided_one, shipped, pulled, handed_over, failed, spoiled}
 
 abbrev pub occ : ArrivalKey → List Arrival → ℕ
 occ k spans = tally (λ (a : Arrival). same_key a.key k) spans
@@ -147,21 +148,24 @@ module _ (k : ArrivalKey) (c : Config) (room : HasRoom c.limit) (w : World) wher
       omega (arith, u, r, x, y, counted-append k w.counted (counts QueueFull (a ∷ [])), occ_counts k QueueFull (a ∷ [])))
   balance next (took_span shard refused lost sh a rest g q n m e) = rw (← e) (
       let v = has_valid sh.journal refused lost a.rec.span.ids m in
-      let entry : Entry = record { item = Span a; refused = refused; lost = lost } in
+      let entry : Entry = record { item = Span a; refused = refused; lost = lost; answers = [] } in
       let did : Effect = effect_of_span s sh.journal refused a a.rec.span.ids in
-      let t = total-set (weigh k s) w.shards shard sh (record { queue = rest; journal = record { item = Span a; refused = refused; lost = lost } ∷ sh.journal; dealt = 0; unshipped = sh.unshipped ++ did.released }) g in
+      let t = total-set (weigh k s) w.shards shard sh (record { queue = rest; journal = record { item = Span a; refused = refused; lost = lost; answers = [] } ∷ sh.journal; dealt = 0; unshipped = sh.unshipped ++ did.released }) g in
       let b = taking_balance k (span_taken s room sh.journal a v.0 v.1 refused lost) in
       omega (arith, t, b, weighs sh n, queue_is sh a rest q, occ-append k sh.unshipped did.released, counted-append k w.counted did.counted))
   balance next (took_tick shard moment sh g n m e) = rw (← e) (
-      let t = total-set (weigh k s) w.shards shard sh (record { queue = sh.queue; journal = record { item = Tick moment; refused = false; lost = false } ∷ sh.journal; dealt = 0; unshipped = sh.unshipped ++ [] }) g in
+      let t = total-set (weigh k s) w.shards shard sh (record { queue = sh.queue; journal = record { item = Tick moment; refused = false; lost = false; answers = [] } ∷ sh.journal; dealt = 0; unshipped = sh.unshipped ++ [] }) g in
       omega (arith, t, ap (occ k) (stays_by_tick s room sh.journal moment), weighs sh n, occ-append k sh.unshipped [], counted-append k w.counted []))
   balance next (closed_by lane l g n e) = rw (← e) (
       let u = total-set (λ (l : Lane). occ k l.unrouted) w.lanes lane l (record l { ended = true }) g in
       let r = total-set (λ (l : Lane). occ k l.received) w.lanes lane l (record l { ended = true }) g in
       omega (arith, u, r))
   balance next (took_end shard sender sh g n m d e) = rw (← e) (
-      let t = total-set (weigh k s) w.shards shard sh (record { queue = sh.queue; journal = record { item = End sender; refused = false; lost = false } ∷ sh.journal; dealt = 0; unshipped = sh.unshipped ++ [] }) g in
+      let t = total-set (weigh k s) w.shards shard sh (record { queue = sh.queue; journal = record { item = End sender; refused = false; lost = false; answers = [] } ∷ sh.journal; dealt = 0; unshipped = sh.unshipped ++ [] }) g in
       omega (arith, t, ap (occ k) (stays_by_end s room sh.journal sender), weighs sh n, occ-append k sh.unshipped [], counted-append k w.counted []))
+  balance next (answered_by shard sh answers o g d i e) = rw (← e) (
+      let t = total-set (weigh k s) w.shards shard sh (record sh { journal = answered sh.journal answers }) g in
+      omega (arith, t, ap (occ k) (content_same s room sh.journal sh.dealt answers o d i)))
   balance next (decided_one shard sh d g i e) = rw (← e) (
       let did = effect_of_decision d in
       let t = total-set (weigh k s) w.shards shard sh (record sh { dealt = sh.dealt + 1; unshipped = sh.unshipped ++ did.released }) g in
@@ -193,6 +197,7 @@ same_settings c w next st = ap (λ n. settings_for c (n + 1)) (same_length next 
     same_length next (took_tick shard moment sh g n m e) = rw (← e) refl
     same_length next (closed_by lane l g n e) = rw (← e) (length-slice_set w.lanes lane _)
     same_length next (took_end shard sender sh g n m d e) = rw (← e) refl
+    same_length next (answered_by shard sh answers o g d i e) = rw (← e) refl
     same_length next (decided_one shard sh d g i e) = rw (← e) refl
     same_length next (shipped shard sh a rest g u e) = rw (← e) refl
     same_length next (pulled a rest u e) = rw (← e) refl

@@ -18,13 +18,15 @@ use Rattle.shard_core.proofs.Notes.{HasRoom, is_open, same_refl}
 use Rattle.shard_core.proofs.ListFacts.{Each, Each-append, Each-left, Each-right, Each-weaker, Each-both, Each-filter, Each-passes, Split, Split-more, Split-behind, spill, spill-append}
 use Rattle.shard_core.proofs.Sound.{makes_room, last_of_nil}
 use Rattle.span_world.proofs.Content.{content, took_span as span_taken, stays_by_tick, stays_by_end, all_dealt}
+use Rattle.span_world.proofs.Answered.{content_same}
+use Rattle.shard_core.specs.Journal.{due_now, answered, IsAnsweredUpTo}
 use Rattle.span_world.proofs.Dealing.{dealt_with, Split-each}
-use Rattle.span_world.proofs.Steps.{Stepped, received_by, routed, refused_by, took_span, took_tick, closed_by, took_end, decided_one, shipped, pulled, handed_over, failed, spoiled}
+use Rattle.span_world.proofs.Steps.{Stepped, received_by, routed, refused_by, took_span, took_tick, closed_by, took_end, answered_by, decided_one, shipped, pulled, handed_over, failed, spoiled}
 use Rattle.span_world.proofs.Balance.{same_settings, has_valid}
 use Rattle.span_world.proofs.Lined.{line_of, line_taken, line_dealt, line, at_each}
 use Rattle.span_world.proofs.Order.{behind, behind_pulled, behind_handed, replicated}
 use Rattle.span_world.proofs.Released.{HasReleased, get_set, get_set_other, ReleasingAt}
-use Rattle.span_world.proofs.Settled.{FateIs, fate_settles, released_keeps, counted_by_decision, refused_fate, late_fate, evicted_fate}
+use Rattle.span_world.proofs.Settled.{fate_is_answered, FateIs, fate_settles, released_keeps, counted_by_decision, refused_fate, late_fate, evicted_fate}
 
 -- ---- received, and with a fate
 
@@ -102,6 +104,9 @@ cause_down s shards down b ExporterDown h = (refl, h.1)
 settles_same : (s : Settings) (J : Journal) → Settles s J J
 settles_same s J = record { counted = λ a r h. h; released = λ a h. h }
 
+settles_answered : (s : Settings) → HasRoom s.limit → (J : Journal) (k : ℕ) (answers : List Bool) (o : Opening) → slice_get (due_now s J) k ≡ Some o → IsAnsweredUpTo s J k → Settles s J (answered J answers)
+settles_answered s room J k answers o d i = record { counted = λ a r h. fate_is_answered s room J k answers o d i a (is_counted r) (inr (r, refl)) h; released = λ a h. fate_is_answered s room J k answers o d i a is_released (inl refl) h }
+
 settles_more : (s : Settings) → HasRoom s.limit → (J : Journal) (e : Entry) → Settles s J (e ∷ J)
 settles_more s room J e = record { counted = λ a r h. fate_settles s room J e a r h; released = λ a h. released_keeps s room J e a h }
 
@@ -157,11 +162,11 @@ spill_at P f p x xs k e h =
 
 module _ (s : Settings) (room : HasRoom s.limit) (lanes : List Lane) (shards : List Shard) (down : Bool) where
   caused_by_span : (J : Journal) (a : Arrival) (ids : Ids) → a.rec.span.ids ≡ Some ids → (refused lost : Bool) → IsReceived lanes a → Each (IsReceived lanes) (content s J (notes s J))
-      → ((b : Arrival) (became : Fate) → FateIs s (record { item = Span a; refused = refused; lost = lost } ∷ J) b became → HasF s shards b became)
+      → ((b : Arrival) (became : Fate) → FateIs s (record { item = Span a; refused = refused; lost = lost; answers = [] } ∷ J) b became → HasF s shards b became)
       → Each (Caused s lanes shards down) (effect_of_span s J refused a a.rec.span.ids).counted
   caused_by_span J a ids has refused lost r held f = subst (λ (z : Option Ids). Each (Caused s lanes shards down) (effect_of_span s J refused a z).counted) (sym has) (go refused f)
     where
-      by_leaving : (out : Option Opening) → leaving s.limit (notes s J).openings ≡ out → finding s (notes s J) ids.trace ≡ opens → ((b : Arrival) (became : Fate) → FateIs s (record { item = Span a; refused = false; lost = lost } ∷ J) b became → HasF s shards b became)
+      by_leaving : (out : Option Opening) → leaving s.limit (notes s J).openings ≡ out → finding s (notes s J) ids.trace ≡ opens → ((b : Arrival) (became : Fate) → FateIs s (record { item = Span a; refused = false; lost = lost; answers = [] } ∷ J) b became → HasF s shards b became)
           → Each (Caused s lanes shards down) (effect_of_leaving J (notes s J) out).counted
       by_leaving None q e f = tt
       by_leaving (Some o) q e f = by_decided (decided_as (notes s J) o.at) refl
@@ -172,21 +177,21 @@ module _ (s : Settings) (room : HasRoom s.limit) (lanes : List Lane) (shards : L
           by_decided : (d : Option Verdict) → decided_as (notes s J) o.at ≡ d → Each (Caused s lanes shards down) (effect_of_leaving_decided Evicted (spans_since J o) d).counted
           by_decided (Some v) d = tt
           by_decided None d = counts_caused s lanes shards down Evicted (spans_since J o)
-              (Each-both (IsReceived lanes) (λ (b : Arrival). FateIs s (record { item = Span a; refused = false; lost = lost } ∷ J) b (is_counted Evicted)) (λ (b : Arrival). IsReceived lanes b × Cause s shards down b Evicted) (spans_since J o)
+              (Each-both (IsReceived lanes) (λ (b : Arrival). FateIs s (record { item = Span a; refused = false; lost = lost; answers = [] } ∷ J) b (is_counted Evicted)) (λ (b : Arrival). IsReceived lanes b × Cause s shards down b Evicted) (spans_since J o)
               (λ b x y. (x, f b (is_counted Evicted) y)) (spill_at (IsReceived lanes) (spans_since J) (is_open (notes s J)) o (in_buffer s (notes s J)) place (ap is_none d) held) (evicted_fate s room J a ids has lost o e q d))
 
-      by_verdict : (o : Opening) (v : Verdict) → finding s (notes s J) ids.trace ≡ meets o v → ((b : Arrival) (became : Fate) → FateIs s (record { item = Span a; refused = false; lost = lost } ∷ J) b became → HasF s shards b became)
+      by_verdict : (o : Opening) (v : Verdict) → finding s (notes s J) ids.trace ≡ meets o v → ((b : Arrival) (became : Fate) → FateIs s (record { item = Span a; refused = false; lost = lost; answers = [] } ∷ J) b became → HasF s shards b became)
           → Each (Caused s lanes shards down) (effect_of_verdict LateNotSampled (a ∷ []) v).counted
       by_verdict o Sampled e f = tt
       by_verdict o NotSampled e f = counts_caused s lanes shards down LateNotSampled (a ∷ []) ((r, f a (is_counted LateNotSampled) (late_fate s room J a ids has lost o e)), tt)
 
-      by_finding : (x : Finding) → finding s (notes s J) ids.trace ≡ x → ((b : Arrival) (became : Fate) → FateIs s (record { item = Span a; refused = false; lost = lost } ∷ J) b became → HasF s shards b became)
+      by_finding : (x : Finding) → finding s (notes s J) ids.trace ≡ x → ((b : Arrival) (became : Fate) → FateIs s (record { item = Span a; refused = false; lost = lost; answers = [] } ∷ J) b became → HasF s shards b became)
           → Each (Caused s lanes shards down) (effect_of_finding s J (notes s J) a x).counted
       by_finding (joins o) e f = tt
       by_finding (meets o v) e f = by_verdict o v e f
       by_finding opens e f = by_leaving (leaving s.limit (notes s J).openings) refl e f
 
-      go : (refused : Bool) → ((b : Arrival) (became : Fate) → FateIs s (record { item = Span a; refused = refused; lost = lost } ∷ J) b became → HasF s shards b became) → Each (Caused s lanes shards down) (effect_of_span s J refused a (Some ids)).counted
+      go : (refused : Bool) → ((b : Arrival) (became : Fate) → FateIs s (record { item = Span a; refused = refused; lost = lost; answers = [] } ∷ J) b became → HasF s shards b became) → Each (Caused s lanes shards down) (effect_of_span s J refused a (Some ids)).counted
       go true f = counts_caused s lanes shards down NoMemory (a ∷ []) ((r, inl (f a (is_counted NoMemory) (refused_fate s room J a ids has lost))), tt)
       go false f = by_finding (finding s (notes s J) ids.trace) refl f
 
@@ -231,8 +236,8 @@ module _ (c : Config) (room : HasRoom c.limit) (w : World) (h : SourcedAt c w) (
   spoil_cause Evicted e b k = absurd (cc e)
   spoil_cause DecidedAgainst e b k = absurd (cc e)
   spoil_cause LateNotSampled e b k = absurd (cc e)
-  spoil_cause NoMemory e b k = let i = k.released in inr (record { shard = k.shard; sh = k.sh; at = k.at; fate = record { ids = i.ids; valid = i.valid; refused = false; lost = i.lost; later = i.later; before = i.before; split = i.split; is = i.fate_is } })
-  spoil_cause ExporterDown e b k = let i = k.released in (e, record { shard = k.shard; sh = k.sh; at = k.at; fate = record { ids = i.ids; valid = i.valid; refused = false; lost = i.lost; later = i.later; before = i.before; split = i.split; is = i.fate_is } })
+  spoil_cause NoMemory e b k = let i = k.released in inr (record { shard = k.shard; sh = k.sh; at = k.at; fate = record { ids = i.ids; valid = i.valid; refused = false; lost = i.lost; given = i.given; later = i.later; before = i.before; split = i.split; is = i.fate_is } })
+  spoil_cause ExporterDown e b k = let i = k.released in (e, record { shard = k.shard; sh = k.sh; at = k.at; fate = record { ids = i.ids; valid = i.valid; refused = false; lost = i.lost; given = i.given; later = i.later; before = i.before; split = i.split; is = i.fate_is } })
 
   sourced : (next : World) → Stepped c w next → Next next
   sourced next (received_by lane ordinal moment records l g p e) = subst Next e (
@@ -265,27 +270,31 @@ module _ (c : Config) (room : HasRoom c.limit) (w : World) (h : SourcedAt c w) (
       (counts_caused s (slice_set w.lanes lane l') w.shards w.down QueueFull (a ∷ []) ((received_set w.lanes lane l l' gl (λ b k. k) a v.0, goes_has_ids (length w.shards) shard a.rec.span.ids t.passes), tt)))
   sourced next (took_span shard refused lost sh a rest g q d m e) = subst Next e (
       let v = has_valid a.key c room w sh.journal refused lost a.rec.span.ids m in
-      let entry : Entry = record { item = Span a; refused = refused; lost = lost } in
+      let entry : Entry = record { item = Span a; refused = refused; lost = lost; answers = [] } in
       let did : Effect = effect_of_span s sh.journal refused a a.rec.span.ids in
-      let sh' : Shard = record { queue = rest; journal = record { item = Span a; refused = refused; lost = lost } ∷ sh.journal; dealt = 0; unshipped = sh.unshipped ++ did.released } in
+      let sh' : Shard = record { queue = rest; journal = record { item = Span a; refused = refused; lost = lost; answers = [] } ∷ sh.journal; dealt = 0; unshipped = sh.unshipped ++ did.released } in
       let was = subst (λ z. Each (IsReceived w.lanes) z) (now_noted sh d ∙ ap (λ z. line_of sh.unshipped (content s sh.journal (notes s sh.journal)) z) q) (h.lines shard sh g) in
       let tail = Each-right (IsReceived w.lanes) sh.unshipped (content s sh.journal (notes s sh.journal) ++ a ∷ rest) was in
       let held = Each-left (IsReceived w.lanes) (content s sh.journal (notes s sh.journal)) (a ∷ rest) tail in
       let first = (Each-right (IsReceived w.lanes) (content s sh.journal (notes s sh.journal)) (a ∷ rest) tail).0 in
       let k = line_taken a v.0.trace sh.unshipped (content s sh.journal (notes s sh.journal)) _ did.released rest did.counted (ap (ids_have_trace v.0.trace) v.1 ∙ same_refl v.0.trace) (span_taken s room sh.journal a v.0 v.1 refused lost) in
-      let n = shard_set s w.lanes w.shards (behind w) w.counted w.down h shard sh sh' g (settles_more s room sh.journal (record { item = Span a; refused = refused; lost = lost })) (k.each (IsReceived w.lanes) was) in
+      let n = shard_set s w.lanes w.shards (behind w) w.counted w.down h shard sh sh' g (settles_more s room sh.journal (record { item = Span a; refused = refused; lost = lost; answers = [] })) (k.each (IsReceived w.lanes) was) in
       more_counted s w.lanes (slice_set w.shards shard sh') (behind w) w.counted w.down n did.counted
       (caused_by_span s room w.lanes (slice_set w.shards shard sh') w.down sh.journal a v.0 v.1 refused lost first held (λ b became x. record { shard = shard; sh = sh'; at = get_set w.shards shard sh sh' g; fate = x })))
   sourced next (took_tick shard moment sh g d m e) = subst Next e (
-      let sh' : Shard = record { queue = sh.queue; journal = record { item = Tick moment; refused = false; lost = false } ∷ sh.journal; dealt = 0; unshipped = sh.unshipped ++ [] } in
+      let sh' : Shard = record { queue = sh.queue; journal = record { item = Tick moment; refused = false; lost = false; answers = [] } ∷ sh.journal; dealt = 0; unshipped = sh.unshipped ++ [] } in
       more_counted s w.lanes (slice_set w.shards shard sh') (behind w) w.counted w.down
-      (shard_set s w.lanes w.shards (behind w) w.counted w.down h shard sh sh' g (settles_more s room sh.journal (record { item = Tick moment; refused = false; lost = false })) (still shard sh _ g d (stays_by_tick s room sh.journal moment))) [] tt)
+      (shard_set s w.lanes w.shards (behind w) w.counted w.down h shard sh sh' g (settles_more s room sh.journal (record { item = Tick moment; refused = false; lost = false; answers = [] })) (still shard sh _ g d (stays_by_tick s room sh.journal moment))) [] tt)
   sourced next (closed_by lane l g p e) = subst Next e (
       lane_set s w.lanes w.shards (behind w) w.counted w.down h lane l (record l { ended = true }) g (λ b k. k) (Each-weaker (IsReceived w.lanes) (IsReceived (slice_set w.lanes lane (record l { ended = true }))) l.unrouted (λ b k. received_set w.lanes lane l (record l { ended = true }) g (λ b k. k) b k) (h.unrouted lane l g)))
   sourced next (took_end shard sender sh g d m p e) = subst Next e (
-      let sh' : Shard = record { queue = sh.queue; journal = record { item = End sender; refused = false; lost = false } ∷ sh.journal; dealt = 0; unshipped = sh.unshipped ++ [] } in
+      let sh' : Shard = record { queue = sh.queue; journal = record { item = End sender; refused = false; lost = false; answers = [] } ∷ sh.journal; dealt = 0; unshipped = sh.unshipped ++ [] } in
       more_counted s w.lanes (slice_set w.shards shard sh') (behind w) w.counted w.down
-      (shard_set s w.lanes w.shards (behind w) w.counted w.down h shard sh sh' g (settles_more s room sh.journal (record { item = End sender; refused = false; lost = false })) (still shard sh _ g d (stays_by_end s room sh.journal sender))) [] tt)
+      (shard_set s w.lanes w.shards (behind w) w.counted w.down h shard sh sh' g (settles_more s room sh.journal (record { item = End sender; refused = false; lost = false; answers = [] })) (still shard sh _ g d (stays_by_end s room sh.journal sender))) [] tt)
+  sourced next (answered_by shard sh answers o g d i e) = subst Next e (
+      let sh' : Shard = record sh { journal = answered sh.journal answers } in
+      shard_set s w.lanes w.shards (behind w) w.counted w.down h shard sh sh' g (settles_answered s room sh.journal sh.dealt answers o d i)
+      (subst (λ z. Each (IsReceived w.lanes) z) (ap (λ z. line_of sh.unshipped z sh.queue) (sym (content_same s room sh.journal sh.dealt answers o d i))) (h.lines shard sh g)))
   sourced next (decided_one shard sh d g i e) = subst Next e (
       let did = effect_of_decision d in
       let sh' : Shard = record sh { dealt = sh.dealt + 1; unshipped = sh.unshipped ++ did.released } in

@@ -2,7 +2,7 @@
 use Rattle.std.proofs.Common.{◌≡◌, ℕ, zero, suc, ◌<◌, ◌≤◌, Bool, true, false, cond, not, ◌&&◌, ◌==◌, nat_lt, List, [], ◌∷◌, ◌++◌, length, flat_map, take, Option, Some, None, is_none, option_map, option_to_list, refl, ap, sym, subst, ◌∙◌, arith, append_assoc, ne_eqb, ltb-false}
 use Rattle.std.proofs.lemmas.List.{append-nil}
 use Rattle.span_ids.specs.Same.{same_trace}
-use Rattle.shard_core.specs.Journal.{Settings, Journal, ids_have_trace, is_of_trace, clock, Opening, Decision, Notes, last_of, in_buffer, leaving, decided_as, undecided, finding, spans_since, due_at, decision, decisions_in_turn, after_finding, after_span, after_item, after_decisions, decisions_at, notes, due_now, notes_dealt, Entry}
+use Rattle.shard_core.specs.Journal.{Settings, Journal, ids_have_trace, is_of_trace, clock, Opening, Decision, Notes, last_of, in_buffer, leaving, decided_as, undecided, finding, spans_since, due_at, decisions_in_turn, after_finding, after_span, after_item, after_decisions, decisions_at, notes, due_now, notes_dealt, Entry}
 use Rattle.shard_core.specs.Fate.{DroppedSpan, counts, effect_of_verdict, effect_of_leaving, effect_of_leaving_decided, effect_of_finding, effect_of_span}
 use Rattle.otlp_types.specs.declared.span.Ids.{Ids}
 use Rattle.span_ids.specs.declared.ids.TraceId.{TraceId}
@@ -34,20 +34,20 @@ pub data Taking (a : Arrival) (t : TraceId) (before after released : List Arriva
   late : after ≡ before → released ≡ a ∷ [] → counted ≡ [] → Each (IsOther t) before → Taking a t before after released counted
   dropped : (r : Reason) → after ≡ before → released ≡ [] → counted ≡ counts r (a ∷ []) → Taking a t before after released counted
 
-module _ (s : Settings) (room : HasRoom s.limit) (J : Journal) (noted : Notes) (h : Sound s J noted) (a : Arrival) (ids : Ids) (has : a.rec.span.ids ≡ Some ids) (lost : Bool) where
+module _ (s : Settings) (room : HasRoom s.limit) (J : Journal) (noted : Notes) (h : Sound s J noted) (a : Arrival) (ids : Ids) (has : a.rec.span.ids ≡ Some ids) (lost : Bool) (given : List (List Bool)) where
   abbrev entry : Bool → Entry
-  entry refused = record { item = Span a; refused = refused; lost = lost }
+  entry refused = record { item = Span a; refused = refused; lost = lost; answers = given }
 
   -- an older episode gains nothing where the span has another trace or is refused
   pub same_spans : (refused : Bool) (o : Opening) → o.at < length J → (is_of_trace o.trace a && not refused) ≡ false → spans_since (entry refused ∷ J) o ≡ spans_since J o
-  same_spans refused o l e = spans_more J o (Span a) refused lost (omega arith) ∙ go (is_of_trace o.trace a && not refused) e
+  same_spans refused o l e = spans_more J o (Span a) refused lost given (omega arith) ∙ go (is_of_trace o.trace a && not refused) e
     where
       go : (b : Bool) → b ≡ false → spans_since J o ++ cond b (a ∷ []) [] ≡ spans_since J o
       go true e = absurd (cc e)
       go false e = append-nil (spans_since J o)
 
   pub one_more : (o : Opening) → o.at ≤ length J → same_trace o.trace ids.trace ≡ true → spans_since (entry false ∷ J) o ≡ spans_since J o ++ a ∷ []
-  one_more o l e = spans_more J o (Span a) false lost l ∙ go (is_of_trace o.trace a) (ap (ids_have_trace o.trace) has ∙ e)
+  one_more o l e = spans_more J o (Span a) false lost given l ∙ go (is_of_trace o.trace a) (ap (ids_have_trace o.trace) has ∙ e)
     where
       go : (b : Bool) → b ≡ true → spans_since J o ++ cond (b && true) (a ∷ []) [] ≡ spans_since J o ++ a ∷ []
       go true e = refl
@@ -186,36 +186,37 @@ module _ (s : Settings) (room : HasRoom s.limit) (J : Journal) (noted : Notes) (
 -- ---- taking a span
 
 pub took_span : (s : Settings) → HasRoom s.limit → (J : Journal) (a : Arrival) (ids : Ids) → a.rec.span.ids ≡ Some ids → (refused lost : Bool)
-    → Taking a ids.trace (content s J (notes s J)) (content s (record { item = Span a; refused = refused; lost = lost } ∷ J) (after_span s a.rec.span.ids (record { item = Span a; refused = refused; lost = lost }) J (notes s J)))
+    → Taking a ids.trace (content s J (notes s J)) (content s (record { item = Span a; refused = refused; lost = lost; answers = [] } ∷ J) (after_span s a.rec.span.ids (record { item = Span a; refused = refused; lost = lost; answers = [] }) J (notes s J)))
     (effect_of_span s J refused a a.rec.span.ids).released (effect_of_span s J refused a a.rec.span.ids).counted
-took_span s room J a ids has refused lost = subst (λ (z : Option Ids). Taking a ids.trace (content s J (notes s J)) (content s (record { item = Span a; refused = refused; lost = lost } ∷ J) (after_span s z (record { item = Span a; refused = refused; lost = lost }) J (notes s J)))
+took_span s room J a ids has refused lost = subst (λ (z : Option Ids). Taking a ids.trace (content s J (notes s J)) (content s (record { item = Span a; refused = refused; lost = lost; answers = [] } ∷ J) (after_span s z (record { item = Span a; refused = refused; lost = lost; answers = [] }) J (notes s J)))
     (effect_of_span s J refused a z).released (effect_of_span s J refused a z).counted) (sym has) (go refused)
   where
-    go : (refused : Bool) → Taking a ids.trace (content s J (notes s J)) (content s (record { item = Span a; refused = refused; lost = lost } ∷ J) (after_span s (Some ids) (record { item = Span a; refused = refused; lost = lost }) J (notes s J)))
+    go : (refused : Bool) → Taking a ids.trace (content s J (notes s J)) (content s (record { item = Span a; refused = refused; lost = lost; answers = [] } ∷ J) (after_span s (Some ids) (record { item = Span a; refused = refused; lost = lost; answers = [] }) J (notes s J)))
         (effect_of_span s J refused a (Some ids)).released (effect_of_span s J refused a (Some ids)).counted
-    go true = dropped NoMemory (sym (refused_stay s room J (notes s J) (sound_notes s room J) a ids has lost)) refl refl
-    go false = took s room J (notes s J) (sound_notes s room J) a ids has lost (meeting s J (notes s J) ids.trace (sound_notes s room J))
+    go true = dropped NoMemory (sym (refused_stay s room J (notes s J) (sound_notes s room J) a ids has lost [])) refl refl
+    go false = took s room J (notes s J) (sound_notes s room J) a ids has lost [] (meeting s J (notes s J) ids.trace (sound_notes s room J))
 
 -- another item leaves the contents as they were
 pub stays_by_other : (s : Settings) → HasRoom s.limit → (J : Journal) (item : Item) (refused lost : Bool) → ((refused : Bool) (t : TraceId) → own_spans t refused item ≡ [])
-    → content s (record { item = item; refused = refused; lost = lost } ∷ J) (notes s J) ≡ content s J (notes s J)
-stays_by_other s room J item refused lost f = spill-same (spans_since (record { item = item; refused = refused; lost = lost } ∷ J)) (spans_since J) (is_open (notes s J)) (is_open (notes s J)) (in_buffer s (notes s J))
-    (Each-weaker (λ (o : Opening). o.at < length J) (λ (o : Opening). cond (is_open (notes s J) o) (spans_since (record { item = item; refused = refused; lost = lost } ∷ J) o) [] ≡ cond (is_open (notes s J) o) (spans_since J o) []) (in_buffer s (notes s J))
-    (λ o l. ap (λ z. cond (is_open (notes s J) o) z []) (spans_more J o item refused lost (omega arith)
+    → content s (record { item = item; refused = refused; lost = lost; answers = [] } ∷ J) (notes s J) ≡ content s J (notes s J)
+stays_by_other s room J item refused lost f = spill-same (spans_since (record { item = item; refused = refused; lost = lost; answers = [] } ∷ J)) (spans_since J) (is_open (notes s J)) (is_open (notes s J)) (in_buffer s (notes s J))
+    (Each-weaker (λ (o : Opening). o.at < length J) (λ (o : Opening). cond (is_open (notes s J) o) (spans_since (record { item = item; refused = refused; lost = lost; answers = [] } ∷ J) o) [] ≡ cond (is_open (notes s J) o) (spans_since J o) []) (in_buffer s (notes s J))
+    (λ o l. ap (λ z. cond (is_open (notes s J) o) z []) (spans_more J o item refused lost [] (omega arith)
     ∙ ap (λ z. spans_since J o ++ z) (f refused o.trace) ∙ append-nil (spans_since J o)))
     (Each-buffer (λ (o : Opening). o.at < length J) s (notes s J) (sound_notes s room J).below))
 
-pub stays_by_tick : (s : Settings) → HasRoom s.limit → (J : Journal) (m : ℕ) → content s (record { item = Tick m; refused = false; lost = false } ∷ J) (notes s J) ≡ content s J (notes s J)
+pub stays_by_tick : (s : Settings) → HasRoom s.limit → (J : Journal) (m : ℕ) → content s (record { item = Tick m; refused = false; lost = false; answers = [] } ∷ J) (notes s J) ≡ content s J (notes s J)
 stays_by_tick s room J m = stays_by_other s room J (Tick m) false false (λ r t. refl)
 
-pub stays_by_end : (s : Settings) → HasRoom s.limit → (J : Journal) (i : ℕ) → content s (record { item = End i; refused = false; lost = false } ∷ J) (notes s J) ≡ content s J (notes s J)
+pub stays_by_end : (s : Settings) → HasRoom s.limit → (J : Journal) (i : ℕ) → content s (record { item = End i; refused = false; lost = false; answers = [] } ∷ J) (notes s J) ≡ content s J (notes s J)
 stays_by_end s room J i = stays_by_other s room J (End i) false false (λ r t. refl)
 
 -- ---- where nothing is due
 
-pub length_in_turn : (s : Settings) (J : Journal) (os : List Opening) (earlier : List Decision) → length (decisions_in_turn s J os earlier) ≡ length os
-length_in_turn s J [] earlier = refl
-length_in_turn s J (o ∷ os) earlier = ap suc (length_in_turn s J os (decision s J o earlier ∷ earlier))
+pub length_in_turn : (s : Settings) (J : Journal) (os : List Opening) (answers : List (List Bool)) → length (decisions_in_turn s J os answers) ≤ length os
+length_in_turn s J [] answers = omega arith
+length_in_turn s J (o ∷ os) [] = omega arith
+length_in_turn s J (o ∷ os) (a ∷ answers) = let l = length_in_turn s J os answers in omega (arith, l)
 
 pub take_whole : {X : Type 0} (n : ℕ) (xs : List X) → length xs ≤ n → take n xs ≡ xs
 take_whole zero [] l = refl
@@ -230,4 +231,4 @@ pub all_dealt : (s : Settings) (J : Journal) (dealt : ℕ) → nat_lt dealt (len
 unfolding notes
 all_dealt s [] dealt e = refl
 all_dealt s (e ∷ J) dealt n = ap (λ z. after_decisions z (after_item s e J e.item (notes s J))) (take_whole dealt (decisions_at s e J (notes s J))
-    (let l = not_below dealt (length (due_now s (e ∷ J))) n in let k = length_in_turn s (e ∷ J) (due_at s e J e.item (notes s J)) (notes s J).decisions in omega arith))
+    (let l = not_below dealt (length (due_now s (e ∷ J))) n in let k = length_in_turn s (e ∷ J) (due_at s e J e.item (notes s J)) e.answers in omega arith))

@@ -34,22 +34,23 @@ Pairs-due R s e J (End i) noted h = go (has_finished s e J)
     go false = tt
 
 -- of the decisions made in turn, the one at a place
-pub record InTurn (s : Settings) (J : Journal) (due : List Opening) (earlier : List Decision) (dealt : ℕ) (d : Decision) : Type 0 where
-  pub others : Each (λ (x : Decision). (x.opening.at == d.opening.at) ≡ false) (take dealt (decisions_in_turn s J due earlier))
-  pub next : take (suc dealt) (decisions_in_turn s J due earlier) ≡ take dealt (decisions_in_turn s J due earlier) ++ d ∷ []
+pub record InTurn (s : Settings) (J : Journal) (due : List Opening) (answers : List (List Bool)) (dealt : ℕ) (d : Decision) : Type 0 where
+  pub others : Each (λ (x : Decision). (x.opening.at == d.opening.at) ≡ false) (take dealt (decisions_in_turn s J due answers))
+  pub next : take (suc dealt) (decisions_in_turn s J due answers) ≡ take dealt (decisions_in_turn s J due answers) ++ d ∷ []
   pub within : Split d.opening due
   pub spans : d.spans ≡ spans_since J d.opening
 
 abbrev pub IsEarlier : Opening → Opening → Type 0
 IsEarlier x y = x.at < y.at
 
-pub in_turn : (s : Settings) (J : Journal) (due : List Opening) (earlier : List Decision) (dealt : ℕ) (d : Decision) → Pairs IsEarlier due → slice_get (decisions_in_turn s J due earlier) dealt ≡ Some d → InTurn s J due earlier dealt d
-in_turn s J [] earlier dealt d p e = absurd (cc e)
-in_turn s J (o ∷ due) earlier zero d p e = let k : decision s J o earlier ≡ d = cc e in rw (← k) (record { others = tt; next = refl; within = record { front = []; back = due; is = refl }; spans = refl })
-in_turn s J (o ∷ due) earlier (suc dealt) d p e =
-    let k = in_turn s J due (decision s J o earlier ∷ earlier) dealt d p.1 e in
+pub in_turn : (s : Settings) (J : Journal) (due : List Opening) (answers : List (List Bool)) (dealt : ℕ) (d : Decision) → Pairs IsEarlier due → slice_get (decisions_in_turn s J due answers) dealt ≡ Some d → InTurn s J due answers dealt d
+in_turn s J [] answers dealt d p e = absurd (cc e)
+in_turn s J (o ∷ due) [] dealt d p e = absurd (cc e)
+in_turn s J (o ∷ due) (a ∷ answers) zero d p e = let k : decision s J o a ≡ d = cc e in rw (← k) (record { others = tt; next = refl; within = record { front = []; back = due; is = refl }; spans = refl })
+in_turn s J (o ∷ due) (a ∷ answers) (suc dealt) d p e =
+    let k = in_turn s J due answers dealt d p.1 e in
     let l : o.at < d.opening.at = Each-split (IsEarlier o) d.opening due k.within p.0 in
-    record { others = (ne_eqb o.at d.opening.at (λ q. omega arith), k.others); next = ap (λ (z : List Decision). decision s J o earlier ∷ z) k.next; within = Split-cons d.opening o due k.within; spans = k.spans }
+    record { others = (ne_eqb o.at d.opening.at (λ q. omega arith), k.others); next = ap (λ (z : List Decision). decision s J o a ∷ z) k.next; within = Split-cons d.opening o due k.within; spans = k.spans }
 
 -- what a decision takes out
 pub record Dealing (d : Decision) (before after : List Arrival) : Type 0 where
@@ -60,11 +61,11 @@ pub record Dealing (d : Decision) (before after : List Arrival) : Type 0 where
   pub others : Each (IsOther d.opening.trace) older
   pub members : Each (λ a. is_of_trace d.opening.trace a ≡ true) d.spans
 
-module _ (s : Settings) (J : Journal) (noted : Notes) (h : Sound s J noted) (due : List Opening) (earlier : List Decision)
+module _ (s : Settings) (J : Journal) (noted : Notes) (h : Sound s J noted) (due : List Opening) (answers : List (List Bool))
     (ascends : Pairs IsEarlier due) (stand : Each (λ (o : Opening). Split o (in_buffer s noted) × (is_open noted o ≡ true)) due) (dealt : ℕ) (d : Decision)
-    (is : slice_get (decisions_in_turn s J due earlier) dealt ≡ Some d) where
+    (is : slice_get (decisions_in_turn s J due answers) dealt ≡ Some d) where
   abbrev made : List Decision
-  made = decisions_in_turn s J due earlier
+  made = decisions_in_turn s J due answers
 
   abbrev now : Notes
   now = after_decisions (take dealt made) noted
@@ -72,13 +73,13 @@ module _ (s : Settings) (J : Journal) (noted : Notes) (h : Sound s J noted) (due
   abbrev next : Notes
   next = after_decisions (take (suc dealt) made) noted
 
-  turn : InTurn s J due earlier dealt d
-  turn = in_turn s J due earlier dealt d ascends is
+  turn : InTurn s J due answers dealt d
+  turn = in_turn s J due answers dealt d ascends is
 
-  place : Split d.opening (in_buffer s noted) × (is_open noted d.opening ≡ true)
+  pub place : Split d.opening (in_buffer s noted) × (is_open noted d.opening ≡ true)
   place = Each-split (λ (o : Opening). Split o (in_buffer s noted) × (is_open noted o ≡ true)) d.opening due turn.within stand
 
-  open_now : is_open now d.opening ≡ true
+  pub open_now : is_open now d.opening ≡ true
   open_now = ap (λ r. is_none (option_map (λ (d : Decision). d.verdict) r)) (find_past (λ (x : Decision). x.opening.at == d.opening.at) (reverse (take dealt made)) noted.decisions
       (Each-reverse (λ (x : Decision). (x.opening.at == d.opening.at) ≡ false) (take dealt made) turn.others)) ∙ place.1
 
@@ -146,7 +147,7 @@ undecided_ascend s J noted h = let fr = buffer_front s.limit noted.openings in
 pub dealt_with : (s : Settings) → HasRoom s.limit → (J : Journal) (dealt : ℕ) (d : Decision) → slice_get (decisions_now s J) dealt ≡ Some d
     → Dealing d (content s J (notes_dealt s J dealt)) (content s J (notes_dealt s J (suc dealt)))
 dealt_with s room [] dealt d e = absurd (cc e)
-dealt_with s room (e ∷ J) dealt d is = by_item e.item e.refused e.lost is
+dealt_with s room (e ∷ J) dealt d is = by_item e.item e.refused e.lost e.answers is
   where
     noted : Notes
     noted = notes s J
@@ -156,12 +157,35 @@ dealt_with s room (e ∷ J) dealt d is = by_item e.item e.refused e.lost is
     in_general e q is =
         let h : Sound s (e ∷ J) noted = rw q at (sound_item s room J e.item e noted (sound_notes s room J)) in
         let hn : Sound s (e ∷ J) (after_decisions (take dealt (decisions_at s e J noted)) noted) = rw q at (sound_dealt s room (e ∷ J) dealt) in
-        dealing s (e ∷ J) noted h (due_at s e J e.item noted) noted.decisions
+        dealing s (e ∷ J) noted h (due_at s e J e.item noted) e.answers
         (Pairs-due IsEarlier s e J e.item noted (undecided_ascend s J noted (sound_notes s room J)))
         (Each-due (λ (o : Opening). Split o (in_buffer s noted) × (is_open noted o ≡ true)) s e J e.item noted (undecided_stand s noted)) dealt d is hn
 
-    by_item : (item : Item) (refused lost : Bool) → slice_get (decisions_at s (record { item = item; refused = refused; lost = lost }) J noted) dealt ≡ Some d
-        → Dealing d (content s (record { item = item; refused = refused; lost = lost } ∷ J) (notes_dealt s (record { item = item; refused = refused; lost = lost } ∷ J) dealt)) (content s (record { item = item; refused = refused; lost = lost } ∷ J) (notes_dealt s (record { item = item; refused = refused; lost = lost } ∷ J) (suc dealt)))
-    by_item (Span a) refused lost is = absurd (cc is)
-    by_item (Tick m) refused lost is = in_general (record { item = Tick m; refused = refused; lost = lost }) refl is
-    by_item (End i) refused lost is = in_general (record { item = End i; refused = refused; lost = lost }) refl is
+    by_item : (item : Item) (refused lost : Bool) (given : List (List Bool)) → slice_get (decisions_at s (record { item = item; refused = refused; lost = lost; answers = given }) J noted) dealt ≡ Some d
+        → Dealing d (content s (record { item = item; refused = refused; lost = lost; answers = given } ∷ J) (notes_dealt s (record { item = item; refused = refused; lost = lost; answers = given } ∷ J) dealt)) (content s (record { item = item; refused = refused; lost = lost; answers = given } ∷ J) (notes_dealt s (record { item = item; refused = refused; lost = lost; answers = given } ∷ J) (suc dealt)))
+    by_item (Span a) refused lost given is = absurd (cc is)
+    by_item (Tick m) refused lost given is = in_general (record { item = Tick m; refused = refused; lost = lost; answers = given }) refl is
+    by_item (End i) refused lost given is = in_general (record { item = End i; refused = refused; lost = lost; answers = given }) refl is
+
+-- the episode of the next decision stands open in the buffer until it is dealt with
+pub open_dealt : (s : Settings) → HasRoom s.limit → (J : Journal) (dealt : ℕ) (d : Decision) → slice_get (decisions_now s J) dealt ≡ Some d
+    → (is_open (notes_dealt s J dealt) d.opening ≡ true) × Split d.opening (in_buffer s (notes_dealt s J dealt))
+open_dealt s room [] dealt d e = absurd (cc e)
+open_dealt s room (e ∷ J) dealt d is = by_item e.item e.refused e.lost e.answers is
+  where
+    noted : Notes
+    noted = notes s J
+
+    in_general : (e : Entry) → after_item s e J e.item noted ≡ noted → slice_get (decisions_at s e J noted) dealt ≡ Some d
+        → (is_open (after_decisions (take dealt (decisions_at s e J noted)) noted) d.opening ≡ true) × Split d.opening (in_buffer s noted)
+    in_general e q is =
+        let h : Sound s (e ∷ J) noted = rw q at (sound_item s room J e.item e noted (sound_notes s room J)) in
+        let ascends = Pairs-due IsEarlier s e J e.item noted (undecided_ascend s J noted (sound_notes s room J)) in
+        let stand = Each-due (λ (o : Opening). Split o (in_buffer s noted) × (is_open noted o ≡ true)) s e J e.item noted (undecided_stand s noted) in
+        (open_now s (e ∷ J) noted h (due_at s e J e.item noted) e.answers ascends stand dealt d is, (place s (e ∷ J) noted h (due_at s e J e.item noted) e.answers ascends stand dealt d is).0)
+
+    by_item : (item : Item) (refused lost : Bool) (given : List (List Bool)) → slice_get (decisions_at s (record { item = item; refused = refused; lost = lost; answers = given }) J noted) dealt ≡ Some d
+        → let e : Entry = record { item = item; refused = refused; lost = lost; answers = given } in (is_open (notes_dealt s (e ∷ J) dealt) d.opening ≡ true) × Split d.opening (in_buffer s (notes_dealt s (e ∷ J) dealt))
+    by_item (Span a) refused lost given is = absurd (cc is)
+    by_item (Tick m) refused lost given is = in_general (record { item = Tick m; refused = refused; lost = lost; answers = given }) refl is
+    by_item (End i) refused lost given is = in_general (record { item = End i; refused = refused; lost = lost; answers = given }) refl is

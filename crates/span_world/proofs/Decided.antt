@@ -32,9 +32,10 @@ same_decisions s e J (Span a) noted = go a.rec.span.ids
     go None = refl
     go (Some ids) = marked ids e.refused _
 
-pub Each-in_turn : (P : Opening → Type 0) (s : Settings) (J : Journal) (os : List Opening) (earlier : List Decision) → Each P os → Each (λ (d : Decision). P d.opening) (decisions_in_turn s J os earlier)
-Each-in_turn P s J [] earlier h = tt
-Each-in_turn P s J (o ∷ os) earlier h = (h.0, Each-in_turn P s J os (decision s J o earlier ∷ earlier) h.1)
+pub Each-in_turn : (P : Opening → Type 0) (s : Settings) (J : Journal) (os : List Opening) (answers : List (List Bool)) → Each P os → Each (λ (d : Decision). P d.opening) (decisions_in_turn s J os answers)
+Each-in_turn P s J [] answers h = tt
+Each-in_turn P s J (o ∷ os) [] h = tt
+Each-in_turn P s J (o ∷ os) (a ∷ answers) h = (h.0, Each-in_turn P s J os answers h.1)
 
 pub decided_stays : (s : Settings) → HasRoom s.limit → (J : Journal) (e : Entry) (at : ℕ) (v : Verdict) → decided_as (notes s J) at ≡ Some v → decided_as (notes s (e ∷ J)) at ≡ Some v
 unfolding notes
@@ -49,32 +50,34 @@ decided_stays s room J e at v h = ap (λ (r : Option Decision). option_map (λ (
     apart x p = ne_eqb x at (λ q. let r : is_none (Some v) ≡ true = ap is_none (sym h ∙ ap (decided_as (notes s J)) (sym q)) ∙ p in cc r)
 
     others : Each (λ (d : Decision). (d.opening.at == at) ≡ false) ds
-    others = Each-in_turn (λ (o : Opening). (o.at == at) ≡ false) s (e ∷ J) (due_at s e J e.item (notes s J)) (notes s J).decisions
+    others = Each-in_turn (λ (o : Opening). (o.at == at) ≡ false) s (e ∷ J) (due_at s e J e.item (notes s J)) e.answers
         (Each-due (λ (o : Opening). (o.at == at) ≡ false) s e J e.item (notes s J) (Each-weaker (λ (o : Opening). Split o (in_buffer s (notes s J)) × (is_open (notes s J) o ≡ true)) (λ (o : Opening). (o.at == at) ≡ false) (undecided s (notes s J)) (λ o p. apart o.at p.1) (undecided_stand s (notes s J))))
 
 -- the decision at a place among those made in turn is found by its position
-found_in_turn : (s : Settings) (J : Journal) (due : List Opening) (earlier old : List Decision) (dealt : ℕ) (d : Decision) → Pairs IsEarlier due → slice_get (decisions_in_turn s J due earlier) dealt ≡ Some d
-    → find (λ (x : Decision). x.opening.at == d.opening.at) (reverse (decisions_in_turn s J due earlier) ++ old) ≡ Some d
-found_in_turn s J [] earlier old dealt d p e = absurd (cc e)
-found_in_turn s J (o ∷ due) earlier old zero d p e =
-    let first : Decision = decision s J o earlier in
-    let rest = decisions_in_turn s J due (decision s J o earlier ∷ earlier) in
-    let k : decision s J o earlier ≡ d = cc e in
-    subst (λ (d : Decision). find (λ (x : Decision). x.opening.at == d.opening.at) (reverse (decision s J o earlier ∷ decisions_in_turn s J due (decision s J o earlier ∷ earlier)) ++ old) ≡ Some d) k
-    (ap (λ (z : List Decision). find (λ (x : Decision). x.opening.at == o.at) (z ++ old)) (reverse-append (decision s J o earlier ∷ []) (decisions_in_turn s J due (decision s J o earlier ∷ earlier)))
-    ∙ ap (find (λ (x : Decision). x.opening.at == o.at)) (append_assoc (reverse (decisions_in_turn s J due (decision s J o earlier ∷ earlier))) (decision s J o earlier ∷ []) old)
-    ∙ find_past (λ (x : Decision). x.opening.at == o.at) (reverse (decisions_in_turn s J due (decision s J o earlier ∷ earlier))) (decision s J o earlier ∷ old)
-    (Each-reverse (λ (x : Decision). (x.opening.at == o.at) ≡ false) (decisions_in_turn s J due (decision s J o earlier ∷ earlier))
-    (Each-in_turn (λ (y : Opening). (y.at == o.at) ≡ false) s J due (decision s J o earlier ∷ earlier) (Each-weaker (IsEarlier o) (λ (y : Opening). (y.at == o.at) ≡ false) due (λ y l. ne_eqb y.at o.at (λ q. omega arith)) p.0)))
-    ∙ ap (λ (b : Bool). cond b (Some (decision s J o earlier)) (find (λ (x : Decision). x.opening.at == o.at) old)) (eq-eqb o.at o.at refl))
-found_in_turn s J (o ∷ due) earlier old (suc dealt) d p e =
-    ap (λ (z : List Decision). find (λ (x : Decision). x.opening.at == d.opening.at) (z ++ old)) (reverse-append (decision s J o earlier ∷ []) (decisions_in_turn s J due (decision s J o earlier ∷ earlier)))
-    ∙ ap (find (λ (x : Decision). x.opening.at == d.opening.at)) (append_assoc (reverse (decisions_in_turn s J due (decision s J o earlier ∷ earlier))) (decision s J o earlier ∷ []) old)
-    ∙ found_in_turn s J due (decision s J o earlier ∷ earlier) (decision s J o earlier ∷ old) dealt d p.1 e
+found_in_turn : (s : Settings) (J : Journal) (due : List Opening) (answers : List (List Bool)) (old : List Decision) (dealt : ℕ) (d : Decision) → Pairs IsEarlier due → slice_get (decisions_in_turn s J due answers) dealt ≡ Some d
+    → find (λ (x : Decision). x.opening.at == d.opening.at) (reverse (decisions_in_turn s J due answers) ++ old) ≡ Some d
+found_in_turn s J [] answers old dealt d p e = absurd (cc e)
+found_in_turn s J (o ∷ due) [] old dealt d p e = absurd (cc e)
+found_in_turn s J (o ∷ due) (a ∷ answers) old zero d p e =
+    let first : Decision = decision s J o a in
+    let rest = decisions_in_turn s J due answers in
+    let k : first ≡ d = cc e in
+    subst (λ (d : Decision). find (λ (x : Decision). x.opening.at == d.opening.at) (reverse (first ∷ rest) ++ old) ≡ Some d) k
+    (ap (λ (z : List Decision). find (λ (x : Decision). x.opening.at == o.at) (z ++ old)) (reverse-append (first ∷ []) rest)
+    ∙ ap (find (λ (x : Decision). x.opening.at == o.at)) (append_assoc (reverse rest) (first ∷ []) old)
+    ∙ find_past (λ (x : Decision). x.opening.at == o.at) (reverse rest) (first ∷ old)
+    (Each-reverse (λ (x : Decision). (x.opening.at == o.at) ≡ false) rest
+    (Each-in_turn (λ (y : Opening). (y.at == o.at) ≡ false) s J due answers (Each-weaker (IsEarlier o) (λ (y : Opening). (y.at == o.at) ≡ false) due (λ y l. ne_eqb y.at o.at (λ q. omega arith)) p.0)))
+    ∙ ap (λ (b : Bool). cond b (Some first) (find (λ (x : Decision). x.opening.at == o.at) old)) (eq-eqb o.at o.at refl))
+found_in_turn s J (o ∷ due) (a ∷ answers) old (suc dealt) d p e =
+    let first : Decision = decision s J o a in
+    ap (λ (z : List Decision). find (λ (x : Decision). x.opening.at == d.opening.at) (z ++ old)) (reverse-append (first ∷ []) (decisions_in_turn s J due answers))
+    ∙ ap (find (λ (x : Decision). x.opening.at == d.opening.at)) (append_assoc (reverse (decisions_in_turn s J due answers)) (first ∷ []) old)
+    ∙ found_in_turn s J due answers (first ∷ old) dealt d p.1 e
 
 -- each decision made at the last item is noted
 pub noted_decision : (s : Settings) → HasRoom s.limit → (J : Journal) (dealt : ℕ) (d : Decision) → slice_get (decisions_now s J) dealt ≡ Some d → decided_as (notes s J) d.opening.at ≡ Some d.verdict
 unfolding notes
 noted_decision s room [] dealt d is = absurd (cc is)
 noted_decision s room (e ∷ J) dealt d is = ap (λ (r : Option Decision). option_map (λ (d : Decision). d.verdict) r)
-    (found_in_turn s (e ∷ J) (due_at s e J e.item (notes s J)) (notes s J).decisions (after_item s e J e.item (notes s J)).decisions dealt d (Pairs-due IsEarlier s e J e.item (notes s J) (undecided_ascend s J (notes s J) (sound_notes s room J))) is)
+    (found_in_turn s (e ∷ J) (due_at s e J e.item (notes s J)) e.answers (after_item s e J e.item (notes s J)).decisions dealt d (Pairs-due IsEarlier s e J e.item (notes s J) (undecided_ascend s J (notes s J) (sound_notes s room J))) is)

@@ -2,7 +2,7 @@
 use Rattle.std.proofs.Common.{◌≡◌, ℕ, Bool, true, false, not, ◌&&◌, ◌||◌, ◌==◌, List, [], ◌∷◌, ◌++◌, length, slice_get, slice_set, Option, Some, refl, ap, sym, subst, ◌∙◌, eqb-true}
 use Rattle.std.specs.List.{list_any}
 use Rattle.std.proofs.lemmas.Bool.{and_parts, not-true}
-use Rattle.shard_core.specs.Journal.{has_ended}
+use Rattle.shard_core.specs.Journal.{Journal, has_ended, answered}
 use Rattle.otlp_types.specs.declared.arrival.Arrival.{Arrival}
 use Rattle.otlp_types.specs.declared.arrival.Item.TheVariants.{End}
 use Rattle.span_world.specs.World.{Config, Lane, Shard, World, new_world, new_shard, goes_to}
@@ -12,7 +12,7 @@ use Rattle.shard_core.proofs.ListFacts.{Each, Each-right}
 use Rattle.shard_core.proofs.Find.{any_split}
 use Rattle.span_world.proofs.Lined.{IsOnLane, at_each}
 use Rattle.span_world.proofs.Order.{replicated, same_shards}
-use Rattle.span_world.proofs.Steps.{Stepped, received_by, routed, refused_by, took_span, took_tick, closed_by, took_end, decided_one, shipped, pulled, handed_over, failed, spoiled, or_both, TakenOut}
+use Rattle.span_world.proofs.Steps.{Stepped, received_by, routed, refused_by, took_span, took_tick, closed_by, took_end, answered_by, decided_one, shipped, pulled, handed_over, failed, spoiled, or_both, TakenOut}
 
 -- the lane has ended, and none of its spans for the shard is unrouted or queued
 pub record IsDone (n i j : ℕ) (sh : Shard) (l : Lane) : Type 0 where
@@ -67,6 +67,11 @@ module _ (n : ℕ) (lanes : List Lane) (shards : List Shard) (h : AllEnded n lan
 
 -- ---- a step
 
+-- answers end no sender
+ended_answered : (J : Journal) (answers : List Bool) (sender : ℕ) → has_ended J sender ≡ has_ended (answered J answers) sender
+ended_answered [] answers sender = refl
+ended_answered (e ∷ before) answers sender = refl
+
 module _ (c : Config) (w : World) (own : (j : ℕ) (l : Lane) → slice_get w.lanes j ≡ Some l → Each (IsOnLane j) l.unrouted) (h : AllEnded (length w.shards) w.lanes w.shards) where
   abbrev n : ℕ
   n = length w.shards
@@ -120,9 +125,11 @@ module _ (c : Config) (w : World) (own : (j : ℕ) (l : Lane) → slice_get w.la
       again : (sh' : Shard) → sh'.queue ≡ sh.queue → (j : ℕ) (l : Lane) → IsDone n shard j sh l → IsDone n shard j sh' l
       again sh' q j l d = record { ended = d.ended; routed_all = d.routed_all; taken_all = ap (list_any (λ (x : Arrival). x.key.conn.lane == j)) q ∙ d.taken_all }
 
-      at_end : (j : ℕ) (l : Lane) → slice_get w.lanes j ≡ Some l → (b : Bool) → (sender == j) ≡ b → (b || has_ended sh.journal j) ≡ true → IsDone n shard j (record { queue = sh.queue; journal = record { item = End sender; refused = false; lost = false } ∷ sh.journal; dealt = 0; unshipped = sh.unshipped ++ [] }) l
+      at_end : (j : ℕ) (l : Lane) → slice_get w.lanes j ≡ Some l → (b : Bool) → (sender == j) ≡ b → (b || has_ended sh.journal j) ≡ true → IsDone n shard j (record { queue = sh.queue; journal = record { item = End sender; refused = false; lost = false; answers = [] } ∷ sh.journal; dealt = 0; unshipped = sh.unshipped ++ [] }) l
       at_end j l gl true q k = again _ refl j l (by_lane j l gl (eqb-true sender j q))
       at_end j l gl false q k = again _ refl j l (h shard j sh l g gl k)
+  ends next (answered_by shard sh answers o g d i e) = subst (λ (next : World). AllEnded n next.lanes next.shards) e (shard_put n w.lanes w.shards h shard _ (λ j l gl k.
+      let done = h shard j sh l g gl (ended_answered sh.journal answers j ∙ k) in record { ended = done.ended; routed_all = done.routed_all; taken_all = done.taken_all }))
   ends next (decided_one shard sh d g i e) = subst (λ (next : World). AllEnded n next.lanes next.shards) e (shard_put n w.lanes w.shards h shard _ (λ j l gl k.
       let done = h shard j sh l g gl k in record { ended = done.ended; routed_all = done.routed_all; taken_all = done.taken_all }))
   ends next (shipped shard sh a rest g u e) = subst (λ (next : World). AllEnded n next.lanes next.shards) e (shard_put n w.lanes w.shards h shard _ (λ j l gl k.

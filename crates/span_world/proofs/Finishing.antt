@@ -1,11 +1,12 @@
 -- At the last End each episode that stands undecided is decided.
 -- For runs that end closed: of scripts (`script_run`'s `scripts_are_runs_of_the_core`) and of threads (`span_weave`'s `weave`).
-use Rattle.std.proofs.Common.{◌≡◌, ℕ, Bool, true, false, cond, not, ◌&&◌, ◌||◌, ◌==◌, List, [], ◌∷◌, ◌++◌, length, filter, flat_map, find, reverse, take, Option, Some, None, option_map, is_none, refl, ap, sym, subst, ◌∙◌, arith, append_assoc, eq-eqb}
+use Rattle.std.proofs.Common.{◌≡◌, ◌≤◌, ℕ, Bool, true, false, cond, not, ◌&&◌, ◌||◌, ◌==◌, List, [], ◌∷◌, ◌++◌, length, filter, flat_map, find, reverse, take, Option, Some, None, option_map, is_none, refl, ap, sym, subst, ◌∙◌, arith, append_assoc, eq-eqb}
 use Rattle.std.specs.List.{list_any}
 use Rattle.std.proofs.lemmas.List.{reverse-append, reverse-reverse}
 use Rattle.std.proofs.lemmas.List.Elements.{filter-append}
 use Rattle.otlp_types.specs.declared.arrival.Item.TheVariants.{End}
-use Rattle.shard_core.specs.Journal.{Settings, Entry, Journal, Opening, Decision, Notes, in_buffer, undecided, spans_since, decision, decisions_in_turn, decisions_at, decisions_now, due_at, due_now, after_decisions, notes, has_finished, have_ended}
+use Rattle.policy_eval.specs.Given.{are_answered}
+use Rattle.shard_core.specs.Journal.{are_each_answered, Settings, Entry, Journal, Opening, Decision, Notes, in_buffer, undecided, spans_since, decisions_in_turn, decisions_at, decisions_now, due_at, due_now, after_decisions, notes, has_finished, have_ended}
 use Rattle.span_world.specs.Places.{buffered_spans}
 use Rattle.shard_core.proofs.ListFacts.{Each, Each-left, Each-weaker, Each-reverse, Split}
 use Rattle.shard_core.proofs.Find.{not_found, any_none, any_split}
@@ -50,19 +51,24 @@ never_both b e f = cc (e, f)
 -- ---- decisions on all that is undecided
 
 -- the decisions on some episodes are at their places
-any_decided : (s : Settings) (past : Journal) (os : List Opening) (earlier : List Decision) (place : ℕ)
-    → list_any (λ (d : Decision). d.opening.at == place) (decisions_in_turn s past os earlier) ≡ list_any (λ (o : Opening). o.at == place) os
-any_decided s past [] earlier place = refl
-any_decided s past (o ∷ os) earlier place = ap (λ b. (o.at == place) || b) (any_decided s past os (decision s past o earlier ∷ earlier) place)
+any_decided : (s : Settings) (past : Journal) (os : List Opening) (given : List (List Bool)) (place : ℕ) → are_each_answered s.policies past os given ≡ true
+    → list_any (λ (d : Decision). d.opening.at == place) (decisions_in_turn s past os given) ≡ list_any (λ (o : Opening). o.at == place) os
+any_decided s past [] given place h = refl
+any_decided s past (o ∷ os) [] place h = cc
+any_decided s past (o ∷ os) (g ∷ given) place h = ap (λ b. (o.at == place) || b) (any_decided s past os given place (second (are_answered s.policies g (spans_since past o)) (are_each_answered s.policies past os given) h))
+  where
+    second : (a b : Bool) → (a && b) ≡ true → b ≡ true
+    second true b h = h
+    second false b h = cc
 
-module _ (s : Settings) (past : Journal) (noted : Notes) (earlier : List Decision) where
+module _ (s : Settings) (past : Journal) (noted : Notes) (given : List (List Bool)) (answered : are_each_answered s.policies past (undecided s noted) given ≡ true) where
   -- the decisions on all episodes that are undecided
   abbrev all_decided : List Decision
-  all_decided = decisions_in_turn s past (undecided s noted) earlier
+  all_decided = decisions_in_turn s past (undecided s noted) given
 
   -- an episode that is open yet was among those that were decided
   not_open : (o : Opening) → Split o (in_buffer s noted) → is_open (after_decisions all_decided noted) o ≡ true → ⊥
-  not_open o k e = never_both (list_any (λ (d : Decision). d.opening.at == o.at) all_decided) (any_decided s past (undecided s noted) earlier o.at ∙ was_due)
+  not_open o k e = never_both (list_any (λ (d : Decision). d.opening.at == o.at) all_decided) (any_decided s past (undecided s noted) given o.at answered ∙ was_due)
       (any_none (λ (d : Decision). d.opening.at == o.at) all_decided none_decided)
     where
       place : Split o (undecided s noted)
@@ -89,19 +95,19 @@ module _ (s : Settings) (past : Journal) (noted : Notes) (earlier : List Decisio
       if_not true f = absurd (f refl)
       if_not false f = refl
 
--- as many decisions as episodes are due
-pub length_decisions : (s : Settings) (past : Journal) → length (decisions_now s past) ≡ length (due_now s past)
-length_decisions s [] = refl
-length_decisions s (e ∷ past) = length_in_turn s (e ∷ past) (due_at s e past e.item (notes s past)) (notes s past).decisions
+-- at most as many decisions as episodes are due
+pub length_decisions : (s : Settings) (past : Journal) → length (decisions_now s past) ≤ length (due_now s past)
+length_decisions s [] = omega arith
+length_decisions s (e ∷ past) = length_in_turn s (e ∷ past) (due_at s e past e.item (notes s past)) e.answers
 
 -- the End with which all senders have ended leaves nothing in the buffer that waits
-pub nothing_buffered : (s : Settings) (sender : ℕ) (refused lost : Bool) (before : Journal) → (let e : Entry = record { item = End sender; refused = refused; lost = lost } in
-    have_ended (e ∷ before) s.senders ≡ true → have_ended before s.senders ≡ false → buffered_spans s (e ∷ before) (length (due_now s (e ∷ before))) ≡ [])
-nothing_buffered s sender refused lost before h n = ap (λ (z : List Decision). flat_map (spans_since (e ∷ before)) (undecided s (after_decisions z (notes s before)))) (dealt ∙ due)
-    ∙ ap (flat_map (spans_since (e ∷ before))) (none_undecided s (e ∷ before) (notes s before) (notes s before).decisions)
+pub nothing_buffered : (s : Settings) (sender : ℕ) (refused lost : Bool) (given : List (List Bool)) (before : Journal) → (let e : Entry = record { item = End sender; refused = refused; lost = lost; answers = given } in
+    are_each_answered s.policies (e ∷ before) (due_now s (e ∷ before)) given ≡ true → have_ended (e ∷ before) s.senders ≡ true → have_ended before s.senders ≡ false → buffered_spans s (e ∷ before) (length (due_now s (e ∷ before))) ≡ [])
+nothing_buffered s sender refused lost given before answered h n = ap (λ (z : List Decision). flat_map (spans_since (e ∷ before)) (undecided s (after_decisions z (notes s before)))) (dealt ∙ due)
+    ∙ ap (flat_map (spans_since (e ∷ before))) (none_undecided s (e ∷ before) (notes s before) given (ap (λ b. are_each_answered s.policies (e ∷ before) (cond b (undecided s (notes s before)) []) given) (sym finished) ∙ answered))
   where
     e : Entry
-    e = record { item = End sender; refused = refused; lost = lost }
+    e = record { item = End sender; refused = refused; lost = lost; answers = given }
 
     finished : has_finished s e before ≡ true
     finished = ap (λ b. b && not (have_ended before s.senders)) h ∙ ap (λ b. true && not b) n
@@ -109,5 +115,5 @@ nothing_buffered s sender refused lost before h n = ap (λ (z : List Decision). 
     dealt : take (length (due_now s (e ∷ before))) (decisions_at s e before (notes s before)) ≡ decisions_at s e before (notes s before)
     dealt = take_whole (length (due_now s (e ∷ before))) (decisions_at s e before (notes s before)) (omega (arith, length_decisions s (e ∷ before)))
 
-    due : decisions_at s e before (notes s before) ≡ decisions_in_turn s (e ∷ before) (undecided s (notes s before)) (notes s before).decisions
-    due = ap (λ b. decisions_in_turn s (e ∷ before) (cond b (undecided s (notes s before)) []) (notes s before).decisions) finished
+    due : decisions_at s e before (notes s before) ≡ decisions_in_turn s (e ∷ before) (undecided s (notes s before)) given
+    due = ap (λ b. decisions_in_turn s (e ∷ before) (cond b (undecided s (notes s before)) []) given) finished

@@ -1,11 +1,13 @@
 -- What a shard takes and decides, by the shard read at its place.
-use Rattle.std.proofs.Common.{◌≡◌, ℕ, zero, suc, ◌<◌, ◌≤◌, Bool, true, false, not, ◌&&◌, cond, List, [], ◌∷◌, ◌++◌, length, drop, slice_get, slice_set, Option, Some, None, option_map, is_some, refl, ap, sym, subst, ◌∙◌, arith}
+use Rattle.std.proofs.Common.{◌≡◌, ℕ, zero, suc, ◌+◌, ◌≤◌, Bool, true, false, not, ◌&&◌, cond, List, [], ◌∷◌, ◌++◌, length, drop, slice_get, slice_set, Option, Some, None, option_map, is_some, refl, ap, sym, ◌∙◌, arith}
 use Rattle.std.specs.Prelude.{Result, Ok, Err}
 use Rattle.otlp_types.specs.declared.arrival.Arrival.{Arrival}
 use Rattle.otlp_types.specs.declared.arrival.Item.{Item}
 use Rattle.otlp_types.specs.declared.arrival.Item.TheVariants.{Span, Tick, End}
-use Rattle.shard_core.specs.Journal.{Entry, Settings, Journal, Opening, Decision, decision, decisions_in_turn, decisions_now, due_at, due_now, notes}
-use Rattle.shard_core.specs.Fate.{DroppedSpan, Effect, effect_of_decision, effect_of_taking}
+use Rattle.shard_core.specs.Journal.{Entry, Settings, Journal, answered, due_now}
+use Rattle.shard_core.specs.Fate.{DroppedSpan, Effect, effect_of_taking}
+use Rattle.shard_journal.specs.Answered.{effect_answered, effect_answered_at}
+use Rattle.std.specs.Option.{option_and_then}
 use Rattle.shard_core.specs.Taking.{marks_apply_to_ids}
 use Rattle.span_world.specs.World.{Config, Shard, World, settings, ticker, has_due}
 use Rattle.span_world.specs.Step.{Step, take_on, take, tick, end, decide, ship, step, after_taking, after_decision, sender_is_done}
@@ -14,32 +16,17 @@ use Rattle.span_world.specs.Core.{config_of, Core}
 use Rattle.span_world.specs.declared.step.Refusal.{Refusal}
 use Rattle.span_world.specs.declared.step.Refusal.TheVariants.{NotEnabled, NoMemory}
 
-length_turns : (s : Settings) (J : Journal) (os : List Opening) (earlier : List Decision) → length (decisions_in_turn s J os earlier) ≡ length os
-length_turns s J [] earlier = refl
-length_turns s J (o ∷ rest) earlier = ap suc (length_turns s J rest (decision s J o earlier ∷ earlier))
-
 past_end : {X : Type 0} (xs : List X) (i : ℕ) → length xs ≤ i → slice_get xs i ≡ None
 past_end [] i l = refl
 past_end (x ∷ xs) zero l = absurd (omega arith)
 past_end (x ∷ xs) (suc i) l = past_end xs i (omega arith)
 
-pub none_due : (s : Settings) (J : Journal) (dealt : ℕ) → length (due_now s J) ≤ dealt → slice_get (decisions_now s J) dealt ≡ None
-none_due s [] dealt l = refl
-none_due s (e ∷ J) dealt l = past_end _ dealt (subst (λ (n : ℕ). n ≤ dealt) (sym (length_turns s (e ∷ J) (due_at s e J e.item (notes s J)) (notes s J).decisions)) l)
-
-within : {X : Type 0} (xs : List X) (i : ℕ) → i < length xs → is_some (slice_get xs i) ≡ true
-within [] i l = absurd (omega arith)
-within (x ∷ xs) zero l = refl
-within (x ∷ xs) (suc i) l = within xs i (omega arith)
+pub none_due : (s : Settings) (J : Journal) (dealt : ℕ) (answers : List Bool) → length (due_now s J) ≤ dealt → effect_answered_at s J dealt answers ≡ None
+none_due s J dealt answers l = ap (option_and_then (effect_answered s J answers)) (past_end (due_now s J) dealt l)
 
 mapped_some : {X Y : Type 0} (f : X → Y) (o : Option X) → is_some (option_map f o) ≡ is_some o
 mapped_some f None = refl
 mapped_some f (Some x) = refl
-
-pub some_due : (s : Settings) (J : Journal) (dealt : ℕ) → dealt < length (due_now s J) → is_some (option_map effect_of_decision (slice_get (decisions_now s J) dealt)) ≡ true
-some_due s [] dealt l = absurd (omega arith)
-some_due s (e ∷ J) dealt l = mapped_some effect_of_decision (slice_get (decisions_now s (e ∷ J)) dealt)
-    ∙ within (decisions_now s (e ∷ J)) dealt (subst (λ (n : ℕ). dealt < n) (sym (length_turns s (e ∷ J) (due_at s e J e.item (notes s J)) (notes s J).decisions)) l)
 
 if_map : {X Y : Type 0} (f : X → Y) (x : X) (b : Bool) → cond b (Some (f x)) None ≡ option_map f (cond b (Some x) None)
 if_map f x true = refl
@@ -48,7 +35,7 @@ if_map f x false = refl
 module _ (c : Config) (w : World) (shard : ℕ) (sh : Shard) (g : slice_get w.shards shard ≡ Some sh) where
   take_is : (refused lost : Bool) (q : List Arrival) → take_on c w shard refused lost sh q ≡ option_map (λ (e : Entry). after_taking c w shard sh e (drop 1 q)) (entry_of_first (settings c w) sh refused lost q)
   take_is refused lost [] = refl
-  take_is refused lost (a ∷ rest) = if_map (λ (e : Entry). after_taking c w shard sh e rest) (record { item = Span a; refused = refused; lost = lost }) (not (has_due (settings c w) sh) && marks_apply_to_ids (settings c w) sh.journal refused lost a.rec.span.ids)
+  take_is refused lost (a ∷ rest) = if_map (λ (e : Entry). after_taking c w shard sh e rest) (record { item = Span a; refused = refused; lost = lost; answers = [] }) (not (has_due (settings c w) sh) && marks_apply_to_ids (settings c w) sh.journal refused lost a.rec.span.ids)
 
   pub no_take : (refused lost : Bool) → entry_of_first (settings c w) sh refused lost sh.queue ≡ None → step c w (take shard refused lost) ≡ None
   no_take refused lost e = rw g (take_is refused lost sh.queue ∙ ap (option_map (λ (e : Entry). after_taking c w shard sh e (drop 1 sh.queue))) e)
@@ -62,7 +49,7 @@ module _ (c : Config) (w : World) (shard : ℕ) (sh : Shard) (g : slice_get w.sh
   pub no_tick : (moment : ℕ) → may_take (settings c w) sh (ticker w) ≡ false → step c w (tick shard moment) ≡ None
   no_tick moment e = rw (g, e) refl
 
-  pub ticks : (moment : ℕ) → may_take (settings c w) sh (ticker w) ≡ true → step c w (tick shard moment) ≡ Some (after_taking c w shard sh (record { item = Tick moment; refused = false; lost = false }) sh.queue)
+  pub ticks : (moment : ℕ) → may_take (settings c w) sh (ticker w) ≡ true → step c w (tick shard moment) ≡ Some (after_taking c w shard sh (record { item = Tick moment; refused = false; lost = false; answers = [] }) sh.queue)
   ticks moment e = rw (g, e) refl
 
   pub no_end : (sender : ℕ) → may_take (settings c w) sh sender ≡ false → step c w (end shard sender) ≡ None
@@ -71,29 +58,26 @@ module _ (c : Config) (w : World) (shard : ℕ) (sh : Shard) (g : slice_get w.sh
   pub not_done : (sender : ℕ) → sender_is_done w shard sh sender (slice_get w.lanes sender) ≡ false → step c w (end shard sender) ≡ None
   not_done sender e = rw (g, e) (pick (may_take (settings c w) sh sender))
     where
-      pick : (b : Bool) → cond (b && false) (Some (after_taking c w shard sh (record { item = End sender; refused = false; lost = false }) sh.queue)) None ≡ None
+      pick : (b : Bool) → cond (b && false) (Some (after_taking c w shard sh (record { item = End sender; refused = false; lost = false; answers = [] }) sh.queue)) None ≡ None
       pick true = refl
       pick false = refl
 
   pub ends : (sender : ℕ) → may_take (settings c w) sh sender ≡ true → sender_is_done w shard sh sender (slice_get w.lanes sender) ≡ true
-      → step c w (end shard sender) ≡ Some (after_taking c w shard sh (record { item = End sender; refused = false; lost = false }) sh.queue)
+      → step c w (end shard sender) ≡ Some (after_taking c w shard sh (record { item = End sender; refused = false; lost = false; answers = [] }) sh.queue)
   ends sender e f = rw (g, e, f) refl
 
-  decide_is : step c w (decide shard) ≡ option_map (after_decision w shard sh) (next_decision (settings c w) sh)
-  decide_is = rw g (go (slice_get (decisions_now (settings c w) sh.journal) sh.dealt))
-    where
-      go : (o : Option Decision) → option_map (λ (d : Decision). after_decision w shard sh (effect_of_decision d)) o ≡ option_map (after_decision w shard sh) (option_map effect_of_decision o)
-      go None = refl
-      go (Some d) = refl
+  module _ (answers : List Bool) where
+    decide_is : step c w (decide shard answers) ≡ option_map (after_decision w shard sh answers) (next_decision (settings c w) sh answers)
+    decide_is = rw g refl
 
-  pub can_decide : is_some (next_decision (settings c w) sh) ≡ true → is_some (step c w (decide shard)) ≡ true
-  can_decide e = ap is_some decide_is ∙ mapped_some (after_decision w shard sh) (next_decision (settings c w) sh) ∙ e
+    pub can_decide : is_some (next_decision (settings c w) sh answers) ≡ true → is_some (step c w (decide shard answers)) ≡ true
+    can_decide e = ap is_some decide_is ∙ mapped_some (after_decision w shard sh answers) (next_decision (settings c w) sh answers) ∙ e
 
-  pub no_decision : next_decision (settings c w) sh ≡ None → step c w (decide shard) ≡ None
-  no_decision e = decide_is ∙ ap (option_map (after_decision w shard sh)) e
+    pub no_decision : next_decision (settings c w) sh answers ≡ None → step c w (decide shard answers) ≡ None
+    no_decision e = decide_is ∙ ap (option_map (after_decision w shard sh answers)) e
 
-  pub decides : (did : Effect) → next_decision (settings c w) sh ≡ Some did → step c w (decide shard) ≡ Some (after_decision w shard sh did)
-  decides did e = decide_is ∙ ap (option_map (after_decision w shard sh)) e
+    pub decides : (did : Effect) → next_decision (settings c w) sh answers ≡ Some did → step c w (decide shard answers) ≡ Some (after_decision w shard sh answers did)
+    decides did e = decide_is ∙ ap (option_map (after_decision w shard sh answers)) e
 
 -- the first of the unshipped goes to the exporter
 pub ships : (c : Config) (w : World) (shard : ℕ) (sh : Shard) → slice_get w.shards shard ≡ Some sh → (a : Arrival) (new : Shard) → sh.unshipped ≡ a ∷ new.unshipped → new ≡ record sh { unshipped = new.unshipped }
@@ -107,10 +91,17 @@ pub kept_is : (c : Config) (w : World) (shard : ℕ) (sh : Shard) (e : Entry) (q
     → record w { shards = slice_set w.shards shard new; counted = counted } ≡ after_taking c w shard sh e queue
 kept_is c w shard sh e queue s new counted is f h = rw (f, h, is) refl
 
+-- the world where this is in place of a shard that decided by these answers, and this is counted
+pub decided_is : (w : World) (shard : ℕ) (sh : Shard) (answers : List Bool) (did : Effect) (new : Shard) (counted : List DroppedSpan)
+    → new ≡ record sh { journal = answered sh.journal answers; dealt = sh.dealt + 1; unshipped = sh.unshipped ++ did.released }
+    → counted ≡ w.counted ++ did.counted
+    → record w { shards = slice_set w.shards shard new; counted = counted } ≡ after_decision w shard sh answers did
+decided_is w shard sh answers did new counted f h = rw (f, h) refl
+
 module _ (before : Core) (shard : ℕ) (sh : Shard) (g : slice_get before.world.shards shard ≡ Some sh) where
   -- an unmarked item that the shard may take, and what the step says
   keeps : (s : Step) (item : Item)
-      → next_of before s ≡ Some (after_taking (config_of before.config) before.world shard sh (record { item = item; refused = false; lost = false }) sh.queue)
+      → next_of before s ≡ Some (after_taking (config_of before.config) before.world shard sh (record { item = item; refused = false; lost = false; answers = [] }) sh.queue)
       → (r : Result (Unit {0}) Refusal) (after : Core) → KeepsItem before shard item r after → StepsTo before s r after
   keeps s item e (Ok u) after h = (h.0, e ∙ ap (λ (z : World). Some z) (sym (h.1 sh g)))
   keeps s item e (Err NotEnabled) after h = absurd (cc h.1)

@@ -1,9 +1,11 @@
 pub mod Content
 pub mod Dealing
+pub mod Answered
 pub mod Steps
 pub mod Balance
 pub mod Received
 pub mod Numbers
+pub mod AllAnswered
 pub mod OnePlace
 pub mod AfterClose
 pub mod Keeps
@@ -34,3 +36,4 @@ pub mod Items
 pub mod Replaying
 pub mod Looking
 pub mod Finishing
+pub mod Giving

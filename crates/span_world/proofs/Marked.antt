@@ -1,6 +1,6 @@
 -- Each span of a journal had valid ids and marks that could apply where it was taken.
 use Rattle.std.proofs.Common.{◌≡◌, ℕ, Bool, true, List, [], ◌∷◌, ◌++◌, slice_get, slice_set, Some, sym, subst}
-use Rattle.shard_core.specs.Journal.{Entry, Settings, Journal}
+use Rattle.shard_core.specs.Journal.{Entry, Settings, Journal, answered}
 use Rattle.otlp_types.specs.declared.arrival.Item.{Item}
 use Rattle.otlp_types.specs.declared.arrival.Item.TheVariants.{Span, Tick, End}
 use Rattle.span_world.specs.World.{Config, Shard, World, new_world, new_shard, settings}
@@ -8,7 +8,7 @@ use Rattle.shard_core.specs.Taking.{marks_apply_to_ids}
 use Rattle.span_world.proofs.Lined.{at_each}
 use Rattle.span_world.proofs.Order.{replicated}
 use Rattle.span_world.proofs.Balance.{same_settings}
-use Rattle.span_world.proofs.Steps.{Stepped, received_by, routed, refused_by, took_span, took_tick, closed_by, took_end, decided_one, shipped, pulled, handed_over, failed, spoiled}
+use Rattle.span_world.proofs.Steps.{Stepped, received_by, routed, refused_by, took_span, took_tick, closed_by, took_end, answered_by, decided_one, shipped, pulled, handed_over, failed, spoiled}
 
 -- the marks of an item could apply to it
 abbrev pub IsMarked : Settings → (before : Journal) → (refused lost : Bool) → Item → Type 0
@@ -24,6 +24,11 @@ AreMarked s (e ∷ before) = IsMarked s before e.refused e.lost e.item × AreMar
 pub marked_at : (s : Settings) (later before : Journal) (e : Entry) → AreMarked s (later ++ e ∷ before) → IsMarked s before e.refused e.lost e.item
 marked_at s [] before e h = h.0
 marked_at s (x ∷ later) before e h = marked_at s later before e h.1
+
+-- answers change no mark
+marked_same : (s : Settings) (J : Journal) (answers : List Bool) → AreMarked s J → AreMarked s (answered J answers)
+marked_same s [] answers h = h
+marked_same s (e ∷ before) answers h = h
 
 -- so of each shard
 abbrev pub AllMarked : Settings → List Shard → Type 0
@@ -47,6 +52,7 @@ module _ (c : Config) (w : World) (h : AllMarked (settings c w) w.shards) where
   marked next (took_tick shard moment sh g n m e) = subst (λ (next : World). AllMarked s next.shards) e (put shard _ (tt, h shard sh g))
   marked next (closed_by lane l g n e) = subst (λ (next : World). AllMarked s next.shards) e h
   marked next (took_end shard sender sh g n m d e) = subst (λ (next : World). AllMarked s next.shards) e (put shard _ (tt, h shard sh g))
+  marked next (answered_by shard sh answers o g d i e) = subst (λ (next : World). AllMarked s next.shards) e (put shard _ (marked_same s sh.journal answers (h shard sh g)))
   marked next (decided_one shard sh d g i e) = subst (λ (next : World). AllMarked s next.shards) e (put shard _ (h shard sh g))
   marked next (shipped shard sh a rest g u e) = subst (λ (next : World). AllMarked s next.shards) e (put shard _ (h shard sh g))
   marked next (pulled a rest u e) = subst (λ (next : World). AllMarked s next.shards) e h

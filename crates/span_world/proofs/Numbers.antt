@@ -9,7 +9,7 @@ use Rattle.span_world.specs.Step.{is_of_conn, arrivals}
 use Rattle.span_world.specs.Headline.{IsNumbered}
 use Rattle.shard_core.proofs.ListFacts.{tally-append}
 use Rattle.span_world.proofs.Received.{on_conn, count_is}
-use Rattle.span_world.proofs.Steps.{Stepped, received_by, routed, refused_by, took_span, took_tick, closed_by, took_end, decided_one, shipped, pulled, handed_over, failed, spoiled}
+use Rattle.span_world.proofs.Steps.{Stepped, received_by, routed, refused_by, took_span, took_tick, closed_by, took_end, answered_by, decided_one, shipped, pulled, handed_over, failed, spoiled}
 
 -- the spans that a lane received after these are numbered in turn
 abbrev pub Follows : (lane : ℕ) → (before spans : List Arrival) → Type 0
@@ -66,6 +66,7 @@ follow_step c w next (took_span shard refused lost sh a rest g q n m e) h = rw (
 follow_step c w next (took_tick shard moment sh g n m e) h = rw (← e) h
 follow_step c w next (closed_by lane l g n e) h = rw (← e) (follow_set 0 w.lanes lane _ lane (omega arith) (follow_at 0 w.lanes lane l lane (omega arith) g h) h)
 follow_step c w next (took_end shard sender sh g n m d e) h = rw (← e) h
+follow_step c w next (answered_by shard sh answers o g d i e) h = rw (← e) h
 follow_step c w next (decided_one shard sh d g i e) h = rw (← e) h
 follow_step c w next (shipped shard sh a rest g u e) h = rw (← e) h
 follow_step c w next (pulled a rest u e) h = rw (← e) h

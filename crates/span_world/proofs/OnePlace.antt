@@ -10,21 +10,34 @@ use Rattle.shard_core.proofs.Notes.{HasRoom}
 use Rattle.shard_core.proofs.ListFacts.{total}
 use Rattle.shard_core.proofs.Sound.{last_of_nil}
 use Rattle.span_world.proofs.Content.{content}
-use Rattle.span_world.proofs.Steps.{Stepped, stepped, and_then_some}
+use Rattle.span_world.proofs.Steps.{Stepped, Steps, plain, decided_by, stepped, and_then_some}
+use Rattle.span_world.proofs.AllAnswered.{AllAnswered, answered_new, answered_plainly, between, first, second, answered_decided}
 use Rattle.span_world.proofs.Balance.{occ, weigh, amount, got, length_places, balance, same_settings}
 use Rattle.span_world.proofs.Numbers.{AllFollow, follow_new, follow_step, are_numbered}
 use Rattle.span_world.proofs.Received.{AllNumbered, numbered_new, numbered_step, got_at_most_once, not_got, some_got}
 
--- what each step keeps holds after the run
-pub run_keeps : (c : Config) (P : World → Type 0) → ((w next : World) → Stepped c w next → P w → P next) → (steps : List Step) (w end : World) → P w → run_from c w steps ≡ Some end → P end
-run_keeps c P keeps [] w end h e = subst P (cc e) h
-run_keeps c P keeps (s ∷ rest) w end h e =
+-- what each step keeps holds after the run, and each decision was given its answers
+pub run_keeps : (c : Config) (P : World → Type 0) → HasRoom c.limit → ((w next : World) → Stepped c w next → P w → P next) → (steps : List Step) (w end : World) → P w → AllAnswered (settings c w) w.shards → run_from c w steps ≡ Some end → P end × AllAnswered (settings c end) end.shards
+run_keeps c P room keeps [] w end h a e = subst (λ (w : World). P w × AllAnswered (settings c w) w.shards) (cc e) (h, a)
+run_keeps c P room keeps (s ∷ rest) w end h a e =
     let k = and_then_some (λ next. run_from c next rest) (step c w s) end e in
-    run_keeps c P keeps rest k.0 end (keeps w k.0 (stepped c w k.0 s k.1) h) k.2
+    go k.0 (stepped c w k.0 s k.1) (λ (p : P k.0) (b : AllAnswered (settings c k.0) k.0.shards). run_keeps c P room keeps rest k.0 end p b k.2)
+  where
+    go : (next : World) → Steps c w next → (P next → AllAnswered (settings c next) next.shards → P end × AllAnswered (settings c end) end.shards) → P end × AllAnswered (settings c end) end.shards
+    go next (plain st p) f = f (keeps w next st h) (answered_plainly c w next st p a)
+    go next (decided_by shard sh answers o g due fits q) f =
+        f (keeps (between c room w next shard sh answers o g due fits q a) next (second c room w next shard sh answers o g due fits q a) (keeps w (between c room w next shard sh answers o g due fits q a) (first c room w next shard sh answers o g due fits q a) h))
+        (answered_decided c room w next shard sh answers o g due fits q a)
+
+pub of_each_answered : (P : Config → World → Type 0) (Q : Config → World → Type 0) → ((c : Config) → HasRoom c.limit → (lanes shards : ℕ) → P c (new_world lanes shards))
+    → ((c : Config) → HasRoom c.limit → (w next : World) → Stepped c w next → P c w → P c next) → ((c : Config) → HasRoom c.limit → (w : World) → P c w → AllAnswered (settings c w) w.shards → Q c w) → OfEachRun Q
+of_each_answered P Q starts keeps gives c lanes shards steps w room e =
+    let k = run_keeps c (P c) room (keeps c room) steps (new_world lanes shards) w (starts c room lanes shards) (answered_new (settings c (new_world lanes shards)) lanes shards) e in
+    gives c room w k.0 k.1
 
 pub of_each_run : (P : Config → World → Type 0) (Q : Config → World → Type 0) → ((c : Config) → HasRoom c.limit → (lanes shards : ℕ) → P c (new_world lanes shards))
     → ((c : Config) → HasRoom c.limit → (w next : World) → Stepped c w next → P c w → P c next) → ((c : Config) → HasRoom c.limit → (w : World) → P c w → Q c w) → OfEachRun Q
-of_each_run P Q starts keeps gives c lanes shards steps w room e = gives c room w (run_keeps c (P c) (keeps c room) steps (new_world lanes shards) w (starts c room lanes shards) e)
+of_each_run P Q starts keeps gives = of_each_answered P Q starts keeps (λ c room w h a. gives c room w h)
 
 -- ---- the invariant
 

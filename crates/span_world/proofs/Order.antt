@@ -17,9 +17,11 @@ use Rattle.shard_core.proofs.Notes.{HasRoom, same_refl}
 use Rattle.shard_core.proofs.ListFacts.{Each, Each-weaker, Each-filter, Pairs, Pairs-left, Pairs-filter, AllPairs-from, total, length-slice_set, flat_map-append'}
 use Rattle.shard_core.proofs.Sound.{last_of_nil}
 use Rattle.span_world.proofs.Content.{content, took_span as span_taken, stays_by_tick, stays_by_end, all_dealt}
+use Rattle.span_world.proofs.Answered.{content_same}
+use Rattle.shard_core.specs.Journal.{answered}
 use Rattle.span_world.proofs.Dealing.{dealt_with}
 use Rattle.span_world.proofs.Single.{key_self, total-at}
-use Rattle.span_world.proofs.Steps.{Stepped, received_by, routed, refused_by, took_span, took_tick, closed_by, took_end, decided_one, shipped, pulled, handed_over, failed, spoiled}
+use Rattle.span_world.proofs.Steps.{Stepped, received_by, routed, refused_by, took_span, took_tick, closed_by, took_end, answered_by, decided_one, shipped, pulled, handed_over, failed, spoiled}
 use Rattle.span_world.proofs.Balance.{occ, occ-append, weigh, amount, same_settings, has_valid}
 use Rattle.span_world.proofs.Received.{on_conn, count_is, AllNumbered, none_below, own_lane}
 use Rattle.span_world.proofs.OnePlace.{of_each_run, Accounted, accounted_new, accounted_step}
@@ -151,19 +153,23 @@ module _ (c : Config) (room : HasRoom c.limit) (w : World) (h : Ordered c w) whe
   lined_step next (took_span shard refused lost sh a rest g q d m e) = subst (λ (next : World). Lined s n (behind next) next.lanes next.shards) e (
       let v = has_valid a.key c room w sh.journal refused lost a.rec.span.ids m in
       let did : Effect = effect_of_span s sh.journal refused a a.rec.span.ids in
-      let sh' : Shard = record { queue = rest; journal = record { item = Span a; refused = refused; lost = lost } ∷ sh.journal; dealt = 0; unshipped = sh.unshipped ++ did.released } in
-      line_keeps s n (behind w) w.lanes w.shards h.lined shard sh (record { queue = rest; journal = record { item = Span a; refused = refused; lost = lost } ∷ sh.journal; dealt = 0; unshipped = sh.unshipped ++ did.released }) g
+      let sh' : Shard = record { queue = rest; journal = record { item = Span a; refused = refused; lost = lost; answers = [] } ∷ sh.journal; dealt = 0; unshipped = sh.unshipped ++ did.released } in
+      line_keeps s n (behind w) w.lanes w.shards h.lined shard sh (record { queue = rest; journal = record { item = Span a; refused = refused; lost = lost; answers = [] } ∷ sh.journal; dealt = 0; unshipped = sh.unshipped ++ did.released }) g
       (keeps_then ComesFirst (line s sh) (line_of sh.unshipped (content s sh.journal (notes s sh.journal)) (a ∷ rest)) (line s sh')
       (keeps_same ComesFirst (line s sh) (line_of sh.unshipped (content s sh.journal (notes s sh.journal)) (a ∷ rest)) (now_noted sh d ∙ ap (λ z. line_of sh.unshipped (content s sh.journal (notes s sh.journal)) z) q))
       (line_taken a v.0.trace sh.unshipped (content s sh.journal (notes s sh.journal)) _ did.released rest did.counted (ap (ids_have_trace v.0.trace) v.1 ∙ same_refl v.0.trace) (span_taken s room sh.journal a v.0 v.1 refused lost))))
   lined_step next (took_tick shard moment sh g d m e) = subst (λ (next : World). Lined s n (behind next) next.lanes next.shards) e (
-      line_keeps s n (behind w) w.lanes w.shards h.lined shard sh (record { queue = sh.queue; journal = record { item = Tick moment; refused = false; lost = false } ∷ sh.journal; dealt = 0; unshipped = sh.unshipped ++ [] }) g
+      line_keeps s n (behind w) w.lanes w.shards h.lined shard sh (record { queue = sh.queue; journal = record { item = Tick moment; refused = false; lost = false; answers = [] } ∷ sh.journal; dealt = 0; unshipped = sh.unshipped ++ [] }) g
       (still_line sh _ d (stays_by_tick s room sh.journal moment)))
   lined_step next (closed_by lane l g p e) = subst (λ (next : World). Lined s n (behind next) next.lanes next.shards) e (
       lane_keeps s n (behind w) w.lanes w.shards h.lined lane l (record l { ended = true }) g (keeps_same ComesFirst l.unrouted l.unrouted refl))
   lined_step next (took_end shard sender sh g d m p e) = subst (λ (next : World). Lined s n (behind next) next.lanes next.shards) e (
-      line_keeps s n (behind w) w.lanes w.shards h.lined shard sh (record { queue = sh.queue; journal = record { item = End sender; refused = false; lost = false } ∷ sh.journal; dealt = 0; unshipped = sh.unshipped ++ [] }) g
+      line_keeps s n (behind w) w.lanes w.shards h.lined shard sh (record { queue = sh.queue; journal = record { item = End sender; refused = false; lost = false; answers = [] } ∷ sh.journal; dealt = 0; unshipped = sh.unshipped ++ [] }) g
       (still_line sh _ d (stays_by_end s room sh.journal sender)))
+  lined_step next (answered_by shard sh answers o g d i e) = subst (λ (next : World). Lined s n (behind next) next.lanes next.shards) e (
+      let sh' : Shard = record sh { journal = answered sh.journal answers } in
+      line_keeps s n (behind w) w.lanes w.shards h.lined shard sh (record sh { journal = answered sh.journal answers }) g
+      (keeps_same ComesFirst (line s sh) (line s sh') (ap (λ z. line_of sh.unshipped z sh.queue) (sym (content_same s room sh.journal sh.dealt answers o d i)))))
   lined_step next (decided_one shard sh d g i e) = subst (λ (next : World). Lined s n (behind next) next.lanes next.shards) e (
       let after = content s sh.journal (notes_dealt s sh.journal (suc sh.dealt)) in
       let sent = sh.unshipped ++ (effect_of_decision d).released in
@@ -192,6 +198,7 @@ same_shards c w next (took_span shard refused lost sh a rest g q n m e) = ap (λ
 same_shards c w next (took_tick shard moment sh g n m e) = ap (λ (w : World). length w.shards) (sym e) ∙ length-slice_set w.shards shard _
 same_shards c w next (closed_by lane l g n e) = ap (λ (w : World). length w.shards) (sym e)
 same_shards c w next (took_end shard sender sh g n m d e) = ap (λ (w : World). length w.shards) (sym e) ∙ length-slice_set w.shards shard _
+same_shards c w next (answered_by shard sh answers o g d i e) = ap (λ (w : World). length w.shards) (sym e) ∙ length-slice_set w.shards shard _
 same_shards c w next (decided_one shard sh d g i e) = ap (λ (w : World). length w.shards) (sym e) ∙ length-slice_set w.shards shard _
 same_shards c w next (shipped shard sh a rest g u e) = ap (λ (w : World). length w.shards) (sym e) ∙ length-slice_set w.shards shard _
 same_shards c w next (pulled a rest u e) = ap (λ (w : World). length w.shards) (sym e)

@@ -1,7 +1,7 @@
 -- The parts of the headline that follow of what every step keeps.
 use Rattle.std.proofs.Common.{◌≡◌, ℕ, ◌+◌, ◌<◌, ◌≤◌, Bool, true, false, ◌&&◌, ◌||◌, List, [], ◌∷◌, ◌++◌, slice_get, Option, Some, inl, inr, refl, ap, sym, subst, ◌∙◌, arith, eq-eqb}
 use Rattle.std.specs.List.{list_any}
-use Rattle.shard_core.specs.Journal.{Entry, Settings, Journal, Opening, Finding, joins, meets, opens, finding, verdict_met, notes}
+use Rattle.shard_core.specs.Journal.{Entry, Settings, Journal, Opening, Finding, joins, meets, opens, finding, verdict_met, notes, IsAnswered, IsAnsweredUpTo}
 use Rattle.shard_core.specs.Fate.{Fate, waits, is_released, is_counted, fate_of_verdict, is_same_reason}
 use Rattle.otlp_types.specs.declared.span.Ids.{Ids}
 use Rattle.otlp_types.specs.declared.arrival.Arrival.{Arrival}
@@ -30,7 +30,8 @@ use Rattle.span_world.proofs.Marked.{AreMarked, marked_at}
 use Rattle.span_world.proofs.EndsLast.{ends_last as lanes_end_last}
 use Rattle.span_world.proofs.WasDecided.{was_decided}
 use Rattle.span_world.proofs.Single.{key_self, split_hit, one_hit, all_received, occ_all, in_all, contains_split, split_contains}
-use Rattle.span_world.proofs.Whole.{Whole, of_whole}
+use Rattle.span_world.proofs.Whole.{Whole, of_whole, of_whole_answered}
+use Rattle.span_world.proofs.AllAnswered.{AllAnswered}
 use Rattle.span_world.proofs.Stands.{Stands, on_its_way, waits_in, sent_by, in_counts, stands, has_fate_of}
 use Rattle.span_world.proofs.TakenAt.{TakenAt, waits_there, sent_there, counted_there, known_at}
 
@@ -100,22 +101,31 @@ late_place c w t o v place f r (counted_there reason p e) = go v (own_fate ∙ e
     go Sampled e = absurd (cc e)
     go NotSampled e = let q : LateNotSampled ≡ reason = cc e in ap (is_where_late t.shard NotSampled) p ∙ ap (λ (x : Reason). is_same_reason x LateNotSampled) (sym q)
 
-pub meets_remembered : EachMeetsRemembered
-meets_remembered = of_whole MeetsRemembered gives
+-- what was taken before is answered
+answered_behind : (s : Settings) (J : Journal) (dealt : ℕ) (later before : Journal) (e : Entry) → J ≡ later ++ e ∷ before → IsAnsweredUpTo s J dealt → IsAnswered s before
+answered_behind s J dealt [] before e is h = (subst (λ (j : Journal). IsAnsweredUpTo s j dealt) is h).1
+answered_behind s J dealt (x ∷ later) before e is h = further later (subst (λ (j : Journal). IsAnsweredUpTo s j dealt) is h).1
   where
-    gives : (c : Config) → HasRoom c.limit → (w : World) → Whole c w → MeetsRemembered c w
-    gives c room w h t v e =
+    further : (later : Journal) → IsAnswered s (later ++ e ∷ before) → IsAnswered s before
+    further [] k = k.1
+    further (y ∷ later) k = further later k.1
+
+pub meets_remembered : EachMeetsRemembered
+meets_remembered = of_whole_answered MeetsRemembered gives
+  where
+    gives : (c : Config) → HasRoom c.limit → (w : World) → Whole c w → AllAnswered (settings c w) w.shards → MeetsRemembered c w
+    gives c room w h answered t v e =
         let s = settings c w in
         let m = met (finding (settings c w) (notes (settings c w) t.before) t.ids.trace) v e in
-        let marks = marked_at (settings c w) t.later t.before (record { item = Span t.arrival; refused = t.refused; lost = t.lost }) (subst (AreMarked (settings c w)) t.split (h.marked t.shard t.of t.in_world)) in
+        let marks = marked_at (settings c w) t.later t.before (record { item = Span t.arrival; refused = t.refused; lost = t.lost; answers = t.answers }) (subst (AreMarked (settings c w)) t.split (h.marked t.shard t.of t.in_world)) in
         let r = not_refused (settings c w) t.before t.refused t.lost t.arrival.rec.span.ids t.ids m.0 v t.valid m.1 marks in
         let k = known_at c room w h t in
-        (r, (k.0, k.1, late_place c w t m.0 v k.0 m.1 r k.2), was_decided (settings c w) room t.before t.ids.trace m.0 v m.1)
+        (r, (k.0, k.1, late_place c w t m.0 v k.0 m.1 r k.2), was_decided (settings c w) room t.before (answered_behind (settings c w) t.of.journal t.of.dealt t.later t.before (record { item = Span t.arrival; refused = t.refused; lost = t.lost; answers = t.answers }) t.split (answered t.shard t.of t.in_world)) t.ids.trace m.0 v m.1)
 
 -- ---- the cause of a count
 
 taken_of : (c : Config) (w : World) (shard : ℕ) (sh : Shard) (a : Arrival) (became : Fate) → slice_get w.shards shard ≡ Some sh → FateIs (settings c w) sh.journal a became → HasFate c w a became
-taken_of c w shard sh a became g f = (record { shard = shard; of = sh; in_world = g; arrival = a; ids = f.ids; valid = f.valid; refused = f.refused; lost = f.lost; later = f.later; before = f.before; split = f.split }, refl, f.is)
+taken_of c w shard sh a became g f = (record { shard = shard; of = sh; in_world = g; arrival = a; ids = f.ids; valid = f.valid; refused = f.refused; lost = f.lost; answers = f.given; later = f.later; before = f.before; split = f.split }, refl, f.is)
 
 has_fate : (c : Config) (w : World) (a : Arrival) (became : Fate) → HasF (settings c w) w.shards a became → HasFate c w a became
 has_fate c w a became k = taken_of c w k.shard k.sh a became k.at k.fate

@@ -11,7 +11,7 @@ use Rattle.span_world.specs.World.{Config, Lane, World, new_lane, same_key}
 use Rattle.span_world.specs.Step.{is_of_conn, arrivals}
 use Rattle.shard_core.proofs.ListFacts.{tally, tally-append, tally-any, tally-some, total}
 use Rattle.span_world.proofs.Balance.{occ}
-use Rattle.span_world.proofs.Steps.{Stepped, received_by, routed, refused_by, took_span, took_tick, closed_by, took_end, decided_one, shipped, pulled, handed_over, failed, spoiled, or_both}
+use Rattle.span_world.proofs.Steps.{Stepped, received_by, routed, refused_by, took_span, took_tick, closed_by, took_end, answered_by, decided_one, shipped, pulled, handed_over, failed, spoiled, or_both}
 
 -- how many were received on a connection
 abbrev pub on_conn : ConnKey → List Arrival → ℕ
@@ -189,6 +189,7 @@ numbered_step c w next (took_span shard refused lost sh a rest g q n m e) h = rw
 numbered_step c w next (took_tick shard moment sh g n m e) h = rw (← e) h
 numbered_step c w next (closed_by lane l g n e) h = rw (← e) (numbered_set 0 w.lanes lane _ lane (omega arith) (numbered_at 0 w.lanes lane l g h lane (omega arith)) h)
 numbered_step c w next (took_end shard sender sh g n m d e) h = rw (← e) h
+numbered_step c w next (answered_by shard sh answers o g d i e) h = rw (← e) h
 numbered_step c w next (decided_one shard sh d g i e) h = rw (← e) h
 numbered_step c w next (shipped shard sh a rest g u e) h = rw (← e) h
 numbered_step c w next (pulled a rest u e) h = rw (← e) h

@@ -17,8 +17,10 @@ use Rattle.shard_core.proofs.Sound.{sound_notes}
 use Rattle.span_world.proofs.Content.{gone_released}
 use Rattle.span_world.proofs.Dealing.{Each-due, Pairs-due, in_turn, IsEarlier, undecided_ascend, undecided_stand}
 use Rattle.span_world.proofs.Members.{Joined, AreJoined, all_joined, by_item}
+use Rattle.span_world.proofs.Answered.{split_answered, fate_answered}
+use Rattle.shard_core.specs.Journal.{due_now, answered, IsAnsweredUpTo}
 use Rattle.span_world.proofs.Decided.{decided_stays, noted_decision}
-use Rattle.span_world.proofs.Steps.{Stepped, received_by, routed, refused_by, took_span, took_tick, closed_by, took_end, decided_one, shipped, pulled, handed_over, failed, spoiled}
+use Rattle.span_world.proofs.Steps.{Stepped, received_by, routed, refused_by, took_span, took_tick, closed_by, took_end, answered_by, decided_one, shipped, pulled, handed_over, failed, spoiled}
 use Rattle.span_world.proofs.Balance.{same_settings, has_valid}
 use Rattle.span_world.proofs.Order.{behind, behind_pulled, behind_handed, replicated}
 use Rattle.span_world.proofs.Lined.{at_each}
@@ -29,9 +31,10 @@ pub record IsReleased (s : Settings) (J : Journal) (a : Arrival) : Type 0 where
   pub ids : Ids
   pub valid : a.rec.span.ids ≡ Some ids
   pub lost : Bool
+  pub given : List (List Bool)
   pub later : Journal
   pub before : Journal
-  pub split : J ≡ later ++ record { item = Span a; refused = false; lost = lost } ∷ before
+  pub split : J ≡ later ++ record { item = Span a; refused = false; lost = lost; answers = given } ∷ before
   pub fate_is : fate s J before false ids ≡ is_released
 
 -- a member is released just where its episode is decided so
@@ -59,15 +62,22 @@ released_later s room J e a h = record {
   ids = h.ids;
   valid = h.valid;
   lost = h.lost;
+  given = h.given;
   later = e ∷ h.later;
   before = h.before;
   split = ap (λ (z : Journal). e ∷ z) h.split;
   fate_is = fate_stays s room J e (length h.before) (finding s (notes s h.before) h.ids.trace) h.fate_is;
 }
 
+-- answers to the next decision take nothing back
+pub released_answered : (s : Settings) → HasRoom s.limit → (J : Journal) (k : ℕ) (answers : List Bool) (o : Opening) → slice_get (due_now s J) k ≡ Some o → IsAnsweredUpTo s J k → (a : Arrival) → IsReleased s J a → IsReleased s (answered J answers) a
+released_answered s room J k answers o d i a h =
+    let p = split_answered J answers h.later h.before a false h.lost h.given h.split in
+    record { ids = h.ids; valid = h.valid; lost = h.lost; given = p.1; later = p.0; before = h.before; split = p.2; fate_is = fate_answered s room J k answers o d i h.before false h.ids is_released (inl refl) h.fate_is }
+
 -- a member of an episode that is decided for is released
 released_member : (s : Settings) (J : Journal) (o : Opening) (a : Arrival) → Joined s J o a → decided_as (notes s J) o.at ≡ Some Sampled → IsReleased s J a
-released_member s J o a h d = record { ids = h.ids; valid = h.valid; lost = h.lost; later = h.later; before = h.before; split = h.split; fate_is = go h.how }
+released_member s J o a h d = record { ids = h.ids; valid = h.valid; lost = h.lost; given = h.given; later = h.later; before = h.before; split = h.split; fate_is = go h.how }
   where
     go : (finding s (notes s h.before) h.ids.trace ≡ joins o) ⊎ ((finding s (notes s h.before) h.ids.trace ≡ opens) × (length h.before ≡ o.at)) → fate s J h.before false h.ids ≡ is_released
     go (inl f) = ap (fate_of_finding s (notes s J) (length h.before)) f ∙ decided_member _ (decided_as (notes s J) o.at) d
@@ -76,19 +86,19 @@ released_member s J o a h d = record { ids = h.ids; valid = h.valid; lost = h.lo
 -- the spans of a due episode joined it
 pub joined_due : (s : Settings) → HasRoom s.limit → (J : Journal) (dealt : ℕ) (d : Decision) → slice_get (decisions_now s J) dealt ≡ Some d → Each (Joined s J d.opening) d.spans
 joined_due s room [] dealt d is = absurd (cc is)
-joined_due s room (e ∷ J) dealt d is = by_kind e.item e.refused e.lost is
+joined_due s room (e ∷ J) dealt d is = by_kind e.item e.refused e.lost e.answers is
   where
     in_general : (e : Entry) → Each (AreJoined s (e ∷ J) (notes s J)) (in_buffer s (notes s J)) → slice_get (decisions_at s e J (notes s J)) dealt ≡ Some d → Each (Joined s (e ∷ J) d.opening) d.spans
     in_general e h is =
-        let t = in_turn s (e ∷ J) (due_at s e J e.item (notes s J)) (notes s J).decisions dealt d (Pairs-due IsEarlier s e J e.item (notes s J) (undecided_ascend s J (notes s J) (sound_notes s room J))) is in
+        let t = in_turn s (e ∷ J) (due_at s e J e.item (notes s J)) e.answers dealt d (Pairs-due IsEarlier s e J e.item (notes s J) (undecided_ascend s J (notes s J) (sound_notes s room J))) is in
         let stand = Each-due (λ (o : Opening). Split o (in_buffer s (notes s J)) × (is_open (notes s J) o ≡ true)) s e J e.item (notes s J) (undecided_stand s (notes s J)) in
         let p = Each-split (λ (o : Opening). Split o (in_buffer s (notes s J)) × (is_open (notes s J) o ≡ true)) d.opening (due_at s e J e.item (notes s J)) t.within stand in
         subst (λ z. Each (Joined s (e ∷ J) d.opening) z) (sym t.spans) (Each-split (AreJoined s (e ∷ J) (notes s J)) d.opening (in_buffer s (notes s J)) p.0 h p.1)
 
-    by_kind : (item : Item) (refused lost : Bool) → slice_get (decisions_at s (record { item = item; refused = refused; lost = lost }) J (notes s J)) dealt ≡ Some d → Each (Joined s (record { item = item; refused = refused; lost = lost } ∷ J) d.opening) d.spans
-    by_kind (Span a) refused lost is = absurd (cc is)
-    by_kind (Tick m) refused lost is = in_general (record { item = Tick m; refused = refused; lost = lost }) (by_item s room J (all_joined s room J) (Tick m) refused lost) is
-    by_kind (End i) refused lost is = in_general (record { item = End i; refused = refused; lost = lost }) (by_item s room J (all_joined s room J) (End i) refused lost) is
+    by_kind : (item : Item) (refused lost : Bool) (given : List (List Bool)) → slice_get (decisions_at s (record { item = item; refused = refused; lost = lost; answers = given }) J (notes s J)) dealt ≡ Some d → Each (Joined s (record { item = item; refused = refused; lost = lost; answers = given } ∷ J) d.opening) d.spans
+    by_kind (Span a) refused lost given is = absurd (cc is)
+    by_kind (Tick m) refused lost given is = in_general (record { item = Tick m; refused = refused; lost = lost; answers = given }) (by_item s room J (all_joined s room J) (Tick m) refused lost given) is
+    by_kind (End i) refused lost given is = in_general (record { item = End i; refused = refused; lost = lost; answers = given }) (by_item s room J (all_joined s room J) (End i) refused lost given) is
 
 pub released_by_decision : (s : Settings) → HasRoom s.limit → (J : Journal) (dealt : ℕ) (d : Decision) → slice_get (decisions_now s J) dealt ≡ Some d → Each (IsReleased s J) (effect_of_decision d).released
 released_by_decision s room J dealt d is = go d.verdict refl
@@ -98,19 +108,19 @@ released_by_decision s room J dealt d is = go d.verdict refl
     go Sampled e = Each-weaker (Joined s J d.opening) (IsReleased s J) d.spans (λ a h. released_member s J d.opening a h (noted_decision s room J dealt d is ∙ ap (λ (v : Verdict). Some v) e)) (joined_due s room J dealt d is)
 
 -- a late span is released at once
-pub released_at_once : (s : Settings) → HasRoom s.limit → (J : Journal) (a : Arrival) (refused lost : Bool) (ids : Ids) → a.rec.span.ids ≡ Some ids → Each (IsReleased s (record { item = Span a; refused = refused; lost = lost } ∷ J)) (effect_of_span s J refused a a.rec.span.ids).released
-released_at_once s room J a refused lost ids has = subst (λ (z : Option Ids). Each (IsReleased s (record { item = Span a; refused = refused; lost = lost } ∷ J)) (effect_of_span s J refused a z).released) (sym has) (go refused)
+pub released_at_once : (s : Settings) → HasRoom s.limit → (J : Journal) (a : Arrival) (refused lost : Bool) (ids : Ids) → a.rec.span.ids ≡ Some ids → Each (IsReleased s (record { item = Span a; refused = refused; lost = lost; answers = [] } ∷ J)) (effect_of_span s J refused a a.rec.span.ids).released
+released_at_once s room J a refused lost ids has = subst (λ (z : Option Ids). Each (IsReleased s (record { item = Span a; refused = refused; lost = lost; answers = [] } ∷ J)) (effect_of_span s J refused a z).released) (sym has) (go refused)
   where
-    late_one : (o : Opening) (v : Verdict) → finding s (notes s J) ids.trace ≡ meets o v → Each (IsReleased s (record { item = Span a; refused = false; lost = lost } ∷ J)) (effect_of_verdict LateNotSampled (a ∷ []) v).released
+    late_one : (o : Opening) (v : Verdict) → finding s (notes s J) ids.trace ≡ meets o v → Each (IsReleased s (record { item = Span a; refused = false; lost = lost; answers = [] } ∷ J)) (effect_of_verdict LateNotSampled (a ∷ []) v).released
     late_one o NotSampled f = tt
-    late_one o Sampled f = (record { ids = ids; valid = has; lost = lost; later = []; before = J; split = refl; fate_is = ap (fate_of_finding s (notes s (record { item = Span a; refused = false; lost = lost } ∷ J)) (length J)) f }, tt)
+    late_one o Sampled f = (record { ids = ids; valid = has; lost = lost; given = []; later = []; before = J; split = refl; fate_is = ap (fate_of_finding s (notes s (record { item = Span a; refused = false; lost = lost; answers = [] } ∷ J)) (length J)) f }, tt)
 
-    by_finding : (f : Finding) → finding s (notes s J) ids.trace ≡ f → Each (IsReleased s (record { item = Span a; refused = false; lost = lost } ∷ J)) (effect_of_finding s J (notes s J) a f).released
+    by_finding : (f : Finding) → finding s (notes s J) ids.trace ≡ f → Each (IsReleased s (record { item = Span a; refused = false; lost = lost; answers = [] } ∷ J)) (effect_of_finding s J (notes s J) a f).released
     by_finding (joins o) e = tt
     by_finding (meets o v) e = late_one o v e
-    by_finding opens e = subst (λ z. Each (IsReleased s (record { item = Span a; refused = false; lost = lost } ∷ J)) z) (sym (gone_released s room J (notes s J) (sound_notes s room J) a ids has lost (leaving s.limit (notes s J).openings))) tt
+    by_finding opens e = subst (λ z. Each (IsReleased s (record { item = Span a; refused = false; lost = lost; answers = [] } ∷ J)) z) (sym (gone_released s room J (notes s J) (sound_notes s room J) a ids has lost [] (leaving s.limit (notes s J).openings))) tt
 
-    go : (refused : Bool) → Each (IsReleased s (record { item = Span a; refused = refused; lost = lost } ∷ J)) (effect_of_span s J refused a (Some ids)).released
+    go : (refused : Bool) → Each (IsReleased s (record { item = Span a; refused = refused; lost = lost; answers = [] } ∷ J)) (effect_of_span s J refused a (Some ids)).released
     go true = tt
     go false = by_finding (finding s (notes s J) ids.trace) refl
 
@@ -187,18 +197,21 @@ module _ (c : Config) (room : HasRoom c.limit) (w : World) (h : ReleasingAt c w)
   releasing next (refused_by lane shard l a rest gl t e) = subst (λ (next : World). Releasing s next.shards (behind next)) e h
   releasing next (took_span shard refused lost sh a rest g q d m e) = subst (λ (next : World). Releasing s next.shards (behind next)) e (
       let v = has_valid a.key c room w sh.journal refused lost a.rec.span.ids m in
-      let entry : Entry = record { item = Span a; refused = refused; lost = lost } in
+      let entry : Entry = record { item = Span a; refused = refused; lost = lost; answers = [] } in
       let did : Effect = effect_of_span s sh.journal refused a a.rec.span.ids in
-      shard_grows s w.shards (behind w) h shard sh (record { queue = rest; journal = record { item = Span a; refused = refused; lost = lost } ∷ sh.journal; dealt = 0; unshipped = sh.unshipped ++ did.released }) g
-      (λ b r. released_later s room sh.journal (record { item = Span a; refused = refused; lost = lost }) b r)
-      (more_sent sh (record { item = Span a; refused = refused; lost = lost }) did.released (h.sent shard sh g) (released_at_once s room sh.journal a refused lost v.0 v.1)))
+      shard_grows s w.shards (behind w) h shard sh (record { queue = rest; journal = record { item = Span a; refused = refused; lost = lost; answers = [] } ∷ sh.journal; dealt = 0; unshipped = sh.unshipped ++ did.released }) g
+      (λ b r. released_later s room sh.journal (record { item = Span a; refused = refused; lost = lost; answers = [] }) b r)
+      (more_sent sh (record { item = Span a; refused = refused; lost = lost; answers = [] }) did.released (h.sent shard sh g) (released_at_once s room sh.journal a refused lost v.0 v.1)))
   releasing next (took_tick shard moment sh g d m e) = subst (λ (next : World). Releasing s next.shards (behind next)) e (
-      shard_grows s w.shards (behind w) h shard sh (record { queue = sh.queue; journal = record { item = Tick moment; refused = false; lost = false } ∷ sh.journal; dealt = 0; unshipped = sh.unshipped ++ [] }) g
-      (λ b r. released_later s room sh.journal (record { item = Tick moment; refused = false; lost = false }) b r) (more_sent sh (record { item = Tick moment; refused = false; lost = false }) [] (h.sent shard sh g) tt))
+      shard_grows s w.shards (behind w) h shard sh (record { queue = sh.queue; journal = record { item = Tick moment; refused = false; lost = false; answers = [] } ∷ sh.journal; dealt = 0; unshipped = sh.unshipped ++ [] }) g
+      (λ b r. released_later s room sh.journal (record { item = Tick moment; refused = false; lost = false; answers = [] }) b r) (more_sent sh (record { item = Tick moment; refused = false; lost = false; answers = [] }) [] (h.sent shard sh g) tt))
   releasing next (closed_by lane l g p e) = subst (λ (next : World). Releasing s next.shards (behind next)) e h
   releasing next (took_end shard sender sh g d m p e) = subst (λ (next : World). Releasing s next.shards (behind next)) e (
-      shard_grows s w.shards (behind w) h shard sh (record { queue = sh.queue; journal = record { item = End sender; refused = false; lost = false } ∷ sh.journal; dealt = 0; unshipped = sh.unshipped ++ [] }) g
-      (λ b r. released_later s room sh.journal (record { item = End sender; refused = false; lost = false }) b r) (more_sent sh (record { item = End sender; refused = false; lost = false }) [] (h.sent shard sh g) tt))
+      shard_grows s w.shards (behind w) h shard sh (record { queue = sh.queue; journal = record { item = End sender; refused = false; lost = false; answers = [] } ∷ sh.journal; dealt = 0; unshipped = sh.unshipped ++ [] }) g
+      (λ b r. released_later s room sh.journal (record { item = End sender; refused = false; lost = false; answers = [] }) b r) (more_sent sh (record { item = End sender; refused = false; lost = false; answers = [] }) [] (h.sent shard sh g) tt))
+  releasing next (answered_by shard sh answers o g d i e) = subst (λ (next : World). Releasing s next.shards (behind next)) e (
+      shard_grows s w.shards (behind w) h shard sh (record sh { journal = answered sh.journal answers }) g (λ a r. released_answered s room sh.journal sh.dealt answers o d i a r)
+      (Each-weaker (IsReleased s sh.journal) (IsReleased s (answered sh.journal answers)) sh.unshipped (λ a r. released_answered s room sh.journal sh.dealt answers o d i a r) (h.sent shard sh g)))
   releasing next (decided_one shard sh d g i e) = subst (λ (next : World). Releasing s next.shards (behind next)) e (
       shard_grows s w.shards (behind w) h shard sh (record sh { dealt = sh.dealt + 1; unshipped = sh.unshipped ++ (effect_of_decision d).released }) g (λ b r. r)
       (Each-append (IsReleased s sh.journal) sh.unshipped (effect_of_decision d).released (h.sent shard sh g) (released_by_decision s room sh.journal sh.dealt d i)))

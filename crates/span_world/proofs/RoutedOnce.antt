@@ -1,6 +1,6 @@
 -- A received span is routed once: it waits to be routed or taken, its lane counted it, or one journal has it.
 use Rattle.std.proofs.Common.{◌≡◌, ℕ, zero, suc, ◌+◌, Bool, true, false, cond, not, ◌&&◌, List, [], ◌∷◌, ◌++◌, filter, count_by, replicate, Option, Some, None, refl, ap, ◌∙◌, arith}
-use Rattle.shard_core.specs.Journal.{Entry, Settings, Journal, Opening, Decision, Finding, joins, meets, opens, decided_as, spans_since, leaving, notes, finding}
+use Rattle.shard_core.specs.Journal.{answered, Entry, Settings, Journal, Opening, Decision, Finding, joins, meets, opens, decided_as, spans_since, leaving, notes, finding}
 use Rattle.shard_core.specs.Fate.{DroppedSpan, counts, effect_of_verdict, effect_of_leaving, effect_of_leaving_decided, effect_of_finding, effect_of_span, effect_of_decision}
 use Rattle.otlp_types.specs.declared.span.Ids.{Ids}
 use Rattle.otlp_types.specs.declared.arrival.Arrival.{Arrival}
@@ -14,7 +14,7 @@ use Rattle.span_world.specs.World.{Config, Lane, Shard, World, new_world, new_la
 use Rattle.span_world.specs.Step.{is_of_conn, arrivals, has_ids, spoil_applies}
 use Rattle.span_world.specs.Headline.{is_span_with}
 use Rattle.shard_core.proofs.ListFacts.{tally, tally-append, tally-halves, total, total-set}
-use Rattle.span_world.proofs.Steps.{Stepped, received_by, routed, refused_by, took_span, took_tick, closed_by, took_end, decided_one, shipped, pulled, handed_over, failed, spoiled}
+use Rattle.span_world.proofs.Steps.{Stepped, received_by, routed, refused_by, took_span, took_tick, closed_by, took_end, answered_by, decided_one, shipped, pulled, handed_over, failed, spoiled}
 use Rattle.span_world.proofs.Balance.{occ, got, occ-append}
 
 -- the reasons for which a lane counts
@@ -42,6 +42,11 @@ before_journals k w = total (λ (l : Lane). occ k l.unrouted) w.lanes + (total (
 -- how often the journals have the key
 abbrev pub in_journals : ArrivalKey → World → ℕ
 in_journals k w = total (λ (sh : Shard). in_journal k sh.journal) w.shards
+
+-- answers change no item
+same_in_journal : (k : ArrivalKey) (J : Journal) (answers : List Bool) → in_journal k (answered J answers) ≡ in_journal k J
+same_in_journal k [] answers = refl
+same_in_journal k (e ∷ before) answers = refl
 
 -- each key stands so often as it was received
 abbrev pub IsRoutedOnce : World → Type 0
@@ -124,13 +129,13 @@ module _ (k : ArrivalKey) where
         omega (arith, u, r, x, y, counted-append w.counted (counts QueueFull (a ∷ [])), lane_counts QueueFull refl (a ∷ [])))
     balance next (took_span shard refused lost sh a rest g q n m e) = rw (← e) (
         let did = effect_of_span (settings c w) sh.journal refused a a.rec.span.ids in
-        let sh' : Shard = record { queue = rest; journal = record { item = Span a; refused = refused; lost = lost } ∷ sh.journal; dealt = 0; unshipped = sh.unshipped ++ did.released } in
+        let sh' : Shard = record { queue = rest; journal = record { item = Span a; refused = refused; lost = lost; answers = [] } ∷ sh.journal; dealt = 0; unshipped = sh.unshipped ++ did.released } in
         let x = total-set (λ (sh : Shard). occ k sh.queue) w.shards shard sh sh' g in
         let j = total-set (λ (sh : Shard). in_journal k sh.journal) w.shards shard sh sh' g in
         let z : occ k sh.queue ≡ occ k (a ∷ []) + occ k rest = ap (occ k) q ∙ omega arith in
         omega (arith, x, j, z, counted-append w.counted did.counted, by_span (settings c w) sh.journal refused a a.rec.span.ids))
     balance next (took_tick shard moment sh g n m e) = rw (← e) (
-        let sh' : Shard = record { queue = sh.queue; journal = record { item = Tick moment; refused = false; lost = false } ∷ sh.journal; dealt = 0; unshipped = sh.unshipped ++ [] } in
+        let sh' : Shard = record { queue = sh.queue; journal = record { item = Tick moment; refused = false; lost = false; answers = [] } ∷ sh.journal; dealt = 0; unshipped = sh.unshipped ++ [] } in
         let x = total-set (λ (sh : Shard). occ k sh.queue) w.shards shard sh sh' g in
         let j = total-set (λ (sh : Shard). in_journal k sh.journal) w.shards shard sh sh' g in
         omega (arith, x, j, counted-append w.counted []))
@@ -139,10 +144,15 @@ module _ (k : ArrivalKey) where
         let r = total-set (λ (l : Lane). occ k l.received) w.lanes lane l (record l { ended = true }) g in
         omega (arith, u, r))
     balance next (took_end shard sender sh g n m d e) = rw (← e) (
-        let sh' : Shard = record { queue = sh.queue; journal = record { item = End sender; refused = false; lost = false } ∷ sh.journal; dealt = 0; unshipped = sh.unshipped ++ [] } in
+        let sh' : Shard = record { queue = sh.queue; journal = record { item = End sender; refused = false; lost = false; answers = [] } ∷ sh.journal; dealt = 0; unshipped = sh.unshipped ++ [] } in
         let x = total-set (λ (sh : Shard). occ k sh.queue) w.shards shard sh sh' g in
         let j = total-set (λ (sh : Shard). in_journal k sh.journal) w.shards shard sh sh' g in
         omega (arith, x, j, counted-append w.counted []))
+    balance next (answered_by shard sh answers o g d i e) = rw (← e) (
+        let sh' : Shard = record sh { journal = answered sh.journal answers } in
+        let x = total-set (λ (sh : Shard). occ k sh.queue) w.shards shard sh sh' g in
+        let j = total-set (λ (sh : Shard). in_journal k sh.journal) w.shards shard sh sh' g in
+        omega (arith, x, j, same_in_journal k sh.journal answers))
     balance next (decided_one shard sh d g i e) = rw (← e) (
         let did = effect_of_decision d in
         let sh' : Shard = record sh { dealt = sh.dealt + 1; unshipped = sh.unshipped ++ did.released } in

@@ -79,9 +79,9 @@ key n = record { conn = record { lane = 0; ordinal = 0 }; number = n }
 abbrev pub send : Record → List Step
 send r = receive 0 0 0 (r ∷ []) ∷ route 0 0 ∷ []
 
--- the step is enabled after these, with one lane and one shard
-abbrev pub is_enabled_after : Config → List Step → Step → Bool
-is_enabled_after c before s = is_some (option_and_then (λ w. step c w s) (run c 1 1 before))
+-- whether the step is enabled after these, with one lane and one shard; nothing, where these don't run
+abbrev pub is_enabled_after : Config → List Step → Step → Option Bool
+is_enabled_after c before s = option_map (λ w. is_some (step c w s)) (run c 1 1 before)
 
 -- the numbers counted under a reason
 abbrev pub numbers_under : Reason → Option World → Option (List ℕ)

@@ -19,6 +19,8 @@ use Rattle.shard_core.proofs.Find.{found, find_past, any_none}
 use Rattle.shard_core.proofs.Sound.{Makes, makes_room, sound_notes}
 use Rattle.span_world.proofs.Dealing.{Each-due, undecided_stand}
 use Rattle.span_world.proofs.Members.{Joined, AreJoined, all_joined}
+use Rattle.span_world.proofs.Answered.{split_answered, fate_answered}
+use Rattle.shard_core.specs.Journal.{due_now, answered, IsAnsweredUpTo}
 use Rattle.span_world.proofs.Decided.{same_decisions, Each-in_turn, decided_stays, noted_decision}
 use Rattle.span_world.proofs.Released.{joined_due, fate_stays}
 
@@ -81,7 +83,7 @@ undecided_stays s J e at h d = ap (λ (r : Option Decision). option_map (λ (d :
     ds = decisions_at s e J (notes s J)
 
     others : Each (λ (d : Decision). (d.opening.at == at) ≡ false) ds
-    others = Each-in_turn (λ (o : Opening). (o.at == at) ≡ false) s (e ∷ J) (due_at s e J e.item (notes s J)) (notes s J).decisions
+    others = Each-in_turn (λ (o : Opening). (o.at == at) ≡ false) s (e ∷ J) (due_at s e J e.item (notes s J)) e.answers
         (Each-due (λ (o : Opening). (o.at == at) ≡ false) s e J e.item (notes s J) (Each-weaker (λ (o : Opening). Split o (in_buffer s (notes s J)) × (is_open (notes s J) o ≡ true)) (λ (o : Opening). (o.at == at) ≡ false) (undecided s (notes s J))
         (λ o p. Each-split (λ (o : Opening). (o.at == at) ≡ false) o (in_buffer s (notes s J)) p.0 (any_false (λ (o : Opening). o.at == at) (in_buffer s (notes s J)) h)) (undecided_stand s (notes s J))))
 
@@ -104,9 +106,10 @@ pub record FateIs (s : Settings) (J : Journal) (a : Arrival) (became : Fate) : T
   pub valid : a.rec.span.ids ≡ Some ids
   pub refused : Bool
   pub lost : Bool
+  pub given : List (List Bool)
   pub later : Journal
   pub before : Journal
-  pub split : J ≡ later ++ record { item = Span a; refused = refused; lost = lost } ∷ before
+  pub split : J ≡ later ++ record { item = Span a; refused = refused; lost = lost; answers = given } ∷ before
   pub is : fate s J before refused ids ≡ became
 
 joins_below : (s : Settings) → HasRoom s.limit → (J : Journal) (t : TraceId) (o : Opening) → finding s (notes s J) t ≡ joins o → o.at < length J
@@ -127,10 +130,10 @@ joins_below s room J t o f = go (meeting s J (notes s J) t sound)
         one q = cc q
 
 pub fate_settles : (s : Settings) → HasRoom s.limit → (J : Journal) (e : Entry) (a : Arrival) (r : Reason) → FateIs s J a (is_counted r) → FateIs s (e ∷ J) a (is_counted r)
-fate_settles s room J e a r h = record { ids = h.ids; valid = h.valid; refused = h.refused; lost = h.lost; later = e ∷ h.later; before = h.before; split = ap (λ (z : Journal). e ∷ z) h.split; is = go h.refused h.is }
+fate_settles s room J e a r h = record { ids = h.ids; valid = h.valid; refused = h.refused; lost = h.lost; given = h.given; later = e ∷ h.later; before = h.before; split = ap (λ (z : Journal). e ∷ z) h.split; is = go h.refused h.is }
   where
     shorter : length h.before < length J
-    shorter = omega (arith, ap length h.split, length-append h.later (record { item = Span a; refused = h.refused; lost = h.lost } ∷ h.before))
+    shorter = omega (arith, ap length h.split, length-append h.later (record { item = Span a; refused = h.refused; lost = h.lost; answers = h.given } ∷ h.before))
 
     by_finding : (f : Finding) → finding s (notes s h.before) h.ids.trace ≡ f → fate_of_finding s (notes s J) (length h.before) f ≡ is_counted r → fate_of_finding s (notes s (e ∷ J)) (length h.before) f ≡ is_counted r
     by_finding (meets o v) q k = k
@@ -141,9 +144,16 @@ fate_settles s room J e a r h = record { ids = h.ids; valid = h.valid; refused =
     go true k = k
     go false k = by_finding (finding s (notes s h.before) h.ids.trace) refl k
 
+-- and so where the next decision is given answers
+pub fate_is_answered : (s : Settings) → HasRoom s.limit → (J : Journal) (k : ℕ) (answers : List Bool) (o : Opening) → slice_get (due_now s J) k ≡ Some o → IsAnsweredUpTo s J k → (a : Arrival) (became : Fate) →
+    (became ≡ is_released) ⊎ ((r : Reason) × (became ≡ is_counted r)) → FateIs s J a became → FateIs s (answered J answers) a became
+fate_is_answered s room J k answers o d i a became which h =
+    let p = split_answered J answers h.later h.before a h.refused h.lost h.given h.split in
+    record { ids = h.ids; valid = h.valid; refused = h.refused; lost = h.lost; given = p.1; later = p.0; before = h.before; split = p.2; is = fate_answered s room J k answers o d i h.before h.refused h.ids became which h.is }
+
 -- a member's fate by its episode
 member_fate : (s : Settings) (J : Journal) (o : Opening) (a : Arrival) (became : Fate) → Joined s J o a → fate_of_member s (notes s J) o.at ≡ became → FateIs s J a became
-member_fate s J o a became h d = record { ids = h.ids; valid = h.valid; refused = false; lost = h.lost; later = h.later; before = h.before; split = h.split; is = go h.how }
+member_fate s J o a became h d = record { ids = h.ids; valid = h.valid; refused = false; lost = h.lost; given = h.given; later = h.later; before = h.before; split = h.split; is = go h.how }
   where
     go : (finding s (notes s h.before) h.ids.trace ≡ joins o) ⊎ ((finding s (notes s h.before) h.ids.trace ≡ opens) × (length h.before ≡ o.at)) → fate s J h.before false h.ids ≡ became
     go (inl f) = ap (fate_of_finding s (notes s J) (length h.before)) f ∙ d
@@ -152,7 +162,7 @@ member_fate s J o a became h d = record { ids = h.ids; valid = h.valid; refused 
 -- ---- what is counted, with its fate
 
 pub released_keeps : (s : Settings) → HasRoom s.limit → (J : Journal) (e : Entry) (a : Arrival) → FateIs s J a is_released → FateIs s (e ∷ J) a is_released
-released_keeps s room J e a h = record { ids = h.ids; valid = h.valid; refused = h.refused; lost = h.lost; later = e ∷ h.later; before = h.before; split = ap (λ (z : Journal). e ∷ z) h.split; is = go h.refused h.is }
+released_keeps s room J e a h = record { ids = h.ids; valid = h.valid; refused = h.refused; lost = h.lost; given = h.given; later = e ∷ h.later; before = h.before; split = ap (λ (z : Journal). e ∷ z) h.split; is = go h.refused h.is }
   where
     go : (b : Bool) → fate s J h.before b h.ids ≡ is_released → fate s (e ∷ J) h.before b h.ids ≡ is_released
     go true k = absurd (cc k)
@@ -165,13 +175,13 @@ counted_by_decision s room J dealt d is v = Each-weaker (Joined s J d.opening) (
 
 module _ (s : Settings) (room : HasRoom s.limit) (J : Journal) (a : Arrival) (ids : Ids) (has : a.rec.span.ids ≡ Some ids) (lost : Bool) where
   abbrev taken : Bool → Entry
-  taken refused = record { item = Span a; refused = refused; lost = lost }
+  taken refused = record { item = Span a; refused = refused; lost = lost; answers = [] }
 
   pub refused_fate : FateIs s (taken true ∷ J) a (is_counted NoMemory)
-  refused_fate = record { ids = ids; valid = has; refused = true; lost = lost; later = []; before = J; split = refl; is = refl }
+  refused_fate = record { ids = ids; valid = has; refused = true; lost = lost; given = []; later = []; before = J; split = refl; is = refl }
 
   pub late_fate : (o : Opening) → finding s (notes s J) ids.trace ≡ meets o NotSampled → FateIs s (taken false ∷ J) a (is_counted LateNotSampled)
-  late_fate o f = record { ids = ids; valid = has; refused = false; lost = lost; later = []; before = J; split = refl; is = ap (fate_of_finding s (notes s (taken false ∷ J)) (length J)) f }
+  late_fate o f = record { ids = ids; valid = has; refused = false; lost = lost; given = []; later = []; before = J; split = refl; is = ap (fate_of_finding s (notes s (taken false ∷ J)) (length J)) f }
 
   abbrev opened : Opening
   opened = record { at = length J; trace = ids.trace; moment = clock (taken false ∷ J) }
@@ -187,7 +197,7 @@ module _ (s : Settings) (room : HasRoom s.limit) (J : Journal) (a : Arrival) (id
   -- the episode that leaves undecided
   pub evicted_fate : (o : Opening) → finding s (notes s J) ids.trace ≡ opens → leaving s.limit (notes s J).openings ≡ Some o → decided_as (notes s J) o.at ≡ None → Each (λ (b : Arrival). FateIs s (taken false ∷ J) b (is_counted Evicted)) (spans_since J o)
   evicted_fate o f out d = Each-weaker (Joined s J o) (λ (b : Arrival). FateIs s (taken false ∷ J) b (is_counted Evicted)) (spans_since J o)
-      (λ b h. member_fate s (taken false ∷ J) o b (is_counted Evicted) (record { ids = h.ids; valid = h.valid; lost = h.lost; later = taken false ∷ h.later; before = h.before; split = ap (λ (z : Journal). taken false ∷ z) h.split; how = h.how })
+      (λ b h. member_fate s (taken false ∷ J) o b (is_counted Evicted) (record { ids = h.ids; valid = h.valid; lost = h.lost; given = h.given; later = taken false ∷ h.later; before = h.before; split = ap (λ (z : Journal). taken false ∷ z) h.split; how = h.how })
       (ap (fate_of_member_decided (is_in_buffer s (notes s (taken false ∷ J)) o.at)) (ap (λ (z : List Decision). option_map (λ (d : Decision). d.verdict) (find (λ (d : Decision). d.opening.at == o.at) z)) same_after ∙ d) ∙ ap (λ b. fate_of_member_decided b None) gone))
       (Each-split (AreJoined s J (notes s J)) o (in_buffer s (notes s J)) place (all_joined s room J) (ap is_none d))
     where

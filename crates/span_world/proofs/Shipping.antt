@@ -8,10 +8,12 @@ use Rattle.otlp_types.specs.declared.arrival.Arrival.{Arrival}
 use Rattle.otlp_types.specs.declared.arrival.Item.TheVariants.{Span, Tick, End}
 use Rattle.span_world.specs.World.{Config, Shard, World, new_world, new_shard, settings, has_due}
 use Rattle.span_world.proofs.Content.{take_whole, length_in_turn, not_below}
+use Rattle.shard_core.proofs.Notes.{HasRoom}
+use Rattle.span_world.proofs.Answered.{effect_dealt_same}
 use Rattle.span_world.proofs.Lined.{at_each}
 use Rattle.span_world.proofs.Order.{replicated}
 use Rattle.span_world.proofs.Balance.{same_settings}
-use Rattle.span_world.proofs.Steps.{Stepped, received_by, routed, refused_by, took_span, took_tick, closed_by, took_end, decided_one, shipped, pulled, handed_over, failed, spoiled}
+use Rattle.span_world.proofs.Steps.{Stepped, received_by, routed, refused_by, took_span, took_tick, closed_by, took_end, answered_by, decided_one, shipped, pulled, handed_over, failed, spoiled}
 
 -- what is unshipped is the end of what was released
 abbrev pub HasShipped : Settings → Shard → Type 0
@@ -25,7 +27,7 @@ AllShipped s shards = (i : ℕ) (sh : Shard) → slice_get shards i ≡ Some sh 
 all_done : (s : Settings) (J : Journal) (dealt : ℕ) → nat_lt dealt (length (due_now s J)) ≡ false → effect_dealt s J dealt ≡ effect s J
 all_done s [] dealt n = refl
 all_done s (e ∷ J) dealt n = ap (λ z. (effect s J then effect_of_taking s e J) then effect_of_decisions z) (take_whole dealt (decisions_at s e J (notes s J))
-    (let l = not_below dealt (length (due_now s (e ∷ J))) n in let k = length_in_turn s (e ∷ J) (due_at s e J e.item (notes s J)) (notes s J).decisions in omega arith))
+    (let l = not_below dealt (length (due_now s (e ∷ J))) n in let k = length_in_turn s (e ∷ J) (due_at s e J e.item (notes s J)) e.answers in omega arith))
 
 -- one decision more
 decided_more : (ds : List Decision) (n : ℕ) (d : Decision) → slice_get ds n ≡ Some d → (effect_of_decisions (take (suc n) ds)).released ≡ (effect_of_decisions (take n ds)).released ++ (effect_of_decision d).released
@@ -49,7 +51,7 @@ taken s sh e queue n h = (h.0, sym (append_assoc h.0 sh.unshipped new) ∙ ap (�
 pub shipped_new : (s : Settings) (lanes shards : ℕ) → AllShipped s (new_world lanes shards).shards
 shipped_new s lanes shards i sh e = subst (HasShipped s) (replicated shards i new_shard sh e) ([], refl)
 
-module _ (c : Config) (w : World) (h : AllShipped (settings c w) w.shards) where
+module _ (c : Config) (room : HasRoom c.limit) (w : World) (h : AllShipped (settings c w) w.shards) where
   abbrev s : Settings
   s = settings c w
 
@@ -60,10 +62,13 @@ module _ (c : Config) (w : World) (h : AllShipped (settings c w) w.shards) where
   ships next (received_by lane ordinal moment records l g n e) = subst (λ (next : World). AllShipped s next.shards) e h
   ships next (routed lane shard l sh a rest g m t e) = subst (λ (next : World). AllShipped s next.shards) e (put shard _ (h shard sh m))
   ships next (refused_by lane shard l a rest g t e) = subst (λ (next : World). AllShipped s next.shards) e h
-  ships next (took_span shard refused lost sh a rest g q n m e) = subst (λ (next : World). AllShipped s next.shards) e (put shard _ (taken s sh (record { item = Span a; refused = refused; lost = lost }) rest n (h shard sh g)))
-  ships next (took_tick shard moment sh g n m e) = subst (λ (next : World). AllShipped s next.shards) e (put shard _ (taken s sh (record { item = Tick moment; refused = false; lost = false }) sh.queue n (h shard sh g)))
+  ships next (took_span shard refused lost sh a rest g q n m e) = subst (λ (next : World). AllShipped s next.shards) e (put shard _ (taken s sh (record { item = Span a; refused = refused; lost = lost; answers = [] }) rest n (h shard sh g)))
+  ships next (took_tick shard moment sh g n m e) = subst (λ (next : World). AllShipped s next.shards) e (put shard _ (taken s sh (record { item = Tick moment; refused = false; lost = false; answers = [] }) sh.queue n (h shard sh g)))
   ships next (closed_by lane l g n e) = subst (λ (next : World). AllShipped s next.shards) e h
-  ships next (took_end shard sender sh g n m d e) = subst (λ (next : World). AllShipped s next.shards) e (put shard _ (taken s sh (record { item = End sender; refused = false; lost = false }) sh.queue n (h shard sh g)))
+  ships next (took_end shard sender sh g n m d e) = subst (λ (next : World). AllShipped s next.shards) e (put shard _ (taken s sh (record { item = End sender; refused = false; lost = false; answers = [] }) sh.queue n (h shard sh g)))
+  ships next (answered_by shard sh answers o g d i e) = subst (λ (next : World). AllShipped s next.shards) e (put shard _ (
+      let k = h shard sh g in
+      (k.0, k.1 ∙ ap (λ (f : Effect). f.released) (sym (effect_dealt_same s room sh.journal sh.dealt answers o d i)))))
   ships next (decided_one shard sh d g i e) = subst (λ (next : World). AllShipped s next.shards) e (put shard _ (
       let k = h shard sh g in
       let new = (effect_of_decision d).released in
@@ -76,5 +81,5 @@ module _ (c : Config) (w : World) (h : AllShipped (settings c w) w.shards) where
   ships next (failed d e) = subst (λ (next : World). AllShipped s next.shards) e h
   ships next (spoiled r b a e) = subst (λ (next : World). AllShipped s next.shards) e h
 
-pub shipped_step : (c : Config) (w next : World) → Stepped c w next → AllShipped (settings c w) w.shards → AllShipped (settings c next) next.shards
-shipped_step c w next st h = subst (λ (s : Settings). AllShipped s next.shards) (sym (same_settings c w next st)) (ships c w h next st)
+pub shipped_step : (c : Config) → HasRoom c.limit → (w next : World) → Stepped c w next → AllShipped (settings c w) w.shards → AllShipped (settings c next) next.shards
+shipped_step c room w next st h = subst (λ (s : Settings). AllShipped s next.shards) (sym (same_settings c w next st)) (ships c room w h next st)

@@ -74,7 +74,7 @@ pub data Stands (c : Config) (w : World) (place : Place) (k : ArrivalKey) : Type
   in_counts : (n : DroppedSpan) → Split n w.counted → place ≡ counted_under n.reason → n.key ≡ k → Stands c w place k
 
 pub has_fate_of : (s : Settings) (J : Journal) (a : Arrival) → IsReleased s J a → FateIs s J a is_released
-has_fate_of s J a i = record { ids = i.ids; valid = i.valid; refused = false; lost = i.lost; later = i.later; before = i.before; split = i.split; is = i.fate_is }
+has_fate_of s J a i = record { ids = i.ids; valid = i.valid; refused = false; lost = i.lost; given = i.given; later = i.later; before = i.before; split = i.split; is = i.fate_is }
 
 module _ (c : Config) (room : HasRoom c.limit) (w : World) (h : Whole c w) where
   abbrev s : Settings

@@ -1,5 +1,5 @@
 -- Where a span stands that a shard took, by its fate.
-use Rattle.std.proofs.Common.{◌≡◌, ℕ, ◌<◌, ◌≤◌, Bool, true, false, ◌&&◌, [], ◌∷◌, ◌++◌, length, slice_get, Some, ◌⊎◌, inl, inr, refl, ap, sym, subst, ◌∙◌, arith}
+use Rattle.std.proofs.Common.{List, ◌≡◌, ℕ, ◌<◌, ◌≤◌, Bool, true, false, ◌&&◌, [], ◌∷◌, ◌++◌, length, slice_get, Some, ◌⊎◌, inl, inr, refl, ap, sym, subst, ◌∙◌, arith}
 use Rattle.shard_core.specs.Journal.{Entry, Settings, Journal, Opening, joins, opens, finding, notes}
 use Rattle.shard_core.specs.Fate.{Fate, waits, is_released, is_counted, fate, DroppedSpan}
 use Rattle.otlp_types.specs.declared.span.Ids.{Ids}
@@ -39,7 +39,7 @@ module _ (c : Config) (room : HasRoom c.limit) (w : World) (h : Whole c w) (t : 
   k = t.arrival.key
 
   abbrev entry : Entry
-  entry = record { item = Span t.arrival; refused = t.refused; lost = t.lost }
+  entry = record { item = Span t.arrival; refused = t.refused; lost = t.lost; answers = t.answers }
 
   own_split : Split entry t.of.journal
   own_split = record { front = t.later; back = t.before; is = t.split }
@@ -67,18 +67,18 @@ module _ (c : Config) (room : HasRoom c.limit) (w : World) (h : Whole c w) (t : 
     refusal : refused ≡ t.refused
     past : before ≡ t.before
 
-  own : (i : ℕ) (sh : Shard) (a : Arrival) (refused lost : Bool) (later before : Journal) → slice_get w.shards i ≡ Some sh → a.key ≡ k → sh.journal ≡ later ++ record { item = Span a; refused = refused; lost = lost } ∷ before → IsOwn i sh a refused before
+  own : (i : ℕ) (sh : Shard) (a : Arrival) (refused lost : Bool) (given : List (List Bool)) (later before : Journal) → slice_get w.shards i ≡ Some sh → a.key ≡ k → sh.journal ≡ later ++ record { item = Span a; refused = refused; lost = lost; answers = given } ∷ before → IsOwn i sh a refused before
   unfolding own_split
-  own i sh a refused lost later before g q is =
-      let e : Entry = record { item = Span a; refused = refused; lost = lost } in
+  own i sh a refused lost given later before g q is =
+      let e : Entry = record { item = Span a; refused = refused; lost = lost; answers = given } in
       let hit : same_key a.key k ≡ true = ap (λ (j : ArrivalKey). same_key j k) q ∙ key_self k in
-      let place : Split (record { item = Span a; refused = refused; lost = lost }) sh.journal = record { front = later; back = before; is = is } in
-      let i_is : i ≡ t.shard = one_at (λ (sh : Shard). in_journal k sh.journal) w.shards i t.shard sh t.of in_one g t.in_world (split_hit (λ (e : Entry). is_span_with k e.item) sh.journal (record { item = Span a; refused = refused; lost = lost }) place hit) own_hit in
+      let place : Split (record { item = Span a; refused = refused; lost = lost; answers = given }) sh.journal = record { front = later; back = before; is = is } in
+      let i_is : i ≡ t.shard = one_at (λ (sh : Shard). in_journal k sh.journal) w.shards i t.shard sh t.of in_one g t.in_world (split_hit (λ (e : Entry). is_span_with k e.item) sh.journal (record { item = Span a; refused = refused; lost = lost; answers = given }) place hit) own_hit in
       let both : Some sh ≡ Some t.of = sym g ∙ ap (slice_get w.shards) i_is ∙ t.in_world in
       let sh_is : sh ≡ t.of = cc both in
-      let there : Split (record { item = Span a; refused = refused; lost = lost }) t.of.journal = record { front = later; back = before; is = ap (λ (sh : Shard). sh.journal) (sym sh_is) ∙ is } in
+      let there : Split (record { item = Span a; refused = refused; lost = lost; answers = given }) t.of.journal = record { front = later; back = before; is = ap (λ (sh : Shard). sh.journal) (sym sh_is) ∙ is } in
       let few : tally (λ (e : Entry). is_span_with k e.item) t.of.journal ≤ 1 = omega (arith, in_one, total-at (λ (sh : Shard). in_journal k sh.journal) w.shards t.shard t.of t.in_world) in
-      let same = one_hit (λ (e : Entry). is_span_with k e.item) t.of.journal (record { item = Span a; refused = refused; lost = lost }) entry few hit (key_self k) there own_split in
+      let same = one_hit (λ (e : Entry). is_span_with k e.item) t.of.journal (record { item = Span a; refused = refused; lost = lost; answers = given }) entry few hit (key_self k) there own_split in
       let items : Span a ≡ Span t.arrival = ap (λ (e : Entry). e.item) same.0 in
       record { shard = i_is; of = sh_is; arrival = cc items; refusal = ap (λ (e : Entry). e.refused) same.0; past = same.1 }
 
@@ -90,7 +90,7 @@ module _ (c : Config) (room : HasRoom c.limit) (w : World) (h : Whole c w) (t : 
 
   by_fate : (i : ℕ) (sh : Shard) (a : Arrival) (became : Fate) → slice_get w.shards i ≡ Some sh → a.key ≡ k → FateIs s sh.journal a became → (i ≡ t.shard) × (fate_of c w t ≡ became)
   by_fate i sh a became g q f =
-      let o = own i sh a f.refused f.lost f.later f.before g q f.split in
+      let o = own i sh a f.refused f.lost f.given f.later f.before g q f.split in
       (o.shard, sym (own_fate sh.journal f.before f.refused f.ids (ap (λ (sh : Shard). sh.journal) o.of) o.past o.refusal (own_ids a f.ids o.arrival f.valid)) ∙ f.is)
 
   -- a count, by its cause
@@ -122,7 +122,7 @@ module _ (c : Config) (room : HasRoom c.limit) (w : World) (h : Whole c w) (t : 
   taken_at place (in_counts n p e q) = by_count place n p e q (Each-split (Caused s w.lanes w.shards w.down) n w.counted p h.sourced.caused)
   taken_at place (waits_in i sh a g q e x) =
       let j = x.joined in
-      let o = own i sh a false j.lost j.later j.before g q j.split in
+      let o = own i sh a false j.lost j.given j.later j.before g q j.split in
       let ids = own_ids a j.ids o.arrival j.valid in
       waits_there (e ∙ ap buffered o.shard) (sym o.refusal) (found j.how o.past ids) (λ n.
       let n' = subst (λ (sh : Shard). has_due s sh ≡ false) (sym o.of) n in

@@ -4,7 +4,8 @@ use Rattle.span_world.specs.World.{Config, World, new_world, settings}
 use Rattle.span_world.specs.Headline.{OfEachRun}
 use Rattle.shard_core.proofs.Notes.{HasRoom}
 use Rattle.span_world.proofs.Steps.{Stepped}
-use Rattle.span_world.proofs.OnePlace.{of_each_run}
+use Rattle.span_world.proofs.OnePlace.{of_each_run, of_each_answered}
+use Rattle.span_world.proofs.AllAnswered.{AllAnswered}
 use Rattle.span_world.proofs.Order.{Ordered, ordered_new, ordered_step}
 use Rattle.span_world.proofs.Released.{ReleasingAt, releasing_new, releasing_step}
 use Rattle.span_world.proofs.Cause.{SourcedAt, sourced_new, sourced_step}
@@ -41,10 +42,14 @@ whole_step c room w next st h = record {
   sourced = sourced_step c room w next st h.sourced h.releasing;
   once = routed_once_step c w next st h.once;
   marked = marked_step c w next st h.marked;
-  shipped = shipped_step c w next st h.shipped;
+  shipped = shipped_step c room w next st h.shipped;
   ended = ended_step c w next st h.ordered.lined.own h.ended;
 }
 
 -- what follows of it holds of every run
 pub of_whole : (Q : Config → World → Type 0) → ((c : Config) → HasRoom c.limit → (w : World) → Whole c w → Q c w) → OfEachRun Q
 of_whole Q gives = of_each_run Whole Q whole_new whole_step gives
+
+-- with the answers that each decision was given
+pub of_whole_answered : (Q : Config → World → Type 0) → ((c : Config) → HasRoom c.limit → (w : World) → Whole c w → AllAnswered (settings c w) w.shards → Q c w) → OfEachRun Q
+of_whole_answered Q gives = of_each_answered Whole Q whole_new whole_step gives

@@ -73,6 +73,7 @@ evicted_taken = record {
   valid = refl;
   refused = false;
   lost = false;
+  answers = [];
   later = take 1 (shard_of_one misbooked).journal;
   before = [];
   split = refl;
@@ -89,7 +90,7 @@ misbooked_does_not_fit h = go (h evicted_taken).0 (h evicted_taken).1 (h evicted
 
 abbrev pub takes_anyway : Config → World → (shard : ℕ) → (refused lost : Bool) → Shard → List Arrival → Option World
 takes_anyway c w shard refused lost sh [] = None
-takes_anyway c w shard refused lost sh (a ∷ rest) = if not (has_due (settings c w) sh) then Some (after_taking c w shard sh (record { item = SpanItem a; refused = refused; lost = lost }) rest) else None
+takes_anyway c w shard refused lost sh (a ∷ rest) = if not (has_due (settings c w) sh) then Some (after_taking c w shard sh (record { item = SpanItem a; refused = refused; lost = lost; answers = [] }) rest) else None
 
 abbrev pub refuses_late : Table
 refuses_late c w (take_step shard refused lost) = option_and_then (λ (sh : Shard). takes_anyway c w shard refused lost sh sh.queue) (slice_get w.shards shard)
@@ -97,7 +98,7 @@ refuses_late c w s = step c w s
 
 abbrev pub late_refused : World
 unfolding notes
-late_refused = world_by refuses_late of_one (send (error 1) ++ take_step 0 false false ∷ tick 0 10 ∷ decide 0 ∷ send (plain 1) ++ take_step 0 true false ∷ [])
+late_refused = world_by refuses_late of_one (send (error 1) ++ take_step 0 false false ∷ tick 0 10 ∷ decide 0 [] ∷ send (plain 1) ++ take_step 0 true false ∷ [])
 
 abbrev pub last_taken : Taken late_refused
 unfolding notes
@@ -110,6 +111,7 @@ last_taken = record {
   valid = refl;
   refused = true;
   lost = false;
+  answers = [];
   later = [];
   before = drop 1 (shard_of_one late_refused).journal;
   split = refl;
@@ -133,7 +135,7 @@ of_always = configured always (Some 1) 1 1
 
 abbrev pub altered : World
 unfolding notes
-altered = world_by changes of_always (receive 0 0 0 (plain 1 ∷ []) ∷ route 0 0 ∷ take_step 0 false false ∷ tick 0 10 ∷ decide 0 ∷ ship 0 ∷ pull ∷ hand ∷ close 0 ∷ end 0 0 ∷ end 0 1 ∷ [])
+altered = world_by changes of_always (receive 0 0 0 (plain 1 ∷ []) ∷ route 0 0 ∷ take_step 0 false false ∷ tick 0 10 ∷ decide 0 [] ∷ ship 0 ∷ pull ∷ hand ∷ close 0 ∷ end 0 0 ∷ end 0 1 ∷ [])
 
 abbrev pub altered_span : Arrival
 altered_span = changed (first_of altered)
@@ -196,7 +198,7 @@ keeps_batch c w s = step c w s
 
 abbrev pub handed_twice : World
 unfolding notes
-handed_twice = world_by keeps_batch of_always (receive 0 0 0 (plain 1 ∷ []) ∷ route 0 0 ∷ take_step 0 false false ∷ tick 0 10 ∷ decide 0 ∷ ship 0 ∷ pull ∷ hand ∷ hand ∷ [])
+handed_twice = world_by keeps_batch of_always (receive 0 0 0 (plain 1 ∷ []) ∷ route 0 0 ∷ take_step 0 false false ∷ tick 0 10 ∷ decide 0 [] ∷ ship 0 ∷ pull ∷ hand ∷ hand ∷ [])
 
 pub batch_handed_again : InOnePlace of_always handed_twice → ⊥
 unfolding notes
@@ -213,7 +215,7 @@ of_two = record of_always { batch_size = 2 }
 
 abbrev pub turned : World
 unfolding notes
-turned = world_by turns_queue of_two (receive 0 0 0 (plain 1 ∷ plain 1 ∷ []) ∷ route 0 0 ∷ route 0 0 ∷ take_step 0 false false ∷ take_step 0 false false ∷ tick 0 10 ∷ decide 0 ∷ ship 0 ∷ ship 0 ∷ pull ∷ pull ∷ hand ∷ [])
+turned = world_by turns_queue of_two (receive 0 0 0 (plain 1 ∷ plain 1 ∷ []) ∷ route 0 0 ∷ route 0 0 ∷ take_step 0 false false ∷ take_step 0 false false ∷ tick 0 10 ∷ decide 0 [] ∷ ship 0 ∷ ship 0 ∷ pull ∷ pull ∷ hand ∷ [])
 
 pub newest_first : InReceivedOrder turned → ⊥
 unfolding notes
@@ -222,7 +224,7 @@ newest_first h = let q : 1 < 0 = h 0 1 (first_of turned) (omega arith) (omega ar
 -- ---- a lane's End, taken while a span of the lane is queued
 
 abbrev pub ends_anyway : Config → World → (shard sender : ℕ) → Shard → Option World
-ends_anyway c w shard sender sh = Some (after_taking c w shard sh (record { item = EndItem sender; refused = false; lost = false }) sh.queue)
+ends_anyway c w shard sender sh = Some (after_taking c w shard sh (record { item = EndItem sender; refused = false; lost = false; answers = [] }) sh.queue)
 
 abbrev pub ends_early : Table
 ends_early c w (end shard sender) = option_and_then (ends_anyway c w shard sender) (slice_get w.shards shard)
@@ -239,12 +241,12 @@ ends_before_last_span h = let q : false ≡ true = h 0 0 (shard_of_one early) (l
 -- ---- the last released shipped first
 
 abbrev pub turns_released : Table
-turns_released c w (decide shard) = option_map (λ (next : World). record next { shards = map (λ (sh : Shard). record sh { unshipped = reverse sh.unshipped }) next.shards }) (step c w (decide shard))
+turns_released c w (decide shard answers) = option_map (λ (next : World). record next { shards = map (λ (sh : Shard). record sh { unshipped = reverse sh.unshipped }) next.shards }) (step c w (decide shard answers))
 turns_released c w s = step c w s
 
 abbrev pub ships_last : World
 unfolding notes
-ships_last = world_by turns_released of_always (receive 0 0 0 (plain 1 ∷ plain 1 ∷ []) ∷ route 0 0 ∷ route 0 0 ∷ take_step 0 false false ∷ take_step 0 false false ∷ tick 0 10 ∷ decide 0 ∷ [])
+ships_last = world_by turns_released of_always (receive 0 0 0 (plain 1 ∷ plain 1 ∷ []) ∷ route 0 0 ∷ route 0 0 ∷ take_step 0 false false ∷ take_step 0 false false ∷ tick 0 10 ∷ decide 0 [] ∷ [])
 
 abbrev pub second_of : World → Arrival
 second_of w = get_or (lane_of w).received 1 (first_of w)

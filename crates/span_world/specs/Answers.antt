@@ -1,7 +1,8 @@
 -- What the program answers to a step, and to a list of steps.
-use Rattle.std.specs.Prelude.{◌≡◌, ℕ, ◌+◌, ◌<◌, ◌≤◌, Bool, true, false, not, ◌&&◌, if◌then◌else◌, is_some, List, [], ◌∷◌, length, take, slice_get, Option, Some, None, option_map, Result, Ok, Err}
-use Rattle.shard_core.specs.Journal.{Entry, Settings, decisions_now, has_ended}
-use Rattle.shard_core.specs.Fate.{Effect, effect_of_decision}
+use Rattle.std.specs.Prelude.{◌≡◌, ℕ, ◌+◌, ◌<◌, Bool, true, false, not, ◌&&◌, if◌then◌else◌, is_some, List, [], ◌∷◌, length, take, slice_get, Option, Some, None, Result, Ok, Err}
+use Rattle.shard_core.specs.Journal.{Entry, Settings, has_ended}
+use Rattle.shard_core.specs.Fate.{Effect}
+use Rattle.shard_journal.specs.Answered.{effect_answered_at}
 use Rattle.shard_core.specs.Taking.{marks_apply_to_ids}
 use Rattle.otlp_types.specs.declared.arrival.Arrival.{Arrival}
 use Rattle.otlp_types.specs.declared.arrival.Item.{Item}
@@ -23,7 +24,7 @@ the_step (Take shard refused lost) = take_step shard refused lost
 the_step (Tick shard moment) = tick shard moment
 the_step (Close lane) = close lane
 the_step (End shard sender) = end shard sender
-the_step (Decide shard) = decide shard
+the_step (Decide shard answers) = decide shard answers.items
 the_step (Ship shard) = ship shard
 the_step Pull = pull
 the_step Hand = hand
@@ -58,14 +59,14 @@ may_take s sh sender = not (has_due s sh) && not (has_ended sh.journal sender)
 -- the entry of the first of these queued spans, where nothing is due and the marks can apply
 abbrev pub entry_of_first : Settings → Shard → (refused lost : Bool) → List Arrival → Option Entry
 entry_of_first s sh refused lost [] = None
-entry_of_first s sh refused lost (a ∷ rest) = if not (has_due s sh) && marks_apply_to_ids s sh.journal refused lost a.rec.span.ids then Some (record { item = Span a; refused = refused; lost = lost }) else None
+entry_of_first s sh refused lost (a ∷ rest) = if not (has_due s sh) && marks_apply_to_ids s sh.journal refused lost a.rec.span.ids then Some (record { item = Span a; refused = refused; lost = lost; answers = [] }) else None
 
--- what the shard's next decision does, where something is due
-abbrev pub next_decision : Settings → Shard → Option Effect
-next_decision s sh = option_map effect_of_decision (slice_get (decisions_now s sh.journal) sh.dealt)
+-- what the shard's next decision does by these answers, where something is due and there is one answer for each asking
+abbrev pub next_decision : Settings → Shard → (answers : List Bool) → Option Effect
+next_decision s sh answers = effect_answered_at s sh.journal sh.dealt answers
 
 -- the item goes to the shard's journal, unmarked; or memory was refused, and nothing changed
 abbrev pub KeepsItem : Core → (shard : ℕ) → Item → Result (Unit {0}) Refusal → Core → Type 0
 KeepsItem before shard item (Ok u) after = (after.config ≡ before.config)
-    × ((sh : Shard) → slice_get before.world.shards shard ≡ Some sh → after.world ≡ after_taking (config_of before.config) before.world shard sh (record { item = item; refused = false; lost = false }) sh.queue)
+    × ((sh : Shard) → slice_get before.world.shards shard ≡ Some sh → after.world ≡ after_taking (config_of before.config) before.world shard sh (record { item = item; refused = false; lost = false; answers = [] }) sh.queue)
 KeepsItem before shard item (Err r) after = (after ≡ before) × (r ≡ NoMemory)

@@ -1,10 +1,9 @@
 -- What holds of every run: each received span is in one place that fits its fate, order is kept, remembered decisions are met, and nothing is handed over after close.
-use Rattle.std.specs.Prelude.{IsSome, ◌⊎◌, ◌≡◌, ◌/◌, ℕ, ◌<◌, Bool, true, false, ◌&&◌, ◌||◌, ◌==◌, List, [], ◌∷◌, ◌++◌, length, reverse, count_by, slice_get, flat_map, Option, Some, None, IsTrue, IsFalse, AllPairs, Contains}
+use Rattle.std.specs.Prelude.{IsSome, ◌⊎◌, ◌≡◌, ℕ, ◌<◌, Bool, true, false, ◌&&◌, ◌||◌, ◌==◌, List, [], ◌∷◌, ◌++◌, length, count_by, slice_get, flat_map, Option, Some, None, IsTrue, IsFalse, AllPairs, Contains}
 use Rattle.std.specs.List.{list_any}
-use Rattle.policy_eval.specs.Policies.{verdict}
-use Rattle.rate_budget.specs.Grant.{granted_after}
+use Rattle.policy_eval.specs.Given.{verdict_given, are_answered}
 use Rattle.span_ids.specs.Same.{same_trace}
-use Rattle.shard_core.specs.Journal.{Entry, Settings, Journal, Opening, Decision, clock, has_ended, spans_since, askings_made, decisions_in_turn, due_now, notes, remembered, latest_episode}
+use Rattle.shard_core.specs.Journal.{Entry, Settings, Journal, Opening, has_ended, spans_since, due_now, notes, remembered, latest_episode}
 use Rattle.shard_core.specs.Fate.{Fate, waits, is_released, is_counted, fate, is_same_reason, effect_dealt}
 use Rattle.otlp_types.specs.declared.span.Ids.{Ids}
 use Rattle.otlp_types.specs.declared.arrival.Arrival.{Arrival}
@@ -29,7 +28,7 @@ pub record WasReceived (w : World) (a : Arrival) : Type 0 where
   pub in_world : slice_get w.lanes lane ≡ Some of
   pub has : Contains of.received a
 
--- a shard took a span: its marks, and the shard's journal before and after it
+-- a shard took a span: its marks and the answers that stand with it, and the shard's journal before and after it
 pub record Taken (w : World) : Type 0 where
   pub shard : ℕ
   pub of : Shard
@@ -39,9 +38,10 @@ pub record Taken (w : World) : Type 0 where
   pub valid : arrival.rec.span.ids ≡ Some ids
   pub refused : Bool
   pub lost : Bool
+  pub answers : List (List Bool)
   pub later : Journal
   pub before : Journal
-  pub split : of.journal ≡ later ++ record { item = Span arrival; refused = refused; lost = lost } ∷ before
+  pub split : of.journal ≡ later ++ record { item = Span arrival; refused = refused; lost = lost; answers = answers } ∷ before
 
 -- the fate of a span that was taken, by its shard's journal
 abbrev pub fate_of : (c : Config) (w : World) → Taken w → Fate
@@ -148,14 +148,7 @@ InReceivedOrder w = AllPairs ComesFirst (handed_spans w)
 
 -- ---- remembered decisions
 
--- the policies' verdict on the spans that the episode has at the journal's end, where the limiter grants by the askings of these earlier decisions
-abbrev pub verdict_on : Settings → Journal → Opening → (earlier : List Decision) → Verdict
-verdict_on s past o earlier =
-    let spans = spans_since past o in
-    let second = clock past / 1000 in
-    verdict s.policies (granted_after s.policies (askings_made earlier) second (length spans)) spans
-
--- the trace's latest episode was due at an item, and the verdict is the policies' on the spans that it had there, after all decisions before it
+-- the trace's latest episode was due at an item, and the verdict is the policies' on the spans that it had there, with the limiter's answers that were given to its decision, one for each asking
 pub record WasDecided (s : Settings) (before : Journal) (t : TraceId) (v : Verdict) : Type 0 where
   pub since : Journal
   pub item : Entry
@@ -166,7 +159,10 @@ pub record WasDecided (s : Settings) (before : Journal) (t : TraceId) (v : Verdi
   pub sooner : List Opening
   pub rest : List Opening
   pub due : due_now s (item ∷ past) ≡ sooner ++ opening ∷ rest
-  pub verdict : v ≡ verdict_on s (item ∷ past) opening (reverse (decisions_in_turn s (item ∷ past) sooner (notes s past).decisions) ++ (notes s past).decisions)
+  pub answers : List Bool
+  pub given : slice_get item.answers (length sooner) ≡ Some answers
+  pub enough : are_answered s.policies answers (spans_since (item ∷ past) opening) ≡ true
+  pub verdict : v ≡ verdict_given s.policies answers (spans_since (item ∷ past) opening)
 
 -- where a span may be that met this verdict
 abbrev pub is_where_late : (shard : ℕ) → Verdict → Place → Bool

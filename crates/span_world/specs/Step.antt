@@ -2,8 +2,9 @@
 -- A step that names a lane, a shard or a sender that the world doesn't have isn't enabled.
 use Rattle.std.specs.Prelude.{ℕ, ◌+◌, Bool, true, false, not, ◌&&◌, ◌||◌, if◌then◌else◌, ◌==◌, nat_lt, is_some, List, [], ◌∷◌, ◌++◌, length, filter, count_by, slice_get, slice_set, Option, Some, None, option_map, option_and_then}
 use Rattle.std.specs.List.{list_any}
-use Rattle.shard_core.specs.Journal.{Entry, decisions_now, has_ended}
-use Rattle.shard_core.specs.Fate.{Effect, effect_of_taking, effect_of_decision, counts}
+use Rattle.shard_core.specs.Journal.{Entry, answered, has_ended}
+use Rattle.shard_core.specs.Fate.{Effect, effect_of_taking, counts}
+use Rattle.shard_journal.specs.Answered.{effect_answered_at}
 use Rattle.shard_core.specs.Taking.{marks_apply_to_ids}
 use Rattle.otlp_types.specs.declared.arrival.Arrival.{Arrival}
 use Rattle.otlp_types.specs.declared.arrival.Record.{Record}
@@ -29,8 +30,8 @@ pub data Step : Type 0 where
   close : (lane : ℕ) → Step
   -- the shard takes the sender's End
   end : (shard sender : ℕ) → Step
-  -- the shard decides its oldest due episode
-  decide : (shard : ℕ) → Step
+  -- the shard decides its oldest due episode, where the limiter gives these answers to the decision's askings, in the order in which the policies ask
+  decide : (shard : ℕ) → (answers : List Bool) → Step
   -- the shard's first unshipped span goes to the exporter
   ship : (shard : ℕ) → Step
   -- the exporter's first span goes to the open batch
@@ -113,13 +114,13 @@ abbrev pub take_on : Config → World → (shard : ℕ) → (refused lost : Bool
 take_on c w shard refused lost sh [] = None
 take_on c w shard refused lost sh (a ∷ rest) =
     if not (has_due (settings c w) sh) && marks_apply_to_ids (settings c w) sh.journal refused lost a.rec.span.ids
-    then Some (after_taking c w shard sh (record { item = Span a; refused = refused; lost = lost }) rest) else None
+    then Some (after_taking c w shard sh (record { item = Span a; refused = refused; lost = lost; answers = [] }) rest) else None
 
 -- the shard takes a tick, where nothing is due and the ticker's End was not taken
 abbrev pub tick_on : Config → World → (shard moment : ℕ) → Shard → Option World
 tick_on c w shard moment sh =
     if not (has_due (settings c w) sh) && not (has_ended sh.journal (ticker w))
-    then Some (after_taking c w shard sh (record { item = Tick moment; refused = false; lost = false }) sh.queue) else None
+    then Some (after_taking c w shard sh (record { item = Tick moment; refused = false; lost = false; answers = [] }) sh.queue) else None
 
 -- a lane may send its End: it has ended, and none of its spans for the shard is unrouted or queued
 abbrev pub lane_is_done : World → (shard : ℕ) → Shard → (lane : ℕ) → Lane → Bool
@@ -134,18 +135,18 @@ sender_is_done w shard sh sender None = sender == ticker w
 abbrev pub end_on : Config → World → (shard sender : ℕ) → Shard → Option World
 end_on c w shard sender sh =
     if not (has_due (settings c w) sh) && not (has_ended sh.journal sender) && sender_is_done w shard sh sender (slice_get w.lanes sender)
-    then Some (after_taking c w shard sh (record { item = End sender; refused = false; lost = false }) sh.queue) else None
+    then Some (after_taking c w shard sh (record { item = End sender; refused = false; lost = false; answers = [] }) sh.queue) else None
 
--- the world after a decision was dealt with
-abbrev pub after_decision : World → (shard : ℕ) → Shard → Effect → World
-after_decision w shard sh did = record w {
-  shards = slice_set w.shards shard (record sh { dealt = sh.dealt + 1; unshipped = sh.unshipped ++ did.released });
+-- the world after a decision was dealt with by these answers
+abbrev pub after_decision : World → (shard : ℕ) → Shard → (answers : List Bool) → Effect → World
+after_decision w shard sh answers did = record w {
+  shards = slice_set w.shards shard (record sh { journal = answered sh.journal answers; dealt = sh.dealt + 1; unshipped = sh.unshipped ++ did.released });
   counted = w.counted ++ did.counted;
 }
 
--- the oldest due episode is decided: the first decision at the last item that was not dealt with
-abbrev pub decide_on : Config → World → (shard : ℕ) → Shard → Option World
-decide_on c w shard sh = option_map (λ d. after_decision w shard sh (effect_of_decision d)) (slice_get (decisions_now (settings c w) sh.journal) sh.dealt)
+-- the oldest due episode is decided by these answers: the first that was due at the last item and was not dealt with, where there is one answer for each asking
+abbrev pub decide_on : Config → World → (shard : ℕ) → (answers : List Bool) → Shard → Option World
+decide_on c w shard answers sh = option_map (after_decision w shard sh answers) (effect_answered_at (settings c w) sh.journal sh.dealt answers)
 
 -- the first of the unshipped goes to the end of the export list
 abbrev pub ship_on : World → (shard : ℕ) → Shard → List Arrival → Option World
@@ -181,7 +182,7 @@ step c w (take shard refused lost) = option_and_then (λ sh. take_on c w shard r
 step c w (tick shard moment) = option_and_then (tick_on c w shard moment) (slice_get w.shards shard)
 step c w (close lane) = option_and_then (λ l. if l.ended then None else Some (with_lane w lane (record l { ended = true }))) (slice_get w.lanes lane)
 step c w (end shard sender) = option_and_then (end_on c w shard sender) (slice_get w.shards shard)
-step c w (decide shard) = option_and_then (decide_on c w shard) (slice_get w.shards shard)
+step c w (decide shard answers) = option_and_then (decide_on c w shard answers) (slice_get w.shards shard)
 step c w (ship shard) = option_and_then (λ sh. ship_on w shard sh sh.unshipped) (slice_get w.shards shard)
 step c w pull = pull_from c w w.exported
 step c w hand = if is_empty w.batch || w.down then None else Some (record w { handed = w.handed ++ w.batch ∷ []; batch = [] })

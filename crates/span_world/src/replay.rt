@@ -33,7 +33,7 @@ impl World {
             Step::Tick { shard, moment } => self.tick(shard, moment),
             Step::Close { lane } => self.close(lane as usize),
             Step::End { shard, sender } => self.end(shard, sender),
-            Step::Decide { shard } => self.decide(shard),
+            Step::Decide { shard, answers } => self.decide(shard, answers),
             Step::Ship { shard } => self.ship(shard),
             Step::Pull => self.pull(),
             Step::Hand => self.hand(),

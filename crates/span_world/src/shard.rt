@@ -1,9 +1,9 @@
 //! A shard of the world.
-ghost use Rattle.std.specs.Prelude.{◌≡◌, ◌++◌, ◌∷◌, [], ◌+◌, ◌<◌, ◌≤◌, ◌==◌, ◌^◌, length, vec_capacity, drop, not, slice_index_or, IfOk, IfSome, OnOk, OnErr, is_some, reverse, true, false};
+ghost use Rattle.std.specs.Prelude.{◌≡◌, ◌++◌, ◌∷◌, [], Some, ◌+◌, ◌<◌, ◌≤◌, ◌==◌, ◌^◌, length, vec_capacity, drop, not, slice_index_or, IfOk, IfSome, OnOk, OnErr, is_some, reverse, IsTrue, true, false};
 ghost use Rattle.std.specs.List.{remove, list_any};
 ghost use Rattle.otlp_types.specs.declared.arrival.Arrival.{Arrival};
-ghost use Rattle.shard_core.specs.Journal.{has_ended};
-ghost use Rattle.shard_core.specs.Fate.{effect_of_taking};
+ghost use Rattle.shard_core.specs.Journal.{has_ended, answered};
+ghost use Rattle.shard_core.specs.Fate.{effect_of_taking, Effect as EffectData};
 ghost use Rattle.shard_journal.specs.Settings.{settings_of};
 ghost use Rattle.shard_journal.specs.Look.{look_of};
 ghost use Rattle.span_world.specs.World.{new_shard};
@@ -11,7 +11,7 @@ ghost use Rattle.span_world.specs.Step.{is_empty};
 ghost use Rattle.span_world.specs.Answers.{may_take, entry_of_first, next_decision};
 
 use crate::lane::Lane;
-use otlp_types::{Arrival, Item, TryClone};
+use otlp_types::{Arrival, Item, List, TryClone};
 use shard_journal::{
     DroppedSpan, Effect, Entry, LookBack, Settings, decision_at, effect_of_taking, has_ended,
 };
@@ -108,6 +108,7 @@ impl Shard {
             item: Item::Span(first.try_clone(alloc)?),
             refused,
             lost,
+            answers: Vec::new(alloc),
         }))
     }
 
@@ -153,33 +154,41 @@ impl Shard {
         Ok(())
     }
 
-    /// What the next decision does, where something is due.
-    pub fn next_decision(
-        &self,
-        alloc: Global,
-        settings: &Settings,
-        look: &LookBack,
-    ) -> Result<Option<Effect>, AllocError>
+    /// Whether something is due, and there is one of these answers for each asking of its decision.
+    pub fn may_decide(&self, settings: &Settings, look: &LookBack, answers: &[bool]) -> bool
         requires { look.now ≡ look_of (settings_of settings.now) self.now.journal }
-        ensures some { OnErr result (is_some (next_decision (settings_of settings.now) self.now) ≡ true) }
-        ensures effect { IfOk result (λ e. e ≡ next_decision (settings_of settings.now) self.now) }
-        ensures fits { IfOk result (λ e. IfSome e (λ _. self.now.dealt + 1 < 2 ^ 64)) }
+        ensures enabled { result ≡ is_some (next_decision (settings_of settings.now) self.now answers.now) }
+        ensures fits { IsTrue result → self.now.dealt + 1 < 2 ^ 64 }
     {
         if self.dealt >= look.due() {
-            return Ok(None);
+            return false;
         }
-        decision_at(alloc, settings, &self.journal, self.dealt)
+        look.is_answered(settings, self.dealt, answers)
     }
 
-    /// One decision more was dealt with: what it releases is to be shipped, and what it counts is counted. Where memory
-    /// is refused nothing changes.
-    pub fn deal(&mut self, effect: Effect, counted: &mut Vec<DroppedSpan>) -> Result<(), AllocError>
-        requires { self.old.dealt + 1 < 2 ^ 64 }
-        ensures shard { OnOk result (self.new ≡ record self.old { dealt = self.old.dealt + 1; unshipped = self.old.unshipped ++ effect.released }) }
-        ensures counted { OnOk result (counted.new.items ≡ counted.old.items ++ effect.counted) }
-        ensures err { OnErr result ((self.new ≡ self.old) × (counted.new.items ≡ counted.old.items)) }
+    /// The next decision is dealt with by these answers: what it releases is to be shipped, and what it counts is counted.
+    /// Where memory is refused nothing changes.
+    pub fn decide(
+        &mut self,
+        alloc: Global,
+        settings: &Settings,
+        answers: List<bool>,
+        look: &mut LookBack,
+        counted: &mut Vec<DroppedSpan>,
+    ) -> Result<(), AllocError>
+        requires enabled { is_some (next_decision (settings_of settings.now) self.old answers) ≡ true }
+        requires fits { self.old.dealt + 1 < 2 ^ 64 }
+        ensures shard { OnOk result ((did : EffectData) → next_decision (settings_of settings.now) self.old answers ≡ Some did → self.new ≡ record self.old { journal = answered self.old.journal answers; dealt = self.old.dealt + 1; unshipped = self.old.unshipped ++ did.released }) }
+        ensures counted { OnOk result ((did : EffectData) → next_decision (settings_of settings.now) self.old answers ≡ Some did → counted.new.items ≡ counted.old.items ++ did.counted) }
+        ensures look { OnOk result (look.new ≡ look_of (settings_of settings.now) self.new.journal) }
+        ensures err { OnErr result ((self.new ≡ self.old) × (look.new ≡ look.old) × (counted.new.items ≡ counted.old.items)) }
     {
+        let given = answers.as_slice();
+        let Some(effect) = decision_at(alloc, settings, &self.journal, self.dealt, given)? else {
+            unreachable!()
+        };
         make_room(&effect, &mut self.unshipped, counted)?;
+        *look = give(alloc, settings, &mut self.journal, answers)?;
         put(effect, &mut self.unshipped, counted);
         self.dealt += 1;
         Ok(())
@@ -218,6 +227,30 @@ fn lengthen(
         Ok(look) => Ok(look),
         Err(_) => {
             let _ = journal.pop();
+            Err(AllocError)
+        }
+    }
+}
+
+/// Puts answers behind those that stand with the last entry of a journal, and looks back over it. Where memory is refused
+/// nothing changes.
+fn give(
+    alloc: Global,
+    settings: &Settings,
+    journal: &mut Vec<Entry>,
+    answers: List<bool>,
+) -> Result<LookBack, AllocError>
+    requires { 0 < length journal.old.items }
+    ensures journal { OnOk result (reverse journal.new.items ≡ answered (reverse journal.old.items) answers) }
+    ensures look { IfOk result (λ look. look ≡ look_of (settings_of settings.now) (reverse journal.new.items)) }
+    ensures err { OnErr result (journal.new.items ≡ journal.old.items) }
+{
+    let last = journal.len() - 1;
+    journal[last].answers.push(answers)?;
+    match LookBack::new(alloc, settings, journal) {
+        Ok(look) => Ok(look),
+        Err(_) => {
+            let _ = journal[last].answers.pop();
             Err(AllocError)
         }
     }

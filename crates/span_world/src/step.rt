@@ -43,9 +43,11 @@ pub enum Step {
         shard: usize,
         sender: u16,
     },
-    /// The shard decides its oldest due episode.
+    /// The shard decides its oldest due episode, where the limiter gives these answers to the decision's askings, in the
+    /// order in which the policies ask. Another number of answers isn't enabled.
     Decide {
         shard: usize,
+        answers: Vec<bool>,
     },
     /// The shard's first unshipped span goes to the exporter.
     Ship {

@@ -7,7 +7,7 @@ ghost use Rattle.span_world.specs.Answers.{StepsTo, KeepsItem};
 
 use crate::step::Refusal;
 use crate::world::World;
-use otlp_types::Item;
+use otlp_types::{Item, List};
 use shard_journal::Entry;
 use span_ids::Moment;
 
@@ -70,20 +70,28 @@ impl World {
         self.keep_item(shard, Item::End(sender))
     }
 
-    /// The oldest due episode of the shard is decided.
-    pub(crate) fn decide(&mut self, shard: usize) -> Result<(), Refusal>
-        ensures { StepsTo self.old (decide shard) result self.new }
+    /// The oldest due episode of the shard is decided by these answers, where there is one for each asking.
+    pub(crate) fn decide(&mut self, shard: usize, answers: Vec<bool>) -> Result<(), Refusal>
+        ensures { StepsTo self.old (decide shard answers.items) result self.new }
     {
         if shard >= self.shards.len() {
             return Err(Refusal::NotEnabled);
         }
-        let look = &self.looks[shard];
-        let effect = match self.shards[shard].next_decision(self.alloc, &self.settings, look) {
-            Err(_) => return Err(Refusal::NoMemory),
-            Ok(None) => return Err(Refusal::NotEnabled),
-            Ok(Some(effect)) => effect,
-        };
-        if self.shards[shard].deal(effect, &mut self.counted).is_err() {
+        let given = answers.as_slice();
+        if !self.shards[shard].may_decide(&self.settings, &self.looks[shard], given) {
+            return Err(Refusal::NotEnabled);
+        }
+        let answers = List::from_vec(answers);
+        if self.shards[shard]
+            .decide(
+                self.alloc,
+                &self.settings,
+                answers,
+                &mut self.looks[shard],
+                &mut self.counted,
+            )
+            .is_err()
+        {
             return Err(Refusal::NoMemory);
         }
         Ok(())
@@ -98,6 +106,7 @@ impl World {
             item,
             refused: false,
             lost: false,
+            answers: Vec::new(self.alloc),
         };
         if self.shards[shard]
             .keep_entry(

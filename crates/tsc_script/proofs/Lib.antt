@@ -3,3 +3,4 @@ pub mod Playing
 pub mod Exits
 pub mod Last
 pub mod Weaker
+pub mod Words

@@ -1,5 +1,6 @@
 -- Laws of lines and of what is left to read.
-use Rattle.std.proofs.Common.{◌≡◌, ℕ, List, [], ◌∷◌, ◌++◌, None, Some, Option, sym, ap, ◌∙◌, append_assoc, length, length-append, ◌<◌, ◌≢◌, IfSome, arith}
+use Rattle.memchr.specs.Find.{Nowhere, Passes, is_byte}
+use Rattle.std.proofs.Common.{◌≡◌, ℕ, List, [], ◌∷◌, ◌++◌, None, Some, Option, sym, ap, ◌∙◌, append_assoc, length, length-append, ◌<◌, ◌≢◌, IfSome, take, zero, suc, arith}
 use Rattle.std.proofs.KnownBytes.{Consumes-trans, Consumes-kept}
 use Rattle.std.specs.Io.KnownBytes.{Consumes, Keeps, prepend_known}
 use Rattle.tsc_script.specs.Lines.{HasNoLineFeed}
@@ -34,3 +35,10 @@ pub nonempty : (a b : Option (List ℕ)) (bytes : List ℕ) → Consumes a b byt
 nonempty None b bytes p lt = tt
 nonempty (Some x) None bytes p lt = absurd p
 nonempty (Some x) (Some y) bytes p lt = λ e. omega (arith, ap length (sym p ∙ e), length-append bytes y)
+
+-- bytes before the first line feed
+pub no-line-feed : (bytes : List ℕ) (n : ℕ) → Nowhere (Passes (is_byte 10) bytes) 0 n → HasNoLineFeed (take n bytes)
+no-line-feed [] zero h = tt
+no-line-feed [] (suc n) h = tt
+no-line-feed (b ∷ bytes) zero h = tt
+no-line-feed (b ∷ bytes) (suc n) h = (λ is. h 0 (omega arith) (omega arith) (rw is), no-line-feed bytes n (λ k low high passes. h (suc k) (omega arith) (omega arith) passes))

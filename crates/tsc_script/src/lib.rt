@@ -13,6 +13,7 @@
 mod buffer;
 mod command;
 mod grammar;
+mod laws;
 mod limits;
 mod lines;
 mod machine;
@@ -22,6 +23,7 @@ mod stop;
 mod tests;
 
 pub use command::Command;
+pub use laws::lines_are_their_words;
 pub use machine::Machine;
 pub use play::play_script;
 pub use stop::Stop;

@@ -6,6 +6,7 @@ ghost use Rattle.tsc_script.specs.Lines.{HasNoLineFeed};
 
 use crate::buffer::{Buffer, Refill};
 use crate::limits::MAX_LINE_BYTES;
+use memchr::memchr;
 use std::alloc::Allocator;
 use std::io::Read;
 
@@ -122,10 +123,8 @@ fn length_of_line(bytes: &[u8]) -> usize
     ensures plain { HasNoLineFeed (take result bytes.now) }
     ensures line_feed { result < length bytes.now → slice_index bytes.now result ≡ 10 }
 {
-    for (at, byte) in bytes.iter().enumerate() {
-        if *byte == b'\n' {
-            return at;
-        }
+    match memchr(b'\n', bytes) {
+        Some(at) => at,
+        None => bytes.len(),
     }
-    bytes.len()
 }

@@ -1,13 +1,18 @@
 //! A round: spans that lie in a queue, a worker, and what it shipped.
-ghost use Rattle.std.specs.Prelude.{◌≡◌, ◌<◌, [], All, IfOk, false};
+ghost use Rattle.std.specs.Prelude.{◌≡◌, ◌<◌, [], All, IfOk, false, true};
 ghost use Rattle.lane_queue.specs.Ends.{IsNew};
+ghost use Rattle.policy_tree.specs.Tree.{limiters};
+ghost use Rattle.policy_tree.specs.Meaning.{meaning};
+ghost use Rattle.policy_eval.specs.Meaning.{knows};
+ghost use Rattle.rate_budget.specs.Budget.{has_node};
 ghost use Rattle.shard_core.specs.Held.{StandsFor, has_due, is_finished};
 
-use crate::spans::span_item;
+use crate::spans::{sample, span_item};
 use drop_ledger::{Report, Tally};
 use lane_queue::{LaneQueue, OpenGate, Receiver, Room, Sender};
 use otlp_types::{Ids, Item, Shipment, Text};
 use policy_tree::{Policies, Policy, PolicyKind};
+use rate_budget::Budgets;
 use shard_core::Shard;
 use std::alloc::{AllocError, Global};
 use std::sync::Wait;
@@ -23,24 +28,33 @@ const HELD_TRACES: usize = 128;
 /// leaves the shard undecided.
 const SPANS_OF_A_TICK: u64 = 256;
 
-/// A shard that keeps every trace, a millisecond after its first span.
-fn new_shard(alloc: Global) -> Result<Shard, AllocError>
-    ensures stands { IfOk result (λ s. StandsFor s [] 0) }
-    ensures nothing_due { IfOk result (λ s. has_due s ≡ false) }
-    ensures running { IfOk result (λ s. is_finished s ≡ false) }
+/// A shard that keeps every trace, a millisecond after its first span, and its limiter.
+fn new_shard(alloc: Global) -> Result<(Shard, Budgets), AllocError>
+    ensures stands { IfOk result (λ p. StandsFor p.0 [] 0) }
+    ensures nothing_due { IfOk result (λ p. has_due p.0 ≡ false) }
+    ensures running { IfOk result (λ p. is_finished p.0 ≡ false) }
+    ensures nodes { IfOk result (λ p. knows (has_node p.1) (limiters (meaning p.0.policies)) ≡ true) }
 {
     let policy = Policy {
         name: Text::from_str(alloc, "all")?,
         kind: PolicyKind::AlwaysSample,
     };
-    match Policies::new(alloc, vec![in alloc; policy]?) {
-        Ok(policies) => Shard::new(alloc, policies, 1, 0, HELD_TRACES, 0, 0, 1),
-        Err(_) => Err(AllocError),
-    }
+    let Ok(policies) = Policies::new(alloc, vec![in alloc; policy]?) else {
+        return Err(AllocError);
+    };
+    let limiter = Budgets::new(alloc, &policies)?;
+    let shard = Shard::new(alloc, policies, 1, 0, HELD_TRACES, 0, 0, 1)?;
+    Ok((shard, limiter))
 }
 
 /// Sends the spans of these traces, and the End.
-fn send_all<C: Room, R: Wait + Clock>(rt: &R, alloc: Global, ids: &[Ids], sender: Sender<Item, C>) {
+fn send_all<C: Room, R: Wait + Clock>(
+    rt: &R,
+    alloc: Global,
+    ids: &[Ids],
+    sender: Sender<Item, C>,
+) -> Result<(), AllocError> {
+    let sample = sample(alloc)?;
     let mut sender = sender;
     let mut number = 0u64;
     for ids in ids {
@@ -48,11 +62,12 @@ fn send_all<C: Room, R: Wait + Clock>(rt: &R, alloc: Global, ids: &[Ids], sender
             sender.push(rt, Item::Tick(number / SPANS_OF_A_TICK));
         }
         for _ in 0..SPANS_OF_A_TRACE {
-            sender.push(rt, span_item(alloc, *ids, number));
+            sender.push(rt, span_item(alloc, &sample, *ids, number)?);
             number = number.wrapping_add(1);
         }
     }
     sender.push(rt, Item::End(0));
+    Ok(())
 }
 
 /// The last of these ends.
@@ -96,14 +111,14 @@ pub fn shipped<C: Room, R: Wait + Clock>(
 ) -> Result<u64, AllocError>
     requires { (0 < capacity) × (capacity ≡ C.capacity) }
 {
-    let shard = new_shard(alloc)?;
+    let (shard, limiter) = new_shard(alloc)?;
     let (mut senders, items) = LaneQueue::new::<Item, C>(alloc, capacity, 1)?;
     let (exports, shipments) = LaneQueue::new::<Shipment, C>(alloc, capacity, 1)?;
     let sender = senders.pop().ok_or(AllocError)?;
     let export = last_of(exports)?;
-    send_all(rt, alloc, ids, sender);
+    send_all(rt, alloc, ids, sender)?;
     let tally = Tally::new(Report::new());
-    let end = shard_worker::work(rt, 0, shard, items, export, tally, &OpenGate);
+    let end = shard_worker::work(rt, 0, shard, limiter, items, export, tally, &OpenGate);
     drop(end);
     Ok(count_spans(rt, shipments))
 }

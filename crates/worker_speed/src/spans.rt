@@ -1,5 +1,7 @@
 //! The spans that are measured: four of each trace, with no attributes.
-use otlp_types::{Arrival, Ids, Item, List, Record, Resource, Scope, Span, Status, Text};
+use otlp_types::{
+    Arrival, Ids, Item, List, Record, Resource, Scope, Shared, Span, Status, Text, TryClone,
+};
 use span_ids::{ArrivalKey, ConnKey, SpanId, TraceId};
 use std::alloc::{AllocError, Global};
 
@@ -19,9 +21,16 @@ pub fn trace_ids(alloc: Global, traces: u64) -> Result<Vec<Ids>, AllocError> {
     Ok(ids)
 }
 
-/// A span of this number.
-pub fn span_item(alloc: Global, ids: Ids, number: u64) -> Item {
-    Item::Span(Arrival {
+/// A span of this number: the sample's with these ids, of the sample's resource and scope.
+pub fn span_item(
+    alloc: Global,
+    sample: &Record,
+    ids: Ids,
+    number: u64,
+) -> Result<Item, AllocError> {
+    let mut rec = sample.try_clone(alloc)?;
+    rec.span.ids = Some(ids);
+    Ok(Item::Span(Arrival {
         key: ArrivalKey {
             conn: ConnKey {
                 lane: 0,
@@ -30,26 +39,29 @@ pub fn span_item(alloc: Global, ids: Ids, number: u64) -> Item {
             number,
         },
         moment: 0,
-        rec: record_of(alloc, ids),
-    })
+        rec,
+    }))
 }
 
-fn record_of(alloc: Global, ids: Ids) -> Record {
-    Record {
-        resource: Resource {
-            attributes: List::new(alloc),
-            dropped_attributes_count: 0,
-        },
-        resource_schema_url: Text::new(alloc),
-        scope: Scope {
-            name: Text::new(alloc),
-            version: Text::new(alloc),
-            attributes: List::new(alloc),
-            dropped_attributes_count: 0,
-        },
-        scope_schema_url: Text::new(alloc),
+/// A span with no ids, of an empty resource and scope.
+pub fn sample(alloc: Global) -> Result<Record, AllocError> {
+    let resource = Resource {
+        attributes: List::new(alloc),
+        dropped_attributes_count: 0,
+    };
+    let scope = Scope {
+        name: Text::new(alloc),
+        version: Text::new(alloc),
+        attributes: List::new(alloc),
+        dropped_attributes_count: 0,
+    };
+    Ok(Record {
+        resource: Shared::new(alloc, resource)?,
+        resource_schema_url: Shared::new(alloc, Text::new(alloc))?,
+        scope: Shared::new(alloc, scope)?,
+        scope_schema_url: Shared::new(alloc, Text::new(alloc))?,
         span: Span {
-            ids: Some(ids),
+            ids: None,
             trace_state: Text::new(alloc),
             flags: 0,
             name: Text::new(alloc),
@@ -67,5 +79,5 @@ fn record_of(alloc: Global, ids: Ids) -> Record {
                 code: 0,
             },
         },
-    }
+    })
 }

@@ -1,9 +1,11 @@
--- What the jobs hold may go to another thread, type by type: as a field of a struct, and by itself.
+-- What the jobs hold may go to another thread, type by type: as a field of a struct, and by itself. What records share may also be
+-- read from several threads.
 -- For the call of map_vec in jobs::at_once.
-use denote.Param.Send.{IsSend, sendable}
+use denote.Param.Send.{IsSend, IsSync, sendable}
 use Rattle.otlp_types.proofs.value.AnyValue.TheLaws.TheKnot as knot
 use Rattle.otlp_types.proofs.list.List.TheSendSync as list
 use Rattle.otlp_types.proofs.list.Text.TheSendSync as text
+use Rattle.otlp_types.proofs.shared.Shared.TheSendSync as shared
 use Rattle.otlp_types.proofs.span.Ids.TheSendSync as ids
 use Rattle.otlp_types.proofs.span.Status.TheSendSync as status
 use Rattle.span_ids.proofs.keys.ArrivalKey.TheSendSync as key
@@ -43,6 +45,24 @@ scope_field = search (sendable, list.the_send, text.the_send, pair_send) depth 2
 pub scope_send : IsSend scope.the_row
 scope_send = search (sendable, scope_field) depth 20
 
+pub pair_field_sync : IsSync (pair.the_field).row
+pair_field_sync = search (sendable, list.the_sync, text.the_sync, knot.sync-KeyValue) depth 20
+
+pub pair_sync : IsSync pair.the_row
+pair_sync = search (sendable, pair_field_sync) depth 20
+
+pub resource_field_sync : IsSync (resource.the_field).row
+resource_field_sync = search (sendable, list.the_sync, pair_sync) depth 20
+
+pub resource_sync : IsSync resource.the_row
+resource_sync = search (sendable, resource_field_sync) depth 20
+
+pub scope_field_sync : IsSync (scope.the_field).row
+scope_field_sync = search (sendable, list.the_sync, text.the_sync, pair_sync) depth 20
+
+pub scope_sync : IsSync scope.the_row
+scope_sync = search (sendable, scope_field_sync) depth 20
+
 pub event_field : IsSend (event.the_field).row
 event_field = search (sendable, list.the_send, text.the_send, pair_send) depth 20
 
@@ -62,7 +82,7 @@ pub span_send : IsSend span.the_row
 span_send = search (sendable, span_field) depth 20
 
 pub rec_field : IsSend (rec.the_field).row
-rec_field = search (sendable, text.the_send, resource_field, scope_field, span_field) depth 20
+rec_field = search (sendable, shared.the_send, text.the_send, text.the_sync, resource_send, resource_sync, scope_send, scope_sync, span_field) depth 20
 
 pub rec_send : IsSend rec.the_row
 rec_send = search (sendable, rec_field) depth 20

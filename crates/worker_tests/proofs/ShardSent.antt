@@ -10,6 +10,7 @@ use Rattle.std.proofs.Crossing as crossing
 use Rattle.std.proofs.MapsCrossing as maps
 use Rattle.decision_cache.proofs.cache.DecisionCache.TheSendSync as cache
 use Rattle.rate_budget.proofs.budgets.Budgets.TheSendSync as budgets
+use Rattle.rate_budget.specs.contracts.budgets.Budgets as budgets_row
 use Rattle.policy_tree.specs.contracts.policy.Policy as policy
 use Rattle.policy_tree.specs.contracts.policies.Policies as policies
 use Rattle.trace_buffer.specs.contracts.episode.Episode as episode
@@ -39,7 +40,10 @@ pub buffer_send : IsSend buffer.the_row
 buffer_send = search (sendable, crosses, maps.crosses, ring_field) depth 40
 
 pub shard_send : IsSend shard.the_row
-shard_send = search (sendable, policies_send, buffer_send, cache.the_send, budgets.the_send, crosses) depth 20
+shard_send = search (sendable, policies_send, buffer_send, cache.the_send, crosses) depth 20
+
+pub limiter_send : IsSend budgets_row.the_row
+limiter_send = budgets.the_send
 
 pub batch_send : IsSend batch.the_row
 batch_send = search (sendable, crosses, arrival_send) depth 20

@@ -10,6 +10,7 @@ use crate::spans::{Traces, is_of_second, span_item};
 use drop_ledger::{Report, Tally};
 use lane_queue::{LaneQueue, OpenGate, Receiver, Room, Sender};
 use otlp_types::{Item, Shipment};
+use rate_budget::Budgets;
 use shard_core::Shard;
 use span_exporter::Exporter;
 use span_sink::LineSink;
@@ -33,17 +34,22 @@ struct Lane<C: Room> {
     second: Sender<Item, C>,
 }
 
-/// A shard, and its ends of the queues. Nothing was taken or sent yet.
+/// A shard, its limiter, and its ends of the queues. Nothing was taken or sent yet.
 #[derive(Drop)]
 struct ShardStart<C: Room> {
     number: u16,
     shard: Shard,
+    limiter: Budgets,
     receiver: Receiver<Item, C>,
     sender: Sender<Shipment, C>,
 }
 
 impl<C: Room> Model for ShardStart<C> {
-    ghost use Rattle.std.specs.Prelude.{◌≡◌, ℕ, All, false, []};
+    ghost use Rattle.std.specs.Prelude.{◌≡◌, ℕ, All, false, true, []};
+    ghost use Rattle.policy_tree.specs.Tree.{limiters};
+    ghost use Rattle.policy_tree.specs.Meaning.{meaning};
+    ghost use Rattle.policy_eval.specs.Meaning.{knows};
+    ghost use Rattle.rate_budget.specs.Budget.{has_node};
     ghost use Rattle.lane_queue.specs.Ends.{IsNew};
     ghost use Rattle.shard_core.specs.Held.{StandsFor, has_due, is_finished};
 
@@ -51,7 +57,7 @@ impl<C: Room> Model for ShardStart<C> {
 
     ghost view = { λ s. s.number };
 
-    ghost invariant = { λ s. StandsFor s.shard [] 0 × (has_due s.shard ≡ false) × (is_finished s.shard ≡ false) × All IsNew s.receiver.ends × IsNew s.sender };
+    ghost invariant = { λ s. StandsFor s.shard [] 0 × (has_due s.shard ≡ false) × (is_finished s.shard ≡ false) × All IsNew s.receiver.ends × IsNew s.sender × (knows (has_node s.limiter) (limiters (meaning s.shard.policies)) ≡ true) };
 }
 
 /// The exporter, and its ends of the queues. Nothing was taken yet.
@@ -89,7 +95,8 @@ pub enum Done {
     Exporter(MemorySink, Report),
 }
 
-/// Sends the lane's spans, each to its shard; from the ticker a tick to both. The End comes last.
+/// Sends the lane's spans, each to its shard, but for one to which memory is refused; from the ticker a tick to both. The End
+/// comes last.
 fn run_lane<C: Room, R: Wait + Clock>(rt: &R, alloc: Global, lane: Lane<C>) {
     let Lane {
         number,
@@ -99,7 +106,9 @@ fn run_lane<C: Room, R: Wait + Clock>(rt: &R, alloc: Global, lane: Lane<C>) {
     } = lane;
     let count = SPANS[(number % SENDERS) as usize];
     for span in 0..count {
-        let item = span_item(alloc, &traces, number, span);
+        let Ok(item) = span_item(alloc, &traces, number, span) else {
+            continue;
+        };
         if is_of_second(span) {
             second.push(rt, item);
         } else {
@@ -118,11 +127,14 @@ fn run_shard<C: Room, R: Wait + Clock>(rt: &R, start: ShardStart<C>) -> Report {
     let ShardStart {
         number,
         shard,
+        limiter,
         receiver,
         sender,
     } = start;
     let tally = Tally::new(Report::new());
-    let end = shard_worker::work(rt, number, shard, receiver, sender, tally, &OpenGate);
+    let end = shard_worker::work(
+        rt, number, shard, limiter, receiver, sender, tally, &OpenGate,
+    );
     end.tally.end()
 }
 
@@ -212,9 +224,11 @@ fn shard_job<C: Room>(
     requires receives { All IsNew receiver.ends }
     requires sends { IsNew sender }
 {
+    let (shard, limiter) = new_shard(alloc)?;
     Ok(Job::Shard(ShardStart {
         number,
-        shard: new_shard(alloc)?,
+        shard,
+        limiter,
         receiver,
         sender,
     }))

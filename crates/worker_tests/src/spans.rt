@@ -1,10 +1,10 @@
 //! The spans that the lanes send: which trace each is of, and what tells it again.
-ghost use Rattle.std.specs.Prelude.{◌≡◌, IsSome, true};
+ghost use Rattle.std.specs.Prelude.{◌≡◌, IfOk, IsSome, true};
 ghost use Rattle.shard_core.specs.Taking.{has_ids};
 
-use otlp_types::{Arrival, Ids, Item, List, Record, Resource, Scope, Span, Status, Text};
+use otlp_types::{Arrival, Ids, Item, List, Record, Resource, Scope, Shared, Span, Status, Text};
 use span_ids::{ArrivalKey, ConnKey, SpanId, TraceId};
-use std::alloc::Global;
+use std::alloc::{AllocError, Global};
 use std::process::Abort;
 
 /// A span by the lane that sends it, and by its number there, from 0 on.
@@ -45,8 +45,8 @@ pub fn is_of_second(number: u64) -> bool {
 }
 
 /// A lane's span, which its start and its end tell again. A lane's spans are of the four traces in turn.
-pub fn span_item(alloc: Global, traces: &Traces, lane: u16, number: u64) -> Item
-    ensures { has_ids result ≡ true }
+pub fn span_item(alloc: Global, traces: &Traces, lane: u16, number: u64) -> Result<Item, AllocError>
+    ensures { IfOk result (λ item. has_ids item ≡ true) }
 {
     let (ids, code) = match number % 4 {
         0 => (traces.first_kept, 2),
@@ -55,29 +55,31 @@ pub fn span_item(alloc: Global, traces: &Traces, lane: u16, number: u64) -> Item
         _ => (traces.second_left, 0),
     };
     let conn = ConnKey { lane, ordinal: 0 };
-    Item::Span(Arrival {
+    Ok(Item::Span(Arrival {
         key: ArrivalKey { conn, number },
         moment: 0,
-        rec: record_of(alloc, ids, code, lane as u64, number),
-    })
+        rec: record_of(alloc, ids, code, lane as u64, number)?,
+    }))
 }
 
-fn record_of(alloc: Global, ids: Ids, code: i32, start: u64, end: u64) -> Record
-    ensures { IsSome result.span.ids }
+fn record_of(alloc: Global, ids: Ids, code: i32, start: u64, end: u64) -> Result<Record, AllocError>
+    ensures { IfOk result (λ rec. IsSome rec.span.ids) }
 {
-    Record {
-        resource: Resource {
-            attributes: List::new(alloc),
-            dropped_attributes_count: 0,
-        },
-        resource_schema_url: Text::new(alloc),
-        scope: Scope {
-            name: Text::new(alloc),
-            version: Text::new(alloc),
-            attributes: List::new(alloc),
-            dropped_attributes_count: 0,
-        },
-        scope_schema_url: Text::new(alloc),
+    let resource = Resource {
+        attributes: List::new(alloc),
+        dropped_attributes_count: 0,
+    };
+    let scope = Scope {
+        name: Text::new(alloc),
+        version: Text::new(alloc),
+        attributes: List::new(alloc),
+        dropped_attributes_count: 0,
+    };
+    Ok(Record {
+        resource: Shared::new(alloc, resource)?,
+        resource_schema_url: Shared::new(alloc, Text::new(alloc))?,
+        scope: Shared::new(alloc, scope)?,
+        scope_schema_url: Shared::new(alloc, Text::new(alloc))?,
         span: Span {
             ids: Some(ids),
             trace_state: Text::new(alloc),
@@ -97,7 +99,7 @@ fn record_of(alloc: Global, ids: Ids, code: i32, start: u64, end: u64) -> Record
                 code,
             },
         },
-    }
+    })
 }
 
 /// Which span a record is.

@@ -1,5 +1,4 @@
 use Rattle.script_run.specs.World.{PlaysAll, new_world}
-use Rattle.tsc_script.specs.Instructions.{Instruction}
 use Rattle.script_run.proofs.Stopping.{stops_alike}
 use Rattle.script_run.proofs.calm_stops_agree.Goals as goal
 

@@ -1,4 +1,4 @@
-use Rattle.std.proofs.Common.{map}
+use Rattle.std.proofs.Common.{map, ◌∙◌}
 use Rattle.otlp_flatten.proofs.Steps.{scope_step, scope_end, first_resource, nothing_left}
 use Rattle.otlp_flatten.proofs.grouping.resource_group.Goals as goal
 
@@ -13,7 +13,7 @@ loop-rest-preserved g c = λ r url first.
 pub returns-clause-grouped : goal.returns-clause-grouped
 returns-clause-grouped g c =
     let first = first_resource g.T.HasRecord.record_in c.args.spans.now c.index-spans-0.result c.rec-first.result.now c.in_ok-try_clone.field-0 c.in_ok-try_clone-2.field-0
-    c.requires.some c.index-spans-0.is c.rec-first.ensures c.in_ok-try_clone.ensures c.in_ok-try_clone-2.ensures in
+    c.requires.some c.index-spans-0.is c.rec-first.ensures (c.in_ok-try_clone.ensures ∙ c.get.ensures) (c.in_ok-try_clone-2.ensures ∙ c.get-2.ensures) in
     let so_far = c.loop-rest.invariant c.in_ok-try_clone.field-0 c.in_ok-try_clone-2.field-0 first in
     rw c.groups-2.view_is (scope_end g.T.HasRecord.record_in c.in_ok-try_clone.field-0 c.in_ok-try_clone-2.field-0 c.loop-rest.groups c.loop-rest.rest.now c.args.spans.now
     (nothing_left c.loop-rest.rest.now c.loop-rest-test.ensures) c.requires.some so_far.1).0
@@ -21,7 +21,7 @@ returns-clause-grouped g c =
 pub returns-clause-flat : goal.returns-clause-flat
 returns-clause-flat g c =
     let first = first_resource g.T.HasRecord.record_in c.args.spans.now c.index-spans-0.result c.rec-first.result.now c.in_ok-try_clone.field-0 c.in_ok-try_clone-2.field-0
-    c.requires.some c.index-spans-0.is c.rec-first.ensures c.in_ok-try_clone.ensures c.in_ok-try_clone-2.ensures in
+    c.requires.some c.index-spans-0.is c.rec-first.ensures (c.in_ok-try_clone.ensures ∙ c.get.ensures) (c.in_ok-try_clone-2.ensures ∙ c.get-2.ensures) in
     let so_far = c.loop-rest.invariant c.in_ok-try_clone.field-0 c.in_ok-try_clone-2.field-0 first in
     rw c.groups-2.view_is (scope_end g.T.HasRecord.record_in c.in_ok-try_clone.field-0 c.in_ok-try_clone-2.field-0 c.loop-rest.groups c.loop-rest.rest.now c.args.spans.now
     (nothing_left c.loop-rest.rest.now c.loop-rest-test.ensures) c.requires.some so_far.1).1

@@ -1,8 +1,18 @@
-use Rattle.std.proofs.Common.{◌≡◌, ℕ, ◌+◌, ◌≤◌, drop, sym, subst, ◌∙◌, arith}
-use Rattle.policy_tree.specs.Tree.{Policies, one_more, nodes}
-use Rattle.policy_tree.specs.Meaning.{meaning, policy_meaning}
-use Rattle.policy_eval.proofs.Turns.{Turn, Part, turn-more, next_part, counted_nodes}
+-- The answer of a policy.
+-- For the clause `answers` of `answer`.
+use Rattle.std.proofs.Common.{◌≡◌, ℕ, ◌+◌, ◌≤◌, drop, inl, inr, rules, sym, subst, ◌∙◌, arith}
+use Rattle.policy_tree.specs.Tree.{Leaf, always_sample, latency, status_code, attribute, span_count, Policy as Meant, leaf, rate_limiting, and_policy, Policies, one_more, nodes}
+use Rattle.policy_tree.specs.Meaning.{meaning, policy_meaning, kind_meaning, wanted_of}
+use Rattle.policy_tree.specs.declared.policy.PolicyKind.TheFolds.{the_lemmas}
+use Rattle.policy_eval.specs.Walks.{Answers}
+use Rattle.policy_eval.proofs.Turns.{Turn, turn-first, turn-more, turn-stop, answers-leaf, answers-rate, next_part, counted_nodes}
 use Rattle.policy_eval.proofs.verdict.+answer.Goals as goal
+
+pub loop-part-init : goal.loop-part-init
+loop-part-init g t c =
+    let parts = meaning c.as_slice-part-items.result.now in
+    let whole : policy_meaning c.args.policy.now ≡ and_policy parts = let is = c.in-And.is in let items = c.as_slice-part-items.ensures in search (rules, the_lemmas) in
+    turn-first g.row.L.Denot g.L.Limiter.has_node g.L.Limiter.asks c.args.limiter.now (policy_meaning c.args.policy.now) c.args.node c.args.second c.args.spans.now parts whole c.requires.numbers c.requires.known
 
 pub loop-part-preserved : goal.loop-part-preserved
 loop-part-preserved g t c =
@@ -11,8 +21,7 @@ loop-part-preserved g t c =
     let p = c.part-item.result in
     let S = g.row.L.Denot in
     let H = g.L.Limiter.has_node in
-    let A = g.L.Limiter.after in
-    let G = g.L.Limiter.grants_at in
+    let A = g.L.Limiter.asks in
     let s0 = c.args.limiter.now in
     let s = c.loop-part.limiter in
     let u = c.answer-given.new.limiter in
@@ -21,11 +30,60 @@ loop-part-preserved g t c =
     let second = c.args.second in
     let next = c.loop-part.next in
     let rest = meaning (drop (i + 1) items) in
-    let T = λ (r : Policies). Turn S H A G s0 whole c.args.node second spans s r next in
+    let T = λ (r : Policies). Turn S H A s0 whole c.args.node second spans s r next in
     let here : T (one_more (policy_meaning p) rest) = subst T (next_part items i p c.loop-part-test.true c.part-item.is) c.loop-part.invariant in
-    let N = λ (k : ℕ). Turn S H A G s0 whole c.args.node second spans u rest (next + k) in
-    let part : Part S H A G second spans s u (policy_meaning p) next c.answer-given.result
-    = record { answer = c.answer-given.ensures.answer; asks = c.answer-given.ensures.asks; others = c.answer-given.ensures.others; keeps = c.answer-given.ensures.keeps } in
+    let N = λ (k : ℕ). Turn S H A s0 whole c.args.node second spans u rest (next + k) in
     let few : nodes (policy_meaning p) ≤ 64 = omega (arith, here.counted, here.within) in
     let count : c.count.result ≡ nodes (policy_meaning p) = c.count.ensures ∙ counted_nodes (nodes (policy_meaning p)) few in
-    subst N (sym count) (turn-more S H A G s0 whole c.args.node second spans s u (policy_meaning p) rest next c.answer-given.result here part (sym c.samples.ensures ∙ c.if-not-samples.false))
+    subst N (sym count) (turn-more S H A s0 whole c.args.node second spans s u (policy_meaning p) rest next c.answer-given.result here c.answer-given.ensures.answers c.answer-given.ensures.keeps (sym c.samples.ensures ∙ c.if-not-samples.false))
+
+pub returns-then-not-samples-clause-answers : goal.returns-then-not-samples-clause-answers
+returns-then-not-samples-clause-answers g t c =
+    let items = c.as_slice-part-items.result.now in
+    let i = c.loop-part.part-index in
+    let p = c.part-item.result in
+    let S = g.row.L.Denot in
+    let H = g.L.Limiter.has_node in
+    let A = g.L.Limiter.asks in
+    let s0 = c.args.limiter.now in
+    let s = c.loop-part.limiter in
+    let whole = policy_meaning c.args.policy.now in
+    let spans = c.args.spans.now in
+    let second = c.args.second in
+    let next = c.loop-part.next in
+    let rest = meaning (drop (i + 1) items) in
+    let T = λ (r : Policies). Turn S H A s0 whole c.args.node second spans s r next in
+    let here : T (one_more (policy_meaning p) rest) = subst T (next_part items i p c.loop-part-test.true c.part-item.is) c.loop-part.invariant in
+    turn-stop S H A s0 whole c.args.node second spans s c.answer-given.new.limiter (policy_meaning p) rest next c.answer-given.result here c.answer-given.ensures.answers (sym c.samples.ensures ∙ c.if-not-samples.true)
+
+pub returns-in-RateLimiting-clause-answers : goal.returns-in-RateLimiting-clause-answers
+returns-in-RateLimiting-clause-answers g t c =
+    let S = g.row.L.Denot in
+    let A = g.L.Limiter.asks in
+    let spans = c.args.spans.now in
+    let limit = c.in-RateLimiting.spans_per_second in
+    let kind : policy_meaning c.args.policy.now ≡ rate_limiting limit = let is = c.in-RateLimiting.is in search (rules, the_lemmas) in
+    let P = λ (p : Meant). Answers A p c.args.node c.args.second spans c.plain.result c.args.limiter.now c.ask.new.self in
+    subst P (sym kind) (answers-rate S A c.args.second spans c.args.limiter.now c.ask.new.self limit c.args.node c.ask.result c.plain.result c.plain.ensures c.ask.ensures)
+
+pub returns-in-AlwaysSample-clause-answers : goal.returns-in-AlwaysSample-clause-answers
+returns-in-AlwaysSample-clause-answers g t c =
+    let S = g.row.L.Denot in
+    let A = g.L.Limiter.asks in
+    let policy = c.args.policy.now in
+    let P = λ (p : Meant). Answers A p c.args.node c.args.second c.args.spans.now c.leaf_answer.result c.args.limiter.now c.args.limiter.now in
+    let leaf_of : (l : Leaf) → kind_meaning policy.kind ≡ leaf l → policy_meaning policy ≡ leaf l → P (policy_meaning policy)
+    = λ l kind whole. subst P (sym whole) (answers-leaf S A c.args.second c.args.spans.now c.args.limiter.now l c.args.node c.leaf_answer.result (c.leaf_answer.ensures l kind)) in
+    elim c.in-AlwaysSample.is [
+      | inl h ↦ leaf_of always_sample (search (rules, the_lemmas)) (search (rules, the_lemmas))
+      | inr others ↦ elim others [
+        | inl h ↦ let is = h.2 in leaf_of (latency h.0 h.1) (search (rules, the_lemmas)) (search (rules, the_lemmas))
+        | inr more ↦ elim more [
+          | inl h ↦ let is = h.1 in leaf_of (status_code h.0) (search (rules, the_lemmas)) (search (rules, the_lemmas))
+          | inr rest ↦ elim rest [
+            | inl h ↦ let is = h.3 in leaf_of (attribute h.0 (wanted_of h.1) h.2) (search (rules, the_lemmas)) (search (rules, the_lemmas))
+            | inr h ↦ let is = h.2 in leaf_of (span_count h.0 h.1) (search (rules, the_lemmas)) (search (rules, the_lemmas))
+          ]
+        ]
+      ]
+    ]

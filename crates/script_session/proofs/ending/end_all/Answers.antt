@@ -5,7 +5,7 @@ use Rattle.otlp_types.specs.declared.arrival.Item.TheVariants.{End}
 use Rattle.shard_core.specs.Journal.{Settings}
 use Rattle.shard_core.specs.Held.{Held}
 use Rattle.script_run.specs.World.{ends_from, to_each}
-use Rattle.script_session.specs.Pulling.{Export, AreQuiet, HaveSettings, AreOpen, RoundsTaken, EachTakes}
+use Rattle.script_session.specs.Pulling.{Export, Counts, AreQuiet, HaveSettings, AreOpen, RoundsTaken, EachTakes}
 use Rattle.script_session.proofs.Several.{RoundsTaken-none, RoundsTaken-push, ends_from-next, to_each-same, ended, ended-next, ended-open, ended-all}
 use Rattle.script_session.proofs.ending.end_all.Goals as goal
 
@@ -22,17 +22,18 @@ ends-more news n m k j e f q =
     subst P next q
 
 -- one round more, of the same Ends for as many shards
-round-more : (first mid new : List Held) (n : ℕ) (before between after : Export) → length mid ≡ length first
+round-more : (first mid new : List Held) (start lent last : Counts) (n : ℕ) (before between after : Export) → length mid ≡ length first
     → ((s : Settings) → HaveSettings s first → HaveSettings s mid)
-    → RoundsTaken first before (ends_from 0 n first) mid between → EachTakes mid between (to_each (End n) mid) new after → RoundsTaken first before (ends_from 0 (n + 1) first) new after
-round-more first mid new n before between after e keeps r t =
-    let P = λ (items : List (List Item)). EachTakes mid between items new after in
-    let Q = λ (rounds : List (List (List Item))). RoundsTaken first before rounds new after in
-    subst Q (sym (ends_from-next n first)) (RoundsTaken-push first mid new (ends_from 0 n first) (to_each (End n) first) before between after keeps r (subst P (to_each-same (End n) mid first e) t))
+    → RoundsTaken first start before (ends_from 0 n first) mid lent between → EachTakes mid lent between (to_each (End n) mid) new last after → RoundsTaken first start before (ends_from 0 (n + 1) first) new last after
+round-more first mid new start lent last n before between after e keeps r t =
+    let P = λ (items : List (List Item)). EachTakes mid lent between items new last after in
+    let Q = λ (rounds : List (List (List Item))). RoundsTaken first start before rounds new last after in
+    subst Q (sym (ends_from-next n first)) (RoundsTaken-push first mid new start lent last (ends_from 0 n first) (to_each (End n) first) before between after keeps r (subst P (to_each-same (End n) mid first e) t))
 
 pub loop-lane-init : goal.loop-lane-init
 loop-lane-init g c = record {
-  took = RoundsTaken-none c.args.shards.now (c.args.exporter.now, c.args.report.now);
+  nodes = c.requires.nodes;
+  took = RoundsTaken-none c.args.shards.now c.args.limiter.now (c.args.exporter.now, c.args.report.now);
   quiet = let P = λ (n : ℕ). AreQuiet (replicate n false) c.args.shards.now in subst P (let e : c.args.lanes + 1 ≡ c.args.lanes - 0 + 1 = omega arith in e) c.requires.quiet;
   keeps = λ s alike. alike;
   within = omega arith;
@@ -53,7 +54,8 @@ loop-lane-preserved g c =
     let lane = c.loop-lane.lane in
     let less : lane < c.args.lanes = c.loop-lane-test.true in
     record {
-      took = round-more c.args.shards.now c.loop-lane.shards c.tell_each.new.shards lane (c.args.exporter.now, c.args.report.now) (c.loop-lane.exporter, c.loop-lane.report) (c.tell_each.new.exporter, c.tell_each.new.report) inv.length_same inv.keeps inv.took c.tell_each.ensures.takes;
+      nodes = c.tell_each.ensures.nodes;
+      took = round-more c.args.shards.now c.loop-lane.shards c.tell_each.new.shards c.args.limiter.now c.loop-lane.limiter c.tell_each.new.limiter lane (c.args.exporter.now, c.args.report.now) (c.loop-lane.exporter, c.loop-lane.report) (c.tell_each.new.exporter, c.tell_each.new.report) inv.length_same inv.keeps inv.took c.tell_each.ensures.takes;
       quiet = ends-more c.tell_each.new.shards lane (c.args.lanes - lane) (c.args.lanes - lane + 1) (c.args.lanes - (lane + 1) + 1) (omega arith) (omega (arith, less)) (c.tell_each.ensures.quiet _ inv.quiet);
       keeps = λ s alike. c.tell_each.ensures.settings s (inv.keeps s alike);
       within = omega (arith, less);
@@ -72,8 +74,8 @@ pub returns-clause-takes : goal.returns-clause-takes
 returns-clause-takes g c =
     let inv = c.loop-lane.invariant in
     let last : c.loop-lane.lane ≡ c.args.lanes = omega (arith, inv.within, c.loop-lane-test.false) in
-    let P = λ (n : ℕ). RoundsTaken c.args.shards.now (c.args.exporter.now, c.args.report.now) (ends_from 0 n c.args.shards.now) c.loop-lane.shards (c.loop-lane.exporter, c.loop-lane.report) in
-    round-more c.args.shards.now c.loop-lane.shards c.tell_each-2.new.shards c.args.lanes (c.args.exporter.now, c.args.report.now) (c.loop-lane.exporter, c.loop-lane.report) (c.tell_each-2.new.exporter, c.tell_each-2.new.report) inv.length_same inv.keeps (subst P last inv.took) c.tell_each-2.ensures.takes
+    let P = λ (n : ℕ). RoundsTaken c.args.shards.now c.args.limiter.now (c.args.exporter.now, c.args.report.now) (ends_from 0 n c.args.shards.now) c.loop-lane.shards c.loop-lane.limiter (c.loop-lane.exporter, c.loop-lane.report) in
+    round-more c.args.shards.now c.loop-lane.shards c.tell_each-2.new.shards c.args.limiter.now c.loop-lane.limiter c.tell_each-2.new.limiter c.args.lanes (c.args.exporter.now, c.args.report.now) (c.loop-lane.exporter, c.loop-lane.report) (c.tell_each-2.new.exporter, c.tell_each-2.new.report) inv.length_same inv.keeps (subst P last inv.took) c.tell_each-2.ensures.takes
 
 pub returns-clause-quiet : goal.returns-clause-quiet
 returns-clause-quiet g c =

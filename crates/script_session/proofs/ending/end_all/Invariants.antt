@@ -1,13 +1,14 @@
 use Rattle.std.proofs.Common.{◌≡◌, ◌<◌, ◌+◌, ◌-◌, ◌≤◌, true, length}
 use Rattle.shard_core.specs.Journal.{Settings}
 use Rattle.script_run.specs.World.{ends_from}
-use Rattle.script_session.specs.Pulling.{AreQuiet, HaveSettings, RoundsTaken}
+use Rattle.script_session.specs.Pulling.{AreQuiet, HaveSettings, RoundsTaken, has_all_nodes}
 use Rattle.script_session.proofs.Several.{ended}
 use Rattle.script_session.proofs.ending.end_all.Given as goal
 
 abbrev pub invariant-loop-lane : goal.invariant-loop-lane
 invariant-loop-lane g l = record {
-  took : RoundsTaken l.fn.shards (l.fn.exporter, l.fn.report) (ends_from 0 l.lane l.fn.shards) l.shards (l.exporter, l.report);
+  took : RoundsTaken l.fn.shards l.fn.limiter (l.fn.exporter, l.fn.report) (ends_from 0 l.lane l.fn.shards) l.shards l.limiter (l.exporter, l.report);
+  nodes : has_all_nodes l.limiter l.shards ≡ true;
   quiet : AreQuiet (ended l.lane (l.lanes - l.lane + 1)) l.shards;
   keeps : (s : Settings) → HaveSettings s l.fn.shards → HaveSettings s l.shards;
   within : l.lane ≤ l.lanes;

@@ -3,6 +3,8 @@ use Rattle.std.proofs.lemmas.List.{length-replicate}
 use Rattle.script_run.specs.Connections.{Contacts}
 use Rattle.script_run.specs.World.{empty_queues}
 use Rattle.script_session.specs.Pulling.{AreQuiet, ends_of}
+use Rattle.script_session.specs.Replay.{settings_by}
+use Rattle.script_session.proofs.Nodes.{nodes-new}
 use Rattle.script_session.proofs.Quiet.{none-due-now, ends-now}
 use Rattle.script_session.proofs.replay.replay_run.Goals as goal
 
@@ -23,3 +25,6 @@ invariant_of-session-clause-some g c = let made = c.in-Ok.ensures.shards in omeg
 
 pub invariant_of-session-clause-empty : goal.invariant_of-session-clause-empty
 invariant_of-session-clause-empty g c = let made = c.in-Ok.ensures.shards in c.in-Ok.ensures.queues ∙ ap (empty_queues c.args.config.queue_capacity) (sym made.0)
+
+pub invariant_of-session-clause-nodes : goal.invariant_of-session-clause-nodes
+invariant_of-session-clause-nodes g c = let made = c.in-Ok.ensures.shards in nodes-new (settings_by c.args.config) c.in-Ok.parts.limiter c.in-Ok.parts.shards.items c.in-Ok.ensures.limiter made.1

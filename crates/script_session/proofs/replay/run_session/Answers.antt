@@ -13,7 +13,7 @@ use Rattle.script_session.proofs.Finish.{run-ends, is_up_state, is_down_state, n
 use Rattle.script_session.proofs.replay.run_session.Goals as goal
 
 pub returns : goal.returns
-returns g c = λ config can unused new.
+returns g c = λ config can unused new limiter.
     let session = c.args.session in
     let now = c.play_script-played.new.machine in
     let script = c.play_script-played.ensures in
@@ -33,10 +33,11 @@ returns g c = λ config can unused new.
     let first : LineSinkState = up_state session.exporter.sink.taken session.exporter.sink.failures in
     let start = new_world config.lanes config.shards first in
     let R = λ (report : Option (List ℕ)). Reports s start report in
-    let starts : AreOf s start session.connections session.shards.items session.exporter session.report session.closed = record {
+    let starts : AreOf s start session.connections session.shards.items session.limiter session.exporter session.report session.closed = record {
       contacts_are = unused;
       settings_are = new.1;
       released_all = new.3;
+      limiter_is = limiter;
       sink_is = ap (λ (b : Bool). let k : LineSinkState = record session.exporter.sink { is_down = b } in k) c.requires.up;
       reports = subst R (sym c.requires.nothing_counted) (Reports-new s config.lanes config.shards first);
       closed_is = c.requires.open;

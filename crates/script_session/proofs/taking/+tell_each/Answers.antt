@@ -1,28 +1,44 @@
-use Rattle.std.proofs.Common.{List, [], ◌∷◌, ap, sym, subst, ◌∙◌}
+use Rattle.std.proofs.Common.{◌≡◌, true, List, [], ◌∷◌, ap, sym, subst, ◌∙◌}
 use Rattle.std.proofs.lemmas.List.{length-map}
 use Rattle.otlp_types.specs.declared.arrival.Item.{Item}
 use Rattle.shard_core.specs.Held.{Held}
 use Rattle.shard_core.specs.Taking.{ends_after}
 use Rattle.script_run.specs.World.{to_each}
 use Rattle.script_session.specs.Signals.{item_of}
-use Rattle.script_session.specs.Pulling.{Export, EachTakes, TakesItems, AreQuiet, HaveSettings}
+use Rattle.script_session.specs.Pulling.{Export, EachTakes, TakesItems, AreQuiet, HaveSettings, has_all_nodes}
+use Rattle.script_session.proofs.Nodes.{nodes-then, nodes-kept, first-nodes, nodes-cons}
 use Rattle.script_session.proofs.Several.{EachTakes-empty, EachTakes-cons, AreQuiet-cons}
 use Rattle.script_session.proofs.taking.+tell_each.Goals as goal
+
+pub take_item-requires-clause-nodes : goal.take_item-requires-clause-nodes
+take_item-requires-clause-nodes g t c =
+    let P = λ (old : List Held). has_all_nodes c.args.limiter.now old ≡ true in
+    first-nodes c.args.limiter.now c.in-Some.shard.now c.in-Some.others.now (subst P c.in-Some.ensures.cases.0 c.requires.nodes)
+
+pub returns-clause-nodes : goal.returns-clause-nodes
+returns-clause-nodes g t c =
+    let P = λ (old : List Held). has_all_nodes c.args.limiter.now old ≡ true in
+    let one = first-nodes c.args.limiter.now c.in-Some.shard.now c.in-Some.others.now (subst P c.in-Some.ensures.cases.0 c.requires.nodes) in
+    let same = nodes-then c.args.limiter.now c.take_item.new.limiter c.tell_each.new.limiter c.take_item.ensures.nodes c.tell_each.ensures.same_nodes in
+    nodes-cons c.tell_each.new.limiter c.take_item.new.shard c.tell_each.new.shards (nodes-kept c.args.limiter.now c.tell_each.new.limiter c.in-Some.shard.now c.take_item.new.shard same c.take_item.ensures.settings one) c.tell_each.ensures.nodes
+
+pub returns-clause-same_nodes : goal.returns-clause-same_nodes
+returns-clause-same_nodes g t c = nodes-then c.args.limiter.now c.take_item.new.limiter c.tell_each.new.limiter c.take_item.ensures.nodes c.tell_each.ensures.same_nodes
 
 pub returns-clause-takes : goal.returns-clause-takes
 returns-clause-takes g t c =
     let item = item_of c.args.signal in
     let before : Export = (c.args.exporter.now, c.args.report.now) in
     let after : Export = (c.tell_each.new.exporter, c.tell_each.new.report) in
-    let P = λ (old : List Held). EachTakes old before (to_each item old) (c.take_item.new.shard ∷ c.tell_each.new.shards) after in
-    let Q = λ (one : Item). TakesItems c.in-Some.shard.now before (one ∷ []) c.take_item.new.shard (c.take_item.new.exporter, c.take_item.new.report) in
-    subst P (sym c.in-Some.ensures.cases.0) (EachTakes-cons c.in-Some.shard.now c.take_item.new.shard c.in-Some.others.now c.tell_each.new.shards (item ∷ []) (to_each item c.in-Some.others.now)
-    before (c.take_item.new.exporter, c.take_item.new.report) after (subst Q c.item.ensures.item c.take_item.ensures.takes) c.tell_each.ensures.takes)
+    let P = λ (old : List Held). EachTakes old c.args.limiter.now before (to_each item old) (c.take_item.new.shard ∷ c.tell_each.new.shards) c.tell_each.new.limiter after in
+    let Q = λ (one : Item). TakesItems c.in-Some.shard.now c.args.limiter.now before (one ∷ []) c.take_item.new.shard c.take_item.new.limiter (c.take_item.new.exporter, c.take_item.new.report) in
+    subst P (sym c.in-Some.ensures.cases.0) (EachTakes-cons c.in-Some.shard.now c.take_item.new.shard c.in-Some.others.now c.tell_each.new.shards c.args.limiter.now c.take_item.new.limiter c.tell_each.new.limiter (item ∷ []) (to_each item c.in-Some.others.now)
+    before (c.take_item.new.exporter, c.take_item.new.report) after c.take_item.ensures.settings (subst Q c.item.ensures.item c.take_item.ensures.takes) c.tell_each.ensures.takes)
 
 pub returns-in_default-clause-takes : goal.returns-in_default-clause-takes
 returns-in_default-clause-takes g t c =
     let item = item_of c.args.signal in
-    EachTakes-empty c.args.shards.now (to_each item c.args.shards.now) (c.args.exporter.now, c.args.report.now) c.in_default.ensures.cases (length-map c.args.shards.now _)
+    EachTakes-empty c.args.shards.now (to_each item c.args.shards.now) c.args.limiter.now (c.args.exporter.now, c.args.report.now) c.in_default.ensures.cases (length-map c.args.shards.now _)
 
 pub returns-clause-quiet : goal.returns-clause-quiet
 returns-clause-quiet g t c = λ ends quiet.

@@ -1,5 +1,6 @@
 use Rattle.std.proofs.Common.{[], ◌∷◌, ◌++◌, List, Bool, ◌∙◌, refl, sym, ap, append_assoc}
 use Rattle.std.specs.List.{list_all}
+use Rattle.script_session.proofs.Nodes.{nodes-then, nodes-kept}
 use Rattle.script_session.proofs.Runs.{TakesItems-none, TakesItems-append}
 use Rattle.script_session.proofs.Several.{first-queued, rest-queued, queued-keeps_ends}
 use Rattle.script_session.proofs.taking.drain.Goals as goal
@@ -8,7 +9,9 @@ pub draining-init : goal.draining-init
 draining-init g c = record {
   popped = [];
   split = refl;
-  took = TakesItems-none c.args.shard.now (c.args.exporter.now, c.args.report.now);
+  nodes = c.requires.nodes;
+  same_nodes = λ node. refl;
+  took = TakesItems-none c.args.shard.now c.args.limiter.now (c.args.exporter.now, c.args.report.now);
   queued = c.requires.queued;
   capacity = refl;
   nothing_due = c.requires.nothing_due;
@@ -31,7 +34,9 @@ draining-preserved g c =
     record {
       popped = before.popped ++ item ∷ [];
       split = before.split ∙ ap (λ xs. before.popped ++ xs) first ∙ sym (append_assoc before.popped (item ∷ []) c.pop.new.self.items);
-      took = TakesItems-append c.args.shard.now c.draining.shard c.take_item.new.shard before.popped (item ∷ [])
+      nodes = nodes-kept c.draining.limiter c.take_item.new.limiter c.draining.shard c.take_item.new.shard step.nodes step.settings before.nodes;
+      same_nodes = nodes-then c.args.limiter.now c.draining.limiter c.take_item.new.limiter before.same_nodes step.nodes;
+      took = TakesItems-append c.args.shard.now c.draining.shard c.take_item.new.shard c.args.limiter.now c.draining.limiter c.take_item.new.limiter before.popped (item ∷ [])
           (c.args.exporter.now, c.args.report.now) (c.draining.exporter, c.draining.report) (c.take_item.new.exporter, c.take_item.new.report) before.settings_same before.took step.takes;
       queued = rest-queued item c.pop.new.self.items c.draining.queue.items first before.queued;
       capacity = c.in-Some.ensures.capacity ∙ before.capacity;

@@ -2,14 +2,17 @@ use Rattle.std.proofs.Common.{◌≡◌, ◌<◌, ◌++◌, List, true, false, l
 use Rattle.std.specs.List.{list_all}
 use Rattle.otlp_types.specs.declared.arrival.Item.{Item}
 use Rattle.shard_core.specs.Held.{has_due, is_finished, settings}
-use Rattle.script_session.specs.Pulling.{TakesItems, is_queued}
+use Rattle.script_session.specs.Pulling.{TakesItems, has_nodes_of, is_queued}
+use Rattle.script_session.proofs.Nodes.{SameNodes}
 use Rattle.script_session.proofs.taking.drain.Given as goal
 
 abbrev pub invariant-draining : goal.invariant-draining
 invariant-draining g l = record {
   popped : List Item;
   split : l.fn.queue.items ≡ popped ++ l.queue.items;
-  took : TakesItems l.fn.shard (l.fn.exporter, l.fn.report) popped l.shard (l.exporter, l.report);
+  took : TakesItems l.fn.shard l.fn.limiter (l.fn.exporter, l.fn.report) popped l.shard l.limiter (l.exporter, l.report);
+  nodes : has_nodes_of l.limiter l.shard ≡ true;
+  same_nodes : SameNodes l.fn.limiter l.limiter;
   queued : list_all is_queued l.queue.items ≡ true;
   capacity : l.queue.capacity ≡ l.fn.queue.capacity;
   nothing_due : has_due l.shard ≡ false;

@@ -12,9 +12,9 @@ returns c =
     let before = reverse c.args.before.now in
     let a = c.args.arrival.now in
     let f = the_finding c.finding-found.result in
-    let l = c.in_ok-ledger.ledger in
+    let l = c.in_ok-noted.noted in
     IfOk-weaker c.effect_of_finding.result
-    (λ (x : Effect). x ≡ effect_of_finding s before l.noted a f)
+    (λ (x : Effect). x ≡ effect_of_finding s before l a f)
     (λ (x : Effect). x ≡ effect_of_span s before c.args.refused a a.rec.span.ids)
-    (λ x e. e ∙ span_effect s before c.args.refused a c.in-Some.ids l f c.if-refused.false c.in-Some.is c.in_ok-ledger.ensures c.finding-found.ensures)
+    (λ x e. e ∙ span_effect s before c.args.refused a c.in-Some.ids l f c.if-refused.false c.in-Some.is c.in_ok-noted.ensures c.finding-found.ensures)
     c.effect_of_finding.ensures

@@ -1,13 +1,9 @@
 use Rattle.std.proofs.Common.{reverse, ap, ◌∙◌}
 use Rattle.std.proofs.lemmas.Result.{on_ok_weaker}
-use Rattle.shard_core.specs.Journal.{after_item, notes}
+use Rattle.shard_core.specs.Journal.{Entry, after_item, notes}
 use Rattle.shard_journal.specs.Settings.{settings_of}
-use Rattle.shard_journal.specs.Ledger.{ledger_of}
-use Rattle.shard_journal.proofs.Turns.{is_for, item_noted, due_is, entry_noted}
+use Rattle.shard_journal.proofs.Turns.{item_noted, due_is, entry_noted}
 use Rattle.shard_journal.proofs.noting.note_entry.Goals as goal
-
-pub decide_each-requires : goal.decide_each-requires
-decide_each-requires c = is_for (settings_of c.args.settings.now) (notes (settings_of c.args.settings.now) (reverse c.args.before.now)) c.args.ledger.now c.requires.noted
 
 pub returns : goal.returns
 returns c =
@@ -16,7 +12,7 @@ returns c =
     let before = reverse c.args.before.now in
     let n = notes s before in
     let m = after_item s e before e.item n in
-    let due = due_is s e before n c.args.ledger.now c.as_slice.result.now c.requires.noted (c.as_slice.ensures.value ∙ c.in_ok-due.ensures) in
+    let due = due_is s e before n c.args.noted.now c.as_slice.result.now c.requires.noted (c.as_slice.ensures.value ∙ c.in_ok-due.ensures) in
     on_ok_weaker c.decide_each.result
-    (λ f. f m (item_noted s e before n c.args.ledger.now c.note_item.new.noted c.requires.noted c.in_ok-note_item.ensures) ∙ ap (ledger_of s) (entry_noted s e before (reverse c.args.past.now) c.as_slice.result.now c.requires.past due))
-    c.decide_each.ensures.decides
+    (λ f. f m (item_noted s e before n c.args.noted.now c.note_item.new.noted c.requires.noted c.in_ok-note_item.ensures) ∙ entry_noted s e before (reverse c.args.past.now) c.as_slice.result.now c.as_slice-2.result.now c.requires.past due (c.as_slice-2.ensures.value ∙ ap (λ (x : Entry). x.answers) c.entry.view_is))
+    c.decide_each.ensures

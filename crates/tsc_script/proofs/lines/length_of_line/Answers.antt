@@ -1,9 +1,9 @@
-use Rattle.std.proofs.Common.{length, ◌<◌, arith}
-use Rattle.std.proofs.lemmas.List.{take_more}
-use Rattle.tsc_script.proofs.Reading.{HasNoLineFeed-append}
+use Rattle.std.proofs.Common.{length}
+use Rattle.tsc_script.proofs.Reading.{no-line-feed}
 use Rattle.tsc_script.proofs.lines.length_of_line.Goals as goal
 
-pub loop-at-preserved : goal.loop-at-preserved
-loop-at-preserved c =
-    let lt : c.loop-at.at < length c.args.bytes.now = omega arith in
-    rw (take_more c.args.bytes.now c.loop-at.at 0 lt) (HasNoLineFeed-append _ _ c.loop-at.invariant (c.if-byte-eq10.false, tt))
+pub returns-in-Some-clause-plain : goal.returns-in-Some-clause-plain
+returns-in-Some-clause-plain c = no-line-feed c.args.bytes.now c.in-Some.at (rw c.in-Some.is at c.memchr.ensures).0.before
+
+pub returns-in-None-clause-plain : goal.returns-in-None-clause-plain
+returns-in-None-clause-plain c = no-line-feed c.args.bytes.now (length c.args.bytes.now) (rw c.in-None.is at c.memchr.ensures)

@@ -13,7 +13,7 @@ use Rattle.otlp_types.specs.contracts.arrival.Shipment as shipment
 use Rattle.span_sink.proofs.line_sink.LineSink.TheSendSync as lines
 use Rattle.std.proofs.Crossing.{crosses}
 use Rattle.worker_tests.proofs.Sent.{item_send, shipment_send}
-use Rattle.worker_tests.proofs.ShardSent.{shard_send, batch_send}
+use Rattle.worker_tests.proofs.ShardSent.{shard_send, limiter_send, batch_send}
 use Rattle.worker_tests.proofs.jobs.at_once.Goals as goal
 use Rattle.worker_tests.proofs.memory_sink.MemorySink.TheSendSync as sink
 use Rattle.worker_tests.proofs.spans.Traces.TheSendSync as traces
@@ -36,7 +36,7 @@ module _ (C : RattleType) (g : Ghosts C.Denot) where
   pop_shipment = pop.the_send shipment.the_row C g shipment_send
 
   start_send : IsSend (start.the_row C g)
-  start_send = search (sendable, push_shipment, pop_item, shard_send) depth 30
+  start_send = search (sendable, push_shipment, pop_item, shard_send, limiter_send) depth 30
 
   export_send : IsSend (export.the_row C g)
   export_send = search (sendable, crosses, pop_shipment, batch_send, lines.the_send, sink.the_send) depth 30

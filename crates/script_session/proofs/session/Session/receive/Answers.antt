@@ -33,7 +33,7 @@ returns-clause-plays g c = λ s w are.
     let taken : Export = (c.take_received.new.exporter, c.take_received.new.report) in
     let rounds = rounds_of c.is_received.result after in
     let empty = ap (λ v. v.items) c.replace-queues.ensures.value ∙ self.empty ∙ ap (empty_queues self.queue_capacity) (released-length self.shards.items w.journals are.released_all) in
-    let r = receives s _ w c.args.number c.args.moment c.args.body.now self.connections later _ after reply self.shards.items c.take_received.new.shards.items self.exporter noted self.report counted
+    let r = receives s _ w c.args.number c.args.moment c.args.body.now self.connections later _ after reply self.shards.items c.take_received.new.shards.items self.limiter c.take_received.new.limiter self.exporter noted self.report counted
     taken (c.send.new.exporter, c.send.new.report) self.closed rounds are empty c.submit-reply.ensures.submits
     (λ e. ap (λ b. rounds_of b after) (c.is_received.ensures ∙ e)) (λ e. ap (λ b. rounds_of b after) (c.is_received.ensures ∙ e)) c.hand_reply.ensures.written c.count_received.ensures
     c.hand_reply.ensures.size (ap length c.hand_reply.ensures.batch ∙ self.sent) c.take_received.ensures.takes (c.take_received.ensures.settings s are.settings_are) c.take_received.ensures.room c.send.ensures.sent in

@@ -1,9 +1,5 @@
-use Rattle.std.proofs.Common.{List, sym, ap, ◌∙◌, map, []}
-use Rattle.policy_tree.specs.declared.policy.Policy.{Policy}
-use Rattle.policy_tree.specs.Tree.{limiters}
-use Rattle.policy_tree.specs.Meaning.{meaning}
-use Rattle.rate_budget.specs.Budget.{limiter_of, limiter_counts}
-use Rattle.rate_budget.specs.BudgetLaws.{limits-of-counts}
+use Rattle.std.proofs.Common.{ap}
+use Rattle.shard_core.specs.Forgotten.{have_spans}
 use Rattle.trace_buffer.specs.Buffer.{Buffer}
 use Rattle.decision_cache.specs.Lists.{CacheLists}
 use Rattle.shard_core.proofs.Forgetting.{new_keeps}
@@ -12,16 +8,14 @@ use Rattle.shard_core.proofs.shard.Shard.new.Goals as goal
 
 pub returns-clause-stands : goal.returns-clause-stands
 returns-clause-stands c =
-    let counts = c.budgets.view_is ∙ c.in_ok-budgets.ensures ∙ ap (λ (ps : List Policy). limiter_counts (meaning ps) []) (sym c.policies.view_is) in
     let cache = c.in_ok-new-2.ensures.empty in
-    new_stands c.policies.inside.list.items c.args.wait c.args.root_wait c.args.senders c.in_ok-new.field-0 c.in_ok-new-2.field-0 c.budgets.inside.counts.items c.in_ok-vec.field-0.items (ap (λ (b : Buffer). b.episodes) c.in_ok-new.ensures)
-    (ap (λ (l : CacheLists). l.sampled.traces) cache) (ap (λ (l : CacheLists). l.not_sampled.traces) cache) counts (c.in_ok-vec.ensures.items_if_clones_equal (λ y e. e))
+    new_stands c.args.policies c.args.wait c.args.root_wait c.args.senders c.in_ok-new.field-0 c.in_ok-new-2.field-0 c.in_ok-vec.field-0.items (ap (λ (b : Buffer). b.episodes) c.in_ok-new.ensures)
+    (ap (λ (l : CacheLists). l.sampled.traces) cache) (ap (λ (l : CacheLists). l.not_sampled.traces) cache) (c.in_ok-vec.ensures.items_if_clones_equal (λ y e. e))
 
 pub returns-clause-running : goal.returns-clause-running
 returns-clause-running c = new_runs c.args.senders c.in_ok-vec.field-0.items (c.in_ok-vec.ensures.items_if_clones_equal (λ y e. e)) c.requires.has_senders
 
-pub invariant_of-result-2 : goal.invariant_of-result-2
-invariant_of-result-2 c =
-    let counts = c.budgets.view_is ∙ c.in_ok-budgets.ensures ∙ ap (λ (ps : List Policy). limiter_counts (meaning ps) []) (sym c.policies.view_is) in
+pub invariant_of-result : goal.invariant_of-result
+invariant_of-result c =
     let k = new_keeps c.in_ok-new.field-0 c.in_ok-new-2.field-0 c.args.limit c.in_ok-new.ensures c.requires.keeps_a_trace in
-    (c.requires.waits, k.0, ap (map limiter_of) counts ∙ limits-of-counts (limiters (meaning c.policies.inside.list.items)) [], k.1, k.2)
+    (c.requires.waits, k.0, ap (λ (b : Buffer). have_spans b.episodes) c.in_ok-new.ensures, k.1, k.2)

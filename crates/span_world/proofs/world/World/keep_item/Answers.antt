@@ -1,4 +1,5 @@
-use Rattle.std.proofs.Common.{◌<◌, false, length, refl, ap, sym, subst, ◌∙◌}
+use Rattle.std.proofs.Common.{Bool, List, [], ◌<◌, false, length, refl, ap, sym, subst, ◌∙◌}
+use Rattle.shard_core.specs.Journal.{Entry}
 use Rattle.shard_journal.specs.Settings.{settings_of}
 use Rattle.span_world.specs.World.{Shard, settings_for}
 use Rattle.span_world.specs.Step.{after_taking}
@@ -29,7 +30,10 @@ returns c =
     rw (← c.self.view_is) (
       refl,
       λ sh g.
-          let kept = kept_is (config_of (the_view c.self.inside).config) (the_view c.self.inside).world c.args.shard c.index_mut.result.now (record { item = c.args.item; refused = false; lost = false }) c.index_mut.result.now.queue (settings_of c.self.inside.settings) c.keep_entry.new.self c.keep_entry.new.counted.items
+          let made = λ (given : List (List Bool)). (let x : Entry = record { item = c.args.item; refused = false; lost = false; answers = given } in x) in
+          let kept = kept_is (config_of (the_view c.self.inside).config) (the_view c.self.inside).world c.args.shard c.index_mut.result.now (made c.new.result.items) c.index_mut.result.now.queue (settings_of c.self.inside.settings) c.keep_entry.new.self c.keep_entry.new.counted.items
           (ap (settings_for (config_of (the_view c.self.inside).config)) c.self.invariant.0) (on_ok c.keep_entry.result done c.keep_entry.ensures.shard) (on_ok c.keep_entry.result done c.keep_entry.ensures.counted) in
-          kept ∙ ap (λ (x : Shard). after_taking (config_of (the_view c.self.inside).config) (the_view c.self.inside).world c.args.shard x (record { item = c.args.item; refused = false; lost = false }) x.queue) (reads_same c.self.inside.shards.items c.args.shard c.index_mut.result.now sh m g),
+          kept
+          ∙ ap (λ (x : Entry). after_taking (config_of (the_view c.self.inside).config) (the_view c.self.inside).world c.args.shard c.index_mut.result.now x c.index_mut.result.now.queue) (ap made c.new.ensures.items)
+          ∙ ap (λ (x : Shard). after_taking (config_of (the_view c.self.inside).config) (the_view c.self.inside).world c.args.shard x (record { item = c.args.item; refused = false; lost = false; answers = [] }) x.queue) (reads_same c.self.inside.shards.items c.args.shard c.index_mut.result.now sh m g),
     )

@@ -1,4 +1,4 @@
-use Rattle.std.proofs.Common.{◌≡◌, ap, refl, sym, arith}
+use Rattle.std.proofs.Common.{ap, refl, arith}
 use Rattle.shard_journal.specs.Settings.{settings_of}
 use Rattle.span_world.specs.World.{Shard}
 use Rattle.span_world.proofs.Routing.{read_is}

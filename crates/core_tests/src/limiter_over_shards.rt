@@ -1,0 +1,137 @@
+//! Two shards to which one limiter is lent.
+ghost use Rattle.std.specs.Prelude.{◌≡◌, true};
+ghost use Rattle.policy_tree.specs.Tree.{limiters};
+ghost use Rattle.policy_tree.specs.Meaning.{meaning};
+ghost use Rattle.policy_eval.specs.Meaning.{knows};
+ghost use Rattle.rate_budget.specs.Budget.{has_node};
+ghost use Rattle.shard_core.specs.Taking.{has_ids};
+
+use crate::shards::{ids_of, span_with};
+use crate::spans::policies_of;
+use otlp_types::{Item, TryClone};
+use policy_tree::PolicyKind;
+use rate_budget::Budgets;
+use shard_core::{Decided, Shard, Taken};
+use std::alloc::Global;
+use std::process::Abort;
+use std::test::Fail;
+
+/// Two shards of one sender, with a wait of ten seconds, and the one limiter of both.
+#[derive(Drop)]
+struct TwoShards {
+    first: Shard,
+    second: Shard,
+    limiter: Budgets,
+    ghost of_first: { knows (has_node limiter) (limiters (meaning first.policies)) ≡ true },
+    ghost of_second: { knows (has_node limiter) (limiters (meaning second.policies)) ≡ true },
+}
+
+/// One of the two.
+#[derive(Clone, Copy)]
+enum Which {
+    First,
+    Second,
+}
+
+impl TwoShards {
+    /// Shards that let through so many spans per second, both together.
+    fn new(alloc: Global, spans_per_second: u64) -> Result<TwoShards, Fail> {
+        let policies = policies_of(alloc, PolicyKind::RateLimiting { spans_per_second })?;
+        let copy = policies.try_clone(alloc)?;
+        let limiter = Budgets::new(alloc, &policies)?;
+        let first = Shard::new(alloc, policies, 10_000, 0, 100, 0, 0, 1)?;
+        let second = Shard::new(alloc, copy, 10_000, 0, 100, 0, 0, 1)?;
+        Ok(TwoShards {
+            first,
+            second,
+            limiter,
+        })
+    }
+
+    /// The shard takes an item.
+    fn take(&mut self, rt: &impl Abort, which: Which, item: Item)
+        requires { has_ids item ≡ true }
+    {
+        match which {
+            Which::First => take(rt, &mut self.first, item),
+            Which::Second => take(rt, &mut self.second, item),
+        }
+    }
+
+    /// The shard decides once: the number of spans released, or of those that are not.
+    fn decide(&mut self, which: Which) -> Result<usize, u64> {
+        let decided = match which {
+            Which::First => self.first.decide(&mut self.limiter),
+            Which::Second => self.second.decide(&mut self.limiter),
+        };
+        match decided {
+            Decided::Release(spans) => Ok(spans.len()),
+            Decided::Dropped(count) => Err(count),
+            Decided::Nothing => Err(0),
+        }
+    }
+}
+
+/// The shard takes an item, which it keeps, or which moves its clock.
+fn take(rt: &impl Abort, shard: &mut Shard, item: Item)
+    requires { has_ids item ≡ true }
+    ensures { shard.new.policies ≡ shard.old.policies }
+{
+    assert!(rt; !shard.has_due());
+    assert!(rt; !shard.finished());
+    let taken = shard.take(item);
+    assert!(rt; matches!(taken, Taken::Kept { .. } | Taken::Ticked));
+}
+
+const TRACES: [&str; 5] = [
+    "5b8efff798038103d269b633813fc60a",
+    "5b8efff798038103d269b633813fc60b",
+    "5b8efff798038103d269b633813fc60c",
+    "5b8efff798038103d269b633813fc60d",
+    "5b8efff798038103d269b633813fc60e",
+];
+
+#[test]
+fn one_limiter_for_two_shards(rt: HostRuntime) -> Result<(), Fail> {
+    let alloc = rt.alloc();
+    let mut shards = TwoShards::new(alloc, 3)?;
+    for (which, trace, number, moment) in [
+        (Which::First, 0, 0, 0),
+        (Which::First, 0, 1, 0),
+        (Which::Second, 1, 2, 0),
+        (Which::Second, 1, 3, 0),
+        (Which::Second, 2, 4, 0),
+        (Which::Second, 3, 5, 1000),
+        (Which::Second, 3, 6, 1000),
+        (Which::Second, 3, 7, 1000),
+        (Which::First, 4, 8, 1000),
+    ] {
+        let trace = TRACES.get(trace).copied().unwrap_or("");
+        let span = span_with(alloc, ids_of(&rt, trace, true), number, moment, 0, 0)?;
+        shards.take(&rt, which, span);
+    }
+    for which in [Which::First, Which::Second] {
+        shards.take(&rt, which, Item::Tick(10_000));
+    }
+    for (which, decided) in [
+        (Which::First, Ok(2)),
+        (Which::First, Err(0)),
+        (Which::Second, Err(2)),
+        (Which::Second, Ok(1)),
+        (Which::Second, Err(0)),
+    ] {
+        assert_eq!(&rt; shards.decide(which), decided);
+    }
+    for which in [Which::First, Which::Second] {
+        shards.take(&rt, which, Item::Tick(11_000));
+    }
+    for (which, decided) in [
+        (Which::Second, Ok(3)),
+        (Which::Second, Err(0)),
+        (Which::First, Err(1)),
+        (Which::First, Err(0)),
+    ] {
+        assert_eq!(&rt; shards.decide(which), decided);
+    }
+    Ok(())
+}

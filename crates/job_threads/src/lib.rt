@@ -1,0 +1,16 @@
+//! Jobs on threads of their own: all are started, or none does anything; and what each did is known once it is joined.
+//!
+//! [`start_all`] starts a thread for each [`Job`] in a scope. Each waits for one start word, and runs its job where that says
+//! yes. [`join_all`] gives what the jobs left, in their order, once the word has said yes.
+#![tactic(auto)]
+
+mod job;
+mod joining;
+mod starting;
+#[cfg(test)]
+mod tests;
+mod word;
+
+pub use job::{Done, Job, Works};
+pub use joining::{join, join_all};
+pub use starting::{Handle, start, start_all};

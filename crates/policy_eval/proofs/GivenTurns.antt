@@ -1,0 +1,112 @@
+-- The walk over the parts of an `and` and over the top policies, where a list of answers is given.
+-- For the clauses of `verdict_and_askings` and of `answer_given`.
+use Rattle.std.proofs.Common.{◌≡◌, ℕ, ◌+◌, ◌≤◌, Bool, true, false, List, ◌++◌, length, drop, refl, sym, ap, subst, ◌∙◌, arith, append-nil, length-append}
+use Rattle.std.proofs.lemmas.List.{drop-drop}
+use Rattle.policy_tree.specs.Tree.{Policy, and_policy, Policies, no_more, one_more, nodes, nodes_in}
+use Rattle.policy_eval.specs.Policies as spec
+use Rattle.policy_eval.specs.Given.{answer_given, each_samples_given, left_by, nodes_asked, nodes_asked_in_turn, answers_given, nodes_asked_at_top, verdict_given, asked_given}
+use Rattle.policy_eval.specs.GivenLaws.{left-drops, asks-few}
+use Rattle.otlp_types.specs.declared.arrival.Arrival.{Arrival}
+use Rattle.policy_eval.specs.Meaning.{answer_of, is_for, none_seen, seen_with, verdict_of_seen}
+use Rattle.policy_eval.specs.declared.answer.Seen.{Seen}
+use Rattle.policy_eval.specs.declared.answer.Answer.{Answer}
+use Rattle.policy_eval.specs.declared.answer.Answer.TheVariants.{Sample, NotSample}
+use Rattle.policy_eval.proofs.Verdicts.{Tells, tells-more, tells-all}
+use Rattle.policy_eval.proofs.Turns.{samples-is}
+
+module _ (bs : List Bool) (spans : List Arrival) where
+  -- what is known of one policy, before which so many answers were given, and with which so many are
+  pub record Taken (p : Policy) (before behind : ℕ) (a : Answer) : Type 0 where
+    pub answer : a ≡ answer_of (answer_given p (drop before bs) spans)
+    pub asked : (node : ℕ) → behind ≡ before + length (nodes_asked p node (drop before bs) spans)
+
+  -- what is left behind it
+  taken-left : (p : Policy) (before behind : ℕ) (a : Answer) → Taken p before behind a → left_by p (drop before bs) spans ≡ drop behind bs
+  taken-left p before behind a k = left-drops p 0 (drop before bs) spans ∙ drop-drop (length (nodes_asked p 0 (drop before bs) spans)) before bs ∙ ap (λ n. drop n bs) (sym (k.asked 0))
+
+  taken-few : (p : Policy) (before behind : ℕ) (a : Answer) → Taken p before behind a → behind ≤ before + nodes p
+  taken-few p before behind a k = let few = asks-few p 0 (drop before bs) spans in let e = k.asked 0 in omega (arith, few, e)
+
+  -- the parts `rest` of an `and` are still to be asked
+  pub record Part (policy : Policy) (before : ℕ) (rest : Policies) (next : ℕ) : Type 0 where
+    pub few : next + nodes_in rest ≤ 64
+    pub answers : answer_given policy (drop before bs) spans ≡ spec.plain (each_samples_given rest (drop next bs) spans)
+    pub asked : (node : ℕ) → (first : ℕ) × (before + length (nodes_asked policy node (drop before bs) spans) ≡ next + length (nodes_asked_in_turn rest first (drop next bs) spans))
+
+  pub part-first : (policy : Policy) (before : ℕ) (parts : Policies) → policy ≡ and_policy parts → before + nodes policy ≤ 64 → Part policy before parts before
+  part-first policy before parts e h = record {
+    few = let k : nodes policy ≡ nodes_in parts + 1 = ap nodes e in omega (arith, k, h);
+    answers = ap (λ p. answer_given p (drop before bs) spans) e;
+    asked = λ node. (node + 1, ap (λ p. before + length (nodes_asked p node (drop before bs) spans)) e);
+  }
+
+  pub part-more : (policy : Policy) (before : ℕ) (p : Policy) (rest : Policies) (next behind : ℕ) (a : Answer) → Part policy before (one_more p rest) next → Taken p next behind a → is_for a ≡ true → Part policy before rest behind
+  part-more policy before p rest next behind a w k h =
+      let yes : spec.samples (answer_given p (drop next bs) spans) ≡ true = sym (samples-is (answer_given p (drop next bs) spans)) ∙ sym (ap is_for k.answer) ∙ h in
+      let left = taken-left p next behind a k in
+      record {
+        few = let few = taken-few p next behind a k in let all = w.few in omega (arith, few, all);
+        answers = w.answers ∙ (let e : spec.plain (each_samples_given (one_more p rest) (drop next bs) spans) ≡ spec.plain (each_samples_given rest (drop behind bs) spans) = rw (yes, left) in e);
+        asked = λ node.
+            let was = w.asked node in
+            let more = nodes_asked_in_turn rest (was.0 + nodes p) (drop behind bs) spans in
+            let ns = nodes_asked p was.0 (drop next bs) spans in
+            let e : nodes_asked_in_turn (one_more p rest) was.0 (drop next bs) spans ≡ ns ++ more = rw (yes, left) in
+            let both = ap length e ∙ length-append ns more in
+            let here = k.asked was.0 in
+            (was.0 + nodes p, was.1 ∙ (let q : next + length (nodes_asked_in_turn (one_more p rest) was.0 (drop next bs) spans) ≡ behind + length more = omega (arith, both, here) in q));
+      }
+
+  pub part-stop : (policy : Policy) (before : ℕ) (p : Policy) (rest : Policies) (next behind : ℕ) (a : Answer) → Part policy before (one_more p rest) next → Taken p next behind a → is_for a ≡ false → Taken policy before behind NotSample
+  part-stop policy before p rest next behind a w k h =
+      let no : spec.samples (answer_given p (drop next bs) spans) ≡ false = sym (samples-is (answer_given p (drop next bs) spans)) ∙ sym (ap is_for k.answer) ∙ h in
+      record {
+        answer = let e : spec.plain (each_samples_given (one_more p rest) (drop next bs) spans) ≡ spec.not_sample = rw no in sym (ap answer_of (w.answers ∙ e));
+        asked = λ node.
+            let was = w.asked node in
+            let ns = nodes_asked p was.0 (drop next bs) spans in
+            let e : nodes_asked_in_turn (one_more p rest) was.0 (drop next bs) spans ≡ ns = rw no (append-nil ns) in
+            k.asked was.0 ∙ sym (was.1 ∙ ap (λ ms. next + length ms) e);
+      }
+
+  pub part-last : (policy : Policy) (before next : ℕ) → Part policy before no_more next → Taken policy before next Sample
+  part-last policy before next w = record {
+    answer = sym (ap answer_of w.answers);
+    asked = λ node. let e = (w.asked node).1 in omega (arith, e);
+  }
+
+  -- the policies `rest` are still to be asked
+  pub record AtTop (all rest : Policies) (next : ℕ) (seen : Seen) : Type 0 where
+    pub few : next + nodes_in rest ≤ 64
+    pub tells : Tells seen (answers_given rest (drop next bs) spans) (answers_given all bs spans)
+    pub asked : (first : ℕ) × (length (asked_given all bs spans) ≡ next + length (nodes_asked_at_top rest first (drop next bs) spans))
+
+  pub at_top-first : (all : Policies) → nodes_in all ≤ 64 → AtTop all all 0 none_seen
+  at_top-first all h = record {
+    few = omega (arith, h);
+    tells = record { sample = refl; not_sample = refl; inverted_sample = refl; inverted_not_sample = refl };
+    asked = (0, omega arith);
+  }
+
+  pub at_top-more : (all : Policies) (p : Policy) (rest : Policies) (next behind : ℕ) (seen : Seen) (a : Answer) → AtTop all (one_more p rest) next seen → Taken p next behind a → AtTop all rest behind (seen_with a seen)
+  at_top-more all p rest next behind seen a w k =
+      let left = taken-left p next behind a k in
+      let first = answer_given p (drop next bs) spans in
+      let told = tells-more seen first (answers_given rest (left_by p (drop next bs) spans) spans) (answers_given all bs spans) w.tells in
+      let P = λ (xs : List Bool). Tells (seen_with (answer_of first) seen) (answers_given rest xs spans) (answers_given all bs spans) in
+      let Q = λ (x : Answer). Tells (seen_with x seen) (answers_given rest (drop behind bs) spans) (answers_given all bs spans) in
+      let was = w.asked in
+      let more = nodes_asked_at_top rest (was.0 + nodes p) (drop behind bs) spans in
+      let ns = nodes_asked p was.0 (drop next bs) spans in
+      let e : nodes_asked_at_top (one_more p rest) was.0 (drop next bs) spans ≡ ns ++ more = rw left in
+      let both = ap length e ∙ length-append ns more in
+      let here = k.asked was.0 in
+      record {
+        few = let few = taken-few p next behind a k in let all = w.few in omega (arith, few, all);
+        tells = subst Q (sym k.answer) (subst P left told);
+        asked = (was.0 + nodes p, was.1 ∙ (let q : next + length (nodes_asked_at_top (one_more p rest) was.0 (drop next bs) spans) ≡ behind + length more = omega (arith, both, here) in q));
+      }
+
+  -- none is left
+  pub at_top-last : (all : Policies) (next : ℕ) (seen : Seen) → AtTop all no_more next seen → (verdict_of_seen seen ≡ verdict_given all bs spans) × (next ≡ length (asked_given all bs spans))
+  at_top-last all next seen w = (tells-all seen (answers_given all bs spans) w.tells, let was = w.asked.1 in omega (arith, was))

@@ -1,0 +1,104 @@
+-- The answer of a policy where a list of answers is given.
+-- For the clauses `answer` and `asked` of `answer_given`.
+use Rattle.std.proofs.Common.{◌≡◌, ℕ, zero, suc, ◌+◌, Bool, false, List, [], ◌∷◌, drop, get_or, Option, Some, None, Bor, rules, inl, inr, refl, sym, ap, subst, ◌∙◌, arith}
+use Rattle.std.specs.Option.{unwrap_or, option_map, option_copied}
+use Rattle.std.proofs.lemmas.Grind.{common_steps}
+use Rattle.policy_tree.specs.declared.policy.Policy.{Policy}
+use Rattle.policy_tree.specs.Tree.{Leaf, always_sample, latency, status_code, attribute, span_count, leaf, rate_limiting, and_policy, Policies, one_more}
+use Rattle.policy_tree.specs.Meaning.{meaning, policy_meaning, kind_meaning, wanted_of}
+use Rattle.policy_tree.specs.declared.policy.PolicyKind.TheFolds.{the_lemmas}
+use Rattle.policy_eval.specs.Policies.{plain}
+use Rattle.policy_eval.specs.Given.{answer_given, next_answer}
+use Rattle.policy_eval.specs.Meaning.{answer_of}
+use Rattle.policy_eval.proofs.Turns.{next_part}
+use Rattle.policy_eval.proofs.GivenTurns.{Taken, Part, part-first, part-more, part-stop, part-last}
+use Rattle.policy_eval.proofs.answer_list.+answer_given.Goals as goal
+
+copied-is : (o : Option (Bor Bool)) (d : Bool) → unwrap_or (option_copied o) d ≡ unwrap_or (option_map (λ (x : Bor Bool). x.now) o) d
+copied-is None d = refl
+copied-is (Some x) d = refl
+
+next-at : (bs : List Bool) (i : ℕ) → get_or bs i false ≡ next_answer (drop i bs)
+next-at [] zero = refl
+next-at [] (suc i) = refl
+next-at (b ∷ bs) zero = refl
+next-at (b ∷ bs) (suc i) = next-at bs i
+
+pub loop-part-init : goal.loop-part-init
+loop-part-init t c =
+    let parts = meaning c.as_slice-part-items.result.now in
+    let whole : policy_meaning c.args.policy.now ≡ and_policy parts = let is = c.in-And.is in let items = c.as_slice-part-items.ensures in search (rules, the_lemmas) in
+    part-first c.args.answers.now c.args.spans.now (policy_meaning c.args.policy.now) c.args.asked parts whole c.requires
+
+pub loop-part-preserved : goal.loop-part-preserved
+loop-part-preserved t c =
+    let items = c.as_slice-part-items.result.now in
+    let i = c.loop-part.part-index in
+    let p = c.part-item.result in
+    let bs = c.args.answers.now in
+    let spans = c.args.spans.now in
+    let whole = policy_meaning c.args.policy.now in
+    let next = c.loop-part.next in
+    let rest = meaning (drop (i + 1) items) in
+    let T = λ (r : Policies). Part bs spans whole c.args.asked r next in
+    let here : T (one_more (policy_meaning p) rest) = subst T (next_part items i p c.loop-part-test.true c.part-item.is) c.loop-part.invariant in
+    let taken : Taken bs spans (policy_meaning p) next c.answer_given-given.result.1 c.answer_given-given.result.0 = record { answer = c.answer_given-given.ensures.answer; asked = c.answer_given-given.ensures.asked } in
+    part-more bs spans whole c.args.asked (policy_meaning p) rest next c.answer_given-given.result.1 c.answer_given-given.result.0 here taken (sym c.samples.ensures ∙ c.if-not-samples.false)
+
+pub returns-then-not-samples : goal.returns-then-not-samples
+returns-then-not-samples t c =
+    let items = c.as_slice-part-items.result.now in
+    let i = c.loop-part.part-index in
+    let p = c.part-item.result in
+    let bs = c.args.answers.now in
+    let spans = c.args.spans.now in
+    let whole = policy_meaning c.args.policy.now in
+    let next = c.loop-part.next in
+    let rest = meaning (drop (i + 1) items) in
+    let T = λ (r : Policies). Part bs spans whole c.args.asked r next in
+    let here : T (one_more (policy_meaning p) rest) = subst T (next_part items i p c.loop-part-test.true c.part-item.is) c.loop-part.invariant in
+    let taken : Taken bs spans (policy_meaning p) next c.answer_given-given.result.1 c.answer_given-given.result.0 = record { answer = c.answer_given-given.ensures.answer; asked = c.answer_given-given.ensures.asked } in
+    let stop = part-stop bs spans whole c.args.asked (policy_meaning p) rest next c.answer_given-given.result.1 c.answer_given-given.result.0 here taken (sym c.samples.ensures ∙ c.if-not-samples.true) in
+    record { answer = stop.answer; asked = stop.asked }
+
+pub returns-after-loop-part : goal.returns-after-loop-part
+returns-after-loop-part t c =
+    let items = c.as_slice-part-items.result.now in
+    let bs = c.args.answers.now in
+    let spans = c.args.spans.now in
+    let whole = policy_meaning c.args.policy.now in
+    let T = λ (ps : List Policy). Part bs spans whole c.args.asked (meaning ps) c.loop-part.next in
+    let none : drop c.loop-part.part-index items ≡ [] = grind (arith, common_steps) in
+    let last = part-last bs spans whole c.args.asked c.loop-part.next (subst T none c.loop-part.invariant) in
+    record { answer = last.answer; asked = last.asked }
+
+pub returns-in-RateLimiting-clause-answer : goal.returns-in-RateLimiting-clause-answer
+returns-in-RateLimiting-clause-answer t c =
+    let left = drop c.args.asked c.args.answers.now in
+    let spans = c.args.spans.now in
+    let limit = c.in-RateLimiting.spans_per_second in
+    let kind : policy_meaning c.args.policy.now ≡ rate_limiting limit = let is = c.in-RateLimiting.is in search (rules, the_lemmas) in
+    let got : unwrap_or (option_copied c.get.result) false ≡ get_or c.args.answers.now c.args.asked false = copied-is c.get.result false ∙ c.get.ensures.lookup.4 (omega arith) false in
+    let granted : c.unwrap_or-granted.result ≡ next_answer left = c.unwrap_or-granted.ensures ∙ ap (λ o. unwrap_or o false) c.copied.ensures ∙ got ∙ next-at c.args.answers.now c.args.asked in
+    c.plain.ensures ∙ ap (λ b. answer_of (plain b)) granted ∙ ap (λ p. answer_of (answer_given p left spans)) (sym kind)
+
+pub returns-in-AlwaysSample-clause-answer : goal.returns-in-AlwaysSample-clause-answer
+returns-in-AlwaysSample-clause-answer t c =
+    let policy = c.args.policy.now in
+    let left = drop c.args.asked c.args.answers.now in
+    let spans = c.args.spans.now in
+    let leaf_of : (l : Leaf) → kind_meaning policy.kind ≡ leaf l → policy_meaning policy ≡ leaf l → c.leaf_answer.result ≡ answer_of (answer_given (policy_meaning policy) left spans)
+    = λ l kind whole. c.leaf_answer.ensures l kind ∙ ap (λ p. answer_of (answer_given p left spans)) (sym whole) in
+    elim c.in-AlwaysSample.is [
+      | inl h ↦ leaf_of always_sample (search (rules, the_lemmas)) (search (rules, the_lemmas))
+      | inr others ↦ elim others [
+        | inl h ↦ let is = h.2 in leaf_of (latency h.0 h.1) (search (rules, the_lemmas)) (search (rules, the_lemmas))
+        | inr more ↦ elim more [
+          | inl h ↦ let is = h.1 in leaf_of (status_code h.0) (search (rules, the_lemmas)) (search (rules, the_lemmas))
+          | inr rest ↦ elim rest [
+            | inl h ↦ let is = h.3 in leaf_of (attribute h.0 (wanted_of h.1) h.2) (search (rules, the_lemmas)) (search (rules, the_lemmas))
+            | inr h ↦ let is = h.2 in leaf_of (span_count h.0 h.1) (search (rules, the_lemmas)) (search (rules, the_lemmas))
+          ]
+        ]
+      ]
+    ]

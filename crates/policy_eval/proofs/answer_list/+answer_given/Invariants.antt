@@ -1,0 +1,10 @@
+use Rattle.std.proofs.Common.{drop}
+use Rattle.policy_tree.specs.Meaning.{meaning, policy_meaning}
+use Rattle.policy_eval.proofs.GivenTurns.{Part}
+use Rattle.policy_eval.proofs.answer_list.+answer_given.Given as goal
+
+abbrev pub decreases-answer_given : goal.decreases-answer_given
+decreases-answer_given l = goal.size-answer_given l
+
+abbrev pub invariant-loop-part : goal.invariant-loop-part
+invariant-loop-part l = Part l.answers l.spans (policy_meaning l.policy) l.asked (meaning (drop l.part-index l.part-items)) l.next

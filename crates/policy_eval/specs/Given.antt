@@ -1,0 +1,91 @@
+-- What policies mean where their askings get a list of answers in turn: the first asking gets the first answer.
+use Rattle.std.specs.Prelude.{◌≡◌, ℕ, ◌+◌, Bool, true, false, ◌&&◌, ◌==◌, if◌then◌else◌, List, [], ◌∷◌, ◌++◌, length}
+use Rattle.policy_tree.specs.Tree.{Policy, leaf, rate_limiting, and_policy, Policies, no_more, one_more, nodes}
+use Rattle.otlp_types.specs.declared.arrival.Arrival.{Arrival}
+use Rattle.span_ids.specs.declared.outcome.Verdict.{Verdict}
+use Rattle.policy_eval.specs.Policies.{Answer, plain, leaf_answer, samples, verdict_of_answers}
+
+-- the answer that the next asking gets: a missing one is a refusal
+abbrev pub next_answer : (answers : List Bool) → Bool
+next_answer [] = false
+next_answer (granted ∷ later) = granted
+
+-- the answers behind it
+abbrev pub later_answers : (answers : List Bool) → List Bool
+later_answers [] = []
+later_answers (granted ∷ later) = later
+
+-- ---- a policy, and the parts of an `and`
+
+abbrev mutual
+  -- what the policy answers where its askings get these answers in turn
+  pub answer_given : Policy → (answers : List Bool) → List Arrival → Answer
+  answer_given (leaf l) answers spans = leaf_answer l spans
+  answer_given (rate_limiting limit) answers spans = plain (next_answer answers)
+  answer_given (and_policy parts) answers spans = plain (each_samples_given parts answers spans)
+
+  -- every part answers sample or inverted sample
+  pub each_samples_given : Policies → (answers : List Bool) → List Arrival → Bool
+  each_samples_given no_more answers spans = true
+  each_samples_given (one_more p rest) answers spans = samples (answer_given p answers spans) && each_samples_given rest (left_by p answers spans) spans
+
+  -- the answers that the policy's askings leave
+  pub left_by : Policy → (answers : List Bool) → List Arrival → List Bool
+  left_by (leaf l) answers spans = answers
+  left_by (rate_limiting limit) answers spans = later_answers answers
+  left_by (and_policy parts) answers spans = left_by_parts parts answers spans
+
+  -- those that the parts of an `and` leave: no further one is asked once one doesn't sample
+  pub left_by_parts : Policies → (answers : List Bool) → List Arrival → List Bool
+  left_by_parts no_more answers spans = answers
+  left_by_parts (one_more p rest) answers spans = if samples (answer_given p answers spans) then left_by_parts rest (left_by p answers spans) spans else left_by p answers spans
+
+abbrev mutual
+  -- the limiter nodes that the policy with this number asks
+  pub nodes_asked : Policy → (node : ℕ) → (answers : List Bool) → List Arrival → List ℕ
+  nodes_asked (leaf l) node answers spans = []
+  nodes_asked (rate_limiting limit) node answers spans = node ∷ []
+  nodes_asked (and_policy parts) node answers spans = nodes_asked_in_turn parts (node + 1) answers spans
+
+  -- those that the parts of an `and` ask
+  pub nodes_asked_in_turn : Policies → (node : ℕ) → (answers : List Bool) → List Arrival → List ℕ
+  nodes_asked_in_turn no_more node answers spans = []
+  nodes_asked_in_turn (one_more p rest) node answers spans = nodes_asked p node answers spans ++ (if samples (answer_given p answers spans) then nodes_asked_in_turn rest (node + nodes p) (left_by p answers spans) spans else [])
+
+-- ---- the top policies: each is asked, in order
+
+-- their answers, in order
+abbrev pub answers_given : Policies → (answers : List Bool) → List Arrival → List Answer
+answers_given no_more answers spans = []
+answers_given (one_more p rest) answers spans = answer_given p answers spans ∷ answers_given rest (left_by p answers spans) spans
+
+-- the limiter nodes that they ask, in the walk's order
+abbrev pub nodes_asked_at_top : Policies → (node : ℕ) → (answers : List Bool) → List Arrival → List ℕ
+nodes_asked_at_top no_more node answers spans = []
+nodes_asked_at_top (one_more p rest) node answers spans = nodes_asked p node answers spans ++ nodes_asked_at_top rest (node + nodes p) (left_by p answers spans) spans
+
+-- the verdict of the policies on these spans, where the askings get these answers in turn
+abbrev pub verdict_given : Policies → (answers : List Bool) → List Arrival → Verdict
+verdict_given policies answers spans = verdict_of_answers (answers_given policies answers spans)
+
+-- the limiter nodes that such a decision asks, in the walk's order
+abbrev pub asked_given : Policies → (answers : List Bool) → List Arrival → List ℕ
+asked_given policies answers spans = nodes_asked_at_top policies 0 answers spans
+
+-- there is one answer for each asking
+abbrev pub are_answered : Policies → (answers : List Bool) → List Arrival → Bool
+are_answered policies answers spans = length (asked_given policies answers spans) == length answers
+
+-- ---- a limiter that is asked
+
+-- asked at these nodes in turn, in this second and each time for so many spans, a limiter gave these answers, and went from one state to the other
+abbrev pub Asked : {S : Type 0} → (asks : S → ℕ → ℕ → ℕ → Bool → S → Type 0) → (second spans : ℕ) → (nodes : List ℕ) → (answers : List Bool) → (old new : S) → Type 0
+Asked asks second spans [] [] old new = new ≡ old
+Asked {S} asks second spans (node ∷ nodes) (granted ∷ answers) old new = (between : S) × asks old node second spans granted between × Asked asks second spans nodes answers between new
+Asked asks second spans _ _ old new = ⊥
+
+-- the verdict is that of the policies with the limiter's answers to just their askings
+abbrev pub Evaluates : {S : Type 0} → (asks : S → ℕ → ℕ → ℕ → Bool → S → Type 0) → Policies → (second : ℕ) → List Arrival → Verdict → (old new : S) → Type 0
+Evaluates asks policies second spans verdict old new =
+    (answers : List Bool) × (verdict ≡ verdict_given policies answers spans) × (are_answered policies answers spans ≡ true)
+    × Asked asks second (length spans) (asked_given policies answers spans) answers old new

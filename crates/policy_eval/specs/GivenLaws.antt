@@ -1,0 +1,251 @@
+-- Answers in turn, and answers by the node: a limiter that answers by the node gives a list of answers, and such a list is some such limiter's.
+use Rattle.std.proofs.Common.{◌≡◌, ℕ, ◌+◌, ◌≤◌, ◌<◌, ◌==◌, Bool, true, false, ◌&&◌, cond, List, [], ◌∷◌, ◌++◌, map, length, drop, refl, sym, ap, subst, ◌∙◌, arith, append-nil, append_assoc, length-append}
+use Rattle.std.proofs.lemmas.Bool.Decides.{nat_tests}
+use Rattle.std.proofs.lemmas.List.{map-append, drop-drop, length-map}
+use Rattle.policy_tree.specs.Tree.{Policy, leaf, rate_limiting, and_policy, Policies, no_more, one_more, nodes, nodes_in}
+use Rattle.rate_budget.specs.Rising.{Rises, rises-lower, rises-upper, rises-append}
+use Rattle.otlp_types.specs.declared.arrival.Arrival.{Arrival}
+use Rattle.policy_eval.specs.Policies as spec
+use Rattle.policy_eval.specs.Given.{next_answer, later_answers, answer_given, each_samples_given, left_by, left_by_parts, nodes_asked, nodes_asked_in_turn, answers_given, nodes_asked_at_top, verdict_given, asked_given, are_answered}
+
+-- ---- how many answers a policy takes
+
+later-drop : (bs : List Bool) → later_answers bs ≡ drop 1 bs
+later-drop [] = refl
+later-drop (b ∷ bs) = refl
+
+mutual
+  -- the answers that are left are those behind the policy's own
+  pub left-drops : (p : Policy) (node : ℕ) (bs : List Bool) (spans : List Arrival) → left_by p bs spans ≡ drop (length (nodes_asked p node bs spans)) bs
+  left-drops (leaf l) node bs spans = refl
+  left-drops (rate_limiting limit) node bs spans = later-drop bs
+  left-drops (and_policy parts) node bs spans = parts-drop parts (node + 1) bs spans
+
+  parts-drop : (ps : Policies) (node : ℕ) (bs : List Bool) (spans : List Arrival) → left_by_parts ps bs spans ≡ drop (length (nodes_asked_in_turn ps node bs spans)) bs
+  parts-drop no_more node bs spans = refl
+  parts-drop (one_more p rest) node bs spans =
+      let ns = nodes_asked p node bs spans in
+      let more = nodes_asked_in_turn rest (node + nodes p) (left_by p bs spans) spans in
+      let first = left-drops p node bs spans in
+      let others = parts-drop rest (node + nodes p) (left_by p bs spans) spans in
+      (elim (spec.samples (answer_given p bs spans)) as (λ b. cond b (left_by_parts rest (left_by p bs spans) spans) (left_by p bs spans) ≡ drop (length (ns ++ cond b more [])) bs) [
+        | true ↦ others ∙ ap (drop (length more)) first ∙ drop-drop (length more) (length ns) bs ∙ ap (λ k. drop k bs) (sym (length-append ns more))
+        | false ↦ first ∙ ap (λ ms. drop (length ms) bs) (sym (append-nil ns))
+      ])
+
+mutual
+  -- a policy asks no more limiter nodes than it has nodes
+  pub asks-few : (p : Policy) (node : ℕ) (bs : List Bool) (spans : List Arrival) → length (nodes_asked p node bs spans) ≤ nodes p
+  asks-few (leaf l) node bs spans = omega arith
+  asks-few (rate_limiting limit) node bs spans = omega arith
+  asks-few (and_policy parts) node bs spans = let k = parts-few parts (node + 1) bs spans in omega (arith, k)
+
+  parts-few : (ps : Policies) (node : ℕ) (bs : List Bool) (spans : List Arrival) → length (nodes_asked_in_turn ps node bs spans) ≤ nodes_in ps
+  parts-few no_more node bs spans = omega arith
+  parts-few (one_more p rest) node bs spans =
+      let ns = nodes_asked p node bs spans in
+      let more = nodes_asked_in_turn rest (node + nodes p) (left_by p bs spans) spans in
+      let first = asks-few p node bs spans in
+      let others = parts-few rest (node + nodes p) (left_by p bs spans) spans in
+      (elim (spec.samples (answer_given p bs spans)) as (λ b. length (ns ++ cond b more []) ≤ nodes p + nodes_in rest) [
+        | true ↦ let e = length-append ns more in omega (arith, e, first, others)
+        | false ↦ let e = ap length (append-nil ns) in omega (arith, e, first)
+      ])
+
+-- ---- the nodes that are asked rise, so that each is asked at most once
+
+-- none, or these
+rises-if : (b : Bool) (a c : ℕ) (ns : List ℕ) → a ≤ c → Rises a c ns → Rises a c (cond b ns [])
+rises-if true a c ns h r = r
+rises-if false a c ns h r = h
+
+mutual
+  -- the nodes that a policy asks rise
+  asked-rise : (p : Policy) (node : ℕ) (bs : List Bool) (spans : List Arrival) → Rises node (node + nodes p) (nodes_asked p node bs spans)
+  asked-rise (leaf l) node bs spans = omega arith
+  asked-rise (rate_limiting limit) node bs spans = (omega arith, omega arith)
+  asked-rise (and_policy parts) node bs spans =
+      let ns = nodes_asked_in_turn parts (node + 1) bs spans in
+      let low = rises-lower node (node + 1) (node + 1 + nodes_in parts) ns (omega arith) (parts-rise parts (node + 1) bs spans) in
+      rises-upper node (node + 1 + nodes_in parts) (node + (nodes_in parts + 1)) ns (omega arith) low
+
+  -- and so do those that the parts of an `and` ask
+  parts-rise : (ps : Policies) (node : ℕ) (bs : List Bool) (spans : List Arrival) → Rises node (node + nodes_in ps) (nodes_asked_in_turn ps node bs spans)
+  parts-rise no_more node bs spans = omega arith
+  parts-rise (one_more p rest) node bs spans =
+      let left = left_by p bs spans in
+      let ns = nodes_asked_in_turn rest (node + nodes p) left spans in
+      let b = spec.samples (answer_given p bs spans) in
+      let others = rises-if b (node + nodes p) (node + nodes p + nodes_in rest) ns (omega arith) (parts-rise rest (node + nodes p) left spans) in
+      let all = rises-append node (node + nodes p) (node + nodes p + nodes_in rest) (nodes_asked p node bs spans) (cond b ns []) (asked-rise p node bs spans) others in
+      rises-upper node (node + nodes p + nodes_in rest) (node + (nodes p + nodes_in rest)) (nodes_asked p node bs spans ++ cond b ns []) (omega arith) all
+
+-- and so do those that the top policies ask
+pub top-rise : (ps : Policies) (node : ℕ) (bs : List Bool) (spans : List Arrival) → Rises node (node + nodes_in ps) (nodes_asked_at_top ps node bs spans)
+top-rise no_more node bs spans = omega arith
+top-rise (one_more p rest) node bs spans =
+    let left = left_by p bs spans in
+    let ns = nodes_asked_at_top rest (node + nodes p) left spans in
+    let all = rises-append node (node + nodes p) (node + nodes p + nodes_in rest) (nodes_asked p node bs spans) ns (asked-rise p node bs spans) (top-rise rest (node + nodes p) left spans) in
+    rises-upper node (node + nodes p + nodes_in rest) (node + (nodes p + nodes_in rest)) (nodes_asked p node bs spans ++ ns) (omega arith) all
+
+-- ---- a limiter that answers by the node
+
+-- its answers are those of the list, at the nodes that are asked
+abbrev pub Gives : (granted : ℕ → Bool) → (bs : List Bool) → (ns : List ℕ) → (left : List Bool) → Type 0
+Gives granted bs ns left = bs ≡ map granted ns ++ left
+
+drop-map : (granted : ℕ → Bool) (ns : List ℕ) (left : List Bool) → drop (length ns) (map granted ns ++ left) ≡ left
+drop-map granted [] left = refl
+drop-map granted (n ∷ ns) left = drop-map granted ns left
+
+map-split : (granted : ℕ → Bool) (ns more : List ℕ) (left : List Bool) → map granted (ns ++ more) ++ left ≡ map granted ns ++ (map granted more ++ left)
+map-split granted ns more left = ap (λ bs. bs ++ left) (map-append granted ns more) ∙ append_assoc (map granted ns) (map granted more) left
+
+mutual
+  -- the policy answers as with that limiter, and asks the same nodes
+  pub answers-as : (p : Policy) (node : ℕ) (granted : ℕ → Bool) (bs : List Bool) (spans : List Arrival) → Gives granted bs (nodes_asked p node bs spans) (left_by p bs spans) →
+      (answer_given p bs spans ≡ spec.answer p node granted spans) × (nodes_asked p node bs spans ≡ spec.asked p node granted spans)
+  answers-as (leaf l) node granted bs spans h = (refl, refl)
+  answers-as (rate_limiting limit) node granted bs spans h = (ap (λ xs. spec.plain (next_answer xs)) h, refl)
+  answers-as (and_policy parts) node granted bs spans h = let k = parts-as parts (node + 1) granted bs spans h in (ap spec.plain k.0, k.1)
+
+  parts-as : (ps : Policies) (node : ℕ) (granted : ℕ → Bool) (bs : List Bool) (spans : List Arrival) → Gives granted bs (nodes_asked_in_turn ps node bs spans) (left_by_parts ps bs spans) →
+      (each_samples_given ps bs spans ≡ spec.each_samples ps node granted spans) × (nodes_asked_in_turn ps node bs spans ≡ spec.asked_in_turn ps node granted spans)
+  parts-as no_more node granted bs spans h = (refl, refl)
+  parts-as (one_more p rest) node granted bs spans h =
+      let ns = nodes_asked p node bs spans in
+      let left = left_by p bs spans in
+      let more = nodes_asked_in_turn rest (node + nodes p) left spans in
+      let last = left_by_parts rest left spans in
+      let mine = spec.samples (answer_given p bs spans) in
+      let tail = map granted (cond mine more []) ++ cond mine last left in
+      let split : bs ≡ map granted ns ++ tail = h ∙ map-split granted ns (cond mine more []) (cond mine last left) in
+      let is : left ≡ tail = left-drops p node bs spans ∙ ap (drop (length ns)) split ∙ drop-map granted ns tail in
+      let first = answers-as p node granted bs spans (split ∙ ap (λ xs. map granted ns ++ xs) (sym is)) in
+      let same : mine ≡ spec.samples (spec.answer p node granted spans) = ap spec.samples first.0 in
+      (elim mine as (λ b. mine ≡ b → ((b && each_samples_given rest left spans) ≡ (spec.samples (spec.answer p node granted spans) && spec.each_samples rest (node + nodes p) granted spans))
+      × (ns ++ cond b more [] ≡ spec.asked p node granted spans ++ cond (spec.samples (spec.answer p node granted spans)) (spec.asked_in_turn rest (node + nodes p) granted spans) [])) [
+        | true ↦ λ e.
+            let here : left ≡ map granted more ++ last = is ∙ (let x : tail ≡ map granted more ++ last = rw e in x) in
+            let others = parts-as rest (node + nodes p) granted left spans here in
+            let yes : spec.samples (spec.answer p node granted spans) ≡ true = sym same ∙ e in
+            (rw yes others.0, rw (yes, first.1, others.1))
+        | false ↦ λ e.
+            let no : spec.samples (spec.answer p node granted spans) ≡ false = sym same ∙ e in
+            (rw no, rw (no, first.1))
+      ]) refl
+
+-- and so do the top policies
+pub top-as : (ps : Policies) (node : ℕ) (granted : ℕ → Bool) (bs : List Bool) (spans : List Arrival) → bs ≡ map granted (nodes_asked_at_top ps node bs spans) →
+    (answers_given ps bs spans ≡ spec.answers ps node granted spans) × (nodes_asked_at_top ps node bs spans ≡ spec.asked_at_top ps node granted spans)
+top-as no_more node granted bs spans h = (refl, refl)
+top-as (one_more p rest) node granted bs spans h =
+    let ns = nodes_asked p node bs spans in
+    let left = left_by p bs spans in
+    let more = nodes_asked_at_top rest (node + nodes p) left spans in
+    let split : bs ≡ map granted ns ++ map granted more = h ∙ map-append granted ns more in
+    let is : left ≡ map granted more = left-drops p node bs spans ∙ ap (drop (length ns)) split ∙ drop-map granted ns (map granted more) in
+    let first = answers-as p node granted bs spans (split ∙ ap (λ xs. map granted ns ++ xs) (sym is)) in
+    let others = top-as rest (node + nodes p) granted left spans is in
+    (rw (first.0, others.0), rw (first.1, others.1))
+
+-- a list with a limiter's answers to just its askings decides as the limiter does
+pub decides-as : (ps : Policies) (granted : ℕ → Bool) (bs : List Bool) (spans : List Arrival) → bs ≡ map granted (asked_given ps bs spans) →
+    (verdict_given ps bs spans ≡ spec.verdict ps granted spans) × (asked_given ps bs spans ≡ spec.asked_nodes ps granted spans)
+decides-as ps granted bs spans h = let k = top-as ps 0 granted bs spans h in (ap spec.verdict_of_answers k.0, k.1)
+
+-- ---- the list of a limiter's answers
+
+mutual
+  -- with them the policy answers as with the limiter, takes just its own, and asks the same nodes
+  answers-by : (p : Policy) (node : ℕ) (granted : ℕ → Bool) (spans : List Arrival) (later : List Bool) → let bs = map granted (spec.asked p node granted spans) ++ later in
+      (answer_given p bs spans ≡ spec.answer p node granted spans) × (left_by p bs spans ≡ later) × (nodes_asked p node bs spans ≡ spec.asked p node granted spans)
+  answers-by (leaf l) node granted spans later = (refl, refl, refl)
+  answers-by (rate_limiting limit) node granted spans later = (refl, refl, refl)
+  answers-by (and_policy parts) node granted spans later = let k = parts-by parts (node + 1) granted spans later in (ap spec.plain k.0, k.1, k.2)
+
+  parts-by : (ps : Policies) (node : ℕ) (granted : ℕ → Bool) (spans : List Arrival) (later : List Bool) → let bs = map granted (spec.asked_in_turn ps node granted spans) ++ later in
+      (each_samples_given ps bs spans ≡ spec.each_samples ps node granted spans) × (left_by_parts ps bs spans ≡ later) × (nodes_asked_in_turn ps node bs spans ≡ spec.asked_in_turn ps node granted spans)
+  parts-by no_more node granted spans later = (refl, refl, refl)
+  parts-by (one_more p rest) node granted spans later =
+      let ns = spec.asked p node granted spans in
+      let mine = spec.samples (spec.answer p node granted spans) in
+      let more = spec.asked_in_turn rest (node + nodes p) granted spans in
+      let tail = map granted (cond mine more []) ++ later in
+      let bs = map granted ns ++ tail in
+      let first = answers-by p node granted spans tail in
+      let others = parts-by rest (node + nodes p) granted spans later in
+      let P = λ (xs : List Bool). (each_samples_given (one_more p rest) xs spans ≡ spec.each_samples (one_more p rest) node granted spans) × (left_by_parts (one_more p rest) xs spans ≡ later)
+      × (nodes_asked_in_turn (one_more p rest) node xs spans ≡ spec.asked_in_turn (one_more p rest) node granted spans) in
+      subst P (sym (map-split granted ns (cond mine more []) later))
+      ((elim mine as (λ b. mine ≡ b → P bs) [
+        | true ↦ λ e.
+            let here : tail ≡ map granted more ++ later = rw e in
+            let yes : spec.samples (answer_given p bs spans) ≡ true = ap spec.samples first.0 ∙ e in
+            let left : left_by p bs spans ≡ map granted more ++ later = first.1 ∙ here in
+            (rw (yes, left, e) others.0, rw (yes, left) others.1, rw (yes, left, first.2, e) (ap (λ xs. ns ++ xs) others.2))
+        | false ↦ λ e.
+            let here : tail ≡ later = rw e in
+            let no : spec.samples (answer_given p bs spans) ≡ false = ap spec.samples first.0 ∙ e in
+            (rw (no, e), rw no (first.1 ∙ here), rw (no, first.2, e))
+      ]) refl)
+
+-- and so with the top policies
+top-by : (ps : Policies) (node : ℕ) (granted : ℕ → Bool) (spans : List Arrival) → let bs = map granted (spec.asked_at_top ps node granted spans) in
+    (answers_given ps bs spans ≡ spec.answers ps node granted spans) × (nodes_asked_at_top ps node bs spans ≡ spec.asked_at_top ps node granted spans)
+top-by no_more node granted spans = (refl, refl)
+top-by (one_more p rest) node granted spans =
+    let ns = spec.asked p node granted spans in
+    let more = map granted (spec.asked_at_top rest (node + nodes p) granted spans) in
+    let bs = map granted ns ++ more in
+    let first = answers-by p node granted spans more in
+    let others = top-by rest (node + nodes p) granted spans in
+    let P = λ (xs : List Bool). (answers_given (one_more p rest) xs spans ≡ spec.answers (one_more p rest) node granted spans)
+    × (nodes_asked_at_top (one_more p rest) node xs spans ≡ spec.asked_at_top (one_more p rest) node granted spans) in
+    subst P (sym (map-append granted ns (spec.asked_at_top rest (node + nodes p) granted spans))) (rw (first.0, first.1, others.0), rw (first.1, first.2, others.1))
+
+same-eqb : (m n : ℕ) → m ≡ n → (m == n) ≡ true
+same-eqb m n h = grind (arith, nat_tests)
+
+-- a limiter's answers to the askings decide as it does, and are as many as are asked
+pub given-by : (ps : Policies) (granted : ℕ → Bool) (spans : List Arrival) → let bs = map granted (spec.asked_nodes ps granted spans) in
+    (verdict_given ps bs spans ≡ spec.verdict ps granted spans) × (asked_given ps bs spans ≡ spec.asked_nodes ps granted spans) × (are_answered ps bs spans ≡ true)
+given-by ps granted spans =
+    let k = top-by ps 0 granted spans in
+    let bs = map granted (spec.asked_nodes ps granted spans) in
+    (ap spec.verdict_of_answers k.0, k.1, same-eqb (length (asked_given ps bs spans)) (length bs) (ap length k.1 ∙ sym (length-map (spec.asked_nodes ps granted spans) granted)))
+
+-- ---- a limiter with these answers
+
+-- the answer that stands beside the node
+given_at : List ℕ → List Bool → (node : ℕ) → Bool
+given_at [] bs node = false
+given_at (n ∷ ns) [] node = false
+given_at (n ∷ ns) (b ∷ bs) node = cond (n == node) b (given_at ns bs node)
+
+other-eqb : (m n : ℕ) → m < n → (m == n) ≡ false
+other-eqb m n h = grind (arith, nat_tests)
+
+-- where the nodes from a number on are answered alike, so are those that rise from there
+pub map-rise : (f g : ℕ → Bool) (first behind : ℕ) (ns : List ℕ) → Rises first behind ns → ((m : ℕ) → first ≤ m → f m ≡ g m) → map f ns ≡ map g ns
+map-rise f g first behind [] r h = refl
+map-rise f g first behind (n ∷ ns) r h = let others = map-rise f g (n + 1) behind ns r.1 (λ m k. h m (omega (arith, r.0, k))) in let here = h n r.0 in cc
+
+given-back : (first behind : ℕ) (ns : List ℕ) (bs : List Bool) → Rises first behind ns → length ns ≡ length bs → bs ≡ map (given_at ns bs) ns
+unfolding given_at
+given-back first behind [] [] r e = refl
+given-back first behind [] (b ∷ bs) r e = absurd (omega (arith, e))
+given-back first behind (n ∷ ns) [] r e = absurd (omega (arith, e))
+given-back first behind (n ∷ ns) (b ∷ bs) r e =
+    let others = given-back (n + 1) behind ns bs r.1 (omega (arith, e)) in
+    let same : map (given_at ns bs) ns ≡ map (given_at (n ∷ ns) (b ∷ bs)) ns = map-rise (given_at ns bs) (given_at (n ∷ ns) (b ∷ bs)) (n + 1) behind ns r.1 (λ m k. rw (other-eqb n m (omega (arith, k)))) in
+    let head : b ≡ given_at (n ∷ ns) (b ∷ bs) n = rw (same-eqb n n refl) in
+    cc
+
+-- as many answers as are asked are those of a limiter
+pub given-to : (ps : Policies) (bs : List Bool) (spans : List Arrival) → are_answered ps bs spans ≡ true → (granted : ℕ → Bool) × (bs ≡ map granted (asked_given ps bs spans))
+given-to ps bs spans h =
+    let ns = asked_given ps bs spans in
+    let e : length ns ≡ length bs = grind (arith, nat_tests) in
+    (given_at ns bs, given-back 0 (0 + nodes_in ps) ns bs (top-rise ps 0 bs spans) e)

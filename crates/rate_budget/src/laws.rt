@@ -1,0 +1,7 @@
+//! What holds of every limiter with one count for each node.
+ghost use Rattle.rate_budget.specs.Budget.{OthersStay};
+
+/// An asking of a [`crate::Budgets`] changes no answer at another node.
+pub fn other_nodes_stay()
+    ensures { OthersStay }
+{}

@@ -1,6 +1,0 @@
-use Rattle.shard_journal.specs.Settings.{settings_of}
-use Rattle.shard_journal.proofs.Turns.{nothing_noted}
-use Rattle.shard_journal.proofs.noting.ledger_of.Goals as goal
-
-pub loop-at-init : goal.loop-at-init
-loop-at-init c = nothing_noted (settings_of c.args.settings.now) c.new.result c.in_ok-new.field-0 c.new.ensures c.in_ok-new.ensures

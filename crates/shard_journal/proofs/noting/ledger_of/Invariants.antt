@@ -1,8 +1,0 @@
-use Rattle.std.proofs.Common.{◌≡◌, take, reverse}
-use Rattle.shard_core.specs.Journal.{notes}
-use Rattle.shard_journal.specs.Settings.{settings_of}
-use Rattle.shard_journal.specs.Ledger.{ledger_of}
-use Rattle.shard_journal.proofs.noting.ledger_of.Given as goal
-
-abbrev pub invariant-loop-at : goal.invariant-loop-at
-invariant-loop-at l = l.ledger ≡ ledger_of (settings_of l.settings) (notes (settings_of l.settings) (reverse (take l.at l.journal)))
