@@ -7,6 +7,7 @@
 mod job;
 mod joining;
 mod starting;
+mod team;
 #[cfg(test)]
 mod tests;
 mod word;
@@ -14,3 +15,4 @@ mod word;
 pub use job::{Done, Job, Works};
 pub use joining::{join, join_all};
 pub use starting::{Handle, start, start_all};
+pub use team::{Team, run_team};

@@ -1,0 +1,186 @@
+//! Jobs of three kinds on threads of their own, beside one on the caller's.
+ghost use Rattle.std.specs.Prelude.{◌≡◌, ◌≤◌, [], All, IfErr, IfOk, IfSome, map, reverse, vec_capacity, vec_len};
+ghost use Rattle.job_threads.specs.Jobs.{HaveDone};
+
+use crate::job::Job;
+use crate::joining::{join, join_all};
+use crate::starting::{Handle, start, start_all};
+use std::alloc::{AllocError, Global};
+use std::sync::{OnceLock, Wait};
+use std::thread;
+use std::thread::{Scope, Threads};
+
+/// Jobs that run on threads of their own: so many of a first kind, one of a second, so many of a third.
+#[derive(Drop)]
+pub struct Team<J, K, L> {
+    pub first: Vec<J>,
+    pub second: K,
+    pub third: Vec<L>,
+}
+
+/// Room for what the jobs of a team leave.
+#[derive(Drop)]
+struct Rooms<A, B> {
+    first: Vec<A>,
+    third: Vec<B>,
+}
+
+/// The threads of a team.
+#[derive(Drop)]
+struct Handles<'s, J: Job, K: Job, L: Job> {
+    first: Vec<Handle<'s, J>>,
+    second: Handle<'s, K>,
+    third: Vec<Handle<'s, L>>,
+}
+
+/// Runs all jobs of a team at once, each on a thread of its own, and `main` on the caller's. It joins the threads when
+/// `main` has ended, those of the first kind, then the second's, then those of the third, and gives what all left.
+///
+/// `Err` has `main` as it was: there was no memory, or a thread couldn't be started. Then no job has worked.
+pub fn run_team<
+    J: Job + Send + Drop,
+    K: Job + Send + Drop,
+    L: Job + Send + Drop,
+    M: Job + Drop,
+    R: Threads + Wait + Sync,
+>(
+    rt: &R,
+    alloc: Global,
+    team: Team<J, K, L>,
+    main: M,
+) -> Result<(Team<J::Left, K::Left, L::Left>, M::Left), M>
+where
+    J::Left: Send,
+    K::Left: Send,
+    L::Left: Send,
+    requires team { All J.ready team.first.items × K.ready team.second × All L.ready team.third.items }
+    requires main { M.ready main }
+    ensures first { IfOk result (λ left. HaveDone J.did team.first.items left.0.first.items) }
+    ensures second { IfOk result (λ left. K.did team.second left.0.second) }
+    ensures third { IfOk result (λ left. HaveDone L.did team.third.items left.0.third.items) }
+    ensures main { IfOk result (λ left. M.did main left.1) }
+    ensures back { IfErr result (λ back. back ≡ main) }
+{
+    let Ok(rooms) = rooms_for(alloc, team.first.len(), team.third.len()) else {
+        return Err(main);
+    };
+    let word = OnceLock::new();
+    let begin = &word;
+    thread::scope(
+        thread::scope_env(),
+        rt,
+        |scope| -> Result<(Team<J::Left, K::Left, L::Left>, M::Left), M>
+            requires ready { All J.ready team.first.items × K.ready team.second × All L.ready team.third.items × M.ready main }
+            requires first_room { (rooms.first.items ≡ []) × (vec_len team.first ≤ vec_capacity rooms.first) }
+            requires third_room { (rooms.third.items ≡ []) × (vec_len team.third ≤ vec_capacity rooms.third) }
+            ensures first { IfOk result (λ left. HaveDone J.did team.first.items left.0.first.items) }
+            ensures second { IfOk result (λ left. K.did team.second left.0.second) }
+            ensures third { IfOk result (λ left. HaveDone L.did team.third.items left.0.third.items) }
+            ensures main { IfOk result (λ left. M.did main left.1) }
+            ensures back { IfErr result (λ back. back ≡ main) }
+        { in_scope(scope, rt, alloc, begin, team, rooms, main) },
+    )
+}
+
+/// Room for so many of the first kind and so many of the third.
+fn rooms_for<A: Drop, B: Drop>(
+    alloc: Global,
+    first: usize,
+    third: usize,
+) -> Result<Rooms<A, B>, AllocError>
+    ensures first { IfOk result (λ rooms. (rooms.first.items ≡ []) × (first ≤ vec_capacity rooms.first)) }
+    ensures third { IfOk result (λ rooms. (rooms.third.items ≡ []) × (third ≤ vec_capacity rooms.third)) }
+{
+    Ok(Rooms {
+        first: Vec::with_capacity(alloc, first)?,
+        third: Vec::with_capacity(alloc, third)?,
+    })
+}
+
+/// Starts the threads, says whether they are to work, works, and joins them.
+fn in_scope<
+    's,
+    E,
+    J: Job + Send + Drop + 's,
+    K: Job + Send + Drop + 's,
+    L: Job + Send + Drop + 's,
+    M: Job + Drop,
+    R: Threads + Wait + Sync + 's,
+>(
+    scope: &Scope<'s, E>,
+    rt: &'s R,
+    alloc: Global,
+    word: &'s OnceLock<bool>,
+    team: Team<J, K, L>,
+    rooms: Rooms<J::Left, L::Left>,
+    main: M,
+) -> Result<(Team<J::Left, K::Left, L::Left>, M::Left), M>
+where
+    J::Left: Send,
+    K::Left: Send,
+    L::Left: Send,
+    requires team { All J.ready team.first.items × K.ready team.second × All L.ready team.third.items }
+    requires first_room { (rooms.first.items ≡ []) × (vec_len team.first ≤ vec_capacity rooms.first) }
+    requires third_room { (rooms.third.items ≡ []) × (vec_len team.third ≤ vec_capacity rooms.third) }
+    requires main { M.ready main }
+    ensures first { IfOk result (λ left. HaveDone J.did team.first.items left.0.first.items) }
+    ensures second { IfOk result (λ left. K.did team.second left.0.second) }
+    ensures third { IfOk result (λ left. HaveDone L.did team.third.items left.0.third.items) }
+    ensures main { IfOk result (λ left. M.did main left.1) }
+    ensures back { IfErr result (λ back. back ≡ main) }
+{
+    let started = start_team(scope, rt, alloc, word, team);
+    let said = word.set(rt, started.is_some());
+    let (Some(handles), Ok(token)) = (started, said) else {
+        return Err(main);
+    };
+    let main_left = main.work();
+    let first = join_all(rt, &token, handles.first, rooms.first);
+    let second = join(rt, &token, handles.second);
+    let third = join_all(rt, &token, handles.third, rooms.third);
+    let left = Team {
+        first,
+        second,
+        third,
+    };
+    Ok((left, main_left))
+}
+
+/// Starts a thread for each job. `None` where there is no memory for the handles, or one couldn't be started.
+fn start_team<
+    's,
+    E,
+    J: Job + Send + Drop + 's,
+    K: Job + Send + Drop + 's,
+    L: Job + Send + Drop + 's,
+    R: Threads + Wait + Sync + 's,
+>(
+    scope: &Scope<'s, E>,
+    rt: &'s R,
+    alloc: Global,
+    word: &'s OnceLock<bool>,
+    team: Team<J, K, L>,
+) -> Option<Handles<'s, J, K, L>>
+where
+    J::Left: Send,
+    K::Left: Send,
+    L::Left: Send,
+    requires { All J.ready team.first.items × K.ready team.second × All L.ready team.third.items }
+    ensures first { IfSome result (λ h. (reverse (map (λ h. h.promise.job.value) h.first.items) ≡ team.first.items) × All (λ h. h.promise.word.now.id ≡ word.now.id) h.first.items) }
+    ensures second { IfSome result (λ h. (h.second.promise.job.value ≡ team.second) × (h.second.promise.word.now.id ≡ word.now.id)) }
+    ensures third { IfSome result (λ h. (reverse (map (λ h. h.promise.job.value) h.third.items) ≡ team.third.items) × All (λ h. h.promise.word.now.id ≡ word.now.id) h.third.items) }
+{
+    let Team {
+        first,
+        second,
+        third,
+    } = team;
+    let first = start_all(scope, rt, alloc, word, first)?;
+    let second = start(scope, rt, word, second)?;
+    let third = start_all(scope, rt, alloc, word, third)?;
+    Some(Handles {
+        first,
+        second,
+        third,
+    })
+}
