@@ -32,7 +32,7 @@ use Rattle.script_run.proofs.WrongDefinitions.{own, with_queue, start, span, of_
 
 -- the one span found its queue full
 abbrev full_reply : Reply
-full_reply = Partial 1 (record { invalid = 0; full = 1; fits = omega arith })
+full_reply = Partial 1 0 1
 
 abbrev full_line : List ℕ
 full_line = reply_line full_reply
