@@ -1,3 +1,2 @@
 pub mod Hands
 pub mod LineSinks
-pub mod Sinks
