@@ -56,14 +56,18 @@ fn count<C: Counter>(counts: &mut C, reply: &Reply) -> bool
 {
     match reply {
         Reply::Done { spans } => counts.add(Count::Received, *spans).is_ok(),
-        Reply::Partial { spans, rejected } => {
+        Reply::Partial {
+            spans,
+            invalid,
+            full,
+        } => {
             let Ok(()) = counts.add(Count::Received, *spans) else {
                 return false;
             };
-            let Ok(()) = counts.add(Count::Dropped(Reason::InvalidId), rejected.invalid) else {
+            let Ok(()) = counts.add(Count::Dropped(Reason::InvalidId), *invalid) else {
                 return false;
             };
-            match counts.add(Count::Dropped(Reason::QueueFull), rejected.full) {
+            match counts.add(Count::Dropped(Reason::QueueFull), *full) {
                 Ok(()) => true,
                 Err(_) => false,
             }

@@ -6,16 +6,15 @@ ghost use Rattle.http_lane.specs.Engine.{text_of_answer};
 
 use crate::answer::Answer;
 use http_text::Refusal;
-use lane_seq::{BadData, Rejected, Reply};
+use lane_seq::{BadData, Reply};
 use std::alloc::{AllocError, Global};
 
 /// What a partial success says.
-fn partial_text(alloc: Global, rejected: Rejected) -> Result<String, AllocError>
-    ensures { IfOk result (λ text. string_bytes text ≡ partial_success rejected.invalid rejected.full) }
+fn partial_text(alloc: Global, invalid: u64, full: u64) -> Result<String, AllocError>
+    ensures { IfOk result (λ text. string_bytes text ≡ partial_success invalid full) }
 {
-    let invalid = rejected.invalid;
-    let full = rejected.full;
-    numbers_text(alloc, invalid, full, invalid + full)
+    let sum = invalid as u128 + full as u128;
+    numbers_text(alloc, invalid, full, sum)
 }
 
 /// The text, or nothing.
@@ -44,7 +43,7 @@ fn joined_text(
 }
 
 /// What a partial success says, from its numbers.
-fn numbers_text(alloc: Global, invalid: u64, full: u64, sum: u64) -> Result<String, AllocError>
+fn numbers_text(alloc: Global, invalid: u64, full: u64, sum: u128) -> Result<String, AllocError>
     ensures { IfOk result (λ text. string_bytes text ≡ codes "{\"partialSuccess\":{\"errorMessage\":\"invalid id: " ++ (decimal invalid ++ (codes ", queue full: " ++ (decimal full ++ (codes "\",\"rejectedSpans\":\"" ++ (decimal sum ++ codes "\"}}")))))) }
 {
     format!(in alloc;
@@ -163,8 +162,8 @@ fn reply_text(alloc: Global, reply: &Reply, closes: bool) -> Result<String, Allo
 {
     match reply {
         Reply::Done { .. } => answer_text(alloc, 200, "OK", "{}", closes, false),
-        Reply::Partial { rejected, .. } => {
-            let body = partial_text(alloc, *rejected)?;
+        Reply::Partial { invalid, full, .. } => {
+            let body = partial_text(alloc, *invalid, *full)?;
             answer_text(alloc, 200, "OK", &body, closes, false)
         }
         Reply::BadData(cause) => bad_data_text(alloc, *cause, closes),

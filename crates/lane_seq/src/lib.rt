@@ -7,7 +7,6 @@ mod lane;
 mod law;
 mod preparing;
 mod pushing;
-mod rejected;
 mod reply;
 mod routing;
 #[cfg(test)]
@@ -16,6 +15,5 @@ mod tests;
 pub use lane::{Lane, LaneEnd};
 pub use law::list_pushes_are_determined;
 pub use preparing::{Conn, Prepared, count_invalid, prepare};
-pub use rejected::Rejected;
 pub use reply::{BadData, MAX_BODY_LEN, Reply, put};
 pub use routing::route;

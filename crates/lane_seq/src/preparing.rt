@@ -54,27 +54,40 @@ pub fn prepare(alloc: Global, conn: &Conn, body: &[u8], moment: Moment) -> Resul
     let Ok(records) = flatten(alloc, request) else {
         return Err(Reply::Busy);
     };
-    number_records(alloc, conn, records, moment)
+    match number_records(alloc, conn, records, moment) {
+        Ok(prepared) => Ok(prepared),
+        Err(Lack::Numbers | Lack::Memory) => Err(Reply::Busy),
+    }
 }
 
-/// Numbers records, or answers `Busy`.
+/// What is wanting where records get no numbers.
+#[derive(Clone, Copy, Debug, PartialEq, Eq, Drop)]
+enum Lack {
+    /// The connection's numbers would pass 2^64-1.
+    Numbers,
+    /// Memory was refused.
+    Memory,
+}
+
+/// Numbers records. Numbers are wanting exactly where they would pass 2^64-1.
 fn number_records(
     alloc: Global,
     conn: &Conn,
     records: Vec<Record>,
     moment: Moment,
-) -> Result<Prepared, Reply>
+) -> Result<Prepared, Lack>
     ensures arrivals { IfOk result (λ prepared. prepared.arrivals.items
         ≡ arrivals_from conn.now.key conn.now.next moment records.items) }
     ensures numbers { IfOk result (λ prepared. conn.now.next + length prepared.arrivals.items < 2 ^ 64) }
-    ensures busy { IfErr result (λ reply. reply ≡ Reply.Busy) }
+    ensures passed { IsErrOf result Lack.Numbers → 2 ^ 64 ≤ conn.now.next + length records.items }
+    ensures memory { IsErrOf result Lack.Memory → conn.now.next + length records.items < 2 ^ 64 }
 {
     if conn.next.checked_add(records.len() as u64).is_none() {
-        return Err(Reply::Busy);
+        return Err(Lack::Numbers);
     }
     match arrivals_from(alloc, conn.key, conn.next, records, moment) {
         Ok(arrivals) => Ok(Prepared { arrivals }),
-        Err(_) => Err(Reply::Busy),
+        Err(_) => Err(Lack::Memory),
     }
 }
 

@@ -5,7 +5,6 @@ ghost use Rattle.lane_seq.specs.Replies.{IsReplyTo};
 ghost use Rattle.lane_seq.specs.Pushes.{PushesOne, PushesAll};
 ghost use Rattle.otlp_types.specs.declared.arrival.Item.TheVariants.{Span};
 
-use crate::rejected::Rejected;
 use crate::reply::Reply;
 use crate::routing::route;
 use lane_queue::Port;
@@ -55,14 +54,14 @@ fn trace_of(arrival: &Arrival) -> Option<TraceId>
 
 /// The reply to a request of so many spans, of which so many have invalid ids and so many found their queue full.
 pub fn reply_to(spans: u64, invalid: u64, full: u64) -> Reply
-    requires { invalid + full < 2 ^ 64 }
     ensures { IsReplyTo spans invalid full result }
 {
-    if invalid + full == 0 {
+    if invalid == 0 && full == 0 {
         return Reply::Done { spans };
     }
     Reply::Partial {
         spans,
-        rejected: Rejected { invalid, full },
+        invalid,
+        full,
     }
 }

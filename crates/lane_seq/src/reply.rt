@@ -2,7 +2,6 @@
 ghost use Rattle.std.specs.Prelude.{◌≡◌, ◌+◌, ◌^◌, ◌<◌, ◌≤◌, ◌++◌, OnOk, OnErr, length, vec_capacity, vec_len};
 ghost use Rattle.lane_seq.specs.Replies.{status_of, body_of, partial_success};
 
-use crate::rejected::Rejected;
 use itoa::Buffer;
 use std::alloc::AllocError;
 
@@ -30,8 +29,10 @@ pub enum Reply {
     Partial {
         /// The number of spans, those that were not taken included.
         spans: u64,
-        /// Those that were not taken, at least one.
-        rejected: Rejected,
+        /// How many have an id that is missing or invalid.
+        invalid: u64,
+        /// How many found the queue to their shard full: with those of invalid ids at least one.
+        full: u64,
     },
     /// The body is no request, and no span was received.
     BadData(BadData),
@@ -63,7 +64,7 @@ impl Reply {
     {
         match self {
             Reply::Done { .. } => text.extend_from_slice(b"{}"),
-            Reply::Partial { rejected, .. } => put_rejected(text, *rejected),
+            Reply::Partial { invalid, full, .. } => put_rejected(text, *invalid, *full),
             Reply::BadData(BadData::Json) => text.extend_from_slice(b"{\"message\":\"not JSON\"}"),
             Reply::BadData(BadData::Shape) => text.extend_from_slice(
                 b"{\"message\":\"wrong shape\"}",
@@ -77,22 +78,21 @@ impl Reply {
 const PARTIAL_SUCCESS_LEN: usize = 83;
 
 /// Appends what a partial success says, or nothing where the vector can't grow.
-fn put_rejected(text: &mut Vec<u8>, rejected: Rejected) -> Result<(), AllocError>
-    ensures ok { OnOk result (text.new.items ≡ text.old.items ++ partial_success rejected.invalid rejected.full) }
-    ensures len { OnOk result (vec_len text.new ≡ vec_len text.old + length (partial_success rejected.invalid rejected.full)) }
-    ensures refused { OnErr result (vec_capacity text.old < vec_len text.old + length (partial_success rejected.invalid rejected.full)) }
+fn put_rejected(text: &mut Vec<u8>, invalid: u64, full: u64) -> Result<(), AllocError>
+    ensures ok { OnOk result (text.new.items ≡ text.old.items ++ partial_success invalid full) }
+    ensures len { OnOk result (vec_len text.new ≡ vec_len text.old + length (partial_success invalid full)) }
+    ensures refused { OnErr result (vec_capacity text.old < vec_len text.old + length (partial_success invalid full)) }
     ensures err { OnErr result (text.new.items ≡ text.old.items) }
     ensures capacity { vec_capacity text.old ≤ vec_capacity text.new }
-    ensures short { length (partial_success rejected.invalid rejected.full) ≤ MAX_BODY_LEN }
+    ensures short { length (partial_success invalid full) ≤ MAX_BODY_LEN }
 {
     let mut invalid_digits = Buffer::new();
     let mut full_digits = Buffer::new();
     let mut sum_digits = Buffer::new();
-    let invalid = invalid_digits.format(rejected.invalid).as_bytes();
-    let full = full_digits.format(rejected.full).as_bytes();
-    let sum = sum_digits
-        .format(rejected.invalid + rejected.full)
-        .as_bytes();
+    let sum = u128::from(invalid) + u128::from(full);
+    let invalid = invalid_digits.format(invalid).as_bytes();
+    let full = full_digits.format(full).as_bytes();
+    let sum = sum_digits.format(sum).as_bytes();
     text.reserve(PARTIAL_SUCCESS_LEN + invalid.len() + full.len() + sum.len())?;
     put(
         text,

@@ -1,7 +1,7 @@
 //! Routes, and requests over queues in one thread.
 ghost use Rattle.std.specs.Prelude.{◌≡◌, ◌<◌, length, IfOk, if◌then◌else◌};
 
-use crate::{Conn, Lane, LaneEnd, Rejected, Reply, route};
+use crate::{Conn, Lane, LaneEnd, Reply, route};
 use lane_queue::ListPort;
 use otlp_types::Item;
 use span_ids::TraceId;
@@ -110,11 +110,12 @@ fn after_one_request(
 #[test]
 fn queue_of_one(rt: HostRuntime) -> Result<(), Fail> {
     let (reply, conn, mut end) = after_one_request(rt.alloc(), 1, false, three_of_one_trace())?;
-    let rejected = Rejected {
+    let partial = Reply::Partial {
+        spans: 3,
         invalid: 0,
         full: 2,
     };
-    assert_eq!(rt; reply, Reply::Partial { spans: 3, rejected });
+    assert_eq!(rt; reply, partial);
     assert!(rt; says(rt.alloc(), &reply, two_of_three_refused())?);
     assert_eq!(rt; (conn.key.lane, conn.key.ordinal, conn.next), (3, 0, 3));
     assert_eq!(rt; popped(&mut end, 0), Some(0));

@@ -28,7 +28,7 @@ module _ (capacity : ℕ) where
 
   by_reply : {F Q : Type 0} (reply : Reply) → OnReceived reply F → (IsRefusal reply → Q) → (F → Q) → Q
   by_reply (Done n) f r k = k f
-  by_reply (Partial n x) f r k = k f
+  by_reply (Partial n i x) f r k = k f
   by_reply (BadData x) f r k = r tt
   by_reply Busy f r k = r tt
 

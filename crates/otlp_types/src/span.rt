@@ -66,6 +66,13 @@ pub struct Span {
     pub status: Status,
 }
 
+impl TryClone for Ids {
+    /// It takes no memory.
+    fn try_clone(&self, _alloc: Global) -> Result<Ids, AllocError> {
+        Ok(*self)
+    }
+}
+
 impl TryClone for Event {
     fn try_clone(&self, alloc: Global) -> Result<Event, AllocError> {
         Ok(Event {

@@ -62,6 +62,10 @@ inverted_match_wins = refl
 pub and_with_inverted_part : verdict (one_more (and_policy (one_more (leaf always_sample) (one_more not_dev no_more))) always) (λ n. true) (in_env dev) ≡ ForIt
 and_with_inverted_part = refl
 
+-- alone it samples by its inverted part, where that doesn't match, and not where it does
+pub and_alone_with_inverted_part : map (λ (value : List ℕ). verdict (one_more (and_policy (one_more (leaf always_sample) (one_more not_dev no_more))) no_more) (λ n. true) (in_env value)) ((112 ∷ []) ∷ dev ∷ []) ≡ ForIt ∷ AgainstIt ∷ []
+and_alone_with_inverted_part = refl
+
 pub inverted_match_alone : verdict (one_more not_dev no_more) (λ n. true) (in_env (112 ∷ [])) ≡ ForIt
 inverted_match_alone = refl
 

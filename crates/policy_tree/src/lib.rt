@@ -3,6 +3,7 @@
 #![tactic(auto)]
 
 mod fault;
+mod laws;
 mod leaves;
 mod limiter_node;
 mod names;
@@ -11,6 +12,7 @@ mod policy;
 mod shape;
 
 pub use fault::PolicyFault;
+pub use laws::limiters_are_of_the_walk;
 pub use limiter_node::LimiterNode;
 pub use policies::Policies;
 pub use policy::{Policy, PolicyKind, Wanted};

@@ -16,7 +16,6 @@ use Rattle.lane_queue.specs.Queues.{QueueState, TakesLast, IsFull}
 use Rattle.lane_seq.specs.declared.reply.Reply.{Reply}
 use Rattle.lane_seq.specs.declared.reply.Reply.TheVariants.{Done, Partial, BadData, Busy}
 use Rattle.lane_seq.specs.declared.reply.BadData.TheVariants.{Json, Shape}
-use Rattle.lane_seq.specs.declared.rejected.Rejected.{Rejected}
 use Rattle.lane_seq.specs.Replies.{IsReplyTo}
 use Rattle.lane_seq.specs.Numbers.{is_invalid}
 use Rattle.lane_seq.specs.Pushes.{Receives as IsPushed}
@@ -169,21 +168,19 @@ batches_same size (x ∷ next ∷ xs) (y ∷ other ∷ ys) h g e u v =
 
 -- ---- replies
 
--- what a reply tells of rejected spans is its two numbers
-rejected_same : (a b : Rejected) → a.invalid ≡ b.invalid → a.full ≡ b.full → a ≡ b
-rejected_same a b e f = λ i. record { invalid = e i; full = f i; fits = is_prop→PathP (λ j. e j + f j < 2 ^ 64) (λ j. le_prop) a.fits b.fits i }
-
 -- a request has one reply
 reply_same : (spans invalid full : ℕ) (a b : Reply) → IsReplyTo spans invalid full a → IsReplyTo spans invalid full b → a ≡ b
 reply_same spans invalid full (Done n) (Done m) h g = ap (λ (z : ℕ). Done z) (h.0 ∙ sym g.0)
-reply_same spans invalid full (Done n) (Partial m r) h g = absurd (omega (arith, h.1, g.3))
+reply_same spans invalid full (Done n) (Partial m i f) h g = absurd (omega (arith, h.1, g.3))
 reply_same spans invalid full (Done n) (BadData cause) h g = absurd g
 reply_same spans invalid full (Done n) Busy h g = absurd g
-reply_same spans invalid full (Partial n r) (Done m) h g = absurd (omega (arith, g.1, h.3))
-reply_same spans invalid full (Partial n r) (Partial m q) h g =
-    ap (λ (z : ℕ). Partial z r) (h.0 ∙ sym g.0) ∙ ap (λ (z : Rejected). Partial m z) (rejected_same r q (h.1 ∙ sym g.1) (h.2 ∙ sym g.2))
-reply_same spans invalid full (Partial n r) (BadData cause) h g = absurd g
-reply_same spans invalid full (Partial n r) Busy h g = absurd g
+reply_same spans invalid full (Partial n i f) (Done m) h g = absurd (omega (arith, g.1, h.3))
+reply_same spans invalid full (Partial n i f) (Partial m j k) h g =
+    let a : n ≡ m = h.0 ∙ sym g.0 in
+    let b : i ≡ j = h.1 ∙ sym g.1 in
+    let c : f ≡ k = h.2 ∙ sym g.2 in cc
+reply_same spans invalid full (Partial n i f) (BadData cause) h g = absurd g
+reply_same spans invalid full (Partial n i f) Busy h g = absurd g
 reply_same spans invalid full (BadData cause) b h g = absurd h
 reply_same spans invalid full Busy b h g = absurd h
 
@@ -231,6 +228,6 @@ reading_same body (refuses (BadData Shape)) (refuses (BadData Json)) h g m n = a
 reading_same body (refuses Busy) q h g m n = absurd (m refl)
 reading_same body p (refuses Busy) h g m n = absurd (n refl)
 reading_same body (refuses (Done k)) q h g m n = absurd h
-reading_same body (refuses (Partial k r)) q h g m n = absurd h
+reading_same body (refuses (Partial k i f)) q h g m n = absurd h
 reading_same body p (refuses (Done k)) h g m n = absurd g
-reading_same body p (refuses (Partial k r)) h g m n = absurd g
+reading_same body p (refuses (Partial k i f)) h g m n = absurd g

@@ -22,3 +22,5 @@ pub mod Agreeing
 pub mod CalmRuns
 pub mod Stopping
 mod ConnectionRows
+mod WrongDefinitions
+mod WrongWorlds

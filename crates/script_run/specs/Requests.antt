@@ -25,7 +25,7 @@ IsTakenFor body (refuses (BadData Json)) = (d : Data) → IsJson body d → ⊥
 IsTakenFor body (refuses (BadData Shape)) = (d : Data) × IsJson body d × (request_of d ≡ None)
 IsTakenFor body (refuses Busy) = Unit {0}
 IsTakenFor body (refuses (Done spans)) = ⊥
-IsTakenFor body (refuses (Partial spans rejected)) = ⊥
+IsTakenFor body (refuses (Partial spans invalid full)) = ⊥
 
 -- the arrivals of a request that came on this connection at this moment
 abbrev pub arrivals_of : Conn → (moment : ℕ) → Request → List Arrival

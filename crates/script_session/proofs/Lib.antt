@@ -13,3 +13,4 @@ pub mod Quiet
 pub mod Receives
 pub mod Finish
 pub mod Leading
+pub mod CalmReplays

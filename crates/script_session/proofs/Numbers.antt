@@ -79,10 +79,10 @@ lanes-grow w number arrivals full (Done n) is Received = length-append w.receive
 lanes-grow w number arrivals full (Done n) is (Dropped InvalidId) = none_invalid w arrivals full is.1
 lanes-grow w number arrivals full (Done n) is (Dropped QueueFull) = none_full w.full full _ is.1
 lanes-grow w number arrivals full (Done n) is k = refl
-lanes-grow w number arrivals full (Partial n rejected) is Received = length-append w.received arrivals ∙ ap (λ m. length w.received + m) (sym is.0)
-lanes-grow w number arrivals full (Partial n rejected) is (Dropped InvalidId) = invalid-append w arrivals ∙ ap (λ m. length (filter is_invalid w.received) + m) (sym is.1)
-lanes-grow w number arrivals full (Partial n rejected) is (Dropped QueueFull) = ap (λ m. w.full + m) (sym is.2)
-lanes-grow w number arrivals full (Partial n rejected) is k = refl
+lanes-grow w number arrivals full (Partial n i f) is Received = length-append w.received arrivals ∙ ap (λ m. length w.received + m) (sym is.0)
+lanes-grow w number arrivals full (Partial n i f) is (Dropped InvalidId) = invalid-append w arrivals ∙ ap (λ m. length (filter is_invalid w.received) + m) (sym is.1)
+lanes-grow w number arrivals full (Partial n i f) is (Dropped QueueFull) = ap (λ m. w.full + m) (sym is.2)
+lanes-grow w number arrivals full (Partial n i f) is k = refl
 lanes-grow w number arrivals full (BadData cause) is k = absurd is
 lanes-grow w number arrivals full Busy is k = absurd is
 
@@ -99,7 +99,7 @@ number-received s w number arrivals full reply is k =
 -- a refusal counts nothing
 pub refusal-counts : (reply : Reply) → is_received reply ≡ false → (k : Count) → received_by reply k ≡ 0
 refusal-counts (Done n) e k = absurd (cc e)
-refusal-counts (Partial n rejected) e k = absurd (cc e)
+refusal-counts (Partial n i f) e k = absurd (cc e)
 refusal-counts (BadData cause) e k = refl
 refusal-counts Busy e k = refl
 

@@ -101,7 +101,7 @@ queues-left old new number moment body before after reply capacity shards false 
   where
     was_read : (spans invalid full : ℕ) (r : Reply) → IsReplyTo spans invalid full r → false ≡ is_received r → ⊥
     was_read spans invalid full (Done n) t f = cc f
-    was_read spans invalid full (Partial n rejected) t f = cc f
+    was_read spans invalid full (Partial n i g) t f = cc f
     was_read spans invalid full (BadData cause) t f = t
     was_read spans invalid full Busy t f = t
 

@@ -36,13 +36,13 @@ pub record Answered (s : Settings) (sizes : Sizes) (w : World) (number moment : 
 
 was-read : (spans invalid full : ℕ) (r : Reply) → IsReplyTo spans invalid full r → is_received r ≡ true
 was-read spans invalid full (Done n) t = refl
-was-read spans invalid full (Partial n rejected) t = refl
+was-read spans invalid full (Partial n i f) t = refl
 was-read spans invalid full (BadData cause) t = absurd t
 was-read spans invalid full Busy t = absurd t
 
 not-read : (body : List ℕ) (r : Reply) → IsTakenFor body (refuses r) → is_received r ≡ false
 not-read body (Done n) t = absurd t
-not-read body (Partial n rejected) t = absurd t
+not-read body (Partial n i f) t = absurd t
 not-read body (BadData cause) t = refl
 not-read body Busy t = refl
 

@@ -9,7 +9,7 @@ use Rattle.lane_seq.specs.Replies.{status_of}
 
 pub status-short : (reply : Reply) → length (decimal (status_of reply)) ≤ 3
 status-short (Done spans) = length-decimal-le 3 200 (lit< tt) (lit< tt) (lit< tt)
-status-short (Partial spans rejected) = length-decimal-le 3 200 (lit< tt) (lit< tt) (lit< tt)
+status-short (Partial spans invalid full) = length-decimal-le 3 200 (lit< tt) (lit< tt) (lit< tt)
 status-short (BadData cause) = length-decimal-le 3 400 (lit< tt) (lit< tt) (lit< tt)
 status-short Busy = length-decimal-le 3 503 (lit< tt) (lit< tt) (lit< tt)
 

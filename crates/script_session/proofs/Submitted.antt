@@ -23,13 +23,13 @@ use Rattle.script_session.specs.Submitting.{Submits, is_received}
 -- what holds where the spans were received
 pub received : (reply : Reply) (F : Type 0) → is_received reply ≡ true → OnReceived reply F → F
 received (Done spans) F e f = f
-received (Partial spans rejected) F e f = f
+received (Partial spans invalid full) F e f = f
 received (BadRequest cause) F e f = absurd (cc e)
 received Busy F e f = absurd (cc e)
 
 pub refusal : (reply : Reply) → is_received reply ≡ false → IsRefusal reply
 refusal (Done spans) e = absurd (cc e)
-refusal (Partial spans rejected) e = absurd (cc e)
+refusal (Partial spans invalid full) e = absurd (cc e)
 refusal (BadRequest cause) e = tt
 refusal Busy e = tt
 
@@ -37,7 +37,7 @@ refusal Busy e = tt
 pub refused : (reply : Reply) (body : List ℕ) → is_received reply ≡ false → (reply ≡ BadRequest Json → (d : Data) → IsJson body d → ⊥)
     → (reply ≡ BadRequest Shape → (d : Data) × IsJson body d × (request_of d ≡ None)) → IsTakenFor body (refuses reply)
 refused (Done spans) body e json shape = absurd (cc e)
-refused (Partial spans rejected) body e json shape = absurd (cc e)
+refused (Partial spans invalid full) body e json shape = absurd (cc e)
 refused (BadRequest Json) body e json shape = json refl
 refused (BadRequest Shape) body e json shape = shape refl
 refused Busy body e json shape = tt

@@ -16,16 +16,16 @@ use Rattle.script_run.specs.Requests.{reads, refuses, IsTakenFor, arrivals_of}
 -- the request's spans were received
 abbrev pub is_received : Reply → Bool
 is_received (Done spans) = true
-is_received (Partial spans rejected) = true
+is_received (Partial spans invalid full) = true
 is_received (BadData cause) = false
 is_received Busy = false
 
 -- what a reply tells of the spans that were received, and of those among them that went to no shard
 abbrev pub received_by : Reply → Count → ℕ
 received_by (Done spans) Received = spans
-received_by (Partial spans rejected) Received = spans
-received_by (Partial spans rejected) (Dropped InvalidId) = rejected.invalid
-received_by (Partial spans rejected) (Dropped QueueFull) = rejected.full
+received_by (Partial spans invalid full) Received = spans
+received_by (Partial spans invalid full) (Dropped InvalidId) = invalid
+received_by (Partial spans invalid full) (Dropped QueueFull) = full
 received_by _ _ = 0
 
 -- A request was refused, at a new connection for want of memory or by its body, or it was read: its spans were pushed to the queues of their shards.

@@ -7,6 +7,7 @@
 mod connections;
 mod ending;
 mod fault;
+mod laws;
 mod pulling;
 mod receiving;
 mod replay;
@@ -16,4 +17,5 @@ mod signal;
 mod taking;
 
 pub use fault::RunFault;
+pub use laws::calm_replays_agree;
 pub use replay::replay_run;

@@ -56,10 +56,14 @@ pub fn count_received(report: &mut Option<Report>, reply: &Reply)
 {
     match reply {
         Reply::Done { spans } => count(report, Count::Received, *spans),
-        Reply::Partial { spans, rejected } => {
+        Reply::Partial {
+            spans,
+            invalid,
+            full,
+        } => {
             count(report, Count::Received, *spans);
-            count(report, Count::Dropped(Reason::InvalidId), rejected.invalid);
-            count(report, Count::Dropped(Reason::QueueFull), rejected.full);
+            count(report, Count::Dropped(Reason::InvalidId), *invalid);
+            count(report, Count::Dropped(Reason::QueueFull), *full);
         }
         Reply::BadData(_) | Reply::Busy => {}
     }

@@ -1,5 +1,5 @@
 //! Writers that are interrupted, write little, or fail.
-ghost use Rattle.std.specs.Prelude.{Some};
+ghost use Rattle.std.specs.Prelude.{Some, []};
 
 use crate::line_sink::LineSink;
 use crate::sink::{Sink, SinkFault};
@@ -60,6 +60,34 @@ fn interrupted_writes_are_tried_again(rt: HostRuntime) -> Result<(), Fail> {
         assert_eq!(rt; sink.failures(), failures, "after {interruptions}");
         assert_eq!(rt; sink.end().calls, calls, "after {interruptions}");
     }
+    Ok(())
+}
+
+/// A writer that takes nothing, which it counts.
+#[derive(Drop)]
+struct FullWriter {
+    calls: u32,
+}
+
+impl Write for FullWriter {
+    ghost contents = { λ w. Some [] };
+
+    fn write(&mut self, _bytes: &[u8]) -> io::Result<usize> {
+        self.calls = self.calls.saturating_add(1);
+        Ok(0)
+    }
+
+    fn flush(&mut self) -> io::Result<()> {
+        Ok(())
+    }
+}
+
+#[test]
+fn write_of_nothing_is_a_failure(rt: HostRuntime) -> Result<(), Fail> {
+    let mut sink = WriteSink::new(FullWriter { calls: 0 });
+    assert_eq!(rt; sink.write(b"abcd"), Err(SinkFault::Failed));
+    assert_eq!(rt; sink.failures(), 1);
+    assert_eq!(rt; sink.end().calls, 1);
     Ok(())
 }
 

@@ -3,3 +3,4 @@ mod Blank
 mod FaultSets
 mod Bounds
 mod Whole
+mod Rows

@@ -1,5 +1,6 @@
 //! A buffer over a reader, which counts the reads.
-ghost use Rattle.std.specs.Prelude.{◌≡◌, ◌≢◌, ℕ, ◌+◌, ◌-◌, ◌^◌, ◌<◌, ◌≤◌, ◌++◌, Option, List, [], length, take, drop, IfOk, OnOk, OnErr, IfSome, IfNone, vec_len};
+ghost use Rattle.std.specs.Prelude.{◌≡◌, ◌≢◌, ℕ, ◌+◌, ◌-◌, ◌^◌, ◌<◌, ◌≤◌, ◌++◌, Option, List, [], length, take, drop, IfOk, OnOk, IfErr, OnErr, vec_len};
+ghost use Rattle.std.specs.Result.{IsErrOf};
 ghost use Rattle.std.specs.Io.KnownBytes.{Consumes, Keeps, IsAtEnd};
 ghost use Rattle.tsc_script.specs.declared.limits.TheConstants.{MAX_READS};
 ghost use Rattle.tsc_script.specs.ToRead.{BufferState, still_to_come};
@@ -87,9 +88,9 @@ impl<A: Allocator> Buffer<A> {
         self.at = 0;
         self.filled = 0;
         match read_some(reader, &mut self.chunk, &mut self.reads) {
-            None => Refill::Fault,
-            Some(0) => Refill::End,
-            Some(count) => {
+            Err(_) => Refill::Fault,
+            Ok(0) => Refill::End,
+            Ok(count) => {
                 self.filled = count;
                 Refill::More
             }
@@ -97,28 +98,40 @@ impl<A: Allocator> Buffer<A> {
     }
 }
 
+/// Why a reader gave nothing.
+#[derive(Clone, Copy, Debug, PartialEq, Eq, Drop)]
+enum ReadFault {
+    /// All reads that may be made, 2^32, were made.
+    NoReadLeft,
+    /// A read failed with an error of this kind, which is no interruption.
+    Error(ErrorKind),
+}
+
 /// Reads once more, and again after each interruption, while the bound on reads allows it.
-fn read_some<R: Read>(reader: &mut R, chunk: &mut [u8], reads: &mut u64) -> Option<usize>
+fn read_some<R: Read>(reader: &mut R, chunk: &mut [u8], reads: &mut u64) -> Result<usize, ReadFault>
     requires room { 0 < length chunk.old }
     requires reads { reads.old ≤ MAX_READS }
-    ensures within { IfSome result (λ count. count ≤ length chunk.new) }
-    ensures bytes { IfSome result (λ count.
+    ensures within { IfOk result (λ count. count ≤ length chunk.new) }
+    ensures bytes { IfOk result (λ count.
         Consumes (R.remaining reader.old) (R.remaining reader.new) (take count chunk.new)) }
-    ensures end { IfSome result (λ count. count ≡ 0 → IsAtEnd (R.remaining reader.new)) }
-    ensures fault { IfNone result (Keeps (R.remaining reader.old) (R.remaining reader.new)) }
-    ensures reads { (reads.old ≤ reads.new) × (reads.new ≤ MAX_READS) }
-    ensures counted { IfSome result (λ count. reads.old < reads.new) }
+    ensures end { IfOk result (λ count. count ≡ 0 → IsAtEnd (R.remaining reader.new)) }
+    ensures fault { OnErr result (Keeps (R.remaining reader.old) (R.remaining reader.new)) }
+    ensures reads { (reads.old ≤ reads.new) × (reads.new ≤ 2 ^ 32) }
+    ensures counted { OnOk result (reads.old < reads.new) }
+    ensures no_read_left { IsErrOf result ReadFault.NoReadLeft → reads.new ≡ 2 ^ 32 }
+    ensures no_interruption { IfErr result (λ fault. fault ≢ ReadFault.Error ErrorKind.Interrupted) }
 {
     while *reads < MAX_READS {
         *reads += 1;
         match reader.read(chunk) {
-            Ok(count) => return Some(count),
+            Ok(count) => return Ok(count),
             Err(error) => {
-                if error.kind() != ErrorKind::Interrupted {
-                    return None;
+                let kind = error.kind();
+                if kind != ErrorKind::Interrupted {
+                    return Err(ReadFault::Error(kind));
                 }
             }
         }
     }
-    None
+    Err(ReadFault::NoReadLeft)
 }

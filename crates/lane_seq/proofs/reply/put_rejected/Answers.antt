@@ -1,10 +1,10 @@
 use Rattle.std.proofs.Common.{◌+◌, codes}
 use Rattle.std.specs.Prelude.{decimal}
-use Rattle.lane_seq.proofs.Numbering.{joined}
+use Rattle.lane_seq.proofs.Numbering.{joined, partial_success-short}
 use Rattle.lane_seq.proofs.reply.put_rejected.Goals as goal
 
 pub returns-clause-ok : goal.returns-clause-ok
-returns-clause-ok c = let n = c.args.rejected in
+returns-clause-ok c = let n = c.args in
     let all = joined c.args.text.now.items (codes "{\"partialSuccess\":{\"errorMessage\":\"invalid id: ") (decimal n.invalid) (codes ", queue full: ") (decimal n.full)
     (codes "\",\"rejectedSpans\":\"") (decimal (n.invalid + n.full)) (codes "\"}}") in
     cc (
@@ -24,3 +24,9 @@ returns-clause-ok c = let n = c.args.rejected in
       c.format-2.ensures.text,
       c.format-3.ensures.text,
     )
+
+pub returns-in_err-reserve-clause-short : goal.returns-in_err-reserve-clause-short
+returns-in_err-reserve-clause-short c = partial_success-short c.args.invalid c.args.full c.ranges.invalid.fits c.ranges.full.fits
+
+pub returns-clause-short : goal.returns-clause-short
+returns-clause-short c = partial_success-short c.args.invalid c.args.full c.ranges.invalid.fits c.ranges.full.fits

@@ -1,0 +1,333 @@
+-- Wrong definitions of what a script means, each with a run that breaks a law.
+-- No clause needs them: they show what the laws of `Laws` say. Where a request is read, its body is any that is taken for it.
+use Rattle.std.proofs.Common.{inl, inr, ◌≡◌, ℕ, suc, ◌+◌, Bool, true, false, List, [], ◌∷◌, length, map, filter, flat_map, slice_get, Some, refl, ap, subst, ◌∙◌, arith}
+use Rattle.std.specs.Prelude.{if◌then◌else◌, IsTrue}
+use Rattle.std.specs.List.{list_all, AllByRecursion}
+use Rattle.otlp_types.specs.declared.arrival.Arrival.{Arrival}
+use Rattle.otlp_types.specs.declared.arrival.Item.TheVariants.{Span, Tick, End}
+use Rattle.otlp_types.specs.declared.request.Request.{Request}
+use Rattle.span_ids.specs.declared.outcome.Reason.TheVariants.{NoMemory}
+use Rattle.drop_ledger.specs.declared.count.Count.{Count}
+use Rattle.drop_ledger.specs.declared.count.Count.TheVariants.{Handed}
+use Rattle.lane_seq.specs.declared.reply.Reply.TheVariants.{Done, Busy}
+use Rattle.shard_core.specs.Journal.{Settings, Journal, Entry, notes, have_ended}
+use Rattle.span_sink.specs.LineSinks.{LineSinkState}
+use Rattle.span_exporter.specs.declared.answer.Flushed.{Flushed}
+use Rattle.span_exporter.specs.declared.answer.Flushed.TheVariants.{Handed as WasHanded, Spoiled, Empty}
+use Rattle.span_world.specs.World.{Lane, Shard, World as Core, new_world as new_core, settings}
+use Rattle.span_world.specs.Step.{Step, run}
+use Rattle.span_world.specs.Places.{IsClosed}
+use Rattle.span_world.specs.Headline.{HoldsOf, handed_spans}
+use Rattle.span_world.proofs.Samples.{always, plain, key}
+use Rattle.span_world.proofs.Balance.{same_settings}
+use Rattle.span_world.proofs.OnePlace.{run_keeps}
+use Rattle.span_world.proofs.AllAnswered.{answered_new}
+use Rattle.tsc_script.specs.Instructions.{Instruction, receive, tick}
+use Rattle.script_run.specs.Connections.{Contacts, with_connection, with_received}
+use Rattle.script_run.specs.Requests.{reads, refuses, IsTakenFor, reply_line}
+use Rattle.script_run.specs.World.{World, Event, replied, was_sent, Sizes, new_world, Plays, PlaysAll, RunsToQuiet, entry_of, ends_from}
+use Rattle.script_run.specs.Counts.{number_of}
+use Rattle.script_run.specs.Calm.{is_for_memory, IsUnmarked, Calm}
+use Rattle.script_run.specs.Writing.{handed_in}
+use Rattle.script_run.specs.CoreRun.{core_config, count_in, is_of_lane, WaitsInBuffers, IsRunOfCore}
+use Rattle.script_run.specs.Laws.{Agrees, CalmRunsAgree}
+
+-- ---- one lane and one shard
+
+abbrev pub own : Settings
+own = record { policies = always; wait = 10; root_wait = 0; limit = Some 1; sampled_size = 1; non_sampled_size = 1; senders = 2 }
+
+-- batches of one span, and queues of this capacity
+abbrev pub with_queue : ℕ → Sizes
+with_queue capacity = record { batch = 1; queue = capacity }
+
+abbrev first_sink : LineSinkState
+first_sink = record { taken = Some []; failures = 0; is_down = false }
+
+abbrev pub start : World
+start = new_world 1 1 first_sink
+
+abbrev busy_line : List ℕ
+busy_line = reply_line Busy
+
+-- the reply `busy` is written, and nothing else
+abbrev busy_written : LineSinkState
+busy_written = record { taken = Some busy_line; failures = 0; is_down = false }
+
+-- ---- a script in which a request was refused as busy is calm, too
+
+abbrev is_refusal_but_busy : Event → Bool
+is_refusal_but_busy (replied reply) = false
+is_refusal_but_busy (was_sent sent) = is_for_memory sent.flushed
+
+record CalmThoughBusy (w : World) : Type 0 where
+  events : AllByRecursion (λ event. is_refusal_but_busy event ≡ false) w.events
+  journals : AllByRecursion IsUnmarked w.journals
+  up : w.sink.is_down ≡ false
+
+-- two runs of one script do the same where both are calm by this
+abbrev RunsAgreeWhere : (World → Type 0) → Type 0
+RunsAgreeWhere IsCalm = (s : Settings) (sizes : Sizes) (lanes shards : ℕ) (first : LineSinkState) (played : List Instruction) (a b : World)
+    → PlaysAll s sizes (new_world lanes shards first) played a → PlaysAll s sizes (new_world lanes shards first) played b → IsCalm a → IsCalm b → Agrees s first a b
+
+right_calm : CalmRunsAgree → RunsAgreeWhere Calm
+right_calm h = h
+
+abbrev busy_unconnected : World
+busy_unconnected = record start { events = replied Busy ∷ []; sink = busy_written }
+
+abbrev busy_connected : World
+busy_connected = record busy_unconnected { contacts = with_connection 0 start.contacts }
+
+-- the first is busy before there was a connection, and the second behind one
+unconnected_played : PlaysAll own (with_queue 1) start (receive 0 0 [] ∷ []) busy_unconnected
+unconnected_played = (
+  busy_unconnected,
+  (
+    refl,
+    refl,
+    inl (
+      refl,
+      (
+        busy_written,
+        inl (record { was_up = refl; stays_up = refl; no_failure = refl; bytes = refl }),
+        record { released = []; takes = (refl, refl, refl); batches = []; sends = record { are_batches = tt; are_all = refl; sends = refl }; becomes = refl },
+      ),
+    ),
+  ),
+  refl,
+)
+
+connected_played : PlaysAll own (with_queue 1) start (receive 0 0 [] ∷ []) busy_connected
+connected_played = (
+  busy_connected,
+  (
+    refl,
+    refl,
+    inr (
+      refuses Busy,
+      tt,
+      (
+        busy_written,
+        inl (record { was_up = refl; stays_up = refl; no_failure = refl; bytes = refl }),
+        record { released = []; takes = (refl, refl, refl); batches = []; sends = record { are_batches = tt; are_all = refl; sends = refl }; becomes = refl },
+      ),
+    ),
+  ),
+  refl,
+)
+
+busy_is_calm : RunsAgreeWhere CalmThoughBusy → ⊥
+busy_is_calm law =
+    let same = (law own (with_queue 1) 1 1 first_sink (receive 0 0 [] ∷ []) busy_unconnected busy_connected unconnected_played connected_played
+    (record { events = (refl, tt); journals = (tt, tt); up = refl }) (record { events = (refl, tt); journals = (tt, tt); up = refl })).contacts in
+    let q : length busy_unconnected.contacts.connections ≡ length busy_connected.contacts.connections = ap (λ (c : Contacts). length c.connections) same in
+    let z : 0 ≡ 1 = q in absurd (omega (arith, z))
+
+-- ---- a sink that is down has failed twice
+
+abbrev FailedTwice : (first last : LineSinkState) → Type 0
+FailedTwice first last = last.failures ≡ first.failures + (if last.is_down then 2 else 0)
+
+-- the sink fails at the first byte of the first reply
+abbrev failed : World
+failed = record start { events = replied Busy ∷ []; sink = record { taken = Some []; failures = 1; is_down = true } }
+
+failed_played : PlaysAll own (with_queue 1) start (receive 0 0 [] ∷ []) failed
+failed_played = (
+  failed,
+  (
+    refl,
+    refl,
+    inl (
+      refl,
+      (
+        failed.sink,
+        inr (inl (record { was_up = refl; goes_down = refl; one_failure = refl; part = []; missing = busy_line; split = refl; cut_short = omega arith; bytes = refl })),
+        record { released = []; takes = (refl, refl, refl); batches = []; sends = record { are_batches = tt; are_all = refl; sends = refl }; becomes = refl },
+      ),
+    ),
+  ),
+  refl,
+)
+
+fails_twice : FailedTwice first_sink failed.sink → ⊥
+fails_twice law = let z : 1 ≡ 2 = law in absurd (omega (arith, z))
+
+-- ---- the law that each script is a run of the core, by other counts and another list of what was handed over
+
+pub record IsRunBy (number : Settings → World → Count → ℕ) (handed_by : List Event → List (List Arrival)) (s : Settings) (sizes : Sizes) (lanes shards : ℕ) (w : World) : Type 0 where
+  pub steps : List Step
+  pub core : Core
+  pub runs : run (core_config s sizes) lanes shards steps ≡ Some core
+  pub holds : HoldsOf (core_config s sizes) core
+  pub received : (lane : ℕ) (l : Lane) → slice_get core.lanes lane ≡ Some l → l.received ≡ filter (is_of_lane lane) w.received
+  pub journals : map (λ (sh : Shard). sh.journal) core.shards ≡ w.journals
+  pub handed_over : core.handed ≡ handed_by w.events
+  pub counts : (count : Count) → count_in core count ≡ number s w count
+  pub between : WaitsInBuffers (core_config s sizes) core
+  pub closed : w.closed ≡ true → IsClosed (core_config s sizes) core
+
+right_run : (s : Settings) (sizes : Sizes) (lanes shards : ℕ) (w : World) → IsRunOfCore s sizes lanes shards w → IsRunBy number_of handed_in s sizes lanes shards w
+right_run s sizes lanes shards w h = record {
+  steps = h.steps;
+  core = h.core;
+  runs = h.runs;
+  holds = h.holds;
+  received = h.received;
+  journals = h.journals;
+  handed_over = h.handed;
+  counts = h.counts;
+  between = h.between;
+  closed = h.closed;
+}
+
+-- ---- a batch that was given up is among those that were handed over
+
+abbrev given_up_too : Flushed → List Arrival → List (List Arrival) → List (List Arrival)
+given_up_too (WasHanded spans) batch rest = batch ∷ rest
+given_up_too (Spoiled spans reason) batch rest = batch ∷ rest
+given_up_too Empty batch rest = rest
+
+abbrev handed_or_given_up : List Event → List (List Arrival)
+handed_or_given_up [] = []
+handed_or_given_up (replied reply ∷ more) = handed_or_given_up more
+handed_or_given_up (was_sent sent ∷ more) = given_up_too sent.flushed sent.batch (handed_or_given_up more)
+
+-- the one span of a request, and the request
+abbrev pub span : Arrival
+span = record { key = key 0; moment = 0; rec = plain 1 }
+
+abbrev pub of_one_span : Request
+of_one_span = record {
+  resource_spans = record {
+    resource = span.rec.resource;
+    scope_spans = record { scope = span.rec.scope; spans = span.rec.span ∷ []; schema_url = [] } ∷ [];
+    schema_url = [];
+  } ∷ [];
+}
+
+abbrev pub done_line : List ℕ
+done_line = reply_line (Done 1)
+
+-- the span waits; then a tick releases it, and its batch is given up for want of memory
+abbrev waiting_world : World
+waiting_world = record start {
+  contacts = with_received 0 1 start.contacts;
+  received = span ∷ [];
+  journals = (entry_of (Span span) false false ∷ []) ∷ [];
+  events = replied (Done 1) ∷ [];
+  sink = record { taken = Some done_line; failures = 0; is_down = false };
+}
+
+abbrev ticked : Entry
+ticked = record { item = Tick 11; refused = false; lost = false; answers = [] ∷ [] }
+
+abbrev spoiled : World
+spoiled = record waiting_world {
+  journals = (ticked ∷ entry_of (Span span) false false ∷ []) ∷ [];
+  events = replied (Done 1) ∷ was_sent (record { batch = span ∷ []; flushed = Spoiled 1 NoMemory }) ∷ [];
+}
+
+waiting_played : (body : List ℕ) → IsTakenFor body (reads of_one_span) → Plays own (with_queue 1) start (receive 0 0 body) waiting_world
+unfolding notes
+waiting_played body taken = (
+  refl,
+  refl,
+  inr (
+    reads of_one_span,
+    taken,
+    (
+      Done 1,
+      record { items = Span span ∷ []; capacity = 1 } ∷ [],
+      record { refused = 0; pushed = (0, 0, record { items = Span span ∷ []; capacity = 1 } ∷ [], refl, inl (refl, (record { items = []; capacity = 1 }, record { items = Span span ∷ []; capacity = 1 }, refl, (omega arith, refl), refl)), (refl, refl)); replied = (refl, refl) },
+      (
+        waiting_world.sink,
+        inl (record { was_up = refl; stays_up = refl; no_failure = refl; bytes = refl }),
+        record { released = []; takes = (waiting_world.journals, [], [], [], ([], [], [], ((false, false, refl, refl), refl), (refl, refl), refl), (refl, refl, refl), refl); batches = []; sends = record { are_batches = tt; are_all = refl; sends = refl }; becomes = refl },
+      ),
+    ),
+  ),
+)
+
+spoiled_played : (body : List ℕ) → IsTakenFor body (reads of_one_span) → PlaysAll own (with_queue 1) start (receive 0 0 body ∷ tick 11 ∷ []) spoiled
+unfolding notes
+spoiled_played body taken = (
+  waiting_world,
+  waiting_played body taken,
+  (
+    spoiled,
+    (
+      refl,
+      refl,
+      record {
+        released = span ∷ [];
+        takes = (spoiled.journals, [], span ∷ [], [], (span ∷ [], [], [], ((false, false, refl, refl), refl), (refl, refl), refl), (refl, refl, refl), refl);
+        batches = record { batch = span ∷ []; flushed = Spoiled 1 NoMemory } ∷ [];
+        sends = record { are_batches = (omega arith, omega arith); are_all = refl; sends = (waiting_world.sink, (omega arith, refl, (refl, refl)), refl) };
+        becomes = refl;
+      },
+    ),
+    refl,
+  ),
+)
+
+given_up_batch_as_handed : IsRunBy number_of handed_or_given_up own (with_queue 1) 1 1 spoiled → ⊥
+unfolding notes
+given_up_batch_as_handed law =
+    let one : length (handed_spans law.core) ≡ 1 = ap (λ (batches : List (List Arrival)). length (flat_map (λ batch. batch) batches)) law.handed_over in
+    let none : length (handed_spans law.core) ≡ 0 = law.counts Handed in
+    absurd (omega (arith, one, none))
+
+-- ---- the first lane and the shard of a run
+
+-- lanes that received something
+pub record FirstLane (lanes : List Lane) : Type 0 where
+  pub first : Lane
+  pub others : List Lane
+  pub are : lanes ≡ first ∷ others
+
+pub some_lane : (lanes : List Lane) (n : ℕ) → length (flat_map (λ (l : Lane). l.received) lanes) ≡ suc n → FirstLane lanes
+some_lane [] n e = let z : 0 ≡ suc n = e in absurd (omega (arith, z))
+some_lane (l ∷ ls) n e = record { first = l; others = ls; are = refl }
+
+-- the one shard, whose journal is this
+pub record OneShard (shards : List Shard) (past : Journal) : Type 0 where
+  pub one : Shard
+  pub are : shards ≡ one ∷ []
+  pub journal : one.journal ≡ past
+
+pub one_shard : (shards : List Shard) (past : Journal) → map (λ (sh : Shard). sh.journal) shards ≡ past ∷ [] → OneShard shards past
+one_shard [] past e = absurd (cc e)
+one_shard (sh ∷ []) past e = record { one = sh; are = refl; journal = cc e }
+one_shard (sh ∷ next ∷ more) past e = absurd (cc e)
+
+-- the settings of its shards
+pub own_settings : (steps : List Step) (sizes : Sizes) (core : Core) → run (core_config own sizes) 1 1 steps ≡ Some core → settings (core_config own sizes) core ≡ own
+own_settings steps sizes core e =
+    let c = core_config own sizes in
+    (run_keeps c (λ (x : Core). settings c x ≡ own) (λ e. cc e) (λ x next stepped e. same_settings c x next stepped ∙ e) steps (new_core 1 1) core refl (answered_new own 1 1) e).0
+
+-- ---- the ticker's End is left out at a close
+
+abbrev never_ended : World
+never_ended = record start { journals = (entry_of (End 0) false false ∷ []) ∷ []; closed = true }
+
+never_ended_played : RunsToQuiet own (with_queue 1) (record start { closed = true }) (ends_from 0 (length start.contacts.connected) start.journals) never_ended
+unfolding notes
+never_ended_played = record {
+  released = [];
+  takes = (never_ended.journals, [], [], [], ([], [], [], ((false, false, refl, refl), refl), (refl, refl), refl), (refl, refl, refl), refl);
+  batches = [];
+  sends = record { are_batches = tt; are_all = refl; sends = refl };
+  becomes = refl;
+}
+
+ticker_never_ends : IsRunBy number_of handed_in own (with_queue 1) 1 1 never_ended → ⊥
+ticker_never_ends law =
+    let is = one_shard law.core.shards (entry_of (End 0) false false ∷ []) law.journals in
+    let ended : IsTrue (list_all (λ (sh : Shard). have_ended sh.journal (settings (core_config own (with_queue 1)) law.core).senders) law.core.shards) = (law.closed refl).ends_taken in
+    let of_one = subst (λ (shards : List Shard). IsTrue (list_all (λ (sh : Shard). have_ended sh.journal (settings (core_config own (with_queue 1)) law.core).senders) shards)) is.are ended in
+    let of_two = subst (λ (s : Settings). IsTrue (list_all (λ (sh : Shard). have_ended sh.journal s.senders) (is.one ∷ []))) (own_settings law.steps (with_queue 1) law.core law.runs) of_one in
+    let q : false ≡ true = subst (λ (past : Journal). IsTrue (list_all (λ (past : Journal). have_ended past 2) (past ∷ []))) is.journal of_two in
+    cc q

@@ -1,0 +1,301 @@
+-- More wrong definitions of what a script means, each with a run that breaks the law that each script is a run of the core.
+-- No clause needs them, as with those of `WrongDefinitions`.
+use Rattle.std.proofs.Common.{inl, inr, ◌≡◌, ℕ, ◌+◌, ◌&&◌, ◌||◌, Bool, true, false, not, cond, List, [], ◌∷◌, ◌++◌, length, map, filter, flat_map, slice_get, Some, refl, ap, sym, subst, ◌∙◌, arith}
+use Rattle.std.specs.Prelude.{IsTrue}
+use Rattle.std.specs.List.{list_all, list_any, sum_by}
+use Rattle.otlp_types.specs.declared.arrival.Arrival.{Arrival}
+use Rattle.otlp_types.specs.declared.arrival.Item.TheVariants.{Span, End}
+use Rattle.span_ids.specs.declared.outcome.Reason.{Reason}
+use Rattle.span_ids.specs.declared.outcome.Reason.TheVariants.{InvalidId, QueueFull, NoMemory, Evicted, NotSampled, LateNotSampled, ExporterDown}
+use Rattle.drop_ledger.specs.declared.count.Count.{Count}
+use Rattle.drop_ledger.specs.declared.count.Count.TheVariants.{Received, Dropped}
+use Rattle.lane_seq.specs.declared.reply.Reply.{Reply}
+use Rattle.lane_seq.specs.declared.reply.Reply.TheVariants.{Done, Partial}
+use Rattle.shard_core.specs.Journal.{Settings, Journal, notes}
+use Rattle.shard_core.specs.Fate.{DroppedSpan, Fate, waits, fate, is_same_reason, under}
+use Rattle.span_ids.specs.declared.keys.ArrivalKey.{ArrivalKey}
+use Rattle.span_world.specs.World.{Lane, Shard, settings, has_due, same_key}
+use Rattle.span_world.specs.Step.{is_empty}
+use Rattle.span_world.specs.Places.{Place, HeldKey, unrouted, queued, buffered, unshipped, exported, in_batch, handed, counted_under, is_waiting, held_at, buffered_spans, held_by_lanes, held_by_shards, held}
+use Rattle.span_world.specs.Headline.{Taken, fate_of, is_where, is_received}
+use Rattle.span_world.proofs.Samples.{ids_of, key}
+use Rattle.tsc_script.specs.Instructions.{receive, close}
+use Rattle.script_run.specs.Connections.{connection_of, with_received}
+use Rattle.script_run.specs.Requests.{reads, IsTakenFor, arrivals_of, reply_line}
+use Rattle.script_run.specs.World.{World, replied, Plays, PlaysAll, Receives, RepliesAndRuns, empty_queues, entry_of}
+use Rattle.script_run.specs.Counts.{counted_at_lanes, counted_at_shards, counted_at, number_of}
+use Rattle.script_run.specs.Writing.{handed_in}
+use Rattle.script_run.specs.CoreRun.{core_config, is_quiet}
+use Rattle.script_run.proofs.WrongDefinitions.{own, with_queue, start, span, of_one_span, done_line, IsRunBy, some_lane, one_shard, own_settings}
+
+-- ---- what was received uses no numbers of its connection
+
+-- the one span found its queue full
+abbrev full_reply : Reply
+full_reply = Partial 1 0 1
+
+abbrev full_line : List ℕ
+full_line = reply_line full_reply
+
+-- the request was received, and the connection goes on with the number that it had
+abbrev received_again : World → World
+received_again old = record old { contacts = with_received 0 0 old.contacts; received = old.received ++ arrivals_of (connection_of 0 old.contacts) 0 of_one_span; full = old.full + 1 }
+
+abbrev used_once : World
+used_once = record start {
+  contacts = with_received 0 0 start.contacts;
+  received = span ∷ [];
+  full = 1;
+  events = replied full_reply ∷ [];
+  sink = record { taken = Some full_line; failures = 0; is_down = false };
+}
+
+abbrev used_again : World
+used_again = record used_once {
+  received = span ∷ span ∷ [];
+  full = 2;
+  events = replied full_reply ∷ replied full_reply ∷ [];
+  sink = record { taken = Some (full_line ++ full_line); failures = 0; is_down = false };
+}
+
+used_once_played : RepliesAndRuns own (with_queue 0) (received_again start) full_reply (([] ∷ []) ∷ []) used_once
+unfolding notes
+used_once_played = (
+  used_once.sink,
+  inl (record { was_up = refl; stays_up = refl; no_failure = refl; bytes = refl }),
+  record { released = []; takes = (used_once.journals, [], [], [], ([], [], [], (refl, refl), (refl, refl), refl), (refl, refl, refl), refl); batches = []; sends = record { are_batches = tt; are_all = refl; sends = refl }; becomes = refl },
+)
+
+used_again_played : RepliesAndRuns own (with_queue 0) (received_again used_once) full_reply (([] ∷ []) ∷ []) used_again
+unfolding notes
+used_again_played = (
+  used_again.sink,
+  inl (record { was_up = refl; stays_up = refl; no_failure = refl; bytes = refl }),
+  record { released = []; takes = (used_again.journals, [], [], [], ([], [], [], (refl, refl), (refl, refl), refl), (refl, refl, refl), refl); batches = []; sends = record { are_batches = tt; are_all = refl; sends = refl }; becomes = refl },
+)
+
+numbers_used_again : IsRunBy number_of handed_in own (with_queue 0) 1 1 used_again → ⊥
+numbers_used_again law =
+    let at = some_lane law.core.lanes 1 (law.counts Received) in
+    let there : slice_get law.core.lanes 0 ≡ Some at.first = ap (λ (lanes : List Lane). slice_get lanes 0) at.are in
+    let k = law.holds.one_place.numbered 0 at.first (span ∷ []) [] span there (law.received 0 at.first there) in
+    let z : 0 ≡ 1 = k.1 in absurd (omega (arith, z))
+
+-- ---- spans that find their queue full are counted nowhere
+
+abbrev not_full : World → Count → ℕ
+not_full w (Dropped QueueFull) = 0
+not_full w count = counted_at_lanes w count
+
+abbrev number_but_full : Settings → World → Count → ℕ
+number_but_full s w count = not_full w count + (counted_at_shards s w.journals count + sum_by (counted_at count) w.events)
+
+abbrev full_world : World
+full_world = record used_once { contacts = with_received 0 1 start.contacts }
+
+full_played : (body : List ℕ) → IsTakenFor body (reads of_one_span) → PlaysAll own (with_queue 0) start (receive 0 0 body ∷ []) full_world
+unfolding notes
+full_played body taken = (
+  full_world,
+  (
+    refl,
+    refl,
+    inr (
+      reads of_one_span,
+      taken,
+      (
+        full_reply,
+        empty_queues 0 1,
+        record { refused = 1; pushed = (1, 0, empty_queues 0 1, refl, inr (refl, (record { items = []; capacity = 0 }, record { items = []; capacity = 0 }, refl, (refl, refl), refl)), (refl, refl)); replied = (refl, refl, refl, omega arith) },
+        (
+          full_world.sink,
+          inl (record { was_up = refl; stays_up = refl; no_failure = refl; bytes = refl }),
+          record { released = []; takes = (full_world.journals, [], [], [], ([], [], [], (refl, refl), (refl, refl), refl), (refl, refl, refl), refl); batches = []; sends = record { are_batches = tt; are_all = refl; sends = refl }; becomes = refl },
+        ),
+      ),
+    ),
+  ),
+  refl,
+)
+
+-- a list of counts in which no reason has one is empty
+same_reason : (r : Reason) → is_same_reason r r ≡ true
+same_reason InvalidId = refl
+same_reason QueueFull = refl
+same_reason NoMemory = refl
+same_reason Evicted = refl
+same_reason NotSampled = refl
+same_reason LateNotSampled = refl
+same_reason ExporterDown = refl
+
+none_counted : (counted : List DroppedSpan) → ((r : Reason) → length (under r counted) ≡ 0) → counted ≡ []
+none_counted [] h = refl
+none_counted (d ∷ rest) h = absurd (go (is_same_reason d.reason d.reason) (same_reason d.reason) (h d.reason))
+  where
+    go : (b : Bool) → b ≡ true → length (map (λ (n : DroppedSpan). n.key) (cond b (d ∷ filter (λ (n : DroppedSpan). is_same_reason n.reason d.reason) rest) (filter (λ (n : DroppedSpan). is_same_reason n.reason d.reason) rest))) ≡ 0 → ⊥
+    go true e f = omega (arith, f)
+    go false e f = cc e
+
+-- lanes and a shard in which nothing waits hold nothing, but for a buffer
+none_unrouted : (n : ℕ) (lanes : List Lane) → list_all (λ (l : Lane). is_empty l.unrouted) lanes ≡ true → held_by_lanes n lanes ≡ []
+none_unrouted n [] e = refl
+none_unrouted n (l ∷ ls) e = go l.unrouted e (none_unrouted (n + 1) ls)
+  where
+    go : (spans : List Arrival) → (is_empty spans && list_all (λ (l : Lane). is_empty l.unrouted) ls) ≡ true → (list_all (λ (l : Lane). is_empty l.unrouted) ls ≡ true → held_by_lanes (n + 1) ls ≡ []) → held_at (unrouted n) spans ++ held_by_lanes (n + 1) ls ≡ []
+    go [] f more = more f
+    go (a ∷ spans) f more = absurd (cc f)
+
+none_inside : (sh : Shard) → sh.journal ≡ [] → list_all (is_quiet own) (sh ∷ []) ≡ true → held_by_shards own 0 (sh ∷ []) ≡ []
+none_inside sh e f = go sh.queue (not (has_due own sh)) sh.unshipped f (held_at (buffered 0) (buffered_spans own sh.journal sh.dealt)) (ap (λ (past : Journal). held_at (buffered 0) (buffered_spans own past sh.dealt)) e)
+  where
+    go : (queue : List Arrival) (b : Bool) (out : List Arrival) → ((is_empty queue && b && is_empty out) && true) ≡ true → (inside : List HeldKey) → inside ≡ [] → (held_at (queued 0) queue ++ inside ++ held_at (unshipped 0) out) ++ [] ≡ []
+    go [] true [] g inside h = ap (λ (keys : List HeldKey). (keys ++ []) ++ []) h
+    go [] true (a ∷ out) g inside h = absurd (cc g)
+    go [] false out g inside h = absurd (cc g)
+    go (a ∷ queue) b out g inside h = absurd (cc g)
+
+full_queue_uncounted : IsRunBy number_but_full handed_in own (with_queue 0) 1 1 full_world → ⊥
+unfolding notes
+full_queue_uncounted law =
+    let c = core_config own (with_queue 0) in
+    let k = law.core in
+    let same = own_settings law.steps (with_queue 0) k law.runs in
+    let shard = one_shard k.shards [] law.journals in
+    let quiet = subst (λ (s : Settings). list_all (is_quiet s) (shard.one ∷ []) ≡ true) same (subst (λ (shards : List Shard). list_all (is_quiet (settings c k)) shards ≡ true) shard.are law.between.taken) in
+    let inside : held_by_shards (settings c k) 0 k.shards ≡ [] = ap (λ (shards : List Shard). held_by_shards (settings c k) 0 shards) shard.are ∙ ap (λ (s : Settings). held_by_shards s 0 (shard.one ∷ [])) same ∙ none_inside shard.one shard.journal quiet in
+    let counted : k.counted ≡ [] = none_counted k.counted (λ r. law.counts (Dropped r) ∙ none r) in
+    let all : held c k ≡ [] = ap (λ (keys : List HeldKey). keys ++ held_by_shards (settings c k) 0 k.shards ++ held_at exported k.exported ++ held_at in_batch k.batch ++ flat_map (held_at handed) k.handed ++ map place_of k.counted) (none_unrouted 0 k.lanes law.between.routed)
+    ∙ ap (λ (keys : List HeldKey). keys ++ held_at exported k.exported ++ held_at in_batch k.batch ++ flat_map (held_at handed) k.handed ++ map place_of k.counted) inside
+    ∙ ap (λ (spans : List Arrival). held_at exported spans ++ held_at in_batch k.batch ++ flat_map (held_at handed) k.handed ++ map place_of k.counted) law.between.pulled
+    ∙ ap (λ (spans : List Arrival). held_at in_batch spans ++ flat_map (held_at handed) k.handed ++ map place_of k.counted) law.between.sent
+    ∙ ap (λ (batches : List (List Arrival)). flat_map (held_at handed) batches ++ map place_of k.counted) law.handed_over
+    ∙ ap (map place_of) counted in
+    let at = some_lane k.lanes 0 (law.counts Received) in
+    let there : slice_get k.lanes 0 ≡ Some at.first = ap (λ (lanes : List Lane). slice_get lanes 0) at.are in
+    let was : is_received k (key 0) ≡ true = ap (λ (lanes : List Lane). list_any (λ (l : Lane). list_any (λ (a : Arrival). same_key a.key (key 0)) l.received) lanes) at.are
+    ∙ ap (λ (spans : List Arrival). list_any (λ (a : Arrival). same_key a.key (key 0)) spans || list_any (λ (l : Lane). list_any (λ (a : Arrival). same_key a.key (key 0)) l.received) at.others) (law.received 0 at.first there) in
+    let placed = law.holds.one_place.received (key 0) was in
+    let z : 0 ≡ 1 = sym (ap (λ (keys : List HeldKey). length (map (λ (h : HeldKey). h.place) (filter (λ (h : HeldKey). same_key h.key (key 0)) keys))) all) ∙ placed in
+    absurd (omega (arith, z))
+  where
+    place_of : DroppedSpan → HeldKey
+    place_of n = record { place = counted_under n.reason; key = n.key }
+
+    none : (r : Reason) → number_but_full own full_world (Dropped r) ≡ 0
+    none InvalidId = refl
+    none QueueFull = refl
+    none NoMemory = refl
+    none Evicted = refl
+    none NotSampled = refl
+    none LateNotSampled = refl
+    none ExporterDown = refl
+
+-- ---- a line is played behind a close
+
+abbrev ends : Journal
+ends = entry_of (End 1) false false ∷ entry_of (End 0) false false ∷ []
+
+abbrev closed_world : World
+closed_world = record start { journals = ends ∷ []; closed = true }
+
+close_played : Plays own (with_queue 1) start close closed_world
+unfolding notes
+close_played = (
+  refl,
+  record {
+    released = [];
+    takes = (
+      (entry_of (End 0) false false ∷ []) ∷ [],
+      [],
+      [],
+      [],
+      ([], [], [], ((false, false, refl, refl), refl), (refl, refl), refl),
+      (closed_world.journals, [], [], [], ([], [], [], ((false, false, refl, refl), refl), (refl, refl), refl), (refl, refl, refl), refl),
+      refl,
+    );
+    batches = [];
+    sends = record { are_batches = tt; are_all = refl; sends = refl };
+    becomes = refl;
+  },
+)
+
+-- a request is read where nothing asks whether the script was closed
+abbrev late_world : World
+late_world = record closed_world {
+  contacts = with_received 0 1 start.contacts;
+  received = span ∷ [];
+  journals = (entry_of (Span span) false false ∷ ends) ∷ [];
+  events = replied (Done 1) ∷ [];
+  sink = record { taken = Some done_line; failures = 0; is_down = false };
+}
+
+late_played : (body : List ℕ) → IsTakenFor body (reads of_one_span) → Receives own (with_queue 1) closed_world 0 0 body late_world
+unfolding notes
+late_played body taken = inr (
+  reads of_one_span,
+  taken,
+  (
+    Done 1,
+    record { items = Span span ∷ []; capacity = 1 } ∷ [],
+    record { refused = 0; pushed = (0, 0, record { items = Span span ∷ []; capacity = 1 } ∷ [], refl, inl (refl, (record { items = []; capacity = 1 }, record { items = Span span ∷ []; capacity = 1 }, refl, (omega arith, refl), refl)), (refl, refl)); replied = (refl, refl) },
+    (
+      late_world.sink,
+      inl (record { was_up = refl; stays_up = refl; no_failure = refl; bytes = refl }),
+      record { released = []; takes = (late_world.journals, [], [], [], ([], [], [], ((false, false, refl, refl), refl), (refl, refl), refl), (refl, refl, refl), refl); batches = []; sends = record { are_batches = tt; are_all = refl; sends = refl }; becomes = refl },
+    ),
+  ),
+)
+
+-- a key of which nothing waits is in no place that waits
+not_waiting : (k : ArrivalKey) (place : Place) (keys : List HeldKey) → filter (λ (h : HeldKey). is_waiting h.place) keys ≡ [] → map (λ (h : HeldKey). h.place) (filter (λ (h : HeldKey). same_key h.key k) keys) ≡ place ∷ [] → is_waiting place ≡ false
+not_waiting k place [] none e = absurd (cc e)
+not_waiting k place (h ∷ keys) none e = go (is_waiting h.place) (same_key h.key k) refl none e (not_waiting k place keys)
+  where
+    go : (w s : Bool) → is_waiting h.place ≡ w → cond w (h ∷ filter (λ (h : HeldKey). is_waiting h.place) keys) (filter (λ (h : HeldKey). is_waiting h.place) keys) ≡ []
+        → map (λ (h : HeldKey). h.place) (cond s (h ∷ filter (λ (h : HeldKey). same_key h.key k) keys) (filter (λ (h : HeldKey). same_key h.key k) keys)) ≡ place ∷ []
+        → (filter (λ (h : HeldKey). is_waiting h.place) keys ≡ [] → map (λ (h : HeldKey). h.place) (filter (λ (h : HeldKey). same_key h.key k) keys) ≡ place ∷ [] → is_waiting place ≡ false)
+        → is_waiting place ≡ false
+    go true s is none e more = absurd (cc none)
+    go false true is none e more = let same : h.place ≡ place = cc e in subst (λ (p : Place). is_waiting p ≡ false) same is
+    go false false is none e more = more none e
+
+-- a span that waits is in no place that doesn't
+buffered_waits : (place : Place) (due : Bool) → IsTrue (is_where 0 due waits place) → is_waiting place ≡ false → ⊥
+buffered_waits (unrouted n) due e f = cc f
+buffered_waits (queued n) due e f = cc f
+buffered_waits (buffered n) due e f = cc f
+buffered_waits (unshipped n) due e f = cc f
+buffered_waits exported due e f = cc f
+buffered_waits in_batch due e f = cc f
+buffered_waits handed due e f = cc e
+buffered_waits (counted_under r) due e f = cc e
+
+abbrev fate_by : Settings → Journal → Fate
+fate_by s past = fate s past ends false (ids_of 1)
+
+played_after_a_close : IsRunBy number_of handed_in own (with_queue 1) 1 1 late_world → ⊥
+unfolding notes
+played_after_a_close law =
+    let c = core_config own (with_queue 1) in
+    let k = law.core in
+    let past : Journal = entry_of (Span span) false false ∷ ends in
+    let shard = one_shard k.shards past law.journals in
+    let taken : Taken k = record {
+      shard = 0;
+      of = shard.one;
+      in_world = ap (λ (shards : List Shard). slice_get shards 0) shard.are;
+      arrival = span;
+      ids = ids_of 1;
+      valid = refl;
+      refused = false;
+      lost = false;
+      answers = [];
+      later = [];
+      before = ends;
+      split = shard.journal;
+    } in
+    let fits = law.holds.fits taken in
+    let waiting : fate_of c k taken ≡ waits = ap (λ (s : Settings). fate_by s shard.one.journal) (own_settings law.steps (with_queue 1) k law.runs) ∙ ap (fate_by own) shard.journal in
+    buffered_waits fits.0 (has_due (settings c k) shard.one)
+    (subst (λ (f : Fate). IsTrue (is_where 0 (has_due (settings c k) shard.one) f fits.0)) waiting fits.2)
+    (not_waiting span.key fits.0 (held c k) (law.closed refl).nothing_waits fits.1)

@@ -1,0 +1,126 @@
+-- The numbers of a configuration's settings, computed on the definitions: each key's default, its range, and what lies just outside.
+-- No clause needs them: they show what the words of `Values` and `Faults` say, which code and contracts follow. The table below repeats no definition.
+use Rattle.std.specs.Prelude.{◌≡◌, ℕ, ℤ, pos, negsuc, List, [], ◌∷◌, map, codes, Option, Some, None, refl}
+use Rattle.toml.specs.Data.{integer, table, Members, no_members, member}
+use Rattle.tsc_config.specs.Keys.{is_key}
+use Rattle.tsc_config.specs.Faults.{least, numbers_fault, sizes_fault, cache_fault}
+use Rattle.tsc_config.specs.Values.{config_of}
+use Rattle.tsc_config.specs.declared.config.Config.{Config}
+use Rattle.tsc_config.specs.declared.fault.ConfigFault.{ConfigFault}
+use Rattle.tsc_config.specs.declared.fault.ConfigFault.TheVariants.{OutOfRange}
+
+-- a key, the least number and the greatest that it may have, and the one below the least
+record Range : Type 0 where
+  key : List ℕ
+  below : ℤ
+  lowest : ℕ
+  greatest : ℕ
+  above : ℕ
+
+-- the keys of the table, in the order of the tailsamplingprocessor README and then this project's own
+abbrev ranges : List Range
+ranges =
+    record { key = codes "decision_wait_ms"; below = pos 0; lowest = 1; greatest = 3600000; above = 3600001 }
+    ∷ record { key = codes "root_wait_ms"; below = negsuc 0; lowest = 0; greatest = 3600000; above = 3600001 }
+    ∷ record { key = codes "num_traces"; below = pos 0; lowest = 1; greatest = 1000000; above = 1000001 }
+    ∷ record { key = codes "lanes"; below = pos 0; lowest = 1; greatest = 64; above = 65 }
+    ∷ record { key = codes "shards"; below = pos 0; lowest = 1; greatest = 64; above = 65 }
+    ∷ record { key = codes "queue_capacity"; below = pos 0; lowest = 1; greatest = 65536; above = 65537 }
+    ∷ record { key = codes "export_capacity"; below = pos 0; lowest = 1; greatest = 65536; above = 65537 }
+    ∷ record { key = codes "send_batch_size"; below = pos 0; lowest = 1; greatest = 8192; above = 8193 }
+    ∷ record { key = codes "tick_ms"; below = pos 0; lowest = 1; greatest = 60000; above = 60001 }
+    ∷ []
+
+-- those of the table `decision_cache`
+abbrev cache_ranges : List Range
+cache_ranges =
+    record { key = codes "sampled_cache_size"; below = negsuc 0; lowest = 0; greatest = 1000000; above = 1000001 }
+    ∷ record { key = codes "non_sampled_cache_size"; below = negsuc 0; lowest = 0; greatest = 1000000; above = 1000001 }
+    ∷ []
+
+-- a table with one key
+abbrev one_key : List ℕ → ℤ → Members
+one_key key number = member key (integer number) no_members
+
+-- the fault of a number at a key, and of one at a key of `decision_cache`
+abbrev fault_at : List ℕ → ℤ → Option ConfigFault
+fault_at key number = least (numbers_fault (one_key key number)) (sizes_fault (one_key key number))
+
+abbrev cache_fault_at : List ℕ → ℤ → Option ConfigFault
+cache_fault_at key number = cache_fault (table (one_key key number))
+
+abbrev each : {A : Type 0} → A → List Range → List A
+each a rows = map (λ row. a) rows
+
+lowest_allowed : map (λ (r : Range). fault_at r.key (pos r.lowest)) ranges ≡ each None ranges
+lowest_allowed = refl
+
+greatest_allowed : map (λ (r : Range). fault_at r.key (pos r.greatest)) ranges ≡ each None ranges
+greatest_allowed = refl
+
+below_refused : map (λ (r : Range). fault_at r.key r.below) ranges ≡ each (Some OutOfRange) ranges
+below_refused = refl
+
+above_refused : map (λ (r : Range). fault_at r.key (pos r.above)) ranges ≡ each (Some OutOfRange) ranges
+above_refused = refl
+
+cache_lowest_allowed : map (λ (r : Range). cache_fault_at r.key (pos r.lowest)) cache_ranges ≡ each None cache_ranges
+unfolding is_key
+cache_lowest_allowed = refl
+
+cache_greatest_allowed : map (λ (r : Range). cache_fault_at r.key (pos r.greatest)) cache_ranges ≡ each None cache_ranges
+unfolding is_key
+cache_greatest_allowed = refl
+
+cache_below_refused : map (λ (r : Range). cache_fault_at r.key r.below) cache_ranges ≡ each (Some OutOfRange) cache_ranges
+unfolding is_key
+cache_below_refused = refl
+
+cache_above_refused : map (λ (r : Range). cache_fault_at r.key (pos r.above)) cache_ranges ≡ each (Some OutOfRange) cache_ranges
+unfolding is_key
+cache_above_refused = refl
+
+-- ---- values
+
+-- the numbers of a configuration: those of the table, and of `decision_cache`
+abbrev numbers_of : Config → List ℕ
+numbers_of c =
+    c.decision_wait ∷ c.root_wait ∷ c.num_traces ∷ c.lanes ∷ c.shards ∷ c.queue_capacity ∷ c.export_capacity ∷ c.send_batch_size ∷ c.tick
+    ∷ c.sampled_cache_size ∷ c.non_sampled_cache_size ∷ []
+
+-- a table with all keys, each with one of its numbers
+abbrev members_of : (Range → ℕ) → List Range → Members → Members
+members_of number [] rest = rest
+members_of number (r ∷ rows) rest = member r.key (integer (pos (number r))) (members_of number rows rest)
+
+abbrev table_of : (Range → ℕ) → Members
+table_of number = members_of number ranges (member (codes "decision_cache") (table (members_of number cache_ranges no_members)) no_members)
+
+defaults : numbers_of (config_of no_members) ≡ 30000 ∷ 0 ∷ 50000 ∷ 1 ∷ 1 ∷ 1024 ∷ 1024 ∷ 512 ∷ 1000 ∷ 0 ∷ 0 ∷ []
+defaults = refl
+
+listens_by_default : (config_of no_members).listen ≡ codes "127.0.0.1:4318"
+listens_by_default = refl
+
+-- each key gives its own number
+lowest_values : numbers_of (config_of (table_of (λ r. r.lowest))) ≡ 1 ∷ 0 ∷ 1 ∷ 1 ∷ 1 ∷ 1 ∷ 1 ∷ 1 ∷ 1 ∷ 0 ∷ 0 ∷ []
+lowest_values = refl
+
+greatest_values : numbers_of (config_of (table_of (λ r. r.greatest))) ≡ 3600000 ∷ 3600000 ∷ 1000000 ∷ 64 ∷ 64 ∷ 65536 ∷ 65536 ∷ 8192 ∷ 60000 ∷ 1000000 ∷ 1000000 ∷ []
+greatest_values = refl
+
+abbrev own_numbers : Members
+own_numbers =
+    member (codes "decision_wait_ms") (integer (pos 2))
+    (member (codes "root_wait_ms") (integer (pos 3))
+    (member (codes "num_traces") (integer (pos 5))
+    (member (codes "lanes") (integer (pos 7))
+    (member (codes "shards") (integer (pos 11))
+    (member (codes "queue_capacity") (integer (pos 13))
+    (member (codes "export_capacity") (integer (pos 17))
+    (member (codes "send_batch_size") (integer (pos 19))
+    (member (codes "tick_ms") (integer (pos 23))
+    (member (codes "decision_cache") (table (member (codes "sampled_cache_size") (integer (pos 29)) (member (codes "non_sampled_cache_size") (integer (pos 31)) no_members))) no_members)))))))))
+
+own_values : numbers_of (config_of own_numbers) ≡ 2 ∷ 3 ∷ 5 ∷ 7 ∷ 11 ∷ 13 ∷ 17 ∷ 19 ∷ 23 ∷ 29 ∷ 31 ∷ []
+own_values = refl
