@@ -1,7 +1,8 @@
 //! Jobs on threads of their own: all are started, or none does anything; and what each did is known once it is joined.
 //!
 //! [`start_all`] starts a thread for each [`Job`] in a scope. Each waits for one start word, and runs its job where that says
-//! yes. [`join_all`] gives what the jobs left, in their order, once the word has said yes.
+//! yes. [`join_all`] gives what the jobs left, in their order, once the word has said yes. [`run_team`] does both for jobs of
+//! three kinds, beside one on the caller's thread.
 #![tactic(auto)]
 
 mod job;
