@@ -1,0 +1,17 @@
+//! `tsc serve` without its command line: the connections of a listener, ticks of the system's clock and a mark to stop, over
+//! the pipeline.
+#![tactic(auto)]
+
+mod connections;
+mod serving;
+mod stop_mark;
+#[cfg(test)]
+mod tests;
+mod ticker;
+mod wall_clock;
+
+pub use connections::Connections;
+pub use serving::{listen, serve_on, serve_until};
+pub use stop_mark::StopMark;
+pub use ticker::Ticker;
+pub use wall_clock::WallClock;
