@@ -2,7 +2,7 @@
 ghost use Rattle.std.specs.Prelude.{⊤};
 
 use http_lane::{Reads, Stop};
-use pipeline::Feed;
+use lane_worker::Feed;
 use std::net::{TcpListener, TcpStream};
 use std::sync::Wait;
 use std::time::{Clock, Duration};

@@ -17,6 +17,12 @@ module _ {J X : Type 0} (did : J → X → Type 0) where
   did_more (k ∷ done) [] j x h d = absurd h
   did_more (k ∷ done) (y ∷ lefts) j x h d = (h.0, did_more done lefts j x h.1 d)
 
+  pub as_many : (jobs : List J) (lefts : List X) → HaveDone did jobs lefts → length lefts ≡ length jobs
+  as_many [] [] h = refl
+  as_many [] (x ∷ lefts) h = absurd h
+  as_many (j ∷ jobs) [] h = absurd h
+  as_many (j ∷ jobs) (x ∷ lefts) h = omega (arith, as_many jobs lefts h.1)
+
   pub joined_first : (jobs : List J) → Joined jobs jobs []
   joined_first jobs = record { done = []; all = refl; did_so = tt }
 

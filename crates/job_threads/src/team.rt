@@ -59,6 +59,7 @@ where
     ensures second { IfOk result (λ left. K.did team.second left.0.second) }
     ensures third { IfOk result (λ left. HaveDone L.did team.third.items left.0.third.items) }
     ensures main { IfOk result (λ left. M.did main left.1) }
+    ensures counts { IfOk result (λ left. (vec_len left.0.first ≡ vec_len team.first) × (vec_len left.0.third ≡ vec_len team.third)) }
     ensures back { IfErr result (λ back. back ≡ main) }
 {
     let Ok(rooms) = rooms_for(alloc, team.first.len(), team.third.len()) else {
@@ -77,6 +78,7 @@ where
             ensures second { IfOk result (λ left. K.did team.second left.0.second) }
             ensures third { IfOk result (λ left. HaveDone L.did team.third.items left.0.third.items) }
             ensures main { IfOk result (λ left. M.did main left.1) }
+            ensures counts { IfOk result (λ left. (vec_len left.0.first ≡ vec_len team.first) × (vec_len left.0.third ≡ vec_len team.third)) }
             ensures back { IfErr result (λ back. back ≡ main) }
         { in_scope(scope, rt, alloc, begin, team, rooms, main) },
     )
@@ -127,6 +129,7 @@ where
     ensures second { IfOk result (λ left. K.did team.second left.0.second) }
     ensures third { IfOk result (λ left. HaveDone L.did team.third.items left.0.third.items) }
     ensures main { IfOk result (λ left. M.did main left.1) }
+    ensures counts { IfOk result (λ left. (vec_len left.0.first ≡ vec_len team.first) × (vec_len left.0.third ≡ vec_len team.third)) }
     ensures back { IfErr result (λ back. back ≡ main) }
 {
     let started = start_team(scope, rt, alloc, word, team);

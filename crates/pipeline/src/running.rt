@@ -1,20 +1,35 @@
-//! A run. Stand-in: it answers that there was no memory.
-ghost use Rattle.std.specs.Prelude.{◌≡◌, ◌-◌, ◌^◌, ◌<◌, ◌≤◌, vec_len};
-ghost use Rattle.pipeline.specs.Outcome.{SinkAnswers};
+//! A run: all threads are started, or none does anything; the exporter works on the caller's.
+ghost use Rattle.std.specs.Prelude.{◌≡◌, ◌+◌, ◌-◌, ◌^◌, ◌<◌, ◌≤◌, [], All, false, replicate, vec_len, IfErr, IfOk};
+ghost use Rattle.std.specs.List.{list_any};
+ghost use Rattle.drop_ledger.specs.Parts.{PartState};
+ghost use Rattle.span_sink.specs.LineSinks.{up_state};
+ghost use Rattle.pipeline.specs.Outcome.{ReportsSums, SinkAnswers, SinkWent, TellsSink};
+ghost use Rattle.tsc_config.specs.declared.config.Config.{Config};
 
+use crate::exporter_job::ExporterJob;
 use crate::fault::RunFault;
-use drop_ledger::Report;
+use crate::gathering::Counted;
+use crate::lent::Lent;
+use crate::making::{Made, make};
+use drop_ledger::{Accounts, Blanks, Book, Part, Report};
 use http_lane::{Clock as MomentClock, Stop};
-use lane_queue::Gate;
+use job_threads::run_team;
+use lane_queue::{Gate, Room};
 use lane_worker::{Feed, Ticks};
-use span_sink::Sink;
+use span_exporter::{Exporter, sink_takes_lines};
+use span_sink::{LineSink, Sink, takes_handed_lines};
 use std::alloc::Global;
+use std::marker::Brand;
 use std::sync::Wait;
 use std::thread::Threads;
 use std::time::Clock;
 use tsc_config::Config;
 
-/// Drops the feeds and the ticks, and gives the sink back.
+/// Runs the pipeline until every feed and the ticks have ended, and gives the sink back: a thread for each lane, each shard
+/// and the ticker, and the exporter on this one.
+///
+/// There is one feed for each lane. `gate`, `stop` and `clock` are lent to all lanes, the gate to the shards too. The sink
+/// has the lines of the batches that were handed over; the report has the counts of all threads.
 pub fn run<
     F: Feed + Send + Drop,
     T: Ticks + Send + Drop,
@@ -24,16 +39,19 @@ pub fn run<
     M: MomentClock + Sync,
     R: Threads + Wait + Clock + Sync,
 >(
-    _rt: &R,
-    _alloc: Global,
+    rt: &R,
+    alloc: Global,
     config: Config,
     feeds: Vec<F>,
-    _ticks: T,
+    ticks: T,
     sink: S,
-    _gate: &G,
-    _stop: &P,
-    _clock: &M,
+    gate: &G,
+    stop: &P,
+    clock: &M,
 ) -> (S, Result<Report, RunFault>)
+where
+    F::Reader: Send,
+    F::Writer: Send,
     requires waits { 0 < config.decision_wait }
     requires lanes { 0 < config.lanes }
     requires shards { (0 < config.shards) × (config.shards ≤ 64) }
@@ -45,7 +63,162 @@ pub fn run<
     requires failures { S.failures sink < 2 ^ 64 - 1 }
     ensures sink { SinkAnswers (S.taken sink) (S.failures sink) (S.taken result.0) (S.failures result.0) result.1 }
 {
-    drop(feeds);
-    drop(config);
-    (sink, Err(RunFault::NoMemory))
+    let lines = LineSink::new(sink);
+    let exporter = match Exporter::new(alloc, config.send_batch_size, config.shards, lines) {
+        Ok(exporter) => exporter,
+        Err((lines, _)) => return (lines.end(), Err(RunFault::NoMemory)),
+    };
+    let blanks = Blanks::new(config.lanes as u64 + config.shards as u64 + 2);
+    let (exporter, answer) = run_in::<F, T, S, G, P, M, Brand, Brand, Brand, R>(
+        rt, alloc, &config, feeds, ticks, exporter, blanks, gate, stop, clock,
+    );
+    (exporter.end().end(), answer)
+}
+
+/// Makes the book, runs the threads, and answers the report.
+fn run_in<
+    F: Feed + Send + Drop,
+    T: Ticks + Send + Drop,
+    S: Sink + Drop,
+    G: Gate + Sync,
+    P: Stop + Sync,
+    M: MomentClock + Sync,
+    C: Room + Send + Sync,
+    D: Room + Send + Sync,
+    B: Accounts + Send + Sync,
+    R: Threads + Wait + Clock + Sync,
+>(
+    rt: &R,
+    alloc: Global,
+    config: &Config,
+    feeds: Vec<F>,
+    ticks: T,
+    exporter: Exporter<S>,
+    blanks: Blanks,
+    gate: &G,
+    stop: &P,
+    clock: &M,
+) -> (Exporter<S>, Result<Report, RunFault>)
+where
+    F::Reader: Send,
+    F::Writer: Send,
+    requires waits { 0 < config.now.decision_wait }
+    requires shards { (0 < config.now.shards) × (config.now.shards ≤ 64) }
+    requires traces { config.now.shards ≤ config.now.num_traces }
+    requires queue { (0 < config.now.queue_capacity) × (config.now.queue_capacity ≡ C.capacity) }
+    requires export { (0 < config.now.export_capacity) × (config.now.export_capacity ≡ D.capacity) }
+    requires feeds { vec_len feeds ≡ config.now.lanes }
+    requires names { blanks.names ≡ B.names }
+    requires parts { (blanks.parts ≡ B.parts) × (B.parts ≡ config.now.lanes + config.now.shards + 2) }
+    requires new_exporter { (exporter.batch ≡ []) × (0 < exporter.size) × (list_any (λ ended. ended) exporter.ends ≡ false) × (exporter.sink.is_down ≡ false) }
+    ensures sink { SinkAnswers exporter.sink.taken exporter.sink.failures result.0.sink.taken result.0.sink.failures result.1 }
+{
+    let lanes = config.lanes as usize;
+    let Ok((book, parts)) = Book::<B>::new(alloc, blanks, lanes + config.shards + 1) else {
+        return (exporter, Err(RunFault::NoMemory));
+    };
+    let lent = Lent {
+        rt,
+        alloc,
+        book: &book,
+        gate,
+        stop,
+        clock,
+    };
+    match run_over::<F, T, S, G, P, M, C, D, B, R>(&lent, config, feeds, ticks, exporter, parts) {
+        Ok((exporter, counted)) => {
+            let answer = answer_of(book, counted, exporter.is_down());
+            (exporter, answer)
+        }
+        Err(exporter) => (exporter, Err(RunFault::NoMemory)),
+    }
+}
+
+/// What a run answers whose threads have ended.
+fn answer_of<B: Accounts>(
+    book: Book<B>,
+    counted: Counted<B>,
+    is_down: bool,
+) -> Result<Report, RunFault>
+    requires all { vec_len counted.parts + 1 ≡ B.parts }
+    ensures sink { TellsSink is_down result }
+    ensures sums { ReportsSums counted.parts.items result }
+{
+    let report = book.gather(counted.parts);
+    if counted.is_full {
+        Err(RunFault::BookFull)
+    } else if is_down {
+        Err(RunFault::SinkDown(report))
+    } else {
+        Ok(report)
+    }
+}
+
+/// Makes what the threads are given, runs them, and gathers the parts with which they counted. It gives the exporter back
+/// where there was no memory, or a thread couldn't be started: then none has done anything.
+fn run_over<
+    's,
+    F: Feed + Send + Drop,
+    T: Ticks + Send + Drop,
+    S: Sink + Drop,
+    G: Gate + Sync,
+    P: Stop + Sync,
+    M: MomentClock + Sync,
+    C: Room + Send + Sync,
+    D: Room + Send + Sync,
+    B: Accounts + Send + Sync,
+    R: Threads + Wait + Clock + Sync,
+>(
+    lent: &Lent<'s, B, G, P, M, R>,
+    config: &Config,
+    feeds: Vec<F>,
+    ticks: T,
+    exporter: Exporter<S>,
+    parts: Vec<Part<B>>,
+) -> Result<(Exporter<S>, Counted<B>), Exporter<S>>
+where
+    F::Reader: Send,
+    F::Writer: Send,
+    requires waits { 0 < config.now.decision_wait }
+    requires shards { (0 < config.now.shards) × (config.now.shards ≤ 64) }
+    requires traces { config.now.shards ≤ config.now.num_traces }
+    requires queue { (0 < config.now.queue_capacity) × (config.now.queue_capacity ≡ C.capacity) }
+    requires export { (0 < config.now.export_capacity) × (config.now.export_capacity ≡ D.capacity) }
+    requires feeds { vec_len feeds ≡ config.now.lanes }
+    requires parts { (vec_len parts ≡ config.now.lanes + config.now.shards + 1) × All (λ p. p ≡ record { parts = 1; numbers = replicate 9 0 }) parts.items }
+    requires new_exporter { (exporter.batch ≡ []) × (0 < exporter.size) × (list_any (λ ended. ended) exporter.ends ≡ false) × (exporter.sink.is_down ≡ false) }
+    ensures parts { IfOk result (λ ran. vec_len ran.1.parts ≡ config.now.lanes + config.now.shards + 1) }
+    ensures sink { IfOk result (λ ran. SinkWent exporter.sink ran.0.sink) }
+    ensures back { IfErr result (λ back. back ≡ exporter) }
+{
+    let Ok(made) = make::<F, T, C, D, B, G, P, M, R>(lent, config, feeds, ticks, parts) else {
+        return Err(exporter);
+    };
+    let Made {
+        team,
+        shipments,
+        share,
+        room,
+    } = made;
+    let job = ExporterJob {
+        rt: lent.rt,
+        exporter,
+        receiver: shipments,
+        share,
+    };
+    match run_team(lent.rt, lent.alloc, team, job) {
+        Ok((left, last)) => {
+            sink_takes_lines();
+            takes_handed_lines();
+            let mut counted = Counted {
+                parts: room,
+                is_full: false,
+            };
+            counted.add_lanes(left.first);
+            counted.add_shards(left.third);
+            counted.add(last.part, last.is_full);
+            Ok((last.exporter, counted))
+        }
+        Err(job) => Err(job.exporter),
+    }
 }

@@ -1,0 +1,7 @@
+-- Sent, ShardSent, BookSent, JobsSent: which of the types that the threads are given and leave may go to another thread.
+pub mod BookSent
+pub mod Columns
+pub mod JobsSent
+pub mod Sent
+pub mod ShardSent
+pub mod SinkWent

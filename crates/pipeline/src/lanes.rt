@@ -1,0 +1,89 @@
+//! What the lanes' threads are given.
+ghost use Rattle.std.specs.Prelude.{◌≡◌, ◌+◌, ◌<◌, ◌≤◌, [], All, length, replicate, vec_len, vec_capacity, IfOk, OnOk};
+ghost use Rattle.drop_ledger.specs.Parts.{PartState};
+
+use crate::lane_job::LaneJob;
+use crate::lent::Lent;
+use drop_ledger::{Accounts, BookShare, Part};
+use lane_queue::{Room, Sender, SenderPort};
+use lane_seq::Lane;
+use otlp_types::Item;
+use std::alloc::AllocError;
+use std::sync::Wait;
+
+/// What the lanes' threads are given: for each feed a lane of its number over its ends, and a part to count with.
+pub fn lane_jobs<'s, F: Drop, C: Room, B: Accounts, G, P, M, R: Wait>(
+    lent: &Lent<'s, B, G, P, M, R>,
+    feeds: Vec<F>,
+    columns: Vec<Vec<Sender<Item, C>>>,
+    parts: &mut Vec<Part<B>>,
+) -> Result<Vec<LaneJob<'s, F, C, B, G, P, M, R>>, AllocError>
+    requires few { vec_len feeds < 65536 }
+    requires columns { (vec_len columns ≡ vec_len feeds) × All (λ c. 0 < length c.items) columns.items }
+    requires parts { (vec_len feeds ≤ vec_len parts.old) × All (λ p. p ≡ record { parts = 1; numbers = replicate 9 0 }) parts.old.items }
+    ensures count { IfOk result (λ jobs. vec_len jobs ≡ vec_len feeds) }
+    ensures ready { IfOk result (λ jobs. All (λ job. (job.lane.number ≡ job.number) × (job.room.items ≡ []) × (length job.lane.ports ≤ vec_capacity job.room)) jobs.items) }
+    ensures parts { OnOk result ((vec_len parts.new + vec_len feeds ≡ vec_len parts.old) × All (λ p. p ≡ record { parts = 1; numbers = replicate 9 0 }) parts.new.items) }
+{
+    let mut feeds = feeds;
+    let mut columns = columns;
+    let mut jobs = Vec::with_capacity(lent.alloc, feeds.len())?;
+    while let Some(feed) = feeds.pop() {
+        let number = feeds.len() as u16;
+        let senders = columns.take_last();
+        let part = parts.take_last();
+        jobs.push(lane_job(lent, number, feed, senders, part)?)?;
+    }
+    Ok(jobs)
+}
+
+/// What a lane's thread is given.
+fn lane_job<'s, F: Drop, C: Room, B: Accounts, G, P, M, R: Wait>(
+    lent: &Lent<'s, B, G, P, M, R>,
+    number: u16,
+    feed: F,
+    senders: Vec<Sender<Item, C>>,
+    part: Part<B>,
+) -> Result<LaneJob<'s, F, C, B, G, P, M, R>, AllocError>
+    requires some { 0 < length senders.items }
+    requires part { part.parts ≡ 1 }
+    ensures number { IfOk result (λ job. job.number ≡ number) }
+    ensures lane { IfOk result (λ job. job.lane ≡ record { number = number; connected = 0; ports = senders.items }) }
+    ensures room { IfOk result (λ job. (job.room.items ≡ []) × (length job.lane.ports ≤ vec_capacity job.room)) }
+    ensures share { IfOk result (λ job. job.share ≡ part) }
+    ensures feed { IfOk result (λ job. job.feed ≡ feed) }
+{
+    let count = senders.len();
+    let ports = Vec::with_capacity(lent.alloc, count)?;
+    let room = Vec::with_capacity(lent.alloc, count)?;
+    Ok(LaneJob {
+        rt: lent.rt,
+        alloc: lent.alloc,
+        number,
+        feed,
+        lane: lane_of(lent.rt, number, senders, ports),
+        room,
+        share: BookShare::new(lent.rt, lent.book, part),
+        gate: lent.gate,
+        stop: lent.stop,
+        clock: lent.clock,
+    })
+}
+
+/// A lane over these ends; `ports` has room for them.
+fn lane_of<'s, C: Room, R: Wait>(
+    rt: &'s R,
+    number: u16,
+    senders: Vec<Sender<Item, C>>,
+    ports: Vec<SenderPort<'s, Item, C, R>>,
+) -> Lane<SenderPort<'s, Item, C, R>>
+    requires some { 0 < length senders.items }
+    requires room { (ports.items ≡ []) × (length senders.items ≤ vec_capacity ports) }
+    ensures { result ≡ record { number = number; connected = 0; ports = senders.items } }
+{
+    let mut ports = ports;
+    for sender in senders {
+        ports.push_reserved(SenderPort::new(rt, sender));
+    }
+    Lane::new(number, ports)
+}

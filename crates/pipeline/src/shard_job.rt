@@ -1,0 +1,86 @@
+//! What a shard's thread is given, does and leaves.
+ghost use Rattle.std.specs.Prelude.{◌≡◌, [], All, true, false};
+ghost use Rattle.lane_queue.specs.Ends.{IsNew};
+ghost use Rattle.pipeline.specs.Jobs.{ShardDid};
+
+use drop_ledger::{Accounts, BookShare, Part, Tally};
+use job_threads::Job;
+use lane_queue::{Gate, Receiver, Room, Sender};
+use otlp_types::{Item, Shipment};
+use shard_core::Shard;
+use shared_budget::BudgetSeat;
+use std::sync::Wait;
+use std::time::Clock;
+
+/// What a shard's thread is given.
+#[derive(Drop)]
+pub struct ShardJob<'s, C: Room, D: Room, B: Accounts, G, R: Wait> {
+    pub rt: &'s R,
+    pub number: u16,
+    pub shard: Shard,
+    pub seat: BudgetSeat<'s, R>,
+    pub receiver: Receiver<Item, C>,
+    pub sender: Sender<Shipment, D>,
+    pub share: BookShare<'s, B, R>,
+    pub gate: &'s G,
+}
+
+/// What a shard's thread leaves.
+#[derive(Drop)]
+pub struct ShardLeft<'s, C: Room, D: Room, B: Accounts, R: Wait> {
+    /// The shard's seat at the limiter.
+    pub seat: BudgetSeat<'s, R>,
+    /// The end at which its items were popped.
+    pub receiver: Receiver<Item, C>,
+    /// The end at which it shipped.
+    pub sender: Sender<Shipment, D>,
+    /// What it counted with.
+    pub part: Part<B>,
+    /// Whether a count would have passed 2^64-1.
+    pub is_full: bool,
+    pub ghost one: { part.parts ≡ 1 },
+}
+
+impl<'s, C: Room, D: Room, B: Accounts, G: Gate, R: Wait + Clock> Job
+    for ShardJob<'s, C, D, B, G, R> {
+    ghost use Rattle.std.specs.Prelude.{◌≡◌, [], All, true, false};
+    ghost use Rattle.lane_queue.specs.Ends.{IsNew};
+    ghost use Rattle.policy_tree.specs.Tree.{limiters};
+    ghost use Rattle.policy_tree.specs.Meaning.{meaning};
+    ghost use Rattle.policy_eval.specs.Meaning.{knows};
+    ghost use Rattle.shard_core.specs.Held.{StandsFor, has_due, is_finished, settings};
+    ghost use Rattle.shared_budget.specs.Seats.{has_node};
+    ghost use Rattle.pipeline.specs.Jobs.{ShardDid};
+
+    type Left = ShardLeft<'s, C, D, B, R>;
+
+    ghost ready = { λ job. StandsFor job.shard [] 0 × (has_due job.shard ≡ false) × (is_finished job.shard ≡ false)
+        × All IsNew job.receiver.ends × IsNew job.sender
+        × (knows (has_node job.seat) (limiters (meaning job.shard.policies)) ≡ true) };
+
+    ghost did = { λ job left. ShardDid job.number (settings job.shard) job.seat job.receiver job.sender job.share.numbers
+        left.seat left.receiver left.sender left.part.numbers left.is_full };
+
+    fn work(self) -> ShardLeft<'s, C, D, B, R> {
+        let ShardJob {
+            rt,
+            number,
+            shard,
+            seat,
+            receiver,
+            sender,
+            share,
+            gate,
+        } = self;
+        let tally = Tally::new(share);
+        let end = shard_worker::work(rt, number, shard, seat, receiver, sender, tally, gate);
+        let is_full = end.tally.is_full();
+        ShardLeft {
+            seat: end.limiter,
+            receiver: end.receiver,
+            sender: end.sender,
+            part: end.tally.end().end(),
+            is_full,
+        }
+    }
+}
