@@ -1,11 +1,11 @@
 //! A buffer over a reader, which counts the reads.
-ghost use Rattle.std.specs.Prelude.{◌≡◌, ◌≢◌, ℕ, ◌+◌, ◌-◌, ◌^◌, ◌<◌, ◌≤◌, ◌++◌, Option, List, [], length, take, drop, IfOk, OnOk, IfErr, OnErr, vec_len};
+ghost use Rattle.std.specs.Prelude.{◌≡◌, ◌≢◌, ℕ, ◌+◌, ◌-◌, ◌^◌, ◌<◌, ◌≤◌, ◌++◌, Option, List, [], Err, length, take, drop, IfOk, OnOk, IfErr, OnErr, vec_len};
 ghost use Rattle.std.specs.Result.{IsErrOf};
 ghost use Rattle.std.specs.Io.KnownBytes.{Consumes, Keeps, IsAtEnd};
 ghost use Rattle.tsc_script.specs.declared.limits.TheConstants.{MAX_READS};
-ghost use Rattle.tsc_script.specs.ToRead.{BufferState, still_to_come};
+ghost use Rattle.tsc_script.specs.ToRead.{BufferState, still_to_come, AllInterrupted, AllButLastInterrupted};
 
-use crate::limits::MAX_READS;
+use crate::read_count::ReadCount;
 use std::alloc::{AllocError, Allocator};
 use std::io::{ErrorKind, Read};
 use std::marker::Model;
@@ -30,16 +30,16 @@ pub(crate) struct Buffer<A: Allocator> {
     chunk: Vec<u8, A>,
     at: usize,
     filled: usize,
-    reads: u64,
+    reads: ReadCount,
 }
 
 impl<A: Allocator> Model for Buffer<A> {
     ghost Value = { BufferState };
 
-    ghost view = { λ b. record { bytes = take (b.filled - b.at) (drop b.at b.chunk.items); reads = b.reads } };
+    ghost view = { λ b. record { bytes = take (b.filled - b.at) (drop b.at b.chunk.items); reads = b.reads.made } };
 
     ghost invariant = { λ b. (b.at ≤ b.filled) × (b.filled ≤ vec_len b.chunk)
-        × (0 < vec_len b.chunk) × (b.reads ≤ MAX_READS) };
+        × (0 < vec_len b.chunk) × (b.reads.made ≤ MAX_READS) };
 }
 
 impl<A: Allocator> Buffer<A> {
@@ -52,7 +52,7 @@ impl<A: Allocator> Buffer<A> {
             chunk,
             at: 0,
             filled: 0,
-            reads: 0,
+            reads: ReadCount::new(),
         })
     }
 
@@ -107,30 +107,33 @@ enum ReadFault {
     Error(ErrorKind),
 }
 
-/// Reads once more, and again after each interruption, while the bound on reads allows it.
-fn read_some<R: Read>(reader: &mut R, chunk: &mut [u8], reads: &mut u64) -> Result<usize, ReadFault>
+/// Reads once more, and again after each interruption, while the bound on reads allows it. Any other error ends it at once.
+fn read_some<R: Read>(
+    reader: &mut R,
+    chunk: &mut [u8],
+    reads: &mut ReadCount,
+) -> Result<usize, ReadFault>
     requires room { 0 < length chunk.old }
-    requires reads { reads.old ≤ MAX_READS }
+    requires reads { reads.old.made ≤ MAX_READS }
     ensures within { IfOk result (λ count. count ≤ length chunk.new) }
     ensures bytes { IfOk result (λ count.
         Consumes (R.remaining reader.old) (R.remaining reader.new) (take count chunk.new)) }
     ensures end { IfOk result (λ count. count ≡ 0 → IsAtEnd (R.remaining reader.new)) }
     ensures fault { OnErr result (Keeps (R.remaining reader.old) (R.remaining reader.new)) }
-    ensures reads { (reads.old ≤ reads.new) × (reads.new ≤ 2 ^ 32) }
-    ensures counted { OnOk result (reads.old < reads.new) }
-    ensures no_read_left { IsErrOf result ReadFault.NoReadLeft → reads.new ≡ 2 ^ 32 }
+    ensures reads { (reads.old.made ≤ reads.new.made) × (reads.new.made ≤ 2 ^ 32) }
+    ensures counted { OnOk result (reads.old.made < reads.new.made) }
+
+    // What is tried again: nothing but an interruption, up to the bound.
+    ensures at_once { result ≢ Err ReadFault.NoReadLeft → AllButLastInterrupted reads.old reads.new }
+    ensures no_read_left { IsErrOf result ReadFault.NoReadLeft
+        → (reads.new.made ≡ 2 ^ 32) × AllInterrupted reads.old reads.new }
     ensures no_interruption { IfErr result (λ fault. fault ≢ ReadFault.Error ErrorKind.Interrupted) }
 {
-    while *reads < MAX_READS {
-        *reads += 1;
-        match reader.read(chunk) {
+    while !reads.is_spent() {
+        match reads.read(reader, chunk) {
             Ok(count) => return Ok(count),
-            Err(error) => {
-                let kind = error.kind();
-                if kind != ErrorKind::Interrupted {
-                    return Err(ReadFault::Error(kind));
-                }
-            }
+            Err(ErrorKind::Interrupted) => {}
+            Err(kind) => return Err(ReadFault::Error(kind)),
         }
     }
     Err(ReadFault::NoReadLeft)

@@ -5,7 +5,8 @@
 //! fit a u64, and JSON is the rest of the line, spaces included. Another line, an empty one, one above 4,194,368
 //! bytes without its line feed, and any line after `close` is refused. The input's end without `close` acts as one.
 //!
-//! No contract can say when a reader fails, so a body that always answers `Fault` at the right line meets
+//! A read is tried again after an interruption alone, while fewer than 2^32 were made; any other error ends the script at
+//! that line. No contract can say when a reader fails, so a body that always answers `Fault` at the right line meets
 //! `play_script`'s contract, as does one that always answers `NoMemory`. The tests show that a good reader gets
 //! neither.
 #![tactic(auto)]
@@ -18,6 +19,7 @@ mod limits;
 mod lines;
 mod machine;
 mod play;
+mod read_count;
 mod stop;
 #[cfg(test)]
 mod tests;
