@@ -4,3 +4,4 @@ mod FaultSets
 mod Bounds
 mod Whole
 mod Rows
+mod Settings

@@ -1,0 +1,134 @@
+-- Each setting is what stands at its key, or the key's default. For `settings_are_of_their_keys`.
+use Rattle.std.proofs.Common.{◌≡◌, ℕ, ◌<◌, ◌≤◌, pos, negsuc, zero, suc, Bool, true, false, ◌⊎◌, inl, inr, refl, arith, codes, Option, None, Some, Ok, Err, subst, if◌then◌else◌, nat_lt, int_le, ◌&&◌}
+use Rattle.std.proofs.lemmas.Bool.Decides.{nat_tests}
+use Rattle.toml.specs.Data.{Data, string, integer, table, Members, get_member}
+use Rattle.toml.specs.Parse.{parse_document}
+use Rattle.policy_tree.specs.Faults.{fault_of_policies}
+use Rattle.policy_tree.specs.declared.fault.PolicyFault.{PolicyFault}
+use Rattle.tsc_config.specs.Faults.{number_of, least, optional, unknown_fault, integer_fault, text_fault, cache_fault, numbers_fault, sizes_fault, table_fault}
+use Rattle.tsc_config.specs.Reading.{reading_of, reading_unless, reading_where}
+use Rattle.tsc_config.specs.Settings.{IsTextAt, IsCacheSize, HasSettings, ReadsSettings}
+use Rattle.tsc_config.specs.Values.{config_of, positive_of, natural_of, cache_size, listen_of}
+use Rattle.tsc_config.specs.declared.config.Config.{Config}
+use Rattle.tsc_config.specs.declared.fault.ConfigFault.{ConfigFault}
+use Rattle.tsc_config.specs.declared.fault.ConfigFault.TheVariants.{OutOfRange, TooFewTraces}
+use Rattle.tsc_config.specs.declared.kinds.TableKind.TheVariants as table_is
+
+-- no fault among two
+neither : (a b : Option ConfigFault) → least a b ≡ None → (a ≡ None) × (b ≡ None)
+neither None b e = (refl, e)
+neither (Some x) None e = cc
+neither (Some x) (Some y) e = absurd (some (nat_lt (number_of y) (number_of x)) e)
+  where
+    some : (r : Bool) → (if r then Some y else Some x) ≡ None → ⊥
+    some true e = cc
+    some false e = cc
+
+-- what stands at a key, as a number
+abbrev NumberOf : Option Data → (default lowest greatest number : ℕ) → Type 0
+NumberOf at default lowest greatest number =
+    ((at ≡ None) × (number ≡ default)) ⊎ ((at ≡ Some (integer (pos number))) × (lowest ≤ number) × (number ≤ greatest))
+
+allowed : (r : Bool) → (if r then None else Some OutOfRange) ≡ None → r ≡ true
+allowed true e = refl
+allowed false e = cc
+
+positive : (default greatest : ℕ) (at : Option Data) → optional (integer_fault (pos 1) (pos greatest)) at ≡ None
+    → NumberOf at default 1 greatest (positive_of default greatest at)
+positive default greatest None e = inl (refl, refl)
+positive default greatest (Some (integer (pos zero))) e = cc
+positive default greatest (Some (integer (pos (suc n)))) e = of (nat_lt n greatest) refl
+  where
+    within : n < greatest
+    within = grind (arith, nat_tests, allowed (int_le (pos 1) (pos (suc n)) && int_le (pos (suc n)) (pos greatest)) e)
+
+    of : (r : Bool) → nat_lt n greatest ≡ r → NumberOf (Some (integer (pos (suc n)))) default 1 greatest (if r then suc n else default)
+    of true t = inr (refl, omega arith, omega (arith, within))
+    of false t = absurd (grind (arith, nat_tests, within))
+positive default greatest (Some (integer (negsuc n))) e = cc
+positive default greatest (Some (string text)) e = cc
+positive default greatest (Some _) e = cc
+
+natural : (greatest : ℕ) (at : Option Data) → optional (integer_fault (pos 0) (pos greatest)) at ≡ None
+    → NumberOf at 0 0 greatest (natural_of at)
+natural greatest None e = inl (refl, refl)
+natural greatest (Some (integer (pos n))) e = inr (refl, omega arith, within)
+  where
+    within : n ≤ greatest
+    within = grind (arith, nat_tests, allowed (int_le (pos 0) (pos n) && int_le (pos n) (pos greatest)) e)
+natural greatest (Some (integer (negsuc n))) e = cc
+natural greatest (Some _) e = cc
+
+text : (given : Members) (at : Option Data) → get_member (codes "listen") given ≡ at → optional text_fault at ≡ None
+    → IsTextAt given (codes "listen") (codes "127.0.0.1:4318") (listen_of at)
+text given None e f = inl (e, refl)
+text given (Some (string bytes)) e f = inr e
+text given (Some _) e f = cc
+
+-- both sizes of the table of caches
+cache : (given : Members) (at : Option Data) → get_member (codes "decision_cache") given ≡ at → optional cache_fault at ≡ None
+    → IsCacheSize given (codes "sampled_cache_size") (cache_size (codes "sampled_cache_size") at)
+    × IsCacheSize given (codes "non_sampled_cache_size") (cache_size (codes "non_sampled_cache_size") at)
+cache given None e f = (inl (e, refl), inl (e, refl))
+cache given (Some (table sizes)) e f =
+    let u = (neither (unknown_fault table_is.DecisionCache sizes) _ f).1 in
+    let n = neither (optional (integer_fault (pos 0) (pos 1000000)) (get_member (codes "sampled_cache_size") sizes)) _ u in (
+      inr (sizes, e, natural 1000000 (get_member (codes "sampled_cache_size") sizes) n.0),
+      inr (sizes, e, natural 1000000 (get_member (codes "non_sampled_cache_size") sizes) n.1),
+    )
+cache given (Some _) e f = cc
+
+-- each row of the table's numbers has no fault
+whole : (members : Members) → table_fault members ≡ None → HasSettings members (config_of members)
+unfolding table_fault
+whole members e =
+    let t = neither (unknown_fault table_is.Config members) _ e in
+    let n = neither (numbers_fault members) _ t.1 in
+    let s = neither (sizes_fault members) _ n.1 in
+    let l = neither (optional text_fault (get_member (codes "listen") members)) _ s.1 in
+    let c = neither (optional cache_fault (get_member (codes "decision_cache") members)) _ l.1 in
+    let wait = neither (optional (integer_fault (pos 1) (pos 3600000)) (get_member (codes "decision_wait_ms") members)) _ n.0 in
+    let root = neither (optional (integer_fault (pos 0) (pos 3600000)) (get_member (codes "root_wait_ms") members)) _ wait.1 in
+    let traces = neither (optional (integer_fault (pos 1) (pos 1000000)) (get_member (codes "num_traces") members)) _ root.1 in
+    let lanes = neither (optional (integer_fault (pos 1) (pos 64)) (get_member (codes "lanes") members)) _ traces.1 in
+    let shards = neither (optional (integer_fault (pos 1) (pos 64)) (get_member (codes "shards") members)) _ lanes.1 in
+    let queue = neither (optional (integer_fault (pos 1) (pos 65536)) (get_member (codes "queue_capacity") members)) _ s.0 in
+    let export = neither (optional (integer_fault (pos 1) (pos 65536)) (get_member (codes "export_capacity") members)) _ queue.1 in
+    let caches = cache members (get_member (codes "decision_cache") members) refl c.0 in record {
+      decision_wait = positive 30000 3600000 (get_member (codes "decision_wait_ms") members) wait.0;
+      root_wait = natural 3600000 (get_member (codes "root_wait_ms") members) root.0;
+      num_traces = positive 50000 1000000 (get_member (codes "num_traces") members) traces.0;
+      sampled_cache_size = caches.0;
+      non_sampled_cache_size = caches.1;
+      lanes = positive 1 64 (get_member (codes "lanes") members) lanes.0;
+      shards = positive 1 64 (get_member (codes "shards") members) shards.0;
+      queue_capacity = positive 1024 65536 (get_member (codes "queue_capacity") members) queue.0;
+      export_capacity = positive 1024 65536 (get_member (codes "export_capacity") members) export.0;
+      send_batch_size = positive 512 8192 (get_member (codes "send_batch_size") members) export.1;
+      tick = positive 1000 60000 (get_member (codes "tick_ms") members) shards.1;
+      listen = text members (get_member (codes "listen") members) refl l.0;
+    }
+
+-- what is read as a configuration is the table's, which has no fault
+where_none : (found : Option PolicyFault) (made config : Config) → reading_where found made ≡ Ok config → made ≡ config
+where_none None made config e = cc
+where_none (Some fault) made config e = cc
+
+with_enough : (r : Bool) (made config : Config) → (if r then Err TooFewTraces else reading_where (fault_of_policies made.policies) made) ≡ Ok config → made ≡ config
+with_enough true made config e = cc
+with_enough false made config e = where_none (fault_of_policies made.policies) made config e
+
+of_table : (members : Members) (found : Option ConfigFault) (config : Config) → table_fault members ≡ found → reading_unless found (config_of members) ≡ Ok config
+    → HasSettings members config
+of_table members None config f e =
+    let same : config_of members ≡ config = with_enough (nat_lt (config_of members).num_traces (config_of members).shards) (config_of members) config e in
+    let P : Config → Type 0 = λ c. HasSettings members c in
+    subst P same (whole members f)
+of_table members (Some fault) config f e = cc
+
+of_document : (document : Option Members) (config : Config) → reading_of document ≡ Ok config → (members : Members) × (document ≡ Some members) × HasSettings members config
+of_document None config e = cc
+of_document (Some members) config e = (members, refl, of_table members (table_fault members) config refl e)
+
+pub reads_settings : ReadsSettings
+reads_settings text config e = of_document (parse_document text) config e

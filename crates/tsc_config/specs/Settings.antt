@@ -1,0 +1,43 @@
+-- What a configuration has from its table, key by key: what stands at the key, or the key's default.
+use Rattle.std.specs.Prelude.{◌≡◌, ℕ, ◌≤◌, pos, List, ◌⊎◌, codes, Some, None, Ok}
+use Rattle.toml.specs.Data.{string, integer, table, Members, get_member}
+use Rattle.toml.specs.Parse.{parse_document}
+use Rattle.tsc_config.specs.Reading.{reading}
+use Rattle.tsc_config.specs.declared.config.Config.{Config}
+
+-- the number of a key: its default, where it doesn't stand there; else the whole number there, which is within these bounds
+abbrev pub IsNumberAt : Members → (key : List ℕ) → (default lowest greatest : ℕ) → (number : ℕ) → Type 0
+IsNumberAt members key default lowest greatest number =
+    ((get_member key members ≡ None) × (number ≡ default))
+    ⊎ ((get_member key members ≡ Some (integer (pos number))) × (lowest ≤ number) × (number ≤ greatest))
+
+-- the text of a key: its default, where it doesn't stand there; else the text there
+abbrev pub IsTextAt : Members → (key : List ℕ) → (default text : List ℕ) → Type 0
+IsTextAt members key default text =
+    ((get_member key members ≡ None) × (text ≡ default)) ⊎ (get_member key members ≡ Some (string text))
+
+-- the size of a cache of decisions: 0 where there is no table of them; else that of its key there
+abbrev pub IsCacheSize : Members → (key : List ℕ) → (size : ℕ) → Type 0
+IsCacheSize members key size =
+    ((get_member (codes "decision_cache") members ≡ None) × (size ≡ 0))
+    ⊎ ((sizes : Members) × (get_member (codes "decision_cache") members ≡ Some (table sizes)) × IsNumberAt sizes key 0 0 1000000 size)
+
+-- each key of a table: its default, its least and greatest number, and the setting that has its value
+pub record HasSettings (members : Members) (config : Config) : Type 0 where
+  pub decision_wait : IsNumberAt members (codes "decision_wait_ms") 30000 1 3600000 config.decision_wait
+  pub root_wait : IsNumberAt members (codes "root_wait_ms") 0 0 3600000 config.root_wait
+  pub num_traces : IsNumberAt members (codes "num_traces") 50000 1 1000000 config.num_traces
+  pub sampled_cache_size : IsCacheSize members (codes "sampled_cache_size") config.sampled_cache_size
+  pub non_sampled_cache_size : IsCacheSize members (codes "non_sampled_cache_size") config.non_sampled_cache_size
+  pub lanes : IsNumberAt members (codes "lanes") 1 1 64 config.lanes
+  pub shards : IsNumberAt members (codes "shards") 1 1 64 config.shards
+  pub queue_capacity : IsNumberAt members (codes "queue_capacity") 1024 1 65536 config.queue_capacity
+  pub export_capacity : IsNumberAt members (codes "export_capacity") 1024 1 65536 config.export_capacity
+  pub send_batch_size : IsNumberAt members (codes "send_batch_size") 512 1 8192 config.send_batch_size
+  pub tick : IsNumberAt members (codes "tick_ms") 1000 1 60000 config.tick
+  pub listen : IsTextAt members (codes "listen") (codes "127.0.0.1:4318") config.listen
+
+-- a text that is read as a configuration is a document with these settings
+abbrev pub ReadsSettings : Type 0
+ReadsSettings = (text : List ℕ) (config : Config) → reading text ≡ Ok config
+    → (members : Members) × (parse_document text ≡ Some members) × HasSettings members config
