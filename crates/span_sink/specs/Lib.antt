@@ -1,2 +1,3 @@
 pub mod Hands
 pub mod LineSinks
+pub mod Sinks

@@ -54,11 +54,7 @@ impl<S: Sink> LineSink<S> {
     /// Hands a line over, with the line feed that it brings. `Failed`: a write failed in this call, and a part of
     /// the line may have been taken. `Down`: a write failed earlier, and nothing was written.
     pub fn hand(&mut self, line: &[u8]) -> Result<(), SinkFault>
-        ensures handed { OnOk result (TakesWhole self.old line.now self.new) }
-        ensures failed { IsErrOf result SinkFault.Failed → FailsInside self.old line.now self.new }
-        ensures down { IsErrOf result SinkFault.Down → (self.old.is_down ≡ true) × (self.new ≡ self.old) }
-        // The three above in one, as the law of many calls takes it.
-        ensures hands { HandsOne self.old line.now result self.new }
+        ensures { HandsOne self.old line.now result self.new }
     {
         if self.is_down {
             return Err(SinkFault::Down);

@@ -4,6 +4,7 @@ ghost use Rattle.std.specs.Io.KnownBytes.{Appends, Keeps};
 
 use crate::sink::{Sink, SinkFault};
 use std::io::{ErrorKind, Write};
+use std::marker::Model;
 
 /// How often an interrupted write is tried again.
 const MOST_RETRIES: u8 = 16;
@@ -11,16 +12,23 @@ const MOST_RETRIES: u8 = 16;
 /// A sink over a writer. A write of no bytes and an error count as failures. An interrupted write is tried again at
 /// most 16 times, and then counts as one failure.
 #[derive(Drop)]
-pub struct WriteSink<W> {
+pub struct WriteSink<W: Write> {
     writer: W,
     failures: u64,
+}
+
+impl<W: Write> Model for WriteSink<W> {
+    ghost use Rattle.span_sink.specs.Sinks.{SinkState};
+
+    ghost Value = { SinkState };
+
+    ghost view = { λ s. record { taken = W.contents s.writer; failures = s.failures } };
 }
 
 impl<W: Write> WriteSink<W> {
     /// A sink over this writer, of which no write has failed.
     pub fn new(writer: W) -> Self
-        ensures taken { ⟦<WriteSink<W> as Sink>⟧.taken result ≡ W.contents writer }
-        ensures failures { ⟦<WriteSink<W> as Sink>⟧.failures result ≡ 0 }
+        ensures { result ≡ record { taken = W.contents writer; failures = 0 } }
     {
         WriteSink {
             writer,
@@ -30,7 +38,7 @@ impl<W: Write> WriteSink<W> {
 
     /// Gives the writer back.
     pub fn end(self) -> W
-        ensures { W.contents result ≡ ⟦<WriteSink<W> as Sink>⟧.taken self }
+        ensures { W.contents result ≡ self.taken }
     {
         let WriteSink {
             writer,
@@ -41,7 +49,7 @@ impl<W: Write> WriteSink<W> {
 }
 
 impl<W: Write> Sink for WriteSink<W> {
-    ghost taken = { λ s. W.contents s.writer };
+    ghost taken = { λ s. s.taken };
 
     ghost failures = { λ s. s.failures };
 
