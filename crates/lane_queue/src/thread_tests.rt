@@ -1,4 +1,4 @@
-//! A queue of two through its ends, and two senders on threads of their own.
+//! A queue of two and one of the greatest capacity through their ends, and two senders on threads of their own.
 ghost use Rattle.std.specs.Prelude.{◌≡◌, ◌<◌};
 ghost use Rattle.lane_queue.specs.Ends.{queues};
 
@@ -44,6 +44,31 @@ fn pushed_and_popped<C: Room, R: Wait>(
 fn queue_of_two(rt: HostRuntime) -> Result<(), Fail> {
     let answers = pushed_and_popped::<Brand, _>(&rt, rt.alloc(), 2)?;
     assert_eq!(rt; answers, [None, Some(3), Some(1), Some(2), None, None]);
+    Ok(())
+}
+
+/// Whether a queue of this capacity takes just so many items, and gives them in order.
+fn fills<C: Room, R: Wait>(rt: &R, alloc: Global, capacity: usize) -> Result<bool, AllocError>
+    requires { (0 < capacity) × (capacity ≡ C.capacity) }
+{
+    let (mut senders, mut receiver) = LaneQueue::new::<usize, C>(alloc, capacity, 1)?;
+    let Some(mut sender) = senders.pop() else {
+        return Ok(false);
+    };
+    let mut fits = true;
+    for item in 0..capacity {
+        fits = fits && sender.try_push(rt, item).is_ok();
+    }
+    fits = fits && sender.try_push(rt, capacity).is_err();
+    for item in 0..capacity {
+        fits = fits && receiver.pop(rt) == Some(item);
+    }
+    Ok(fits && receiver.pop(rt).is_none())
+}
+
+#[test]
+fn greatest_queue_fills(rt: HostRuntime) -> Result<(), Fail> {
+    assert!(rt; fills::<Brand, _>(&rt, rt.alloc(), 65536)?);
     Ok(())
 }
 
