@@ -7,7 +7,7 @@ pub returns-in-Handed-clause-sent : goal.returns-in-Handed-clause-sent
 returns-in-Handed-clause-sent g c = λ start before calls sent.
     let told = c.in-Handed.ensures in (
       Handed c.in-Handed.spans,
-      sent_flush start before c.args.self.now.exporter c.flush.new.self c.args.self.now.tally c.count.new.self calls (Handed c.in-Handed.spans) sent told.leads
+      sent_flush start before c.args.self.now.exporter c.flush.new.self c.args.self.now.tally c.count.new.self calls (Handed c.in-Handed.spans) sent (told.sent, told.emptied)
           (counts_handed c.in-Handed.spans _ c.args.self.now.tally c.count.new.self told.sent.1 c.count.ensures.counted),
     )
 
@@ -16,10 +16,10 @@ returns-in-Spoiled-clause-sent g c = λ start before calls sent.
     let told = c.in-Spoiled.ensures in
     let answer = Spoiled c.in-Spoiled.spans c.in-Spoiled.reason in (
       answer,
-      sent_flush start before c.args.self.now.exporter c.flush.new.self c.args.self.now.tally c.count-in-Spoiled.new.self calls answer sent told.leads
+      sent_flush start before c.args.self.now.exporter c.flush.new.self c.args.self.now.tally c.count-in-Spoiled.new.self calls answer sent (told.sent, told.emptied)
           (counts_spoiled c.in-Spoiled.spans _ c.in-Spoiled.reason c.args.self.now.tally c.count-in-Spoiled.new.self told.sent.1 c.count-in-Spoiled.ensures.counted),
     )
 
 pub returns-in-Empty-clause-sent : goal.returns-in-Empty-clause-sent
 returns-in-Empty-clause-sent g c = λ start before calls sent.
-    (Empty, sent_flush start before c.args.self.now.exporter c.flush.new.self c.args.self.now.tally c.args.self.now.tally calls Empty sent c.in-Empty.ensures.leads (counts_nothing (length c.args.self.now.exporter.batch) c.args.self.now.tally))
+    (Empty, sent_flush start before c.args.self.now.exporter c.flush.new.self c.args.self.now.tally c.args.self.now.tally calls Empty sent (c.in-Empty.ensures.sent, c.in-Empty.ensures.emptied) (counts_nothing (length c.args.self.now.exporter.batch) c.args.self.now.tally))
