@@ -219,10 +219,19 @@ no_memory() {
     check "the same with memory" 3 "$work/expected" /dev/null "$program" replay "$work/config.toml"
 }
 
+# Runs at the limits of the collector, with ample memory: tests/limits.py makes them, with what must come out.
+limits() {
+    local name
+    while read -r name; do
+        check "$name" 0 "$work/$name.expected" "$work/$name.script" "$program" replay "$work/$name.toml"
+    done < "$work/limits"
+}
+
 if [ $# -eq 0 ]; then
     (cd "$top/crates/collector_main" && rt run -- replay ../../examples/errors.toml < /dev/null > /dev/null) || give_up "the program isn't built"
     set -- "$top/crates/collector_main/out/collector_main"
 fi
+"$top/tests/limits.py" "$work" > "$work/limits" || give_up "no runs at the limits"
 for program in "$@"; do
     [ -x "$program" ] || give_up "$program is no program"
     program=$(realpath "$program")
@@ -236,6 +245,7 @@ for program in "$@"; do
     unreadable
     no_room
     no_memory
+    limits
 done
 echo "$passed passed, $failed failed"
 [ "$failed" -eq 0 ]
