@@ -1,17 +1,24 @@
--- How the outcome of a replay arises.
--- For what `run` ensures where a replay was asked for.
-use Rattle.std.proofs.Common.{◌≡◌, true}
+-- How the outcome of what is asked for arises.
+-- For what `run` ensures.
+use Rattle.collector_main.specs.declared.program.Command.{Command}
+use Rattle.collector_main.specs.declared.program.Command.TheVariants.{Replay, Serve}
 use Rattle.collector_main.specs.declared.program.Outcome.{Outcome}
 use Rattle.collector_main.specs.declared.program.Outcome.TheVariants as is
-use Rattle.collector_main.specs.Ending.{Course, CameTo, Replays, asks_replay}
+use Rattle.collector_main.specs.Ending.{Course, CameTo, Does, AsksFor}
 
--- a replay that was asked for
-pub CameTo-replays : (course : Course) (outcome : Outcome) → asks_replay course.arguments ≡ true → Replays course outcome → CameTo course outcome
-CameTo-replays course (is.Done report) asked ends = (asked, ends)
-CameTo-replays course is.SinkDown asked ends = (asked, ends)
-CameTo-replays course is.Usage asked ends = absurd ends
-CameTo-replays course is.Unreadable asked ends = (asked, ends)
-CameTo-replays course (is.Configuration fault) asked ends = (asked, ends)
-CameTo-replays course (is.Script line) asked ends = (asked, ends)
-CameTo-replays course is.NoMemory asked ends = (asked, ends)
-CameTo-replays course is.BookFull asked ends = (asked, ends)
+-- nothing that is asked for ends as wrong arguments do
+no-usage : (course : Course) (command : Command) → Does course command is.Usage → ⊥
+no-usage course Replay does = does
+no-usage course Serve does = does
+
+-- what was asked for was done
+pub CameTo-does : (course : Course) (command : Command) (outcome : Outcome) → AsksFor course.arguments command → Does course command outcome → CameTo course outcome
+CameTo-does course command (is.Done report) asked does = (command, asked, does)
+CameTo-does course command is.SinkDown asked does = (command, asked, does)
+CameTo-does course command is.Usage asked does = absurd (no-usage course command does)
+CameTo-does course command is.Unreadable asked does = (command, asked, does)
+CameTo-does course command (is.Configuration fault) asked does = (command, asked, does)
+CameTo-does course command (is.Script line) asked does = (command, asked, does)
+CameTo-does course command is.NoMemory asked does = (command, asked, does)
+CameTo-does course command is.BookFull asked does = (command, asked, does)
+CameTo-does course command is.CannotListen asked does = (command, asked, does)
