@@ -152,6 +152,7 @@ usage() {
     printf 'tsc: usage: tsc replay CONFIG or tsc serve CONFIG\n' > "$work/expected"
     check "no argument" 2 "$work/expected" /dev/null "$program"
     check "no configuration" 2 "$work/expected" /dev/null "$program" replay
+    check "no configuration of a collector" 2 "$work/expected" /dev/null "$program" serve
     check "three arguments" 2 "$work/expected" /dev/null "$program" replay "$top/examples/errors.toml" more
     check "another command" 2 "$work/expected" /dev/null "$program" play "$top/examples/errors.toml"
     check "an empty command" 2 "$work/expected" /dev/null "$program" "" "$top/examples/errors.toml"
@@ -163,6 +164,7 @@ usage() {
 unreadable() {
     printf 'tsc: configuration refused: unreadable\n' > "$work/expected"
     check "no such configuration" 3 "$work/expected" /dev/null "$program" replay "$work/none.toml"
+    check "no such configuration of a collector" 3 "$work/expected" /dev/null "$program" serve "$work/none.toml"
     check "a folder as configuration" 3 "$work/expected" /dev/null "$program" replay "$work"
     { cat "$top/examples/errors.toml" && printf '# \377\n'; } > "$work/config.toml"
     check "a configuration that isn't UTF-8" 3 "$work/expected" /dev/null "$program" replay "$work/config.toml"

@@ -1,53 +1,24 @@
--- How the outcome of a replay arises.
--- For what `run` ensures where a replay was asked for.
-use Rattle.std.proofs.Common.{◌≡◌, ℕ, true, Result, Ok, Err, inr, refl}
-use Rattle.drop_ledger.specs.declared.report.Report.{Report}
-use Rattle.tsc_config.specs.declared.config.Config.{Config}
-use Rattle.script_session.specs.Replay.{Run, RunEnds, settings_by}
-use Rattle.script_session.specs.declared.fault.RunFault.{RunFault}
-use Rattle.script_session.specs.declared.fault.RunFault.TheVariants.{NoMemory, Refused, Fault, BookFull, SinkDown}
-use Rattle.collector_main.specs.Configuration.{IsConfigOf}
-use Rattle.collector_main.specs.Outcomes.{outcome_of}
+-- How the outcome of what is asked for arises.
+-- For what `run` ensures.
+use Rattle.collector_main.specs.declared.program.Command.{Command}
+use Rattle.collector_main.specs.declared.program.Command.TheVariants.{Replay, Serve}
 use Rattle.collector_main.specs.declared.program.Outcome.{Outcome}
 use Rattle.collector_main.specs.declared.program.Outcome.TheVariants as is
-use Rattle.collector_main.specs.Ending.{Course, CameTo, Replays, RanTo, asks_replay}
+use Rattle.collector_main.specs.Ending.{Course, CameTo, Does, AsksFor}
 
--- a replay that was asked for
-pub CameTo-replays : (course : Course) (outcome : Outcome) → asks_replay course.arguments ≡ true → Replays course outcome → CameTo course outcome
-CameTo-replays course (is.Done report) asked ends = (asked, ends)
-CameTo-replays course is.SinkDown asked ends = (asked, ends)
-CameTo-replays course is.Usage asked ends = absurd ends
-CameTo-replays course is.Unreadable asked ends = (asked, ends)
-CameTo-replays course (is.Configuration fault) asked ends = (asked, ends)
-CameTo-replays course (is.Script line) asked ends = (asked, ends)
-CameTo-replays course is.NoMemory asked ends = (asked, ends)
-CameTo-replays course is.BookFull asked ends = (asked, ends)
+-- nothing that is asked for ends as wrong arguments do
+no-usage : (course : Course) (command : Command) → Does course command is.Usage → ⊥
+no-usage course Replay does = does
+no-usage course Serve does = does
 
--- the run over a course, with the sink's failures after it
-abbrev pub run_of : Course → Config → (failures : ℕ) → Run
-run_of course config failures = record {
-  settings = settings_by config;
-  sizes = record { batch = config.send_batch_size; queue = config.queue_capacity };
-  lanes = config.lanes;
-  shards = config.shards;
-  taken = course.taken;
-  failures = 0;
-  taken_after = course.taken_after;
-  failures_after = failures;
-  unread = course.unread;
-  unread_after = course.unread_after;
-}
-
-ran : (course : Course) (config : Config) (failures : ℕ) (answer : Result Report RunFault) → IsConfigOf course.file config
-    → RunEnds (run_of course config failures) answer → RanTo course (outcome_of answer)
-ran course config failures answer read ends = record { config = config; is_read = read; failures_after = failures; answer = answer; ends = ends; outcome_is = refl }
-
--- what a run by a configuration answered
-pub Replays-ran : (course : Course) (config : Config) (failures : ℕ) (answer : Result Report RunFault) → IsConfigOf course.file config
-    → RunEnds (run_of course config failures) answer → Replays course (outcome_of answer)
-Replays-ran course config failures (Ok report) read ends = ran course config failures (Ok report) read ends
-Replays-ran course config failures (Err NoMemory) read ends = inr (ran course config failures (Err NoMemory) read ends)
-Replays-ran course config failures (Err (Refused line)) read ends = ran course config failures (Err (Refused line)) read ends
-Replays-ran course config failures (Err (Fault line)) read ends = ran course config failures (Err (Fault line)) read ends
-Replays-ran course config failures (Err BookFull) read ends = ran course config failures (Err BookFull) read ends
-Replays-ran course config failures (Err (SinkDown report)) read ends = ran course config failures (Err (SinkDown report)) read ends
+-- what was asked for was done
+pub CameTo-does : (course : Course) (command : Command) (outcome : Outcome) → AsksFor course.arguments command → Does course command outcome → CameTo course outcome
+CameTo-does course command (is.Done report) asked does = (command, asked, does)
+CameTo-does course command is.SinkDown asked does = (command, asked, does)
+CameTo-does course command is.Usage asked does = absurd (no-usage course command does)
+CameTo-does course command is.Unreadable asked does = (command, asked, does)
+CameTo-does course command (is.Configuration fault) asked does = (command, asked, does)
+CameTo-does course command (is.Script line) asked does = (command, asked, does)
+CameTo-does course command is.NoMemory asked does = (command, asked, does)
+CameTo-does course command is.BookFull asked does = (command, asked, does)
+CameTo-does course command is.CannotListen asked does = (command, asked, does)

@@ -16,11 +16,15 @@ use Rattle.tsc_config.specs.declared.fault.ConfigFault.{ConfigFault}
 use Rattle.tsc_config.specs.declared.fault.ConfigFault.TheVariants.{Policy}
 use Rattle.script_session.specs.declared.fault.RunFault.{RunFault}
 use Rattle.collector_main.specs.declared.program.Outcome.{Outcome}
-use Rattle.collector_main.specs.declared.program.Outcome.TheVariants.{Done, SinkDown, Usage, Unreadable, Configuration, Script, NoMemory, BookFull}
-use Rattle.collector_main.specs.Outcomes.{outcome_of, exit_status}
+use Rattle.collector_main.specs.declared.program.Outcome.TheVariants.{Done, SinkDown, Usage, Unreadable, Configuration, Script, NoMemory, BookFull, CannotListen}
+use Rattle.collector_main.specs.declared.program.Command.{Command}
+use Rattle.collector_main.specs.declared.program.Command.TheVariants.{Replay, Serve}
+use Rattle.collector_main.specs.Outcomes.{outcome_of, served_to, exit_status}
 use Rattle.collector_main.specs.Configuration.{FileFails, IsConfigOf}
 use Rattle.collector_main.specs.declared.configuration.FileFault.{FileFault}
 use Rattle.script_session.specs.Replay.{RunEnds, settings_by}
+use Rattle.pipeline.specs.declared.fault.RunFault.{RunFault as ServeFault}
+use Rattle.pipeline.specs.Outcome.{SinkAnswers}
 
 -- ---- the last text
 
@@ -73,6 +77,7 @@ text_of (Configuration fault) = codes "tsc: configuration refused: " ++ fault_nu
 text_of (Script line) = codes "tsc: script refused: line " ++ decimal line ++ codes "\n"
 text_of NoMemory = codes "tsc: no memory\n"
 text_of BookFull = codes "tsc: book full\n"
+text_of CannotListen = codes "tsc: cannot listen\n"
 
 -- the first part of a text was taken; it was written exactly where nothing is missing
 pub record WritesText (before : Option (List ℕ)) (text : List ℕ) (written : Bool) (after : Option (List ℕ)) : Type 0 where
@@ -101,10 +106,27 @@ pub record Course : Type 0 where
   pub taken : Option (List ℕ)
   pub taken_after : Option (List ℕ)
 
--- there are two arguments, and the first is `replay`
+-- there are two arguments, and the first is this word
+abbrev pub asks : (word : List ℕ) → (arguments : List (List ℕ)) → Bool
+asks word (first ∷ path ∷ []) = bytes_eq first word
+asks word _ = false
+
+-- a script is to be run
 abbrev pub asks_replay : (arguments : List (List ℕ)) → Bool
-asks_replay (command ∷ path ∷ []) = bytes_eq command (codes "replay")
-asks_replay _ = false
+asks_replay arguments = asks (codes "replay") arguments
+
+-- requests are to be taken on a listener
+abbrev pub asks_serve : (arguments : List (List ℕ)) → Bool
+asks_serve arguments = asks (codes "serve") arguments
+
+-- this is asked for
+abbrev pub AsksFor : (arguments : List (List ℕ)) → Command → Type 0
+AsksFor arguments Replay = asks_replay arguments ≡ true
+AsksFor arguments Serve = asks_serve arguments ≡ true
+
+-- nothing that there is is asked for
+abbrev pub AsksNothing : (arguments : List (List ℕ)) → Type 0
+AsksNothing arguments = (asks_replay arguments ≡ false) × (asks_serve arguments ≡ false)
 
 -- nothing was read of the script, and nothing was written
 abbrev pub NothingDone : Course → Type 0
@@ -133,15 +155,45 @@ pub record RanTo (course : Course) (outcome : Outcome) : Type 0 where
 -- how an outcome arises where a replay is asked for: before the script, or by its run
 abbrev pub Replays : Course → Outcome → Type 0
 Replays course Usage = ⊥
+Replays course CannotListen = ⊥
 Replays course Unreadable = FileFails course.file Unreadable × NothingDone course
 Replays course (Configuration fault) = FileFails course.file (Configuration fault) × NothingDone course
 Replays course NoMemory = (FileFails course.file NoMemory × NothingDone course) ⊎ RanTo course NoMemory
 Replays course outcome = RanTo course outcome
 
--- how an outcome arises: the arguments are wrong exactly where no replay is asked for, and then nothing is done
+-- a configuration was read, and the run on a listener by it had an answer of this outcome; nothing was read of a script
+pub record ServedTo (course : Course) (outcome : Outcome) : Type 0 where
+  pub config : Config
+  pub is_read : IsConfigOf course.file config
+  pub failures_after : ℕ
+  pub answer : Result Report ServeFault
+  pub sink : SinkAnswers course.taken 0 course.taken_after failures_after answer
+  pub unread : course.unread_after ≡ course.unread
+  pub outcome_is : outcome ≡ served_to answer
+
+-- a configuration was read, and nothing was done by it
+abbrev pub OnlyRead : Course → Type 0
+OnlyRead course = (config : Config) × IsConfigOf course.file config × NothingDone course
+
+-- how an outcome arises where the collector is to take requests: before it listens, or by its run
+abbrev pub Serves : Course → Outcome → Type 0
+Serves course Usage = ⊥
+Serves course (Script line) = ⊥
+Serves course Unreadable = FileFails course.file Unreadable × NothingDone course
+Serves course (Configuration fault) = FileFails course.file (Configuration fault) × NothingDone course
+Serves course NoMemory = (FileFails course.file NoMemory × NothingDone course) ⊎ ServedTo course NoMemory
+Serves course CannotListen = OnlyRead course
+Serves course outcome = ServedTo course outcome
+
+-- how an outcome arises by what is asked for
+abbrev pub Does : Course → Command → Outcome → Type 0
+Does course Replay outcome = Replays course outcome
+Does course Serve outcome = Serves course outcome
+
+-- how an outcome arises: the arguments are wrong exactly where they ask for nothing that there is, and then nothing is done
 abbrev pub CameTo : Course → Outcome → Type 0
-CameTo course Usage = (asks_replay course.arguments ≡ false) × NothingDone course
-CameTo course outcome = (asks_replay course.arguments ≡ true) × Replays course outcome
+CameTo course Usage = AsksNothing course.arguments × NothingDone course
+CameTo course outcome = (command : Command) × AsksFor course.arguments command × Does course command outcome
 
 -- ---- the end of the program
 

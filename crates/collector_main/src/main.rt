@@ -1,5 +1,6 @@
-//! `tsc`: a tail-sampling trace collector. `tsc replay CONFIG` runs a script of requests and moments from standard
-//! input in one thread, and prints replies, the spans that it keeps as lines of JSON, and a report of every span's end.
+//! `tsc`: a tail-sampling trace collector. `tsc serve CONFIG` takes requests on a listener until `POST /close`;
+//! `tsc replay CONFIG` runs a script of requests and moments from standard input in one thread. Both print the spans that
+//! they keep as lines of JSON, and a report of every span's end; a replay prints its replies, too.
 #![tactic(auto)]
 
 mod configuration;

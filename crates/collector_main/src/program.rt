@@ -1,29 +1,44 @@
 //! The program: its arguments, its configuration, its texts and its exit status.
-ghost use Rattle.std.specs.Prelude.{◌≡◌, ◌+◌, ◌≤◌, ◌<◌, ◌++◌, ℕ, List, Result, is_some, map, false, vec_capacity, vec_len, length, decimal, codes, string_bytes};
+ghost use Rattle.std.specs.Prelude.{◌≡◌, ◌+◌, ◌≤◌, ◌<◌, ◌++◌, ℕ, List, Option, Result, IfSome, IfNone, map, false, vec_capacity, vec_len, length, decimal, codes, string_bytes};
 ghost use Rattle.collector_main.specs.Configuration.{file_of};
-ghost use Rattle.collector_main.specs.Outcomes.{outcome_of, exit_status};
-ghost use Rattle.collector_main.specs.Ending.{WritesText, HandsText, Finishes, CameTo, Replays, Ends, asks_replay, text_of, name_of, report_text, fault_number};
+ghost use Rattle.collector_main.specs.Outcomes.{outcome_of, served_to, exit_status};
+ghost use Rattle.collector_main.specs.Ending.{WritesText, HandsText, Finishes, AsksFor, AsksNothing, CameTo, Replays, Serves, Ends, text_of, name_of, report_text, fault_number};
 ghost use Rattle.collector_main.specs.declared.program.Outcome.TheVariants.{NoMemory};
 
 use crate::configuration::{FileFault, config_of, read_file};
+use collector_serve::{WallClock, listen, serve_on};
 use drop_ledger::{Count, Report};
 use itoa::Buffer;
 use lane_seq::put;
+use pipeline::RunFault as ServeFault;
 use script_session::{RunFault, replay_run};
 use span_ids::Reason;
 use span_sink::{LineSink, Sink, WriteSink};
 use std::alloc::Global;
 use std::io::{Read, Write};
+use std::net::{Net, TcpListener, TcpStream};
 use std::rt::Files;
+use std::sync::Wait;
+use std::thread::Threads;
+use std::time::Clock;
 use tsc_config::ConfigFault;
 
 /// Room for a line of the report or of a refusal, in bytes.
 pub const TEXT_ROOM: usize = 128;
 
+/// What the program is asked to do.
+#[derive(Clone, Copy, Debug, PartialEq, Eq)]
+pub enum Command {
+    /// To run a script.
+    Replay,
+    /// To take requests on a listener.
+    Serve,
+}
+
 /// How the program ended.
 #[derive(Clone, Copy, Debug, PartialEq, Eq)]
 pub enum Outcome {
-    /// The script was run to its end.
+    /// The script was run to its end, or the collector was closed.
     Done(Report),
     /// A write failed.
     SinkDown,
@@ -39,16 +54,16 @@ pub enum Outcome {
     NoMemory,
     /// A count would have passed 2^64-1.
     BookFull,
+    /// The address can't be listened at.
+    CannotListen,
 }
 
 /// Runs the program with the arguments behind its own name. It gives the writer back beside the exit status.
-pub fn program<T: Files, R: Read, W: Write>(
-    rt: &T,
-    alloc: Global,
-    arguments: &[String],
-    reader: &mut R,
-    writer: W,
-) -> (W, u8)
+pub fn program<
+    T: Files + Net<Listener = TcpListener, Stream = TcpStream> + Threads + Wait + Clock + Sync,
+    R: Read,
+    W: Write + Drop,
+>(rt: &T, alloc: Global, arguments: &[String], reader: &mut R, writer: W) -> (W, u8)
     ensures { Ends (map string_bytes arguments.now) (R.remaining reader.old) (R.remaining reader.new) (W.contents writer) (W.contents result.0) result.1 }
 {
     let Ok(mut text) = Vec::with_capacity(alloc, TEXT_ROOM) else {
@@ -100,17 +115,16 @@ fn exit_status(outcome: &Outcome, written: bool) -> u8
         Outcome::Script(_) => 4,
         Outcome::NoMemory => 5,
         Outcome::BookFull => 7,
+        Outcome::CannotListen => 6,
     }
 }
 
-/// Does what the arguments say. `serve` is not there yet.
-fn run<T: Files, R: Read, W: Write>(
-    rt: &T,
-    alloc: Global,
-    arguments: &[String],
-    reader: &mut R,
-    writer: W,
-) -> (W, Outcome)
+/// Does what the arguments say.
+fn run<
+    T: Files + Net<Listener = TcpListener, Stream = TcpStream> + Threads + Wait + Clock + Sync,
+    R: Read,
+    W: Write + Drop,
+>(rt: &T, alloc: Global, arguments: &[String], reader: &mut R, writer: W) -> (W, Outcome)
     ensures { (file : Result (List ℕ) FileFault) × CameTo (record {
       arguments = map string_bytes arguments.now;
       file = file;
@@ -120,24 +134,31 @@ fn run<T: Files, R: Read, W: Write>(
       taken_after = W.contents result.0;
     }) result.1 }
 {
-    let Some(path) = asked(arguments) else {
+    let Some((command, path)) = asked(arguments) else {
         return (writer, Outcome::Usage);
     };
-    replay_by(alloc, read_file(rt, alloc, path), reader, writer)
+    let file = read_file(rt, alloc, path);
+    match command {
+        Command::Replay => replay_by(alloc, file, reader, writer),
+        Command::Serve => serve_by(rt, alloc, file, writer),
+    }
 }
 
-/// The path of the configuration, where a replay is asked for.
-fn asked(arguments: &[String]) -> Option<&str>
-    ensures { is_some result ≡ asks_replay (map string_bytes arguments.now) }
+/// What the arguments ask for, and the path of the configuration.
+fn asked(arguments: &[String]) -> Option<(Command, &str)>
+    ensures some { IfSome result (λ asked. AsksFor (map string_bytes arguments.now) asked.0) }
+    ensures none { IfNone result (AsksNothing (map string_bytes arguments.now)) }
 {
     let [command, path] = arguments else {
         return None;
     };
     if command.as_str() == "replay" {
-        Some(path.as_str())
-    } else {
-        None
+        return Some((Command::Replay, path.as_str()));
     }
+    if command.as_str() == "serve" {
+        return Some((Command::Serve, path.as_str()));
+    }
+    None
 }
 
 /// Runs the script by the configuration in what was read of its file.
@@ -162,6 +183,44 @@ fn replay_by<R: Read, W: Write>(
     };
     let (sink, answer) = replay_run(alloc, config, reader, WriteSink::new(writer));
     (sink.end(), outcome_of(answer))
+}
+
+/// Takes requests on a listener by the configuration in what was read of its file.
+fn serve_by<
+    T: Net<Listener = TcpListener, Stream = TcpStream> + Threads + Wait + Clock + Sync,
+    W: Write + Drop,
+>(rt: &T, alloc: Global, file: Result<Vec<u8>, FileFault>, writer: W) -> (W, Outcome)
+    ensures { (arguments : List (List ℕ)) → (unread : Option (List ℕ)) → Serves (record {
+      arguments = arguments;
+      file = file_of (λ v. v.items) file;
+      unread = unread;
+      unread_after = unread;
+      taken = W.contents writer;
+      taken_after = W.contents result.0;
+    }) result.1 }
+{
+    let config = match config_of(alloc, file) {
+        Ok(config) => config,
+        Err(outcome) => return (writer, outcome),
+    };
+    let Ok(listener) = listen(rt, config.listen.as_str()) else {
+        return (writer, Outcome::CannotListen);
+    };
+    let clock = WallClock::new(rt);
+    let sink = WriteSink::new(writer);
+    let (sink, answer) = serve_on(rt, alloc, config, &listener, sink, &clock);
+    (sink.end(), served_to(answer))
+}
+
+fn served_to(answer: Result<Report, ServeFault>) -> Outcome
+    ensures { result ≡ served_to answer }
+{
+    match answer {
+        Ok(report) => Outcome::Done(report),
+        Err(ServeFault::NoMemory) => Outcome::NoMemory,
+        Err(ServeFault::BookFull) => Outcome::BookFull,
+        Err(ServeFault::SinkDown(_)) => Outcome::SinkDown,
+    }
 }
 
 fn outcome_of(answer: Result<Report, RunFault>) -> Outcome
@@ -202,6 +261,7 @@ fn say<S: Sink>(lines: &mut LineSink<S>, text: &mut Vec<u8>, outcome: &Outcome) 
         }
         Outcome::NoMemory => hand_line(lines, b"tsc: no memory\n"),
         Outcome::BookFull => hand_line(lines, b"tsc: book full\n"),
+        Outcome::CannotListen => hand_line(lines, b"tsc: cannot listen\n"),
     }
 }
 

@@ -5,9 +5,13 @@ use script_session::{RunFault, replay_run};
 use span_ids::Reason;
 use span_sink::WriteSink;
 use std::io::{Read, Write};
+use std::net::{Net, TcpListener, TcpStream};
 use std::process::Abort;
 use std::rt::Files;
+use std::sync::Wait;
 use std::test::Fail;
+use std::thread::Threads;
+use std::time::Clock;
 use std::{fs, io};
 use tsc_config::read;
 
@@ -97,9 +101,17 @@ fn error_span_is_kept(rt: HostRuntime) -> Result<(), Fail> {
     )
 }
 
-/// Runs the program, and compares what it writes and its status.
+/// Runs the program by a command and this configuration, and compares what it writes and its status.
 fn check_program(
-    rt: &(impl Abort + Files + AllocGlobal),
+    rt: &(impl Abort
+        + Files
+        + AllocGlobal
+        + Net<Listener = TcpListener, Stream = TcpStream>
+        + Threads
+        + Wait
+        + Clock
+        + Sync),
+    command: &str,
     config: &str,
     script: &'static [u8],
     output: &[u8],
@@ -108,7 +120,7 @@ fn check_program(
     let path = "program_test.toml";
     fs::write(rt, path, config)?;
     let mut arguments = Vec::new(rt.alloc());
-    arguments.push(String::from_str(rt.alloc(), "replay")?)?;
+    arguments.push(String::from_str(rt.alloc(), command)?)?;
     arguments.push(String::from_str(rt.alloc(), path)?)?;
     let mut reader = script;
     let page = Page {
@@ -142,10 +154,32 @@ fn wrong_arguments(rt: HostRuntime) -> Result<(), Fail> {
 fn refused_configuration(rt: HostRuntime) -> Result<(), Fail> {
     check_program(
         &rt,
+        "replay",
         "policies = []\n",
         b"",
         b"tsc: configuration refused: 7.1\n",
         3,
+    )
+}
+
+/// A collector with a refused configuration, and one whose address is none.
+#[test]
+fn refused_before_it_listens(rt: HostRuntime) -> Result<(), Fail> {
+    check_program(
+        &rt,
+        "serve",
+        "policies = []\n",
+        b"",
+        b"tsc: configuration refused: 7.1\n",
+        3,
+    )?;
+    check_program(
+        &rt,
+        "serve",
+        "listen = \"x\"\npolicies = [{ name = \"all\", type = \"always_sample\" }]\n",
+        b"",
+        b"tsc: cannot listen\n",
+        6,
     )
 }
 
@@ -154,6 +188,7 @@ fn refused_configuration(rt: HostRuntime) -> Result<(), Fail> {
 fn refused_script(rt: HostRuntime) -> Result<(), Fail> {
     check_program(
         &rt,
+        "replay",
         ERRORS,
         b"recv 1 0 {}\ntick +1\nrecv 1 0 {}\n",
         b"reply 200 {}\ntsc: script refused: line 2\n",
@@ -199,5 +234,6 @@ fn check_ending(
 fn endings(rt: HostRuntime) -> Result<(), Fail> {
     check_ending(&rt, Outcome::NoMemory, b"tsc: no memory\n", 5)?;
     check_ending(&rt, Outcome::BookFull, b"tsc: book full\n", 7)?;
+    check_ending(&rt, Outcome::CannotListen, b"tsc: cannot listen\n", 6)?;
     check_ending(&rt, Outcome::SinkDown, b"", 1)
 }

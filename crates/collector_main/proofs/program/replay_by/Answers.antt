@@ -4,7 +4,7 @@ use Rattle.script_session.specs.Replay.{RunEnds}
 use Rattle.collector_main.specs.Configuration.{file_of}
 use Rattle.collector_main.specs.Ending.{Course, Replays}
 use Rattle.collector_main.specs.declared.program.Outcome.{Outcome}
-use Rattle.collector_main.proofs.Courses.{run_of, Replays-ran}
+use Rattle.collector_main.proofs.Replaying.{run_of, Replays-ran}
 use Rattle.collector_main.proofs.program.replay_by.Goals as goal
 
 pub returns : goal.returns

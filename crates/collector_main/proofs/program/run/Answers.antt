@@ -1,15 +1,23 @@
-use Rattle.std.proofs.Common.{◌≡◌, true, map, refl, sym, ap, ◌∙◌}
-use Rattle.std.specs.Prelude.{Err, is_some, string_bytes}
+use Rattle.std.proofs.Common.{map, refl, subst}
+use Rattle.std.specs.Prelude.{Err, string_bytes}
 use Rattle.collector_main.specs.Configuration.{file_of}
-use Rattle.collector_main.specs.Ending.{asks_replay}
+use Rattle.collector_main.specs.Ending.{AsksFor}
 use Rattle.collector_main.specs.declared.configuration.FileFault.TheVariants.{Unreadable}
-use Rattle.collector_main.proofs.Courses.{CameTo-replays}
+use Rattle.collector_main.specs.declared.program.Command.TheVariants.{Replay, Serve}
+use Rattle.collector_main.proofs.Courses.{CameTo-does}
 use Rattle.collector_main.proofs.program.run.Goals as goal
 
 pub returns-in_default : goal.returns-in_default
-returns-in_default g c = (Err Unreadable, (sym c.asked.ensures ∙ ap is_some c.in_default.is, (refl, refl)))
+returns-in_default g c = (Err Unreadable, (c.in_default.ensures.none, (refl, refl)))
 
-pub returns : goal.returns
-returns g c =
-    let asks : asks_replay (map string_bytes c.args.arguments.now) ≡ true = sym c.asked.ensures ∙ ap is_some c.in-Some.is in
-    (file_of (λ v. v.items) c.read_file.result, CameTo-replays _ c.replay_by.result.1 asks (c.replay_by.ensures (map string_bytes c.args.arguments.now)))
+pub returns-in-Replay : goal.returns-in-Replay
+returns-in-Replay g c =
+    let arguments = map string_bytes c.args.arguments.now in
+    let asked = subst (λ command. AsksFor arguments command) c.in-Replay.is c.in-Some.ensures.some in
+    (file_of (λ v. v.items) c.read_file-file.result, CameTo-does _ Replay c.replay_by.result.1 asked (c.replay_by.ensures arguments))
+
+pub returns-in-Serve : goal.returns-in-Serve
+returns-in-Serve g c =
+    let arguments = map string_bytes c.args.arguments.now in
+    let asked = subst (λ command. AsksFor arguments command) c.in-Serve.is c.in-Some.ensures.some in
+    (file_of (λ v. v.items) c.read_file-file.result, CameTo-does _ Serve c.serve_by.result.1 asked (c.serve_by.ensures arguments (g.R.Read.remaining c.args.reader.now)))

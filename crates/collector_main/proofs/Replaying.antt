@@ -1,0 +1,40 @@
+-- What a replay's answer tells of its outcome.
+-- For what `replay_by` ensures.
+use Rattle.std.proofs.Common.{ℕ, Result, Ok, Err, inr, refl}
+use Rattle.drop_ledger.specs.declared.report.Report.{Report}
+use Rattle.tsc_config.specs.declared.config.Config.{Config}
+use Rattle.script_session.specs.Replay.{Run, RunEnds, settings_by}
+use Rattle.script_session.specs.declared.fault.RunFault.{RunFault}
+use Rattle.script_session.specs.declared.fault.RunFault.TheVariants.{NoMemory, Refused, Fault, BookFull, SinkDown}
+use Rattle.collector_main.specs.Configuration.{IsConfigOf}
+use Rattle.collector_main.specs.Outcomes.{outcome_of}
+use Rattle.collector_main.specs.Ending.{Course, Replays, RanTo}
+
+-- the run over a course, with the sink's failures after it
+abbrev pub run_of : Course → Config → (failures : ℕ) → Run
+run_of course config failures = record {
+  settings = settings_by config;
+  sizes = record { batch = config.send_batch_size; queue = config.queue_capacity };
+  lanes = config.lanes;
+  shards = config.shards;
+  taken = course.taken;
+  failures = 0;
+  taken_after = course.taken_after;
+  failures_after = failures;
+  unread = course.unread;
+  unread_after = course.unread_after;
+}
+
+ran : (course : Course) (config : Config) (failures : ℕ) (answer : Result Report RunFault) → IsConfigOf course.file config
+    → RunEnds (run_of course config failures) answer → RanTo course (outcome_of answer)
+ran course config failures answer read ends = record { config = config; is_read = read; failures_after = failures; answer = answer; ends = ends; outcome_is = refl }
+
+-- what a run by a configuration answered
+pub Replays-ran : (course : Course) (config : Config) (failures : ℕ) (answer : Result Report RunFault) → IsConfigOf course.file config
+    → RunEnds (run_of course config failures) answer → Replays course (outcome_of answer)
+Replays-ran course config failures (Ok report) read ends = ran course config failures (Ok report) read ends
+Replays-ran course config failures (Err NoMemory) read ends = inr (ran course config failures (Err NoMemory) read ends)
+Replays-ran course config failures (Err (Refused line)) read ends = ran course config failures (Err (Refused line)) read ends
+Replays-ran course config failures (Err (Fault line)) read ends = ran course config failures (Err (Fault line)) read ends
+Replays-ran course config failures (Err BookFull) read ends = ran course config failures (Err BookFull) read ends
+Replays-ran course config failures (Err (SinkDown report)) read ends = ran course config failures (Err (SinkDown report)) read ends

@@ -1,0 +1,441 @@
+"""Runs `tsc serve` under clients on the loopback address, and compares what they are answered, what it prints and how it ends.
+
+Each check counts once. What must come out is computed here, from what was sent and answered, and never by the program.
+"""
+
+import json
+import os
+import signal
+import socket
+import subprocess
+import sys
+import tempfile
+import threading
+import time
+
+A = "5b8efff798038103d269b633813fc60c"
+ERROR_SPAN = {"traceId": A, "spanId": "eee19b7ec3c1b174", "status": {"code": 2}}
+# The canonical text of a request of this span: keys in order, no spaces.
+ERROR_LINE = (
+    '{"resourceSpans":[{"scopeSpans":[{"spans":[{"spanId":"eee19b7ec3c1b174","status":{"code":2},'
+    '"traceId":"5b8efff798038103d269b633813fc60c"}]}]}]}'
+)
+NAMES = ["received", "handed"] + [f"dropped {reason}" for reason in range(1, 8)]
+ERRORS = 'policies = [{ name = "errors", type = "status_code", status_code = { status_codes = ["ERROR"] } }]\n'
+ALL = 'policies = [{ name = "all", type = "always_sample" }]\n'
+
+
+class Failure(Exception):
+    """What a check found to be other than it must be."""
+
+
+def want(what, got, expected):
+    """Compares, and says what differs."""
+    if got != expected:
+        raise Failure(f"{what}: {got!r} and not {expected!r}")
+
+
+def body_of(spans):
+    """The text of a request of these spans, of one resource and scope."""
+    return json.dumps({"resourceSpans": [{"scopeSpans": [{"spans": spans}]}]}).encode()
+
+
+def post(body, path="/v1/traces", method="POST", fields=()):
+    """The bytes of a request with a length."""
+    head = [f"{method} {path} HTTP/1.1", "Host: collector", "Content-Type: application/json"]
+    head += [f"Content-Length: {len(body)}", *fields]
+    return "\r\n".join(head).encode() + b"\r\n\r\n" + body
+
+
+class Client:
+    """A connection to the collector."""
+
+    def __init__(self, port):
+        self.socket = socket.create_connection(("127.0.0.1", port), timeout=60)
+        self.left = b""
+
+    def send(self, data):
+        """Sends bytes."""
+        self.socket.sendall(data)
+
+    def until(self, mark):
+        """The bytes up to a mark, and the mark."""
+        while mark not in self.left:
+            more = self.socket.recv(65536)
+            if not more:
+                raise Failure(f"the connection ended behind {self.left!r}")
+            self.left += more
+        end = self.left.index(mark) + len(mark)
+        taken, self.left = self.left[:end], self.left[end:]
+        return taken
+
+    def answer(self, has_body=True):
+        """The status, the fields and the body of an answer."""
+        lines = self.until(b"\r\n\r\n").decode().split("\r\n")
+        status = int(lines[0].split(" ")[1])
+        fields = dict(line.lower().split(": ", 1) for line in lines[1:] if line)
+        length = int(fields.get("content-length", "0")) if has_body else 0
+        while len(self.left) < length:
+            more = self.socket.recv(65536)
+            if not more:
+                raise Failure("the connection ended within an answer")
+            self.left += more
+        body, self.left = self.left[:length], self.left[length:]
+        return status, fields, body.decode()
+
+    def ends(self):
+        """Whether the collector closes the connection, with no byte more."""
+        return self.left == b"" and self.socket.recv(1) == b""
+
+    def close(self):
+        """Ends the connection."""
+        self.socket.close()
+
+
+class Collector:
+    """A running `tsc serve`, whose output goes to a file."""
+
+    def __init__(self, program, settings, output=None):
+        with socket.socket() as probe:
+            probe.bind(("127.0.0.1", 0))
+            self.port = probe.getsockname()[1]
+        self.folder = tempfile.TemporaryDirectory()
+        config = os.path.join(self.folder.name, "config.toml")
+        with open(config, "w", encoding="utf-8") as file:
+            file.write(f'listen = "127.0.0.1:{self.port}"\n' + settings)
+        self.printed = os.path.join(self.folder.name, "printed")
+        self.file = open(self.printed, "wb") if output is None else None
+        self.process = subprocess.Popen(
+            [program, "serve", config],
+            stdin=subprocess.DEVNULL,
+            stdout=self.file if output is None else output,
+            stderr=subprocess.PIPE,
+        )
+        self.wait_for_port()
+
+    def wait_for_port(self):
+        """Waits until it listens."""
+        for _ in range(500):
+            if self.process.poll() is not None:
+                raise Failure(f"it ended at once, with status {self.process.returncode}")
+            try:
+                socket.create_connection(("127.0.0.1", self.port), timeout=5).close()
+                return
+            except ConnectionRefusedError:
+                time.sleep(0.02)
+        raise Failure("it doesn't listen")
+
+    def client(self):
+        """A new connection."""
+        return Client(self.port)
+
+    def ask(self, data, has_body=True):
+        """One request on a connection of its own."""
+        client = self.client()
+        client.send(data)
+        answer = client.answer(has_body)
+        client.close()
+        return answer
+
+    def close(self):
+        """Says `POST /close`, and waits for the end. Gives the span lines and the nine numbers."""
+        want("the answer to /close", self.ask(post(b"", "/close"))[::2], (200, "{}"))
+        return self.end()
+
+    def end(self, status=0):
+        """Waits for the end. Gives the span lines and the nine numbers."""
+        want("the status", self.process.wait(timeout=60), status)
+        want("standard error", self.process.stderr.read(), b"")
+        if self.file is None:
+            return None
+        with open(self.printed, encoding="utf-8") as file:
+            lines = file.read().split("\n")
+        want("the end of the output", lines.pop(), "")
+        report = [line.rsplit(" ", 1) for line in lines[-9:]]
+        want("the names of the report", [name for name, _ in report], NAMES)
+        numbers = [int(number) for _, number in report]
+        want("the sum of the report", numbers[0], sum(numbers[1:]))
+        return lines[:-9], numbers
+
+    def stop(self):
+        """Kills it, if it still runs."""
+        if self.process.poll() is None:
+            self.process.kill()
+            self.process.wait()
+        self.process.stderr.close()
+        if self.file is not None:
+            self.file.close()
+        self.folder.cleanup()
+
+
+def spans_of(lines):
+    """The spans of some lines, in order."""
+    return [
+        span
+        for line in lines
+        for resource in json.loads(line)["resourceSpans"]
+        for scope in resource["scopeSpans"]
+        for span in scope["spans"]
+    ]
+
+
+def one_error(start):
+    """An error span is kept, and the counts add up."""
+    collector = start(ERRORS)
+    want("the answer", collector.ask(post(body_of([ERROR_SPAN])))[::2], (200, "{}"))
+    lines, numbers = collector.close()
+    want("the lines", lines, [ERROR_LINE])
+    want("the report", numbers, [1, 1, 0, 0, 0, 0, 0, 0, 0])
+
+
+def is_kept_while_it_runs(start):
+    """A trace is decided by a tick, long before the close."""
+    collector = start("decision_wait_ms = 200\ntick_ms = 50\n" + ERRORS)
+    want("the answer", collector.ask(post(body_of([ERROR_SPAN])))[::2], (200, "{}"))
+    for _ in range(200):
+        with open(collector.printed, encoding="utf-8") as file:
+            if file.read() == ERROR_LINE + "\n":
+                break
+        time.sleep(0.05)
+    else:
+        raise Failure("no line came within ten seconds")
+    lines, numbers = collector.close()
+    want("the lines", lines, [ERROR_LINE])
+    want("the report", numbers, [1, 1, 0, 0, 0, 0, 0, 0, 0])
+
+
+def keep_alive(start):
+    """Requests one after the other on one connection, and two in one write."""
+    collector = start(ALL)
+    client = collector.client()
+    request = post(body_of([ERROR_SPAN]))
+    for _ in range(3):
+        client.send(request)
+        want("the answer", client.answer()[::2], (200, "{}"))
+    client.send(request + request)
+    want("the first of two", client.answer()[::2], (200, "{}"))
+    want("the second of two", client.answer()[::2], (200, "{}"))
+    client.close()
+    _, numbers = collector.close()
+    want("the report", numbers, [5, 5, 0, 0, 0, 0, 0, 0, 0])
+
+
+def chunked(start):
+    """A body in chunks, in pieces of a few bytes."""
+    collector = start(ALL)
+    body = body_of([ERROR_SPAN])
+    head = b"POST /v1/traces HTTP/1.1\r\nHost: collector\r\nContent-Type: application/json\r\nTransfer-Encoding: chunked\r\n\r\n"
+    chunks = b"".join(b"%x\r\n%s\r\n" % (len(body[i : i + 7]), body[i : i + 7]) for i in range(0, len(body), 7))
+    client = collector.client()
+    for piece in (head[:11], head[11:], chunks[:20], chunks[20:], b"0\r\n\r\n"):
+        client.send(piece)
+        time.sleep(0.02)
+    want("the answer", client.answer()[::2], (200, "{}"))
+    client.close()
+    lines, numbers = collector.close()
+    want("the lines", lines, [ERROR_LINE])
+    want("the report", numbers, [1, 1, 0, 0, 0, 0, 0, 0, 0])
+
+
+def expect(start):
+    """A client that asks before it sends its body."""
+    collector = start(ALL)
+    body = body_of([ERROR_SPAN])
+    request = post(body, fields=["Expect: 100-continue"])
+    client = collector.client()
+    client.send(request[: -len(body)])
+    want("the interim line", client.until(b"\r\n\r\n"), b"HTTP/1.1 100 Continue\r\n\r\n")
+    client.send(body)
+    want("the answer", client.answer()[::2], (200, "{}"))
+    client.close()
+    want("the report", collector.close()[1], [1, 1, 0, 0, 0, 0, 0, 0, 0])
+
+
+def refusals(start):
+    """Requests that are refused, each by its row of the table of answers (RFC 9110, RFC 9112, OTLP/HTTP)."""
+    collector = start(ALL)
+    body = body_of([ERROR_SPAN])
+    rows = [
+        ("another path", post(body, "/v1/metrics"), 404, '{"message":"not found"}'),
+        ("a query", post(body, "/v1/traces?x=1"), 404, '{"message":"not found"}'),
+        ("another method", post(b"", method="GET"), 405, '{"message":"method not allowed"}'),
+        ("another type", post(body).replace(b"application/json", b"application/x-protobuf"), 415, '{"message":"unsupported media type"}'),
+        ("a wrong shape", post(b"[]"), 400, '{"message":"wrong shape"}'),
+    ]
+    for name, request, status, text in rows:
+        want(name, collector.ask(request)[::2], (status, text))
+    status, fields, _ = collector.ask(post(b"", method="HEAD"), has_body=False)
+    want("HEAD", (status, fields.get("allow")), (405, "post"))
+    lines, numbers = collector.close()
+    want("the lines", lines, [])
+    want("the report", numbers, [0] * 9)
+
+
+def broken_clients(start):
+    """A client that stops in the middle of a body, and one that says nothing: neither harms the others."""
+    collector = start("lanes = 4\n" + ALL)
+    silent = collector.client()
+    cut = collector.client()
+    cut.send(post(body_of([ERROR_SPAN]))[:-10])
+    cut.close()
+    for _ in range(10):
+        want("the answer", collector.ask(post(body_of([ERROR_SPAN])))[::2], (200, "{}"))
+    lines, numbers = collector.close()
+    silent.close()
+    want("the number of spans", len(spans_of(lines)), 10)
+    want("the report", numbers, [10, 10, 0, 0, 0, 0, 0, 0, 0])
+
+
+def sends(collector, client_number, requests, per_request, sent, problems):
+    """One client of many: spans of traces that it alone sends, each with its number in the trace's order."""
+    try:
+        client = collector.client()
+        number = 0
+        for request in range(requests):
+            spans = []
+            for _ in range(per_request):
+                trace = f"{client_number + 1:016x}{(number * 7919) % 251 + 1:016x}"
+                spans.append({"traceId": trace, "spanId": f"{number + 1:016x}", "name": f"{number}"})
+                number += 1
+            client.send(post(body_of(spans)))
+            want(f"the answer to request {request}", client.answer()[0], 200)
+            sent.extend((span["traceId"], int(span["name"])) for span in spans)
+        client.close()
+    except (Failure, OSError) as error:
+        problems.append(str(error))
+
+
+def many_clients(start):
+    """Sixteen clients at once send 50,000 spans: each is in the output once or counted, in order within its trace."""
+    collector = start("lanes = 16\nshards = 4\nnum_traces = 100000\nqueue_capacity = 4096\n" + ALL)
+    sent, problems, threads = [], [], []
+    for client_number in range(16):
+        arguments = (collector, client_number, 125, 25, sent, problems)
+        threads.append(threading.Thread(target=sends, args=arguments))
+    for thread in threads:
+        thread.start()
+    for thread in threads:
+        thread.join()
+    want("what went wrong", problems, [])
+    lines, numbers = collector.close()
+    want("the spans received", numbers[0], 50000)
+    spans = [(span["traceId"], int(span["name"])) for span in spans_of(lines)]
+    want("the spans handed over", len(spans), numbers[1])
+    want("a span that came twice, or was not sent", (len(set(spans)), set(spans) <= set(sent)), (len(spans), True))
+    want("what isn't in the output is counted as queue full", 50000 - numbers[1], numbers[3])
+    last = {}
+    for trace, number in spans:
+        if number <= last.get(trace, -1):
+            raise Failure(f"span {number} of {trace} came behind span {last[trace]}")
+        last[trace] = number
+
+
+def closes_under_way(start):
+    """`POST /close` while clients send: what was answered 200 is in the output or counted."""
+    collector = start("lanes = 8\nshards = 2\nnum_traces = 100000\nqueue_capacity = 65536\n" + ALL)
+    answered, halt = [0] * 6, threading.Event()
+
+    def go_on(place):
+        try:
+            client = collector.client()
+            while not halt.is_set():
+                client.send(post(body_of([ERROR_SPAN] * 5)))
+                status, fields, _ = client.answer()
+                if status == 200:
+                    answered[place] += 5
+                if status != 200 or fields.get("connection") == "close":
+                    return
+        except (Failure, OSError):
+            return
+
+    threads = [threading.Thread(target=go_on, args=(place,)) for place in range(6)]
+    for thread in threads:
+        thread.start()
+    time.sleep(0.5)
+    want("the answer to /close", collector.ask(post(b"", "/close"))[::2], (200, "{}"))
+    lines, numbers = collector.end()
+    halt.set()
+    for thread in threads:
+        thread.join()
+    if sum(answered) == 0:
+        raise Failure("no request was answered before the close")
+    if numbers[0] < sum(answered):
+        raise Failure(f"{numbers[0]} spans received, but {sum(answered)} answered")
+    want("the spans handed over", len(spans_of(lines)), numbers[1])
+
+
+def refused_address(start):
+    """An address that can't be bound ends in status 6."""
+    with tempfile.TemporaryDirectory() as folder:
+        config = os.path.join(folder, "config.toml")
+        with open(config, "w", encoding="utf-8") as file:
+            file.write('listen = "x"\n' + ALL)
+        done = subprocess.run([start.program, "serve", config], stdin=subprocess.DEVNULL, capture_output=True, timeout=60, check=False)
+        want("the end", (done.returncode, done.stdout, done.stderr), (6, b"tsc: cannot listen\n", b""))
+
+
+def reader_is_gone(start):
+    """An output whose reader is gone ends in status 1, not in a signal."""
+    read, write = os.pipe()
+    collector = start("decision_wait_ms = 100\ntick_ms = 50\n" + ALL, write)
+    os.close(write)
+    os.close(read)
+    want("the answer", collector.ask(post(body_of([ERROR_SPAN])))[::2], (200, "{}"))
+    time.sleep(0.3)
+    want("the answer to /close", collector.ask(post(b"", "/close"))[::2], (200, "{}"))
+    collector.end(1)
+
+
+def under_curl(start):
+    """The same request by curl, where that is there: with a length, in chunks, with an expectation."""
+    collector = start(ALL)
+    url = f"http://127.0.0.1:{collector.port}/v1/traces"
+    ways = [[], ["-H", "Transfer-Encoding: chunked"], ["-H", "Expect: 100-continue"]]
+    for way in ways:
+        command = ["curl", "-sS", "-H", "Content-Type: application/json", *way, "--data-binary", body_of([ERROR_SPAN]).decode(), url]
+        done = subprocess.run(command, capture_output=True, timeout=60, check=False)
+        want(f"curl {way}", (done.returncode, done.stdout, done.stderr), (0, b"{}", b""))
+    want("the report", collector.close()[1], [3, 3, 0, 0, 0, 0, 0, 0, 0])
+
+
+class Starter:
+    """Starts collectors of one program, and stops them all."""
+
+    def __init__(self, program):
+        self.program = program
+        self.started = []
+
+    def __call__(self, settings, output=None):
+        collector = Collector(self.program, settings, output)
+        self.started.append(collector)
+        return collector
+
+
+def has_curl():
+    """Whether curl is there."""
+    return any(os.access(os.path.join(folder, "curl"), os.X_OK) for folder in os.environ.get("PATH", "").split(":"))
+
+
+def main():
+    """Runs each check on each program."""
+    checks = [one_error, is_kept_while_it_runs, keep_alive, chunked, expect, refusals, broken_clients, many_clients]
+    checks += [closes_under_way, refused_address, reader_is_gone] + ([under_curl] if has_curl() else [])
+    passed = failed = 0
+    signal.signal(signal.SIGPIPE, signal.SIG_DFL)
+    for program in sys.argv[1:]:
+        for check in checks:
+            start = Starter(program)
+            try:
+                check(start)
+                passed += 1
+            except (Failure, OSError, ValueError, subprocess.TimeoutExpired) as problem:
+                failed += 1
+                print(f"{os.path.basename(program)} serve/{check.__name__}: {problem}")
+            finally:
+                for collector in start.started:
+                    collector.stop()
+    print(f"{passed} passed, {failed} failed")
+    sys.exit(1 if failed or not passed else 0)
+
+
+main()
