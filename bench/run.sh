@@ -1,7 +1,7 @@
 #!/usr/bin/env bash
 # Times `tsc replay` on generated scripts: bench/run.sh [SPANS ..]. Prints spans in a second and the peak of memory. Each script of so many
 # spans is run as collector.toml says, and then with a root wait beside; last come a million traces alive at once, of two spans and then of a
-# single small one each (alive.toml), or as many as ALIVE says.
+# single small one each (alive.toml), or as many as ALIVE says. First it prints what a waiting span takes, as a multiple of its JSON.
 # It is no part of the gate. The program must be built: (cd crates/collector_main && rt run -- serve). PROGRAM names another one.
 set -eu
 cd "$(dirname "$0")"
@@ -29,6 +29,24 @@ with open(work + "/out") as out:
 PYTHON
 }
 
+# Prints what a span that waits takes for each byte of its line: the peak where 50,000 wait less the peak where 10,000 do. None is kept.
+waiting() {
+    ./generate.py 10000 --errors 0 > "$work/few"
+    ./generate.py 50000 --errors 0 > "$work/many"
+    python3 - "$program" "$work" <<'PYTHON'
+import os, resource, subprocess, sys
+program, work = sys.argv[1], sys.argv[2]
+peaks, sizes = [], []
+for name in ("few", "many"):
+    with open(f"{work}/{name}") as script:
+        subprocess.run([program, "replay", "alive.toml"], stdin=script, stdout=subprocess.DEVNULL, check=True)
+    peaks.append(resource.getrusage(resource.RUSAGE_CHILDREN).ru_maxrss * 1024)
+    sizes.append(os.path.getsize(f"{work}/{name}"))
+print(f"a waiting span: {(peaks[1] - peaks[0]) / (sizes[1] - sizes[0]):.2f} times its JSON")
+PYTHON
+}
+
+waiting
 sed 's/^decision_wait_ms = .*/&\nroot_wait_ms = 2000/' collector.toml > "$work/root_wait.toml"
 for spans in "${@:-20000 200000}"; do
     for n in $spans; do

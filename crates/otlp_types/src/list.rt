@@ -1,6 +1,7 @@
 //! Lists and texts whose contents contracts compare, and copies of them.
 ghost use Rattle.std.specs.Prelude.{◌≡◌, [], ◌∷◌, ◌++◌, ◌↔◌, length, IsTrue, IfOk, OnOk, OnErr, string_bytes};
 
+use arrayvec::ArrayString;
 use std::alloc::{AllocError, Global};
 use std::marker::Model;
 
@@ -95,18 +96,26 @@ impl<T: TryClone + Drop> TryClone for List<T> {
     }
 }
 
-/// A `String` that contracts see as its bytes.
+/// A text that contracts see as its bytes. One of at most 16 bytes lies in the value itself, and takes no memory but that.
 #[derive(Debug, Drop)]
 pub struct Text {
-    text: String,
+    held: Held,
+}
+
+/// Where the bytes of a text lie: keys, names and values of spans are mostly short.
+#[derive(Debug, Drop)]
+enum Held {
+    Short(ArrayString<16>),
+    Long(String),
 }
 
 impl Model for Text {
-    ghost use Rattle.std.specs.Prelude.{ℕ, List, string_bytes};
+    ghost use Rattle.std.specs.Prelude.{ℕ, List};
+    ghost use Rattle.otlp_types.specs.Held.{held_bytes};
 
     ghost Value = { List ℕ };
 
-    ghost view = { λ it. string_bytes it.text };
+    ghost view = { λ it. held_bytes it.held };
 }
 
 impl Text {
@@ -114,39 +123,37 @@ impl Text {
     pub fn new(alloc: Global) -> Text
         ensures { result ≡ [] }
     {
-        Text {
-            text: String::new(alloc),
-        }
+        Text::from_string(String::new(alloc))
     }
 
     /// The text of a `String`, which is moved in: it takes no memory.
     pub fn from_string(text: String) -> Text
         ensures { result ≡ string_bytes text }
     {
-        Text { text }
+        Text {
+            held: Held::Long(text),
+        }
     }
 
-    /// A copy of a text.
+    /// A copy of a text. It takes memory where the text is longer than 16 bytes.
     pub fn from_str(alloc: Global, text: &str) -> Result<Text, AllocError>
         ensures { IfOk result (λ it. it ≡ text.now) }
     {
-        Ok(Text {
-            text: String::from_str(alloc, text)?,
-        })
-    }
-
-    /// The `String`, which is moved out: it takes no memory.
-    pub fn into_string(self) -> String
-        ensures { string_bytes result ≡ self }
-    {
-        self.text
+        let held = match ArrayString::from(text) {
+            Ok(short) => Held::Short(short),
+            Err(_) => Held::Long(String::from_str(alloc, text)?),
+        };
+        Ok(Text { held })
     }
 
     /// The text.
     pub fn as_str(&self) -> &str
         ensures { result.now ≡ self.now }
     {
-        self.text.as_str()
+        match &self.held {
+            Held::Short(text) => text.as_str(),
+            Held::Long(text) => text.as_str(),
+        }
     }
 }
 
