@@ -14,7 +14,7 @@ returns-then-n-left-clause-brings c = λ r s.
     let longer = c.add.ensures.len ∙ ap (λ l. c.self.inside.parts.len + length (take c.min-n.result l)) c.rest-2.ensures in
     let short : length c.skip.new.self.rest < c.args.left - c.min-n.result = omega (arith, ap length skipped, length-drop c.min-n.result c.self.inside.input.rest, ap length c.rest.ensures, c.min-n.ensures, c.if-n-left.true) in
     let room = omega (arith, longer, length-take-le c.min-n.result c.self.inside.input.rest p.fits, it.1, p.le) in
-    (at_data_waits c.args.post (c.args.left - c.min-n.result) c.skip.new.self.rest c.add.new.self r goes room short, (goes, omega (arith, short)))
+    (at_data_waits c.args.post (c.args.left - c.min-n.result) c.skip.new.self.rest c.add.new.self r goes room short, (goes, omega (arith, ap length skipped, length-drop c.min-n.result c.self.inside.input.rest, ap length c.rest.ensures, c.min-n.ensures, c.if-n-left.true)))
 
 pub returns-clause-brings : goal.returns-clause-brings
 returns-clause-brings c = λ r s.

@@ -12,7 +12,7 @@ returns-then-n-left-clause-brings c = λ r s.
     let short : length c.skip.new.self.rest < c.args.left - c.min-n.result = omega (arith, ap length skipped, length-drop c.min-n.result c.self.inside.input.rest, ap length c.rest.ensures, c.min-n.ensures, c.if-n-left.true) in
     let p = piece_added _ _ c.self.inside.input.rest c.args.left c.min-n.result c.self.inside.parts c.add.new.self c.rest.ensures c.rest-2.ensures (omega (arith, c.min-n.ensures)) (omega (arith, c.min-n.ensures)) c.add.ensures.keeps in
     let goes = sized_piece c.args.post c.args.left c.min-n.result c.self.inside.input.rest c.skip.new.self.rest c.self.inside.parts c.add.new.self r it.0 p skipped in
-    (at_sized_waits c.args.post (c.args.left - c.min-n.result) c.skip.new.self.rest c.add.new.self r goes short, (goes, omega (arith, short)))
+    (at_sized_waits c.args.post (c.args.left - c.min-n.result) c.skip.new.self.rest c.add.new.self r goes short, (goes, omega (arith, ap length skipped, length-drop c.min-n.result c.self.inside.input.rest, ap length c.rest.ensures, c.min-n.ensures, c.if-n-left.true)))
 
 pub returns-clause-brings : goal.returns-clause-brings
 returns-clause-brings c = λ r s.
