@@ -7,7 +7,7 @@ use Rattle.http_lane.proofs.requests.Requests.data_step.Goals as goal
 
 pub returns-then-n-left-clause-brings : goal.returns-then-n-left-clause-brings
 returns-then-n-left-clause-brings c = λ r s.
-    let it = begins c.args.self.now c.self.inside (Data c.args.post c.args.left) r c.self.view_is c.requires c.self.invariant s in
+    let it = begins c.args.self.now _ (Data c.args.post c.args.left) r c.self.view_is c.requires c.self.invariant s in
     let p = piece_added _ _ c.self.inside.input.rest c.args.left c.min-n.result c.self.inside.parts c.add.new.self c.rest.ensures c.rest-2.ensures (omega (arith, c.min-n.ensures)) (omega (arith, c.min-n.ensures)) c.add.ensures.keeps in
     let skipped : c.skip.new.self.rest ≡ drop c.min-n.result c.self.inside.input.rest = ap (λ x. x.rest) c.skip.ensures in
     let goes = data_piece c.args.post c.args.left c.min-n.result c.self.inside.input.rest c.skip.new.self.rest c.self.inside.parts c.add.new.self r it.0 p skipped in
@@ -18,6 +18,6 @@ returns-then-n-left-clause-brings c = λ r s.
 
 pub returns-clause-brings : goal.returns-clause-brings
 returns-clause-brings c = λ r s.
-    let it = begins c.args.self.now c.self.inside (Data c.args.post c.args.left) r c.self.view_is c.requires c.self.invariant s in
+    let it = begins c.args.self.now _ (Data c.args.post c.args.left) r c.self.view_is c.requires c.self.invariant s in
     let p = piece_added _ _ c.self.inside.input.rest c.args.left c.min-n.result c.self.inside.parts c.add.new.self c.rest.ensures c.rest-2.ensures (omega (arith, c.min-n.ensures)) (omega (arith, c.min-n.ensures)) c.add.ensures.keeps in
     data_piece c.args.post c.args.left c.min-n.result c.self.inside.input.rest c.skip.new.self.rest c.self.inside.parts c.add.new.self r it.0 p (ap (λ x. x.rest) c.skip.ensures)
