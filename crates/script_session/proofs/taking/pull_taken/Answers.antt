@@ -37,6 +37,6 @@ returns-in-Finished-clause-pulls g c = subst (none_pulled (c.args.exporter.now, 
 
 pub returns-in-Kept-None-default-clause-pulls : goal.returns-in-Kept-None-default-clause-pulls
 returns-in-Kept-None-default-clause-pulls g c =
-    let export = (c.args.exporter.now, c.args.report.now) in
+    let export : Export = (c.args.exporter.now, c.args.report.now) in
     let kept = c.in-Kept-None-default in
     subst (none_pulled export) (sym (kept.is ∙ ap (λ evicted. Kept evicted kept.cache) kept.evicted-is)) (PullsAll-none export (λ reason. dropped_by reason (Kept None kept.cache)) (none-under Evicted))
