@@ -1,5 +1,5 @@
 //! Worked journals, played through what a journal says.
-use crate::spans::{policies_on, record_of};
+use crate::spans::{Event, ids_in, item_of, policies_on, trace_of};
 use otlp_types::{Arrival, Ids, Item, List};
 use shard_journal::{
     Effect, Entry, Finding, LookBack, Settings, clock, decision_at, effect_of_taking, finding_of,
@@ -10,56 +10,12 @@ use std::alloc::{AllocError, Global};
 use std::process::Abort;
 use std::test::Fail;
 
-/// What a shard takes in a row: a span by its trace, its number, its moment and its status code.
-#[derive(Clone, Copy)]
-enum Event {
-    Span(u8, u64, u64, i32),
-    Tick(u64),
-    End(u16),
-}
-
 /// A journal, the numbers of what it released, and the reasons and numbers of what it counted.
 #[derive(Drop)]
 struct Played {
     journal: Vec<Entry>,
     released: Vec<u64>,
     counted: Vec<(u8, u64)>,
-}
-
-fn trace_of(rt: &impl Abort, trace: u8) -> TraceId {
-    let text = match trace {
-        1 => "00000000000000000000000000000001",
-        2 => "00000000000000000000000000000002",
-        3 => "00000000000000000000000000000003",
-        _ => "00000000000000000000000000000004",
-    };
-    TraceId::parse(text).expect(rt, "a trace id")
-}
-
-fn ids_of(rt: &impl Abort, trace: u8) -> Ids {
-    Ids {
-        trace: trace_of(rt, trace),
-        span: SpanId::parse("eee19b7ec3c1b174").expect(rt, "a span id"),
-        parent: None,
-    }
-}
-
-fn item_of(rt: &impl Abort, alloc: Global, event: Event) -> Result<Item, AllocError> {
-    Ok(match event {
-        Event::Tick(moment) => Item::Tick(moment),
-        Event::End(sender) => Item::End(sender),
-        Event::Span(trace, number, moment, code) => Item::Span(Arrival {
-            key: ArrivalKey {
-                conn: ConnKey {
-                    lane: 0,
-                    ordinal: 0,
-                },
-                number,
-            },
-            moment,
-            rec: record_of(alloc, Some(ids_of(rt, trace)), code, 0)?,
-        }),
-    })
 }
 
 /// Two senders, a wait of ten seconds, room for one trace, and one policy: on this status code, or always.
@@ -228,7 +184,7 @@ fn answers_for_each_trace(rt: HostRuntime) -> Result<(), Fail> {
         (1, true, false, false),
         (4, false, true, false),
     ] {
-        let ids = Some(ids_of(&rt, trace));
+        let ids = Some(ids_in(&rt, trace_of(&rt, trace), true));
         let answer = look.marks_apply(&settings, refused, lost, ids);
         assert_eq!(&rt; answer, apply);
     }

@@ -6,8 +6,7 @@ ghost use Rattle.policy_eval.specs.Meaning.{knows};
 ghost use Rattle.rate_budget.specs.Budget.{has_node};
 ghost use Rattle.shard_core.specs.Taking.{has_ids};
 
-use crate::shards::{ids_of, span_with};
-use crate::spans::policies_of;
+use crate::spans::{ids_in, policies_of, span_with, trace_of};
 use otlp_types::{Item, TryClone};
 use policy_tree::PolicyKind;
 use rate_budget::Budgets;
@@ -83,55 +82,54 @@ fn take(rt: &impl Abort, shard: &mut Shard, item: Item)
     assert!(rt; matches!(taken, Taken::Kept { .. } | Taken::Ticked));
 }
 
-const TRACES: [&str; 5] = [
-    "5b8efff798038103d269b633813fc60a",
-    "5b8efff798038103d269b633813fc60b",
-    "5b8efff798038103d269b633813fc60c",
-    "5b8efff798038103d269b633813fc60d",
-    "5b8efff798038103d269b633813fc60e",
-];
+/// Both take a tick, and then these decide in turn.
+fn ticked(
+    rt: &impl Abort,
+    shards: &mut TwoShards,
+    moment: u64,
+    rows: &[(Which, Result<usize, u64>)],
+) {
+    for which in [Which::First, Which::Second] {
+        shards.take(rt, which, Item::Tick(moment));
+    }
+    for (which, decided) in rows {
+        assert_eq!(rt; shards.decide(*which), *decided);
+    }
+}
 
 #[test]
 fn one_limiter_for_two_shards(rt: HostRuntime) -> Result<(), Fail> {
     let alloc = rt.alloc();
     let mut shards = TwoShards::new(alloc, 3)?;
     for (which, trace, number, moment) in [
-        (Which::First, 0, 0, 0),
-        (Which::First, 0, 1, 0),
-        (Which::Second, 1, 2, 0),
-        (Which::Second, 1, 3, 0),
-        (Which::Second, 2, 4, 0),
-        (Which::Second, 3, 5, 1000),
-        (Which::Second, 3, 6, 1000),
-        (Which::Second, 3, 7, 1000),
-        (Which::First, 4, 8, 1000),
+        (Which::First, 1, 0, 0),
+        (Which::First, 1, 1, 0),
+        (Which::Second, 2, 2, 0),
+        (Which::Second, 2, 3, 0),
+        (Which::Second, 3, 4, 0),
+        (Which::Second, 4, 5, 1000),
+        (Which::Second, 4, 6, 1000),
+        (Which::Second, 4, 7, 1000),
+        (Which::First, 5, 8, 1000),
     ] {
-        let trace = TRACES.get(trace).copied().unwrap_or("");
-        let span = span_with(alloc, ids_of(&rt, trace, true), number, moment, 0, 0)?;
+        let ids = ids_in(&rt, trace_of(&rt, trace), true);
+        let span = span_with(alloc, ids, number, moment, 0, 0)?;
         shards.take(&rt, which, span);
     }
-    for which in [Which::First, Which::Second] {
-        shards.take(&rt, which, Item::Tick(10_000));
-    }
-    for (which, decided) in [
+    let first = [
         (Which::First, Ok(2)),
         (Which::First, Err(0)),
         (Which::Second, Err(2)),
         (Which::Second, Ok(1)),
         (Which::Second, Err(0)),
-    ] {
-        assert_eq!(&rt; shards.decide(which), decided);
-    }
-    for which in [Which::First, Which::Second] {
-        shards.take(&rt, which, Item::Tick(11_000));
-    }
-    for (which, decided) in [
+    ];
+    ticked(&rt, &mut shards, 10_000, &first);
+    let second = [
         (Which::Second, Ok(3)),
         (Which::Second, Err(0)),
         (Which::First, Err(1)),
         (Which::First, Err(0)),
-    ] {
-        assert_eq!(&rt; shards.decide(which), decided);
-    }
+    ];
+    ticked(&rt, &mut shards, 11_000, &second);
     Ok(())
 }

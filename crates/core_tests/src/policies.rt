@@ -1,10 +1,10 @@
 //! Each kind of policy at, below and above its bounds, and policies together.
-use crate::spans::record_of;
 use otlp_types::{AnyValue, Arrival, KeyValue, List, Resource, Shared, Text, TryClone};
+use plain_spans::{plain_record, received};
 use policy_eval::evaluate;
 use policy_tree::{Policies, Policy, PolicyKind, Wanted};
 use rate_budget::Budgets;
-use span_ids::{ArrivalKey, ConnKey, Verdict};
+use span_ids::Verdict;
 use std::alloc::{AllocError, Global};
 use std::test::Fail;
 
@@ -59,25 +59,14 @@ fn attributes(alloc: Global, value: Option<AnyValue>) -> Result<List<KeyValue>, 
 }
 
 fn arrival_of(alloc: Global, given: Given) -> Result<Arrival, AllocError> {
-    let mut rec = record_of(alloc, None, given.code, given.end)?;
-    rec.span.start_time_unix_nano = given.start;
+    let mut rec = plain_record(alloc, None, given.code, given.start, given.end)?;
     rec.span.attributes = attributes(alloc, given.own)?;
     let resource = Resource {
         attributes: attributes(alloc, given.of_resource)?,
         dropped_attributes_count: 0,
     };
     rec.resource = Shared::new(alloc, resource)?;
-    Ok(Arrival {
-        key: ArrivalKey {
-            conn: ConnKey {
-                lane: 0,
-                ordinal: 0,
-            },
-            number: 0,
-        },
-        moment: 0,
-        rec,
-    })
+    Ok(received(0, 0, 0, rec))
 }
 
 /// The verdict of the policies on these spans, with a limiter that has not been asked. None where there is no span.

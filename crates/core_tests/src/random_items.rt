@@ -4,12 +4,11 @@ ghost use Rattle.shard_core.specs.Taking.{has_ids};
 
 use crate::limited_shard::{LimitedShard, Numbers};
 use crate::looking_back::{Entry, ITEMS, Kind, Past, TRACES, WAIT, is_root};
-use crate::shards::{ids_of, span_with};
-use crate::spans::policies_on;
+use crate::spans::{ids_in, policies_on, span_with};
 use decision_cache::Remembered;
 use otlp_types::Item;
 use shard_core::{Decided, Taken};
-use span_ids::Reason;
+use span_ids::{Reason, TraceId};
 use std::alloc::{AllocError, Global};
 use std::process::Abort;
 use std::test::Fail;
@@ -49,8 +48,11 @@ fn item_of(
 {
     match kind {
         Kind::Span(trace, error, _) => {
-            let id = TRACES.get(trace).copied().unwrap_or("");
-            let ids = ids_of(rt, id, is_root(place as usize));
+            let id = TraceId::parse(TRACES.get(trace).copied().unwrap_or("")).expect(
+                rt,
+                "a trace id",
+            );
+            let ids = ids_in(rt, id, is_root(place as usize));
             span_with(alloc, ids, place, moment, if error { 2 } else { 0 }, 0)
         }
         Kind::Tick => Ok(Item::Tick(moment)),

@@ -1,86 +1,15 @@
 //! A shard with ample memory: the first path, and each kind of policy.
-ghost use Rattle.std.specs.Prelude.{◌≡◌, ◌<◌, IfOk, true};
+ghost use Rattle.std.specs.Prelude.{◌≡◌, ◌<◌, true};
 ghost use Rattle.shard_core.specs.Taking.{has_ids};
 
 use crate::limited_shard::{LimitedShard, Numbers};
-use crate::spans::{policies_on, record_of};
-use otlp_types::{Arrival, Ids, Item, List, Text};
+use crate::spans::{Event, ids_in, item_of, policies_on, span_with, trace_of};
+use otlp_types::{Item, List, Text};
 use policy_tree::{Policies, Policy, PolicyKind};
 use shard_core::{Decided, Taken};
-use span_ids::{ArrivalKey, ConnKey, SpanId, TraceId};
 use std::alloc::{AllocError, Global};
 use std::process::Abort;
 use std::test::Fail;
-
-/// A span by its number, its moment and its status code, of one trace.
-fn span_item(
-    rt: &impl Abort,
-    alloc: Global,
-    number: u64,
-    moment: u64,
-    code: i32,
-) -> Result<Item, AllocError>
-    ensures { IfOk result (λ item. has_ids item ≡ true) }
-{
-    span_of(
-        rt,
-        alloc,
-        "5b8efff798038103d269b633813fc60c",
-        number,
-        moment,
-        code,
-        0,
-    )
-}
-
-/// A span of a trace, by its number, its moment, its status code and its end in nanoseconds.
-fn span_of(
-    rt: &impl Abort,
-    alloc: Global,
-    trace: &str,
-    number: u64,
-    moment: u64,
-    code: i32,
-    end: u64,
-) -> Result<Item, AllocError>
-    ensures { IfOk result (λ item. has_ids item ≡ true) }
-{
-    span_with(alloc, ids_of(rt, trace, true), number, moment, code, end)
-}
-
-/// The ids of a span of this trace, whose parent, if it has one, is itself.
-pub fn ids_of(rt: &impl Abort, trace: &str, is_root: bool) -> Ids {
-    let span = SpanId::parse("eee19b7ec3c1b174").expect(rt, "a span id");
-    Ids {
-        trace: TraceId::parse(trace).expect(rt, "a trace id"),
-        span,
-        parent: if is_root { None } else { Some(span) },
-    }
-}
-
-/// A span with these ids, by its number, its moment, its status code and its end in nanoseconds.
-pub fn span_with(
-    alloc: Global,
-    ids: Ids,
-    number: u64,
-    moment: u64,
-    code: i32,
-    end: u64,
-) -> Result<Item, AllocError>
-    ensures { IfOk result (λ item. has_ids item ≡ true) }
-{
-    Ok(Item::Span(Arrival {
-        key: ArrivalKey {
-            conn: ConnKey {
-                lane: 0,
-                ordinal: 0,
-            },
-            number,
-        },
-        moment,
-        rec: record_of(alloc, Some(ids), code, end)?,
-    }))
-}
 
 /// A wait of ten seconds, and so many senders.
 fn numbers(senders: usize) -> Numbers
@@ -122,55 +51,52 @@ fn play(rt: &impl Abort, shard: &mut LimitedShard, item: Item) -> (&'static str,
     (taken, released)
 }
 
+/// Plays these events to a shard with one policy, on this status code or on none, and compares each answer.
+fn plays(
+    rt: &impl Abort,
+    alloc: Global,
+    code: Option<i32>,
+    rows: &[(Event, (&'static str, usize))],
+) -> Result<(), Fail> {
+    let mut shard = shard_with(alloc, code)?;
+    for (event, answer) in rows {
+        let item = item_of(rt, alloc, *event)?;
+        assert_eq!(rt; play(rt, &mut shard, item), *answer);
+    }
+    Ok(())
+}
+
 #[test]
 fn error_span_is_kept(rt: HostRuntime) -> Result<(), Fail> {
-    let alloc = rt.alloc();
-    let mut shard = shard_with(alloc, Some(2))?;
-    assert_eq!(&rt;
-        play(&rt, &mut shard, span_item(&rt, alloc, 0, 1000, 2)?),
-        ("kept", 0)
-    );
-    assert_eq!(&rt; play(&rt, &mut shard, Item::Tick(10_999)), ("ticked", 0));
-    assert_eq!(&rt;
-        play(&rt, &mut shard, span_item(&rt, alloc, 1, 5000, 0)?),
-        ("kept", 0)
-    );
-    assert_eq!(&rt; play(&rt, &mut shard, Item::Tick(11_000)), ("ticked", 2));
-    Ok(())
+    let rows = [
+        (Event::Span(1, 0, 1000, 2), ("kept", 0)),
+        (Event::Tick(10_999), ("ticked", 0)),
+        (Event::Span(1, 1, 5000, 0), ("kept", 0)),
+        (Event::Tick(11_000), ("ticked", 2)),
+    ];
+    plays(&rt, rt.alloc(), Some(2), &rows)
 }
 
 #[test]
 fn late_span_follows_sampled(rt: HostRuntime) -> Result<(), Fail> {
-    let alloc = rt.alloc();
-    let mut shard = shard_with(alloc, None)?;
-    assert_eq!(&rt;
-        play(&rt, &mut shard, span_item(&rt, alloc, 0, 0, 0)?),
-        ("kept", 0)
-    );
-    assert_eq!(&rt; play(&rt, &mut shard, Item::End(1)), ("ended", 0));
-    assert_eq!(&rt; play(&rt, &mut shard, Item::Tick(10_000)), ("ticked", 1));
-    assert_eq!(&rt;
-        play(&rt, &mut shard, span_item(&rt, alloc, 1, 10_000, 0)?),
-        ("late", 0)
-    );
-    assert_eq!(&rt; play(&rt, &mut shard, Item::End(0)), ("finished", 0));
-    Ok(())
+    let rows = [
+        (Event::Span(1, 0, 0, 0), ("kept", 0)),
+        (Event::End(1), ("ended", 0)),
+        (Event::Tick(10_000), ("ticked", 1)),
+        (Event::Span(1, 1, 10_000, 0), ("late", 0)),
+        (Event::End(0), ("finished", 0)),
+    ];
+    plays(&rt, rt.alloc(), None, &rows)
 }
 
 #[test]
 fn late_span_follows_not_sampled(rt: HostRuntime) -> Result<(), Fail> {
-    let alloc = rt.alloc();
-    let mut shard = shard_with(alloc, Some(2))?;
-    assert_eq!(&rt;
-        play(&rt, &mut shard, span_item(&rt, alloc, 0, 0, 1)?),
-        ("kept", 0)
-    );
-    assert_eq!(&rt; play(&rt, &mut shard, Item::Tick(10_000)), ("ticked", 0));
-    assert_eq!(&rt;
-        play(&rt, &mut shard, span_item(&rt, alloc, 1, 10_000, 2)?),
-        ("dropped", 0)
-    );
-    Ok(())
+    let rows = [
+        (Event::Span(1, 0, 0, 1), ("kept", 0)),
+        (Event::Tick(10_000), ("ticked", 0)),
+        (Event::Span(1, 1, 10_000, 2), ("dropped", 0)),
+    ];
+    plays(&rt, rt.alloc(), Some(2), &rows)
 }
 
 /// A shard of one sender with a wait of ten seconds and an `and` of a latency of 500 ms and 3 spans per second.
@@ -211,14 +137,15 @@ fn and_of_latency_and_rate(rt: HostRuntime) -> Result<(), Fail> {
     let alloc = rt.alloc();
     let mut shard = shard_of_slow_and_granted(alloc)?;
     for (trace, number, end) in [
-        ("5b8efff798038103d269b633813fc60c", 0, 0),
-        ("5b8efff798038103d269b633813fc60c", 1, 499_999_999),
-        ("5b8efff798038103d269b633813fc60d", 2, 500_000_000),
-        ("5b8efff798038103d269b633813fc60d", 3, 500_000_000),
-        ("5b8efff798038103d269b633813fc60e", 4, 500_000_000),
-        ("5b8efff798038103d269b633813fc60f", 5, 500_000_000),
+        (1, 0, 0),
+        (1, 1, 499_999_999),
+        (2, 2, 500_000_000),
+        (2, 3, 500_000_000),
+        (3, 4, 500_000_000),
+        (4, 5, 500_000_000),
     ] {
-        let span = span_of(&rt, alloc, trace, number, 1000, 0, end)?;
+        let ids = ids_in(&rt, trace_of(&rt, trace), true);
+        let span = span_with(alloc, ids, number, 1000, 0, end)?;
         assert_eq!(&rt; play(&rt, &mut shard, span), ("kept", 0));
     }
     assert!(&rt; !shard.has_due());

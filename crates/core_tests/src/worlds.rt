@@ -5,42 +5,27 @@ ghost use Rattle.span_world.specs.Core.{config_of};
 
 use crate::choices::{Choice, Sent, choose};
 use crate::simulated::Simulated;
-use crate::spans::{policies_of, record_of};
+use crate::spans::{ids_in, policies_of, trace_of};
 use otlp_types::{Ids, List, Record, Text};
+use plain_spans::plain_record;
 use policy_tree::{Policy, PolicyKind};
-use span_ids::{Reason, SpanId, TraceId};
+use span_ids::Reason;
 use span_world::{Config, Refusal, Step, World};
 use std::alloc::{AllocError, Global};
 use std::process::Abort;
 use std::test::Fail;
 
-/// The ids of a span of this trace, whose parent, if it has one, is itself; of two shards an odd trace goes to shard 1. There
-/// is no trace 0.
+/// The ids of a span of this trace; of two shards an odd trace goes to shard 1. There is no trace 0.
 fn ids_of(rt: &impl Abort, trace: u8, is_root: bool) -> Option<Ids> {
-    let text = match trace {
-        0 => return None,
-        1 => "00000000000000000000000000000001",
-        2 => "00000000000000000000000000000002",
-        3 => "00000000000000000000000000000003",
-        4 => "00000000000000000000000000000004",
-        5 => "00000000000000000000000000000005",
-        _ => "00000000000000000000000000000006",
-    };
-    let span = SpanId::parse("eee19b7ec3c1b174").expect(rt, "a span id");
-    Some(Ids {
-        trace: TraceId::parse(text).expect(rt, "a trace id"),
-        span,
-        parent: if is_root { None } else { Some(span) },
-    })
+    match trace {
+        0 => None,
+        trace => Some(ids_in(rt, trace_of(rt, trace), is_root)),
+    }
 }
 
 fn record_of_sent(rt: &impl Abort, alloc: Global, sent: Sent) -> Result<Record, AllocError> {
-    record_of(
-        alloc,
-        ids_of(rt, sent.trace, sent.root),
-        if sent.error { 2 } else { 0 },
-        0,
-    )
+    let code = if sent.error { 2 } else { 0 };
+    plain_record(alloc, ids_of(rt, sent.trace, sent.root), code, 0, 0)
 }
 
 /// The world's step for a choice.
@@ -111,14 +96,14 @@ fn config_with(
     })
 }
 
-/// One span of trace 1 from its receipt to the tick at which it is due.
-fn due_span(rt: &impl Abort, alloc: Global) -> Result<Vec<Step>, Fail> {
-    let records = vec![in alloc; record_of(alloc, ids_of(rt, 1, true), 0, 0)?]?;
+/// One span of a trace from its receipt at this moment to the tick at which it is due.
+fn due_span(rt: &impl Abort, alloc: Global, trace: u8, moment: u64) -> Result<Vec<Step>, Fail> {
+    let records = vec![in alloc; plain_record(alloc, ids_of(rt, trace, true), 0, 0, 0)?]?;
     let mut steps = vec![in alloc;
         Step::Receive {
             lane: 0,
             ordinal: 0,
-            moment: 0,
+            moment,
             records
         },
     ]?;
@@ -130,87 +115,53 @@ fn due_span(rt: &impl Abort, alloc: Global) -> Result<Vec<Step>, Fail> {
     })?;
     steps.push(Step::Tick {
         shard: 0,
-        moment: 10,
+        moment: moment.saturating_add(10),
     })?;
     Ok(steps)
 }
 
+/// A decision, and the way of what it released to the sink.
+fn decide_and_hand(alloc: Global, steps: &mut Vec<Step>) -> Result<(), Fail> {
+    let answers = Vec::new(alloc);
+    steps.push(Step::Decide { shard: 0, answers })?;
+    steps.push(Step::Ship { shard: 0 })?;
+    steps.push(Step::Pull)?;
+    steps.push(Step::Hand)?;
+    Ok(())
+}
+
+/// The lane closes, and these senders' Ends come.
+fn close(steps: &mut Vec<Step>, senders: u16) -> Result<(), Fail> {
+    steps.push(Step::Close { lane: 0 })?;
+    for sender in 0..senders {
+        steps.push(Step::End { shard: 0, sender })?;
+    }
+    Ok(())
+}
+
 /// One span of trace 1 from its receipt to the closed world; `ticks_again` puts a second tick behind the first.
 fn one_span(rt: &impl Abort, alloc: Global, ticks_again: bool) -> Result<Vec<Step>, Fail> {
-    let mut steps = due_span(rt, alloc)?;
+    let mut steps = due_span(rt, alloc, 1, 0)?;
     if ticks_again {
         steps.push(Step::Tick {
             shard: 0,
             moment: 10,
         })?;
     }
-    steps.push(Step::Decide {
-        shard: 0,
-        answers: Vec::new(alloc),
-    })?;
-    steps.push(Step::Ship { shard: 0 })?;
-    steps.push(Step::Pull)?;
-    steps.push(Step::Hand)?;
-    steps.push(Step::Close { lane: 0 })?;
-    steps.push(Step::End {
-        shard: 0,
-        sender: 0,
-    })?;
-    steps.push(Step::End {
-        shard: 0,
-        sender: 1,
-    })?;
+    decide_and_hand(alloc, &mut steps)?;
+    close(&mut steps, 2)?;
     Ok(steps)
 }
 
 /// Every kind of step but `Fail`, in a world of one lane and one shard.
 fn others(rt: &impl Abort, alloc: Global) -> Result<Vec<Step>, Fail> {
-    let records = vec![in alloc; record_of(alloc, ids_of(rt, 2, true), 0, 0)?]?;
-    let mut steps = vec![in alloc;
-        Step::Receive {
-            lane: 0,
-            ordinal: 0,
-            moment: 20,
-            records
-        },
-    ]?;
-    steps.push(Step::Route { lane: 0, shard: 0 })?;
+    let mut steps = due_span(rt, alloc, 2, 20)?;
     steps.push(Step::Refuse { lane: 0, shard: 0 })?;
-    steps.push(Step::Take {
-        shard: 0,
-        refused: false,
-        lost: false,
-    })?;
-    steps.push(Step::Tick {
-        shard: 0,
-        moment: 20,
-    })?;
-    steps.push(Step::Close { lane: 0 })?;
-    steps.push(Step::End {
-        shard: 0,
-        sender: 0,
-    })?;
-    steps.push(Step::End {
-        shard: 0,
-        sender: 1,
-    })?;
-    steps.push(Step::End {
-        shard: 0,
-        sender: 2,
-    })?;
-    steps.push(Step::Decide {
-        shard: 0,
-        answers: Vec::new(alloc),
-    })?;
-    steps.push(Step::Ship { shard: 0 })?;
-    steps.push(Step::Pull)?;
-    steps.push(Step::Hand)?;
-    steps.push(Step::Spoil {
-        reason: Reason::NoMemory,
-    })?;
-    steps.push(Step::Spoil {
-        reason: Reason::ExporterDown,
-    })?;
+    close(&mut steps, 3)?;
+    decide_and_hand(alloc, &mut steps)?;
+    for reason in [Reason::NoMemory, Reason::ExporterDown] {
+        steps.push(Step::Spoil { reason })?;
+    }
     Ok(steps)
 }
 
@@ -271,7 +222,7 @@ fn decided_by(rt: &impl Abort, alloc: Global, answers: &[bool]) -> Result<Option
         })?;
     }
     let config = config_with(alloc, PolicyKind::And { policies: parts }, 1, 0, 0, 1)?;
-    let mut world = match World::replay(alloc, 1, 1, config, due_span(rt, alloc)?) {
+    let mut world = match World::replay(alloc, 1, 1, config, due_span(rt, alloc, 1, 0)?) {
         Ok(world) => world,
         Err((_, Refusal::NoMemory)) => return Err(AllocError.into()),
         Err((place, refusal)) => panic!(rt; "{refusal:?} at {place}"),

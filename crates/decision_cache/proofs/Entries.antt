@@ -2,14 +2,11 @@
 use Rattle.std.proofs.Common.{◌≡◌, ℕ, zero, suc, ◌-◌, Bool, true, false, cond, ◌||◌, List, [], ◌∷◌, map, take, Some, None, refl, sym, ap}
 use Rattle.std.specs.Option.{is_some}
 use Rattle.std.specs.Map.{lookup, lookup_entry, remove_entry}
-use Rattle.std.proofs.lemmas.Slice.Eq.{bytes_eq-Decides}
+use Rattle.span_ids.proofs.SameTraces.{same_trace-is}
 use Rattle.span_ids.specs.Same.{same_trace}
 use Rattle.span_ids.specs.declared.ids.TraceId.{TraceId}
 use Rattle.lru.specs.LruCache.{LruCache, promoted, put_entries}
 use Rattle.decision_cache.specs.Lists.{is_held, without, renewed, renewed_if}
-
-pub same_trace-is : (t u : TraceId) → same_trace t u ≡ true → t ≡ u
-same_trace-is t u h = (bytes_eq-Decides t u).0 h
 
 module _ {U : Type 0} where
   abbrev pub keys : List (TraceId × U) → List TraceId

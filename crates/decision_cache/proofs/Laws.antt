@@ -1,30 +1,16 @@
 -- A cache that holds the last touched traces answers what is remembered, and its calls keep it so.
 use Rattle.std.proofs.Common.{◌≡◌, ℕ, zero, suc, ◌+◌, nat_lt, Bool, true, false, not, ◌||◌, cond, List, [], ◌∷◌, ◌++◌, map, length, take, Some, refl, sym, ap, subst, ◌∙◌, arith}
 use Rattle.std.specs.List.{filter, find, prefix_len}
-use Rattle.std.proofs.lemmas.Slice.Eq.{bytes_eq-Decides}
 use Rattle.std.proofs.lemmas.List.Elements.{filter-append}
 use Rattle.std.proofs.lemmas.Bool.Decides.{nat_tests}
+use Rattle.std.proofs.lemmas.Bool.{or_parts}
+use Rattle.span_ids.proofs.SameTraces.{same_trace-is, same_trace-refl, same_trace-sym}
 use Rattle.span_ids.specs.Same.{same_trace}
 use Rattle.decision_cache.specs.Touches.{Touch, last_touched, touches_since, different, is_same_verdict}
 use Rattle.span_ids.specs.declared.ids.TraceId.{TraceId}
 use Rattle.span_ids.specs.declared.outcome.Verdict.{Verdict}
 use Rattle.span_ids.specs.declared.outcome.Verdict.TheVariants.{Sampled, NotSampled}
 use Rattle.decision_cache.specs.Lists.{is_held, without}
-
-pub same-eq : (t u : TraceId) → same_trace t u ≡ true → t ≡ u
-same-eq t u h = (bytes_eq-Decides t u).0 h
-
-pub same-refl : (t : TraceId) → same_trace t t ≡ true
-same-refl t = (bytes_eq-Decides t t).1 refl
-
-both : (a b : Bool) → (a ≡ true → b ≡ true) → (b ≡ true → a ≡ true) → a ≡ b
-both true true f g = refl
-both true false f g = sym (f refl)
-both false true f g = g refl
-both false false f g = refl
-
-pub same-sym : (t u : TraceId) → same_trace t u ≡ same_trace u t
-same-sym t u = both _ _ (λ h. rw (same-eq t u h) (same-refl u)) (λ h. rw (same-eq u t h) (same-refl t))
 
 pub verdict-refl : (v : Verdict) → is_same_verdict v v ≡ true
 verdict-refl Sampled = refl
@@ -77,7 +63,7 @@ split v t (u ∷ rest) last e k = (elim (same_trace u.trace t) as (λ b. same_tr
   | true ↦ λ h e.
       let same : u ≡ last = cc in
       let verdict : is_same_verdict u.verdict v ≡ true = ap (λ (x : Touch). is_same_verdict x.verdict v) same ∙ ap (λ x. is_same_verdict x v) k ∙ verdict-refl v in
-      (others u.trace (last_touched v rest), touched-more v u rest verdict ∙ ap (λ x. x ∷ others u.trace (last_touched v rest)) (same-eq u.trace t h) ∙ ap (λ ts. last_touched v ts ++ t ∷ others u.trace (last_touched v rest)) (sym (since-own t u rest h)))
+      (others u.trace (last_touched v rest), touched-more v u rest verdict ∙ ap (λ x. x ∷ others u.trace (last_touched v rest)) (same_trace-is u.trace t h) ∙ ap (λ ts. last_touched v ts ++ t ∷ others u.trace (last_touched v rest)) (sym (since-own t u rest h)))
   | false ↦ λ h e. split-other v t u rest (is_same_verdict u.verdict v) refl h (split v t rest last e k)
 ]) refl e
 
@@ -93,7 +79,7 @@ held-others t x (u ∷ ts) h = (elim (same_trace t u) as (λ b. same_trace t u �
 ]) refl h
 
 held-verdict : (v : Verdict) (t : TraceId) (u : Touch) (rest : List Touch) (b : Bool) → is_same_verdict u.verdict v ≡ b → same_trace u.trace t ≡ false → is_held t (last_touched v rest) ≡ false → is_held t (last_touched v (u ∷ rest)) ≡ false
-held-verdict v t u rest true h k w = let P = λ (ts : List TraceId). is_held t ts ≡ false in subst P (sym (touched-more v u rest h)) (rw (same-sym t u.trace ∙ k) (held-others t u.trace (last_touched v rest) w))
+held-verdict v t u rest true h k w = let P = λ (ts : List TraceId). is_held t ts ≡ false in subst P (sym (touched-more v u rest h)) (rw (same_trace-sym t u.trace ∙ k) (held-others t u.trace (last_touched v rest) w))
 held-verdict v t u rest false h k w = let P = λ (ts : List TraceId). is_held t ts ≡ false in subst P (sym (touched-other v u rest h)) w
 
 held-step : (v : Verdict) (t : TraceId) (u : Touch) (rest : List Touch) (b : Bool) → same_trace u.trace t ≡ b → is_held t (last_touched v (touches_since t rest)) ≡ false → is_held t (last_touched v (touches_since t (u ∷ rest))) ≡ false
@@ -116,7 +102,7 @@ below_suc m n = grind (arith, nat_tests)
 -- among the first n of a list in which the trace stands once
 held-first : (t : TraceId) (n : ℕ) (before more : List TraceId) → is_held t before ≡ false → is_held t (take n (before ++ t ∷ more)) ≡ nat_lt (length before) n
 held-first t zero before more h = sym (below_zero (length before))
-held-first t (suc n) [] more h = rw (same-refl t) (sym (zero_below n))
+held-first t (suc n) [] more h = rw (same_trace-refl t) (sym (zero_below n))
 held-first t (suc n) (x ∷ before) more h = (elim (same_trace t x) as (λ b. (b || is_held t before) ≡ false → (b || is_held t (take n (before ++ t ∷ more))) ≡ nat_lt (suc (length before)) (suc n)) [
   | true ↦ λ h. cc
   | false ↦ λ h. held-first t n before more h ∙ below_suc (length before) n
@@ -196,7 +182,7 @@ others-none t (u ∷ ts) h = (elim (same_trace t u) as (λ b. (b || is_held t ts
 without-first : (t : TraceId) (n : ℕ) (ts : List TraceId) → Once ts → is_held t (take (suc n) ts) ≡ true → without t (take (suc n) ts) ≡ take n (others t ts)
 without-first t n [] w h = cc
 without-first t n (u ∷ ts) w h = (elim (same_trace t u) as (λ b. same_trace t u ≡ b → (b || is_held t (take n ts)) ≡ true → cond b (take n ts) (u ∷ without t (take n ts)) ≡ take n (cond (not b) (u ∷ others t ts) (others t ts))) [
-  | true ↦ λ k h. let same : t ≡ u = same-eq t u k in ap (take n) (sym (others-none t ts (let P = λ (x : TraceId). is_held x ts ≡ false in subst P (sym same) w.0)))
+  | true ↦ λ k h. let same : t ≡ u = same_trace-is t u k in ap (take n) (sym (others-none t ts (let P = λ (x : TraceId). is_held x ts ≡ false in subst P (sym same) w.0)))
   | false ↦ λ k h. (elim n as (λ m. is_held t (take m ts) ≡ true → u ∷ without t (take m ts) ≡ take m (u ∷ others t ts)) [
     | zero ↦ λ h. cc
     | suc m ↦ λ h. ap (λ xs. u ∷ xs) (without-first t m ts w.1 h)
@@ -212,22 +198,14 @@ renew_touches v u n touches h k =
 
 -- ---- another trace's touch
 
-or-left : (a b : Bool) → (a || b) ≡ false → a ≡ false
-or-left true b h = cc
-or-left false b h = refl
-
-or-right : (a b : Bool) → (a || b) ≡ false → b ≡ false
-or-right true b h = cc
-or-right false b h = h
-
 others-within : (t u : TraceId) (n : ℕ) (ts : List TraceId) → Once ts → is_held t (take (suc n) ts) ≡ false → is_held t (take n (others u ts)) ≡ false
 others-within t u zero ts w h = refl
 others-within t u (suc n) [] w h = refl
 others-within t u (suc n) (x ∷ ts) w h = (elim (same_trace u x) as (λ b. same_trace u x ≡ b → is_held t (take (suc n) (cond (not b) (x ∷ others u ts) (others u ts))) ≡ false) [
-  | true ↦ λ k. let same : u ≡ x = same-eq u x k in
+  | true ↦ λ k. let same : u ≡ x = same_trace-is u x k in
       let gone : others u ts ≡ ts = others-none u ts (let P = λ (z : TraceId). is_held z ts ≡ false in subst P (sym same) w.0) in
-      ap (λ zs. is_held t (take (suc n) zs)) gone ∙ or-right (same_trace t x) _ h
-  | false ↦ λ k. rw (or-left (same_trace t x) _ h) (others-within t u n ts w.1 (or-right (same_trace t x) _ h))
+      ap (λ zs. is_held t (take (suc n) zs)) gone ∙ (or_parts (same_trace t x) _ h).1
+  | false ↦ λ k. rw ((or_parts (same_trace t x) _ h).0) (others-within t u n ts w.1 ((or_parts (same_trace t x) _ h).1))
 ]) refl
 
 -- a touch of another trace never brings a trace in

@@ -1,6 +1,8 @@
 -- A cache that stands for touches stands for one more after a put or an asking that finds the trace.
 use Rattle.std.proofs.Common.{◌≡◌, ℕ, zero, suc, ◌-◌, ◌<◌, nat_lt, Bool, true, false, ◌||◌, cond, List, [], ◌∷◌, length, take, Option, Some, None, refl, sym, ap, subst, ◌∙◌, arith}
 use Rattle.std.proofs.lemmas.Bool.Decides.{nat_tests}
+use Rattle.std.proofs.lemmas.Bool.{or_parts}
+use Rattle.span_ids.proofs.SameTraces.{same_trace-is, same_trace-sym}
 use Rattle.span_ids.specs.Same.{same_trace}
 use Rattle.decision_cache.specs.Lists.{TraceList, CacheLists, is_held, is_held_in_either, puts, PutAs, Remembers, without, renewed_if, renews, asked, after_asking}
 use Rattle.decision_cache.specs.Touches.{Touch, touched_by, is_same_verdict, last_touched, touches_since, last_touch, size_of, sizes_of, cached_by, cached_as, HeldAsTouched, ListStandsFor, StandsFor, is_lost}
@@ -9,7 +11,7 @@ use Rattle.decision_cache.specs.declared.traces.Remembered.TheVariants.{Kept, Of
 use Rattle.span_ids.specs.declared.ids.TraceId.{TraceId}
 use Rattle.span_ids.specs.declared.outcome.Verdict.{Verdict}
 use Rattle.span_ids.specs.declared.outcome.Verdict.TheVariants.{Sampled, NotSampled}
-use Rattle.decision_cache.proofs.Laws.{same-eq, same-sym, verdict-refl, touched-other, put_touches, renew_touches, holds_where_remembered}
+use Rattle.decision_cache.proofs.Laws.{verdict-refl, touched-other, put_touches, renew_touches, holds_where_remembered}
 
 -- ---- held, and the last touch
 
@@ -24,7 +26,7 @@ last-own t u touches h = rw h
 -- a list without the trace stands as before after a touch of it
 held-after-other : (v : Verdict) (traces : List TraceId) (u : Touch) (touches : List Touch) → is_held u.trace traces ≡ false → HeldAsTouched v traces touches → HeldAsTouched v traces (u ∷ touches)
 held-after-other v traces u touches h w t held = (elim (same_trace u.trace t) as (λ b. same_trace u.trace t ≡ b → (last : Touch) × (last_touch t (u ∷ touches) ≡ Some last) × (last.verdict ≡ v)) [
-  | true ↦ λ k. let P = λ (x : TraceId). is_held x traces ≡ true in let here : is_held u.trace traces ≡ true = subst P (sym (same-eq u.trace t k)) held in cc
+  | true ↦ λ k. let P = λ (x : TraceId). is_held x traces ≡ true in let here : is_held u.trace traces ≡ true = subst P (sym (same_trace-is u.trace t k)) held in cc
   | false ↦ λ k. let old = w t held in (old.0, last-other t u touches k ∙ old.1, old.2)
 ]) refl
 
@@ -56,7 +58,7 @@ held-after-own v t episode rest traces touches f w x held =
       | true ↦ λ k. (u, last-own x u touches k, refl)
       | false ↦ λ k.
           let there : is_held x rest ≡ true = (elim (same_trace x t) as (λ b. same_trace x t ≡ b → (b || is_held x rest) ≡ true → is_held x rest ≡ true) [
-            | true ↦ λ m h. let n = same-sym x t in cc
+            | true ↦ λ m h. let n = same_trace-sym x t in cc
             | false ↦ λ m h. h
           ]) refl held in
           let old = w x (f x there) in
@@ -102,10 +104,6 @@ renew-own v t episode l touches h w =
 
 -- ---- both lists
 
-or-no : (a b : Bool) → (a || b) ≡ false → (a ≡ false) × (b ≡ false)
-or-no true b h = cc
-or-no false b h = (refl, h)
-
 put-list : (v : Verdict) (t : TraceId) (episode : ℕ) (old new : TraceList) (r : Remembered) (touches : List Touch) → is_held t old.traces ≡ false → PutAs t old r new → is_lost r ≡ false → ListStandsFor v old touches → ListStandsFor v new (touched_by episode t v ∷ touches)
 put-list v t episode old new Kept touches h p l w = let P = λ (x : TraceList). ListStandsFor v x (touched_by episode t v ∷ touches) in subst P (sym p.1) (put-own v t episode old touches h p.0 w)
 put-list v t episode old new Off touches h p l w = let P = λ (x : TraceList). ListStandsFor v x (touched_by episode t v ∷ touches) in subst P (sym p.1) (list-off v (touched_by episode t v) old touches h p.0 w)
@@ -114,11 +112,11 @@ put-list v t episode old new Lost touches h p l w = cc
 pub stands-put : (old new : CacheLists) (t : TraceId) (v : Verdict) (r : Remembered) → is_held_in_either t old ≡ false → Remembers t v old r new →
     (touches : List Touch) (episode : ℕ) → StandsFor old touches → is_lost r ≡ false → StandsFor new (touched_by episode t v ∷ touches)
 stands-put old new t Sampled r h p touches episode w l =
-    let out = or-no _ _ h in
+    let out = or_parts _ _ h in
     let P = λ (x : TraceList). ListStandsFor NotSampled x (touched_by episode t Sampled ∷ touches) in
     (put-list Sampled t episode old.sampled new.sampled r touches out.0 p.0 l w.0, subst P (sym p.1) (list-other NotSampled (touched_by episode t Sampled) old.not_sampled touches refl out.1 w.1))
 stands-put old new t NotSampled r h p touches episode w l =
-    let out = or-no _ _ h in
+    let out = or_parts _ _ h in
     let P = λ (x : TraceList). ListStandsFor Sampled x (touched_by episode t NotSampled ∷ touches) in
     (subst P (sym p.1) (list-other Sampled (touched_by episode t NotSampled) old.sampled touches refl out.0 w.0), put-list NotSampled t episode old.not_sampled new.not_sampled r touches out.1 p.0 l w.1)
 

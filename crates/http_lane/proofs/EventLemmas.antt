@@ -262,18 +262,7 @@ counted_text Unwritten f = refl
 -- a connection of which nothing has been read
 pub serving_first : {E L : Type 0} (awaits : E → Reading → Type 0) (submits : L → Submission → L → Type 0) (text : Option (List ℕ)) (lane : L) (reader : KnownReader) (engine : E) → awaits engine (in_head [])
     → Serving awaits submits text text lane lane reader reader engine 0 0
-serving_first awaits submits text lane reader engine a = record {
-  rounds = [];
-  last = at_first;
-  run = refl;
-  goes_on = refl;
-  stood = a;
-  rests = refl;
-  row_is = refl;
-  count_is = refl;
-  turns = gives_none reader;
-  done = does_none submits text lane;
-}
+serving_first awaits submits text lane reader engine a = record { rounds = []; last = at_first; run = refl; goes_on = refl; stood = a; rests = refl; row_is = refl; count_is = refl; turns = gives_none reader; done = does_none submits text lane }
 
 -- all reads were made
 pub serving_turns : {E L : Type 0} (awaits : E → Reading → Type 0) (submits : L → Submission → L → Type 0) (t u : Option (List ℕ)) (a b : L) (old new : KnownReader) (engine : E) (row : ℕ)

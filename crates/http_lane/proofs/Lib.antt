@@ -3,3 +3,4 @@ pub mod PieceLemmas
 pub mod Rows
 pub mod EventLemmas
 pub mod AnswerLemmas
+pub mod StepLemmas

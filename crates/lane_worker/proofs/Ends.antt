@@ -1,6 +1,6 @@
 -- Lists of ends to each of which items are pushed, and ticks that are given one after the other.
 -- For the contracts of `end_all`, `tick_all`, `tick` and `work`.
-use Rattle.std.proofs.Common.{◌≡◌, ℕ, zero, suc, ◌+◌, List, [], ◌∷◌, ◌++◌, ◌<◌, length, get_or, set, take, drop, sym, refl, ap, ◌∙◌, append_assoc, arith}
+use Rattle.std.proofs.Common.{◌≡◌, ℕ, zero, suc, ◌+◌, List, [], ◌∷◌, ◌++◌, ◌<◌, length, get_or, set, take, drop, sym, refl, ap, ◌∙◌, append_assoc, add-one, arith}
 use Rattle.std.specs.Prelude.{map}
 use Rattle.otlp_types.specs.declared.arrival.Item.{Item}
 use Rattle.otlp_types.specs.declared.arrival.Item.TheVariants.{Tick, End}
@@ -17,6 +17,10 @@ module _ {X : Type 0} (f : X → X) where
   mapped_more [] place d within = absurd (omega arith)
   mapped_more (y ∷ xs) zero d within = refl
   mapped_more (y ∷ xs) (suc place) d within = ap (λ l. f y ∷ l) (mapped_more xs place d (omega arith))
+
+  -- the element at this place is mapped too
+  pub mapped_set : (xs now : List X) (place : ℕ) (d y : X) → place < length xs → now ≡ mapped place xs → y ≡ f (get_or now place d) → set now place y ≡ mapped (place + 1) xs
+  mapped_set xs now place d y lt h is = ap (set now place) is ∙ ((λ i. set (h i) place (f (get_or (h i) place d))) ∙ (mapped_more xs place d lt ∙ ap (λ k. mapped k xs) (sym (add-one place))))
 
 pub queues_end : (number : ℕ) (ends : List (EndState Item)) → queues (map (with_end number) ends) ≡ queues ends
 queues_end number [] = refl

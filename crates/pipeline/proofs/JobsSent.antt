@@ -23,8 +23,8 @@ use Rattle.otlp_types.specs.contracts.arrival.Shipment as shipment
 use Rattle.shard_core.specs.contracts.shard.Shard as shard
 use Rattle.shared_budget.proofs.budget_seat.BudgetSeat.TheSendSync as seat_sent
 use Rattle.shared_budget.specs.contracts.budget_seat.BudgetSeat as seat
-use Rattle.pipeline.proofs.Sent.{item_send, shipment_send}
-use Rattle.pipeline.proofs.ShardSent.{shard_send}
+use Rattle.otlp_types.proofs.Sent.{item_send, shipment_send}
+use Rattle.shard_core.proofs.Sent.{shard_send}
 use Rattle.pipeline.proofs.BookSent.{lent_field, part_field, counting_field}
 use Rattle.pipeline.specs.contracts.lane_job.LaneJob as lane_job
 use Rattle.pipeline.specs.contracts.lane_job.LaneLeft as lane_left

@@ -1,7 +1,5 @@
--- Sent, ShardSent, BookSent, JobsSent: which of the types that the threads are given and leave may go to another thread.
+-- BookSent, JobsSent: which of the types that the threads are given and leave may go to another thread.
 pub mod BookSent
 pub mod Columns
 pub mod JobsSent
-pub mod Sent
-pub mod ShardSent
 pub mod SinkWent

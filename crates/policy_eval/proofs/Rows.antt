@@ -1,5 +1,6 @@
 -- Worked rows of the policies' meaning, by computation.
 use Rattle.std.specs.Prelude.{ℕ, Bool, true, false, pos, List, [], ◌∷◌, ◌++◌, map, None, ◌≡◌, refl}
+use Rattle.otlp_types.proofs.Samples.{plain_record, plain_span}
 use Rattle.policy_tree.specs.Tree.{Policy, Policies, no_more, one_more, Leaf, leaf, and_policy, rate_limiting, always_sample, latency, status_code, attribute, span_count, text_among, whole_within, truth_of}
 use Rattle.policy_eval.specs.Policies.{sample, not_sample, inverted_sample, inverted_not_sample, leaf_answer, is_slow, is_within, verdict, verdict_of_answers, asked_nodes}
 use Rattle.otlp_types.specs.declared.arrival.Arrival.{Arrival}
@@ -13,27 +14,9 @@ abbrev pub arrival : (code start end : ℕ) → (own of_resource : List KeyValue
 arrival code start end own of_resource = record {
   key = record { conn = record { lane = 0; ordinal = 0 }; number = 0 };
   moment = 0;
-  rec = record {
+  rec = record (plain_record None code start end) {
     resource = record { attributes = of_resource; dropped_attributes_count = 0 };
-    resource_schema_url = [];
-    scope = record { name = []; version = []; attributes = []; dropped_attributes_count = 0 };
-    scope_schema_url = [];
-    span = record {
-      ids = None;
-      trace_state = [];
-      flags = 0;
-      name = [];
-      kind = pos 0;
-      start_time_unix_nano = start;
-      end_time_unix_nano = end;
-      attributes = own;
-      dropped_attributes_count = 0;
-      events = [];
-      dropped_events_count = 0;
-      links = [];
-      dropped_links_count = 0;
-      status = record { message = []; code = pos code };
-    };
+    span = record (plain_span None code start end) { attributes = own };
   };
 }
 

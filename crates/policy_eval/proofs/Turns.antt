@@ -2,6 +2,7 @@
 -- For the clauses `evaluates` of `evaluate` and `answers` of `answer`.
 use Rattle.std.proofs.Common.{◌≡◌, ℕ, suc, ◌+◌, ◌-◌, ◌^◌, min, ◌≤◌, ◌<◌, ◌==◌, Bool, true, false, ◌&&◌, List, [], ◌∷◌, ◌++◌, length, drop, get_or, refl, sym, ap, subst, ◌∙◌, arith, append-nil, append_assoc, drop-cons, add-one}
 use Rattle.std.proofs.lemmas.Bool.Decides.{nat_tests}
+use Rattle.std.proofs.lemmas.Bool.{and_parts}
 use Rattle.policy_tree.specs.declared.limiter_node.LimiterNode.{LimiterNode}
 use Rattle.policy_tree.specs.declared.policy.Policy.{Policy as Named}
 use Rattle.policy_tree.specs.Tree.{Policy, leaf, rate_limiting, and_policy, Policies, no_more, one_more, nodes, nodes_in, limits, limits_in}
@@ -21,19 +22,15 @@ use Rattle.policy_eval.proofs.Verdicts.{Tells, tells-more, tells-all}
 pub next_part : (ps : List Named) (i : ℕ) (p : Named) → i < length ps → p ≡ get_or ps i p → meaning (drop i ps) ≡ one_more (policy_meaning p) (meaning (drop (i + 1) ps))
 next_part ps i p h e = ap meaning (drop-cons ps i p h) ∙ ap (λ (q : Named). one_more (policy_meaning q) (meaning (drop (suc i) ps))) (sym e) ∙ ap (λ k. one_more (policy_meaning p) (meaning (drop k ps))) (sym (add-one i))
 
+-- and what holds of the policies from i on holds of these
+pub part_at : (T : Policies → Type 0) (items : List Named) (i : ℕ) (p : Named) → i < length items → p ≡ get_or items i p → T (meaning (drop i items)) → T (one_more (policy_meaning p) (meaning (drop (i + 1) items)))
+part_at T items i p h is t = subst T (next_part items i p h is) t
+
 pub samples-is : (a : spec.Answer) → is_for (answer_of a) ≡ spec.samples a
 samples-is spec.sample = refl
 samples-is spec.not_sample = refl
 samples-is spec.inverted_sample = refl
 samples-is spec.inverted_not_sample = refl
-
-and-left : (a b : Bool) → (a && b) ≡ true → a ≡ true
-and-left true b h = refl
-and-left false b h = cc
-
-and-right : (a b : Bool) → (a && b) ≡ true → b ≡ true
-and-right true b h = h
-and-right false b h = cc
 
 -- a number of policies within the limits is counted exactly
 pub counted_nodes : (n : ℕ) → n ≤ 64 → min n (2 ^ 64 - 1) ≡ n
@@ -52,10 +49,10 @@ knows-same old new [] h = refl
 knows-same old new (l ∷ ls) h = rw (h l.node, knows-same old new ls h)
 
 pub knows-first : (has : ℕ → Bool) (p : Policy) (rest : Policies) (node : ℕ) → knows has (limits_in (one_more p rest) node) ≡ true → knows has (limits p node) ≡ true
-knows-first has p rest node h = and-left (knows has (limits p node)) (knows has (limits_in rest (node + nodes p))) (sym (knows-append has (limits p node) (limits_in rest (node + nodes p))) ∙ h)
+knows-first has p rest node h = (and_parts (knows has (limits p node)) (knows has (limits_in rest (node + nodes p))) (sym (knows-append has (limits p node) (limits_in rest (node + nodes p))) ∙ h)).0
 
 pub knows-rest : (old new : ℕ → Bool) (p : Policy) (rest : Policies) (node : ℕ) → ((m : ℕ) → new m ≡ old m) → knows old (limits_in (one_more p rest) node) ≡ true → knows new (limits_in rest (node + nodes p)) ≡ true
-knows-rest old new p rest node e h = knows-same old new (limits_in rest (node + nodes p)) e ∙ and-right (knows old (limits p node)) (knows old (limits_in rest (node + nodes p))) (sym (knows-append old (limits p node) (limits_in rest (node + nodes p))) ∙ h)
+knows-rest old new p rest node e h = knows-same old new (limits_in rest (node + nodes p)) e ∙ (and_parts (knows old (limits p node)) (knows old (limits_in rest (node + nodes p))) (sym (knows-append old (limits p node) (limits_in rest (node + nodes p))) ∙ h)).1
 
 -- ---- a limiter that is asked
 

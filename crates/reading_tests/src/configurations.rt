@@ -1,5 +1,7 @@
 //! Texts with each fault, and one that is read whole.
 use policy_tree::PolicyFault;
+use std::alloc::Global;
+use std::process::Abort;
 use std::test::Fail;
 use tsc_config::{ConfigFault, read};
 
@@ -109,6 +111,20 @@ fn ranges(rt: HostRuntime) -> Result<(), Fail> {
     Ok(())
 }
 
+/// Compares the fault of each of these lines, with one policy behind it.
+fn compare(
+    rt: &impl Abort,
+    alloc: Global,
+    cases: &[(&str, Option<ConfigFault>)],
+) -> Result<(), Fail> {
+    for (line, fault) in cases {
+        let text = format!(in alloc; "{line}\npolicies = [{ALL}]")?;
+        let found = read(alloc, text.as_str()).err();
+        assert_eq!(rt; found, *fault, "{text}");
+    }
+    Ok(())
+}
+
 #[test]
 fn root_wait_range(rt: HostRuntime) -> Result<(), Fail> {
     let cases = [
@@ -119,12 +135,7 @@ fn root_wait_range(rt: HostRuntime) -> Result<(), Fail> {
         ("root_wait_ms = 0.5", Some(ConfigFault::WrongType)),
         ("root_wait = 0", Some(ConfigFault::UnknownKey)),
     ];
-    for (line, fault) in cases {
-        let text = format!(in rt.alloc(); "{line}\npolicies = [{ALL}]")?;
-        let found = read(rt.alloc(), text.as_str()).err();
-        assert_eq!(rt; found, fault, "{text}");
-    }
-    Ok(())
+    compare(&rt, rt.alloc(), &cases)
 }
 
 #[test]
@@ -139,12 +150,7 @@ fn address(rt: HostRuntime) -> Result<(), Fail> {
         ),
         ("listen = \"a\"\nlisten = \"a\"", Some(ConfigFault::NotToml)),
     ];
-    for (line, fault) in cases {
-        let text = format!(in rt.alloc(); "{line}\npolicies = [{ALL}]")?;
-        let found = read(rt.alloc(), text.as_str()).err();
-        assert_eq!(rt; found, fault, "{text}");
-    }
-    Ok(())
+    compare(&rt, rt.alloc(), &cases)
 }
 
 /// For each fault a line and the beginning of a list of policies that has it.

@@ -45,9 +45,8 @@ fn policy_limits(rt: HostRuntime) -> Result<(), Fail> {
 
 #[test]
 fn copies_are_made(rt: HostRuntime) -> Result<(), Fail> {
-    let alloc = rt.alloc();
-    let policies = Policies::new(alloc, list_of(alloc, 3, 3, 2)?)?;
-    assert_eq!(rt; policies.try_clone(alloc)?.as_slice().len(), 3);
+    let policies = Policies::new(rt.alloc(), list_of(rt.alloc(), 3, 3, 2)?)?;
+    assert_eq!(rt; policies.try_clone(rt.alloc())?.as_slice().len(), 3);
     Ok(())
 }
 

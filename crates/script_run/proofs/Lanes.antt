@@ -1,13 +1,10 @@
 -- The core's lanes and shards, read and written as the script's world has them; steps one after the other.
 use Rattle.std.proofs.Common.{◌≡◌, ℕ, zero, suc, ◌+◌, ◌<◌, ◌≤◌, Bool, true, false, cond, ◌&&◌, ◌==◌, List, [], ◌∷◌, ◌++◌, length, map, filter, slice_get, slice_set, Option, Some, None, option_and_then, refl, ap, sym, subst, ◌∙◌, arith, eq-eqb, eqb-true}
-use Rattle.std.proofs.lemmas.List.{map-append, length-append}
-use Rattle.std.proofs.lemmas.List.Elements.{filter-append}
 use Rattle.otlp_types.specs.declared.arrival.Arrival.{Arrival}
 use Rattle.otlp_types.specs.declared.arrival.Record.{Record}
 use Rattle.span_ids.specs.declared.keys.ConnKey.{ConnKey}
-use Rattle.span_ids.specs.declared.outcome.Reason.{Reason}
 use Rattle.shard_core.specs.Journal.{Settings, Journal}
-use Rattle.shard_core.specs.Fate.{DroppedSpan, counts, under, is_same_reason}
+use Rattle.shard_core.specs.Fate.{counts}
 use Rattle.shard_core.proofs.ListFacts.{tally}
 use Rattle.lane_seq.specs.Numbers.{arrival_of, arrivals_from}
 use Rattle.span_world.specs.World.{Config, Lane, Shard, World as Core}
@@ -147,25 +144,6 @@ mapped_at f (y ∷ xs) zero x e = let same : y ≡ x = cc in ap (λ z. Some (f z
 mapped_at f (y ∷ xs) (suc i) x e = mapped_at f xs i x e
 
 -- ---- counts
-
--- what is counted under a reason in two parts
-pub under_append : (reason : Reason) (xs ys : List DroppedSpan) → length (under reason (xs ++ ys)) ≡ length (under reason xs) + length (under reason ys)
-under_append reason xs ys =
-    let p = λ (c : DroppedSpan). is_same_reason c.reason reason in
-    ap (λ (cs : List DroppedSpan). length (map (λ (c : DroppedSpan). c.key) cs)) (filter-append p xs ys)
-    ∙ ap length (map-append (λ (c : DroppedSpan). c.key) (filter p xs) (filter p ys))
-    ∙ length-append (under reason xs) (under reason ys)
-
--- spans that are counted stand under their reason alone
-under_counts_go : (reason r : Reason) (b : Bool) → is_same_reason r reason ≡ b → (spans : List Arrival) → length (under reason (counts r spans)) ≡ cond b (length spans) 0
-under_counts_go reason r true h [] = refl
-under_counts_go reason r false h [] = refl
-under_counts_go reason r true h (a ∷ spans) = rw h (ap suc (under_counts_go reason r true h spans))
-under_counts_go reason r false h (a ∷ spans) = rw h (under_counts_go reason r false h spans)
-
--- the same, for reasons that are not compared yet
-pub under_counts : (reason r : Reason) (spans : List Arrival) → length (under reason (counts r spans)) ≡ cond {A = ℕ} (is_same_reason r reason) (length spans) 0
-under_counts reason r spans = under_counts_go reason r (is_same_reason r reason) refl spans
 
 -- none in either case
 pub if_none : (b : Bool) → cond {A = ℕ} b 0 0 ≡ 0

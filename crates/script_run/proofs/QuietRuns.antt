@@ -1,5 +1,6 @@
 -- Runs of the core's steps, one after the other.
-use Rattle.std.proofs.Common.{◌≡◌, List, [], ◌∷◌, ◌++◌, Option, Some, None, option_and_then, refl, ap, ◌∙◌}
+use Rattle.std.proofs.Common.{◌≡◌, List, [], ◌∷◌, ◌++◌, Some, option_and_then, ap, ◌∙◌}
+use Rattle.span_world.proofs.Running.{run_append}
 use Rattle.span_world.specs.World.{Config, World as Core}
 use Rattle.span_world.specs.Step.{Step, step, run_from}
 
@@ -14,16 +15,6 @@ leads_same c k after e = ([], ap (λ (z : Core). Some z) e)
 -- one step leads to what it gives
 pub leads_one : (c : Config) (k after : Core) (s : Step) → step c k s ≡ Some after → Leads c k after
 leads_one c k after s e = (s ∷ [], ap (option_and_then (λ (w : Core). Some w)) e)
-
--- steps and then further ones are a run
-run_append : (c : Config) (k : Core) (xs ys : List Step) → run_from c k (xs ++ ys) ≡ option_and_then (λ (w : Core). run_from c w ys) (run_from c k xs)
-run_append c k [] ys = refl
-run_append c k (x ∷ xs) ys = go (step c k x) (λ n. run_append c n xs ys)
-  where
-    go : (o : Option Core) → ((n : Core) → run_from c n (xs ++ ys) ≡ option_and_then (λ (w : Core). run_from c w ys) (run_from c n xs))
-        → option_and_then (λ (n : Core). run_from c n (xs ++ ys)) o ≡ option_and_then (λ (w : Core). run_from c w ys) (option_and_then (λ (n : Core). run_from c n xs) o)
-    go None h = refl
-    go (Some n) h = h n
 
 -- one run after another
 pub leads_then : (c : Config) (k mid after : Core) → Leads c k mid → Leads c mid after → Leads c k after

@@ -2,6 +2,7 @@
 use Rattle.std.proofs.Common.{◌≡◌, ℕ, zero, suc, ◌+◌, ◌<◌, true, false, List, [], ◌∷◌, ◌++◌, map, filter, flat_map, length, refl, ap, sym, subst, ◌∙◌, arith}
 use Rattle.std.specs.List.{sum_by, list_all, AllByRecursion}
 use Rattle.std.proofs.lemmas.List.Sums.{sum_by-append}
+use Rattle.span_world.proofs.WaitingPlaces.{none_waits_counted, none_waits_handed}
 use Rattle.otlp_types.specs.declared.arrival.Arrival.{Arrival}
 use Rattle.otlp_types.specs.declared.arrival.Item.{Item}
 use Rattle.span_ids.specs.declared.outcome.Reason.{Reason}
@@ -77,17 +78,6 @@ all_ends_taken : (s : Settings) (pasts : List Journal) → AllByRecursion (Finis
 all_ends_taken s [] h = refl
 all_ends_taken s (past ∷ pasts) h = rw (h.0.0) (all_ends_taken s pasts h.1)
 
--- nothing that is counted waits
-none_waits_counted : (counted : List DroppedSpan) → filter (λ (h : HeldKey). is_waiting h.place) (map (λ (n : DroppedSpan). record { place = counted_under n.reason; key = n.key }) counted) ≡ []
-none_waits_counted [] = refl
-none_waits_counted (n ∷ counted) = none_waits_counted counted
-
--- nothing that was handed over waits
-none_waits_handed : (batches : List (List Arrival)) (rest : List HeldKey) → filter (λ (h : HeldKey). is_waiting h.place) (flat_map (held_at handed) batches ++ rest) ≡ filter (λ (h : HeldKey). is_waiting h.place) rest
-none_waits_handed [] rest = refl
-none_waits_handed ([] ∷ batches) rest = none_waits_handed batches rest
-none_waits_handed ((a ∷ batch) ∷ batches) rest = none_waits_handed (batch ∷ batches) rest
-
 -- the core is closed where the lanes have ended, the shards have finished, and nothing is left to send
 is_closed : (c : Config) (s : Settings) (w : World) (k : Core) (pasts : List Journal) (lanes : ℕ) → settings c k ≡ s → w.closed ≡ true → k.lanes ≡ lanes_from w 0 lanes
     → k.shards ≡ shards_with s (no_queues pasts) pasts → k.exported ≡ [] → k.batch ≡ [] → AllByRecursion (Finished s) pasts → IsClosed c k
@@ -122,17 +112,7 @@ pub record Shipped (s : Settings) (w : World) (queues : List (List Arrival)) (pa
 
 -- so it is before anything is taken
 pub shipped_nothing : (s : Settings) (sizes : Sizes) (w : World) (queues : List (List Arrival)) (k : Core) → Stands s sizes w queues k → Shipped s w queues w.journals [] k
-shipped_nothing s sizes w queues k h = record {
-  lanes = h.lanes;
-  senders = h.senders;
-  shards = h.shards;
-  exported = h.exported;
-  batch = h.batch;
-  handed = h.handed;
-  down = h.down;
-  dropped = h.dropped;
-  handed_over = h.handed_over;
-}
+shipped_nothing s sizes w queues k h = record { lanes = h.lanes; senders = h.senders; shards = h.shards; exported = h.exported; batch = h.batch; handed = h.handed; down = h.down; dropped = h.dropped; handed_over = h.handed_over }
 
 -- the settings of each shard are the script's
 pub settings_are : (s : Settings) (sizes : Sizes) (w : World) (k : Core) → k.lanes ≡ lanes_from w 0 (length w.contacts.connected) → s.senders ≡ length w.contacts.connected + 1

@@ -2,6 +2,7 @@
 use Rattle.std.proofs.Common.{◌≡◌, ℕ, ◌+◌, ◌<◌, false, cond, not, is_some, is_none, List, [], ◌∷◌, ◌++◌, length, filter, count_by, slice_get, slice_set, Option, Some, None, refl, ap, sym, ◌∙◌, arith}
 use Rattle.std.proofs.lemmas.List.{length-append, append-nil, set-set}
 use Rattle.std.proofs.lemmas.List.Elements.{filter-append}
+use Rattle.shard_core.proofs.Counted.{under_append, under_counts}
 use Rattle.otlp_types.specs.declared.arrival.Arrival.{Arrival}
 use Rattle.otlp_types.specs.declared.arrival.Record.{Record}
 use Rattle.otlp_types.specs.declared.arrival.Item.{Item}
@@ -31,7 +32,7 @@ use Rattle.script_run.specs.Counts.{counted_at_lanes}
 use Rattle.script_run.specs.CoreRun.{core_config, is_of_lane}
 use Rattle.script_run.proofs.Stands.{routed_lane, lanes_from, no_queues, Stands, Reaches}
 use Rattle.script_run.proofs.Numbering.{KnowsConnections, is_there}
-use Rattle.script_run.proofs.Lanes.{runs_on, same_arrivals, filter_same, filter_own, filter_other, tally_on_lane, lane_at, lanes_set, under_append, under_counts}
+use Rattle.script_run.proofs.Lanes.{runs_on, same_arrivals, filter_same, filter_own, filter_other, tally_on_lane, lane_at, lanes_set}
 use Rattle.script_run.proofs.Routing.{held_in, as_items, Pushed, pushes}
 
 -- ---- a connection that is there

@@ -1,6 +1,7 @@
 -- The pushes of a request's spans are steps of the core, by induction over the spans.
 use Rattle.std.proofs.Common.{◌≡◌, ℕ, ◌+◌, Bool, true, cond, is_some, List, [], ◌∷◌, ◌++◌, length, map, filter, slice_get, slice_set, Option, Some, None, option_map, refl, ap, sym, subst, ◌∙◌, arith, inl, inr, eq-eqb, append_assoc}
 use Rattle.std.proofs.lemmas.List.{append-nil, map-append, length-map, map-set, set-set}
+use Rattle.shard_core.proofs.Counted.{under_append, under_counts}
 use Rattle.otlp_types.specs.declared.arrival.Arrival.{Arrival}
 use Rattle.otlp_types.specs.declared.arrival.Item.{Item}
 use Rattle.otlp_types.specs.declared.arrival.Item.TheVariants.{Span}
@@ -18,7 +19,7 @@ use Rattle.span_world.specs.Step.{Step, route, refuse, step, run_from, has_ids, 
 use Rattle.span_world.proofs.Released.{get_set}
 use Rattle.span_world.proofs.Routing.{put_back}
 use Rattle.script_run.proofs.Stands.{quiet_shard, shards_with}
-use Rattle.script_run.proofs.Lanes.{runs_on, ShardAt, shard_at, many_shards, mapped_from, mapped_at, under_append, under_counts, if_none, if_both}
+use Rattle.script_run.proofs.Lanes.{runs_on, ShardAt, shard_at, many_shards, mapped_from, mapped_at, if_none, if_both}
 
 -- what queues hold
 abbrev pub held_in : List (QueueState Item) → List (List Item)

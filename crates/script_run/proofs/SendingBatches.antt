@@ -1,5 +1,5 @@
 -- The exporter of the core pulls the spans of batches, and hands each batch over or gives it up.
-use Rattle.std.proofs.Common.{◌≡◌, ℕ, zero, ◌+◌, ◌<◌, ◌≤◌, Bool, true, false, cond, not, ◌||◌, nat_lt, List, [], ◌∷◌, ◌++◌, map, filter, flat_map, length, Some, None, inl, inr, refl, ap, sym, ◌∙◌, arith, append_assoc, append-nil, length-append}
+use Rattle.std.proofs.Common.{◌≡◌, ℕ, ◌+◌, ◌<◌, ◌≤◌, Bool, true, false, cond, not, ◌||◌, nat_lt, List, [], ◌∷◌, ◌++◌, map, flat_map, length, Some, None, inl, inr, refl, ap, sym, ◌∙◌, arith, append_assoc, append-nil, length-append}
 use Rattle.std.specs.List.{sum_by}
 use Rattle.std.proofs.lemmas.Bool.Decides.{nat_tests}
 use Rattle.std.proofs.lemmas.List.Sums.{sum_by-cons}
@@ -19,7 +19,7 @@ use Rattle.script_run.specs.World.{Event, replied, was_sent}
 use Rattle.script_run.specs.Counts.{counted_for, counted_at}
 use Rattle.script_run.specs.Writing.{handed_with, handed_in}
 use Rattle.script_run.proofs.QuietRuns.{Leads, leads_same, leads_one, leads_then}
-use Rattle.script_run.proofs.TakingRounds.{under_append}
+use Rattle.shard_core.proofs.Counted.{under_append, under_counts}
 
 -- ---- tests and counts
 
@@ -37,21 +37,6 @@ not_empty (a ∷ spans) h = refl
 -- the test of an order that holds
 lt_true : (m n : ℕ) → m < n → nat_lt m n ≡ true
 lt_true m n h = grind (arith, nat_tests)
-
--- what a batch adds to a count that is given up for this reason
-under_counts : (reason why : Reason) (spans : List Arrival) → length (under reason (counts why spans)) ≡ cond (is_same_reason why reason) (length spans) 0
-under_counts reason why [] = go (is_same_reason why reason)
-  where
-    go : (b : Bool) → zero ≡ cond b zero zero
-    go true = refl
-    go false = refl
-under_counts reason why (a ∷ spans) = go (is_same_reason why reason) (under_counts reason why spans)
-  where
-    go : (b : Bool) → length (under reason (counts why spans)) ≡ cond b (length spans) 0
-        → length (map (λ (n : DroppedSpan). n.key) (cond b (record { reason = why; key = a.key } ∷ filter (λ (n : DroppedSpan). is_same_reason n.reason reason) (counts why spans)) (filter (λ (n : DroppedSpan). is_same_reason n.reason reason) (counts why spans))))
-        ≡ cond b (length (a ∷ spans)) 0
-    go true h = omega (arith, h)
-    go false h = h
 
 -- ---- batches and events
 

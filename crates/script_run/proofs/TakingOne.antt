@@ -1,6 +1,7 @@
 -- One shard of the core takes an item, decides all that is due and ships all that it released.
 use Rattle.std.proofs.Common.{◌≡◌, ℕ, ◌+◌, Bool, true, false, cond, not, ◌&&◌, nat_lt, List, [], ◌∷◌, ◌++◌, length, slice_get, slice_set, Some, None, option_map, option_and_then, refl, ap, sym, ◌∙◌, arith, append_assoc, append-nil, length-append}
 use Rattle.std.proofs.lemmas.Bool.Decides.{nat_tests}
+use Rattle.std.proofs.lemmas.Bool.{and_parts}
 use Rattle.otlp_types.specs.declared.arrival.Arrival.{Arrival}
 use Rattle.otlp_types.specs.declared.arrival.Item.TheVariants.{Span, Tick, End}
 use Rattle.shard_core.specs.Journal.{Settings, Entry, Journal, Opening, due_now, decision, decisions_in_turn, decisions_now, spans_since, are_each_answered, has_ended}
@@ -44,14 +45,6 @@ passes_third true b d x e f g = absurd (cc e)
 passes_third false true d x e f g = absurd (cc f)
 passes_third false false true x e f g = refl
 passes_third false false false x e f g = absurd (cc g)
-
-and_left : (a b : Bool) → (a && b) ≡ true → a ≡ true
-and_left true b h = refl
-and_left false b h = absurd (cc h)
-
-and_right : (a b : Bool) → (a && b) ≡ true → b ≡ true
-and_right true b h = h
-and_right false b h = absurd (cc h)
 
 -- no number is below itself
 not_below_itself : (n : ℕ) → nat_lt n n ≡ false
@@ -125,9 +118,9 @@ module _ (c : Config) (k : Core) where
         all = sym (ap (λ (z : List Opening). length z) (is ∙ append-nil before))
     decides_all q u X e J C given (a ∷ left) before [] is fits = absurd (cc fits)
     decides_all q u X e J C given [] before (o ∷ os) is fits = absurd (cc fits)
-    decides_all q u X e J C given (a ∷ left) before (o ∷ os) is fits = leads_then c _ _ _ (decides_one q u X e J given (length before) C o a (ap (λ (z : List Opening). slice_get z (length before)) is ∙ mid_get before o os) (and_left _ _ fits))
+    decides_all q u X e J C given (a ∷ left) before (o ∷ os) is fits = leads_then c _ _ _ (decides_one q u X e J given (length before) C o a (ap (λ (z : List Opening). slice_get z (length before)) is ∙ mid_get before o os) (and_parts _ _ fits).0)
         (leads_then c _ _ _ (leads_same c _ _ (ap (λ (n : ℕ). among (shard q (given_to e (given ++ a ∷ []) ∷ J) n (u ++ one.released)) X (C ++ one.counted)) longer))
-        (leads_then c _ _ _ (decides_all q (u ++ one.released) X e J (C ++ one.counted) (given ++ a ∷ []) left (before ++ o ∷ []) os (is ∙ sym (append_assoc before (o ∷ []) os)) (and_right _ _ fits))
+        (leads_then c _ _ _ (decides_all q (u ++ one.released) X e J (C ++ one.counted) (given ++ a ∷ []) left (before ++ o ∷ []) os (is ∙ sym (append_assoc before (o ∷ []) os)) (and_parts _ _ fits).1)
         (leads_same c _ _ (cc (append_assoc u one.released more.released, append_assoc C one.counted more.counted, append_assoc given (a ∷ []) left)))))
       where
         one : Effect

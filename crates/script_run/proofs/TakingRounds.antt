@@ -1,14 +1,15 @@
 -- Each shard of the core in its turn takes its items.
-use Rattle.std.proofs.Common.{◌≡◌, ℕ, ◌+◌, Bool, true, false, cond, not, ◌&&◌, List, [], ◌∷◌, ◌++◌, map, filter, length, slice_get, refl, ap, sym, subst, ◌∙◌, arith, append_assoc, append-nil}
+use Rattle.std.proofs.Common.{◌≡◌, ℕ, ◌+◌, Bool, true, false, not, ◌&&◌, List, [], ◌∷◌, ◌++◌, map, length, slice_get, refl, ap, sym, subst, ◌∙◌, arith, append_assoc, append-nil}
 use Rattle.std.specs.List.{sum_by}
 use Rattle.std.proofs.lemmas.List.{append_cancel_left}
 use Rattle.std.proofs.lemmas.List.Sums.{sum_by-cons}
+use Rattle.shard_core.proofs.Counted.{under_append}
 use Rattle.otlp_types.specs.declared.arrival.Arrival.{Arrival}
 use Rattle.otlp_types.specs.declared.arrival.Item.{Item}
 use Rattle.otlp_types.specs.declared.arrival.Item.TheVariants.{Span, Tick, End}
 use Rattle.span_ids.specs.declared.outcome.Reason.{Reason}
 use Rattle.shard_core.specs.Journal.{Entry, Journal, has_ended}
-use Rattle.shard_core.specs.Fate.{Effect, no_effect, ◌then◌, DroppedSpan, effect, is_same_reason, under}
+use Rattle.shard_core.specs.Fate.{Effect, no_effect, ◌then◌, DroppedSpan, effect, under}
 use Rattle.span_world.specs.World.{Config, Shard, World as Core, ticker}
 use Rattle.span_world.specs.Step.{sender_is_done}
 use Rattle.script_run.specs.World.{Turn, entry_of, with_entry, Takes, TakesEach}
@@ -19,17 +20,6 @@ use Rattle.script_run.specs.Counts.{dropped_by_journal}
 use Rattle.script_run.proofs.Stands.{quiet_shard, shards_with, no_queues}
 use Rattle.script_run.proofs.QuietRuns.{Leads, leads_same, leads_then}
 use Rattle.script_run.proofs.TakingOne.{gain, effect_more, then_assoc, then_none, own, with_shards, among, TakesQuietly, takes_span, takes_tick, takes_end}
-
--- what is counted under a reason in two lists
-pub under_append : (reason : Reason) (xs ys : List DroppedSpan) → length (under reason (xs ++ ys)) ≡ length (under reason xs) + length (under reason ys)
-under_append reason [] ys = omega arith
-under_append reason (x ∷ xs) ys = go (is_same_reason x.reason reason) (under_append reason xs ys)
-  where
-    go : (b : Bool) → length (under reason (xs ++ ys)) ≡ length (under reason xs) + length (under reason ys)
-        → length (map (λ (n : DroppedSpan). n.key) (cond b (x ∷ filter (λ (n : DroppedSpan). is_same_reason n.reason reason) (xs ++ ys)) (filter (λ (n : DroppedSpan). is_same_reason n.reason reason) (xs ++ ys))))
-        ≡ length (map (λ (n : DroppedSpan). n.key) (cond b (x ∷ filter (λ (n : DroppedSpan). is_same_reason n.reason reason) xs) (filter (λ (n : DroppedSpan). is_same_reason n.reason reason) xs))) + length (under reason ys)
-    go true h = omega (arith, h)
-    go false h = h
 
 module _ (c : Config) (k : Core) where
   -- the sender may send its End to any shard whose queue is empty

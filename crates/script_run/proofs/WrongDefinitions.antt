@@ -169,18 +169,7 @@ pub record IsRunBy (number : Settings → World → Count → ℕ) (handed_by : 
   pub closed : w.closed ≡ true → IsClosed (core_config s sizes) core
 
 right_run : (s : Settings) (sizes : Sizes) (lanes shards : ℕ) (w : World) → IsRunOfCore s sizes lanes shards w → IsRunBy number_of handed_in s sizes lanes shards w
-right_run s sizes lanes shards w h = record {
-  steps = h.steps;
-  core = h.core;
-  runs = h.runs;
-  holds = h.holds;
-  received = h.received;
-  journals = h.journals;
-  handed_over = h.handed;
-  counts = h.counts;
-  between = h.between;
-  closed = h.closed;
-}
+right_run s sizes lanes shards w h = record { steps = h.steps; core = h.core; runs = h.runs; holds = h.holds; received = h.received; journals = h.journals; handed_over = h.handed; counts = h.counts; between = h.between; closed = h.closed }
 
 -- ---- a batch that was given up is among those that were handed over
 

@@ -3,6 +3,8 @@
 use Rattle.std.proofs.Common.{inl, inr, ◌≡◌, ℕ, ◌+◌, ◌&&◌, ◌||◌, Bool, true, false, not, cond, List, [], ◌∷◌, ◌++◌, length, map, filter, flat_map, slice_get, Some, refl, ap, sym, subst, ◌∙◌, arith}
 use Rattle.std.specs.Prelude.{IsTrue}
 use Rattle.std.specs.List.{list_all, list_any, sum_by}
+use Rattle.span_world.proofs.WaitingPlaces.{not_waiting, buffered_waits}
+use Rattle.shard_core.proofs.Counted.{same_reason}
 use Rattle.otlp_types.specs.declared.arrival.Arrival.{Arrival}
 use Rattle.otlp_types.specs.declared.arrival.Item.TheVariants.{Span, End}
 use Rattle.span_ids.specs.declared.outcome.Reason.{Reason}
@@ -13,10 +15,9 @@ use Rattle.lane_seq.specs.declared.reply.Reply.{Reply}
 use Rattle.lane_seq.specs.declared.reply.Reply.TheVariants.{Done, Partial}
 use Rattle.shard_core.specs.Journal.{Settings, Journal, notes}
 use Rattle.shard_core.specs.Fate.{DroppedSpan, Fate, waits, fate, is_same_reason, under}
-use Rattle.span_ids.specs.declared.keys.ArrivalKey.{ArrivalKey}
 use Rattle.span_world.specs.World.{Lane, Shard, settings, has_due, same_key}
 use Rattle.span_world.specs.Step.{is_empty}
-use Rattle.span_world.specs.Places.{Place, HeldKey, unrouted, queued, buffered, unshipped, exported, in_batch, handed, counted_under, is_waiting, held_at, buffered_spans, held_by_lanes, held_by_shards, held}
+use Rattle.span_world.specs.Places.{HeldKey, unrouted, queued, buffered, unshipped, exported, in_batch, handed, counted_under, held_at, buffered_spans, held_by_lanes, held_by_shards, held}
 use Rattle.span_world.specs.Headline.{Taken, fate_of, is_where, is_received}
 use Rattle.span_world.proofs.Samples.{ids_of, key}
 use Rattle.tsc_script.specs.Instructions.{receive, close}
@@ -119,15 +120,6 @@ full_played body taken = (
 )
 
 -- a list of counts in which no reason has one is empty
-same_reason : (r : Reason) → is_same_reason r r ≡ true
-same_reason InvalidId = refl
-same_reason QueueFull = refl
-same_reason NoMemory = refl
-same_reason Evicted = refl
-same_reason NotSampled = refl
-same_reason LateNotSampled = refl
-same_reason ExporterDown = refl
-
 none_counted : (counted : List DroppedSpan) → ((r : Reason) → length (under r counted) ≡ 0) → counted ≡ []
 none_counted [] h = refl
 none_counted (d ∷ rest) h = absurd (go (is_same_reason d.reason d.reason) (same_reason d.reason) (h d.reason))
@@ -246,30 +238,6 @@ late_played body taken = inr (
   ),
 )
 
--- a key of which nothing waits is in no place that waits
-not_waiting : (k : ArrivalKey) (place : Place) (keys : List HeldKey) → filter (λ (h : HeldKey). is_waiting h.place) keys ≡ [] → map (λ (h : HeldKey). h.place) (filter (λ (h : HeldKey). same_key h.key k) keys) ≡ place ∷ [] → is_waiting place ≡ false
-not_waiting k place [] none e = absurd (cc e)
-not_waiting k place (h ∷ keys) none e = go (is_waiting h.place) (same_key h.key k) refl none e (not_waiting k place keys)
-  where
-    go : (w s : Bool) → is_waiting h.place ≡ w → cond w (h ∷ filter (λ (h : HeldKey). is_waiting h.place) keys) (filter (λ (h : HeldKey). is_waiting h.place) keys) ≡ []
-        → map (λ (h : HeldKey). h.place) (cond s (h ∷ filter (λ (h : HeldKey). same_key h.key k) keys) (filter (λ (h : HeldKey). same_key h.key k) keys)) ≡ place ∷ []
-        → (filter (λ (h : HeldKey). is_waiting h.place) keys ≡ [] → map (λ (h : HeldKey). h.place) (filter (λ (h : HeldKey). same_key h.key k) keys) ≡ place ∷ [] → is_waiting place ≡ false)
-        → is_waiting place ≡ false
-    go true s is none e more = absurd (cc none)
-    go false true is none e more = let same : h.place ≡ place = cc e in subst (λ (p : Place). is_waiting p ≡ false) same is
-    go false false is none e more = more none e
-
--- a span that waits is in no place that doesn't
-buffered_waits : (place : Place) (due : Bool) → IsTrue (is_where 0 due waits place) → is_waiting place ≡ false → ⊥
-buffered_waits (unrouted n) due e f = cc f
-buffered_waits (queued n) due e f = cc f
-buffered_waits (buffered n) due e f = cc f
-buffered_waits (unshipped n) due e f = cc f
-buffered_waits exported due e f = cc f
-buffered_waits in_batch due e f = cc f
-buffered_waits handed due e f = cc e
-buffered_waits (counted_under r) due e f = cc e
-
 abbrev fate_by : Settings → Journal → Fate
 fate_by s past = fate s past ends false (ids_of 1)
 
@@ -280,20 +248,7 @@ played_after_a_close law =
     let k = law.core in
     let past : Journal = entry_of (Span span) false false ∷ ends in
     let shard = one_shard k.shards past law.journals in
-    let taken : Taken k = record {
-      shard = 0;
-      of = shard.one;
-      in_world = ap (λ (shards : List Shard). slice_get shards 0) shard.are;
-      arrival = span;
-      ids = ids_of 1;
-      valid = refl;
-      refused = false;
-      lost = false;
-      answers = [];
-      later = [];
-      before = ends;
-      split = shard.journal;
-    } in
+    let taken : Taken k = record { shard = 0; of = shard.one; in_world = ap (λ (shards : List Shard). slice_get shards 0) shard.are; arrival = span; ids = ids_of 1; valid = refl; refused = false; lost = false; answers = []; later = []; before = ends; split = shard.journal } in
     let fits = law.holds.fits taken in
     let waiting : fate_of c k taken ≡ waits = ap (λ (s : Settings). fate_by s shard.one.journal) (own_settings law.steps (with_queue 1) k law.runs) ∙ ap (fate_by own) shard.journal in
     buffered_waits fits.0 (has_due (settings c k) shard.one)

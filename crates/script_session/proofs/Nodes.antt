@@ -1,7 +1,8 @@
 -- The limiter goes on having the nodes of the shards' policies.
 -- For the clauses `nodes` of the functions that decide.
-use Rattle.std.proofs.Common.{◌≡◌, ℕ, Bool, true, false, ◌&&◌, List, [], ◌∷◌, refl, ap, subst, ◌∙◌}
+use Rattle.std.proofs.Common.{◌≡◌, ℕ, Bool, true, List, [], ◌∷◌, refl, ap, subst, ◌∙◌}
 use Rattle.std.specs.List.{list_all}
+use Rattle.std.proofs.lemmas.Bool.{and_parts}
 use mathlib.Core.Path.{fun_ext}
 use Rattle.policy_tree.specs.Tree.{limiters}
 use Rattle.policy_tree.specs.Meaning.{meaning}
@@ -32,19 +33,11 @@ all-nodes-kept old new hs same has =
     let nodes : has_node new ≡ has_node old = fun_ext (λ node. same node) in
     ap (λ (f : ℕ → Bool). list_all (λ (h : Held). knows f (limiters (meaning h.policies))) hs) nodes ∙ has
 
-first-of : (a b : Bool) → (a && b) ≡ true → a ≡ true
-first-of true b e = refl
-first-of false b e = cc
-
-rest-of : (a b : Bool) → (a && b) ≡ true → b ≡ true
-rest-of true b e = e
-rest-of false b e = cc
-
 pub first-nodes : (limiter : Counts) (h : Held) (hs : List Held) → has_all_nodes limiter (h ∷ hs) ≡ true → has_nodes_of limiter h ≡ true
-first-nodes limiter h hs has = first-of (has_nodes_of limiter h) (has_all_nodes limiter hs) has
+first-nodes limiter h hs has = (and_parts (has_nodes_of limiter h) (has_all_nodes limiter hs) has).0
 
 pub rest-nodes : (limiter : Counts) (h : Held) (hs : List Held) → has_all_nodes limiter (h ∷ hs) ≡ true → has_all_nodes limiter hs ≡ true
-rest-nodes limiter h hs has = rest-of (has_nodes_of limiter h) (has_all_nodes limiter hs) has
+rest-nodes limiter h hs has = (and_parts (has_nodes_of limiter h) (has_all_nodes limiter hs) has).1
 
 -- the others, once the first has decided
 pub others_have_nodes : (old new : Counts) (h : Held) (hs all : List Held) → all ≡ h ∷ hs → ((node : ℕ) → has_node new node ≡ has_node old node) → has_all_nodes old all ≡ true → has_all_nodes new hs ≡ true

@@ -1,9 +1,10 @@
 -- How the numbers of a script's world grow by a line.
 use Rattle.std.proofs.Common.{◌≡◌, ℕ, ◌+◌, false, List, [], ◌∷◌, ◌++◌, length, map, replicate, zero, suc, refl, sym, ap, ◌∙◌, Some, length-append, arith}
-use Rattle.std.specs.Prelude.{filter, slice_index}
+use Rattle.std.specs.Prelude.{filter}
 use Rattle.std.specs.List.{sum_by}
 use Rattle.std.proofs.lemmas.List.Sums.{sum_by-append, sum_by-cons}
 use Rattle.std.proofs.lemmas.List.Elements.{filter-append}
+use Rattle.drop_ledger.proofs.Sums.{zero_at}
 use Rattle.span_ids.specs.declared.outcome.Reason.{Reason}
 use Rattle.span_ids.specs.declared.outcome.Reason.TheVariants.{InvalidId, QueueFull, NoMemory, Evicted, NotSampled, LateNotSampled, ExporterDown}
 use Rattle.otlp_types.specs.declared.arrival.Arrival.{Arrival}
@@ -14,7 +15,6 @@ use Rattle.lane_seq.specs.declared.reply.Reply.TheVariants.{Done, Partial, BadDa
 use Rattle.rate_budget.specs.Grant.{Asking}
 use Rattle.shard_core.specs.Journal.{Settings, Journal}
 use Rattle.span_sink.specs.LineSinks.{LineSinkState}
-use Rattle.drop_ledger.specs.Places.{place_of}
 use Rattle.drop_ledger.specs.declared.count.Count.{Count}
 use Rattle.drop_ledger.specs.declared.count.Count.TheVariants.{Received, Handed, Dropped}
 use Rattle.script_run.specs.Sending.{Sent}
@@ -123,17 +123,6 @@ number-new s lanes shards first (Dropped reason) = at_lanes reason (none-yet s r
     at_lanes LateNotSampled e = omega (arith, e)
     at_lanes ExporterDown e = omega (arith, e)
 
-zeros : (count : Count) → slice_index (replicate 9 0) (place_of count) ≡ 0
-zeros Received = refl
-zeros Handed = refl
-zeros (Dropped InvalidId) = refl
-zeros (Dropped QueueFull) = refl
-zeros (Dropped NoMemory) = refl
-zeros (Dropped Evicted) = refl
-zeros (Dropped NotSampled) = refl
-zeros (Dropped LateNotSampled) = refl
-zeros (Dropped ExporterDown) = refl
-
 -- nine zeros tell the numbers of a script that has seen no line
 pub Reports-new : (s : Settings) (lanes shards : ℕ) (first : LineSinkState) → Reports s (new_world lanes shards first) (Some (replicate 9 0))
-Reports-new s lanes shards first = (refl, λ k. let none = number-new s lanes shards first k in (zeros k ∙ sym none, omega (arith, none)))
+Reports-new s lanes shards first = (refl, λ k. let none = number-new s lanes shards first k in (zero_at k ∙ sym none, omega (arith, none)))

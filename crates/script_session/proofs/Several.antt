@@ -1,7 +1,8 @@
 -- Several shards take items in turn, and what that releases is pulled.
-use Rattle.std.proofs.Common.{add-one, ◌≡◌, ℕ, zero, suc, ◌+◌, Bool, true, false, ◌&&◌, List, [], ◌∷◌, ◌++◌, length, replicate, refl, sym, ap, subst, ◌∙◌, append_assoc, append-nil, arith}
+use Rattle.std.proofs.Common.{add-one, ◌≡◌, ℕ, zero, suc, ◌+◌, Bool, true, false, List, [], ◌∷◌, ◌++◌, length, replicate, refl, sym, ap, subst, ◌∙◌, append_assoc, append-nil, arith}
 use Rattle.std.specs.List.{list_all, slice_set}
 use Rattle.std.proofs.lemmas.List.Sums.{sum_by-cons}
+use Rattle.std.proofs.lemmas.Bool.{and_parts}
 use Rattle.otlp_types.specs.declared.arrival.Arrival.{Arrival}
 use Rattle.otlp_types.specs.declared.arrival.Item.{Item}
 use Rattle.otlp_types.specs.declared.arrival.Item.TheVariants.{Span, Tick, End}
@@ -19,19 +20,11 @@ use Rattle.script_session.proofs.Pulls.{PullsAll-none, PullsAll-append}
 
 -- ---- what a queue holds
 
-and-left : (a b : Bool) → (a && b) ≡ true → a ≡ true
-and-left true b h = refl
-and-left false b h = cc
-
-and-right : (a b : Bool) → (a && b) ≡ true → b ≡ true
-and-right true b h = h
-and-right false b h = cc
-
 pub first-queued : (item : Item) (items all : List Item) → all ≡ item ∷ items → list_all is_queued all ≡ true → is_queued item ≡ true
-first-queued item items all e h = let P = λ (xs : List Item). list_all is_queued xs ≡ true in and-left (is_queued item) (list_all is_queued items) (subst P e h)
+first-queued item items all e h = let P = λ (xs : List Item). list_all is_queued xs ≡ true in (and_parts (is_queued item) (list_all is_queued items) (subst P e h)).0
 
 pub rest-queued : (item : Item) (items all : List Item) → all ≡ item ∷ items → list_all is_queued all ≡ true → list_all is_queued items ≡ true
-rest-queued item items all e h = let P = λ (xs : List Item). list_all is_queued xs ≡ true in and-right (is_queued item) (list_all is_queued items) (subst P e h)
+rest-queued item items all e h = let P = λ (xs : List Item). list_all is_queued xs ≡ true in (and_parts (is_queued item) (list_all is_queued items) (subst P e h)).1
 
 pub queued-keeps_ends : (item : Item) (ends : List Bool) → is_queued item ≡ true → ends_after item ends ≡ ends
 queued-keeps_ends (Span a) ends h = refl

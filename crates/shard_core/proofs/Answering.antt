@@ -1,6 +1,7 @@
 -- One more decision's answers in a journal's newest entry: what was known of the journal stays, and that decision is given by them.
 -- Serves the clause `decides` of `Shard::decide`.
-use Rattle.std.proofs.Common.{◌≡◌, ℕ, zero, suc, ◌+◌, ◌≤◌, Bool, true, false, not, ◌&&◌, cond, List, [], ◌∷◌, ◌++◌, length, take, drop, reverse, Option, Some, None, refl, sym, ap, subst, ◌∙◌, arith, add-one}
+use Rattle.std.proofs.Common.{◌≡◌, ℕ, zero, suc, ◌+◌, Bool, true, false, not, ◌&&◌, cond, List, [], ◌∷◌, ◌++◌, take, drop, Option, Some, None, refl, sym, ap, ◌∙◌}
+use Rattle.std.proofs.lemmas.Bool.{and_parts}
 use Rattle.shard_core.specs.Journal.{Entry, Settings, Journal, Opening, Decision, Notes, notes, notes_dealt, due_at, due_now, have_ended, has_ended, decision, decisions_in_turn, decisions_now, after_item, after_span, after_decisions, undecided, spans_since, answered, are_each_answered, IsAnswered, IsAnsweredUpTo}
 use Rattle.shard_core.specs.Standing.{standing, mark, mark_at, ends}
 use Rattle.policy_tree.specs.Tree.{Policies}
@@ -8,17 +9,13 @@ use Rattle.policy_eval.specs.Given.{are_answered}
 use Rattle.otlp_types.specs.declared.span.Ids.{Ids}
 use Rattle.otlp_types.specs.declared.arrival.Item.{Item}
 use Rattle.otlp_types.specs.declared.arrival.Item.TheVariants.{Span, Tick, End}
-use Rattle.shard_core.proofs.Keeping.{standing_by}
+use Rattle.shard_core.proofs.StandingParts.{standing_by}
 
 -- ---- decisions in turn
 
-no_more : (k : ℕ) (o : Opening) (rest : List Opening) → drop k [] ≡ o ∷ rest → ⊥
+pub no_more : (k : ℕ) (o : Opening) (rest : List Opening) → drop k [] ≡ o ∷ rest → ⊥
 no_more zero o rest e = cc
 no_more (suc k) o rest e = cc
-
-and-right : (a b : Bool) → (a && b) ≡ true → b ≡ true
-and-right true b h = h
-and-right false b h = cc
 
 -- the decision after so many that are answered is given by the next answers
 pub turn-next : (s : Settings) (past : Journal) (k : ℕ) (os : List Opening) (given : List (List Bool)) (answers : List Bool) (o : Opening) (rest : List Opening) → drop k os ≡ o ∷ rest →
@@ -29,7 +26,7 @@ turn-next s past zero (p ∷ os) [] answers o rest e h = let same : p ≡ o = cc
 turn-next s past zero (p ∷ os) (g ∷ given) answers o rest e h = cc
 turn-next s past (suc k) (p ∷ os) [] answers o rest e h = cc
 turn-next s past (suc k) (p ∷ os) (g ∷ given) answers o rest e h =
-    ap (λ (ds : List Decision). decision s past p g ∷ ds) (turn-next s past k os given answers o rest e (and-right (are_answered s.policies g (spans_since past p)) (are_each_answered s.policies past (take k os) given) h))
+    ap (λ (ds : List Decision). decision s past p g ∷ ds) (turn-next s past k os given answers o rest e (and_parts (are_answered s.policies g (spans_since past p)) (are_each_answered s.policies past (take k os) given) h).1)
 
 -- and then one more is answered
 each-next : (policies : Policies) (past : Journal) (k : ℕ) (os : List Opening) (given : List (List Bool)) (answers : List Bool) (o : Opening) (rest : List Opening) → drop k os ≡ o ∷ rest →

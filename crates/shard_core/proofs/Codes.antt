@@ -23,7 +23,7 @@ use Rattle.shard_core.specs.Holding.{answer_held, verdict_leaving, marks_held, a
 use Rattle.shard_core.specs.declared.answer.Taken.{Taken}
 use Rattle.shard_core.specs.declared.answer.Taken.TheVariants.{Kept, Dropped, Late, Ticked, Ended, Finished}
 use Rattle.decision_cache.specs.Touches.{is_lost}
-use Rattle.shard_core.proofs.Keeping.{state_asked, sizes_asked}
+use Rattle.shard_core.proofs.StandingParts.{state_asked, sizes_asked}
 
 -- ---- what `find` says of the trace's episode
 

@@ -6,6 +6,7 @@ use Rattle.std.proofs.lemmas.List.{reverse-reverse, length_push, set-append_left
 use Rattle.std.proofs.lemmas.List.Folds.{list_all-append}
 use Rattle.std.proofs.Math.Seq.{set-append_seam}
 use Rattle.std.proofs.lemmas.Bool.Decides.{nat_tests}
+use Rattle.std.proofs.lemmas.Bool.{and_parts}
 use Rattle.trace_buffer.specs.Buffer.{Episode, is_root_due}
 use Rattle.span_ids.specs.declared.outcome.Verdict.{Verdict}
 use Rattle.shard_core.specs.Journal.{Entry, StoppedInTime, Settings, Journal, Opening, Decision, Notes, Finding, joins, meets, opens, in_buffer, last_of, leaving, notes, notes_dealt, finding, decided_as, is_due, due_at, due_now, have_ended, has_ended, decisions_in_turn, decision, after_item, after_span, after_finding, after_decisions, no_notes, clock, spans_since, are_each_answered, IsAnswered, IsAnsweredUpTo}
@@ -90,17 +91,9 @@ module _ (s : Settings) (room : HasRoom s.limit) where
   mark-clock [] = omega arith
   mark-clock (e ∷ before) = mark-item e.item e.refused e.lost e.answers before (mark-clock before)
 
-  and-left : (a b : Bool) → (a && b) ≡ true → a ≡ true
-  and-left true b h = refl
-  and-left false b h = cc
-
-  and-right : (a b : Bool) → (a && b) ≡ true → b ≡ true
-  and-right true b h = h
-  and-right false b h = cc
-
   ended-more : (e : Entry) (before : Journal) (n : ℕ) → have_ended before n ≡ true → have_ended (e ∷ before) n ≡ true
   ended-more e before zero h = refl
-  ended-more e before (suc n) h = let a = and-left (has_ended before n) (have_ended before n) h in let b = ended-more e before n (and-right (has_ended before n) (have_ended before n) h) in rw (a, b, or-true _)
+  ended-more e before (suc n) h = let a = (and_parts (has_ended before n) (have_ended before n) h).0 in let b = ended-more e before n (and_parts (has_ended before n) (have_ended before n) h).1 in rw (a, b, or-true _)
 
   false-if : (b : Bool) → (b ≡ true → ⊥) → b ≡ false
   false-if true f = absurd (f refl)
@@ -271,7 +264,7 @@ module _ (s : Settings) (room : HasRoom s.limit) where
   walk past noted (suc k) (o ∷ os) [] earlier a h e = cc
   walk past noted (suc k) (o ∷ os) (g ∷ later) earlier a h e =
       let d = decision s past o g in
-      let next = walk past noted k os later (d ∷ earlier) a (and-right (are_answered s.policies g (spans_since past o)) (are_each_answered s.policies past (take k os) later) h) (step-due past noted d earlier (front noted) os a e) in
+      let next = walk past noted k os later (d ∷ earlier) a (and_parts (are_answered s.policies g (spans_since past o)) (are_each_answered s.policies past (take k os) later) h).1 (step-due past noted d earlier (front noted) os a e) in
       let P = λ (ds : List Decision). filter (open_due past (now_with noted ds)) (front noted) ≡ drop k os in
       subst P (sym (onto d (take k (in_turn past os later)) earlier)) next
 

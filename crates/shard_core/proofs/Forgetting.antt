@@ -3,6 +3,7 @@ use Rattle.std.proofs.Common.{◌≡◌, ℕ, zero, suc, ◌-◌, ◌<◌, ◌�
 use Rattle.std.specs.Option.{is_none}
 use Rattle.std.proofs.lemmas.Bool.Decides.{nat_tests}
 use Rattle.std.proofs.lemmas.List.{map-append}
+use Rattle.span_ids.proofs.SameTraces.{same_trace-is, same_trace-sym}
 use Rattle.span_ids.specs.Same.{same_trace}
 use Rattle.span_ids.specs.declared.ids.TraceId.{TraceId}
 use Rattle.span_ids.specs.declared.outcome.Verdict.{Verdict}
@@ -13,7 +14,6 @@ use Rattle.trace_buffer.specs.declared.episode.Evicted.{Evicted}
 use Rattle.decision_cache.specs.Lists.{CacheLists, TraceList, is_held, is_held_in_either, asked, after_asking, renewed, renewed_if, renews, without, PutAs, Remembers}
 use Rattle.decision_cache.specs.declared.traces.Remembered.{Remembered}
 use Rattle.decision_cache.specs.declared.traces.Remembered.TheVariants.{Kept, Off, Lost}
-use Rattle.decision_cache.proofs.Laws.{same-eq, same-sym}
 use Rattle.shard_core.specs.Forgotten.{traces, AreForgotten}
 use Rattle.shard_core.specs.Holding.{Puts, PutsDecided, leaves_forgotten}
 
@@ -107,7 +107,7 @@ held-without x t (u ∷ ts) h = go (same_trace t u) (either-no (same_trace x u) 
     go false w f = rw w.0 (f w.1)
 
 not-held-same : (x t : TraceId) (ts : List TraceId) → is_held x ts ≡ false → is_held t ts ≡ true → (b : Bool) → same_trace x t ≡ b → b ≡ false
-not-held-same x t ts h k true e = no (sym k ∙ ap (λ (z : TraceId). is_held z ts) (sym (same-eq x t e)) ∙ h)
+not-held-same x t ts h k true e = no (sym k ∙ ap (λ (z : TraceId). is_held z ts) (sym (same_trace-is x t e)) ∙ h)
 not-held-same x t ts h k false e = refl
 
 held-renewed : (x t : TraceId) (ts : List TraceId) → is_held x ts ≡ false → is_held x (renewed t ts) ≡ false
@@ -144,7 +144,7 @@ episode-none t (e ∷ es) h = go (same_trace e.trace t) refl h (episode-none t e
   where
     go : (b : Bool) → same_trace e.trace t ≡ b → cond b (Some e) (episode_of t es) ≡ None → (episode_of t es ≡ None → is_held t (traces es) ≡ false) → (same_trace t e.trace || is_held t (traces es)) ≡ false
     go true k h f = absurd (cc h)
-    go false k h f = rw (same-sym t e.trace ∙ k) (f h)
+    go false k h f = rw (same_trace-sym t e.trace ∙ k) (f h)
 
 held-push : (x t : TraceId) (ts : List TraceId) → is_held x ts ≡ false → same_trace x t ≡ false → is_held x (ts ++ t ∷ []) ≡ false
 held-push x t [] h k = rw k refl
@@ -154,7 +154,7 @@ forgotten-push : (t : TraceId) (ts : List TraceId) (c : CacheLists) → is_held 
 forgotten-push t [] c h k w = (refl, k, tt)
 forgotten-push t (u ∷ ts) c h k w =
     let x = either-no (same_trace t u) (is_held t ts) h in
-    (held-push u t ts w.0 (same-sym u t ∙ x.0), w.1, forgotten-push t ts c x.1 k w.2)
+    (held-push u t ts w.0 (same_trace-sym u t ∙ x.0), w.1, forgotten-push t ts c x.1 k w.2)
 
 held-taken : (x : TraceId) (n : ℕ) (ts : List TraceId) → is_held x ts ≡ false → is_held x (take n ts) ≡ false
 held-taken x zero ts h = refl
@@ -223,7 +223,7 @@ out-of : (t : TraceId) (ts : List TraceId) (old new : CacheLists) → is_held t 
 out-of t [] old new h f w = tt
 out-of t (u ∷ ts) old new h f w =
     let x = either-no (same_trace t u) (is_held t ts) h in
-    (w.0, f u (same-sym u t ∙ x.0) w.1, out-of t ts old new x.1 f w.2)
+    (w.0, f u (same_trace-sym u t ∙ x.0) w.1, out-of t ts old new x.1 f w.2)
 
 -- the caches after an opening that found no trace of this id
 opening_caches : (b : Buffer) (c d : CacheLists) (left : Option Evicted) (r : Option Remembered) → left ≡ leaves b → Puts left c r d → AreForgotten (traces b.episodes) c → (t : TraceId) → is_held t (traces b.episodes) ≡ false → is_held_in_either t c ≡ false →

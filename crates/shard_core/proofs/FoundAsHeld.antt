@@ -2,21 +2,23 @@
 use Rattle.std.proofs.Common.{◌≡◌, ℕ, zero, suc, ◌≤◌, Bool, true, false, cond, ◌||◌, ◌==◌, nat_lt, List, [], ◌∷◌, ◌++◌, map, length, take, reverse, find, Option, Some, None, option_map, refl, ap, sym, ◌∙◌, arith, eq-eqb}
 use Rattle.std.specs.List.{list_any}
 use Rattle.std.proofs.lemmas.List.{reverse-append}
+use Rattle.span_ids.proofs.SameTraces.{same_trace-is}
 use Rattle.span_ids.specs.Same.{same_trace}
 use Rattle.span_ids.specs.declared.ids.TraceId.{TraceId}
 use Rattle.span_ids.specs.declared.outcome.Verdict.{Verdict}
 use Rattle.span_ids.specs.declared.outcome.Verdict.TheVariants.{Sampled, NotSampled}
 use Rattle.trace_buffer.specs.Buffer.{Episode}
 use Rattle.decision_cache.specs.Touches.{last_touched, touches_since}
-use Rattle.decision_cache.proofs.Laws.{same-eq, holds_where_remembered}
-use Rattle.shard_core.specs.Journal.{Settings, Journal, Opening, Decision, Notes, joins, meets, opens, finding, finding_of, finding_at, notes, notes_dealt, in_buffer, is_in_buffer, decided_as, latest_episode, is_cached, is_remembered, cache_size, due_now, due_at, decisions_at, decisions_in_turn, after_item, after_decisions}
+use Rattle.decision_cache.proofs.Laws.{holds_where_remembered}
+use Rattle.shard_core.specs.Journal.{Settings, Journal, Opening, Notes, joins, meets, opens, finding, finding_of, finding_at, notes, notes_dealt, in_buffer, is_in_buffer, decided_as, latest_episode, is_cached, is_remembered, cache_size, due_now, due_at, decisions_at, decisions_in_turn, after_item, after_decisions}
 use Rattle.shard_core.specs.Standing.{standing, episode}
 use Rattle.shard_core.specs.Laws.{State, state_found, state_cached, state_by, state_in, FoundAsHeld}
 use Rattle.shard_core.proofs.ListFacts.{Each, Each-weaker, Each-reverse, Pairs, Pairs-right}
 use Rattle.shard_core.proofs.Find.{found, not_found, find_past, find_none, find_front, any_split}
 use Rattle.shard_core.proofs.Notes.{HasRoom, buffer_front, Sound}
 use Rattle.shard_core.proofs.Sound.{sound_notes}
-use Rattle.shard_core.proofs.Remembering.{Remembering, Outside, OtherTrace, in_cache, was_touched, remembering_notes, behind_buffer}
+use Rattle.shard_core.proofs.CacheFacts.{Remembering, Outside, OtherTrace, in_cache, was_touched, behind_buffer}
+use Rattle.shard_core.proofs.Remembering.{remembering_notes}
 
 -- ---- from the other end
 
@@ -27,7 +29,7 @@ find_reversed t os h (Some o) e =
     let q = λ (p : Opening). same_trace p.trace t in
     let k = found q os o e in
     let others : Each (OtherTrace o) k.back = (Pairs-right OtherTrace k.front (o ∷ k.back) (rw (k.is) at h)).0 in
-    let none : Each (λ (p : Opening). q p ≡ false) k.back = Each-weaker (OtherTrace o) (λ (p : Opening). q p ≡ false) k.back (λ p f. ap (same_trace p.trace) (sym (same-eq o.trace t k.passes)) ∙ f) others in
+    let none : Each (λ (p : Opening). q p ≡ false) k.back = Each-weaker (OtherTrace o) (λ (p : Opening). q p ≡ false) k.back (λ p f. ap (same_trace p.trace) (sym (same_trace-is o.trace t k.passes)) ∙ f) others in
     let turned : reverse os ≡ reverse (o ∷ k.back) ++ reverse k.front = ap reverse k.is ∙ reverse-append k.front (o ∷ k.back) in
     let behind : reverse (o ∷ k.back) ≡ reverse k.back ++ o ∷ [] = reverse-append (o ∷ []) k.back in
     let last : find q (o ∷ []) ≡ Some o = rw k.passes refl in
@@ -99,7 +101,7 @@ module _ (s : Settings) (past : Journal) (noted : Notes) (n : ℕ) (t : TraceId)
       let few = nat_lt (length (last_touched v (touches_since t noted.touches))) (cache_size s v) in
       let held : in_cache s noted v t ≡ few = holds_where_remembered v t (cache_size s v) noted.touches u.0 u.1 u.2 in
       let same : nat_lt (length (last_touched v (touches_since o.trace noted.touches))) (cache_size s v) ≡ few
-      = ap (λ (x : TraceId). nat_lt (length (last_touched v (touches_since x noted.touches))) (cache_size s v)) (same-eq o.trace t (found own noted.openings o l).passes) in
+      = ap (λ (x : TraceId). nat_lt (length (last_touched v (touches_since x noted.touches))) (cache_size s v)) (same_trace-is o.trace t (found own noted.openings o l).passes) in
       let remembered : is_remembered s noted o v ≡ few = rw (out, k, same) refl in
       let verdicts : (x : Verdict) → Outside s noted t x → v ≡ x = λ x b. let is : o ≡ b.opening = cc (l, b.latest) in cc (d, ap (decided_as noted) (ap (λ (z : Opening). z.at) is), b.decided) in
       let finds : finding s noted t ≡ cond few (meets o v) opens = ap (finding_of s noted) l ∙ ap (finding_at s noted o) d ∙ ap (λ b. cond b (meets o v) opens) remembered in

@@ -1,11 +1,10 @@
 -- What holds of the notes of every journal.
 use Rattle.std.proofs.lemmas.Bool.{lt-leb}
-use Rattle.std.specs.Prelude.{if◌then◌else◌, nat_le}
+use Rattle.std.specs.Prelude.{nat_le, if◌then◌else◌}
 use Rattle.std.proofs.Common.{le-leb, ◌≡◌, ◌≢◌, ℕ, ◌<◌, ◌≤◌, Bool, true, false, cond, not, ◌&&◌, ◌==◌, List, [], ◌∷◌, ◌++◌, length, drop, find, Option, Some, None, is_none, refl, ap, sym, ◌∙◌, arith, ne_eqb, eq-eqb}
 use Rattle.std.specs.List.{list_any}
 use Rattle.std.proofs.lemmas.List.{append-nil, take-append-drop}
-use Rattle.std.proofs.lemmas.Slice.Eq.{bytes_eq-Decides}
-use Rattle.std.specs.Str.{bytes_eq}
+use Rattle.span_ids.proofs.SameTraces.{same_trace-right}
 use Rattle.span_ids.specs.Same.{same_trace}
 use Rattle.shard_core.specs.Journal.{Settings, Journal, ids_have_trace, is_of_trace, Opening, Decision, Notes, last_of, in_buffer, is_in_buffer, decided_as, latest_episode, is_remembered, joins, meets, opens, finding, item_spans, spans_since}
 use Rattle.otlp_types.specs.declared.span.Ids.{Ids}
@@ -23,19 +22,12 @@ HasRoom limit = limit ≢ Some 0
 
 -- ---- traces
 
-pub same_refl : (t : TraceId) → same_trace t t ≡ true
-same_refl t = (bytes_eq-Decides t t).1 refl
-
--- one trace is as another to a third
-pub same_right : (o t u : TraceId) → same_trace t u ≡ true → same_trace o t ≡ same_trace o u
-same_right o t u h = ap (λ z. bytes_eq o z) ((bytes_eq-Decides t u).0 h)
-
 pub other_trace : (u t : TraceId) (ids : Option Ids) → ids_have_trace u ids ≡ true → same_trace u t ≡ false → ids_have_trace t ids ≡ false
 other_trace u t None h k = refl
 other_trace u t (Some ids) h k = go (same_trace t ids.trace) refl
   where
     go : (b : Bool) → same_trace t ids.trace ≡ b → b ≡ false
-    go true e = absurd (cc (same_right u t ids.trace e, h, k))
+    go true e = absurd (cc (same_trace-right u t ids.trace e, h, k))
     go false e = refl
 
 -- ---- the spans of an episode
@@ -151,7 +143,7 @@ module _ (s : Settings) (J : Journal) (noted : Notes) (t : TraceId) (h : Sound s
 
       older : Each (λ (x : Opening). is_open noted x ≡ true → same_trace x.trace t ≡ false) k.back
       older = Each-weaker (IsApart (is_open noted) o) (λ (x : Opening). is_open noted x ≡ true → same_trace x.trace t ≡ false) k.back
-          (λ x a p. sym (same_right x.trace o.trace t k.passes) ∙ a p) (Pairs-right (IsApart (is_open noted)) k.front (o ∷ k.back) apart).0
+          (λ x a p. sym (same_trace-right x.trace o.trace t k.passes) ∙ a p) (Pairs-right (IsApart (is_open noted)) k.front (o ∷ k.back) apart).0
 
       newer : Each (λ (x : Opening). is_open noted x ≡ true → same_trace x.trace t ≡ false) k.front
       newer = Each-weaker (λ (x : Opening). same_trace x.trace t ≡ false) (λ (x : Opening). is_open noted x ≡ true → same_trace x.trace t ≡ false) k.front (λ x a p. a) k.before

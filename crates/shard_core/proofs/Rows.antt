@@ -1,5 +1,6 @@
 -- Worked rows of a shard, by computation: what each journal releases, counts and leaves.
 use Rattle.std.specs.Prelude.{ℕ, Bool, true, false, pos, List, [], ◌∷◌, ◌++◌, map, reverse, length, take, Option, Some, None, ◌≡◌, refl}
+use Rattle.otlp_types.proofs.Samples.{plain_record}
 use Rattle.policy_tree.specs.Tree.{Policies, no_more, one_more, leaf, and_policy, rate_limiting, always_sample, status_code, latency}
 use Rattle.shard_core.specs.Journal.{Entry, Settings, Journal, Opening, notes, due_now, are_each_answered}
 use Rattle.shard_core.specs.Fate.{Fate, waits, is_released, is_counted, effect, output, under, fate}
@@ -17,32 +18,7 @@ ids t n = record { trace = t ∷ []; span = n ∷ []; parent = None }
 
 -- a root of trace t: its number, its moment, its status code, its start and its end
 abbrev arrival : (t n m code start end : ℕ) → Arrival
-arrival t n m code start end = record {
-  key = record { conn = record { lane = 0; ordinal = 0 }; number = n };
-  moment = m;
-  rec = record {
-    resource = record { attributes = []; dropped_attributes_count = 0 };
-    resource_schema_url = [];
-    scope = record { name = []; version = []; attributes = []; dropped_attributes_count = 0 };
-    scope_schema_url = [];
-    span = record {
-      ids = Some (ids t n);
-      trace_state = [];
-      flags = 0;
-      name = [];
-      kind = pos 0;
-      start_time_unix_nano = start;
-      end_time_unix_nano = end;
-      attributes = [];
-      dropped_attributes_count = 0;
-      events = [];
-      dropped_events_count = 0;
-      links = [];
-      dropped_links_count = 0;
-      status = record { message = []; code = pos code };
-    };
-  };
-}
+arrival t n m code start end = record { key = record { conn = record { lane = 0; ordinal = 0 }; number = n }; moment = m; rec = plain_record (Some (ids t n)) code start end }
 
 abbrev marked : Item → (refused lost : Bool) → Entry
 marked item refused lost = record { item = item; refused = refused; lost = lost; answers = [] }

@@ -24,7 +24,8 @@ use Rattle.shard_core.proofs.Lists.{find-from_any}
 use Rattle.shard_core.proofs.Notes.{HasRoom}
 use Rattle.shard_core.proofs.Due.{nothing_left, all_ended, length-ends}
 use Rattle.shard_core.proofs.FoundAsHeld.{found_as_held, all_dealt}
-use Rattle.shard_core.proofs.Keeping.{keeps_standing, leaves_held, standing_by}
+use Rattle.shard_core.proofs.StandingParts.{standing_by}
+use Rattle.shard_core.proofs.Keeping.{keeps_standing, leaves_held}
 use Rattle.shard_core.proofs.Answering.{all-answered}
 
 pub room_of : (h : Held) → 0 < h.limit → HasRoom (settings h).limit

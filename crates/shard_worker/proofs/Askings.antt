@@ -1,6 +1,8 @@
 -- The limiter is asked at one more decision.
 -- For the clause `done` of `Turns::decide_due`.
 use Rattle.std.proofs.Common.{◌≡◌, ℕ, zero, suc, ◌/◌, Bool, true, false, not, ◌&&◌, cond, List, [], ◌∷◌, ◌++◌, length, take, drop, refl, sym, ap, subst}
+use Rattle.std.proofs.lemmas.Bool.{and_parts}
+use Rattle.shard_core.proofs.Answering.{no_more}
 use Rattle.otlp_types.specs.declared.arrival.Item.{Item}
 use Rattle.otlp_types.specs.declared.arrival.Item.TheVariants.{Span, Tick, End}
 use Rattle.policy_tree.specs.Tree.{Policies}
@@ -32,14 +34,6 @@ module _ (s : Settings) (e : Entry) (before : Journal) (more : List (List Bool))
 
 -- ---- one more decision
 
-no_more : (k : ℕ) (o : Opening) (rest : List Opening) → drop k [] ≡ o ∷ rest → ⊥
-no_more zero o rest e = cc
-no_more (suc k) o rest e = cc
-
-and-right : (a b : Bool) → (a && b) ≡ true → b ≡ true
-and-right true b h = h
-and-right false b h = cc
-
 module _ {L : Type 0} (asks : L → ℕ → ℕ → ℕ → Bool → L → Type 0) (policies : Policies) (second : ℕ) (past : Journal) where
   asked-next : (k : ℕ) (os : List Opening) (given : List (List Bool)) (answers : List Bool) (o : Opening) (rest : List Opening) (old t u : L) → drop k os ≡ o ∷ rest →
       are_each_answered policies past (take k os) given ≡ true → AskedInTurn asks policies second (spans_since past) os given old t →
@@ -54,7 +48,7 @@ module _ {L : Type 0} (asks : L → ℕ → ℕ → ℕ → Bool → L → Type 
   asked-next zero (p ∷ os) (g ∷ given) answers o rest old t u e h a q = absurd (let x : false ≡ true = h in cc)
   asked-next (suc k) (p ∷ os) [] answers o rest old t u e h a q = absurd (let x : false ≡ true = h in cc)
   asked-next (suc k) (p ∷ os) (g ∷ given) answers o rest old t u e h a q =
-      (a.0, a.1, asked-next k os given answers o rest a.0 t u e (and-right (are_answered policies g (spans_since past p)) (are_each_answered policies past (take k os) given) h) a.2 q)
+      (a.0, a.1, asked-next k os given answers o rest a.0 t u e (and_parts (are_answered policies g (spans_since past p)) (are_each_answered policies past (take k os) given) h).1 a.2 q)
 
 -- one more decision is answered
 asked_answered : {L : Type 0} (asks : L → ℕ → ℕ → ℕ → Bool → L → Type 0) (s : Settings) (first t u : L) (e : Entry) (before : Journal) (k : ℕ) (answers : List Bool) (o : Opening) (rest : List Opening) →

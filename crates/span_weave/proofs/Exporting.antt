@@ -2,6 +2,7 @@
 -- For the contract of `weave`.
 use Rattle.std.proofs.Common.{◌≡◌, ℕ, ◌+◌, ◌<◌, true, not, ◌||◌, cond, nat_lt, List, [], ◌∷◌, ◌++◌, length, Some, None, option_and_then, sym, refl, ap, ◌∙◌, subst, arith}
 use Rattle.std.specs.List.{AllByRecursion}
+use Rattle.shard_core.proofs.Counted.{under_append}
 use native.Mathlib.Decide.{ℕ_discrete}
 use Rattle.otlp_types.specs.declared.arrival.Arrival.{Arrival}
 use Rattle.span_ids.specs.declared.outcome.Reason.{Reason}
@@ -13,7 +14,7 @@ use Rattle.span_world.proofs.Steps.{and_then_some, some_if, some_unless}
 use Rattle.lane_queue.specs.Merges.{of}
 use Rattle.span_weave.specs.Threads.{Act, pulled, handed_over, failed, spoiled, pulls, Export, may_spoil, after_act, after_acts}
 use Rattle.span_weave.proofs.Lists.{set_at, set_same, set_other, get_tab, set_tab, of_here, of_there}
-use Rattle.span_weave.proofs.Counting.{number, number_append}
+use Rattle.span_weave.proofs.Counting.{number}
 use Rattle.span_weave.proofs.Runs.{Leads, leads_same, leads_one, leads_then}
 use Rattle.span_weave.proofs.Worlds.{world}
 
@@ -128,5 +129,5 @@ module _ (c : Config) (lanes shards : ℕ) (received : ℕ → List Arrival) (u 
       let i = some_unless (is_empty x.batch || not (may_spoil x.down why)) next h.0 h.1 in
       let D = C ++ counts why x.batch in
       act_then f x next C D end (leads_one c _ _ (spoil why) (λ l k. refl) (ap (λ b. cond (is_empty x.batch || not b) None (Some (stage f next D))) (spoil_is (stage f x C) why) ∙ ap (λ b. cond b None (Some (stage f next D))) i.0))
-      (λ reason. omega (arith, number_append reason C (counts why x.batch), number_append reason x.counted (counts why x.batch)))
+      (λ reason. omega (arith, under_append reason C (counts why x.batch), under_append reason x.counted (counts why x.batch)))
       (export_acts acts f next D end all out (subst (λ (z : Export). after_acts c z acts ≡ Some end) (sym i.1) h.2))

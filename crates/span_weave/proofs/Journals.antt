@@ -94,14 +94,14 @@ abbrev pub MarksApplyAfter : Settings → Journal → List (ℕ × Entry) → Ty
 MarksApplyAfter s J [] = Unit {0}
 MarksApplyAfter s J (x ∷ rest) = (marks_apply s x.1 J ≡ true) × MarksApplyAfter s (x.1 ∷ J) rest
 
--- marks that can apply in a journal can apply in its older part
-older_marks : (s : Settings) (popped : List (ℕ × Entry)) (J : Journal) → MarksApply s (journal_after J popped) → MarksApply s J
-older_marks s [] J h = h
-older_marks s (x ∷ rest) J h = (older_marks s rest (x.1 ∷ J) h).1
+-- what holds of a journal and of the older part of each holds of its older part
+older : (F : Journal → Type 0) → ((e : Entry) (J : Journal) → F (e ∷ J) → F J) → (popped : List (ℕ × Entry)) (J : Journal) → F (journal_after J popped) → F J
+older F back [] J h = h
+older F back (x ∷ rest) J h = back x.1 J (older F back rest (x.1 ∷ J) h)
 
 pub marks_after : (s : Settings) (popped : List (ℕ × Entry)) (J : Journal) → MarksApply s (journal_after J popped) → MarksApplyAfter s J popped
 marks_after s [] J h = tt
-marks_after s (x ∷ rest) J h = ((older_marks s rest (x.1 ∷ J) h).0, marks_after s rest (x.1 ∷ J) h)
+marks_after s (x ∷ rest) J h = ((older (MarksApply s) (λ e K m. m.1) rest (x.1 ∷ J) h).0, marks_after s rest (x.1 ∷ J) h)
 
 -- ---- answers
 
@@ -110,14 +110,9 @@ abbrev pub AnsweredAfter : Settings → Journal → List (ℕ × Entry) → Type
 AnsweredAfter s J [] = Unit {0}
 AnsweredAfter s J (x ∷ rest) = AreGiven s x.1 J × AnsweredAfter s (x.1 ∷ J) rest
 
--- a journal that is answered has an answered older part
-older_answers : (s : Settings) (popped : List (ℕ × Entry)) (J : Journal) → IsAnswered s (journal_after J popped) → IsAnswered s J
-older_answers s [] J h = h
-older_answers s (x ∷ rest) J h = (older_answers s rest (x.1 ∷ J) h).1
-
 pub answers_after : (s : Settings) (popped : List (ℕ × Entry)) (J : Journal) → IsAnswered s (journal_after J popped) → AnsweredAfter s J popped
 answers_after s [] J h = tt
-answers_after s (x ∷ rest) J h = ((older_answers s rest (x.1 ∷ J) h).0, answers_after s rest (x.1 ∷ J) h)
+answers_after s (x ∷ rest) J h = ((older (IsAnswered s) (λ e K m. m.1) rest (x.1 ∷ J) h).0, answers_after s rest (x.1 ∷ J) h)
 
 -- a tick and an End carry no mark
 pub no_marks : (refused lost : Bool) → (not refused && not lost) ≡ true → (refused ≡ false) × (lost ≡ false)

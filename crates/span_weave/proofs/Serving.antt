@@ -1,6 +1,8 @@
 -- The steps by which a shard takes one item that it popped: the refused tries before it, its route, its taking, and the decisions on all that is due.
 -- For the contract of `weave`.
 use Rattle.std.proofs.Common.{◌≡◌, ◌≢◌, ℕ, ◌+◌, ◌<◌, ◌==◌, ◌&&◌, Bool, true, false, cond, List, [], ◌∷◌, ◌++◌, length, map, filter, slice_get, Some, sym, refl, ap, ◌∙◌, subst, append_assoc, append-nil, length-append, arith}
+use Rattle.std.proofs.lemmas.Bool.{and_parts}
+use Rattle.shard_core.proofs.Counted.{under_append, under_counts}
 use native.Mathlib.Decide.{ℕ_discrete}
 use Rattle.otlp_types.specs.declared.arrival.Arrival.{Arrival}
 use Rattle.otlp_types.specs.declared.arrival.Item.TheVariants.{Span, Tick, End}
@@ -13,7 +15,7 @@ use Rattle.span_world.specs.World.{Config, Shard, World, goes_to}
 use Rattle.span_world.specs.Step.{route, refuse, take as take_step, tick, end, decide}
 use Rattle.span_weave.specs.Threads.{Try, pushed, full, span_of, was_pushed, pushed_in, refused_in}
 use Rattle.span_weave.proofs.Lists.{set_at, set_same, set_other, First, first_of_filter, any_of_filter}
-use Rattle.span_weave.proofs.Counting.{number, number_append, number_counts, if_same, if_same_plus, if_same_none}
+use Rattle.span_weave.proofs.Counting.{number, if_same, if_same_plus, if_same_none}
 use Rattle.span_weave.proofs.Runs.{Leads, LeadsBy, leads_same, leads_one, leads_then, by_one, by_quiet, by_then, then_quiet}
 use Rattle.span_weave.proofs.Worlds.{Model, entry_of, given_to, AreGiven, own, stood, dealing, did, fresh, state, refuse_step, route_step, take_one, tick_one, end_lane, end_ticker, decide_one}
 
@@ -21,14 +23,6 @@ use Rattle.span_weave.proofs.Worlds.{Model, entry_of, given_to, AreGiven, own, s
 behind_front : {X : Type 0} (front : List X) (x : X) (back : List X) → slice_get (front ++ x ∷ back) (length front) ≡ Some x
 behind_front [] x back = refl
 behind_front (y ∷ front) x back = behind_front front x back
-
-and_left : (a b : Bool) → (a && b) ≡ true → a ≡ true
-and_left true b h = refl
-and_left false b h = absurd (cc h)
-
-and_right : (a b : Bool) → (a && b) ≡ true → b ≡ true
-and_right true b h = h
-and_right false b h = absurd (cc h)
 
 module _ (c : Config) (lanes shards : ℕ) (received : ℕ → List Arrival) (m : Model) (s : ℕ) (below : s < shards) where
   -- the settings of the shard
@@ -81,9 +75,9 @@ module _ (c : Config) (lanes shards : ℕ) (received : ℕ → List Arrival) (m 
   decides_all u e J out C given (a ∷ left) before [] is fits = absurd (cc fits)
   decides_all u e J out C given [] before (o ∷ os) is fits = absurd (cc fits)
   decides_all u e J out C given (a ∷ left) before (o ∷ os) is fits =
-      leads_then c _ _ _ (leads_one c _ _ (decide s a) (λ l k. refl) (decide_one c lanes shards received m s below u C e J given (length before) out o a (ap (λ (z : List Opening). slice_get z (length before)) is ∙ behind_front before o os) (and_left _ _ fits)))
+      leads_then c _ _ _ (leads_one c _ _ (decide s a) (λ l k. refl) (decide_one c lanes shards received m s below u C e J given (length before) out o a (ap (λ (z : List Opening). slice_get z (length before)) is ∙ behind_front before o os) (and_parts _ _ fits).0))
       (leads_then c _ _ _ (leads_same c _ _ (ap (λ (n : ℕ). W u (dealing c lanes shards received (given_to e (given ++ a ∷ []) ∷ J) n (out ++ one.released)) (C ++ one.counted)) longer))
-      (leads_then c _ _ _ (decides_all u e J (out ++ one.released) (C ++ one.counted) (given ++ a ∷ []) left (before ++ o ∷ []) os (is ∙ sym (append_assoc before (o ∷ []) os)) (and_right _ _ fits))
+      (leads_then c _ _ _ (decides_all u e J (out ++ one.released) (C ++ one.counted) (given ++ a ∷ []) left (before ++ o ∷ []) os (is ∙ sym (append_assoc before (o ∷ []) os)) (and_parts _ _ fits).1)
       (leads_same c _ _ (cc (append_assoc out one.released more.released, append_assoc C one.counted more.counted, append_assoc given (a ∷ []) left)))))
     where
       one : Effect
@@ -108,10 +102,10 @@ module _ (c : Config) (lanes shards : ℕ) (received : ℕ → List Arrival) (m 
       → number reason (with_counts C e J) + number reason (effect S J).counted ≡ number reason C + number reason (with_counts (effect S J).counted e J)
   settled_number reason C e J = omega (
     arith,
-    number_append reason (C ++ (did c lanes shards received e J).counted) (effect_of_decisions (decisions_now S (e ∷ J))).counted,
-    number_append reason C (did c lanes shards received e J).counted,
-    number_append reason ((effect S J).counted ++ (did c lanes shards received e J).counted) (effect_of_decisions (decisions_now S (e ∷ J))).counted,
-    number_append reason (effect S J).counted (did c lanes shards received e J).counted,
+    under_append reason (C ++ (did c lanes shards received e J).counted) (effect_of_decisions (decisions_now S (e ∷ J))).counted,
+    under_append reason C (did c lanes shards received e J).counted,
+    under_append reason ((effect S J).counted ++ (did c lanes shards received e J).counted) (effect_of_decisions (decisions_now S (e ∷ J))).counted,
+    under_append reason (effect S J).counted (did c lanes shards received e J).counted,
   )
 
   -- ---- one item
@@ -155,7 +149,7 @@ module _ (c : Config) (lanes shards : ℕ) (received : ℕ → List Arrival) (m 
         left_is = ap (filter (goes s)) (set_same u l f.rest) ∙ f.leaves;
         lanes_same = λ j apart. set_other u l j f.rest apart;
         others = λ j q apart. kept u l a left f j q apart;
-        number_is = λ reason. number_append reason C (counts QueueFull (a ∷ [])) ∙ ap (λ n. number reason C + n) (number_counts reason QueueFull (a ∷ []));
+        number_is = λ reason. under_append reason C (counts QueueFull (a ∷ [])) ∙ ap (λ n. number reason C + n) (under_counts reason QueueFull (a ∷ []));
       }
 
   -- a refusal, and then an item

@@ -1,20 +1,19 @@
 -- Threads that break the promise `answered` alone, and that no run of the core does which ends closed: a decision has too few answers, or too many.
 -- For the contract of `weave`: none of its premises can be left out.
-use Rattle.std.proofs.Common.{◌≡◌, ℕ, Bool, true, false, List, [], ◌∷◌, ◌++◌, map, filter, Some, refl, ap, subst, ◌∙◌, arith}
+use Rattle.std.proofs.Common.{◌≡◌, ℕ, Bool, true, false, List, [], ◌∷◌, Some, refl, ap, subst, ◌∙◌, arith}
 use Rattle.policy_tree.specs.Tree.{no_more, one_more, rate_limiting}
-use Rattle.otlp_types.specs.declared.arrival.Item.TheVariants.{Span, Tick, End}
+use Rattle.otlp_types.specs.declared.arrival.Item.TheVariants.{Tick}
 use Rattle.lane_queue.specs.Merges.{of}
 use Rattle.shard_core.specs.Journal.{IsAnswered, IsAnsweredUpTo, Settings, Entry, Journal, notes}
-use Rattle.shard_core.specs.Fate.{output}
-use Rattle.span_world.specs.World.{Config, World, new_world, settings_for, settings, goes_to}
+use Rattle.span_world.specs.World.{Config, World, new_world, settings_for, settings}
 use Rattle.span_world.proofs.Samples.{configured}
 use Rattle.span_world.proofs.Balance.{same_settings}
 use Rattle.span_world.proofs.OnePlace.{run_keeps}
 use Rattle.span_world.proofs.AllAnswered.{answered_new}
-use Rattle.span_weave.specs.Threads.{Threads, pushed, span_of, pushed_in, pulled, handed_over, pulls, items_of, journal_of, Export}
+use Rattle.span_weave.specs.Threads.{Threads, pushed, pulled, handed_over, journal_of, Export}
 use Rattle.span_weave.specs.Woven.{Woven}
 use Rattle.span_weave.proofs.Worlds.{entry_of}
-use Rattle.span_weave.proofs.WrongThreads.{answer_for_each_asking, MeetsBut, one_shard, first, did, made, ends, taken, only_zero, one_numbered}
+use Rattle.span_weave.proofs.WrongThreads.{answer_for_each_asking, MeetsBut, one_shard, first, did, made, ends, taken, meets_but, one_numbered}
 
 -- three spans of each second are let through
 abbrev limited : Config
@@ -43,19 +42,7 @@ too_few = did (first ∷ []) (pushed first ∷ []) (11 ∷ []) (taken first ∷ 
 
 too_few_meets : MeetsBut answer_for_each_asking limited 1 1 too_few (made [])
 unfolding notes
-too_few_meets = record {
-  numbered = one_numbered;
-  tried = λ lane shard i j. only_zero (λ s. map span_of (too_few.tries lane s) ≡ filter (goes_to 1 s) (too_few.received lane)) refl shard j;
-  of_lane = λ lane shard i j. only_zero (λ l. items_of l (too_few.popped shard) ≡ map (λ a. Span a) (pushed_in (too_few.tries l shard)) ++ End l ∷ []) refl lane i;
-  of_ticker = λ shard j. refl;
-  of_senders = λ shard j. (omega arith, (omega arith, (omega arith, (omega arith, tt))));
-  marked = λ shard j. (refl, (refl, (refl, (refl, tt))));
-  answered = tt;
-  shipped = only_zero (λ shard. of shard (pulls too_few.acts) ≡ output own (journal_of too_few shard)) refl;
-  of_shards = tt;
-  exports = refl;
-  flushed = refl;
-}
+too_few_meets = meets_but answer_for_each_asking limited too_few (made []) one_numbered refl refl refl (omega arith, (omega arith, (omega arith, (omega arith, tt)))) (refl, (refl, (refl, (refl, tt)))) tt refl tt refl refl
 
 pub too_few_is_no_run : Woven limited 1 1 too_few (made []) → ⊥
 unfolding notes
@@ -70,19 +57,7 @@ too_many = did (first ∷ []) (pushed first ∷ []) (11 ∷ []) (taken first ∷
 
 too_many_meets : MeetsBut answer_for_each_asking limited 1 1 too_many (made ((first ∷ []) ∷ []))
 unfolding notes
-too_many_meets = record {
-  numbered = one_numbered;
-  tried = λ lane shard i j. only_zero (λ s. map span_of (too_many.tries lane s) ≡ filter (goes_to 1 s) (too_many.received lane)) refl shard j;
-  of_lane = λ lane shard i j. only_zero (λ l. items_of l (too_many.popped shard) ≡ map (λ a. Span a) (pushed_in (too_many.tries l shard)) ++ End l ∷ []) refl lane i;
-  of_ticker = λ shard j. refl;
-  of_senders = λ shard j. (omega arith, (omega arith, (omega arith, (omega arith, tt))));
-  marked = λ shard j. (refl, (refl, (refl, (refl, tt))));
-  answered = tt;
-  shipped = only_zero (λ shard. of shard (pulls too_many.acts) ≡ output own (journal_of too_many shard)) refl;
-  of_shards = (omega arith, tt);
-  exports = refl;
-  flushed = refl;
-}
+too_many_meets = meets_but answer_for_each_asking limited too_many (made ((first ∷ []) ∷ [])) one_numbered refl refl refl (omega arith, (omega arith, (omega arith, (omega arith, tt)))) (refl, (refl, (refl, (refl, tt)))) tt refl (omega arith, tt) refl refl
 
 pub too_many_is_no_run : Woven limited 1 1 too_many (made ((first ∷ []) ∷ [])) → ⊥
 unfolding notes

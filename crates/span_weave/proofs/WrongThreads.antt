@@ -1,12 +1,12 @@
 -- Threads that break one promise and keep all others, and that no run of the core does which ends closed.
 -- For the contract of `weave`: none of its premises can be left out.
-use Rattle.std.proofs.Common.{◌≡◌, ℕ, zero, suc, ◌+◌, ◌<◌, ◌≤◌, ◌==◌, Bool, true, false, cond, List, [], ◌∷◌, ◌++◌, length, map, filter, flat_map, slice_get, Option, Some, None, option_map, refl, ap, sym, subst, ◌∙◌, arith}
+use Rattle.std.proofs.Common.{◌≡◌, ℕ, zero, suc, ◌+◌, ◌<◌, ◌≤◌, Bool, true, false, cond, List, [], ◌∷◌, ◌++◌, length, map, filter, flat_map, slice_get, Option, Some, None, option_map, refl, ap, sym, subst, ◌∙◌, arith}
 use Rattle.std.specs.Prelude.{IsTrue, AllPairs}
 use Rattle.std.specs.List.{AllByRecursion, list_any}
 use Rattle.std.proofs.lemmas.List.Elements.{filter-append}
+use Rattle.span_world.proofs.WaitingPlaces.{buffered_waits, not_waiting}
 use Rattle.otlp_types.specs.declared.arrival.Arrival.{Arrival}
 use Rattle.otlp_types.specs.declared.arrival.Item.TheVariants.{Span, Tick, End}
-use Rattle.span_ids.specs.declared.keys.ArrivalKey.{ArrivalKey}
 use Rattle.span_ids.specs.declared.outcome.Reason.{Reason}
 use Rattle.span_ids.specs.declared.outcome.Reason.TheVariants.{InvalidId, QueueFull, NoMemory, Evicted, NotSampled, LateNotSampled, ExporterDown}
 use Rattle.span_ids.specs.declared.outcome.Verdict.TheVariants.{Sampled}
@@ -39,13 +39,14 @@ pub data Promise : Type 0 where
   shipped_is_output : Promise
   batch_is_empty : Promise
 
-abbrev pub number_of : Promise → ℕ
-number_of tries_in_order = 0
-number_of popped_in_order = 1
-number_of marks_that_apply = 2
-number_of answer_for_each_asking = 3
-number_of shipped_is_output = 4
-number_of batch_is_empty = 5
+abbrev pub is_same : (p q : Promise) → Bool
+is_same tries_in_order tries_in_order = true
+is_same popped_in_order popped_in_order = true
+is_same marks_that_apply marks_that_apply = true
+is_same answer_for_each_asking answer_for_each_asking = true
+is_same shipped_is_output shipped_is_output = true
+is_same batch_is_empty batch_is_empty = true
+is_same _ _ = false
 
 -- nothing where the promise is the one that is broken, else this
 abbrev pub unless_same : Bool → Type 0 → Type 0
@@ -53,7 +54,7 @@ unless_same true T = Unit {0}
 unless_same false T = T
 
 abbrev pub Unless : (broken p : Promise) → Type 0 → Type 0
-Unless broken p T = unless_same (number_of broken == number_of p) T
+Unless broken p T = unless_same (is_same broken p) T
 
 -- all of `Meets` but this promise
 pub record MeetsBut (broken : Promise) (c : Config) (lanes shards : ℕ) (t : Threads) (end : Export) : Type 0 where
@@ -100,20 +101,6 @@ one_shard w J e = go (slice_get w.shards 0) refl e
     go None there h = absurd (cc h)
     go (Some sh) there h = record { shard = sh; there = there; journal = cc h }
 
--- a span of which nothing waits is in no place that waits
-module _ (k : ArrivalKey) (place : Place) where
-  in_no_wait : (hs : List HeldKey) → filter (λ (h : HeldKey). is_waiting h.place) hs ≡ [] → map (λ (h : HeldKey). h.place) (filter (λ (h : HeldKey). same_key h.key k) hs) ≡ place ∷ [] → is_waiting place ≡ false
-  in_no_wait [] none e = absurd (cc e)
-  in_no_wait (h ∷ hs) none e = go (is_waiting h.place) (same_key h.key k) refl none e (in_no_wait hs)
-    where
-      go : (w s : Bool) → is_waiting h.place ≡ w → cond w (h ∷ filter (λ (h : HeldKey). is_waiting h.place) hs) (filter (λ (h : HeldKey). is_waiting h.place) hs) ≡ []
-          → map (λ (h : HeldKey). h.place) (cond s (h ∷ filter (λ (h : HeldKey). same_key h.key k) hs) (filter (λ (h : HeldKey). same_key h.key k) hs)) ≡ place ∷ []
-          → (filter (λ (h : HeldKey). is_waiting h.place) hs ≡ [] → map (λ (h : HeldKey). h.place) (filter (λ (h : HeldKey). same_key h.key k) hs) ≡ place ∷ [] → is_waiting place ≡ false)
-          → is_waiting place ≡ false
-      go true s is none e more = absurd (cc none)
-      go false true is none e more = let same : h.place ≡ place = cc e in subst (λ (p : Place). is_waiting p ≡ false) same is
-      go false false is none e more = more none e
-
 -- ---- the threads
 
 abbrev pub first : Arrival
@@ -144,11 +131,57 @@ pub only_zero : (P : ℕ → Type 0) → P 0 → (k : ℕ) → k < 1 → P k
 only_zero P h zero l = h
 only_zero P h (suc k) l = absurd (omega (arith, l))
 
-two_numbered : (lane : ℕ) → lane < 1 → AreNumbered lane (first ∷ second ∷ [])
-two_numbered = only_zero (λ lane. AreNumbered lane (first ∷ second ∷ [])) (numbered_from 0 (first ∷ second ∷ []) (refl, refl, (refl, refl, tt)))
+unless_more : (b : Bool) (S T : Type 0) → (S → T) → unless_same b S → unless_same b T
+unless_more true S T f h = h
+unless_more false S T f h = f h
 
-pub one_numbered : (lane : ℕ) → lane < 1 → AreNumbered lane (first ∷ [])
-one_numbered = only_zero (λ lane. AreNumbered lane (first ∷ [])) (numbered_from 0 (first ∷ []) (refl, refl, tt))
+-- what one lane, one shard, the ticker and the exporter did meets all promises but one
+pub meets_but : (broken : Promise) (c : Config) (t : Threads) (end : Export) → AreNumbered 0 (t.received 0)
+    → Unless broken tries_in_order (map span_of (t.tries 0 0) ≡ filter (goes_to 1 0) (t.received 0))
+    → Unless broken popped_in_order (items_of 0 (t.popped 0) ≡ map (λ a. Span a) (pushed_in (t.tries 0 0)) ++ End 0 ∷ [])
+    → items_of 1 (t.popped 0) ≡ map (λ m. Tick m) (t.ticks 0) ++ End 1 ∷ []
+    → AllByRecursion (λ (x : ℕ × Entry). x.0 ≤ 1) (t.popped 0)
+    → Unless broken marks_that_apply (MarksApply (settings_for c 2) (journal_of t 0))
+    → Unless broken answer_for_each_asking (IsAnswered (settings_for c 2) (journal_of t 0))
+    → Unless broken shipped_is_output (of 0 (pulls t.acts) ≡ output (settings_for c 2) (journal_of t 0))
+    → AllByRecursion (λ (x : ℕ × Arrival). x.0 < 1) (pulls t.acts)
+    → after_acts c new_export t.acts ≡ Some end
+    → Unless broken batch_is_empty (end.batch ≡ [])
+    → MeetsBut broken c 1 1 t end
+meets_but broken c t end numbered tried of_lane of_ticker of_senders marked answered shipped of_shards exports flushed =
+    let T = λ (lane shard : ℕ). map span_of (t.tries lane shard) ≡ filter (goes_to 1 shard) (t.received lane) in
+    let L = λ (lane shard : ℕ). items_of lane (t.popped shard) ≡ map (λ a. Span a) (pushed_in (t.tries lane shard)) ++ End lane ∷ [] in
+    record {
+      numbered = only_zero (λ lane. AreNumbered lane (t.received lane)) numbered;
+      tried = unless_more (is_same broken tries_in_order) (T 0 0) ((lane shard : ℕ) → lane < 1 → shard < 1 → T lane shard) (each_zero T) tried;
+      of_lane = unless_more (is_same broken popped_in_order) (L 0 0) ((lane shard : ℕ) → lane < 1 → shard < 1 → L lane shard) (each_zero L) of_lane;
+      of_ticker = only_zero (λ shard. items_of 1 (t.popped shard) ≡ map (λ m. Tick m) (t.ticks shard) ++ End 1 ∷ []) of_ticker;
+      of_senders = only_zero (λ shard. AllByRecursion (λ (x : ℕ × Entry). x.0 ≤ 1) (t.popped shard)) of_senders;
+      marked = unless_more (is_same broken marks_that_apply) (M 0) ((shard : ℕ) → shard < 1 → M shard) (only_zero M) marked;
+      answered = unless_more (is_same broken answer_for_each_asking) (A 0) ((shard : ℕ) → shard < 1 → A shard) (only_zero A) answered;
+      shipped = unless_more (is_same broken shipped_is_output) (O 0) ((shard : ℕ) → shard < 1 → O shard) (only_zero O) shipped;
+      of_shards = of_shards;
+      exports = exports;
+      flushed = flushed;
+    }
+  where
+    each_zero : (P : ℕ → ℕ → Type 0) → P 0 0 → (lane shard : ℕ) → lane < 1 → shard < 1 → P lane shard
+    each_zero P h lane shard i j = only_zero (λ l. P l shard) (only_zero (λ k. P 0 k) h shard j) lane i
+
+    M : ℕ → Type 0
+    M shard = MarksApply (settings_for c 2) (journal_of t shard)
+
+    A : ℕ → Type 0
+    A shard = IsAnswered (settings_for c 2) (journal_of t shard)
+
+    O : ℕ → Type 0
+    O shard = of shard (pulls t.acts) ≡ output (settings_for c 2) (journal_of t shard)
+
+two_numbered : AreNumbered 0 (first ∷ second ∷ [])
+two_numbered = numbered_from 0 (first ∷ second ∷ []) (refl, refl, (refl, refl, tt))
+
+pub one_numbered : AreNumbered 0 (first ∷ [])
+one_numbered = numbered_from 0 (first ∷ []) (refl, refl, tt)
 
 -- no run hands over the second of the two spans first
 backwards : (t : Threads) → Woven config 1 1 t (made ((second ∷ []) ∷ (first ∷ []) ∷ [])) → ⊥
@@ -164,19 +197,7 @@ tried_backwards = did (first ∷ second ∷ []) (pushed second ∷ pushed first 
 
 tried_backwards_meets : MeetsBut tries_in_order config 1 1 tried_backwards (made ((second ∷ []) ∷ (first ∷ []) ∷ []))
 unfolding notes
-tried_backwards_meets = record {
-  numbered = two_numbered;
-  tried = tt;
-  of_lane = λ lane shard i j. only_zero (λ l. items_of l (tried_backwards.popped shard) ≡ map (λ a. Span a) (pushed_in (tried_backwards.tries l shard)) ++ End l ∷ []) refl lane i;
-  of_ticker = λ shard j. refl;
-  of_senders = λ shard j. (omega arith, (omega arith, (omega arith, (omega arith, (omega arith, tt)))));
-  marked = λ shard j. (refl, (refl, (refl, (refl, (refl, tt)))));
-  answered = λ shard j. (refl, (refl, (refl, (refl, (refl, tt)))));
-  shipped = only_zero (λ shard. of shard (pulls tried_backwards.acts) ≡ output own (journal_of tried_backwards shard)) refl;
-  of_shards = (omega arith, (omega arith, tt));
-  exports = refl;
-  flushed = refl;
-}
+tried_backwards_meets = meets_but tries_in_order config tried_backwards (made ((second ∷ []) ∷ (first ∷ []) ∷ [])) two_numbered tt refl refl (omega arith, (omega arith, (omega arith, (omega arith, (omega arith, tt))))) (refl, (refl, (refl, (refl, (refl, tt))))) (refl, (refl, (refl, (refl, (refl, tt))))) refl (omega arith, (omega arith, tt)) refl refl
 
 pub tried_backwards_is_no_run : Woven config 1 1 tried_backwards (made ((second ∷ []) ∷ (first ∷ []) ∷ [])) → ⊥
 tried_backwards_is_no_run = backwards tried_backwards
@@ -188,19 +209,7 @@ popped_backwards = did (first ∷ second ∷ []) (pushed first ∷ pushed second
 
 popped_backwards_meets : MeetsBut popped_in_order config 1 1 popped_backwards (made ((second ∷ []) ∷ (first ∷ []) ∷ []))
 unfolding notes
-popped_backwards_meets = record {
-  numbered = two_numbered;
-  tried = λ lane shard i j. only_zero (λ s. map span_of (popped_backwards.tries lane s) ≡ filter (goes_to 1 s) (popped_backwards.received lane)) refl shard j;
-  of_lane = tt;
-  of_ticker = λ shard j. refl;
-  of_senders = λ shard j. (omega arith, (omega arith, (omega arith, (omega arith, (omega arith, tt)))));
-  marked = λ shard j. (refl, (refl, (refl, (refl, (refl, tt)))));
-  answered = λ shard j. (refl, (refl, (refl, (refl, (refl, tt)))));
-  shipped = only_zero (λ shard. of shard (pulls popped_backwards.acts) ≡ output own (journal_of popped_backwards shard)) refl;
-  of_shards = (omega arith, (omega arith, tt));
-  exports = refl;
-  flushed = refl;
-}
+popped_backwards_meets = meets_but popped_in_order config popped_backwards (made ((second ∷ []) ∷ (first ∷ []) ∷ [])) two_numbered refl tt refl (omega arith, (omega arith, (omega arith, (omega arith, (omega arith, tt))))) (refl, (refl, (refl, (refl, (refl, tt))))) (refl, (refl, (refl, (refl, (refl, tt))))) refl (omega arith, (omega arith, tt)) refl refl
 
 pub popped_backwards_is_no_run : Woven config 1 1 popped_backwards (made ((second ∷ []) ∷ (first ∷ []) ∷ [])) → ⊥
 popped_backwards_is_no_run = backwards popped_backwards
@@ -212,19 +221,7 @@ shipped_backwards = did (first ∷ second ∷ []) (pushed first ∷ pushed secon
 
 shipped_backwards_meets : MeetsBut shipped_is_output config 1 1 shipped_backwards (made ((second ∷ []) ∷ (first ∷ []) ∷ []))
 unfolding notes
-shipped_backwards_meets = record {
-  numbered = two_numbered;
-  tried = λ lane shard i j. only_zero (λ s. map span_of (shipped_backwards.tries lane s) ≡ filter (goes_to 1 s) (shipped_backwards.received lane)) refl shard j;
-  of_lane = λ lane shard i j. only_zero (λ l. items_of l (shipped_backwards.popped shard) ≡ map (λ a. Span a) (pushed_in (shipped_backwards.tries l shard)) ++ End l ∷ []) refl lane i;
-  of_ticker = λ shard j. refl;
-  of_senders = λ shard j. (omega arith, (omega arith, (omega arith, (omega arith, (omega arith, tt)))));
-  marked = λ shard j. (refl, (refl, (refl, (refl, (refl, tt)))));
-  answered = λ shard j. (refl, (refl, (refl, (refl, (refl, tt)))));
-  shipped = tt;
-  of_shards = (omega arith, (omega arith, tt));
-  exports = refl;
-  flushed = refl;
-}
+shipped_backwards_meets = meets_but shipped_is_output config shipped_backwards (made ((second ∷ []) ∷ (first ∷ []) ∷ [])) two_numbered refl refl refl (omega arith, (omega arith, (omega arith, (omega arith, (omega arith, tt))))) (refl, (refl, (refl, (refl, (refl, tt))))) (refl, (refl, (refl, (refl, (refl, tt))))) tt (omega arith, (omega arith, tt)) refl refl
 
 pub shipped_backwards_is_no_run : Woven config 1 1 shipped_backwards (made ((second ∷ []) ∷ (first ∷ []) ∷ [])) → ⊥
 shipped_backwards_is_no_run = backwards shipped_backwards
@@ -236,36 +233,11 @@ ended_early = did (first ∷ []) (pushed first ∷ []) [] (ends ++ taken first �
 
 ended_early_meets : MeetsBut popped_in_order config 1 1 ended_early (made [])
 unfolding notes
-ended_early_meets = record {
-  numbered = one_numbered;
-  tried = λ lane shard i j. only_zero (λ s. map span_of (ended_early.tries lane s) ≡ filter (goes_to 1 s) (ended_early.received lane)) refl shard j;
-  of_lane = tt;
-  of_ticker = λ shard j. refl;
-  of_senders = λ shard j. (omega arith, (omega arith, (omega arith, tt)));
-  marked = λ shard j. (refl, (refl, (refl, tt)));
-  answered = λ shard j. (refl, (refl, (refl, tt)));
-  shipped = only_zero (λ shard. of shard (pulls ended_early.acts) ≡ output own (journal_of ended_early shard)) refl;
-  of_shards = tt;
-  exports = refl;
-  flushed = refl;
-}
+ended_early_meets = meets_but popped_in_order config ended_early (made []) one_numbered refl tt refl (omega arith, (omega arith, (omega arith, tt))) (refl, (refl, (refl, tt))) (refl, (refl, (refl, tt))) refl tt refl refl
 
 -- the span that was taken behind the End
 abbrev behind_end : (w : World) → OneShard w (journal_of ended_early 0) → Taken w
-behind_end w one = record {
-  shard = 0;
-  of = one.shard;
-  in_world = one.there;
-  arrival = first;
-  ids = ids_of 1;
-  valid = refl;
-  refused = false;
-  lost = false;
-  answers = [];
-  later = [];
-  before = entry_of (End 1) false false [] ∷ entry_of (End 0) false false [] ∷ [];
-  split = one.journal;
-}
+behind_end w one = record { shard = 0; of = one.shard; in_world = one.there; arrival = first; ids = ids_of 1; valid = refl; refused = false; lost = false; answers = []; later = []; before = entry_of (End 1) false false [] ∷ entry_of (End 0) false false [] ∷ []; split = one.journal }
 
 -- the fate of that span by a journal
 abbrev fate_by : Settings → Journal → Fate
@@ -278,20 +250,10 @@ ended_early_is_no_run w =
     let fits = (holds ended_early (made []) w).fits (behind_end w.after one) in
     buffered_waits fits.0 (has_due (settings config w.after) one.shard)
     (subst (λ (f : Fate). IsTrue (is_where 0 (has_due (settings config w.after) one.shard) f fits.0)) (fate_is one) fits.2)
-    (in_no_wait first.key fits.0 (held config w.after) w.closed.nothing_waits fits.1)
+    (not_waiting first.key fits.0 (held config w.after) w.closed.nothing_waits fits.1)
   where
     fate_is : (one : OneShard w.after (journal_of ended_early 0)) → fate_of config w.after (behind_end w.after one) ≡ waits
     fate_is one = ap (λ (s : Settings). fate_by s one.shard.journal) (own_settings ended_early (made []) w) ∙ ap (fate_by own) one.journal
-
-    buffered_waits : (place : Place) (due : Bool) → IsTrue (is_where 0 due waits place) → is_waiting place ≡ false → ⊥
-    buffered_waits (unrouted n) due e f = cc f
-    buffered_waits (queued n) due e f = cc f
-    buffered_waits (buffered n) due e f = cc f
-    buffered_waits (unshipped n) due e f = cc f
-    buffered_waits exported due e f = cc f
-    buffered_waits in_batch due e f = cc f
-    buffered_waits handed due e f = cc e
-    buffered_waits (counted_under r) due e f = cc e
 
 -- ---- a mark that can't apply
 
@@ -304,39 +266,14 @@ marked_late = did (first ∷ second ∷ []) (pushed first ∷ pushed second ∷ 
 
 marked_late_meets : MeetsBut marks_that_apply config 1 1 marked_late (made ((first ∷ []) ∷ []))
 unfolding notes
-marked_late_meets = record {
-  numbered = two_numbered;
-  tried = λ lane shard i j. only_zero (λ s. map span_of (marked_late.tries lane s) ≡ filter (goes_to 1 s) (marked_late.received lane)) refl shard j;
-  of_lane = λ lane shard i j. only_zero (λ l. items_of l (marked_late.popped shard) ≡ map (λ a. Span a) (pushed_in (marked_late.tries l shard)) ++ End l ∷ []) refl lane i;
-  of_ticker = λ shard j. refl;
-  of_senders = λ shard j. (omega arith, (omega arith, (omega arith, (omega arith, (omega arith, tt)))));
-  marked = tt;
-  answered = λ shard j. (refl, (refl, (refl, (refl, (refl, tt)))));
-  shipped = only_zero (λ shard. of shard (pulls marked_late.acts) ≡ output own (journal_of marked_late shard)) refl;
-  of_shards = (omega arith, tt);
-  exports = refl;
-  flushed = refl;
-}
+marked_late_meets = meets_but marks_that_apply config marked_late (made ((first ∷ []) ∷ [])) two_numbered refl refl refl (omega arith, (omega arith, (omega arith, (omega arith, (omega arith, tt))))) tt (refl, (refl, (refl, (refl, (refl, tt))))) refl (omega arith, tt) refl refl
 
 -- the journal before that span
 abbrev before_late : Journal
 before_late = entry_of (Tick 11) false false ([] ∷ []) ∷ entry_of (Span first) false false [] ∷ []
 
 abbrev late_one : (w : World) → OneShard w (journal_of marked_late 0) → Taken w
-late_one w one = record {
-  shard = 0;
-  of = one.shard;
-  in_world = one.there;
-  arrival = second;
-  ids = ids_of 1;
-  valid = refl;
-  refused = true;
-  lost = false;
-  answers = [];
-  later = entry_of (End 1) false false [] ∷ entry_of (End 0) false false [] ∷ [];
-  before = before_late;
-  split = one.journal;
-}
+late_one w one = record { shard = 0; of = one.shard; in_world = one.there; arrival = second; ids = ids_of 1; valid = refl; refused = true; lost = false; answers = []; later = entry_of (End 1) false false [] ∷ entry_of (End 0) false false [] ∷ []; before = before_late; split = one.journal }
 
 pub marked_late_is_no_run : Woven config 1 1 marked_late (made ((first ∷ []) ∷ [])) → ⊥
 unfolding notes
@@ -357,19 +294,7 @@ with_batch = record { batch = first ∷ []; handed = []; counted = []; down = fa
 
 left_in_batch_meets : MeetsBut batch_is_empty config 1 1 left_in_batch with_batch
 unfolding notes
-left_in_batch_meets = record {
-  numbered = one_numbered;
-  tried = λ lane shard i j. only_zero (λ s. map span_of (left_in_batch.tries lane s) ≡ filter (goes_to 1 s) (left_in_batch.received lane)) refl shard j;
-  of_lane = λ lane shard i j. only_zero (λ l. items_of l (left_in_batch.popped shard) ≡ map (λ a. Span a) (pushed_in (left_in_batch.tries l shard)) ++ End l ∷ []) refl lane i;
-  of_ticker = λ shard j. refl;
-  of_senders = λ shard j. (omega arith, (omega arith, (omega arith, (omega arith, tt))));
-  marked = λ shard j. (refl, (refl, (refl, (refl, tt))));
-  answered = λ shard j. (refl, (refl, (refl, (refl, tt))));
-  shipped = only_zero (λ shard. of shard (pulls left_in_batch.acts) ≡ output own (journal_of left_in_batch shard)) refl;
-  of_shards = (omega arith, tt);
-  exports = refl;
-  flushed = tt;
-}
+left_in_batch_meets = meets_but batch_is_empty config left_in_batch with_batch one_numbered refl refl refl (omega arith, (omega arith, (omega arith, (omega arith, tt)))) (refl, (refl, (refl, (refl, tt)))) (refl, (refl, (refl, (refl, tt)))) refl (omega arith, tt) refl tt
 
 abbrev waits_there : HeldKey → Bool
 waits_there h = is_waiting h.place

@@ -2,6 +2,7 @@
 use Rattle.std.proofs.Common.{◌≡◌, ℕ, zero, suc, ◌+◌, ◌<◌, Bool, true, false, cond, not, ◌&&◌, ◌||◌, ◌==◌, List, [], ◌∷◌, ◌++◌, length, filter, flat_map, slice_get, Option, Some, None, refl, ap, sym, subst, ◌∙◌, arith, length-append, eqb-true}
 use Rattle.std.specs.List.{list_all}
 use Rattle.std.proofs.lemmas.Bool.{and_parts, not-true, eqb-false}
+use Rattle.span_ids.proofs.SameTraces.{same_trace-refl}
 use Rattle.shard_core.specs.Journal.{answered, decision, due_now, Settings, Journal, clock, Opening, Decision, finding, spans_since, due_at, after_finding, after_span, after_item, has_ended, have_ended, notes, decisions_now, notes_dealt}
 use Rattle.otlp_types.specs.declared.span.Ids.{Ids}
 use Rattle.otlp_types.specs.declared.arrival.Arrival.{Arrival}
@@ -10,7 +11,7 @@ use Rattle.otlp_types.specs.declared.arrival.Item.TheVariants.{Span, Tick, End}
 use Rattle.span_world.specs.World.{Config, Lane, Shard, World, settings, ticker, has_due, goes_to}
 use Rattle.span_world.specs.Step.{Step, receive, route, refuse, take as take_step, tick, close, end, decide, ship, pull, hand, fail, spoil, next_for, take_on, sender_is_done, ship_on, pull_from, spoil_applies, is_empty, step}
 use Rattle.span_world.specs.Places.{Place, HeldKey, unrouted, queued, buffered, unshipped, exported, in_batch, handed, is_waiting, held_at, buffered_spans, held_by_lanes, held_by_shard, held_by_shards, held, IsClosed}
-use Rattle.shard_core.proofs.Notes.{HasRoom, own_spans, same_refl, spans_more, Sound, Meeting, it_joins, it_meets, it_opens, meeting}
+use Rattle.shard_core.proofs.Notes.{HasRoom, own_spans, spans_more, Sound, Meeting, it_joins, it_meets, it_opens, meeting}
 use Rattle.span_world.specs.Headline.{NothingAfterClose, EachNothingAfterClose}
 use Rattle.shard_journal.specs.Answered.{effect_answered, effect_answered_at}
 use Rattle.span_world.proofs.Answered.{next_there, content_same}
@@ -51,7 +52,7 @@ module _ (s : Settings) (room : HasRoom s.limit) (J : Journal) (h : Each (HasSpa
       go : Meeting s (notes s J) ids.trace → Each (HasSpan (record { item = Span a; refused = false; lost = lost; answers = given } ∷ J)) (after_finding s ids.trace lost (length J) (clock (record { item = Span a; refused = false; lost = lost; answers = given } ∷ J)) (notes s J) (finding s (notes s J) ids.trace)).openings
       go (it_joins o newer older e same d l n f fi) = rw fi old
       go (it_meets o v l d f fi) = rw fi old
-      go (it_opens f fi) = rw fi ((omega (arith, ap length (one_more s room J (notes s J) sound a ids has lost given new (omega arith) (same_refl ids.trace)), length-append (spans_since J new) (a ∷ [])), old))
+      go (it_opens f fi) = rw fi ((omega (arith, ap length (one_more s room J (notes s J) sound a ids has lost given new (omega arith) (same_trace-refl ids.trace)), length-append (spans_since J new) (a ∷ [])), old))
 
   item_grow : (item : Item) (refused lost : Bool) (given : List (List Bool)) → Each (HasSpan (record { item = item; refused = refused; lost = lost; answers = given } ∷ J)) (after_item s (record { item = item; refused = refused; lost = lost; answers = given }) J item (notes s J)).openings
   item_grow (Tick m) refused lost given = old_grow (Tick m) refused lost given

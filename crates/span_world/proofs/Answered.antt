@@ -1,7 +1,8 @@
 -- A decision's answers, put into a journal: what was decided, handed over and counted so far stays, and one more decision is there to be dealt with.
-use Rattle.std.proofs.Common.{◌≡◌, ℕ, zero, suc, Bool, true, false, cond, ◌&&◌, ◌==◌, List, [], ◌∷◌, ◌++◌, length, reverse, take, find, slice_get, Option, Some, None, is_none, option_map, ◌⊎◌, inl, inr, refl, ap, sym, subst, ◌∙◌, ne_eqb, eqb-true, eq-eqb}
+use Rattle.std.proofs.Common.{◌≡◌, ℕ, zero, suc, Bool, true, false, cond, ◌==◌, List, [], ◌∷◌, ◌++◌, length, reverse, take, find, slice_get, Option, Some, None, is_none, option_map, ◌⊎◌, inl, inr, refl, ap, sym, subst, ◌∙◌, ne_eqb, eqb-true, eq-eqb}
 use Rattle.std.specs.List.{list_any}
 use Rattle.std.proofs.lemmas.List.{reverse-append}
+use Rattle.std.proofs.lemmas.Bool.{and_parts}
 use Rattle.policy_eval.specs.Given.{are_answered}
 use Rattle.shard_core.specs.Journal.{Entry, Settings, Journal, Opening, Decision, Notes, Finding, joins, meets, opens, finding, notes, notes_dealt, decision, decisions_in_turn, decisions_now, decided_as, is_in_buffer, in_buffer, due_now, after_decisions, after_item, spans_since, answered, are_each_answered, IsAnsweredUpTo}
 use Rattle.shard_core.specs.Fate.{Fate, is_released, is_counted, fate, fate_of_finding, fate_of_member, fate_of_member_decided, effect_dealt, effect, effect_of_taking, effect_of_decisions, ◌then◌}
@@ -19,10 +20,6 @@ use Rattle.span_world.proofs.Dealing.{open_dealt}
 
 -- ---- decisions in turn
 
-and-right : (a b : Bool) → (a && b) ≡ true → b ≡ true
-and-right true b h = h
-and-right false b h = cc
-
 -- the next decision comes last
 turn-more : (s : Settings) (past : Journal) (k : ℕ) (os : List Opening) (given : List (List Bool)) (answers : List Bool) (o : Opening) → slice_get os k ≡ Some o →
     are_each_answered s.policies past (take k os) given ≡ true → decisions_in_turn s past os (given ++ answers ∷ []) ≡ decisions_in_turn s past os given ++ decision s past o answers ∷ []
@@ -35,7 +32,7 @@ turn-more s past zero (p ∷ os) [] answers o e h = let same : p ≡ o = cc in a
 turn-more s past zero (p ∷ os) (g ∷ given) answers o e h = cc
 turn-more s past (suc k) (p ∷ os) [] answers o e h = cc
 turn-more s past (suc k) (p ∷ os) (g ∷ given) answers o e h =
-    ap (λ (ds : List Decision). decision s past p g ∷ ds) (turn-more s past k os given answers o e (and-right (are_answered s.policies g (spans_since past p)) (are_each_answered s.policies past (take k os) given) h))
+    ap (λ (ds : List Decision). decision s past p g ∷ ds) (turn-more s past k os given answers o e (and_parts (are_answered s.policies g (spans_since past p)) (are_each_answered s.policies past (take k os) given) h).1)
 
 -- it is found at its place
 turn-there : (s : Settings) (past : Journal) (k : ℕ) (os : List Opening) (given : List (List Bool)) (answers : List Bool) (o : Opening) → slice_get os k ≡ Some o →
@@ -44,7 +41,7 @@ turn-there s past k [] given answers o e h = absurd (cc e)
 turn-there s past zero (p ∷ os) [] answers o e h = let same : p ≡ o = cc in ap (λ (q : Opening). Some (decision s past q answers)) same
 turn-there s past zero (p ∷ os) (g ∷ given) answers o e h = cc
 turn-there s past (suc k) (p ∷ os) [] answers o e h = cc
-turn-there s past (suc k) (p ∷ os) (g ∷ given) answers o e h = turn-there s past k os given answers o e (and-right (are_answered s.policies g (spans_since past p)) (are_each_answered s.policies past (take k os) given) h)
+turn-there s past (suc k) (p ∷ os) (g ∷ given) answers o e h = turn-there s past k os given answers o e (and_parts (are_answered s.policies g (spans_since past p)) (are_each_answered s.policies past (take k os) given) h).1
 
 -- those before it are as they were
 turn-front : (s : Settings) (past : Journal) (k : ℕ) (os : List Opening) (given : List (List Bool)) (answers : List Bool) →
@@ -53,7 +50,7 @@ turn-front s past zero os given answers h = refl
 turn-front s past (suc k) [] given answers h = refl
 turn-front s past (suc k) (p ∷ os) [] answers h = cc
 turn-front s past (suc k) (p ∷ os) (g ∷ given) answers h =
-    ap (λ (ds : List Decision). decision s past p g ∷ ds) (turn-front s past k os given answers (and-right (are_answered s.policies g (spans_since past p)) (are_each_answered s.policies past (take k os) given) h))
+    ap (λ (ds : List Decision). decision s past p g ∷ ds) (turn-front s past k os given answers (and_parts (are_answered s.policies g (spans_since past p)) (are_each_answered s.policies past (take k os) given) h).1)
 
 -- and they are all that were given answers
 turn-all : (s : Settings) (past : Journal) (k : ℕ) (os : List Opening) (given : List (List Bool)) → are_each_answered s.policies past (take k os) given ≡ true → take k (decisions_in_turn s past os given) ≡ decisions_in_turn s past os given
@@ -62,7 +59,7 @@ turn-all s past zero (p ∷ os) [] h = refl
 turn-all s past zero (p ∷ os) (g ∷ given) h = cc
 turn-all s past (suc k) [] given h = refl
 turn-all s past (suc k) (p ∷ os) [] h = refl
-turn-all s past (suc k) (p ∷ os) (g ∷ given) h = ap (λ (ds : List Decision). decision s past p g ∷ ds) (turn-all s past k os given (and-right (are_answered s.policies g (spans_since past p)) (are_each_answered s.policies past (take k os) given) h))
+turn-all s past (suc k) (p ∷ os) (g ∷ given) h = ap (λ (ds : List Decision). decision s past p g ∷ ds) (turn-all s past k os given (and_parts (are_answered s.policies g (spans_since past p)) (are_each_answered s.policies past (take k os) given) h).1)
 
 -- ---- a journal
 

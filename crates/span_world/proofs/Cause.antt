@@ -3,6 +3,7 @@ use Rattle.std.proofs.Common.{◌≡◌, ℕ, suc, ◌+◌, Bool, true, false, c
 use Rattle.std.proofs.lemmas.List.{append-nil}
 use Rattle.std.proofs.lemmas.Bool.{cases_eq}
 use Rattle.std.proofs.Math.Numerals.{add-one}
+use Rattle.span_ids.proofs.SameTraces.{same_trace-refl}
 use Rattle.shard_core.specs.Journal.{Settings, Journal, ids_have_trace, Opening, Decision, in_buffer, leaving, decided_as, Finding, joins, meets, opens, finding, spans_since, notes, notes_dealt, decisions_now, Entry}
 use Rattle.shard_core.specs.Fate.{Fate, is_released, is_counted, DroppedSpan, Effect, counts, effect_of_verdict, effect_of_leaving, effect_of_leaving_decided, effect_of_finding, effect_of_span, effect_of_decision}
 use Rattle.otlp_types.specs.declared.span.Ids.{Ids}
@@ -14,7 +15,7 @@ use Rattle.span_ids.specs.declared.outcome.Reason.{Reason}
 use Rattle.span_ids.specs.declared.outcome.Reason.TheVariants.{InvalidId, QueueFull, NoMemory, Evicted, LateNotSampled, ExporterDown, NotSampled as DecidedAgainst}
 use Rattle.span_world.specs.World.{Config, Lane, Shard, World, new_world, new_lane, new_shard, settings, has_due, ids_go_to}
 use Rattle.span_world.specs.Step.{has_ids, arrivals, is_of_conn, spoil_applies}
-use Rattle.shard_core.proofs.Notes.{HasRoom, is_open, same_refl}
+use Rattle.shard_core.proofs.Notes.{HasRoom, is_open}
 use Rattle.shard_core.proofs.ListFacts.{Each, Each-append, Each-left, Each-right, Each-weaker, Each-both, Each-filter, Each-passes, Split, Split-more, Split-behind, spill, spill-append}
 use Rattle.shard_core.proofs.Sound.{makes_room, last_of_nil}
 use Rattle.span_world.proofs.Content.{content, took_span as span_taken, stays_by_tick, stays_by_end, all_dealt}
@@ -277,7 +278,7 @@ module _ (c : Config) (room : HasRoom c.limit) (w : World) (h : SourcedAt c w) (
       let tail = Each-right (IsReceived w.lanes) sh.unshipped (content s sh.journal (notes s sh.journal) ++ a ∷ rest) was in
       let held = Each-left (IsReceived w.lanes) (content s sh.journal (notes s sh.journal)) (a ∷ rest) tail in
       let first = (Each-right (IsReceived w.lanes) (content s sh.journal (notes s sh.journal)) (a ∷ rest) tail).0 in
-      let k = line_taken a v.0.trace sh.unshipped (content s sh.journal (notes s sh.journal)) _ did.released rest did.counted (ap (ids_have_trace v.0.trace) v.1 ∙ same_refl v.0.trace) (span_taken s room sh.journal a v.0 v.1 refused lost) in
+      let k = line_taken a v.0.trace sh.unshipped (content s sh.journal (notes s sh.journal)) _ did.released rest did.counted (ap (ids_have_trace v.0.trace) v.1 ∙ same_trace-refl v.0.trace) (span_taken s room sh.journal a v.0 v.1 refused lost) in
       let n = shard_set s w.lanes w.shards (behind w) w.counted w.down h shard sh sh' g (settles_more s room sh.journal (record { item = Span a; refused = refused; lost = lost; answers = [] })) (k.each (IsReceived w.lanes) was) in
       more_counted s w.lanes (slice_set w.shards shard sh') (behind w) w.counted w.down n did.counted
       (caused_by_span s room w.lanes (slice_set w.shards shard sh') w.down sh.journal a v.0 v.1 refused lost first held (λ b became x. record { shard = shard; sh = sh'; at = get_set w.shards shard sh sh' g; fate = x })))

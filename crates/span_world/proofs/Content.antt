@@ -1,6 +1,7 @@
 -- What the buffer holds, before and after an item or a decision.
 use Rattle.std.proofs.Common.{◌≡◌, ℕ, zero, suc, ◌<◌, ◌≤◌, Bool, true, false, cond, not, ◌&&◌, ◌==◌, nat_lt, List, [], ◌∷◌, ◌++◌, length, flat_map, take, Option, Some, None, is_none, option_map, option_to_list, refl, ap, sym, subst, ◌∙◌, arith, append_assoc, ne_eqb, ltb-false}
 use Rattle.std.proofs.lemmas.List.{append-nil}
+use Rattle.span_ids.proofs.SameTraces.{same_trace-refl}
 use Rattle.span_ids.specs.Same.{same_trace}
 use Rattle.shard_core.specs.Journal.{Settings, Journal, ids_have_trace, is_of_trace, clock, Opening, Decision, Notes, last_of, in_buffer, leaving, decided_as, undecided, finding, spans_since, due_at, decisions_in_turn, after_finding, after_span, after_item, after_decisions, decisions_at, notes, due_now, notes_dealt, Entry}
 use Rattle.shard_core.specs.Fate.{DroppedSpan, counts, effect_of_verdict, effect_of_leaving, effect_of_leaving_decided, effect_of_finding, effect_of_span}
@@ -13,7 +14,7 @@ use Rattle.span_ids.specs.declared.outcome.Verdict.{Verdict}
 use Rattle.span_ids.specs.declared.outcome.Verdict.TheVariants.{Sampled, NotSampled}
 use Rattle.span_ids.specs.declared.outcome.Reason.{Reason}
 use Rattle.span_ids.specs.declared.outcome.Reason.TheVariants.{NoMemory, Evicted, LateNotSampled}
-use Rattle.shard_core.proofs.Notes.{HasRoom, own_spans, same_refl, other_trace, spans_more, spans_before, spans_of_trace, is_open, Sound, Meeting, it_joins, it_meets, it_opens, meeting}
+use Rattle.shard_core.proofs.Notes.{HasRoom, own_spans, other_trace, spans_more, spans_before, spans_of_trace, is_open, Sound, Meeting, it_joins, it_meets, it_opens, meeting}
 use Rattle.shard_core.proofs.ListFacts.{Each, Each-left, Each-right, Each-weaker, Each-both, spill, spill_is, spill-append, spill-same, Each-spill}
 use Rattle.shard_core.proofs.Find.{find_none}
 use Rattle.shard_core.proofs.Sound.{Makes, makes_room, Each-buffer, sound_notes}
@@ -174,7 +175,7 @@ module _ (s : Settings) (room : HasRoom s.limit) (J : Journal) (noted : Notes) (
       after = ap (spill (spans_since (entry false ∷ J)) (is_open noted)) (m.with_next opened)
           ∙ ap (λ z. z ++ cond (is_open noted opened) (spans_since (entry false ∷ J) opened) []) (sym stays)
           ∙ ap (λ b. spill (spans_since J) (is_open noted) m.kept ++ cond b (spans_since (entry false ∷ J) opened) []) new_is_open
-          ∙ ap (λ z. spill (spans_since J) (is_open noted) m.kept ++ z) (one_more opened (omega arith) (same_refl ids.trace) ∙ ap (λ z. z ++ a ∷ []) (spans_before J opened (omega arith)))
+          ∙ ap (λ z. spill (spans_since J) (is_open noted) m.kept ++ z) (one_more opened (omega arith) (same_trace-refl ids.trace) ∙ ap (λ z. z ++ a ∷ []) (spans_before J opened (omega arith)))
 
   took : Meeting s noted ids.trace
       → Taking a ids.trace (content s J noted) (content s (entry false ∷ J) (after_finding s ids.trace lost (length J) (clock (entry false ∷ J)) noted (finding s noted ids.trace)))

@@ -15,23 +15,22 @@ pub Split-each : {X : Type 0} (xs : List X) → Each (λ x. Split x xs) xs
 Split-each [] = tt
 Split-each (x ∷ xs) = (record { front = []; back = xs; is = refl }, Each-weaker (λ y. Split y xs) (λ y. Split y (x ∷ xs)) xs (λ y k. Split-cons y x xs k) (Split-each xs))
 
-pub Each-due : (P : Opening → Type 0) (s : Settings) (e : Entry) (J : Journal) (item : Item) (noted : Notes) → Each P (undecided s noted) → Each P (due_at s e J item noted)
-Each-due P s e J (Span a) noted h = tt
-Each-due P s e J (Tick m) noted h = Each-filter P (is_due s (e ∷ J)) (undecided s noted) h
-Each-due P s e J (End i) noted h = go (has_finished s e J)
+-- what holds of the undecided episodes, of some of them and of none holds of those that are due
+due-keeps : (Q : List Opening → Type 0) (s : Settings) (e : Entry) (J : Journal) (item : Item) (noted : Notes) → Q [] → (Q (undecided s noted) → Q (filter (is_due s (e ∷ J)) (undecided s noted))) → Q (undecided s noted)
+    → Q (due_at s e J item noted)
+due-keeps Q s e J (Span a) noted none some h = none
+due-keeps Q s e J (Tick m) noted none some h = some h
+due-keeps Q s e J (End i) noted none some h = go (has_finished s e J)
   where
-    go : (b : Bool) → Each P (cond b (undecided s noted) [])
+    go : (b : Bool) → Q (cond b (undecided s noted) [])
     go true = h
-    go false = tt
+    go false = none
+
+pub Each-due : (P : Opening → Type 0) (s : Settings) (e : Entry) (J : Journal) (item : Item) (noted : Notes) → Each P (undecided s noted) → Each P (due_at s e J item noted)
+Each-due P s e J item noted = due-keeps (Each P) s e J item noted tt (Each-filter P (is_due s (e ∷ J)) (undecided s noted))
 
 pub Pairs-due : (R : Opening → Opening → Type 0) (s : Settings) (e : Entry) (J : Journal) (item : Item) (noted : Notes) → Pairs R (undecided s noted) → Pairs R (due_at s e J item noted)
-Pairs-due R s e J (Span a) noted h = tt
-Pairs-due R s e J (Tick m) noted h = Pairs-filter R (is_due s (e ∷ J)) (undecided s noted) h
-Pairs-due R s e J (End i) noted h = go (has_finished s e J)
-  where
-    go : (b : Bool) → Pairs R (cond b (undecided s noted) [])
-    go true = h
-    go false = tt
+Pairs-due R s e J item noted = due-keeps (Pairs R) s e J item noted tt (Pairs-filter R (is_due s (e ∷ J)) (undecided s noted))
 
 -- of the decisions made in turn, the one at a place
 pub record InTurn (s : Settings) (J : Journal) (due : List Opening) (answers : List (List Bool)) (dealt : ℕ) (d : Decision) : Type 0 where

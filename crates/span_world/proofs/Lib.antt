@@ -37,3 +37,5 @@ pub mod Replaying
 pub mod Looking
 pub mod Finishing
 pub mod Giving
+pub mod WaitingPlaces
+pub mod Running

@@ -3,6 +3,7 @@ use Rattle.std.proofs.Common.{◌≡◌, ℕ, zero, suc, Bool, true, false, ◌=
 use Rattle.std.proofs.lemmas.List.{append-nil}
 use Rattle.std.proofs.lemmas.Bool.{and_parts}
 use Rattle.std.proofs.lemmas.Slice.Eq.{bytes_eq-Decides}
+use Rattle.span_ids.proofs.SameTraces.{same_trace-right}
 use Rattle.span_ids.specs.Same.{same_trace}
 use Rattle.shard_core.specs.Journal.{Settings, ids_have_trace, is_of_trace, Decision, notes_dealt}
 use Rattle.shard_core.specs.Fate.{DroppedSpan, effect_of_verdict, effect_of_decision}
@@ -16,7 +17,6 @@ use Rattle.span_ids.specs.Route.{shard_of}
 use Rattle.span_world.specs.World.{Lane, Shard, goes_to, ids_go_to, is_same_conn}
 use Rattle.span_world.specs.Headline.{ComesFirst, have_same_trace}
 use Rattle.shard_core.proofs.ListFacts.{Each, Each-append, Each-weaker, Pairs, Across, Pairs-append, Pairs-right}
-use Rattle.shard_core.proofs.Notes.{same_right}
 use Rattle.span_world.proofs.Content.{content, IsOther, Taking, kept, late, dropped}
 use Rattle.span_world.proofs.Dealing.{Dealing}
 use Rattle.span_world.proofs.Keeps.{Keeps, keeps_same, keeps_then, keeps_none, keeps_swap, keeps_after, keeps_before, keeps_back, Across-both}
@@ -35,7 +35,7 @@ other_traces t (Some i) None h k = refl
 other_traces t (Some i) (Some j) h k = go (same_trace i.trace j.trace) refl
   where
     go : (b : Bool) → same_trace i.trace j.trace ≡ b → b ≡ false
-    go true e = absurd (cc (same_right t i.trace j.trace e, h, k))
+    go true e = absurd (cc (same_trace-right t i.trace j.trace e, h, k))
     go false e = refl
 
 pub other_trace_first : (t : TraceId) (a b : Arrival) → is_of_trace t a ≡ true → is_of_trace t b ≡ false → ComesFirst a b

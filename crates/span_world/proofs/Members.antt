@@ -1,6 +1,7 @@
 -- Each span of an undecided episode in the buffer joined that episode, or opened it; and a decision stands.
 use Rattle.std.proofs.Common.{◌≡◌, ℕ, ◌<◌, Bool, true, false, cond, not, ◌&&◌, List, [], ◌∷◌, ◌++◌, length, take, Option, Some, None, option_to_list, ◌⊎◌, inl, inr, refl, ap, sym, subst, ◌∙◌, arith}
 use Rattle.std.proofs.lemmas.List.{append-nil}
+use Rattle.span_ids.proofs.SameTraces.{same_trace-refl}
 use Rattle.span_ids.specs.Same.{same_trace}
 use Rattle.shard_core.specs.Journal.{Settings, Journal, ids_have_trace, is_of_trace, clock, Opening, Notes, last_of, in_buffer, leaving, joins, opens, finding, spans_since, after_finding, after_span, after_item, after_decisions, no_notes, decisions_at, notes, notes_dealt, Entry}
 use Rattle.otlp_types.specs.declared.span.Ids.{Ids}
@@ -8,7 +9,7 @@ use Rattle.span_ids.specs.declared.ids.TraceId.{TraceId}
 use Rattle.otlp_types.specs.declared.arrival.Arrival.{Arrival}
 use Rattle.otlp_types.specs.declared.arrival.Item.{Item}
 use Rattle.otlp_types.specs.declared.arrival.Item.TheVariants.{Span, Tick, End}
-use Rattle.shard_core.proofs.Notes.{HasRoom, own_spans, same_refl, spans_more, spans_before, is_open, Sound, Meeting, it_joins, it_meets, it_opens, meeting}
+use Rattle.shard_core.proofs.Notes.{HasRoom, own_spans, spans_more, spans_before, is_open, Sound, Meeting, it_joins, it_meets, it_opens, meeting}
 use Rattle.shard_core.proofs.ListFacts.{Each, Each-append, Each-left, Each-right, Each-weaker, Each-both}
 use Rattle.shard_core.proofs.Sound.{Makes, makes_room, last_of_nil, Each-buffer, sound_notes, open_before}
 use Rattle.span_world.proofs.Content.{same_spans, one_more}
@@ -100,7 +101,7 @@ module _ (s : Settings) (room : HasRoom s.limit) (J : Journal) (h : Each (AreJoi
 
       by_opens : Each IsApart (in_buffer s (notes s J)) → finding s (notes s J) ids.trace ≡ opens → Each (AreJoined s (taken false ∷ J) (notes s J)) (last_of s.limit (opened ∷ (notes s J).openings))
       by_opens f fi = subst (λ z. Each (AreJoined s (taken false ∷ J) (notes s J)) z) (sym (m.with_next opened)) (
-        (λ p. subst (λ z. Each (Joined s (taken false ∷ J) opened) z) (sym (one_more s room J (notes s J) sound a ids has lost given opened (omega arith) (same_refl ids.trace) ∙ ap (λ z. z ++ a ∷ []) (spans_before J opened (omega arith))))
+        (λ p. subst (λ z. Each (Joined s (taken false ∷ J) opened) z) (sym (one_more s room J (notes s J) sound a ids has lost given opened (omega arith) (same_trace-refl ids.trace) ∙ ap (λ z. z ++ a ∷ []) (spans_before J opened (omega arith))))
             (record { ids = ids; valid = has; lost = lost; given = given; later = []; before = J; split = refl; how = inr (fi, refl) }, tt)),
         by_apart m.kept (Each-left (λ (o : Opening). o.at < length J) m.kept out (subst (λ z. Each (λ (o : Opening). o.at < length J) z) m.was below))
             (Each-left (AreJoined s J (notes s J)) m.kept out (subst (λ z. Each (AreJoined s J (notes s J)) z) m.was h)) (Each-left IsApart m.kept out (subst (λ z. Each IsApart z) m.was f)),

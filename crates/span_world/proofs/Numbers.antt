@@ -20,12 +20,12 @@ pub Follows-append : (lane : ℕ) (before xs ys : List Arrival) → Follows lane
 Follows-append lane before [] ys h k = subst (λ (z : List Arrival). Follows lane z ys) (append-nil before) k
 Follows-append lane before (x ∷ xs) ys h k = (h.0, h.1, Follows-append lane (before ++ x ∷ []) xs ys h.2 (subst (λ (z : List Arrival). Follows lane z ys) (sym (append_assoc before (x ∷ []) xs)) k))
 
-Follows-right : (lane : ℕ) (before xs ys : List Arrival) → Follows lane before (xs ++ ys) → Follows lane (before ++ xs) ys
+pub Follows-right : (lane : ℕ) (before xs ys : List Arrival) → Follows lane before (xs ++ ys) → Follows lane (before ++ xs) ys
 Follows-right lane before [] ys h = subst (λ (z : List Arrival). Follows lane z ys) (sym (append-nil before)) h
 Follows-right lane before (x ∷ xs) ys h = subst (λ (z : List Arrival). Follows lane z ys) (append_assoc before (x ∷ []) xs) (Follows-right lane (before ++ x ∷ []) xs ys h.2)
 
 -- the arrivals of a request go on where the connection's numbers ended
-new_follow : (conn : ConnKey) (moment : ℕ) (rs : List Record) (before : List Arrival) (next : ℕ) → next ≡ on_conn conn before → Follows conn.lane before (arrivals conn next moment rs)
+pub new_follow : (conn : ConnKey) (moment : ℕ) (rs : List Record) (before : List Arrival) (next : ℕ) → next ≡ on_conn conn before → Follows conn.lane before (arrivals conn next moment rs)
 new_follow conn moment [] before next e = tt
 new_follow conn moment (r ∷ rs) before next e = (refl, e, new_follow conn moment rs (before ++ a ∷ []) (next + 1) (omega (arith, e, tally-append (is_of_conn conn) before (a ∷ []), own)))
   where

@@ -3,6 +3,7 @@ use Rattle.std.proofs.Common.{◌≡◌, ℕ, zero, suc, ◌+◌, ◌<◌, ◌�
 use Rattle.std.proofs.lemmas.List.{append-nil}
 use Rattle.std.proofs.lemmas.Bool.{and_parts}
 use Rattle.std.proofs.Math.Numerals.{add-one}
+use Rattle.span_ids.proofs.SameTraces.{same_trace-refl}
 use Rattle.otlp_types.specs.declared.arrival.Record.{Record}
 use Rattle.shard_core.specs.Journal.{Settings, ids_have_trace, notes, notes_dealt}
 use Rattle.shard_core.specs.Fate.{Effect, effect_of_decision, effect_of_span}
@@ -13,7 +14,7 @@ use Rattle.otlp_types.specs.declared.arrival.Item.TheVariants.{Span, Tick, End}
 use Rattle.span_world.specs.World.{Config, Lane, Shard, World, new_world, new_lane, new_shard, settings, has_due, same_key, is_same_conn}
 use Rattle.span_world.specs.Step.{is_of_conn, arrivals, has_ids}
 use Rattle.span_world.specs.Headline.{ComesFirst, have_same_trace, handed_spans, InReceivedOrder, EachInReceivedOrder}
-use Rattle.shard_core.proofs.Notes.{HasRoom, same_refl}
+use Rattle.shard_core.proofs.Notes.{HasRoom}
 use Rattle.shard_core.proofs.ListFacts.{Each, Each-weaker, Each-filter, Pairs, Pairs-left, Pairs-filter, AllPairs-from, total, length-slice_set, flat_map-append'}
 use Rattle.shard_core.proofs.Sound.{last_of_nil}
 use Rattle.span_world.proofs.Content.{content, took_span as span_taken, stays_by_tick, stays_by_end, all_dealt}
@@ -157,7 +158,7 @@ module _ (c : Config) (room : HasRoom c.limit) (w : World) (h : Ordered c w) whe
       line_keeps s n (behind w) w.lanes w.shards h.lined shard sh (record { queue = rest; journal = record { item = Span a; refused = refused; lost = lost; answers = [] } ∷ sh.journal; dealt = 0; unshipped = sh.unshipped ++ did.released }) g
       (keeps_then ComesFirst (line s sh) (line_of sh.unshipped (content s sh.journal (notes s sh.journal)) (a ∷ rest)) (line s sh')
       (keeps_same ComesFirst (line s sh) (line_of sh.unshipped (content s sh.journal (notes s sh.journal)) (a ∷ rest)) (now_noted sh d ∙ ap (λ z. line_of sh.unshipped (content s sh.journal (notes s sh.journal)) z) q))
-      (line_taken a v.0.trace sh.unshipped (content s sh.journal (notes s sh.journal)) _ did.released rest did.counted (ap (ids_have_trace v.0.trace) v.1 ∙ same_refl v.0.trace) (span_taken s room sh.journal a v.0 v.1 refused lost))))
+      (line_taken a v.0.trace sh.unshipped (content s sh.journal (notes s sh.journal)) _ did.released rest did.counted (ap (ids_have_trace v.0.trace) v.1 ∙ same_trace-refl v.0.trace) (span_taken s room sh.journal a v.0 v.1 refused lost))))
   lined_step next (took_tick shard moment sh g d m e) = subst (λ (next : World). Lined s n (behind next) next.lanes next.shards) e (
       line_keeps s n (behind w) w.lanes w.shards h.lined shard sh (record { queue = sh.queue; journal = record { item = Tick moment; refused = false; lost = false; answers = [] } ∷ sh.journal; dealt = 0; unshipped = sh.unshipped ++ [] }) g
       (still_line sh _ d (stays_by_tick s room sh.journal moment)))

@@ -1,6 +1,7 @@
 -- The parts of the headline that follow of what every step keeps.
 use Rattle.std.proofs.Common.{◌≡◌, ℕ, ◌+◌, ◌<◌, ◌≤◌, Bool, true, false, ◌&&◌, ◌||◌, List, [], ◌∷◌, ◌++◌, slice_get, Option, Some, inl, inr, refl, ap, sym, subst, ◌∙◌, arith, eq-eqb}
 use Rattle.std.specs.List.{list_any}
+use Rattle.shard_core.proofs.Counted.{same_reason}
 use Rattle.shard_core.specs.Journal.{Entry, Settings, Journal, Opening, Finding, joins, meets, opens, finding, verdict_met, notes, IsAnswered, IsAnsweredUpTo}
 use Rattle.shard_core.specs.Fate.{Fate, waits, is_released, is_counted, fate_of_verdict, is_same_reason}
 use Rattle.otlp_types.specs.declared.span.Ids.{Ids}
@@ -36,15 +37,6 @@ use Rattle.span_world.proofs.Stands.{Stands, on_its_way, waits_in, sent_by, in_c
 use Rattle.span_world.proofs.TakenAt.{TakenAt, waits_there, sent_there, counted_there, known_at}
 
 -- ---- the place fits the fate
-
-same_reason : (r : Reason) → is_same_reason r r ≡ true
-same_reason InvalidId = refl
-same_reason QueueFull = refl
-same_reason NoMemory = refl
-same_reason Evicted = refl
-same_reason DecidedAgainst = refl
-same_reason LateNotSampled = refl
-same_reason ExporterDown = refl
 
 -- where something is due, a buffered span may have any fate
 any_fate : (shard : ℕ) (f : Fate) → is_where shard true f (buffered shard) ≡ true

@@ -111,8 +111,7 @@ module _ (k : ArrivalKey) where
         let l' : Lane = record { received = l.received ++ new; unrouted = l.unrouted ++ filter has_ids new; ended = l.ended } in
         let u = total-set (λ (l : Lane). occ k l.unrouted) w.lanes lane l l' g in
         let r = total-set (λ (l : Lane). occ k l.received) w.lanes lane l l' g in
-        let h = tally-halves (λ (a : Arrival). same_key a.key k) has_ids new in
-        omega (arith, u, r, h, occ-append k l.unrouted (filter has_ids new), occ-append k l.received new, counted-append w.counted (counts InvalidId (filter (λ (a : Arrival). not (has_ids a)) new)), lane_counts InvalidId refl (filter (λ (a : Arrival). not (has_ids a)) new)))
+        omega (arith, u, r, tally-halves (λ (a : Arrival). same_key a.key k) has_ids new, occ-append k l.unrouted (filter has_ids new), occ-append k l.received new, counted-append w.counted (counts InvalidId (filter (λ (a : Arrival). not (has_ids a)) new)), lane_counts InvalidId refl (filter (λ (a : Arrival). not (has_ids a)) new)))
     balance next (routed lane shard l sh a rest g m t e) = rw (← e) (
         let u = total-set (λ (l : Lane). occ k l.unrouted) w.lanes lane l (record l { unrouted = rest }) g in
         let r = total-set (λ (l : Lane). occ k l.received) w.lanes lane l (record l { unrouted = rest }) g in
@@ -172,20 +171,15 @@ pub routed_once_step : (c : Config) (w next : World) → Stepped c w next → Is
 routed_once_step c w next st h k = omega (arith, balance k c w next st, h k)
 
 pub routed_once_new : (lanes shards : ℕ) → IsRoutedOnce (new_world lanes shards)
-routed_once_new lanes shards k = omega (arith, no_unrouted lanes, no_received lanes, no_queue shards, no_journal shards)
+routed_once_new lanes shards k =
+    omega (
+      arith,
+      none_in (λ (l : Lane). occ k l.unrouted) new_lane refl lanes,
+      none_in (λ (l : Lane). occ k l.received) new_lane refl lanes,
+      none_in (λ (sh : Shard). occ k sh.queue) new_shard refl shards,
+      none_in (λ (sh : Shard). in_journal k sh.journal) new_shard refl shards,
+    )
   where
-    no_unrouted : (n : ℕ) → total (λ (l : Lane). occ k l.unrouted) (replicate n new_lane) ≡ 0
-    no_unrouted zero = refl
-    no_unrouted (suc n) = omega (arith, no_unrouted n)
-
-    no_received : (n : ℕ) → total (λ (l : Lane). occ k l.received) (replicate n new_lane) ≡ 0
-    no_received zero = refl
-    no_received (suc n) = omega (arith, no_received n)
-
-    no_queue : (n : ℕ) → total (λ (sh : Shard). occ k sh.queue) (replicate n new_shard) ≡ 0
-    no_queue zero = refl
-    no_queue (suc n) = omega (arith, no_queue n)
-
-    no_journal : (n : ℕ) → total (λ (sh : Shard). in_journal k sh.journal) (replicate n new_shard) ≡ 0
-    no_journal zero = refl
-    no_journal (suc n) = omega (arith, no_journal n)
+    none_in : {X : Type 0} (weight : X → ℕ) (x : X) → weight x ≡ 0 → (n : ℕ) → total weight (replicate n x) ≡ 0
+    none_in weight x e zero = refl
+    none_in weight x e (suc n) = omega (arith, e, none_in weight x e n)

@@ -1,6 +1,7 @@
 -- Configurations, records and questions that the worked rows share.
-use Rattle.std.specs.Prelude.{ℕ, Bool, pos, List, [], ◌∷◌, map, length, Option, Some, None, option_map, option_and_then, is_some, ◌&&◌, ◌==◌}
+use Rattle.std.specs.Prelude.{ℕ, Bool, pos, List, [], ◌∷◌, map, length, Option, Some, None, option_map, is_some, ◌&&◌, ◌==◌}
 use Rattle.std.specs.List.{list_all}
+use Rattle.otlp_types.proofs.Samples.{plain_record}
 use Rattle.policy_tree.specs.Tree.{Policies, no_more, one_more, leaf, always_sample, status_code}
 use Rattle.shard_core.specs.Journal.{have_ended}
 use Rattle.shard_core.specs.Fate.{under}
@@ -36,28 +37,7 @@ ids_of t = record { trace = trace t; span = t ∷ []; parent = None }
 
 -- a record with these ids, status code and start
 abbrev pub recorded : Option Ids → (code start : ℕ) → Record
-recorded ids code start = record {
-  resource = record { attributes = []; dropped_attributes_count = 0 };
-  resource_schema_url = [];
-  scope = record { name = []; version = []; attributes = []; dropped_attributes_count = 0 };
-  scope_schema_url = [];
-  span = record {
-    ids = ids;
-    trace_state = [];
-    flags = 0;
-    name = [];
-    kind = pos 0;
-    start_time_unix_nano = start;
-    end_time_unix_nano = start;
-    attributes = [];
-    dropped_attributes_count = 0;
-    events = [];
-    dropped_events_count = 0;
-    links = [];
-    dropped_links_count = 0;
-    status = record { message = []; code = pos code };
-  };
-}
+recorded ids code start = plain_record ids code start start
 
 -- a span with an error
 abbrev pub error : (t : ℕ) → Record

@@ -64,20 +64,7 @@ misbooked_without_cause h =
 
 abbrev pub evicted_taken : Taken misbooked
 unfolding notes
-evicted_taken = record {
-  shard = 0;
-  of = shard_of_one misbooked;
-  in_world = refl;
-  arrival = first_of misbooked;
-  ids = ids_of 1;
-  valid = refl;
-  refused = false;
-  lost = false;
-  answers = [];
-  later = take 1 (shard_of_one misbooked).journal;
-  before = [];
-  split = refl;
-}
+evicted_taken = record { shard = 0; of = shard_of_one misbooked; in_world = refl; arrival = first_of misbooked; ids = ids_of 1; valid = refl; refused = false; lost = false; answers = []; later = take 1 (shard_of_one misbooked).journal; before = []; split = refl }
 
 pub misbooked_does_not_fit : PlaceFitsFate of_one misbooked → ⊥
 unfolding notes
@@ -102,20 +89,7 @@ late_refused = world_by refuses_late of_one (send (error 1) ++ take_step 0 false
 
 abbrev pub last_taken : Taken late_refused
 unfolding notes
-last_taken = record {
-  shard = 0;
-  of = shard_of_one late_refused;
-  in_world = refl;
-  arrival = get_or (lane_of late_refused).received 1 (first_of late_refused);
-  ids = ids_of 1;
-  valid = refl;
-  refused = true;
-  lost = false;
-  answers = [];
-  later = [];
-  before = drop 1 (shard_of_one late_refused).journal;
-  split = refl;
-}
+last_taken = record { shard = 0; of = shard_of_one late_refused; in_world = refl; arrival = get_or (lane_of late_refused).received 1 (first_of late_refused); ids = ids_of 1; valid = refl; refused = true; lost = false; answers = []; later = []; before = drop 1 (shard_of_one late_refused).journal; split = refl }
 
 pub late_refused_not_met : MeetsRemembered of_one late_refused → ⊥
 unfolding notes

@@ -7,10 +7,11 @@ ghost use Rattle.policy_eval.specs.Meaning.{knows};
 ghost use Rattle.rate_budget.specs.Budget.{has_node};
 ghost use Rattle.shard_core.specs.Held.{StandsFor, has_due, is_finished};
 
-use crate::spans::{sample, span_item};
+use crate::spans::span_item;
 use drop_ledger::{Report, Tally};
 use lane_queue::{LaneQueue, OpenGate, Receiver, Room, Sender};
 use otlp_types::{Ids, Item, Shipment, Text};
+use plain_spans::plain_record;
 use policy_tree::{Policies, Policy, PolicyKind};
 use rate_budget::Budgets;
 use shard_core::Shard;
@@ -54,7 +55,7 @@ fn send_all<C: Room, R: Wait + Clock>(
     ids: &[Ids],
     sender: Sender<Item, C>,
 ) -> Result<(), AllocError> {
-    let sample = sample(alloc)?;
+    let sample = plain_record(alloc, None, 0, 0, 0)?;
     let mut sender = sender;
     let mut number = 0u64;
     for ids in ids {

@@ -1,3 +1,2 @@
 -- Which of the types that the jobs hold may go to another thread.
 pub mod Sent
-pub mod ShardSent

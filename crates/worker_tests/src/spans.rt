@@ -1,9 +1,10 @@
 //! The spans that the lanes send: which trace each is of, and what tells it again.
-ghost use Rattle.std.specs.Prelude.{◌≡◌, IfOk, IsSome, true};
+ghost use Rattle.std.specs.Prelude.{◌≡◌, IfOk, true};
 ghost use Rattle.shard_core.specs.Taking.{has_ids};
 
-use otlp_types::{Arrival, Ids, Item, List, Record, Resource, Scope, Shared, Span, Status, Text};
-use span_ids::{ArrivalKey, ConnKey, SpanId, TraceId};
+use otlp_types::{Ids, Item, Record};
+use plain_spans::{plain_record, received};
+use span_ids::{SpanId, TraceId};
 use std::alloc::{AllocError, Global};
 use std::process::Abort;
 
@@ -54,52 +55,8 @@ pub fn span_item(alloc: Global, traces: &Traces, lane: u16, number: u64) -> Resu
         2 => (traces.first_left, 0),
         _ => (traces.second_left, 0),
     };
-    let conn = ConnKey { lane, ordinal: 0 };
-    Ok(Item::Span(Arrival {
-        key: ArrivalKey { conn, number },
-        moment: 0,
-        rec: record_of(alloc, ids, code, lane as u64, number)?,
-    }))
-}
-
-fn record_of(alloc: Global, ids: Ids, code: i32, start: u64, end: u64) -> Result<Record, AllocError>
-    ensures { IfOk result (λ rec. IsSome rec.span.ids) }
-{
-    let resource = Resource {
-        attributes: List::new(alloc),
-        dropped_attributes_count: 0,
-    };
-    let scope = Scope {
-        name: Text::new(alloc),
-        version: Text::new(alloc),
-        attributes: List::new(alloc),
-        dropped_attributes_count: 0,
-    };
-    Ok(Record {
-        resource: Shared::new(alloc, resource)?,
-        resource_schema_url: Shared::new(alloc, Text::new(alloc))?,
-        scope: Shared::new(alloc, scope)?,
-        scope_schema_url: Shared::new(alloc, Text::new(alloc))?,
-        span: Span {
-            ids: Some(ids),
-            trace_state: Text::new(alloc),
-            flags: 0,
-            name: Text::new(alloc),
-            kind: 0,
-            start_time_unix_nano: start,
-            end_time_unix_nano: end,
-            attributes: List::new(alloc),
-            dropped_attributes_count: 0,
-            events: List::new(alloc),
-            dropped_events_count: 0,
-            links: List::new(alloc),
-            dropped_links_count: 0,
-            status: Status {
-                message: Text::new(alloc),
-                code,
-            },
-        },
-    })
+    let rec = plain_record(alloc, Some(ids), code, lane as u64, number)?;
+    Ok(Item::Span(received(lane, number, 0, rec)))
 }
 
 /// Which span a record is.

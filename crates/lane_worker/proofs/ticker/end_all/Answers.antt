@@ -1,14 +1,9 @@
-use Rattle.std.proofs.Common.{arith, add-one, ◌∙◌, ◌<◌, length, get_or, set, sym, ap}
+use Rattle.std.proofs.Common.{arith, ◌<◌, length, ap}
 use Rattle.lane_worker.specs.Serving.{with_end}
-use Rattle.lane_worker.proofs.Ends.{mapped, mapped_more}
+use Rattle.lane_worker.proofs.Ends.{mapped_set}
 use Rattle.lane_worker.proofs.ticker.end_all.Goals as goal
 
 pub loop-sender-preserved : goal.loop-sender-preserved
 loop-sender-preserved g c =
-    let f = with_end c.args.number in
-    let xs = c.args.senders.now.items in
-    let place = c.loop-sender.sender-index in
-    let d = c.sender-item.result in
-    let h = c.loop-sender.invariant in
-    let lt : place < length xs = omega (arith, ap length c.deref_mut-sender-items.ensures.value, c.loop-sender-test.true) in
-    ap (set c.loop-sender.sender-items place) c.push.ensures.taken.0 ∙ ((λ i. set (h i) place (f (get_or (h i) place d))) ∙ (mapped_more f xs place d lt ∙ ap (λ k. mapped f k xs) (sym (add-one place))))
+    let lt : c.loop-sender.sender-index < length c.args.senders.now.items = omega (arith, ap length c.deref_mut-sender-items.ensures.value, c.loop-sender-test.true) in
+    mapped_set (with_end c.args.number) c.args.senders.now.items c.loop-sender.sender-items c.loop-sender.sender-index c.sender-item.result _ lt c.loop-sender.invariant c.push.ensures.taken.0

@@ -4,14 +4,14 @@ use Rattle.std.proofs.Common.{◌≡◌, ℕ, zero, suc, ◌+◌, Bool, false, L
 use Rattle.std.specs.Option.{unwrap_or, option_map, option_copied}
 use Rattle.std.proofs.lemmas.Grind.{common_steps}
 use Rattle.policy_tree.specs.declared.policy.Policy.{Policy}
-use Rattle.policy_tree.specs.Tree.{Leaf, always_sample, latency, status_code, attribute, span_count, leaf, rate_limiting, and_policy, Policies, one_more}
+use Rattle.policy_tree.specs.Tree.{Leaf, always_sample, latency, status_code, attribute, span_count, leaf, rate_limiting, and_policy, Policies}
 use Rattle.policy_tree.specs.Meaning.{meaning, policy_meaning, kind_meaning, wanted_of}
 use Rattle.policy_tree.specs.declared.policy.PolicyKind.TheFolds.{the_lemmas}
 use Rattle.policy_eval.specs.Policies.{plain}
 use Rattle.policy_eval.specs.Given.{answer_given, next_answer}
 use Rattle.policy_eval.specs.Meaning.{answer_of}
-use Rattle.policy_eval.proofs.Turns.{next_part}
-use Rattle.policy_eval.proofs.GivenTurns.{Taken, Part, part-first, part-more, part-stop, part-last}
+use Rattle.policy_eval.proofs.Turns.{part_at}
+use Rattle.policy_eval.proofs.GivenTurns.{Part, part-first, part-more, part-stop, part-last}
 use Rattle.policy_eval.proofs.answer_list.+answer_given.Goals as goal
 
 copied-is : (o : Option (Bor Bool)) (d : Bool) → unwrap_or (option_copied o) d ≡ unwrap_or (option_map (λ (x : Bor Bool). x.now) o) d
@@ -32,33 +32,15 @@ loop-part-init t c =
 
 pub loop-part-preserved : goal.loop-part-preserved
 loop-part-preserved t c =
-    let items = c.as_slice-part-items.result.now in
-    let i = c.loop-part.part-index in
-    let p = c.part-item.result in
-    let bs = c.args.answers.now in
-    let spans = c.args.spans.now in
-    let whole = policy_meaning c.args.policy.now in
-    let next = c.loop-part.next in
-    let rest = meaning (drop (i + 1) items) in
-    let T = λ (r : Policies). Part bs spans whole c.args.asked r next in
-    let here : T (one_more (policy_meaning p) rest) = subst T (next_part items i p c.loop-part-test.true c.part-item.is) c.loop-part.invariant in
-    let taken : Taken bs spans (policy_meaning p) next c.answer_given-given.result.1 c.answer_given-given.result.0 = record { answer = c.answer_given-given.ensures.answer; asked = c.answer_given-given.ensures.asked } in
-    part-more bs spans whole c.args.asked (policy_meaning p) rest next c.answer_given-given.result.1 c.answer_given-given.result.0 here taken (sym c.samples.ensures ∙ c.if-not-samples.false)
+    let T = λ (r : Policies). Part c.args.answers.now c.args.spans.now (policy_meaning c.args.policy.now) c.args.asked r c.loop-part.next in
+    let here = part_at T c.as_slice-part-items.result.now c.loop-part.part-index c.part-item.result c.loop-part-test.true c.part-item.is c.loop-part.invariant in
+    part-more c.args.answers.now c.args.spans.now (policy_meaning c.args.policy.now) c.args.asked (policy_meaning c.part-item.result) (meaning (drop (c.loop-part.part-index + 1) c.as_slice-part-items.result.now)) c.loop-part.next c.answer_given-given.result.1 c.answer_given-given.result.0 here (record { answer = c.answer_given-given.ensures.answer; asked = c.answer_given-given.ensures.asked }) (sym c.samples.ensures ∙ c.if-not-samples.false)
 
 pub returns-then-not-samples : goal.returns-then-not-samples
 returns-then-not-samples t c =
-    let items = c.as_slice-part-items.result.now in
-    let i = c.loop-part.part-index in
-    let p = c.part-item.result in
-    let bs = c.args.answers.now in
-    let spans = c.args.spans.now in
-    let whole = policy_meaning c.args.policy.now in
-    let next = c.loop-part.next in
-    let rest = meaning (drop (i + 1) items) in
-    let T = λ (r : Policies). Part bs spans whole c.args.asked r next in
-    let here : T (one_more (policy_meaning p) rest) = subst T (next_part items i p c.loop-part-test.true c.part-item.is) c.loop-part.invariant in
-    let taken : Taken bs spans (policy_meaning p) next c.answer_given-given.result.1 c.answer_given-given.result.0 = record { answer = c.answer_given-given.ensures.answer; asked = c.answer_given-given.ensures.asked } in
-    let stop = part-stop bs spans whole c.args.asked (policy_meaning p) rest next c.answer_given-given.result.1 c.answer_given-given.result.0 here taken (sym c.samples.ensures ∙ c.if-not-samples.true) in
+    let T = λ (r : Policies). Part c.args.answers.now c.args.spans.now (policy_meaning c.args.policy.now) c.args.asked r c.loop-part.next in
+    let here = part_at T c.as_slice-part-items.result.now c.loop-part.part-index c.part-item.result c.loop-part-test.true c.part-item.is c.loop-part.invariant in
+    let stop = part-stop c.args.answers.now c.args.spans.now (policy_meaning c.args.policy.now) c.args.asked (policy_meaning c.part-item.result) (meaning (drop (c.loop-part.part-index + 1) c.as_slice-part-items.result.now)) c.loop-part.next c.answer_given-given.result.1 c.answer_given-given.result.0 here (record { answer = c.answer_given-given.ensures.answer; asked = c.answer_given-given.ensures.asked }) (sym c.samples.ensures ∙ c.if-not-samples.true) in
     record { answer = stop.answer; asked = stop.asked }
 
 pub returns-after-loop-part : goal.returns-after-loop-part

@@ -1,11 +1,11 @@
 -- The answer of a policy.
 -- For the clause `answers` of `answer`.
 use Rattle.std.proofs.Common.{◌≡◌, ℕ, ◌+◌, ◌≤◌, drop, inl, inr, rules, sym, subst, ◌∙◌, arith}
-use Rattle.policy_tree.specs.Tree.{Leaf, always_sample, latency, status_code, attribute, span_count, Policy as Meant, leaf, rate_limiting, and_policy, Policies, one_more, nodes}
+use Rattle.policy_tree.specs.Tree.{Leaf, always_sample, latency, status_code, attribute, span_count, Policy as Meant, leaf, rate_limiting, and_policy, Policies, nodes}
 use Rattle.policy_tree.specs.Meaning.{meaning, policy_meaning, kind_meaning, wanted_of}
 use Rattle.policy_tree.specs.declared.policy.PolicyKind.TheFolds.{the_lemmas}
 use Rattle.policy_eval.specs.Walks.{Answers}
-use Rattle.policy_eval.proofs.Turns.{Turn, turn-first, turn-more, turn-stop, answers-leaf, answers-rate, next_part, counted_nodes}
+use Rattle.policy_eval.proofs.Turns.{Turn, turn-first, turn-more, turn-stop, answers-leaf, answers-rate, part_at, counted_nodes}
 use Rattle.policy_eval.proofs.verdict.+answer.Goals as goal
 
 pub loop-part-init : goal.loop-part-init
@@ -16,45 +16,21 @@ loop-part-init g t c =
 
 pub loop-part-preserved : goal.loop-part-preserved
 loop-part-preserved g t c =
-    let items = c.as_slice-part-items.result.now in
-    let i = c.loop-part.part-index in
-    let p = c.part-item.result in
-    let S = g.row.L.Denot in
-    let H = g.L.Limiter.has_node in
-    let A = g.L.Limiter.asks in
-    let s0 = c.args.limiter.now in
-    let s = c.loop-part.limiter in
-    let u = c.answer-given.new.limiter in
-    let whole = policy_meaning c.args.policy.now in
-    let spans = c.args.spans.now in
-    let second = c.args.second in
-    let next = c.loop-part.next in
-    let rest = meaning (drop (i + 1) items) in
-    let T = λ (r : Policies). Turn S H A s0 whole c.args.node second spans s r next in
-    let here : T (one_more (policy_meaning p) rest) = subst T (next_part items i p c.loop-part-test.true c.part-item.is) c.loop-part.invariant in
-    let N = λ (k : ℕ). Turn S H A s0 whole c.args.node second spans u rest (next + k) in
-    let few : nodes (policy_meaning p) ≤ 64 = omega (arith, here.counted, here.within) in
-    let count : c.count.result ≡ nodes (policy_meaning p) = c.count.ensures ∙ counted_nodes (nodes (policy_meaning p)) few in
-    subst N (sym count) (turn-more S H A s0 whole c.args.node second spans s u (policy_meaning p) rest next c.answer-given.result here c.answer-given.ensures.answers c.answer-given.ensures.keeps (sym c.samples.ensures ∙ c.if-not-samples.false))
+    let T = λ (r : Policies). Turn g.row.L.Denot g.L.Limiter.has_node g.L.Limiter.asks c.args.limiter.now (policy_meaning c.args.policy.now) c.args.node c.args.second c.args.spans.now c.loop-part.limiter r c.loop-part.next in
+    let here = part_at T c.as_slice-part-items.result.now c.loop-part.part-index c.part-item.result c.loop-part-test.true c.part-item.is c.loop-part.invariant in
+    let rest = meaning (drop (c.loop-part.part-index + 1) c.as_slice-part-items.result.now) in
+    let p = policy_meaning c.part-item.result in
+    let N = λ (k : ℕ). Turn g.row.L.Denot g.L.Limiter.has_node g.L.Limiter.asks c.args.limiter.now (policy_meaning c.args.policy.now) c.args.node c.args.second c.args.spans.now c.answer-given.new.limiter rest (c.loop-part.next + k) in
+    let few : nodes p ≤ 64 = omega (arith, here.counted, here.within) in
+    let count : c.count.result ≡ nodes p = c.count.ensures ∙ counted_nodes (nodes p) few in
+    subst N (sym count) (turn-more g.row.L.Denot g.L.Limiter.has_node g.L.Limiter.asks c.args.limiter.now (policy_meaning c.args.policy.now) c.args.node c.args.second c.args.spans.now c.loop-part.limiter c.answer-given.new.limiter p rest c.loop-part.next c.answer-given.result here c.answer-given.ensures.answers c.answer-given.ensures.keeps (sym c.samples.ensures ∙ c.if-not-samples.false))
 
 pub returns-then-not-samples-clause-answers : goal.returns-then-not-samples-clause-answers
 returns-then-not-samples-clause-answers g t c =
-    let items = c.as_slice-part-items.result.now in
-    let i = c.loop-part.part-index in
-    let p = c.part-item.result in
-    let S = g.row.L.Denot in
-    let H = g.L.Limiter.has_node in
-    let A = g.L.Limiter.asks in
-    let s0 = c.args.limiter.now in
-    let s = c.loop-part.limiter in
-    let whole = policy_meaning c.args.policy.now in
-    let spans = c.args.spans.now in
-    let second = c.args.second in
-    let next = c.loop-part.next in
-    let rest = meaning (drop (i + 1) items) in
-    let T = λ (r : Policies). Turn S H A s0 whole c.args.node second spans s r next in
-    let here : T (one_more (policy_meaning p) rest) = subst T (next_part items i p c.loop-part-test.true c.part-item.is) c.loop-part.invariant in
-    turn-stop S H A s0 whole c.args.node second spans s c.answer-given.new.limiter (policy_meaning p) rest next c.answer-given.result here c.answer-given.ensures.answers (sym c.samples.ensures ∙ c.if-not-samples.true)
+    let T = λ (r : Policies). Turn g.row.L.Denot g.L.Limiter.has_node g.L.Limiter.asks c.args.limiter.now (policy_meaning c.args.policy.now) c.args.node c.args.second c.args.spans.now c.loop-part.limiter r c.loop-part.next in
+    let here = part_at T c.as_slice-part-items.result.now c.loop-part.part-index c.part-item.result c.loop-part-test.true c.part-item.is c.loop-part.invariant in
+    let rest = meaning (drop (c.loop-part.part-index + 1) c.as_slice-part-items.result.now) in
+    turn-stop g.row.L.Denot g.L.Limiter.has_node g.L.Limiter.asks c.args.limiter.now (policy_meaning c.args.policy.now) c.args.node c.args.second c.args.spans.now c.loop-part.limiter c.answer-given.new.limiter (policy_meaning c.part-item.result) rest c.loop-part.next c.answer-given.result here c.answer-given.ensures.answers (sym c.samples.ensures ∙ c.if-not-samples.true)
 
 pub returns-in-RateLimiting-clause-answers : goal.returns-in-RateLimiting-clause-answers
 returns-in-RateLimiting-clause-answers g t c =

@@ -3,7 +3,7 @@ use Rattle.span_ids.specs.declared.outcome.Reason.TheVariants.{Evicted}
 use Rattle.shard_core.specs.declared.answer.Taken.{Taken}
 use Rattle.shard_core.specs.declared.answer.Taken.TheVariants.{Kept, Ticked, Ended, Finished}
 use Rattle.shard_core.specs.Taking.{released_by, dropped_by}
-use Rattle.script_session.specs.Pulling.{PullsAll}
+use Rattle.script_session.specs.Pulling.{Export, PullsAll}
 use Rattle.script_session.proofs.Pulls.{PullsAll-none, pulled-dropped}
 use Rattle.script_session.proofs.Adds.{none-dropped, none-under}
 use Rattle.script_session.proofs.taking.pull_taken.Goals as goal
@@ -22,31 +22,21 @@ returns-in-Kept-Some-default-clause-pulls g c =
     let P = λ (t : Taken). PullsAll (e, c.args.report.now) (released_by t) (λ reason. dropped_by reason t) (e, new) in
     subst P (sym (kept.is ∙ ap (λ evicted. Kept evicted kept.cache) kept.evicted-is)) (pulled-dropped e c.args.report.now new Evicted kept.left.spans c.count-in-Kept-Some-default.ensures)
 
+-- nothing is pulled, and nothing is counted
+abbrev none_pulled : Export → Taken → Type 0
+none_pulled export t = PullsAll export (released_by t) (λ reason. dropped_by reason t) export
+
 pub returns-in-Ticked-clause-pulls : goal.returns-in-Ticked-clause-pulls
-returns-in-Ticked-clause-pulls g c =
-    let e = c.args.exporter.now in
-    let r = c.args.report.now in
-    let P = λ (t : Taken). PullsAll (e, r) (released_by t) (λ reason. dropped_by reason t) (e, r) in
-    subst P (sym c.in-Ticked.is) (PullsAll-none (e, r) (λ reason. dropped_by reason Ticked) none-dropped)
+returns-in-Ticked-clause-pulls g c = subst (none_pulled (c.args.exporter.now, c.args.report.now)) (sym c.in-Ticked.is) (PullsAll-none (c.args.exporter.now, c.args.report.now) (λ reason. dropped_by reason Ticked) none-dropped)
 
 pub returns-in-Ended-clause-pulls : goal.returns-in-Ended-clause-pulls
-returns-in-Ended-clause-pulls g c =
-    let e = c.args.exporter.now in
-    let r = c.args.report.now in
-    let P = λ (t : Taken). PullsAll (e, r) (released_by t) (λ reason. dropped_by reason t) (e, r) in
-    subst P (sym c.in-Ended.is) (PullsAll-none (e, r) (λ reason. dropped_by reason Ended) none-dropped)
+returns-in-Ended-clause-pulls g c = subst (none_pulled (c.args.exporter.now, c.args.report.now)) (sym c.in-Ended.is) (PullsAll-none (c.args.exporter.now, c.args.report.now) (λ reason. dropped_by reason Ended) none-dropped)
 
 pub returns-in-Finished-clause-pulls : goal.returns-in-Finished-clause-pulls
-returns-in-Finished-clause-pulls g c =
-    let e = c.args.exporter.now in
-    let r = c.args.report.now in
-    let P = λ (t : Taken). PullsAll (e, r) (released_by t) (λ reason. dropped_by reason t) (e, r) in
-    subst P (sym c.in-Finished.is) (PullsAll-none (e, r) (λ reason. dropped_by reason Finished) none-dropped)
+returns-in-Finished-clause-pulls g c = subst (none_pulled (c.args.exporter.now, c.args.report.now)) (sym c.in-Finished.is) (PullsAll-none (c.args.exporter.now, c.args.report.now) (λ reason. dropped_by reason Finished) none-dropped)
 
 pub returns-in-Kept-None-default-clause-pulls : goal.returns-in-Kept-None-default-clause-pulls
 returns-in-Kept-None-default-clause-pulls g c =
-    let e = c.args.exporter.now in
-    let r = c.args.report.now in
+    let export : Export = (c.args.exporter.now, c.args.report.now) in
     let kept = c.in-Kept-None-default in
-    let P = λ (t : Taken). PullsAll (e, r) (released_by t) (λ reason. dropped_by reason t) (e, r) in
-    subst P (sym (kept.is ∙ ap (λ evicted. Kept evicted kept.cache) kept.evicted-is)) (PullsAll-none (e, r) (λ reason. dropped_by reason (Kept None kept.cache)) (none-under Evicted))
+    subst (none_pulled export) (sym (kept.is ∙ ap (λ evicted. Kept evicted kept.cache) kept.evicted-is)) (PullsAll-none export (λ reason. dropped_by reason (Kept None kept.cache)) (none-under Evicted))

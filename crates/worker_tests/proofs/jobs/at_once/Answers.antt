@@ -12,8 +12,9 @@ use Rattle.otlp_types.specs.contracts.arrival.Item as item
 use Rattle.otlp_types.specs.contracts.arrival.Shipment as shipment
 use Rattle.span_sink.proofs.line_sink.LineSink.TheSendSync as lines
 use Rattle.std.proofs.Crossing.{crosses}
-use Rattle.worker_tests.proofs.Sent.{item_send, shipment_send}
-use Rattle.worker_tests.proofs.ShardSent.{shard_send, limiter_send, batch_send}
+use Rattle.otlp_types.proofs.Sent.{item_send, shipment_send}
+use Rattle.shard_core.proofs.Sent.{shard_send}
+use Rattle.worker_tests.proofs.Sent.{limiter_send, batch_send}
 use Rattle.worker_tests.proofs.jobs.at_once.Goals as goal
 use Rattle.worker_tests.proofs.memory_sink.MemorySink.TheSendSync as sink
 use Rattle.worker_tests.proofs.spans.Traces.TheSendSync as traces

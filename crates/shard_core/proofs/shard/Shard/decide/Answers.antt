@@ -1,4 +1,4 @@
-use Rattle.std.proofs.Common.{◌≡◌, ℕ, ◌/◌, ◌<◌, false, true, Bool, Some, [], List, option_map, length, sym, ap, subst, ◌∙◌, inr, refl}
+use Rattle.std.proofs.Common.{◌≡◌, ℕ, ◌/◌, ◌<◌, false, true, Some, None, [], List, option_map, length, sym, ap, subst, ◌∙◌, inr}
 use Rattle.std.specs.List.{find}
 use Rattle.policy_tree.specs.Meaning.{meaning}
 use Rattle.policy_eval.specs.Given.{verdict_given, asked_given, are_answered, Asked}
@@ -12,7 +12,7 @@ use Rattle.shard_core.specs.Held.{Held, held_of, settings, StandsFor, due_by, ha
 use Rattle.shard_core.specs.contracts.shard.Shard.{the_view}
 use Rattle.shard_core.proofs.Forgetting.{settle_keeps}
 use Rattle.std.specs.Option.{option_copied}
-use Rattle.shard_core.specs.Journal.{Journal, IsAnswered}
+use Rattle.shard_core.specs.Journal.{IsAnswered}
 use Rattle.shard_core.specs.Fate.{Effect, effect, effect_dealt}
 use Rattle.shard_core.proofs.HeldSpans.{settle_spans, due_spans}
 use Rattle.shard_core.proofs.Effects.{all_dealt, all_answered}
@@ -34,52 +34,43 @@ invariant_of-self g c =
     let k = settle_keeps i.clock d.0 d.1 d.2 c.evaluate-verdict.result i.buffer c.settle-spans.new.self i.cache c.settle-spans.ensures.after (inv.1, inv.3, inv.4) in
     (inv.0, k.0, settle_spans d.0 d.1 d.2 c.evaluate-verdict.result i.buffer c.settle-spans.new.self c.settle-spans.ensures.after inv.2, k.1, k.2)
 
+-- ---- no episode was due
+
+none_found : (h : Held) (d : ℕ × ℕ × ℕ) (es : List Episode) → d ≡ due_by h → find (is_due_at d.0 d.1 d.2) es ≡ None → find (is_due_at (due_by h).0 (due_by h).1 (due_by h).2) es ≡ None
+none_found h d es e none = subst (λ (x : ℕ × ℕ × ℕ). find (is_due_at x.0 x.1 x.2) es ≡ None) e none
+
 pub returns-in_default-clause-nothing : goal.returns-in_default-clause-nothing
 returns-in_default-clause-nothing g c = λ _.
-    let h = the_view c.self.inside in
-    let P = λ (x : Held). has_due x ≡ false in
-    let by : c.due_by-mark.result ≡ due_by h = c.due_by-mark.ensures ∙ ap due_by (sym c.self.view_is) in
-    let none = ap (λ (d : ℕ × ℕ × ℕ). find (is_due_at d.0 d.1 d.2) c.self.inside.buffer.episodes) (sym by) ∙ sym c.next_due.ensures ∙ ap option_copied c.in_default.is in
-    subst P c.self.view_is (nothing_due h c.self.invariant.3 none)
+    let none = none_found (the_view c.self.inside) _ c.self.inside.buffer.episodes (c.due_by-mark.ensures ∙ ap due_by (sym c.self.view_is)) (sym c.next_due.ensures ∙ ap option_copied c.in_default.is) in
+    subst (λ (x : Held). has_due x ≡ false) c.self.view_is (nothing_due (the_view c.self.inside) c.self.invariant.3 none)
 
 pub returns-in_default-clause-decides : goal.returns-in_default-clause-decides
 returns-in_default-clause-decides g c =
-    let h = the_view c.self.inside in
     let inv = c.self.invariant in
     let asks = g.L.Limiter.asks in
     let limiter = c.args.limiter.now in
+    let none = none_found (the_view c.self.inside) _ c.self.inside.buffer.episodes (c.due_by-mark.ensures ∙ ap due_by (sym c.self.view_is)) (sym c.next_due.ensures ∙ ap option_copied c.in_default.is) in
     let P = λ (x : Held). Decides asks x x Nothing limiter limiter in
     let Q = λ (x : Held). Decides asks x c.search.new.self Nothing limiter limiter in
-    let by : c.due_by-mark.result ≡ due_by h = c.due_by-mark.ensures ∙ ap due_by (sym c.self.view_is) in
-    let none = ap (λ (d : ℕ × ℕ × ℕ). find (is_due_at d.0 d.1 d.2) c.self.inside.buffer.episodes) (sym by) ∙ sym c.next_due.ensures ∙ ap option_copied c.in_default.is in
-    subst Q c.search.ensures (subst P c.self.view_is ([], λ past k s. decides_nothing asks h inv.0 inv.1 inv.3 limiter past k none s))
+    subst Q c.search.ensures (subst P c.self.view_is ([], λ past k s. decides_nothing asks (the_view c.self.inside) inv.0 inv.1 inv.3 limiter past k none s))
 
 pub returns-in_default-clause-all_dealt : goal.returns-in_default-clause-all_dealt
 returns-in_default-clause-all_dealt g c = λ _ past k s.
-    let h = the_view c.self.inside in
-    let inv = c.self.invariant in
+    let none = none_found (the_view c.self.inside) _ c.self.inside.buffer.episodes (c.due_by-mark.ensures ∙ ap due_by (sym c.self.view_is)) (sym c.next_due.ensures ∙ ap option_copied c.in_default.is) in
     let P = λ (x : Held). StandsFor x past k → effect_dealt (settings x) past k ≡ effect (settings x) past in
-    let by : c.due_by-mark.result ≡ due_by h = c.due_by-mark.ensures ∙ ap due_by (sym c.self.view_is) in
-    let none = ap (λ (d : ℕ × ℕ × ℕ). find (is_due_at d.0 d.1 d.2) c.self.inside.buffer.episodes) (sym by) ∙ sym c.next_due.ensures ∙ ap option_copied c.in_default.is in
-    subst P (c.self.view_is ∙ c.search.ensures) (λ s. all_dealt h past k inv.0 inv.1 (nothing_due h inv.3 none) s) s
+    subst P (c.self.view_is ∙ c.search.ensures) (all_dealt (the_view c.self.inside) past k c.self.invariant.0 c.self.invariant.1 (nothing_due (the_view c.self.inside) c.self.invariant.3 none)) s
 
 pub returns-in_default-clause-answered : goal.returns-in_default-clause-answered
 returns-in_default-clause-answered g c = λ _ past k s.
-    let h = the_view c.self.inside in
-    let inv = c.self.invariant in
+    let none = none_found (the_view c.self.inside) _ c.self.inside.buffer.episodes (c.due_by-mark.ensures ∙ ap due_by (sym c.self.view_is)) (sym c.next_due.ensures ∙ ap option_copied c.in_default.is) in
     let P = λ (x : Held). StandsFor x past k → IsAnswered (settings x) past in
-    let by : c.due_by-mark.result ≡ due_by h = c.due_by-mark.ensures ∙ ap due_by (sym c.self.view_is) in
-    let none = ap (λ (d : ℕ × ℕ × ℕ). find (is_due_at d.0 d.1 d.2) c.self.inside.buffer.episodes) (sym by) ∙ sym c.next_due.ensures ∙ ap option_copied c.in_default.is in
-    subst P (c.self.view_is ∙ c.search.ensures) (λ s. all_answered h past k inv.0 inv.1 (nothing_due h inv.3 none) s) s
+    subst P (c.self.view_is ∙ c.search.ensures) (all_answered (the_view c.self.inside) past k c.self.invariant.0 c.self.invariant.1 (nothing_due (the_view c.self.inside) c.self.invariant.3 none)) s
 
 pub returns-in_default-clause-output : goal.returns-in_default-clause-output
 returns-in_default-clause-output g c = λ _ past k s.
-    let h = the_view c.self.inside in
-    let inv = c.self.invariant in
+    let none = none_found (the_view c.self.inside) _ c.self.inside.buffer.episodes (c.due_by-mark.ensures ∙ ap due_by (sym c.self.view_is)) (sym c.next_due.ensures ∙ ap option_copied c.in_default.is) in
     let P = λ (x : Held). StandsFor x past k → effect_dealt (settings x) past k ≡ effect (settings x) past in
-    let by : c.due_by-mark.result ≡ due_by h = c.due_by-mark.ensures ∙ ap due_by (sym c.self.view_is) in
-    let none = ap (λ (d : ℕ × ℕ × ℕ). find (is_due_at d.0 d.1 d.2) c.self.inside.buffer.episodes) (sym by) ∙ sym c.next_due.ensures ∙ ap option_copied c.in_default.is in
-    ap (λ (x : Effect). x.released) (subst P (c.self.view_is ∙ c.search.ensures) (λ s. all_dealt h past k inv.0 inv.1 (nothing_due h inv.3 none) s) s)
+    ap (λ (x : Effect). x.released) (subst P (c.self.view_is ∙ c.search.ensures) (all_dealt (the_view c.self.inside) past k c.self.invariant.0 c.self.invariant.1 (nothing_due (the_view c.self.inside) c.self.invariant.3 none)) s)
 
 -- ---- an episode was due
 

@@ -10,17 +10,26 @@ use Rattle.shard_core.specs.Held.{Held, held_of}
 use Rattle.shard_core.specs.Holding.{Puts, TakesSpan, TakesSpanOf}
 use Rattle.shard_core.specs.contracts.shard.Shard.{the_view}
 use Rattle.shard_core.proofs.Codes.{no_episode, keep_puts, opened}
+use Rattle.shard_core.proofs.shard.Shard.take_span.Goals.{After-find}
 use Rattle.shard_core.proofs.shard.Shard.take_span.Goals as goal
 
 later : (moment clock now : ℕ) → now ≡ max moment clock → clock ≤ now
 later moment clock now e = omega (arith, e)
+
+-- the invariant at the later clock
+kept : (c : After-find) → IsKept c.max-self-inside.result c.self.inside.buffer c.self.inside.cache
+kept c =
+    let i = c.self.inside in
+    let inv = c.self.invariant in
+    let now = c.max-self-inside.result in
+    later_keeps i.clock now i.buffer i.cache (later c.args.arrival.moment i.clock now c.max-self-inside.ensures) (inv.1, inv.3, inv.4)
 
 pub invariant_of-self : goal.invariant_of-self
 invariant_of-self c =
     let i = c.self.inside in
     let inv = c.self.invariant in
     let now = c.max-self-inside.result in
-    let k = later_keeps i.clock now i.buffer i.cache (later c.args.arrival.moment i.clock now c.max-self-inside.ensures) (inv.1, inv.3, inv.4) in
+    let k = kept (goal.at.invariant_of-self c).After-find in
     let P = λ (o : Option Ids). Appended i.buffer c.args.arrival o now c.append.result c.append.new.self in
     let a = append_keeps now i.buffer c.append.new.self i.cache c.args.arrival c.unwrap-trace.result.trace c.append.result (subst P (sym c.ids_of.ensures ∙ c.unwrap-trace.ensures) c.append.ensures) k in
     let g = append_spans now i.buffer c.append.new.self c.args.arrival c.unwrap-trace.result.trace c.append.result (subst P (sym c.ids_of.ensures ∙ c.unwrap-trace.ensures) c.append.ensures) inv.2 in
@@ -28,27 +37,18 @@ invariant_of-self c =
 
 pub invariant_of-self-in-Some-Decided : goal.invariant_of-self-in-Some-Decided
 invariant_of-self-in-Some-Decided c =
-    let i = c.self.inside in
     let inv = c.self.invariant in
-    let now = c.max-self-inside.result in
-    let k = later_keeps i.clock now i.buffer i.cache (later c.args.arrival.moment i.clock now c.max-self-inside.ensures) (inv.1, inv.3, inv.4) in
+    let k = kept (goal.at.invariant_of-self-in-Some-Decided c).After-find in
     (inv.0, k.0, inv.2, k.1, k.2)
 
 pub invariant_of-self-in-Some : goal.invariant_of-self-in-Some
 invariant_of-self-in-Some c =
-    let i = c.self.inside in
     let inv = c.self.invariant in
-    let now = c.max-self-inside.result in
-    let k = later_keeps i.clock now i.buffer i.cache (later c.args.arrival.moment i.clock now c.max-self-inside.ensures) (inv.1, inv.3, inv.4) in
-    let a = ask_keeps now i.buffer c.unwrap-trace.result.trace i.cache c.ask.new.self c.ask.ensures.lists k in
+    let a = ask_keeps c.max-self-inside.result c.self.inside.buffer c.unwrap-trace.result.trace c.self.inside.cache c.ask.new.self c.ask.ensures.lists (kept (goal.at.invariant_of-self-in-Some c).After-find) in
     (inv.0, a.0, inv.2, a.1, a.2)
 
 pub open-requires-clause-clock : goal.open-requires-clause-clock
-open-requires-clause-clock c =
-    let i = c.self.inside in
-    let inv = c.self.invariant in
-    let now = c.max-self-inside.result in
-    (later_keeps i.clock now i.buffer i.cache (later c.args.arrival.moment i.clock now c.max-self-inside.ensures) (inv.1, inv.3, inv.4)).1
+open-requires-clause-clock c = (kept (goal.at.open-requires-clause-clock c).After-find).1
 
 pub invariant_of-self-in_default-open : goal.invariant_of-self-in_default-open
 invariant_of-self-in_default-open c =
@@ -56,7 +56,7 @@ invariant_of-self-in_default-open c =
     let inv = c.self.invariant in
     let now = c.max-self-inside.result in
     let t = c.unwrap-trace.result.trace in
-    let k = later_keeps i.clock now i.buffer i.cache (later c.args.arrival.moment i.clock now c.max-self-inside.ensures) (inv.1, inv.3, inv.4) in
+    let k = kept (goal.at.invariant_of-self-in_default-open c).After-find in
     let a = ask_keeps now i.buffer t i.cache c.ask.new.self c.ask.ensures.lists k in
     let P = λ (o : Option Ids). Opened i.buffer c.args.arrival o now (Err c.in_default-open.field-0) c.open.new.self in
     let same = (subst P (sym c.ids_of.ensures ∙ c.unwrap-trace.ensures) c.in_default-open.ensures).1 in
@@ -71,7 +71,7 @@ invariant_of-self-2 c =
     let inv = c.self.invariant in
     let now = c.max-self-inside.result in
     let t = c.unwrap-trace.result.trace in
-    let k = later_keeps i.clock now i.buffer i.cache (later c.args.arrival.moment i.clock now c.max-self-inside.ensures) (inv.1, inv.3, inv.4) in
+    let k = kept (goal.at.invariant_of-self-2 c).After-find in
     let a = ask_keeps now i.buffer t i.cache c.ask.new.self c.ask.ensures.lists k in
     let P = λ (o : Option Ids). Opened i.buffer c.args.arrival o now (Ok c.in-Ok-open.evicted) c.open.new.self in
     let opened = subst P (sym c.ids_of.ensures ∙ c.unwrap-trace.ensures) c.in-Ok-open.ensures in

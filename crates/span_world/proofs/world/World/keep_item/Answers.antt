@@ -19,8 +19,7 @@ returns-then-is_err c =
 
 pub invariant_of-self-2 : goal.invariant_of-self-2
 invariant_of-self-2 c =
-    let done = sym c.is_err.ensures.value ∙ c.if-is_err.false in
-    (c.self.invariant.0, looks_put (settings_of c.self.inside.settings) c.self.inside.shards.items c.self.inside.looks.items c.args.shard c.keep_entry.new.self c.keep_entry.new.look c.self.invariant.1 (on_ok c.keep_entry.result done c.keep_entry.ensures.look))
+    (c.self.invariant.0, looks_put (settings_of c.self.inside.settings) c.self.inside.shards.items c.self.inside.looks.items c.args.shard c.keep_entry.new.self c.keep_entry.new.look c.self.invariant.1 (on_ok c.keep_entry.result (sym c.is_err.ensures.value ∙ c.if-is_err.false) c.keep_entry.ensures.look))
 
 pub returns : goal.returns
 returns c =

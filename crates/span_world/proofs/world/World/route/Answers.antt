@@ -23,7 +23,6 @@ returns-then-is_err c =
     let n = c.len-2.ensures ∙ c.self.inside.shards.ok.0 in
     let m = read_is c.self.inside.lanes.items c.args.lane c.index_mut-2.result.now (omega arith) c.index_mut-2.ensures.value in
     let k = read_is c.self.inside.shards.items c.args.shard c.index_mut.result.now (omega arith) c.index_mut.ensures.value in
-    let is = subst (λ (x : Lane). c.next_for.result ≡ position (goes_to c.len-2.result c.args.shard) x.unrouted) (reads_same c.self.inside.lanes.items c.args.lane c.index.result.now c.index_mut-2.result.now g m) c.next_for.ensures in
     let back = on_err c.queue_from.result (sym c.is_err.ensures.value ∙ c.if-is_err.true) c.queue_from.ensures.err in
     (rw (← c.self.view_is, back.0, back.1, put_back c.self.inside.lanes.items c.args.lane c.index_mut-2.result.now m, put_back c.self.inside.shards.items c.args.shard c.index_mut.result.now k) refl, rw (← c.self.view_is) (can_route (config_of c.args.self.now.config) (the_view c.self.inside).world c.args.lane c.args.shard c.index.result.now h.0 g h.1 c.len-2.result n c.next_for.result c.next_for.ensures c.in-Some.place c.in-Some.is))
 

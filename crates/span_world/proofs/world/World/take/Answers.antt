@@ -29,11 +29,11 @@ invariant_of-self-2 c =
 
 pub returns : goal.returns
 returns c =
+    let is = ap (settings_for (config_of (the_view c.self.inside).config)) c.self.invariant.0 in
     let g = read_is c.self.inside.shards.items c.args.shard c.index.result.now (omega arith) c.index.ensures in
     let m = read_is c.self.inside.shards.items c.args.shard c.index_mut.result.now (omega arith) c.index_mut.ensures.value in
     let same = reads_same c.self.inside.shards.items c.args.shard c.index.result.now c.index_mut.result.now g m in
     let done = sym c.is_err.ensures.value ∙ c.if-is_err.false in
-    let is = ap (settings_for (config_of (the_view c.self.inside).config)) c.self.invariant.0 in
     let entry = subst (λ (x : Shard). entry_of_first (settings_of c.self.inside.settings) x c.args.refused c.args.lost x.queue ≡ Some c.in-Ok-Some.entry) same (sym c.in-Ok-Some.ensures.entry ∙ c.in-Ok-Some.field-0-is) in
     let may = subst (λ (s : Settings). entry_of_first s c.index_mut.result.now c.args.refused c.args.lost c.index_mut.result.now.queue ≡ Some c.in-Ok-Some.entry) is entry in
     let kept = kept_is (config_of (the_view c.self.inside).config) (the_view c.self.inside).world c.args.shard c.index_mut.result.now c.in-Ok-Some.entry (drop 1 c.index_mut.result.now.queue) (settings_of c.self.inside.settings) c.take.new.self c.take.new.counted.items
