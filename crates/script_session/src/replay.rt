@@ -82,8 +82,12 @@ pub fn replay_run<R: Read, S: Sink>(
         report: Some(Report::new()),
         closed: false,
     };
+    release(config);
     run_session(alloc, reader, session)
 }
+
+/// Lets the configuration go before the script is run: the session has taken what it needs.
+fn release(_config: Config) {}
 
 /// What a run needs at its start, beside the exporter.
 #[derive(Drop)]
