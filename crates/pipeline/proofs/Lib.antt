@@ -1,7 +1,10 @@
 -- Sent, ShardSent, BookSent, JobsSent: which of the types that the threads are given and leave may go to another thread.
 pub mod BookSent
 pub mod Columns
+pub mod Dealt
+pub mod Done
 pub mod JobsSent
 pub mod Sent
 pub mod ShardSent
 pub mod SinkWent
+pub mod Told
