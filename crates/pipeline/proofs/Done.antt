@@ -38,7 +38,7 @@ module _ {F X J L : Type 0} (gives : F → Option X → F → Type 0) (known : X
       head = All-head IsNewLane j jobs new
 
       same : lane_of j ≡ record { number = number_of j; connected = 0; ports = (lane_of j).ports }
-      same = cc (head.0, head.1)
+      same = ap (λ (n : ℕ). record { number = n; connected = (lane_of j).connected; ports = (lane_of j).ports }) head.0 ∙ ap (λ (k : ℕ). record { number = number_of j; connected = k; ports = (lane_of j).ports }) head.1
 
 module _ {J L : Type 0} (s : Settings) (number_of : J → ℕ) (given_of : J → ShardIn) (settings_of : J → Settings) (before : J → List ℕ) (out_of : L → ShardOut) (did : J → L → Type 0)
     (tells : (j : J) (l : L) → did j l → ShardDid (number_of j) (settings_of j) (given_of j).seat (given_of j).receiver (given_of j).sender (before j) (out_of l).seat (out_of l).receiver (out_of l).sender (out_of l).counted (out_of l).is_full) where

@@ -3,8 +3,11 @@ pub mod BookSent
 pub mod Columns
 pub mod Dealt
 pub mod Done
+pub mod Ends
+pub mod Gathered
 pub mod JobsSent
 pub mod Sent
 pub mod ShardSent
 pub mod SinkWent
 pub mod Told
+pub mod Worked

@@ -66,3 +66,12 @@ module _ {F X T : Type 0} (gives : F → Option X → F → Type 0) (known : X �
       (subst (λ (s : LineSinkState). IsRun gives known ticks_give config feeds ticks s new.sink report) (up_as old.sink up) (is_run report sums full))
   told (Err NoMemory) full down sums = tt
   told (Err BookFull) full down sums = tt
+
+module _ {F X T : Type 0} (gives : F → Option X → F → Type 0) (known : X → Connection) (ticks_give : T → Option ℕ → T → Type 0) (config : Config) (feeds : List F) (ticks : T) where
+  -- the same of the same bytes and failures
+  pub moved : (t u a b : Option (List ℕ)) (n m k l : ℕ) (answer : Result Report RunFault) → t ≡ u → n ≡ m → a ≡ b → k ≡ l → RunTells gives known ticks_give config feeds ticks t n a k answer → RunTells gives known ticks_give config feeds ticks u m b l answer
+  moved t u a b n m k l answer taken failures taken_after failures_after h =
+      subst (λ (z : Option (List ℕ)). RunTells gives known ticks_give config feeds ticks z m b l answer) taken
+      (subst (λ (z : ℕ). RunTells gives known ticks_give config feeds ticks t z b l answer) failures
+      (subst (λ (z : Option (List ℕ)). RunTells gives known ticks_give config feeds ticks t n z l answer) taken_after
+      (subst (λ (z : ℕ). RunTells gives known ticks_give config feeds ticks t n a z answer) failures_after h)))

@@ -50,7 +50,7 @@ pub fn shard_jobs<'s, C: Room, D: Room, B: Accounts, G, P, M, R: Wait>(
     ensures ready { IfOk result (λ jobs. All (λ job. StandsFor job.shard [] 0 × (has_due job.shard ≡ false) × (is_finished job.shard ≡ false)
         × All IsNew job.receiver.ends × IsNew job.sender
         × (knows (has_node job.seat) (limiters (meaning job.shard.policies)) ≡ true)) jobs.items) }
-    ensures ends { IfOk result (λ jobs. (map (λ job. job.seat) jobs.items ≡ ends.seats.items) × (map (λ job. job.receiver) jobs.items ≡ ends.receivers.items) × (map (λ job. job.sender) jobs.items ≡ ends.exports.items)) }
+    ensures ends { IfOk result (λ jobs. (map (λ job. job.seat) jobs.items ≡ ends.entry.seats.items) × (map (λ job. job.receiver) jobs.items ≡ ends.entry.receivers.items) × (map (λ job. job.sender) jobs.items ≡ ends.entry.exports.items)) }
     ensures numbers { IfOk result (λ jobs. NumberedFrom 0 (map (λ job. job.number) jobs.items)) }
     ensures new { IfOk result (λ jobs. All (λ job. (settings job.shard ≡ settings_for (core_of config.now) (config.now.lanes + 1)) × (job.share.numbers ≡ replicate 9 0)) jobs.items) }
     ensures parts { OnOk result ((vec_len parts.new + config.now.shards ≡ vec_len parts.old) × All (λ p. p ≡ record { parts = 1; numbers = replicate 9 0 }) parts.new.items) }
