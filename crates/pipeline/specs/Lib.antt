@@ -1,3 +1,4 @@
--- To be read in this order: Jobs (what each thread did), Outcome (what a run answers).
-pub mod Jobs
+-- To be read in this order: Made (what the threads are given), Outcome (what a run answers), Promise (what a run did).
+pub mod Made
 pub mod Outcome
+pub mod Promise

@@ -31,3 +31,10 @@ ReportsSums parts (Ok report) = AreSums parts report
 ReportsSums parts (Err NoMemory) = Unit {0}
 ReportsSums parts (Err BookFull) = Unit {0}
 ReportsSums parts (Err (SinkDown report)) = AreSums parts report
+
+-- What a run that came to its end answers, by whether a count would have passed 2^64-1.
+abbrev pub TellsFull : {A : Type 0} → (is_full : Bool) → Result A RunFault → Type 0
+TellsFull is_full (Ok report) = is_full ≡ false
+TellsFull is_full (Err NoMemory) = ⊥
+TellsFull is_full (Err BookFull) = is_full ≡ true
+TellsFull is_full (Err (SinkDown report)) = is_full ≡ false

@@ -2,7 +2,7 @@
 ghost use Rattle.std.specs.Prelude.{◌≡◌, ◌<◌, [], All, false};
 ghost use Rattle.std.specs.List.{list_any};
 ghost use Rattle.lane_queue.specs.Ends.{IsNew};
-ghost use Rattle.pipeline.specs.Jobs.{ExporterDid};
+ghost use Rattle.run_weave.specs.Jobs.{ExporterDid};
 
 use drop_ledger::{Accounts, BookShare, Part, Tally};
 use job_threads::Job;
@@ -41,7 +41,7 @@ impl<'s, S: Sink + Drop, D: Room, B: Accounts, R: Wait + Clock> Job
     ghost use Rattle.std.specs.Prelude.{◌≡◌, ◌<◌, [], All, false};
     ghost use Rattle.std.specs.List.{list_any};
     ghost use Rattle.lane_queue.specs.Ends.{IsNew};
-    ghost use Rattle.pipeline.specs.Jobs.{ExporterDid};
+    ghost use Rattle.run_weave.specs.Jobs.{ExporterDid};
 
     type Left = ExporterLeft<S, D, B>;
 

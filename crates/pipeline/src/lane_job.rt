@@ -1,6 +1,6 @@
 //! What a lane's thread is given, does and leaves.
 ghost use Rattle.std.specs.Prelude.{◌≡◌, ◌≤◌, [], length, vec_capacity};
-ghost use Rattle.pipeline.specs.Jobs.{LaneDid};
+ghost use Rattle.run_weave.specs.Jobs.{LaneDid};
 
 use drop_ledger::{Accounts, BookShare, Part};
 use http_lane::{Clock as MomentClock, Stop};
@@ -52,7 +52,7 @@ impl<
 > Job for LaneJob<'s, F, C, B, G, P, M, R> {
     ghost use Rattle.std.specs.Prelude.{◌≡◌, ◌≤◌, [], length, vec_capacity};
     ghost use Rattle.lane_worker.specs.Serving.{connection};
-    ghost use Rattle.pipeline.specs.Jobs.{LaneDid};
+    ghost use Rattle.run_weave.specs.Jobs.{LaneDid};
 
     type Left = LaneLeft<C, B>;
 

@@ -1,6 +1,8 @@
 //! What the lanes' threads are given.
-ghost use Rattle.std.specs.Prelude.{◌≡◌, ◌+◌, ◌<◌, ◌≤◌, [], All, length, replicate, vec_len, vec_capacity, IfOk, OnOk};
+ghost use Rattle.std.specs.Prelude.{◌≡◌, ◌+◌, ◌<◌, ◌≤◌, [], All, length, map, replicate, vec_len, vec_capacity, IfOk, OnOk};
 ghost use Rattle.drop_ledger.specs.Parts.{PartState};
+ghost use Rattle.queue_grid.specs.Grid.{ends_of};
+ghost use Rattle.pipeline.specs.Made.{NumberedFrom};
 
 use crate::lane_job::LaneJob;
 use crate::lent::Lent;
@@ -11,7 +13,8 @@ use otlp_types::Item;
 use std::alloc::AllocError;
 use std::sync::Wait;
 
-/// What the lanes' threads are given: for each feed a lane of its number over its ends, and a part to count with.
+/// What the lanes' threads are given: for each feed, in their order, a lane of its number over its ends, and a part to count
+/// with.
 pub fn lane_jobs<'s, F: Drop, C: Room, B: Accounts, G, P, M, R: Wait>(
     lent: &Lent<'s, B, G, P, M, R>,
     feeds: Vec<F>,
@@ -23,6 +26,10 @@ pub fn lane_jobs<'s, F: Drop, C: Room, B: Accounts, G, P, M, R: Wait>(
     requires parts { (vec_len feeds ≤ vec_len parts.old) × All (λ p. p ≡ record { parts = 1; numbers = replicate 9 0 }) parts.old.items }
     ensures count { IfOk result (λ jobs. vec_len jobs ≡ vec_len feeds) }
     ensures ready { IfOk result (λ jobs. All (λ job. (job.lane.number ≡ job.number) × (job.room.items ≡ []) × (length job.lane.ports ≤ vec_capacity job.room)) jobs.items) }
+    ensures feeds { IfOk result (λ jobs. map (λ job. job.feed) jobs.items ≡ feeds.items) }
+    ensures columns { IfOk result (λ jobs. map (λ job. job.lane.ports) jobs.items ≡ ends_of columns.items) }
+    ensures numbers { IfOk result (λ jobs. NumberedFrom 0 (map (λ job. job.number) jobs.items)) }
+    ensures new { IfOk result (λ jobs. All (λ job. (job.lane.connected ≡ 0) × (job.share.numbers ≡ replicate 9 0)) jobs.items) }
     ensures parts { OnOk result ((vec_len parts.new + vec_len feeds ≡ vec_len parts.old) × All (λ p. p ≡ record { parts = 1; numbers = replicate 9 0 }) parts.new.items) }
 {
     let mut feeds = feeds;
@@ -34,6 +41,7 @@ pub fn lane_jobs<'s, F: Drop, C: Room, B: Accounts, G, P, M, R: Wait>(
         let part = parts.take_last();
         jobs.push(lane_job(lent, number, feed, senders, part)?)?;
     }
+    jobs.reverse();
     Ok(jobs)
 }
 

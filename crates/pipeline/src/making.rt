@@ -1,13 +1,17 @@
 //! All that a run needs is made before a thread is started.
-ghost use Rattle.std.specs.Prelude.{◌≡◌, ◌+◌, ◌<◌, ◌≤◌, [], All, true, false, length, replicate, vec_len, vec_capacity, IfOk};
+ghost use Rattle.std.specs.Prelude.{◌≡◌, ◌+◌, ◌<◌, ◌≤◌, [], All, true, false, length, map, replicate, vec_len, vec_capacity, IfOk};
 ghost use Rattle.drop_ledger.specs.Parts.{PartState};
 ghost use Rattle.lane_queue.specs.Ends.{IsNew};
 ghost use Rattle.policy_tree.specs.Tree.{limiters};
 ghost use Rattle.policy_tree.specs.Meaning.{meaning};
 ghost use Rattle.policy_eval.specs.Meaning.{knows};
-ghost use Rattle.shard_core.specs.Held.{StandsFor, has_due, is_finished};
+ghost use Rattle.queue_grid.specs.Grid.{HasRoom};
+ghost use Rattle.shard_core.specs.Held.{StandsFor, has_due, is_finished, settings};
 ghost use Rattle.shared_budget.specs.Seats.{has_node};
+ghost use Rattle.span_world.specs.World.{settings_for};
 ghost use Rattle.tsc_config.specs.declared.config.Config.{Config};
+ghost use Rattle.pipeline.specs.Made.{NumberedFrom, HasEnds};
+ghost use Rattle.pipeline.specs.Promise.{core_of, nodes_of};
 
 use crate::lane_job::LaneJob;
 use crate::lanes::lane_jobs;
@@ -17,11 +21,11 @@ use crate::shards::{ShardEnds, shard_jobs};
 use crate::ticker_job::TickerJob;
 use drop_ledger::{Accounts, BookShare, Part};
 use job_threads::Team;
-use lane_queue::{LaneQueue, Receiver, Room};
+use lane_queue::{LaneQueue, Receiver, Room, Sender};
 use otlp_types::{Item, Shipment};
 use queue_grid::{QueueGrid, new_grid};
 use shared_budget::{SharedBudget, new_seats_have_nodes};
-use std::alloc::AllocError;
+use std::alloc::{AllocError, Global};
 use std::sync::Wait;
 use tsc_config::Config;
 
@@ -38,8 +42,21 @@ pub struct Made<'s, F, T, C: Room, D: Room, B: Accounts, G, P, M, R: Wait> {
     pub shipments: Receiver<Shipment, D>,
     /// What the exporter counts with.
     pub share: BookShare<'s, B, R>,
-    /// Room for the parts with which all count.
-    pub room: Vec<Part<B>>,
+    /// Room for what the threads leave.
+    pub rooms: Rooms<'s, C, D, B, R>,
+}
+
+/// Room for what the threads of a run leave, and the lists with which its queues are joined again.
+#[derive(Drop)]
+pub struct Rooms<'s, C: Room, D: Room, B: Accounts, R: Wait> {
+    /// The ends at which items were pushed, for each lane and then for the ticker, by shard.
+    pub columns: Vec<Vec<Sender<Item, C>>>,
+    /// The shards' seats and ends.
+    pub ends: ShardEnds<'s, C, D, R>,
+    /// The parts with which all counted.
+    pub parts: Vec<Part<B>>,
+    /// An empty list for each shard.
+    pub rows: Vec<Vec<Sender<Item, C>>>,
 }
 
 /// Makes all that the threads of a run are given. There is a part for each lane and shard, and one for the exporter.
@@ -64,16 +81,28 @@ pub fn make<'s, F: Drop, T: Drop, C: Room, D: Room, B: Accounts, G, P, M, R: Wai
         × All IsNew job.receiver.ends × IsNew job.sender
         × (knows (has_node job.seat) (limiters (meaning job.shard.policies)) ≡ true)) made.team.third.items) }
     ensures shipments { IfOk result (λ made. All IsNew made.shipments.ends) }
-    ensures room { IfOk result (λ made. (made.room.items ≡ []) × (config.now.lanes + config.now.shards + 1 ≤ vec_capacity made.room)) }
+    ensures feeds { IfOk result (λ made. map (λ job. job.feed) made.team.first.items ≡ feeds.items) }
+    ensures ticker { IfOk result (λ made. (made.team.second.number ≡ config.now.lanes) × (made.team.second.ticks ≡ ticks)) }
+    ensures numbers { IfOk result (λ made. NumberedFrom 0 (map (λ job. job.number) made.team.first.items) × NumberedFrom 0 (map (λ job. job.number) made.team.third.items)) }
+    ensures new_lanes { IfOk result (λ made. All (λ job. (job.lane.connected ≡ 0) × (job.share.numbers ≡ replicate 9 0)) made.team.first.items) }
+    ensures new_shards { IfOk result (λ made. All (λ job. (settings job.shard ≡ settings_for (core_of config.now) (config.now.lanes + 1)) × (job.share.numbers ≡ replicate 9 0)) made.team.third.items) }
+    ensures share { IfOk result (λ made. made.share.numbers ≡ replicate 9 0) }
+    ensures ends { IfOk result (λ made. HasEnds (nodes_of config.now) config.now.shards (map (λ job. job.lane.ports) made.team.first.items) made.team.second.senders.items
+        (map (λ job. job.receiver) made.team.third.items) (map (λ job. job.sender) made.team.third.items) (map (λ job. job.seat) made.team.third.items) made.shipments) }
+    ensures columns { IfOk result (λ made. (made.rooms.columns.items ≡ []) × (config.now.lanes + 1 ≤ vec_capacity made.rooms.columns)) }
+    ensures seats { IfOk result (λ made. (made.rooms.ends.seats.items ≡ []) × (config.now.shards ≤ vec_capacity made.rooms.ends.seats)) }
+    ensures receivers { IfOk result (λ made. (made.rooms.ends.receivers.items ≡ []) × (config.now.shards ≤ vec_capacity made.rooms.ends.receivers)) }
+    ensures exports { IfOk result (λ made. (made.rooms.ends.exports.items ≡ []) × (config.now.shards ≤ vec_capacity made.rooms.ends.exports)) }
+    ensures parts_room { IfOk result (λ made. (made.rooms.parts.items ≡ []) × (config.now.lanes + config.now.shards + 1 ≤ vec_capacity made.rooms.parts)) }
+    ensures rows { IfOk result (λ made. (vec_len made.rooms.rows ≡ config.now.shards) × All (HasRoom (config.now.lanes + 1)) made.rooms.rows.items) }
 {
     let lanes = config.lanes as usize;
     let mut parts = parts;
-    let room = Vec::with_capacity(lent.alloc, lanes + config.shards + 1)?;
     let grid = new_grid::<Item, C>(lent.alloc, config.queue_capacity, lanes + 1, config.shards)?;
     let QueueGrid {
         mut columns,
         receivers,
-        rows: _,
+        rows,
     } = grid;
     let (exports, shipments) = LaneQueue::new::<Shipment, D>(
         lent.alloc,
@@ -82,6 +111,7 @@ pub fn make<'s, F: Drop, T: Drop, C: Room, D: Room, B: Accounts, G, P, M, R: Wai
     )?;
     let seats = SharedBudget::new(lent.rt, lent.alloc, &config.policies, config.shards as u64)?;
     new_seats_have_nodes();
+    let rooms = rooms_for(lent.alloc, lanes, config.shards, rows)?;
     let share = BookShare::new(lent.rt, lent.book, parts.take_last());
     let ticker = TickerJob {
         rt: lent.rt,
@@ -104,6 +134,34 @@ pub fn make<'s, F: Drop, T: Drop, C: Room, D: Room, B: Accounts, G, P, M, R: Wai
         },
         shipments,
         share,
-        room,
+        rooms,
+    })
+}
+
+/// Room for what so many lanes, the ticker, so many shards and the exporter leave.
+fn rooms_for<'s, C: Room, D: Room, B: Accounts, R: Wait>(
+    alloc: Global,
+    lanes: usize,
+    shards: usize,
+    rows: Vec<Vec<Sender<Item, C>>>,
+) -> Result<Rooms<'s, C, D, B, R>, AllocError>
+    requires { lanes + shards < 1000000 }
+    ensures columns { IfOk result (λ rooms. (rooms.columns.items ≡ []) × (lanes + 1 ≤ vec_capacity rooms.columns)) }
+    ensures seats { IfOk result (λ rooms. (rooms.ends.seats.items ≡ []) × (shards ≤ vec_capacity rooms.ends.seats)) }
+    ensures receivers { IfOk result (λ rooms. (rooms.ends.receivers.items ≡ []) × (shards ≤ vec_capacity rooms.ends.receivers)) }
+    ensures exports { IfOk result (λ rooms. (rooms.ends.exports.items ≡ []) × (shards ≤ vec_capacity rooms.ends.exports)) }
+    ensures parts { IfOk result (λ rooms. (rooms.parts.items ≡ []) × (lanes + shards + 1 ≤ vec_capacity rooms.parts)) }
+    ensures rows { IfOk result (λ rooms. rooms.rows ≡ rows) }
+{
+    let ends = ShardEnds {
+        seats: Vec::with_capacity(alloc, shards)?,
+        receivers: Vec::with_capacity(alloc, shards)?,
+        exports: Vec::with_capacity(alloc, shards)?,
+    };
+    Ok(Rooms {
+        columns: Vec::with_capacity(alloc, lanes + 1)?,
+        ends,
+        parts: Vec::with_capacity(alloc, lanes + shards + 1)?,
+        rows,
     })
 }

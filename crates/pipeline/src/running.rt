@@ -1,21 +1,25 @@
 //! A run: all threads are started, or none does anything; the exporter works on the caller's.
-ghost use Rattle.std.specs.Prelude.{◌≡◌, ◌+◌, ◌-◌, ◌^◌, ◌<◌, ◌≤◌, [], All, false, replicate, vec_len, IfErr, IfOk};
+ghost use Rattle.std.specs.Prelude.{◌≡◌, ◌+◌, ◌-◌, ◌^◌, ◌<◌, ◌≤◌, [], All, false, length, replicate, vec_len, IfErr, IfOk};
 ghost use Rattle.std.specs.List.{list_any};
 ghost use Rattle.drop_ledger.specs.Parts.{PartState};
+ghost use Rattle.lane_worker.specs.Serving.{connection};
 ghost use Rattle.span_sink.specs.LineSinks.{up_state};
-ghost use Rattle.pipeline.specs.Outcome.{ReportsSums, SinkAnswers, SinkWent, TellsSink};
+ghost use Rattle.pipeline.specs.Outcome.{ReportsSums, SinkAnswers, SinkWent, TellsFull, TellsSink};
+ghost use Rattle.pipeline.specs.Promise.{HasWorked, RunTells};
 ghost use Rattle.tsc_config.specs.declared.config.Config.{Config};
 
 use crate::exporter_job::ExporterJob;
 use crate::fault::RunFault;
-use crate::gathering::Counted;
+use crate::gathering::{Counted, gather_lanes, gather_shards};
+use crate::joining::join_all;
 use crate::lent::Lent;
-use crate::making::{Made, make};
+use crate::making::{Made, Rooms, make};
 use drop_ledger::{Accounts, Blanks, Book, Part, Report};
 use http_lane::{Clock as MomentClock, Stop};
 use job_threads::run_team;
 use lane_queue::{Gate, Room};
 use lane_worker::{Feed, Ticks};
+use shared_budget::asked_seats_may_be_compared;
 use span_exporter::{Exporter, sink_takes_lines};
 use span_sink::{LineSink, Sink, takes_handed_lines};
 use std::alloc::Global;
@@ -62,6 +66,7 @@ where
     requires feeds { vec_len feeds ≡ config.lanes }
     requires failures { S.failures sink < 2 ^ 64 - 1 }
     ensures sink { SinkAnswers (S.taken sink) (S.failures sink) (S.taken result.0) (S.failures result.0) result.1 }
+    ensures ran { RunTells F.gives (λ x. connection (F.Reader.given x.0) (F.Writer.contents x.1)) T.gives config feeds.items ticks (S.taken sink) (S.failures sink) (S.taken result.0) (S.failures result.0) result.1 }
 {
     let lines = LineSink::new(sink);
     let exporter = match Exporter::new(alloc, config.send_batch_size, config.shards, lines) {
@@ -111,7 +116,9 @@ where
     requires names { blanks.names ≡ B.names }
     requires parts { (blanks.parts ≡ B.parts) × (B.parts ≡ config.now.lanes + config.now.shards + 2) }
     requires new_exporter { (exporter.batch ≡ []) × (0 < exporter.size) × (list_any (λ ended. ended) exporter.ends ≡ false) × (exporter.sink.is_down ≡ false) }
+    requires exporter_is { (exporter.size ≡ config.now.send_batch_size) × (length exporter.ends ≡ config.now.shards) }
     ensures sink { SinkAnswers exporter.sink.taken exporter.sink.failures result.0.sink.taken result.0.sink.failures result.1 }
+    ensures ran { RunTells F.gives (λ x. connection (F.Reader.given x.0) (F.Writer.contents x.1)) T.gives config.now feeds.items ticks exporter.sink.taken exporter.sink.failures result.0.sink.taken result.0.sink.failures result.1 }
 {
     let lanes = config.lanes as usize;
     let Ok((book, parts)) = Book::<B>::new(alloc, blanks, lanes + config.shards + 1) else {
@@ -142,6 +149,7 @@ fn answer_of<B: Accounts>(
 ) -> Result<Report, RunFault>
     requires all { vec_len counted.parts + 1 ≡ B.parts }
     ensures sink { TellsSink is_down result }
+    ensures full { TellsFull counted.is_full result }
     ensures sums { ReportsSums counted.parts.items result }
 {
     let report = book.gather(counted.parts);
@@ -187,6 +195,8 @@ where
     requires feeds { vec_len feeds ≡ config.now.lanes }
     requires parts { (vec_len parts ≡ config.now.lanes + config.now.shards + 1) × All (λ p. p ≡ record { parts = 1; numbers = replicate 9 0 }) parts.items }
     requires new_exporter { (exporter.batch ≡ []) × (0 < exporter.size) × (list_any (λ ended. ended) exporter.ends ≡ false) × (exporter.sink.is_down ≡ false) }
+    requires exporter_ends { length exporter.ends ≡ config.now.shards }
+    ensures worked { IfOk result (λ ran. HasWorked F.gives (λ x. connection (F.Reader.given x.0) (F.Writer.contents x.1)) T.gives config.now feeds.items ticks exporter ran.0 ran.1.parts.items ran.1.is_full) }
     ensures parts { IfOk result (λ ran. vec_len ran.1.parts ≡ config.now.lanes + config.now.shards + 1) }
     ensures sink { IfOk result (λ ran. SinkWent exporter.sink ran.0.sink) }
     ensures back { IfErr result (λ back. back ≡ exporter) }
@@ -198,7 +208,7 @@ where
         team,
         shipments,
         share,
-        room,
+        rooms,
     } = made;
     let job = ExporterJob {
         rt: lent.rt,
@@ -210,13 +220,22 @@ where
         Ok((left, last)) => {
             sink_takes_lines();
             takes_handed_lines();
+            asked_seats_may_be_compared();
+            let Rooms {
+                mut columns,
+                mut ends,
+                parts,
+                rows,
+            } = rooms;
             let mut counted = Counted {
-                parts: room,
+                parts,
                 is_full: false,
             };
-            counted.add_lanes(left.first);
-            counted.add_shards(left.third);
+            gather_lanes(left.first, &mut columns, &mut counted);
+            columns.push_reserved(left.second);
+            gather_shards(left.third, &mut ends, &mut counted);
             counted.add(last.part, last.is_full);
+            join_all(columns, ends, last.receiver, rows);
             Ok((last.exporter, counted))
         }
         Err(job) => Err(job.exporter),

@@ -1,7 +1,7 @@
 //! What a shard's thread is given, does and leaves.
 ghost use Rattle.std.specs.Prelude.{◌≡◌, [], All, true, false};
 ghost use Rattle.lane_queue.specs.Ends.{IsNew};
-ghost use Rattle.pipeline.specs.Jobs.{ShardDid};
+ghost use Rattle.run_weave.specs.Jobs.{ShardDid};
 
 use drop_ledger::{Accounts, BookShare, Part, Tally};
 use job_threads::Job;
@@ -50,7 +50,7 @@ impl<'s, C: Room, D: Room, B: Accounts, G: Gate, R: Wait + Clock> Job
     ghost use Rattle.policy_eval.specs.Meaning.{knows};
     ghost use Rattle.shard_core.specs.Held.{StandsFor, has_due, is_finished, settings};
     ghost use Rattle.shared_budget.specs.Seats.{has_node};
-    ghost use Rattle.pipeline.specs.Jobs.{ShardDid};
+    ghost use Rattle.run_weave.specs.Jobs.{ShardDid};
 
     type Left = ShardLeft<'s, C, D, B, R>;
 

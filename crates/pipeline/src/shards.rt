@@ -1,5 +1,5 @@
 //! What the shards' threads are given.
-ghost use Rattle.std.specs.Prelude.{◌≡◌, ◌+◌, ◌<◌, ◌≤◌, [], All, true, false, length, replicate, vec_len, IfOk, OnOk};
+ghost use Rattle.std.specs.Prelude.{◌≡◌, ◌+◌, ◌<◌, ◌≤◌, [], All, true, false, length, map, replicate, vec_len, IfOk, OnOk};
 ghost use Rattle.drop_ledger.specs.Parts.{PartState};
 ghost use Rattle.lane_queue.specs.Ends.{IsNew};
 ghost use Rattle.policy_tree.specs.Tree.{limiters};
@@ -7,7 +7,10 @@ ghost use Rattle.policy_tree.specs.Meaning.{meaning};
 ghost use Rattle.policy_eval.specs.Meaning.{knows};
 ghost use Rattle.shard_core.specs.Held.{StandsFor, has_due, is_finished, settings};
 ghost use Rattle.shared_budget.specs.Seats.{has_node};
+ghost use Rattle.span_world.specs.World.{settings_for};
 ghost use Rattle.tsc_config.specs.declared.config.Config.{Config};
+ghost use Rattle.pipeline.specs.Made.{NumberedFrom};
+ghost use Rattle.pipeline.specs.Promise.{core_of};
 
 use crate::lent::Lent;
 use crate::shard_job::ShardJob;
@@ -28,7 +31,8 @@ pub struct ShardEnds<'s, C: Room, D: Room, R: Wait> {
     pub exports: Vec<Sender<Shipment, D>>,
 }
 
-/// What the shards' threads are given: for each a shard, its ends, its seat at the limiter, and a part to count with.
+/// What the shards' threads are given, in their order: for each a shard, its ends, its seat at the limiter, and a part to
+/// count with.
 pub fn shard_jobs<'s, C: Room, D: Room, B: Accounts, G, P, M, R: Wait>(
     lent: &Lent<'s, B, G, P, M, R>,
     config: &Config,
@@ -46,6 +50,9 @@ pub fn shard_jobs<'s, C: Room, D: Room, B: Accounts, G, P, M, R: Wait>(
     ensures ready { IfOk result (λ jobs. All (λ job. StandsFor job.shard [] 0 × (has_due job.shard ≡ false) × (is_finished job.shard ≡ false)
         × All IsNew job.receiver.ends × IsNew job.sender
         × (knows (has_node job.seat) (limiters (meaning job.shard.policies)) ≡ true)) jobs.items) }
+    ensures ends { IfOk result (λ jobs. (map (λ job. job.seat) jobs.items ≡ ends.entry.seats.items) × (map (λ job. job.receiver) jobs.items ≡ ends.entry.receivers.items) × (map (λ job. job.sender) jobs.items ≡ ends.entry.exports.items)) }
+    ensures numbers { IfOk result (λ jobs. NumberedFrom 0 (map (λ job. job.number) jobs.items)) }
+    ensures new { IfOk result (λ jobs. All (λ job. (settings job.shard ≡ settings_for (core_of config.now) (config.now.lanes + 1)) × (job.share.numbers ≡ replicate 9 0)) jobs.items) }
     ensures parts { OnOk result ((vec_len parts.new + config.now.shards ≡ vec_len parts.old) × All (λ p. p ≡ record { parts = 1; numbers = replicate 9 0 }) parts.new.items) }
 {
     let ShardEnds {
@@ -61,6 +68,7 @@ pub fn shard_jobs<'s, C: Room, D: Room, B: Accounts, G, P, M, R: Wait>(
         let part = parts.take_last();
         jobs.push(shard_job(lent, config, number, seat, receiver, sender, part)?)?;
     }
+    jobs.reverse();
     Ok(jobs)
 }
 
@@ -81,6 +89,7 @@ fn shard_job<'s, C: Room, D: Room, B: Accounts, G, P, M, R: Wait>(
     requires seat { knows (has_node seat) (limiters (meaning config.now.policies)) ≡ true }
     requires part { part.parts ≡ 1 }
     ensures shard { IfOk result (λ job. StandsFor job.shard [] 0 × (has_due job.shard ≡ false) × (is_finished job.shard ≡ false)) }
+    ensures settings { IfOk result (λ job. settings job.shard ≡ settings_for (core_of config.now) (config.now.lanes + 1)) }
     ensures nodes { IfOk result (λ job. knows (has_node job.seat) (limiters (meaning job.shard.policies)) ≡ true) }
     ensures ends { IfOk result (λ job. (job.receiver ≡ receiver) × (job.sender ≡ sender) × (job.seat ≡ seat.entry)) }
     ensures share { IfOk result (λ job. job.share ≡ part) }

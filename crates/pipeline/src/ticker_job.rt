@@ -1,5 +1,5 @@
 //! What the ticker's thread is given, does and leaves.
-ghost use Rattle.pipeline.specs.Jobs.{TickerDid};
+ghost use Rattle.run_weave.specs.Jobs.{TickerDid};
 
 use job_threads::Job;
 use lane_queue::{Room, Sender};
@@ -18,7 +18,7 @@ pub struct TickerJob<'s, T, C: Room, R> {
 }
 
 impl<'s, T: Ticks + Drop, C: Room, R: Wait + Clock> Job for TickerJob<'s, T, C, R> {
-    ghost use Rattle.pipeline.specs.Jobs.{TickerDid};
+    ghost use Rattle.run_weave.specs.Jobs.{TickerDid};
 
     type Left = Vec<Sender<Item, C>>;
 

@@ -11,7 +11,7 @@ pub mod Exporting
 pub mod Receiving
 pub mod Closing
 pub mod Weaves
-mod Headlines
+pub mod Headlines
 pub mod Numbering
 pub mod Popping
 pub mod Acts

@@ -59,7 +59,7 @@ module _ {X : Type 0} where
       (ap q same ∙ no.0, none_popped q last other pops held front no.1 rest)
 
   -- what holds of each list of a merge holds of the merge
-  each_of_merge : (P : X → Type 0) (n : ℕ) (popped : List (ℕ × X)) → AllByRecursion (λ (x : ℕ × X). x.0 ≤ n) popped → ((j : ℕ) → j ≤ n → Each P (of j popped)) → Each (λ (x : ℕ × X). P x.1) popped
+  pub each_of_merge : (P : X → Type 0) (n : ℕ) (popped : List (ℕ × X)) → AllByRecursion (λ (x : ℕ × X). x.0 ≤ n) popped → ((j : ℕ) → j ≤ n → Each P (of j popped)) → Each (λ (x : ℕ × X). P x.1) popped
   each_of_merge P n [] s h = tt
   each_of_merge P n (x ∷ rest) s h =
       let first : Each P (x.1 ∷ of x.0 rest) = subst (Each P) (of_here x.0 x.1 rest) (h x.0 s.0) in
@@ -89,10 +89,10 @@ module _ {X : Type 0} where
 -- ---- shards
 
 -- the items that were popped, each with its sender
-abbrev with_items : List (ℕ × Entry) → List (ℕ × Item)
+abbrev pub with_items : List (ℕ × Entry) → List (ℕ × Item)
 with_items popped = map (λ (x : ℕ × Entry). (x.0, x.1.item)) popped
 
-of_items : (k : ℕ) (popped : List (ℕ × Entry)) → of k (with_items popped) ≡ items_of k popped
+pub of_items : (k : ℕ) (popped : List (ℕ × Entry)) → of k (with_items popped) ≡ items_of k popped
 of_items k [] = refl
 of_items k (x ∷ rest) = go (x.0 == k) (of_items k rest)
   where
@@ -104,7 +104,7 @@ senders_of_items : (n : ℕ) (popped : List (ℕ × Entry)) → AllByRecursion (
 senders_of_items n [] h = tt
 senders_of_items n (x ∷ rest) h = (h.0, senders_of_items n rest h.1)
 
-each_entry : (P : Item → Type 0) (popped : List (ℕ × Entry)) → Each (λ (x : ℕ × Item). P x.1) (with_items popped) → Each (λ (x : ℕ × Entry). P x.1.item) popped
+pub each_entry : (P : Item → Type 0) (popped : List (ℕ × Entry)) → Each (λ (x : ℕ × Item). P x.1) (with_items popped) → Each (λ (x : ℕ × Entry). P x.1.item) popped
 each_entry P [] h = tt
 each_entry P (x ∷ rest) h = (h.0, each_entry P rest h.1)
 

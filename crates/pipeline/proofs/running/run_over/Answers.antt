@@ -1,32 +1,26 @@
-use Rattle.std.proofs.Common.{◌≡◌, ◌+◌, ◌≤◌, ◌∙◌, ap, sym, arith, length, vec_len, vec_capacity}
+use Rattle.std.proofs.Common.{◌≡◌, ◌+◌, ◌++◌, ◌<◌, ◌≤◌, ◌∙◌, ℕ, [], ◌∷◌, All, false, refl, ap, sym, subst, arith, length, map, vec_len, vec_capacity}
+use Rattle.std.proofs.lemmas.List.{length-map, map-append}
+use Rattle.lane_queue.specs.Ends.{AreTied, HasHistoryAt}
+use Rattle.lane_worker.specs.Serving.{connection}
+use Rattle.queue_grid.specs.Grid.{ends_of, HasRoom, IsTiedGrid, HaveHistories}
+use Rattle.shard_core.specs.Held.{settings}
+use Rattle.shared_budget.specs.Budget.{AreOfOneBudget, HaveOneHistoryEach}
+use Rattle.span_world.specs.World.{settings_for}
+use Rattle.span_world.proofs.Steps.{or_both}
+use Rattle.run_weave.specs.Jobs.{TickerDid, ExporterDid}
+use Rattle.run_weave.specs.Workers.{zeros, LaneOut, ShardIn, ShardOut, Given, Left, senders_of, Worked}
+use Rattle.pipeline.specs.Made.{HasEnds}
+use Rattle.pipeline.specs.Promise.{core_of, nodes_of}
+use Rattle.pipeline.proofs.Done.{lanes_did, shards_did}
+use Rattle.pipeline.proofs.Worked.{twice, all_mapped, all_both, counted_with, Done, tied_left, shipped_left, seats_left, worked}
+use Rattle.pipeline.proofs.running.run_over.Given.{Over}
+use Rattle.pipeline.proofs.running.run_over.Goals.{After-add}
 use denote.Exit.{yes, no}
 use denote.Param.{param}
 use denote.Param.Send.{IsSend, arg_send, param_send}
 use Rattle.pipeline.proofs.JobsSent.{ends_send, lane_job_send, lane_left_send, shard_job_send, shard_left_send, ticker_job_send}
 use Rattle.pipeline.proofs.SinkWent.{went}
 use Rattle.pipeline.proofs.running.run_over.Goals as goal
-
-pub add_lanes-requires : goal.add_lanes-requires
-add_lanes-requires g c =
-    let room = c.in-Ok.ensures.room in
-    let fits : vec_len c.in-Ok.made.room + vec_len c.in-Ok-run_team.left.first ≤ vec_capacity c.in-Ok.made.room = omega (arith, c.in-Ok.made.room.ok.0, ap length room.0, room.1, c.in-Ok-run_team.ensures.counts.0, c.in-Ok.ensures.lanes.0) in
-    record { room = fits }
-
-pub add_shards-requires : goal.add_shards-requires
-add_shards-requires g c =
-    let room = c.in-Ok.ensures.room in
-    let fits : vec_len c.add_lanes.new.self.parts + vec_len c.in-Ok-run_team.left.third ≤ vec_capacity c.add_lanes.new.self.parts = omega (arith, c.in-Ok.made.room.ok.0, ap length room.0, room.1, c.in-Ok-run_team.ensures.counts.0, c.in-Ok.ensures.lanes.0, c.in-Ok-run_team.ensures.counts.1, c.in-Ok.ensures.shards.0, c.add_lanes.ensures.len, c.add_lanes.ensures.capacity) in
-    record { room = fits }
-
-pub add-requires-clause-room : goal.add-requires-clause-room
-add-requires-clause-room g c =
-    let room = c.in-Ok.ensures.room in
-    omega (arith, c.in-Ok.made.room.ok.0, ap length room.0, room.1, c.in-Ok-run_team.ensures.counts.0, c.in-Ok.ensures.lanes.0, c.in-Ok-run_team.ensures.counts.1, c.in-Ok.ensures.shards.0, c.add_lanes.ensures.len, c.add_lanes.ensures.capacity, c.add_shards.ensures.len, c.add_shards.ensures.capacity)
-
-pub returns-in-Ok-run_team-clause-parts : goal.returns-in-Ok-run_team-clause-parts
-returns-in-Ok-run_team-clause-parts g c =
-    let room = c.in-Ok.ensures.room in
-    omega (arith, c.in-Ok.made.room.ok.0, ap length room.0, c.in-Ok-run_team.ensures.counts.0, c.in-Ok.ensures.lanes.0, c.in-Ok-run_team.ensures.counts.1, c.in-Ok.ensures.shards.0, c.add_lanes.ensures.len, c.add_shards.ensures.len, c.add.ensures.len)
 
 pub returns-in-Ok-run_team-clause-sink : goal.returns-in-Ok-run_team-clause-sink
 returns-in-Ok-run_team-clause-sink g c =
@@ -54,3 +48,131 @@ run_team-requires-send-K-Left g c κs within = param_send _ _ (arg_send _ yes _ 
 
 pub run_team-requires-send-L-Left : goal.run_team-requires-send-L-Left
 run_team-requires-send-L-Left g c κs within = param_send _ _ (arg_send _ no _ (shard_left_send _ (param 6 g.row.C) (param 7 g.row.D) (param 8 g.row.B) (param 9 g.row.R) g.C.Room g.D.Room g.B.Accounts c.type_bounds.sync-R))
+
+-- what all were given
+abbrev given_of : (g : Over) → After-add g → Given g.row.F.Denot g.row.T.Denot
+given_of g c = record {
+  feeds = map (λ j. j.feed) c.in-Ok.made.team.first.items;
+  ticks = c.in-Ok.made.team.second.ticks;
+  columns = map (λ j. j.lane.ports) c.in-Ok.made.team.first.items;
+  ticker = c.in-Ok.made.team.second.senders.items;
+  shards = map (λ j. record { seat = j.seat; receiver = j.receiver; sender = j.sender }) c.in-Ok.made.team.third.items;
+  exporter = c.args.exporter;
+  shipments = c.in-Ok.made.shipments;
+}
+
+-- what all left
+abbrev left_of : (g : Over) → After-add g → Left
+left_of g c = record {
+  lanes = map (λ l. record { senders = l.senders.items; counted = l.part.numbers; is_full = l.is_full }) c.in-Ok-run_team.left.first.items;
+  ticker = c.in-Ok-run_team.left.second.items;
+  shards = map (λ l. record { seat = l.seat; receiver = l.receiver; sender = l.sender; counted = l.part.numbers; is_full = l.is_full }) c.in-Ok-run_team.left.third.items;
+  exporter = record { exporter = c.in-Ok-run_team.last.exporter; receiver = c.in-Ok-run_team.last.receiver; counted = c.in-Ok-run_team.last.part.numbers; is_full = c.in-Ok-run_team.last.is_full };
+}
+
+-- all did what they promise
+all_done : (g : Over) (c : After-add g) → Done g.F.Feed.gives (λ x. connection (g.F.Reader.Source.given x.0) (g.F.Writer.Write.contents x.1)) g.T.Ticks.gives (settings_for (core_of c.args.config.now) (c.args.config.now.lanes + 1)) (nodes_of c.args.config.now)
+    g.C.Room.capacity c.args.config.now.lanes c.args.config.now.shards (given_of g c) (left_of g c)
+all_done g c =
+    let made = c.in-Ok.made in
+    let e = c.in-Ok.ensures in
+    let ran = c.in-Ok-run_team.ensures in
+    let left = left_of g c in
+    let third = made.team.third.items in
+    let ins = (given_of g c).shards in
+    let nodes = nodes_of c.args.config.now in
+    let shards = c.args.config.now.shards in
+    let ports = (given_of g c).columns in
+    let ticker = (given_of g c).ticker in record {
+      lane_count = omega (arith, length-map made.team.first.items (λ j. j.feed), made.team.first.ok.0, e.lanes.0);
+      shard_count = omega (arith, length-map {B = ShardIn} third (λ j. record { seat = j.seat; receiver = j.receiver; sender = j.sender }), made.team.third.ok.0, e.shards.0);
+      senders = refl;
+      ends = subst (λ z. HasEnds nodes shards ports ticker (map (λ x. x.receiver) ins) (map (λ x. x.sender) ins) z made.shipments) (sym (twice (λ x. x.seat) (λ j. record { seat = j.seat; receiver = j.receiver; sender = j.sender }) third))
+          (subst (λ z. HasEnds nodes shards ports ticker (map (λ x. x.receiver) ins) z (map (λ j. j.seat) third) made.shipments) (sym (twice (λ x. x.sender) (λ j. record { seat = j.seat; receiver = j.receiver; sender = j.sender }) third))
+          (subst (λ z. HasEnds nodes shards ports ticker z (map (λ j. j.sender) third) (map (λ j. j.seat) third) made.shipments) (sym (twice (λ x. x.receiver) (λ j. record { seat = j.seat; receiver = j.receiver; sender = j.sender }) third)) e.ends));
+      new_batch = c.requires.new_exporter.0;
+      up = c.requires.new_exporter.3;
+      exporter_ends = c.requires.exporter_ends;
+      lanes_did = lanes_did g.F.Feed.gives (λ x. connection (g.F.Reader.Source.given x.0) (g.F.Writer.Write.contents x.1)) g.C.Room.capacity (λ j. j.number) (λ j. j.feed) (λ j. j.lane) (λ j. j.share.numbers)
+          (λ l. record { senders = l.senders.items; counted = l.part.numbers; is_full = l.is_full }) _ (λ j l h. h) 0 made.team.first.items c.in-Ok-run_team.left.first.items e.numbers.0
+          (all_both (λ j. (j.lane.number ≡ j.number) × (j.room.items ≡ []) × (length j.lane.ports ≤ vec_capacity j.room)) (λ j. (j.lane.connected ≡ 0) × (j.share.numbers ≡ zeros)) (λ j. (j.lane.number ≡ j.number) × (j.lane.connected ≡ 0) × (j.share.numbers ≡ zeros)) made.team.first.items (λ j h k. (h.0, k.0, k.1)) e.lanes.1 e.new_lanes) ran.first;
+      ticker_did = subst (λ n. TickerDid g.T.Ticks.gives n made.team.second.ticks made.team.second.senders.items c.in-Ok-run_team.left.second.items) e.ticker.0 ran.second;
+      shards_did = shards_did (settings_for (core_of c.args.config.now) (c.args.config.now.lanes + 1)) (λ j. j.number) (λ j. record { seat = j.seat; receiver = j.receiver; sender = j.sender }) (λ j. settings j.shard) (λ j. j.share.numbers)
+          (λ l. record { seat = l.seat; receiver = l.receiver; sender = l.sender; counted = l.part.numbers; is_full = l.is_full }) _ (λ j l h. h) 0 third c.in-Ok-run_team.left.third.items e.numbers.1 e.new_shards ran.third;
+      exporter_did = subst (λ z. ExporterDid c.args.exporter made.shipments z left.exporter.exporter left.exporter.receiver left.exporter.counted left.exporter.is_full) e.share ran.main;
+    }
+
+-- what was gathered is what was left
+columns_are : (g : Over) (c : After-add g) → ends_of c.push_reserved.new.self.items ≡ senders_of (left_of g c)
+columns_are g c =
+    ap ends_of c.push_reserved.ensures.items ∙ (map-append (λ v. v.items) c.gather_lanes.new.columns.items (c.in-Ok-run_team.left.second ∷ [])
+    ∙ ap (λ z. z ++ c.in-Ok-run_team.left.second.items ∷ []) (c.gather_lanes.ensures.columns ∙ (ap (λ z. ends_of z ++ map (λ lane. lane.senders.items) c.in-Ok-run_team.left.first.items) c.in-Ok.ensures.columns.0
+    ∙ sym (twice (λ out. out.senders) (λ l. record { senders = l.senders.items; counted = l.part.numbers; is_full = l.is_full }) c.in-Ok-run_team.left.first.items))))
+
+receivers_short : (g : Over) (c : After-add g) → c.gather_shards.new.ends.receivers.items ≡ map (λ shard. shard.receiver) c.in-Ok-run_team.left.third.items
+receivers_short g c = c.gather_shards.ensures.receivers ∙ ap (λ z. z ++ map (λ shard. shard.receiver) c.in-Ok-run_team.left.third.items) c.in-Ok.ensures.receivers.0
+
+receivers_are : (g : Over) (c : After-add g) → c.gather_shards.new.ends.receivers.items ≡ map (λ x. x.receiver) (left_of g c).shards
+receivers_are g c = receivers_short g c ∙ sym (twice (λ x. x.receiver) (λ l. record { seat = l.seat; receiver = l.receiver; sender = l.sender; counted = l.part.numbers; is_full = l.is_full }) c.in-Ok-run_team.left.third.items)
+
+exports_are : (g : Over) (c : After-add g) → c.gather_shards.new.ends.exports.items ≡ map (λ x. x.sender) (left_of g c).shards
+exports_are g c = c.gather_shards.ensures.exports ∙ (ap (λ z. z ++ map (λ shard. shard.sender) c.in-Ok-run_team.left.third.items) c.in-Ok.ensures.exports.0
+    ∙ sym (twice (λ x. x.sender) (λ l. record { seat = l.seat; receiver = l.receiver; sender = l.sender; counted = l.part.numbers; is_full = l.is_full }) c.in-Ok-run_team.left.third.items))
+
+seats_are : (g : Over) (c : After-add g) → c.gather_shards.new.ends.seats.items ≡ map (λ x. x.seat) (left_of g c).shards
+seats_are g c = c.gather_shards.ensures.seats ∙ (ap (λ z. z ++ map (λ shard. shard.seat) c.in-Ok-run_team.left.third.items) c.in-Ok.ensures.seats.0
+    ∙ sym (twice (λ x. x.seat) (λ l. record { seat = l.seat; receiver = l.receiver; sender = l.sender; counted = l.part.numbers; is_full = l.is_full }) c.in-Ok-run_team.left.third.items))
+
+pub join_all-requires-clause-tied : goal.join_all-requires-clause-tied
+join_all-requires-clause-tied g c = subst (λ z. IsTiedGrid z c.gather_shards.new.ends.receivers.items) (sym (columns_are g c))
+    (subst (λ z. IsTiedGrid (senders_of (left_of g c)) z) (sym (receivers_are g c)) (tied_left _ _ _ _ _ _ _ _ (given_of g c) (left_of g c) (all_done g c)))
+
+pub join_all-requires-clause-rows : goal.join_all-requires-clause-rows
+join_all-requires-clause-rows g c =
+    let e = c.in-Ok.ensures in
+    let counts = c.in-Ok-run_team.ensures.counts in
+    let popped : length c.gather_shards.new.ends.receivers.items ≡ length c.in-Ok-run_team.left.third.items = ap length (receivers_short g c) ∙ length-map c.in-Ok-run_team.left.third.items (λ shard. shard.receiver) in
+    let pushed : c.args.config.now.lanes + 1 ≡ vec_len c.push_reserved.new.self = omega (arith, c.push_reserved.ensures.len, c.gather_lanes.ensures.columns_room.0, c.in-Ok.made.rooms.columns.ok.0, ap length e.columns.0, counts.0, e.lanes.0) in (
+      omega (arith, e.rows.0, c.gather_shards.new.ends.receivers.ok.0, popped, c.in-Ok-run_team.left.third.ok.0, counts.1, e.shards.0),
+      subst (λ n. All (HasRoom n) c.in-Ok.made.rooms.rows.items) pushed e.rows.1,
+    )
+
+pub join_all-requires-clause-shipped : goal.join_all-requires-clause-shipped
+join_all-requires-clause-shipped g c = subst (λ z. AreTied z c.in-Ok-run_team.last.receiver.ends) (sym (exports_are g c)) (shipped_left _ _ _ _ _ _ _ _ (given_of g c) (left_of g c) (all_done g c))
+
+pub join_all-requires-clause-seats : goal.join_all-requires-clause-seats
+join_all-requires-clause-seats g c =
+    let law = c.asked_seats_may_be_compared.ensures in
+    subst AreOfOneBudget (sym (seats_are g c)) (seats_left _ _ _ _ _ _ _ _ (given_of g c) (left_of g c) law.new law.asked law.same (all_done g c))
+
+pub returns-in-Ok-run_team-clause-worked : goal.returns-in-Ok-run_team-clause-worked
+returns-in-Ok-run_team-clause-worked g c =
+    let b = (goal.at.returns-in-Ok-run_team-clause-worked g c).After-add in
+    let left = left_of g b in
+    let first = c.in-Ok-run_team.left.first.items in
+    let third = c.in-Ok-run_team.left.third.items in
+    let joined = c.join_all.ensures in
+    let all = worked _ _ _ _ _ _ _ _ (given_of g b) left g.D.Room.capacity (all_done g b)
+    (subst (λ z. HaveHistories g.C.Room.capacity z (map (λ x. x.receiver) left.shards)) (columns_are g b) (subst (λ z. HaveHistories g.C.Room.capacity (ends_of c.push_reserved.new.self.items) z) (receivers_are g b) joined.items))
+    (subst (λ z. (place : ℕ) → place < length left.exporter.receiver.ends → HasHistoryAt g.D.Room.capacity z left.exporter.receiver.ends place) (exports_are g b) joined.shipments)
+    (subst HaveOneHistoryEach (seats_are g b) joined.seats) in record {
+      given = given_of g b;
+      left = left;
+      worked = subst (λ n. Worked g.F.Feed.gives (λ x. connection (g.F.Reader.Source.given x.0) (g.F.Writer.Write.contents x.1)) g.T.Ticks.gives (settings_for (core_of c.args.config.now) (c.args.config.now.lanes + 1)) (nodes_of c.args.config.now) n c.args.config.now.export_capacity c.args.config.now.lanes c.args.config.now.shards (given_of g b) left) (sym c.requires.queue.1)
+          (subst (λ n. Worked g.F.Feed.gives (λ x. connection (g.F.Reader.Source.given x.0) (g.F.Writer.Write.contents x.1)) g.T.Ticks.gives (settings_for (core_of c.args.config.now) (c.args.config.now.lanes + 1)) (nodes_of c.args.config.now) g.C.Room.capacity n c.args.config.now.lanes c.args.config.now.shards (given_of g b) left) (sym c.requires.export.1) all);
+      feeds_are = c.in-Ok.ensures.feeds;
+      ticks_are = c.in-Ok.ensures.ticker.1;
+      exporter_is = refl;
+      exporter_left = refl;
+      counted = counted_with (λ l. l.part) (λ l. l.part) first third c.in-Ok-run_team.last.part c.in-Ok.made.rooms.parts.items c.gather_lanes.new.counted.parts.items c.gather_shards.new.counted.parts.items c.add.new.self.parts.items
+          c.in-Ok.ensures.parts_room.0 c.gather_lanes.ensures.parts c.gather_shards.ensures.parts c.add.ensures.parts
+          ∙ cc (twice (λ (out : LaneOut). out.counted) (λ l. record { senders = l.senders.items; counted = l.part.numbers; is_full = l.is_full }) first, twice (λ (x : ShardOut). x.counted) (λ l. record { seat = l.seat; receiver = l.receiver; sender = l.sender; counted = l.part.numbers; is_full = l.is_full }) third);
+      none_full = λ e.
+          let both = or_both c.gather_shards.new.counted.is_full c.in-Ok-run_team.last.is_full (sym c.add.ensures.full ∙ e) in
+          let shards = c.gather_shards.ensures.full both.0 in
+          let lanes = c.gather_lanes.ensures.full shards.0 in record {
+            lanes = all_mapped (λ (out : LaneOut). out.is_full ≡ false) (λ l. record { senders = l.senders.items; counted = l.part.numbers; is_full = l.is_full }) first lanes.1;
+            shards = all_mapped (λ (out : ShardOut). out.is_full ≡ false) (λ l. record { seat = l.seat; receiver = l.receiver; sender = l.sender; counted = l.part.numbers; is_full = l.is_full }) third shards.1;
+            exporter = both.1;
+          };
+    }

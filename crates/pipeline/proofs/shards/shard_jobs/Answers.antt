@@ -1,12 +1,16 @@
-use Rattle.std.proofs.Common.{◌≡◌, ◌∙◌, [], ap, sym, subst, arith, true, false, All, Some}
+use Rattle.std.proofs.Common.{◌≡◌, ◌+◌, ◌∙◌, [], ap, sym, subst, arith, true, false, map, vec_len, All, Some}
 use Rattle.std.specs.Prelude.{replicate}
 use Rattle.std.proofs.lemmas.List.Elements.{All-push, All-pop}
 use Rattle.lane_queue.specs.Ends.{IsNew}
 use Rattle.policy_tree.specs.Tree.{limiters}
 use Rattle.policy_tree.specs.Meaning.{meaning}
 use Rattle.policy_eval.specs.Meaning.{knows}
-use Rattle.shard_core.specs.Held.{StandsFor, has_due, is_finished}
+use Rattle.shard_core.specs.Held.{StandsFor, has_due, is_finished, settings}
 use Rattle.shared_budget.specs.Seats.{has_node}
+use Rattle.span_world.specs.World.{settings_for}
+use Rattle.pipeline.specs.Made.{NumberedFrom}
+use Rattle.pipeline.specs.Promise.{core_of}
+use Rattle.pipeline.proofs.Dealt.{dealt, numbered, all_dealt, all_reverse}
 use Rattle.pipeline.proofs.shards.shard_jobs.Goals as goal
 
 pub shard_job-requires-clause-seat : goal.shard_job-requires-clause-seat
@@ -47,4 +51,29 @@ loop-receiver-preserved g c =
             subst IsNew (sym made.ends.1) exports.1,
             made.nodes,
           )),
+      dealt (λ job. job.seat) c.args.ends.seats.items c.loop-receiver.seats.items c.take_last-seat.new.self.items c.loop-receiver.jobs.items _ c.take_last-seat.result c.in_ok-shard_job.field-0 s.items pushed.items made.ends.2 h.9,
+      dealt (λ job. job.receiver) c.args.ends.receivers.items c.loop-receiver.receivers.items c.pop.new.self.items c.loop-receiver.jobs.items _ c.in-Some.receiver c.in_ok-shard_job.field-0 p.items pushed.items made.ends.0 h.10,
+      dealt (λ job. job.sender) c.args.ends.exports.items c.loop-receiver.exports.items c.take_last-sender.new.self.items c.loop-receiver.jobs.items _ c.take_last-sender.result c.in_ok-shard_job.field-0 e.items pushed.items made.ends.1 h.11,
+      numbered (λ job. job.number) (vec_len c.loop-receiver.receivers) (vec_len c.pop.new.self) c.loop-receiver.jobs.items _ c.in_ok-shard_job.field-0 (sym p.len) (made.number ∙ c.len-number.ensures) pushed.items h.12,
+      subst (All (λ job. (settings job.shard ≡ settings_for (core_of c.args.config.now) (c.args.config.now.lanes + 1)) × (job.share.numbers ≡ replicate 9 0))) (sym pushed.items)
+          (All-push (λ job. (settings job.shard ≡ settings_for (core_of c.args.config.now) (c.args.config.now.lanes + 1)) × (job.share.numbers ≡ replicate 9 0)) c.loop-receiver.jobs.items c.in_ok-shard_job.field-0 h.13 (
+            made.settings,
+            ap (λ p. p.numbers) (made.share ∙ (All-pop (λ p. p ≡ record { parts = 1; numbers = replicate 9 0 }) c.loop-receiver.parts.items c.take_last-part.new.self.items (Some c.take_last-part.result) q.items h.7).1),
+          )),
     )
+
+pub returns-clause-ends : goal.returns-clause-ends
+returns-clause-ends g c =
+    let h = c.loop-receiver.invariant in (
+      all_dealt (λ job. job.seat) c.args.ends.seats.items c.loop-receiver.seats.items c.loop-receiver.jobs.items c.reverse.new.self.items c.reverse.ensures.items (omega (arith, c.loop-receiver.seats.ok.0, h.2, c.in_default.ensures.cases.0)) h.9,
+      all_dealt (λ job. job.receiver) c.args.ends.receivers.items c.loop-receiver.receivers.items c.loop-receiver.jobs.items c.reverse.new.self.items c.reverse.ensures.items (omega (arith, c.loop-receiver.receivers.ok.0, c.in_default.ensures.cases.0)) h.10,
+      all_dealt (λ job. job.sender) c.args.ends.exports.items c.loop-receiver.exports.items c.loop-receiver.jobs.items c.reverse.new.self.items c.reverse.ensures.items (omega (arith, c.loop-receiver.exports.ok.0, h.1, c.in_default.ensures.cases.0)) h.11,
+    )
+
+pub returns-clause-numbers : goal.returns-clause-numbers
+returns-clause-numbers g c = subst (λ n. NumberedFrom n (map (λ job. job.number) c.reverse.new.self.items)) c.in_default.ensures.cases.0
+    (subst (λ z. NumberedFrom (vec_len c.loop-receiver.receivers) (map (λ job. job.number) z)) (sym c.reverse.ensures.items) c.loop-receiver.invariant.12)
+
+pub returns-clause-new : goal.returns-clause-new
+returns-clause-new g c = subst (All (λ job. (settings job.shard ≡ settings_for (core_of c.args.config.now) (c.args.config.now.lanes + 1)) × (job.share.numbers ≡ replicate 9 0))) (sym c.reverse.ensures.items)
+    (all_reverse (λ job. (settings job.shard ≡ settings_for (core_of c.args.config.now) (c.args.config.now.lanes + 1)) × (job.share.numbers ≡ replicate 9 0)) c.loop-receiver.jobs.items c.loop-receiver.invariant.13)

@@ -1,11 +1,14 @@
-use Rattle.std.proofs.Common.{◌≡◌, ◌+◌, ◌≤◌, All, vec_len, [], true, false}
+use Rattle.std.proofs.Common.{◌≡◌, ◌+◌, ◌++◌, ◌≤◌, All, map, reverse, vec_len, [], true, false}
 use Rattle.std.specs.Prelude.{replicate}
 use Rattle.lane_queue.specs.Ends.{IsNew}
 use Rattle.policy_tree.specs.Tree.{limiters}
 use Rattle.policy_tree.specs.Meaning.{meaning}
 use Rattle.policy_eval.specs.Meaning.{knows}
-use Rattle.shard_core.specs.Held.{StandsFor, has_due, is_finished}
+use Rattle.shard_core.specs.Held.{StandsFor, has_due, is_finished, settings}
 use Rattle.shared_budget.specs.Seats.{has_node}
+use Rattle.span_world.specs.World.{settings_for}
+use Rattle.pipeline.specs.Made.{NumberedFrom}
+use Rattle.pipeline.specs.Promise.{core_of}
 use Rattle.pipeline.proofs.shards.shard_jobs.Given as goal
 
 abbrev pub invariant-loop-receiver : goal.invariant-loop-receiver
@@ -15,6 +18,11 @@ invariant-loop-receiver g l = (vec_len l.jobs + vec_len l.receivers ≡ l.fn.con
     × All (λ job. StandsFor job.shard [] 0 × (has_due job.shard ≡ false) × (is_finished job.shard ≡ false)
     × All IsNew job.receiver.ends × IsNew job.sender
     × (knows (has_node job.seat) (limiters (meaning job.shard.policies)) ≡ true)) l.jobs.items
+    × (l.fn.ends.seats.items ≡ l.seats.items ++ map (λ job. job.seat) (reverse l.jobs.items))
+    × (l.fn.ends.receivers.items ≡ l.receivers.items ++ map (λ job. job.receiver) (reverse l.jobs.items))
+    × (l.fn.ends.exports.items ≡ l.exports.items ++ map (λ job. job.sender) (reverse l.jobs.items))
+    × NumberedFrom (vec_len l.receivers) (map (λ job. job.number) (reverse l.jobs.items))
+    × All (λ job. (settings job.shard ≡ settings_for (core_of l.fn.config) (l.fn.config.lanes + 1)) × (job.share.numbers ≡ replicate 9 0)) l.jobs.items
 
 abbrev pub decreases-loop-receiver : goal.decreases-loop-receiver
 decreases-loop-receiver g l = vec_len l.receivers

@@ -1,5 +1,5 @@
 use Rattle.std.proofs.Common.{◌∙◌, ap, sym}
-use Rattle.pipeline.specs.Jobs.{LaneDid}
+use Rattle.run_weave.specs.Jobs.{LaneDid}
 use Rattle.pipeline.proofs.lane_job.LaneJobJob.work.Goals as goal
 
 pub returns : goal.returns

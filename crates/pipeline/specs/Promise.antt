@@ -1,0 +1,58 @@
+-- What a run of the pipeline promises: what its threads did is a run of the core.
+use Rattle.std.specs.Prelude.{◌≡◌, ℕ, ◌+◌, ◌/◌, Bool, false, List, map, Option, Some, Result, Ok, Err}
+use Rattle.drop_ledger.specs.Parts.{PartState}
+use Rattle.drop_ledger.specs.declared.report.Report.{Report}
+use Rattle.lane_worker.specs.Serving.{Connection}
+use Rattle.policy_tree.specs.declared.limiter_node.LimiterNode.{LimiterNode}
+use Rattle.policy_tree.specs.Meaning.{meaning}
+use Rattle.policy_tree.specs.Tree.{limiters}
+use Rattle.span_exporter.specs.Exports.{ExporterState}
+use Rattle.span_sink.specs.LineSinks.{LineSinkState, up_state, down_state}
+use Rattle.span_world.specs.World.{Config as CoreConfig, settings_for}
+use Rattle.span_weave.specs.Woven.{HoldsOfThreads}
+use Rattle.tsc_config.specs.declared.config.Config.{Config}
+use Rattle.run_weave.specs.Workers.{Given, Left, Worked, NoneFull, parts_of}
+use Rattle.run_weave.specs.Ran.{Ran}
+use Rattle.pipeline.specs.declared.fault.RunFault.{RunFault}
+use Rattle.pipeline.specs.declared.fault.RunFault.TheVariants.{NoMemory, BookFull, SinkDown}
+
+-- the core's configuration: each shard has its share of the traces and of the caches
+abbrev pub core_of : Config → CoreConfig
+core_of config = record {
+  policies = meaning config.policies;
+  wait = config.decision_wait;
+  root_wait = config.root_wait;
+  limit = Some (config.num_traces / config.shards);
+  sampled_size = config.sampled_cache_size / config.shards;
+  non_sampled_size = config.non_sampled_cache_size / config.shards;
+  batch_size = config.send_batch_size;
+}
+
+-- the limiter nodes of the policies
+abbrev pub nodes_of : Config → List LimiterNode
+nodes_of config = limiters (meaning config.policies)
+
+module _ {F X T : Type 0} (gives : F → Option X → F → Type 0) (known : X → Connection) (ticks_give : T → Option ℕ → T → Type 0) (config : Config) (feeds : List F) (ticks : T) where
+  -- all threads did what each promises, and their queues and seats were joined again; they counted with these parts
+  pub record HasWorked (old new : ExporterState) (parts : List PartState) (is_full : Bool) : Type 0 where
+    pub given : Given F T
+    pub left : Left
+    pub worked : Worked gives known ticks_give (settings_for (core_of config) (config.lanes + 1)) (nodes_of config) config.queue_capacity config.export_capacity config.lanes config.shards given left
+    pub feeds_are : given.feeds ≡ feeds
+    pub ticks_are : given.ticks ≡ ticks
+    pub exporter_is : given.exporter ≡ old
+    pub exporter_left : left.exporter.exporter ≡ new
+    pub counted : map (λ (p : PartState). p.numbers) parts ≡ parts_of left
+    pub none_full : is_full ≡ false → NoneFull left
+
+  -- what the threads did is a run of the core, for which the headline holds; the report and the sink tell of it
+  pub record IsRun (old new : LineSinkState) (report : List ℕ) : Type 0 where
+    pub ran : Ran gives known ticks_give (core_of config) (nodes_of config) config.queue_capacity config.lanes config.shards feeds ticks old new report
+    pub holds : HoldsOfThreads (core_of config) config.lanes config.shards ran.threads ran.end
+
+  -- what each answer tells of the run, by the sink's bytes and failures before and after
+  abbrev pub RunTells : (taken : Option (List ℕ)) → (failures : ℕ) → (taken_after : Option (List ℕ)) → (failures_after : ℕ) → Result Report RunFault → Type 0
+  RunTells taken failures taken_after failures_after (Ok report) = IsRun (up_state taken failures) (up_state taken_after failures_after) report
+  RunTells taken failures taken_after failures_after (Err (SinkDown report)) = IsRun (up_state taken failures) (down_state taken_after failures_after) report
+  RunTells taken failures taken_after failures_after (Err NoMemory) = Unit {0}
+  RunTells taken failures taken_after failures_after (Err BookFull) = Unit {0}
