@@ -19,6 +19,7 @@ use Rattle.lane_queue.specs.Ends.{EndState, ReceiverState, HasHistoryAt}
 use Rattle.lane_queue.specs.Merges.{of}
 use Rattle.lane_queue.proofs.Steps.{popped_then_held}
 use Rattle.shard_core.specs.Fate.{counts, under}
+use Rattle.shard_core.proofs.Counted.{under_append, under_counts}
 use Rattle.shard_worker.proofs.Counting.{same_place}
 use Rattle.span_batch.specs.Batches.{records_in, IsLineOf}
 use Rattle.span_sink.specs.Hands.{Handing, StopsWithin, handed_lines, TookLines}
@@ -35,7 +36,7 @@ use Rattle.span_weave.specs.Popped.{spans_popped}
 use Rattle.span_weave.specs.Calls.{handed_by, counted_by as dropped_by, handed_in, counted_in, export_of, ActsOf}
 use Rattle.span_weave.proofs.Acts.{calls_are_acts}
 use Rattle.span_weave.proofs.Popping.{all_was_pulled}
-use Rattle.span_weave.proofs.Counting.{number, number_append, number_counts, if_same}
+use Rattle.span_weave.proofs.Counting.{number}
 use Rattle.run_weave.specs.Jobs.{ExporterDid, counting}
 use Rattle.run_weave.specs.Ran.{AreLinesOf, Wrote}
 use Rattle.run_weave.specs.Workers.{zeros, ExporterOut}
@@ -91,7 +92,7 @@ one_batch HandedOver (Spoiled n reason) spans = ap (λ (b : Bool). cond {A = ℕ
 one_batch HandedOver Empty spans = refl
 one_batch (Dropped reason) (Handed n) spans = ap (λ (b : Bool). cond {A = ℕ} b (length spans) 0) (dropped_apart reason)
 one_batch (Dropped reason) (Spoiled n r) spans =
-    ap (λ (b : Bool). cond {A = ℕ} b (length spans) 0) (sym (same_place r reason)) ∙ (sym (number_counts reason r spans) ∙ omega (arith, number_append reason (counts r spans) []))
+    ap (λ (b : Bool). cond {A = ℕ} b (length spans) 0) (sym (same_place r reason)) ∙ (sym (under_counts reason r spans) ∙ omega (arith, under_append reason (counts r spans) []))
 one_batch (Dropped reason) Empty spans = refl
 
 -- and then others
@@ -109,8 +110,8 @@ batches_then HandedOver b rest = go (handed_by b.answer b.spans) (flat_map (λ (
     )
 batches_then (Dropped reason) b rest = omega (
   arith,
-  number_append reason (dropped_by b.answer b.spans) (flat_map (λ (b : FlushedBatch). dropped_by b.answer b.spans) rest),
-  number_append reason (dropped_by b.answer b.spans) [],
+  under_append reason (dropped_by b.answer b.spans) (flat_map (λ (b : FlushedBatch). dropped_by b.answer b.spans) rest),
+  under_append reason (dropped_by b.answer b.spans) [],
 )
 
 all_batches : (count : Count) (batches : List FlushedBatch) → counted_in_batches batches count ≡ batches_gain count batches
