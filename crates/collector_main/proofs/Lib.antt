@@ -1,3 +1,4 @@
 pub mod Texts
 pub mod Courses
 pub mod Replaying
+pub mod Serving
