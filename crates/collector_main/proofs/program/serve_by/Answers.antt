@@ -1,0 +1,27 @@
+use Rattle.std.proofs.Common.{◌≡◌, ℕ, List, Option, refl, sym, subst}
+use Rattle.span_sink.specs.Sinks.{SinkState}
+use Rattle.pipeline.specs.Outcome.{SinkAnswers}
+use Rattle.collector_main.specs.Configuration.{file_of}
+use Rattle.collector_main.specs.Ending.{Course, Serves}
+use Rattle.collector_main.specs.declared.program.Outcome.{Outcome}
+use Rattle.collector_main.proofs.Serving.{Serves-ran}
+use Rattle.collector_main.proofs.program.serve_by.Goals as goal
+
+pub returns : goal.returns
+returns g c = λ arguments unread.
+    let course : Option (List ℕ) → Option (List ℕ) → Course = λ before after. record {
+      arguments = arguments;
+      file = file_of (λ v. v.items) c.args.file;
+      unread = unread;
+      unread_after = unread;
+      taken = before;
+      taken_after = after;
+    } in
+    let answer = c.serve_on-sink.result.1 in
+    let after = c.serve_on-sink.result.0 in
+    let From : SinkState → Type 0 = λ first. SinkAnswers first.taken first.failures after.taken after.failures answer in
+    let To : Option (List ℕ) → Type 0 = λ taken. SinkAnswers (g.W.Write.contents c.args.writer) 0 taken after.failures answer in
+    let tells = subst To (sym c.end.ensures) (subst From c.new-sink.ensures c.serve_on-sink.ensures.sink) in
+    let now = course (g.W.Write.contents c.args.writer) (g.W.Write.contents c.end.result) in
+    let P : Outcome → Type 0 = λ outcome. Serves now outcome in
+    subst P (sym c.served_to.ensures) (Serves-ran now c.in-Ok.config after.failures answer c.in-Ok.ensures.is_read refl tells)
