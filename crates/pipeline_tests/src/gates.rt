@@ -56,8 +56,8 @@ impl<'p> Gate for LanesMeet<'p> {
             if lane < 2 && ordinal < 2 {
                 let own = ordinal as usize * 2 + lane as usize;
                 let other = ordinal as usize * 2 + 1 - lane as usize;
-                self.0.connected[own].store(true, Ordering::SeqCst);
-                let reached = &self.0.connected[other];
+                self.0.connected.as_slice()[own].store(true, Ordering::SeqCst);
+                let reached = &self.0.connected.as_slice()[other];
                 self.0.hold(reached, reached);
             }
         }
@@ -72,7 +72,7 @@ impl<'p> Gate for ShardsBeginEarly<'p> {
     fn reach(&self, place: Place) {
         match place {
             Place::Taken { shard } => {
-                self.0.taken[shard as usize % 2].store(true, Ordering::SeqCst);
+                self.0.taken.as_slice()[shard as usize % 2].store(true, Ordering::SeqCst);
             }
             Place::Served { lane, ordinal } => {
                 if lane == 0 && ordinal == 0 {
@@ -93,8 +93,8 @@ impl<'p> Gate for ShardsMeet<'p> {
     fn reach(&self, place: Place) {
         if let Place::Taken { shard } = place {
             if shard < 2 {
-                self.0.taken[shard as usize].store(true, Ordering::SeqCst);
-                let reached = &self.0.taken[1 - shard as usize];
+                self.0.taken.as_slice()[shard as usize].store(true, Ordering::SeqCst);
+                let reached = &self.0.taken.as_slice()[1 - shard as usize];
                 self.0.hold(reached, reached);
             }
         }

@@ -15,7 +15,7 @@ const ALL: &str = "policies = [{ name = \"all\", type = \"always_sample\" }]\n";
 fn spans_in(lines: &[u8]) -> u64 {
     let mut count: u64 = 0;
     for window in lines.windows(8) {
-        if window == b"\"spanId\"" {
+        if window == b"\"spanId\"".as_slice() {
             count = count.wrapping_add(1);
         }
     }
