@@ -115,7 +115,7 @@ class Collector:
 
     def wait_for_port(self):
         """Waits until it listens."""
-        for _ in range(500):
+        for _ in range(3000):
             if self.process.poll() is not None:
                 raise Failure(f"it ended at once, with status {self.process.returncode}")
             try:
@@ -192,13 +192,13 @@ def is_kept_while_it_runs(start):
     """A trace is decided by a tick, long before the close."""
     collector = start("decision_wait_ms = 200\ntick_ms = 50\n" + ERRORS)
     want("the answer", collector.ask(post(body_of([ERROR_SPAN])))[::2], (200, "{}"))
-    for _ in range(200):
+    for _ in range(1200):
         with open(collector.printed, encoding="utf-8") as file:
             if file.read() == ERROR_LINE + "\n":
                 break
         time.sleep(0.05)
     else:
-        raise Failure("no line came within ten seconds")
+        raise Failure("no line came within a minute")
     lines, numbers = collector.close()
     want("the lines", lines, [ERROR_LINE])
     want("the report", numbers, [1, 1, 0, 0, 0, 0, 0, 0, 0])
@@ -351,7 +351,10 @@ def closes_under_way(start):
     threads = [threading.Thread(target=go_on, args=(place,)) for place in range(6)]
     for thread in threads:
         thread.start()
-    time.sleep(0.5)
+    # Not a while: a machine may need it to lay out the queues.
+    until = time.monotonic() + 60
+    while sum(answered) < 100 and time.monotonic() < until:
+        time.sleep(0.02)
     want("the answer to /close", collector.ask(post(b"", "/close"))[::2], (200, "{}"))
     lines, numbers = collector.end()
     halt.set()

@@ -3,6 +3,7 @@
 use Rattle.std.proofs.Common.{◌≡◌, ℕ, Result, Ok, Err, inr, refl}
 use Rattle.drop_ledger.specs.declared.report.Report.{Report}
 use Rattle.pipeline.specs.Outcome.{SinkAnswers}
+use Rattle.pipeline.specs.Promise.{CoreRunTells}
 use Rattle.pipeline.specs.declared.fault.RunFault.{RunFault}
 use Rattle.pipeline.specs.declared.fault.RunFault.TheVariants.{NoMemory, BookFull, SinkDown}
 use Rattle.tsc_config.specs.declared.config.Config.{Config}
@@ -11,13 +12,13 @@ use Rattle.collector_main.specs.Outcomes.{served_to}
 use Rattle.collector_main.specs.Ending.{Course, Serves, ServedTo}
 
 served : (course : Course) (config : Config) (failures : ℕ) (answer : Result Report RunFault) → IsConfigOf course.file config → course.unread_after ≡ course.unread
-    → SinkAnswers course.taken 0 course.taken_after failures answer → ServedTo course (served_to answer)
-served course config failures answer read unread sink = record { config = config; is_read = read; failures_after = failures; answer = answer; sink = sink; unread = unread; outcome_is = refl }
+    → SinkAnswers course.taken 0 course.taken_after failures answer → CoreRunTells config course.taken 0 course.taken_after failures answer → ServedTo course (served_to answer)
+served course config failures answer read unread sink ran = record { config = config; is_read = read; failures_after = failures; answer = answer; sink = sink; ran = ran; unread = unread; outcome_is = refl }
 
 -- what a run by a configuration answered
 pub Serves-ran : (course : Course) (config : Config) (failures : ℕ) (answer : Result Report RunFault) → IsConfigOf course.file config → course.unread_after ≡ course.unread
-    → SinkAnswers course.taken 0 course.taken_after failures answer → Serves course (served_to answer)
-Serves-ran course config failures (Ok report) read unread sink = served course config failures (Ok report) read unread sink
-Serves-ran course config failures (Err NoMemory) read unread sink = inr (served course config failures (Err NoMemory) read unread sink)
-Serves-ran course config failures (Err BookFull) read unread sink = served course config failures (Err BookFull) read unread sink
-Serves-ran course config failures (Err (SinkDown report)) read unread sink = served course config failures (Err (SinkDown report)) read unread sink
+    → SinkAnswers course.taken 0 course.taken_after failures answer → CoreRunTells config course.taken 0 course.taken_after failures answer → Serves course (served_to answer)
+Serves-ran course config failures (Ok report) read unread sink ran = served course config failures (Ok report) read unread sink ran
+Serves-ran course config failures (Err NoMemory) read unread sink ran = inr (served course config failures (Err NoMemory) read unread sink ran)
+Serves-ran course config failures (Err BookFull) read unread sink ran = served course config failures (Err BookFull) read unread sink ran
+Serves-ran course config failures (Err (SinkDown report)) read unread sink ran = served course config failures (Err (SinkDown report)) read unread sink ran

@@ -25,6 +25,7 @@ use Rattle.collector_main.specs.declared.configuration.FileFault.{FileFault}
 use Rattle.script_session.specs.Replay.{RunEnds, settings_by}
 use Rattle.pipeline.specs.declared.fault.RunFault.{RunFault as ServeFault}
 use Rattle.pipeline.specs.Outcome.{SinkAnswers}
+use Rattle.pipeline.specs.Promise.{CoreRunTells}
 
 -- ---- the last text
 
@@ -161,13 +162,14 @@ Replays course (Configuration fault) = FileFails course.file (Configuration faul
 Replays course NoMemory = (FileFails course.file NoMemory × NothingDone course) ⊎ RanTo course NoMemory
 Replays course outcome = RanTo course outcome
 
--- a configuration was read, and the run on a listener by it had an answer of this outcome; nothing was read of a script
+-- a configuration was read, and the run on a listener by it had an answer of this outcome; what its threads did is a run of the core; nothing was read of a script
 pub record ServedTo (course : Course) (outcome : Outcome) : Type 0 where
   pub config : Config
   pub is_read : IsConfigOf course.file config
   pub failures_after : ℕ
   pub answer : Result Report ServeFault
   pub sink : SinkAnswers course.taken 0 course.taken_after failures_after answer
+  pub ran : CoreRunTells config course.taken 0 course.taken_after failures_after answer
   pub unread : course.unread_after ≡ course.unread
   pub outcome_is : outcome ≡ served_to answer
 

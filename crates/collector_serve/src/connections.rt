@@ -11,6 +11,9 @@ use std::{io, thread};
 /// How long a read waits for bytes before it is a quiet turn, in milliseconds.
 const READ_TIMEOUT: u64 = 100;
 
+/// How long an answer waits for a client that doesn't read before its connection ends, in milliseconds.
+const WRITE_TIMEOUT: u64 = 30_000;
+
 /// How long a lane waits before it looks for a connection again, in milliseconds.
 const PAUSE: u64 = 2;
 
@@ -52,10 +55,11 @@ impl<'l, P: Stop> Feed for Connections<'l, P> {
     }
 }
 
-/// Both ends of a connection: answers go out at once, and a read waits only so long. What can't be set up is closed.
+/// Both ends of a connection: answers go out at once, and reads and writes wait only so long. What can't be set up is closed.
 fn set_up(stream: TcpStream) -> io::Result<(Reads<TcpStream>, TcpStream)> {
     stream.set_nodelay(true)?;
     stream.set_read_timeout(Some(Duration::from_millis(READ_TIMEOUT)))?;
+    stream.set_write_timeout(Some(Duration::from_millis(WRITE_TIMEOUT)))?;
     let reader = stream.try_clone()?;
     Ok((Reads { reader }, stream))
 }

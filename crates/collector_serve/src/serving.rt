@@ -1,6 +1,7 @@
 //! The collector on a listener.
 ghost use Rattle.std.specs.Prelude.{◌≡◌, ◌<◌, ◌-◌, ◌^◌, IfOk, vec_len};
 ghost use Rattle.pipeline.specs.Outcome.{SinkAnswers};
+ghost use Rattle.pipeline.specs.Promise.{CoreRunTells};
 ghost use Rattle.tsc_config.specs.Values.{InRange};
 
 use crate::connections::Connections;
@@ -30,7 +31,8 @@ pub fn listen<R: Net<Listener = TcpListener, Stream = TcpStream>>(
 }
 
 /// Runs the collector on a listener that doesn't block, until a request says `POST /close`. It gives the sink back, and the
-/// report of all spans. `NoMemory`: there was none at the start, and no connection was taken.
+/// report of all spans: what the threads did is a run of the core. `NoMemory`: there was none at the start, and no
+/// connection was taken.
 pub fn serve_on<S: Sink + Drop, M: Moments + Sync, R: Threads + Wait + Clock + Sync>(
     rt: &R,
     alloc: Global,
@@ -42,6 +44,7 @@ pub fn serve_on<S: Sink + Drop, M: Moments + Sync, R: Threads + Wait + Clock + S
     requires ranges { InRange config }
     requires failures { S.failures sink < 2 ^ 64 - 1 }
     ensures sink { SinkAnswers (S.taken sink) (S.failures sink) (S.taken result.0) (S.failures result.0) result.1 }
+    ensures ran { CoreRunTells config (S.taken sink) (S.failures sink) (S.taken result.0) (S.failures result.0) result.1 }
 {
     serve_until(rt, alloc, config, listener, sink, &StopMark::new(), clock)
 }
@@ -64,6 +67,7 @@ pub fn serve_until<
     requires ranges { InRange config }
     requires failures { S.failures sink < 2 ^ 64 - 1 }
     ensures sink { SinkAnswers (S.taken sink) (S.failures sink) (S.taken result.0) (S.failures result.0) result.1 }
+    ensures ran { CoreRunTells config (S.taken sink) (S.failures sink) (S.taken result.0) (S.failures result.0) result.1 }
 {
     let Ok(feeds) = feeds(alloc, listener, stop, config.lanes as usize) else {
         return (sink, Err(RunFault::NoMemory));

@@ -94,23 +94,21 @@ abbrev pub has_text : Cause → Bool
 has_text (accepts awaited) = awaited
 has_text _ = true
 
+-- what has a text may stay unmade or unwritten
+unsaid : (cause : Cause) → has_text cause ≡ true → (can_be Unmade cause ≡ true) × (can_be Unwritten cause ≡ true)
+unsaid (accepts awaited) h = (h, h)
+unsaid (refusal r i) h = (refl, refl)
+unsaid close_asked h = (refl, refl)
+unsaid starved h = (refl, refl)
+unsaid stopping h = (refl, refl)
+unsaid timed_out h = (refl, refl)
+unsaid (submitted b m r c) h = (refl, refl)
+
 pub can_text : (fate : Fate) (cause : Cause) → IsFateOfText fate → has_text cause ≡ true → can_be fate cause ≡ true
 can_text Written cause f h = refl
 can_text Uncounted cause f h = absurd f
-can_text Unmade (accepts awaited) f h = h
-can_text Unmade (refusal r i) f h = refl
-can_text Unmade close_asked f h = refl
-can_text Unmade starved f h = refl
-can_text Unmade stopping f h = refl
-can_text Unmade timed_out f h = refl
-can_text Unmade (submitted b m r c) f h = refl
-can_text Unwritten (accepts awaited) f h = h
-can_text Unwritten (refusal r i) f h = refl
-can_text Unwritten close_asked f h = refl
-can_text Unwritten starved f h = refl
-can_text Unwritten stopping f h = refl
-can_text Unwritten timed_out f h = refl
-can_text Unwritten (submitted b m r c) f h = refl
+can_text Unmade cause f h = (unsaid cause h).0
+can_text Unwritten cause f h = (unsaid cause h).1
 
 pub never_open : (fate : Fate) → end_with fate true ≡ None → ⊥
 never_open Written e = cc

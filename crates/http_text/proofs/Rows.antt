@@ -2,6 +2,8 @@
 -- They serve the definitions that `judge` and `cut_on` promise.
 use Rattle.std.proofs.Common.{◌≡◌, ◌++◌, false, refl, List, ℕ, Some, [], ◌∷◌}
 use Rattle.std.specs.Prelude.{codes}
+use Rattle.http_text.specs.declared.lines.TheConstants.{PART_LIMIT}
+use Rattle.http_text.specs.declared.request.TheConstants.{BODY_LIMIT, FIELD_LIMIT}
 use Rattle.http_text.specs.declared.request.Verdict.TheVariants.{Post as Posted}
 use Rattle.http_text.specs.declared.request.Framing.TheVariants.{Length}
 use Rattle.http_text.specs.Lines.{head_len}
@@ -23,3 +25,13 @@ posted_verdict : verdict_by (codes "POST") (codes "/v1/traces") 1 ((codes "host"
     ≡ Posted (record { framing = Length 2; expects_continue = false; says_close = false })
 unfolding trim_ows
 posted_verdict = refl
+
+-- how many bytes a head, a chunk line and a trailer may have, how many a body, and how many fields a section
+greatest_part : PART_LIMIT ≡ 16384
+greatest_part = refl
+
+greatest_body : BODY_LIMIT ≡ 4194304
+greatest_body = refl
+
+most_fields : FIELD_LIMIT ≡ 64
+most_fields = refl

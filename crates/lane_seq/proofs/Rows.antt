@@ -6,18 +6,12 @@ use Rattle.span_ids.specs.Route.{shard_of}
 front : List ℕ
 front = 0x5b ∷ 0x8e ∷ 0xff ∷ 0xf7 ∷ 0x98 ∷ 0x03 ∷ 0x81 ∷ 0x03 ∷ 0xd2 ∷ 0x69 ∷ 0xb6 ∷ 0x33 ∷ 0x81 ∷ 0x3f ∷ 0xc6 ∷ []
 
-even_of_two : shard_of (front ++ 0x0c ∷ []) 2 ≡ 0
+-- over two shards
+of_two : (shard_of (front ++ 0x0c ∷ []) 2 ≡ 0) × (shard_of (front ++ 0x0d ∷ []) 2 ≡ 1)
 unfolding front
-even_of_two = refl
+of_two = (refl, refl)
 
-odd_of_two : shard_of (front ++ 0x0d ∷ []) 2 ≡ 1
+-- over three
+of_three : (shard_of (front ++ 0x0c ∷ []) 3 ≡ 2) × (shard_of (front ++ 0x0d ∷ []) 3 ≡ 0)
 unfolding front
-odd_of_two = refl
-
-even_of_three : shard_of (front ++ 0x0c ∷ []) 3 ≡ 2
-unfolding front
-even_of_three = refl
-
-odd_of_three : shard_of (front ++ 0x0d ∷ []) 3 ≡ 0
-unfolding front
-odd_of_three = refl
+of_three = (refl, refl)

@@ -1,6 +1,7 @@
 -- The fields of an object, as one more member goes in.
 use Rattle.std.proofs.Common.{◌≡◌, ℕ, suc, List, [], ◌∷◌, Bool, true, false, cond, Option, Some, refl, sym, ◌∙◌, bytes_eq, ◌==◌, not, ◌&&◌}
 use Rattle.serde_json.specs.Data.{Data, Members, no_members, put}
+use Rattle.std.proofs.lemmas.Bool.{and_parts}
 use Rattle.std.proofs.lemmas.Slice.Eq.{bytes_eq-Decides}
 use Rattle.otlp_reading.specs.Kinds.{field, unless_null}
 use Rattle.otlp_stream.specs.Taking.{Takes, TakesAs, TakesMembers, present, Sees, TakesField, AreFields, IsAt, is_at, placed}
@@ -24,18 +25,10 @@ tests true false e = e
 tests false true e = sym e
 tests false false e = refl
 
-first_of : (a b : Bool) → (a && b) ≡ true → a ≡ true
-first_of true b e = refl
-first_of false b e = e
-
-second_of : (a b : Bool) → (a && b) ≡ true → b ≡ true
-second_of true b e = e
-second_of false b e = cc
-
 pub tells_at : (qs : List (List ℕ)) (n : ℕ) (k : List ℕ) (i : ℕ) → is_at qs n k i ≡ true → IsAt qs n k i
 tells_at [] n k i e = tt
 tells_at (q ∷ qs) n k i e =
-    (tests (bytes_eq k q) (n == i) (first_of _ _ e), tells_at qs (suc n) k i (second_of _ _ e))
+    (tests (bytes_eq k q) (n == i) (and_parts _ _ e).0, tells_at qs (suc n) k i (and_parts _ _ e).1)
 
 none : (qs : List (List ℕ)) (n : ℕ) → AreFields qs n (λ i. None) no_members
 none [] n = tt

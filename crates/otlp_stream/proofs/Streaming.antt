@@ -1,5 +1,5 @@
 -- Objects and lists among the tokens, one member or item after another.
-use Rattle.std.proofs.Common.{◌≡◌, ℕ, ◌-◌, ◌<◌, List, [], ◌∷◌, ◌++◌, length, false, Option, Some, None, option_map, option_and_then, refl, sym, ap, ◌∙◌, arith, bytes_eq, true≢false}
+use Rattle.std.proofs.Common.{◌≡◌, ℕ, ◌-◌, ◌<◌, List, [], ◌∷◌, ◌++◌, length, false, Option, Some, None, option_map, option_and_then, refl, sym, ap, subst, ◌∙◌, arith, bytes_eq, true≢false}
 use Rattle.std.proofs.lemmas.Slice.Eq.{bytes_eq-Decides}
 use Rattle.json.specs.Token.{Token}
 use Rattle.json.specs.Json as json
@@ -58,14 +58,11 @@ pub Within-member : (depth : ℕ) (start now : List Token) (ms : Members) (k : L
 Within-member depth start now ms k s new d w key t =
     let j = converted_some of_json (value depth s) d new t.reads in
     let less = read_key-shorter now (Some k) s key in
-    let lesser = t.shorter in
-    let enough = w.enough in
-    let before = w.shorter in
     record {
       turns = w.turns - 1;
-      enough = omega arith;
-      so_far = w.so_far ∙ ap (converted (λ all. of_members all ms)) (members_more (value depth) w.turns k now s new j.0 (omega arith) key j.1) ∙ with_member k j.0 d ms j.2 _;
-      shorter = omega arith;
+      enough = omega (arith, less, t.shorter, w.enough, w.shorter);
+      so_far = w.so_far ∙ ap (converted (λ all. of_members all ms)) (members_more (value depth) w.turns k now s new j.0 (omega (arith, less, t.shorter, w.enough, w.shorter)) key j.1) ∙ with_member k j.0 d ms j.2 _;
+      shorter = omega (arith, less, t.shorter, w.enough, w.shorter);
     }
 
 pub Within-end : {A : Type 0} (read : Members → Option A) (x : A) (depth : ℕ) (start now : List Token) (ms : Members) (new : List Token)
@@ -126,20 +123,22 @@ none_yet (Some p) = refl
 pub WithinItems-start : (depth : ℕ) (start : List Token) → WithinItems depth start start []
 WithinItems-start depth start = record { turns = length start; enough = omega arith; so_far = none_yet _; shorter = omega arith }
 
-pub WithinItems-item : (depth : ℕ) (start now : List Token) (done : List Data) (new : List Token) (d : Data)
+WithinItems-item : (depth : ℕ) (start now : List Token) (done : List Data) (new : List Token) (d : Data)
     → WithinItems depth start now done → after_end_array now ≡ None → Takes depth now new d → WithinItems depth start new (done ++ d ∷ [])
 WithinItems-item depth start now done new d w going t =
     let j = converted_some of_json (value depth now) d new t.reads in
-    let lesser = t.shorter in
-    let enough = w.enough in
-    let before = w.shorter in
     record {
       turns = w.turns - 1;
-      enough = omega arith;
-      so_far = w.so_far ∙ ap (λ o. parse_map (items_then done) (converted of_items o)) (items_more (value depth) w.turns now new j.0 (omega arith) going j.1)
+      enough = omega (arith, t.shorter, w.enough, w.shorter);
+      so_far = w.so_far ∙ ap (λ o. parse_map (items_then done) (converted of_items o)) (items_more (value depth) w.turns now new j.0 (omega (arith, t.shorter, w.enough, w.shorter)) going j.1)
           ∙ ap (parse_map (items_then done)) (with_item j.0 d j.2 _) ∙ one_more done d _;
-      shorter = omega arith;
+      shorter = omega (arith, t.shorter, w.enough, w.shorter);
     }
+
+-- one more item, where the test for the end of the array took nothing
+pub WithinItems-next : (depth : ℕ) (start now : List Token) (done : List Data) (moved new : List Token) (d : Data)
+    → WithinItems depth start now done → after_end_array now ≡ None → moved ≡ now → Takes depth moved new d → WithinItems depth start new (done ++ d ∷ [])
+WithinItems-next depth start now done moved new d w going stays t = WithinItems-item depth start now done new d w going (subst (λ (s : List Token). Takes depth s new d) stays t)
 
 pub WithinItems-end : (depth : ℕ) (start now : List Token) (done : List Data) (new : List Token)
     → WithinItems depth start now done → after_end_array now ≡ Some new → TakesItems depth start new (items_then done no_items)

@@ -21,7 +21,7 @@ use Rattle.run_weave.proofs.Rans.{workers_ran}
 use Rattle.pipeline.specs.declared.fault.RunFault.{RunFault}
 use Rattle.pipeline.specs.declared.fault.RunFault.TheVariants.{NoMemory, BookFull, SinkDown}
 use Rattle.pipeline.specs.Outcome.{ReportsSums, TellsFull, TellsSink}
-use Rattle.pipeline.specs.Promise.{core_of, nodes_of, HasWorked, IsRun, RunTells}
+use Rattle.pipeline.specs.Promise.{core_of, nodes_of, HasWorked, IsRun, RunTells, CoreRunTells}
 
 sum_mapped : {X Y : Type 0} (g : Y → ℕ) (v : X → Y) (xs : List X) → sum_by g (map v xs) ≡ sum_by (λ (x : X). g (v x)) xs
 sum_mapped g v [] = refl
@@ -45,7 +45,7 @@ module _ {F X T : Type 0} (gives : F → Option X → F → Type 0) (known : X �
     (some : 0 < config.shards) (each : config.shards ≤ config.num_traces) (old new : ExporterState) (size : old.size ≡ config.send_batch_size) (up : old.sink.is_down ≡ false) (parts : List PartState) (is_full : Bool)
     (h : HasWorked gives known ticks_give config feeds ticks old new parts is_full) where
   is_run : (report : List ℕ) → AreSums parts report → is_full ≡ false → IsRun gives known ticks_give config feeds ticks old.sink new.sink report
-  is_run report sums not_full = record { ran = ran; holds = woven_headline (core_of config) config.lanes config.shards ran.threads ran.end (keeps_a_trace config some each) some ran.meets }
+  is_run report sums not_full = record { ran = ran; holds = woven_headline (core_of config) config.lanes config.shards ran.threads ran.end (keeps_a_trace config some each) some ran.ran.meets }
     where
       reports : ReportsAll h.left report
       reports count = sums count ∙ (sym (sum_mapped (λ (numbers : List ℕ). slice_index numbers (place_of count)) (λ (p : PartState). p.numbers) parts)
@@ -75,3 +75,11 @@ module _ {F X T : Type 0} (gives : F → Option X → F → Type 0) (known : X �
       (subst (λ (z : ℕ). RunTells gives known ticks_give config feeds ticks t z b l answer) failures
       (subst (λ (z : Option (List ℕ)). RunTells gives known ticks_give config feeds ticks t n z l answer) taken_after
       (subst (λ (z : ℕ). RunTells gives known ticks_give config feeds ticks t n a z answer) failures_after h)))
+
+  -- where nothing is said of the connections and the ticks
+  pub core_told : (taken : Option (List ℕ)) (failures : ℕ) (taken_after : Option (List ℕ)) (failures_after : ℕ) (answer : Result Report RunFault) → RunTells gives known ticks_give config feeds ticks taken failures taken_after failures_after answer
+      → CoreRunTells config taken failures taken_after failures_after answer
+  core_told taken failures taken_after failures_after (Ok report) h = record { threads = h.ran.threads; end = h.ran.end; ran = h.ran.ran; moments = h.ran.moments; same_ticks = h.ran.same_ticks; holds = h.holds }
+  core_told taken failures taken_after failures_after (Err (SinkDown report)) h = record { threads = h.ran.threads; end = h.ran.end; ran = h.ran.ran; moments = h.ran.moments; same_ticks = h.ran.same_ticks; holds = h.holds }
+  core_told taken failures taken_after failures_after (Err NoMemory) h = tt
+  core_told taken failures taken_after failures_after (Err BookFull) h = tt

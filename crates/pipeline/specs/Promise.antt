@@ -9,10 +9,11 @@ use Rattle.policy_tree.specs.Tree.{limiters}
 use Rattle.span_exporter.specs.Exports.{ExporterState}
 use Rattle.span_sink.specs.LineSinks.{LineSinkState, up_state, down_state}
 use Rattle.span_world.specs.World.{Config as CoreConfig, settings_for}
+use Rattle.span_weave.specs.Threads.{Threads, Export}
 use Rattle.span_weave.specs.Woven.{HoldsOfThreads}
 use Rattle.tsc_config.specs.declared.config.Config.{Config}
 use Rattle.run_weave.specs.Workers.{Given, Left, Worked, NoneFull, parts_of}
-use Rattle.run_weave.specs.Ran.{Ran}
+use Rattle.run_weave.specs.Ran.{ThreadsRan, Ran}
 use Rattle.pipeline.specs.declared.fault.RunFault.{RunFault}
 use Rattle.pipeline.specs.declared.fault.RunFault.TheVariants.{NoMemory, BookFull, SinkDown}
 
@@ -32,6 +33,13 @@ core_of config = record {
 abbrev pub nodes_of : Config → List LimiterNode
 nodes_of config = limiters (meaning config.policies)
 
+-- what each answer tells of the run, by the sink's bytes and failures before and after: such a run left this report
+abbrev pub AnswerTells : (LineSinkState → LineSinkState → List ℕ → Type 0) → (taken : Option (List ℕ)) → (failures : ℕ) → (taken_after : Option (List ℕ)) → (failures_after : ℕ) → Result Report RunFault → Type 0
+AnswerTells IsSuch taken failures taken_after failures_after (Ok report) = IsSuch (up_state taken failures) (up_state taken_after failures_after) report
+AnswerTells IsSuch taken failures taken_after failures_after (Err (SinkDown report)) = IsSuch (up_state taken failures) (down_state taken_after failures_after) report
+AnswerTells IsSuch taken failures taken_after failures_after (Err NoMemory) = Unit {0}
+AnswerTells IsSuch taken failures taken_after failures_after (Err BookFull) = Unit {0}
+
 module _ {F X T : Type 0} (gives : F → Option X → F → Type 0) (known : X → Connection) (ticks_give : T → Option ℕ → T → Type 0) (config : Config) (feeds : List F) (ticks : T) where
   -- all threads did what each promises, and their queues and seats were joined again; they counted with these parts
   pub record HasWorked (old new : ExporterState) (parts : List PartState) (is_full : Bool) : Type 0 where
@@ -50,9 +58,22 @@ module _ {F X T : Type 0} (gives : F → Option X → F → Type 0) (known : X �
     pub ran : Ran gives known ticks_give (core_of config) (nodes_of config) config.queue_capacity config.lanes config.shards feeds ticks old new report
     pub holds : HoldsOfThreads (core_of config) config.lanes config.shards ran.threads ran.end
 
-  -- what each answer tells of the run, by the sink's bytes and failures before and after
+  -- what each answer tells of the run
   abbrev pub RunTells : (taken : Option (List ℕ)) → (failures : ℕ) → (taken_after : Option (List ℕ)) → (failures_after : ℕ) → Result Report RunFault → Type 0
-  RunTells taken failures taken_after failures_after (Ok report) = IsRun (up_state taken failures) (up_state taken_after failures_after) report
-  RunTells taken failures taken_after failures_after (Err (SinkDown report)) = IsRun (up_state taken failures) (down_state taken_after failures_after) report
-  RunTells taken failures taken_after failures_after (Err NoMemory) = Unit {0}
-  RunTells taken failures taken_after failures_after (Err BookFull) = Unit {0}
+  RunTells = AnswerTells IsRun
+
+-- ---- a run of connections and ticks of which nothing is said
+
+module _ (config : Config) where
+  -- there is a run of the core, for which the headline holds, of which the report and the sink tell; each shard was sent the same moments
+  pub record IsCoreRun (old new : LineSinkState) (report : List ℕ) : Type 0 where
+    pub threads : Threads
+    pub end : Export
+    pub ran : ThreadsRan (core_of config) (nodes_of config) config.queue_capacity config.lanes config.shards old new report threads end
+    pub moments : List ℕ
+    pub same_ticks : (shard : ℕ) → threads.ticks shard ≡ moments
+    pub holds : HoldsOfThreads (core_of config) config.lanes config.shards threads end
+
+  -- what each answer tells of it
+  abbrev pub CoreRunTells : (taken : Option (List ℕ)) → (failures : ℕ) → (taken_after : Option (List ℕ)) → (failures_after : ℕ) → Result Report RunFault → Type 0
+  CoreRunTells = AnswerTells IsCoreRun

@@ -82,30 +82,43 @@ module _ (S : Type 0) (asks : S → ℕ → ℕ → ℕ → Bool → S → Type 
   pub answers-rate : (s t : S) (limit node : ℕ) (b : Bool) (a : Answer) → a ≡ answer_of (spec.plain b) → asks s node second (length spans) b t → Answers asks (rate_limiting limit) node second spans a s t
   answers-rate s t limit node b a e h = (b ∷ [], node ∷ [], record { answers = λ later. e; leaves = λ later. refl; asks = λ later. refl }, (t, h, refl))
 
-module _ (S : Type 0) (has : S → ℕ → Bool) (asks : S → ℕ → ℕ → ℕ → Bool → S → Type 0) (s0 : S) (policy : Policy) (node second : ℕ) (spans : List Arrival) where
-  -- of an `and` the parts `rest` are still to be asked, from number `next` on
-  pub record Turn (s : S) (rest : Policies) (next : ℕ) : Type 0 where
-    pub counted : next + nodes_in rest ≡ node + nodes policy
-    pub within : node + nodes policy ≤ 64
+module _ (S : Type 0) (has : S → ℕ → Bool) (asks : S → ℕ → ℕ → ℕ → Bool → S → Type 0) (s0 : S) (second : ℕ) (spans : List Arrival) where
+  -- what was asked on the way from `s0` to here, where the policies `rest` are still to be asked, from number `next` on
+  pub record Walked (s : S) (rest : Policies) (next : ℕ) : Type 0 where
     pub known : knows (has s) (limits_in rest next) ≡ true
     pub kept : (m : ℕ) → has s m ≡ has s0 m
     pub mine : List Bool
     pub asked : List ℕ
     pub so_far : Asked asks second (length spans) asked mine s0 s
-    pub answers : (later : List Bool) → answer_given policy (mine ++ later) spans ≡ spec.plain (each_samples_given rest later spans)
-    pub leaves : (later : List Bool) → left_by policy (mine ++ later) spans ≡ left_by_parts rest later spans
-    pub asking : (later : List Bool) → nodes_asked policy node (mine ++ later) spans ≡ asked ++ nodes_asked_in_turn rest next later spans
+
+  abbrev walked-first : (rest : Policies) (next : ℕ) → knows (has s0) (limits_in rest next) ≡ true → Walked s0 rest next
+  walked-first rest next known = record { known = known; kept = λ m. refl; mine = []; asked = []; so_far = refl }
+
+  abbrev walked-more : (s t : S) (p : Policy) (rest : Policies) (next : ℕ) (a : Answer) → Walked s (one_more p rest) next → Answers asks p next second spans a s t → ((m : ℕ) → has t m ≡ has s m) → Walked t rest (next + nodes p)
+  walked-more s t p rest next a w part keeps = record {
+    known = knows-rest (has s) (has t) p rest next keeps w.known;
+    kept = λ m. keeps m ∙ w.kept m;
+    mine = w.mine ++ part.0;
+    asked = w.asked ++ part.1;
+    so_far = asked-append asks second (length spans) w.asked part.1 w.mine part.0 s0 s t w.so_far part.3;
+  }
+
+module _ (S : Type 0) (has : S → ℕ → Bool) (asks : S → ℕ → ℕ → ℕ → Bool → S → Type 0) (s0 : S) (policy : Policy) (node second : ℕ) (spans : List Arrival) where
+  -- of an `and` the parts `rest` are still to be asked, from number `next` on
+  pub record Turn (s : S) (rest : Policies) (next : ℕ) : Type 0 where
+    pub counted : next + nodes_in rest ≡ node + nodes policy
+    pub within : node + nodes policy ≤ 64
+    pub walked : Walked S has asks s0 second spans s rest next
+    pub answers : (later : List Bool) → answer_given policy (walked.mine ++ later) spans ≡ spec.plain (each_samples_given rest later spans)
+    pub leaves : (later : List Bool) → left_by policy (walked.mine ++ later) spans ≡ left_by_parts rest later spans
+    pub asking : (later : List Bool) → nodes_asked policy node (walked.mine ++ later) spans ≡ walked.asked ++ nodes_asked_in_turn rest next later spans
 
   -- before the first part
   pub turn-first : (parts : Policies) → policy ≡ and_policy parts → node + nodes policy ≤ 64 → knows (has s0) (limits policy node) ≡ true → Turn s0 parts (node + 1)
   turn-first parts e within known = record {
     counted = let k : nodes policy ≡ nodes_in parts + 1 = ap nodes e in omega (arith, k);
     within = within;
-    known = let P = λ (p : Policy). knows (has s0) (limits p node) ≡ true in subst P e known;
-    kept = λ m. refl;
-    mine = [];
-    asked = [];
-    so_far = refl;
+    walked = let P = λ (p : Policy). knows (has s0) (limits p node) ≡ true in walked-first S has asks s0 second spans parts (node + 1) (subst P e known);
     answers = λ later. ap (λ p. answer_given p later spans) e;
     leaves = λ later. ap (λ p. left_by p later spans) e;
     asking = λ later. ap (λ p. nodes_asked p node later spans) e;
@@ -118,18 +131,14 @@ module _ (S : Type 0) (has : S → ℕ → Bool) (asks : S → ℕ → ℕ → �
       record {
         counted = omega (arith, w.counted);
         within = w.within;
-        known = knows-rest (has s) (has t) p rest next keeps w.known;
-        kept = λ m. keeps m ∙ w.kept m;
-        mine = w.mine ++ part.0;
-        asked = w.asked ++ part.1;
-        so_far = asked-append asks second (length spans) w.asked part.1 w.mine part.0 s0 s t w.so_far part.3;
-        answers = λ later. ap (λ bs. answer_given policy bs spans) (append_assoc w.mine part.0 later) ∙ w.answers (part.0 ++ later)
+        walked = walked-more S has asks s0 second spans s t p rest next a w.walked part keeps;
+        answers = λ later. ap (λ bs. answer_given policy bs spans) (append_assoc w.walked.mine part.0 later) ∙ w.answers (part.0 ++ later)
             ∙ (let e : spec.plain (each_samples_given (one_more p rest) (part.0 ++ later) spans) ≡ spec.plain (each_samples_given rest later spans) = rw (yes later, its.leaves later) in e);
-        leaves = λ later. ap (λ bs. left_by policy bs spans) (append_assoc w.mine part.0 later) ∙ w.leaves (part.0 ++ later)
+        leaves = λ later. ap (λ bs. left_by policy bs spans) (append_assoc w.walked.mine part.0 later) ∙ w.leaves (part.0 ++ later)
             ∙ (let e : left_by_parts (one_more p rest) (part.0 ++ later) spans ≡ left_by_parts rest later spans = rw (yes later, its.leaves later) in e);
-        asking = λ later. ap (λ bs. nodes_asked policy node bs spans) (append_assoc w.mine part.0 later) ∙ w.asking (part.0 ++ later)
+        asking = λ later. ap (λ bs. nodes_asked policy node bs spans) (append_assoc w.walked.mine part.0 later) ∙ w.asking (part.0 ++ later)
             ∙ (let e : nodes_asked_in_turn (one_more p rest) next (part.0 ++ later) spans ≡ part.1 ++ nodes_asked_in_turn rest (next + nodes p) later spans = rw (yes later, its.leaves later, its.asks later) in
-            ap (λ ns. w.asked ++ ns) e ∙ sym (append_assoc w.asked part.1 (nodes_asked_in_turn rest (next + nodes p) later spans)));
+            ap (λ ns. w.walked.asked ++ ns) e ∙ sym (append_assoc w.walked.asked part.1 (nodes_asked_in_turn rest (next + nodes p) later spans)));
       }
 
   -- a part that doesn't sample ends the walk
@@ -137,33 +146,33 @@ module _ (S : Type 0) (has : S → ℕ → Bool) (asks : S → ℕ → ℕ → �
   turn-stop s t p rest next a w part h =
       let its = part.2 in
       let no : (later : List Bool) → spec.samples (answer_given p (part.0 ++ later) spans) ≡ false = λ later. sym (samples-is (answer_given p (part.0 ++ later) spans)) ∙ sym (ap is_for (its.answers later)) ∙ h in (
-        w.mine ++ part.0,
-        w.asked ++ part.1,
+        w.walked.mine ++ part.0,
+        w.walked.asked ++ part.1,
         record {
           answers = λ later.
               let e : spec.plain (each_samples_given (one_more p rest) (part.0 ++ later) spans) ≡ spec.not_sample = rw (no later) in
-              sym (ap answer_of (ap (λ bs. answer_given policy bs spans) (append_assoc w.mine part.0 later) ∙ w.answers (part.0 ++ later) ∙ e));
+              sym (ap answer_of (ap (λ bs. answer_given policy bs spans) (append_assoc w.walked.mine part.0 later) ∙ w.answers (part.0 ++ later) ∙ e));
           leaves = λ later.
               let e : left_by_parts (one_more p rest) (part.0 ++ later) spans ≡ later = rw (no later) (its.leaves later) in
-              ap (λ bs. left_by policy bs spans) (append_assoc w.mine part.0 later) ∙ w.leaves (part.0 ++ later) ∙ e;
+              ap (λ bs. left_by policy bs spans) (append_assoc w.walked.mine part.0 later) ∙ w.leaves (part.0 ++ later) ∙ e;
           asks = λ later.
               let e : nodes_asked_in_turn (one_more p rest) next (part.0 ++ later) spans ≡ part.1 = rw (no later) (append-nil (nodes_asked p next (part.0 ++ later) spans) ∙ its.asks later) in
-              ap (λ bs. nodes_asked policy node bs spans) (append_assoc w.mine part.0 later) ∙ w.asking (part.0 ++ later) ∙ ap (λ ns. w.asked ++ ns) e;
+              ap (λ bs. nodes_asked policy node bs spans) (append_assoc w.walked.mine part.0 later) ∙ w.asking (part.0 ++ later) ∙ ap (λ ns. w.walked.asked ++ ns) e;
         },
-        asked-append asks second (length spans) w.asked part.1 w.mine part.0 s0 s t w.so_far part.3,
+        asked-append asks second (length spans) w.walked.asked part.1 w.walked.mine part.0 s0 s t w.walked.so_far part.3,
       )
 
   -- after the last part
   pub turn-last : (s : S) (next : ℕ) → Turn s no_more next → Answers asks policy node second spans Sample s0 s
   turn-last s next w = (
-    w.mine,
-    w.asked,
+    w.walked.mine,
+    w.walked.asked,
     record {
       answers = λ later. sym (ap answer_of (w.answers later));
       leaves = w.leaves;
-      asks = λ later. w.asking later ∙ append-nil w.asked;
+      asks = λ later. w.asking later ∙ append-nil w.walked.asked;
     },
-    w.so_far,
+    w.walked.so_far,
   )
 
 -- ---- the top policies
@@ -173,24 +182,16 @@ module _ (S : Type 0) (has : S → ℕ → Bool) (asks : S → ℕ → ℕ → �
   pub record Top (s : S) (rest : Policies) (next : ℕ) (seen : Seen) : Type 0 where
     pub counted : next + nodes_in rest ≡ nodes_in all
     pub within : nodes_in all ≤ 64
-    pub known : knows (has s) (limits_in rest next) ≡ true
-    pub kept : (m : ℕ) → has s m ≡ has s0 m
-    pub mine : List Bool
-    pub asked : List ℕ
-    pub so_far : Asked asks second (length spans) asked mine s0 s
-    pub tells : (later : List Bool) → Tells seen (answers_given rest later spans) (answers_given all (mine ++ later) spans)
-    pub asking : (later : List Bool) → nodes_asked_at_top all 0 (mine ++ later) spans ≡ asked ++ nodes_asked_at_top rest next later spans
+    pub walked : Walked S has asks s0 second spans s rest next
+    pub tells : (later : List Bool) → Tells seen (answers_given rest later spans) (answers_given all (walked.mine ++ later) spans)
+    pub asking : (later : List Bool) → nodes_asked_at_top all 0 (walked.mine ++ later) spans ≡ walked.asked ++ nodes_asked_at_top rest next later spans
 
   -- before the first policy
   pub top-first : nodes_in all ≤ 64 → knows (has s0) (limits_in all 0) ≡ true → Top s0 all 0 none_seen
   top-first within known = record {
     counted = omega arith;
     within = within;
-    known = known;
-    kept = λ m. refl;
-    mine = [];
-    asked = [];
-    so_far = refl;
+    walked = walked-first S has asks s0 second spans all 0 known;
     tells = λ later. record { sample = refl; not_sample = refl; inverted_sample = refl; inverted_not_sample = refl };
     asking = λ later. refl;
   }
@@ -201,33 +202,29 @@ module _ (S : Type 0) (has : S → ℕ → Bool) (asks : S → ℕ → ℕ → �
       record {
         counted = omega (arith, w.counted);
         within = w.within;
-        known = knows-rest (has s) (has t) p rest next keeps w.known;
-        kept = λ m. keeps m ∙ w.kept m;
-        mine = w.mine ++ part.0;
-        asked = w.asked ++ part.1;
-        so_far = asked-append asks second (length spans) w.asked part.1 w.mine part.0 s0 s t w.so_far part.3;
+        walked = walked-more S has asks s0 second spans s t p rest next a w.walked part keeps;
         tells = λ later.
             let first = answer_given p (part.0 ++ later) spans in
-            let told : Tells (seen_with (answer_of first) seen) (answers_given rest (left_by p (part.0 ++ later) spans) spans) (answers_given all (w.mine ++ (part.0 ++ later)) spans)
-            = tells-more seen first (answers_given rest (left_by p (part.0 ++ later) spans) spans) (answers_given all (w.mine ++ (part.0 ++ later)) spans) (w.tells (part.0 ++ later)) in
-            let P = λ (bs : List Bool). Tells (seen_with (answer_of first) seen) (answers_given rest bs spans) (answers_given all (w.mine ++ (part.0 ++ later)) spans) in
+            let told : Tells (seen_with (answer_of first) seen) (answers_given rest (left_by p (part.0 ++ later) spans) spans) (answers_given all (w.walked.mine ++ (part.0 ++ later)) spans)
+            = tells-more seen first (answers_given rest (left_by p (part.0 ++ later) spans) spans) (answers_given all (w.walked.mine ++ (part.0 ++ later)) spans) (w.tells (part.0 ++ later)) in
+            let P = λ (bs : List Bool). Tells (seen_with (answer_of first) seen) (answers_given rest bs spans) (answers_given all (w.walked.mine ++ (part.0 ++ later)) spans) in
             let Q = λ (bs : List Bool). Tells (seen_with (answer_of first) seen) (answers_given rest later spans) (answers_given all bs spans) in
-            let R = λ (x : Answer). Tells (seen_with x seen) (answers_given rest later spans) (answers_given all ((w.mine ++ part.0) ++ later) spans) in
-            subst R (sym (its.answers later)) (subst Q (sym (append_assoc w.mine part.0 later)) (subst P (its.leaves later) told));
-        asking = λ later. ap (λ bs. nodes_asked_at_top all 0 bs spans) (append_assoc w.mine part.0 later) ∙ w.asking (part.0 ++ later)
+            let R = λ (x : Answer). Tells (seen_with x seen) (answers_given rest later spans) (answers_given all ((w.walked.mine ++ part.0) ++ later) spans) in
+            subst R (sym (its.answers later)) (subst Q (sym (append_assoc w.walked.mine part.0 later)) (subst P (its.leaves later) told));
+        asking = λ later. ap (λ bs. nodes_asked_at_top all 0 bs spans) (append_assoc w.walked.mine part.0 later) ∙ w.asking (part.0 ++ later)
             ∙ (let e : nodes_asked_at_top (one_more p rest) next (part.0 ++ later) spans ≡ part.1 ++ nodes_asked_at_top rest (next + nodes p) later spans = rw (its.leaves later, its.asks later) in
-            ap (λ ns. w.asked ++ ns) e ∙ sym (append_assoc w.asked part.1 (nodes_asked_at_top rest (next + nodes p) later spans)));
+            ap (λ ns. w.walked.asked ++ ns) e ∙ sym (append_assoc w.walked.asked part.1 (nodes_asked_at_top rest (next + nodes p) later spans)));
       }
 
   -- after the last policy
   pub top-last : (s : S) (next : ℕ) (seen : Seen) (verdict : Verdict) → Top s no_more next seen → verdict ≡ verdict_of_seen seen → Evaluates asks all second spans verdict s0 s
   top-last s next seen verdict w e =
-      let full : w.mine ++ [] ≡ w.mine = append-nil w.mine in
-      let asked : asked_given all w.mine spans ≡ w.asked = ap (λ bs. nodes_asked_at_top all 0 bs spans) (sym full) ∙ w.asking [] ∙ append-nil w.asked in
+      let full : w.walked.mine ++ [] ≡ w.walked.mine = append-nil w.walked.mine in
+      let asked : asked_given all w.walked.mine spans ≡ w.walked.asked = ap (λ bs. nodes_asked_at_top all 0 bs spans) (sym full) ∙ w.asking [] ∙ append-nil w.walked.asked in
       let P = λ (bs : List Bool). verdict_of_seen seen ≡ spec.verdict_of_answers (answers_given all bs spans) in
-      let Q = λ (ns : List ℕ). Asked asks second (length spans) ns w.mine s0 s in (
-        w.mine,
-        e ∙ subst P full (tells-all seen (answers_given all (w.mine ++ []) spans) (w.tells [])),
-        same-eqb (length (asked_given all w.mine spans)) (length w.mine) (ap length asked ∙ asked-lengths asks second (length spans) w.asked w.mine s0 s w.so_far),
-        subst Q (sym asked) w.so_far,
+      let Q = λ (ns : List ℕ). Asked asks second (length spans) ns w.walked.mine s0 s in (
+        w.walked.mine,
+        e ∙ subst P full (tells-all seen (answers_given all (w.walked.mine ++ []) spans) (w.tells [])),
+        same-eqb (length (asked_given all w.walked.mine spans)) (length w.walked.mine) (ap length asked ∙ asked-lengths asks second (length spans) w.walked.asked w.walked.mine s0 s w.walked.so_far),
+        subst Q (sym asked) w.walked.so_far,
       )

@@ -77,24 +77,14 @@ impl Seen {
     pub fn with(self, answer: Answer) -> Seen
         ensures { result ≡ seen_with answer self }
     {
+        let mut seen = self;
         match answer {
-            Answer::Sample => Seen {
-                sample: true,
-                ..self
-            },
-            Answer::NotSample => Seen {
-                not_sample: true,
-                ..self
-            },
-            Answer::InvertedSample => Seen {
-                inverted_sample: true,
-                ..self
-            },
-            Answer::InvertedNotSample => Seen {
-                inverted_not_sample: true,
-                ..self
-            },
+            Answer::Sample => seen.sample = true,
+            Answer::NotSample => seen.not_sample = true,
+            Answer::InvertedSample => seen.inverted_sample = true,
+            Answer::InvertedNotSample => seen.inverted_not_sample = true,
         }
+        seen
     }
 
     /// The verdict by these answers.

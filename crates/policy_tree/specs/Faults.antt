@@ -5,6 +5,8 @@ use Rattle.policy_tree.specs.Tree.{Leaf, always_sample, latency, status_code, at
 use Rattle.policy_tree.specs.Meaning.{meaning}
 use Rattle.policy_tree.specs.declared.policy.Policy.{Policy, Policy-F, fold-Policy}
 use Rattle.policy_tree.specs.declared.policy.PolicyKind.TheOpen.{PolicyKind-F}
+use Rattle.policy_tree.specs.declared.leaves.LeafFault.{LeafFault}
+use Rattle.policy_tree.specs.declared.leaves.LeafFault.TheVariants as leaf_fault
 use Rattle.policy_tree.specs.declared.fault.PolicyFault.{PolicyFault}
 use Rattle.policy_tree.specs.declared.fault.PolicyFault.TheVariants.{EmptyList, TooDeep, TooMany, SameName, CrossedBounds, NoValues, NoMemory}
 
@@ -89,6 +91,11 @@ has_crossed_bounds (latency threshold upper) = not (upper == 0) && nat_le upper 
 has_crossed_bounds (status_code codes) = false
 has_crossed_bounds (attribute key wanted invert) = wants_crossed wanted
 has_crossed_bounds (span_count least most) = not (most == 0) && nat_lt most least
+
+-- the leaf has this fault
+abbrev pub has_leaf_fault : LeafFault → Leaf → Bool
+has_leaf_fault leaf_fault.CrossedBounds = has_crossed_bounds
+has_leaf_fault leaf_fault.NoValues = has_no_values
 
 -- the least fault that a list of policies has
 abbrev pub fault_of_policies : List Policy → Option PolicyFault

@@ -4,6 +4,17 @@ ghost use Rattle.policy_tree.specs.Faults.{named, has_name, has_same_names, has_
 
 use crate::policy::{Policy, PolicyKind};
 
+/// Whether two policies of a list inside the policy have the same name.
+#[cycle(names)]
+fn has_doubled_names_inside(policy: &Policy) -> bool
+    ensures { result ≡ (named policy.now).doubled }
+{
+    match &policy.kind {
+        PolicyKind::And { policies } => has_doubled_names(policies.as_slice()),
+        _ => false,
+    }
+}
+
 /// Whether two policies of the list, or of a list inside it, have the same name.
 #[cycle(names)]
 pub fn has_doubled_names(list: &[Policy]) -> bool
@@ -18,17 +29,6 @@ pub fn has_doubled_names(list: &[Policy]) -> bool
         }
     }
     false
-}
-
-/// Whether two policies of a list inside the policy have the same name.
-#[cycle(names)]
-fn has_doubled_names_inside(policy: &Policy) -> bool
-    ensures { result ≡ (named policy.now).doubled }
-{
-    match &policy.kind {
-        PolicyKind::And { policies } => has_doubled_names(policies.as_slice()),
-        _ => false,
-    }
 }
 
 fn has_same_names(list: &[Policy]) -> bool

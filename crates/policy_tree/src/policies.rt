@@ -6,7 +6,7 @@ ghost use Rattle.policy_tree.specs.Meaning.{meaning, policy_meaning};
 ghost use Rattle.policy_tree.specs.Faults.{fault_of_policies};
 
 use crate::fault::PolicyFault;
-use crate::leaves::{some_has_crossed_bounds, some_has_no_values};
+use crate::leaves::{LeafFault, some_has_fault};
 use crate::limiter_node::LimiterNode;
 use crate::names::has_doubled_names;
 use crate::policy::{Policy, PolicyKind};
@@ -100,9 +100,9 @@ fn fault_of(list: &[Policy]) -> Option<PolicyFault>
         Some(PolicyFault::TooMany)
     } else if has_doubled_names(list) {
         Some(PolicyFault::SameName)
-    } else if some_has_crossed_bounds(list) {
+    } else if some_has_fault(list, LeafFault::CrossedBounds) {
         Some(PolicyFault::CrossedBounds)
-    } else if some_has_no_values(list) {
+    } else if some_has_fault(list, LeafFault::NoValues) {
         Some(PolicyFault::NoValues)
     } else {
         None

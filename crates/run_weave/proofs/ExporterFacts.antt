@@ -1,6 +1,6 @@
 -- What the exporter promises, with one history of each shard's queue, as its lists.
 -- For the law of `Worked`.
-use Rattle.std.proofs.Common.{◌≡◌, ◌⊎◌, inl, inr, ℕ, ◌+◌, ◌<◌, ◌==◌, Bool, true, false, cond, List, [], ◌∷◌, ◌++◌, length, map, filter, flat_map, slice_get, Some, refl, sym, ap, subst, ◌∙◌, arith, length-append}
+use Rattle.std.proofs.Common.{◌≡◌, ◌⊎◌, inl, inr, ℕ, ◌+◌, ◌<◌, ◌==◌, Bool, true, false, cond, List, [], ◌∷◌, ◌++◌, length, map, filter, flat_map, slice_get, Some, Ok, Err, refl, sym, ap, subst, ◌∙◌, arith, append_assoc, length-append}
 use Rattle.std.specs.Prelude.{if◌then◌else◌}
 use Rattle.std.specs.List.{AllByRecursion, concat, sum_by}
 use Rattle.std.specs.Io.KnownBytes.{Appends}
@@ -18,7 +18,7 @@ use Rattle.drop_ledger.specs.Places.{place_of, Gains}
 use Rattle.lane_queue.specs.Ends.{EndState, ReceiverState, HasHistoryAt}
 use Rattle.lane_queue.specs.Merges.{of}
 use Rattle.lane_queue.proofs.Steps.{popped_then_held}
-use Rattle.shard_core.specs.Fate.{counts, under}
+use Rattle.shard_core.specs.Fate.{DroppedSpan, counts, under}
 use Rattle.shard_core.proofs.Counted.{under_append, under_counts}
 use Rattle.shard_worker.proofs.Counting.{same_place}
 use Rattle.span_batch.specs.Batches.{records_in, IsLineOf}
@@ -27,7 +27,7 @@ use Rattle.span_sink.proofs.Handing.{takes_handed_lines}
 use Rattle.span_exporter.specs.declared.answer.Flushed.{Flushed}
 use Rattle.span_exporter.specs.declared.answer.Flushed.TheVariants.{Handed, Spoiled, Empty}
 use Rattle.span_exporter.specs.Exports.{ExporterState}
-use Rattle.span_exporter.specs.Calls.{ExporterCall, pulled, flushed, noted, FlushedBatch, batches_flushed, CallsLead, CallsHand, FlushHands}
+use Rattle.span_exporter.specs.Calls.{ExporterCall, pulled, flushed, noted, FlushedBatch, batches_flushed, AnswersFor, CallsLead, CallsHand, FlushHands}
 use Rattle.span_exporter.specs.Work.{Works, NotesNothing, calls_of, shipments_in, counted_by, counted_in as counted_in_batches}
 use Rattle.span_exporter.proofs.Keeping.{sink_takes_lines}
 use Rattle.span_world.specs.World.{Config}
@@ -38,9 +38,11 @@ use Rattle.span_weave.proofs.Acts.{calls_are_acts}
 use Rattle.span_weave.proofs.Popping.{all_was_pulled}
 use Rattle.span_weave.proofs.Counting.{number}
 use Rattle.run_weave.specs.Jobs.{ExporterDid, counting}
-use Rattle.run_weave.specs.Ran.{AreLinesOf, Wrote}
+use Rattle.run_weave.specs.Ran.{AreLinesOf, Cut, Wrote}
 use Rattle.run_weave.specs.Workers.{zeros, ExporterOut}
-use Rattle.run_weave.proofs.Places.{chosen}
+use Rattle.run_weave.proofs.Places.{chosen, each_of_all}
+use Rattle.shard_core.proofs.ListFacts.{Each}
+use Rattle.span_sink.specs.declared.sink.SinkFault.TheVariants.{Failed}
 
 -- ---- what the exporter counts
 
@@ -159,6 +161,82 @@ call_lines batch ((shard, flushed answer) ∷ calls) hands quiet h =
     (lines_append (handed_by answer batch) (handed_in [] calls) (handed_lines h.0) (handed_lines h.1) (flush_lines batch answer h.0 h.3) (call_lines [] calls h.1 quiet.1 h.4))
 call_lines batch ((shard, noted line answer) ∷ calls) hands quiet h = absurd quiet.0
 
+-- the line at which a write failed is that of this batch, whose spans were counted so
+record FailedBatch (line : List ℕ) (counted : List DroppedSpan) : Type 0 where
+  batch : List Arrival
+  some : 0 < length batch
+  of_batch : IsLineOf (records_in batch) line
+  earlier : List DroppedSpan
+  later : List DroppedSpan
+  given_up : counted ≡ earlier ++ (counts ExporterDown batch ++ later)
+
+abbrev head_line : List Handing → List ℕ
+head_line [] = []
+head_line (x ∷ hands) = x.line
+
+abbrev head_ok : List Handing → Bool
+head_ok [] = true
+head_ok (x ∷ hands) = is_ok x.answer
+
+module _ (line : List ℕ) (after : List Handing) where
+  abbrev failing : Handing
+  failing = record { line = line; answer = Err Failed }
+
+  -- among these calls a write failed in this line
+  abbrev FailsIn : List Handing → Type 0
+  FailsIn hands = (before : List Handing) × (hands ≡ before ++ failing ∷ after)
+
+  counted_before : (front counted : List DroppedSpan) → FailedBatch line counted → FailedBatch line (front ++ counted)
+  counted_before front counted f = record {
+    batch = f.batch;
+    some = f.some;
+    of_batch = f.of_batch;
+    earlier = front ++ f.earlier;
+    later = f.later;
+    given_up = ap (λ (z : List DroppedSpan). front ++ z) f.given_up ∙ sym (append_assoc front f.earlier (counts ExporterDown f.batch ++ f.later));
+  }
+
+  without : (first rest : List Handing) → first ≡ [] → FailsIn (first ++ rest) → FailsIn rest
+  without first rest none f = (f.0, ap (λ (z : List Handing). z ++ rest) (sym none) ∙ f.1)
+
+  -- it is the call of this flush, or a later one
+  flush_failed : (batch : List Arrival) (answer : Flushed) (first rest : List Handing) (counted : List DroppedSpan) → AnswersFor batch answer → FlushHands batch answer first → (FailsIn rest → FailedBatch line counted)
+      → FailsIn (first ++ rest) → FailedBatch line (dropped_by answer batch ++ counted)
+  flush_failed batch Empty first rest counted answers h k f = k (without first rest h f)
+  flush_failed batch (Handed n) first rest counted answers h k f = go f.0 (ap (λ (z : List Handing). z ++ rest) (sym h.2) ∙ f.1)
+    where
+      go : (before : List Handing) → record { line = h.0; answer = Ok tt } ∷ rest ≡ before ++ failing ∷ after → FailedBatch line counted
+      go [] e = let differ : true ≡ false = ap head_ok e in absurd (cc differ)
+      go (b ∷ before) e = k (before, cc e)
+  flush_failed batch (Spoiled n NoMemory) first rest counted answers h k f = counted_before (counts NoMemory batch) counted (k (without first rest h f))
+  flush_failed batch (Spoiled n ExporterDown) first rest counted answers (inl h) k f = go f.0 (ap (λ (z : List Handing). z ++ rest) (sym h.2) ∙ f.1)
+    where
+      go : (before : List Handing) → record { line = h.0; answer = Err Failed } ∷ rest ≡ before ++ failing ∷ after → FailedBatch line (counts ExporterDown batch ++ counted)
+      go [] e = record { batch = batch; some = omega (arith, answers.0, answers.1); of_batch = subst (IsLineOf (records_in batch)) (ap head_line e) h.1; earlier = []; later = counted; given_up = refl }
+      go (b ∷ before) e = counted_before (counts ExporterDown batch) counted (k (before, cc e))
+  flush_failed batch (Spoiled n ExporterDown) first rest counted answers (inr h) k f = counted_before (counts ExporterDown batch) counted (k (without first rest h f))
+  flush_failed batch (Spoiled n InvalidId) first rest counted answers h k f = absurd h
+  flush_failed batch (Spoiled n QueueFull) first rest counted answers h k f = absurd h
+  flush_failed batch (Spoiled n Evicted) first rest counted answers h k f = absurd h
+  flush_failed batch (Spoiled n NotSampled) first rest counted answers h k f = absurd h
+  flush_failed batch (Spoiled n LateNotSampled) first rest counted answers h k f = absurd h
+
+  none_failed : FailsIn [] → FailedBatch line []
+  none_failed f = go f.0 f.1
+    where
+      go : (before : List Handing) → [] ≡ before ++ failing ∷ after → FailedBatch line []
+      go [] e = absurd (cc e)
+      go (b ∷ before) e = absurd (cc e)
+
+  failed_batch : (batch : List Arrival) (calls : List (ℕ × ExporterCall)) (hands : List Handing) → AllByRecursion (λ (x : ℕ × ExporterCall). NotesNothing x.1) calls
+      → Each (λ (b : FlushedBatch). AnswersFor b.spans b.answer) (batches_flushed batch (calls_of calls)) → CallsHand batch (calls_of calls) hands → FailsIn hands → FailedBatch line (counted_in batch calls)
+  failed_batch batch [] hands quiet answers h f = none_failed (f.0, sym h ∙ f.1)
+  failed_batch batch ((shard, pulled (ShippedSpan a) answer) ∷ calls) hands quiet answers h f = failed_batch (batch ++ a ∷ []) calls hands quiet.1 answers h f
+  failed_batch batch ((shard, pulled (ShippedEnd s) answer) ∷ calls) hands quiet answers h f = failed_batch batch calls hands quiet.1 answers h f
+  failed_batch batch ((shard, noted text answer) ∷ calls) hands quiet answers h f = absurd quiet.0
+  failed_batch batch ((shard, flushed answer) ∷ calls) hands quiet answers h f =
+      flush_failed batch answer h.0 h.1 (counted_in [] calls) answers.0 h.3 (λ later. failed_batch [] calls h.1 quiet.1 answers.1 h.4 later) (f.0, sym h.2 ∙ f.1)
+
 -- ---- the exporter
 
 -- the sink took these calls' lines and nothing else
@@ -180,7 +258,7 @@ module _ (c : Config) (capacity shards : ℕ) where
     pub flushed_all : end.batch ≡ []
     pub down : end.down ≡ out.exporter.sink.is_down
     pub gains : Gains (exporter_gains end) zeros out.counted
-    pub wrote : Wrote end.handed old.sink out.exporter.sink
+    pub wrote : Wrote end old.sink out.exporter.sink
 
   pub exporter_facts : (old : ExporterState) (receiver : ReceiverState Shipment) (out : ExporterOut) (sent : ℕ → List Arrival) → old.size ≡ c.batch_size → old.batch ≡ [] → old.sink.is_down ≡ false → length old.ends ≡ shards → length out.receiver.ends ≡ shards → out.is_full ≡ false
       → ((shard : ℕ) → shard < shards → HasShipped (sent shard) shard out.receiver.ends)
@@ -202,6 +280,7 @@ module _ (c : Config) (capacity shards : ℕ) where
         part = t.2.part;
         bytes = t.2.bytes;
         whole = λ is_up. whole is_up t.2.ends;
+        cut = λ is_down. cut is_down t.2.ends;
       };
     },
   )
@@ -248,3 +327,25 @@ module _ (c : Config) (capacity shards : ℕ) where
       whole : out.exporter.sink.is_down ≡ false → ((t.2.part ≡ []) × (out.exporter.sink.is_down ≡ old.sink.is_down) × (out.exporter.sink.failures ≡ old.sink.failures)) ⊎ ((old.sink.is_down ≡ false) × (out.exporter.sink.is_down ≡ true) × (out.exporter.sink.failures ≡ old.sink.failures + 1) × StopsWithin t.2.part t.0) → t.2.part ≡ []
       whole is_up (inl e) = e.0
       whole is_up (inr e) = absurd (cc (is_up, e.1))
+
+      -- the line at which a write failed is that of a batch that was given up for it
+      cut : out.exporter.sink.is_down ≡ true → ((t.2.part ≡ []) × (out.exporter.sink.is_down ≡ old.sink.is_down) × (out.exporter.sink.failures ≡ old.sink.failures)) ⊎ ((old.sink.is_down ≡ false) × (out.exporter.sink.is_down ≡ true) × (out.exporter.sink.failures ≡ old.sink.failures + 1) × StopsWithin t.2.part t.0) → Cut a.end.counted t.2.part
+      cut is_down (inl e) = absurd (cc (is_down, e.1, up))
+      cut is_down (inr e) =
+          let stops = e.3 in
+          let failed = failed_batch stops.line stops.after old.batch did.calls t.0 w.no_notes answers t.1 (stops.before, stops.place) in
+          record {
+            batch = failed.batch;
+            some = failed.some;
+            line = stops.line;
+            missing = stops.missing;
+            of_batch = failed.of_batch;
+            split = stops.split;
+            cut_short = stops.cut_short;
+            earlier = failed.earlier;
+            later = failed.later;
+            given_up = a.counted ∙ failed.given_up;
+          }
+        where
+          answers : Each (λ (b : FlushedBatch). AnswersFor b.spans b.answer) (batches_flushed old.batch (calls_of did.calls))
+          answers = subst (λ (z : List Arrival). Each (λ (b : FlushedBatch). AnswersFor b.spans b.answer) (batches_flushed z (calls_of did.calls))) (sym empty) (each_of_all _ _ w.answered)

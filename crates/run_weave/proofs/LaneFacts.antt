@@ -51,7 +51,7 @@ mapped v (x ∷ xs) (suc k) y e = mapped v xs k y e
 module _ {F X : Type 0} (gives : F → Option X → F → Type 0) (known : X → Connection) (capacity shards : ℕ) where
   -- a lane ran so, and made these tries
   pub record LaneFacts (number : ℕ) (feed : F) (out : LaneOut) (received : List Arrival) (tries : ℕ → List Try) : Type 0 where
-    pub ran : LaneRan gives known capacity number shards feed received
+    pub ran : LaneRan gives known capacity number shards feed received tries
     pub numbered : AreNumbered number received
     pub tried : (shard : ℕ) → map span_of (tries shard) ≡ filter (goes_to shards shard) received
     pub late : (shard : ℕ) → shard < shards → FullLate capacity 0 (tries shard)
@@ -65,7 +65,7 @@ module _ {F X : Type 0} (gives : F → Option X → F → Type 0) (known : X →
     all.0,
     t.tries,
     record {
-      ran = record { given = did.served.0; first = column; last = did.last; after = did.after; receives = all.1 };
+      ran = record { given = did.served.0; first = column; new_ends = new.0; end_count = new.1; last = did.last; after = did.after; receives = all.1; pushed = pushed };
       numbered = k.numbered;
       tried = λ shard. t.tried shard ∙ ap (λ n. filter (goes_to n shard) all.0) new.1;
       late = λ shard below.
@@ -73,8 +73,7 @@ module _ {F X : Type 0} (gives : F → Option X → F → Type 0) (known : X →
           subst (λ n. FullLate capacity n (t.tries shard)) (ap (λ (z : List Item). length z) (is_new shard p.0 p.1)) (t.late shard p.0 p.1);
       sent = λ shard end at.
           let q = mapped (with_end number) did.after.lane.ports shard end (ap (λ (z : List (EndState Item)). slice_get z shard) (sym did.ends) ∙ at) in
-          let p = some_read column shard (omega (arith, slice_get_within did.after.lane.ports shard q.0 q.1, t.same_length)) in
-          ap (λ (e : EndState Item). e.items) q.2 ∙ ap (λ (z : List Item). z ++ End number ∷ []) (t.sent_is shard p.0 q.0 p.1 q.1 ∙ ap (λ (z : List Item). z ++ map (λ a. Span a) (pushed_in (t.tries shard))) (is_new shard p.0 p.1));
+          ap (λ (e : EndState Item). e.items) q.2 ∙ ap (λ (z : List Item). z ++ End number ∷ []) (pushed shard q.0 q.1);
       counts = subst (λ n. Gains (lane_gains all.0 n) zeros out.counted) (t.refused_is ∙ ap (λ n. sum_below n (λ shard. length (refused_in (t.tries shard)))) new.1) (subst (Gains (lane_gains all.0 k.refused) zeros) did.counts k.counts);
     },
   )
@@ -100,6 +99,11 @@ module _ {F X : Type 0} (gives : F → Option X → F → Type 0) (known : X →
 
       is_new : (shard : ℕ) (p : EndState Item) → slice_get column shard ≡ Some p → p.items ≡ []
       is_new shard p at = each_at IsNew column shard p (each_of_all IsNew column new.0) at
+
+      pushed : (shard : ℕ) (q : EndState Item) → slice_get did.after.lane.ports shard ≡ Some q → q.items ≡ map (λ a. Span a) (pushed_in (t.tries shard))
+      pushed shard q at =
+          let p = some_read column shard (omega (arith, slice_get_within did.after.lane.ports shard q at, t.same_length)) in
+          t.sent_is shard p.0 q p.1 at ∙ ap (λ (z : List Item). z ++ map (λ a. Span a) (pushed_in (t.tries shard))) (is_new shard p.0 p.1)
 
   -- the lanes from a number on ran so
   pub record LanesFacts (number : ℕ) (feeds : List F) (outs : List LaneOut) : Type 0 where

@@ -6,3 +6,4 @@ pub mod ShardFacts
 pub mod ExporterFacts
 pub mod Rans
 pub mod Ties
+pub mod WrongRuns

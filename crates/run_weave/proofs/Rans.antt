@@ -20,6 +20,7 @@ use Rattle.drop_ledger.specs.declared.count.Count.TheVariants.{Received, Handed,
 use Rattle.drop_ledger.specs.Places.{place_of, Gains}
 use Rattle.drop_ledger.proofs.Sums.{numbers_are_sums}
 use Rattle.lane_queue.specs.Ends.{EndState, ReceiverState, IsNew, queues, HasHistoryAt}
+use Rattle.lane_queue.specs.Moments.{HasHistory}
 use Rattle.lane_worker.specs.Serving.{Connection}
 use Rattle.queue_grid.specs.Grid.{HasRowHistory}
 use Rattle.lane_worker.specs.Ticking.{with_ticks}
@@ -32,14 +33,14 @@ use Rattle.shard_worker.specs.Work.{counted_in}
 use Rattle.shared_budget.specs.Seats.{Stand, AsksAt}
 use Rattle.span_world.proofs.Routing.{some_read}
 use Rattle.span_world.specs.World.{Config, goes_to, settings_for}
-use Rattle.span_weave.specs.Threads.{Threads, Act, Export, Try, pushed, full, pushed_in, refused_in, span_of, Meets}
+use Rattle.span_weave.specs.Threads.{Threads, Act, Export, Try, pushed, full, items_of, pushed_in, refused_in, span_of, Meets}
 use Rattle.span_weave.specs.Popped.{HaveNoEnd}
 use Rattle.span_weave.specs.Woven.{sum_below}
 use Rattle.span_weave.proofs.Lists.{set_at, set_same, set_other}
 use Rattle.span_weave.proofs.Sums.{sum_none}
 use Rattle.run_weave.specs.Jobs.{ShardDid}
 use Rattle.run_weave.specs.Workers.{zeros, LaneOut, ShardIn, ShardOut, ShardsDid, LanesDid, Given, Left, senders_of, Worked, NoneFull, parts_of, ReportsAll}
-use Rattle.run_weave.specs.Ran.{counted_at, LimiterAnswers, Ran, WorkersRan}
+use Rattle.run_weave.specs.Ran.{counted_at, LimiterAnswers, HaveQueues, Ran, WorkersRan}
 use Rattle.run_weave.proofs.Logs.{lane_gains}
 use Rattle.run_weave.proofs.Places.{each_of_all, each_at, chosen, get_left, get_last, sum_places}
 use Rattle.run_weave.proofs.LaneFacts.{LaneFacts, LanesFacts, lanes_facts, mapped}
@@ -388,23 +389,35 @@ module _ {F X T : Type 0} (gives : F → Option X → F → Type 0) (known : X �
     one_history = w.seats;
   }
 
+  histories : HaveQueues capacity lanes shards threads
+  histories = record {
+    of_lanes = λ lane shard below there. history lane shard (omega (arith, below)) there (sent_by_lane shard lane below);
+    of_ticker = λ shard there. history lanes shard (omega arith) there (sent_by_ticker shard);
+  }
+    where
+      history : (sender shard : ℕ) → sender ≤ lanes → shard < shards → {items : List Item} → sent shard sender ≡ items → HasHistory capacity (items ++ End sender ∷ []) (items_of sender (popped shard))
+      history sender shard within there {items} e = subst (λ (z : List Item). HasHistory capacity (z ++ End sender ∷ []) (items_of sender (popped shard))) e ((shards_popped.1 shard there).facts.queue sender within)
+
   pub ran : Ran gives known ticks_give c nodes capacity lanes shards given.feeds given.ticks given.exporter.sink left.exporter.exporter.sink report
   ran = record {
     threads = threads;
     end = end_of_run;
-    meets = meets;
+    ran = record {
+      meets = meets;
+      queues = histories;
+      full_late = λ lane shard below there. (lane_below lane below).3.late shard there;
+      limiter = limiter;
+      wrote = exporter_there.2.wrote;
+      down = exporter_there.2.down;
+      reports = reports;
+    };
     lanes_ran = λ lane feed e.
         let out = some_read left.lanes lane (omega (arith, slice_get_within given.feeds lane feed e, lf.same_length)) in
         (lane_at_place lane feed out.0 e out.1).ran;
-    full_late = λ lane shard below there. (lane_below lane below).3.late shard there;
     last_ticks = w.ticker_did.last;
     moments = moments;
     ticked = w.ticker_did.ticked;
     same_ticks = λ shard. refl;
-    limiter = limiter;
-    wrote = exporter_there.2.wrote;
-    down = exporter_there.2.down;
-    reports = reports;
   }
 
 module _ {F X T : Type 0} (gives : F → Option X → F → Type 0) (known : X → Connection) (ticks_give : T → Option ℕ → T → Type 0) where

@@ -7,6 +7,7 @@ use Rattle.otlp_types.specs.declared.arrival.Item.TheVariants.{End}
 use Rattle.otlp_types.specs.declared.arrival.Shipment.TheVariants.{End as ShippedEnd}
 use Rattle.drop_ledger.specs.Places.{Gains}
 use Rattle.lane_queue.specs.Ends.{EndState, HasHistoryAt}
+use Rattle.lane_queue.specs.Moments.{HasHistory}
 use Rattle.lane_queue.specs.Merges.{of}
 use Rattle.lane_queue.proofs.Steps.{popped_then_held}
 use Rattle.shard_core.specs.Journal.{Entry, Settings, Journal, have_ended, IsAnswered}
@@ -57,6 +58,7 @@ module _ (capacity lanes : ℕ) where
   pub record ShardFacts (number : ℕ) (s : Settings) (given : ShardIn) (out : ShardOut) (sent : ℕ → List Item) (popped : List (ℕ × Entry)) : Type 0 where
     pub of_senders : AllByRecursion (λ (x : ℕ × Entry). x.0 ≤ lanes) popped
     pub of_each : (sender : ℕ) → sender ≤ lanes → items_of sender popped ≡ sent sender ++ End sender ∷ []
+    pub queue : (sender : ℕ) → sender ≤ lanes → HasHistory capacity (sent sender ++ End sender ∷ []) (items_of sender popped)
     pub marked : MarksApply s (past popped)
     pub answered : IsAnswered s (past popped)
     pub asked : AskedBy AsksAt s (past popped) given.seat out.seat
@@ -73,6 +75,11 @@ module _ (capacity lanes : ℕ) where
       of_senders = within;
       of_each = all_was_popped lanes popped sent held.0 within (λ sender l. ((sends sender l).0.no_end, held.1 sender (omega (arith, l))))
           (subst (λ (j : Journal). have_ended j (lanes + 1) ≡ true) same_past (subst (λ n. have_ended (past (with_ids popped)) n ≡ true) senders w.ended));
+      queue = λ sender l.
+          let has = (sends sender l).1 in
+          let at = has.history in
+          let steps = at.4 in
+          (steps.0, steps.1, steps.2, steps.3 ∙ has.all_sent at.0 at.2, steps.4 ∙ (w.of_queues.each sender at.1 at.3 ∙ of_items sender popped));
       marked = subst (MarksApply s) same_past w.marked;
       answered = subst (IsAnswered s) same_past w.answered;
       asked = subst (λ (j : Journal). AskedBy AsksAt s j given.seat out.seat) same_past w.asked;

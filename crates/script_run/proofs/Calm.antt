@@ -1,5 +1,5 @@
 -- What was calm at the end was calm before.
-use Rattle.std.proofs.Common.{◌≡◌, ℕ, true, false, List, [], ◌∷◌, ◌++◌, map, refl, ap, sym, subst, ◌∙◌, inl, inr}
+use Rattle.std.proofs.Common.{◌≡◌, ℕ, true, false, List, [], ◌∷◌, ◌++◌, map, refl, ap, sym, subst, ◌∙◌, inl, inr, ⊎_elim}
 use Rattle.std.specs.List.{AllByRecursion}
 use Rattle.otlp_types.specs.declared.arrival.Arrival.{Arrival}
 use Rattle.otlp_types.specs.declared.arrival.Item.{Item}
@@ -7,7 +7,7 @@ use Rattle.span_ids.specs.declared.outcome.Reason.{Reason}
 use Rattle.span_ids.specs.declared.outcome.Reason.TheVariants.{InvalidId, QueueFull, NoMemory, Evicted, NotSampled, LateNotSampled, ExporterDown}
 use Rattle.rate_budget.specs.Grant.{Asking}
 use Rattle.shard_core.specs.Journal.{Settings, Journal}
-use Rattle.span_sink.specs.LineSinks.{LineSinkState}
+use Rattle.span_sink.specs.LineSinks.{LineSinkState, FailsInside}
 use Rattle.span_exporter.specs.Exports.{Sends, Spoils, WritesLine}
 use Rattle.span_exporter.specs.declared.answer.Flushed.{Flushed}
 use Rattle.span_exporter.specs.declared.answer.Flushed.TheVariants.{Handed, Spoiled, Empty}
@@ -18,7 +18,7 @@ use Rattle.script_run.specs.Requests.{Reading, reads, refuses, reply_line}
 use Rattle.script_run.specs.World.{World, Sizes, Event, replied, was_sent, Turn, with_entry, Takes, TakesEach, TakesRounds, RunsToQuiet, RepliesAndRuns, Answers, Plays, PlaysAll, after_reply, entry_of}
 use Rattle.script_run.specs.Writing.{Writes, WritesAll}
 use Rattle.script_run.specs.Calm.{is_refusal, is_marked, IsUnmarked, Calm}
-use Rattle.script_run.proofs.Writing.{sends_writes}
+use Rattle.script_run.proofs.Writing.{sends_writes, spoils}
 
 -- what holds of each of these and more holds of these, and of the others
 pub all_left : {X : Type 0} (P : X → Type 0) (xs ys : List X) → AllByRecursion P (xs ++ ys) → AllByRecursion P xs
@@ -39,14 +39,7 @@ module _ (old new : LineSinkState) (up : new.is_down ≡ false) where
 
   -- a sink that is up was up before a batch was given up
   up_before_spoiled : (reason : Reason) (batch : List Arrival) → Spoils reason old batch new → old.is_down ≡ false
-  up_before_spoiled NoMemory batch h = h.0
-  up_before_spoiled ExporterDown batch (inl h) = h.2.was_up
-  up_before_spoiled ExporterDown batch (inr h) = was_up h.1
-  up_before_spoiled InvalidId batch h = absurd h
-  up_before_spoiled QueueFull batch h = absurd h
-  up_before_spoiled Evicted batch h = absurd h
-  up_before_spoiled NotSampled batch h = absurd h
-  up_before_spoiled LateNotSampled batch h = absurd h
+  up_before_spoiled reason batch h = ⊎_elim (λ (x : (line : List ℕ) × FailsInside old line new). x.1.was_up) (λ (e : new ≡ old). was_up e) (spoils reason batch old new h)
 
   -- a sink that is up was up before a batch was sent
   up_before_sent : (batch : List Arrival) (flushed : Flushed) → Sends old batch flushed new → old.is_down ≡ false

@@ -1,5 +1,5 @@
 -- The sink has the lines of the events, by induction over a script.
-use Rattle.std.proofs.Common.{◌≡◌, ℕ, ◌+◌, Bool, false, cond, List, [], ◌∷◌, ◌++◌, map, refl, ap, sym, subst, ◌∙◌, arith, inl, inr}
+use Rattle.std.proofs.Common.{◌≡◌, ℕ, ◌+◌, Bool, false, cond, List, [], ◌∷◌, ◌++◌, map, refl, ap, sym, subst, ◌∙◌, arith, ◌⊎◌, inl, inr, ⊎_elim}
 use Rattle.otlp_types.specs.declared.arrival.Arrival.{Arrival}
 use Rattle.shard_core.specs.Journal.{Settings}
 use Rattle.span_ids.specs.declared.outcome.Reason.{Reason}
@@ -29,6 +29,17 @@ sends_writes (one ∷ more) old new w = (w.0, w.1, sends_writes more w.0 new w.2
 
 -- ---- failures
 
+-- a batch that is given up leaves the sink as it was, or a write of its line failed
+pub spoils : (reason : Reason) (batch : List Arrival) (old new : LineSinkState) → Spoils reason old batch new → ((line : List ℕ) × FailsInside old line new) ⊎ (new ≡ old)
+spoils NoMemory batch old new h = inr h.1
+spoils ExporterDown batch old new (inl h) = inl (h.0, h.2)
+spoils ExporterDown batch old new (inr h) = inr h.1
+spoils InvalidId batch old new h = absurd h
+spoils QueueFull batch old new h = absurd h
+spoils Evicted batch old new h = absurd h
+spoils NotSampled batch old new h = absurd h
+spoils LateNotSampled batch old new h = absurd h
+
 module _ (first old new : LineSinkState) (f : FailedOnce first old) where
   -- a line that was taken whole keeps it
   took : (line : List ℕ) → TakesWhole old line new → FailedOnce first new
@@ -47,14 +58,7 @@ module _ (first old new : LineSinkState) (f : FailedOnce first old) where
 
   -- a batch that was given up keeps it
   spoiled : (reason : Reason) (batch : List Arrival) → Spoils reason old batch new → FailedOnce first new
-  spoiled NoMemory batch h = stayed h.1
-  spoiled ExporterDown batch (inl h) = failed h.0 h.2
-  spoiled ExporterDown batch (inr h) = stayed h.1
-  spoiled InvalidId batch h = absurd h
-  spoiled QueueFull batch h = absurd h
-  spoiled Evicted batch h = absurd h
-  spoiled NotSampled batch h = absurd h
-  spoiled LateNotSampled batch h = absurd h
+  spoiled reason batch h = ⊎_elim (λ (x : (line : List ℕ) × FailsInside old line new). failed x.0 x.1) (λ (e : new ≡ old). stayed e) (spoils reason batch old new h)
 
   -- a batch that was sent keeps it
   sent : (batch : List Arrival) (flushed : Flushed) → Sends old batch flushed new → FailedOnce first new

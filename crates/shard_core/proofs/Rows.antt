@@ -104,13 +104,9 @@ moments_go_back = refl
 abbrev two_traces : List Entry
 two_traces = error 2 0 0 ∷ error 1 1 0 ∷ span 2 2 5 ∷ span 1 3 5 ∷ span 3 4 6 ∷ tick 20000 ∷ []
 
-pub opening_then_arrival : released plain two_traces ≡ 0 ∷ 2 ∷ 1 ∷ 3 ∷ []
+pub opening_then_arrival : (released plain two_traces ≡ 0 ∷ 2 ∷ 1 ∷ 3 ∷ []) × (counted plain two_traces ≡ 0 ∷ 0 ∷ 1 ∷ 0 ∷ [])
 unfolding notes
-opening_then_arrival = refl
-
-pub opening_then_arrival_counts : counted plain two_traces ≡ 0 ∷ 0 ∷ 1 ∷ 0 ∷ []
-unfolding notes
-opening_then_arrival_counts = refl
+opening_then_arrival = (refl, refl)
 
 -- an error after the decision doesn't change it
 pub late_against : counted plain (span 1 0 0 ∷ tick 10000 ∷ error 1 1 12000 ∷ closing) ≡ 0 ∷ 0 ∷ 1 ∷ 1 ∷ []
@@ -153,46 +149,30 @@ fates = refl
 abbrev evicting_items : List Entry
 evicting_items = span 1 0 0 ∷ span 2 1 1 ∷ span 1 2 2 ∷ closing
 
-pub full_buffer_evicts_undecided : released (settings always (Some 1) 0 0) evicting_items ≡ 2 ∷ []
+pub full_buffer_evicts_undecided : (released (settings always (Some 1) 0 0) evicting_items ≡ 2 ∷ []) × (counted (settings always (Some 1) 0 0) evicting_items ≡ 0 ∷ 2 ∷ 0 ∷ 0 ∷ [])
 unfolding notes
-full_buffer_evicts_undecided = refl
-
-pub full_buffer_evicts_undecided_counts : counted (settings always (Some 1) 0 0) evicting_items ≡ 0 ∷ 2 ∷ 0 ∷ 0 ∷ []
-unfolding notes
-full_buffer_evicts_undecided_counts = refl
+full_buffer_evicts_undecided = (refl, refl)
 
 abbrev forgetting_items : List Entry
 forgetting_items = error 1 0 0 ∷ tick 10000 ∷ error 2 1 10000 ∷ tick 20000 ∷ error 3 2 20000 ∷ tick 30000 ∷ span 1 3 30000 ∷ tick 40000 ∷ closing
 
-pub cache_of_one_forgets : released (settings errors (Some 1) 1 0) forgetting_items ≡ 0 ∷ 1 ∷ 2 ∷ []
+pub cache_of_one_forgets : (released (settings errors (Some 1) 1 0) forgetting_items ≡ 0 ∷ 1 ∷ 2 ∷ []) × (counted (settings errors (Some 1) 1 0) forgetting_items ≡ 0 ∷ 0 ∷ 1 ∷ 0 ∷ [])
 unfolding notes
-cache_of_one_forgets = refl
-
-pub cache_of_one_forgets_counts : counted (settings errors (Some 1) 1 0) forgetting_items ≡ 0 ∷ 0 ∷ 1 ∷ 0 ∷ []
-unfolding notes
-cache_of_one_forgets_counts = refl
+cache_of_one_forgets = (refl, refl)
 
 abbrev renewing_items : List Entry
 renewing_items = error 1 0 0 ∷ tick 10000 ∷ error 2 1 10000 ∷ tick 20000 ∷ error 3 2 20000 ∷ span 1 3 20000 ∷ tick 30000 ∷ error 4 4 30000 ∷ span 1 5 30000 ∷ closing
 
-pub late_span_renews : released (settings errors (Some 1) 2 2) renewing_items ≡ 0 ∷ 1 ∷ 3 ∷ 2 ∷ 5 ∷ 4 ∷ []
+pub late_span_renews : (released (settings errors (Some 1) 2 2) renewing_items ≡ 0 ∷ 1 ∷ 3 ∷ 2 ∷ 5 ∷ 4 ∷ []) × (counted (settings errors (Some 1) 2 2) renewing_items ≡ 0 ∷ 0 ∷ 0 ∷ 0 ∷ [])
 unfolding notes
-late_span_renews = refl
-
-pub late_span_renews_counts : counted (settings errors (Some 1) 2 2) renewing_items ≡ 0 ∷ 0 ∷ 0 ∷ 0 ∷ []
-unfolding notes
-late_span_renews_counts = refl
+late_span_renews = (refl, refl)
 
 abbrev no_cache_items : List Entry
 no_cache_items = error 1 0 0 ∷ tick 10000 ∷ error 2 1 10000 ∷ span 1 2 15000 ∷ closing
 
-pub no_cache_forgets : released (settings errors (Some 1) 0 0) no_cache_items ≡ 0 ∷ []
+pub no_cache_forgets : (released (settings errors (Some 1) 0 0) no_cache_items ≡ 0 ∷ []) × (counted (settings errors (Some 1) 0 0) no_cache_items ≡ 0 ∷ 1 ∷ 1 ∷ 0 ∷ [])
 unfolding notes
-no_cache_forgets = refl
-
-pub no_cache_forgets_counts : counted (settings errors (Some 1) 0 0) no_cache_items ≡ 0 ∷ 1 ∷ 1 ∷ 0 ∷ []
-unfolding notes
-no_cache_forgets_counts = refl
+no_cache_forgets = (refl, refl)
 
 -- a lost put forgets its own decision alone: late spans of A are still sampled, B opens anew
 pub lost_alone : released (settings errors (Some 1) 1 1) (error 1 0 0 ∷ tick 10000 ∷ error 2 1 10000 ∷ tick 20000 ∷ marked_error 3 2 20000 false true ∷ span 1 3 20000 ∷ span 2 4 20000 ∷ closing) ≡ 0 ∷ 1 ∷ 3 ∷ []
@@ -213,13 +193,9 @@ renewed_twice = refl
 abbrev two_caches_items : List Entry
 two_caches_items = error 1 0 0 ∷ tick 10000 ∷ span 2 1 10000 ∷ tick 20000 ∷ error 3 2 20000 ∷ span 1 3 20000 ∷ error 2 4 20000 ∷ []
 
-pub two_caches : released (settings errors (Some 1) 1 1) two_caches_items ≡ 0 ∷ 3 ∷ []
+pub two_caches : (released (settings errors (Some 1) 1 1) two_caches_items ≡ 0 ∷ 3 ∷ []) × (counted (settings errors (Some 1) 1 1) two_caches_items ≡ 0 ∷ 0 ∷ 1 ∷ 1 ∷ [])
 unfolding notes
-two_caches = refl
-
-pub two_caches_counts : counted (settings errors (Some 1) 1 1) two_caches_items ≡ 0 ∷ 0 ∷ 1 ∷ 1 ∷ []
-unfolding notes
-two_caches_counts = refl
+two_caches = (refl, refl)
 
 -- a trace forgotten and opened again is remembered by its new verdict
 pub new_verdict : counted (settings errors (Some 1) 1 1) (error 1 0 0 ∷ tick 10000 ∷ error 2 1 10000 ∷ tick 20000 ∷ error 3 2 20000 ∷ tick 30000 ∷ span 1 3 30000 ∷ tick 40000 ∷ span 4 4 40000 ∷ error 1 5 40000 ∷ []) ≡ 0 ∷ 0 ∷ 1 ∷ 1 ∷ []
@@ -238,13 +214,9 @@ ending t n end = took (Span (arrival t n 1000 0 0 end))
 abbrev slow_items : List Entry
 slow_items = ending 1 0 0 ∷ ending 1 1 499999999 ∷ ending 2 2 500000000 ∷ ending 2 3 500000000 ∷ ending 3 4 500000000 ∷ tick_with 11000 ([] ∷ (true ∷ []) ∷ (true ∷ []) ∷ []) ∷ []
 
-pub and_of_latency_and_rate : released (settings slow_few None 0 0) slow_items ≡ 2 ∷ 3 ∷ 4 ∷ []
+pub and_of_latency_and_rate : (released (settings slow_few None 0 0) slow_items ≡ 2 ∷ 3 ∷ 4 ∷ []) × (counted (settings slow_few None 0 0) slow_items ≡ 0 ∷ 0 ∷ 2 ∷ 0 ∷ [])
 unfolding notes
-and_of_latency_and_rate = refl
-
-pub and_of_latency_and_rate_counts : counted (settings slow_few None 0 0) slow_items ≡ 0 ∷ 0 ∷ 2 ∷ 0 ∷ []
-unfolding notes
-and_of_latency_and_rate_counts = refl
+and_of_latency_and_rate = (refl, refl)
 
 abbrev few : Policies
 few = one_more (rate_limiting 3) no_more
@@ -302,10 +274,14 @@ ends_by_number = refl
 
 -- ---- the clock at the first root
 
-abbrev pub child : (t n m : ℕ) → Entry
-child t n m =
-    let a = arrival t n m 0 0 0 in
+-- a span of this status that has a parent
+abbrev child_with : (code t n m : ℕ) → Entry
+child_with code t n m =
+    let a = arrival t n m code 0 0 in
     took (Span (record a { rec = record a.rec { span = record a.rec.span { ids = Some (record (ids t n) { parent = Some (9 ∷ []) }) } } }))
+
+abbrev pub child : (t n m : ℕ) → Entry
+child t n m = child_with 0 t n m
 
 abbrev pub roots : List Entry → List (Option ℕ)
 unfolding notes
@@ -332,9 +308,7 @@ decided_keeps_none = refl
 -- ---- root wait
 
 abbrev pub child_error : (t n m : ℕ) → Entry
-child_error t n m =
-    let a = arrival t n m 2 0 0 in
-    took (Span (record a { rec = record a.rec { span = record a.rec.span { ids = Some (record (ids t n) { parent = Some (9 ∷ []) }) } } }))
+child_error t n m = child_with 2 t n m
 
 -- a root wait of two seconds
 abbrev with_roots : Option ℕ → Settings

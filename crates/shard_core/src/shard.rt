@@ -5,7 +5,7 @@ ghost use Rattle.shard_core.specs.Journal.{Journal, IsAnswered};
 ghost use Rattle.policy_tree.specs.Tree.{limiters};
 ghost use Rattle.policy_tree.specs.Meaning.{meaning};
 ghost use Rattle.policy_eval.specs.Meaning.{knows};
-ghost use Rattle.shard_core.specs.Fate.{effect, effect_dealt, output, released_dealt, dropped_dealt};
+ghost use Rattle.shard_core.specs.Fate.{effect, effect_dealt, released_dealt, dropped_dealt};
 ghost use Rattle.shard_core.specs.Taking.{Releases, answer_to_late};
 ghost use Rattle.shard_core.specs.Holding.{KeepsAs, leaves_forgotten};
 
@@ -222,7 +222,6 @@ impl Shard {
         ensures keeps { (node : ℕ) → L.has_node limiter.new node ≡ L.has_node limiter.old node }
         ensures all_dealt { result ≡ Decided.Nothing → (past : Journal) (dealt : ℕ) → StandsFor self.old past dealt → effect_dealt (settings self.old) past dealt ≡ effect (settings self.old) past }
         ensures answered { result ≡ Decided.Nothing → (past : Journal) (dealt : ℕ) → StandsFor self.old past dealt → IsAnswered (settings self.old) past }
-        ensures output { result ≡ Decided.Nothing → (past : Journal) (dealt : ℕ) → StandsFor self.old past dealt → released_dealt (settings self.old) past dealt ≡ output (settings self.old) past }
         ensures nothing { result ≡ Decided.Nothing → has_due self.new ≡ false }
         ensures fewer { (result ≡ Decided.Nothing) ⊎ (waiting self.new < waiting self.old) }
         ensures finished { is_finished self.new ≡ is_finished self.old }

@@ -1,3 +1,9 @@
+//! An item of a journal, and what it does at once.
+ghost use Rattle.std.specs.Coded.{codes};
+ghost use Rattle.shard_core.specs.Journal.{Entry as EntryData};
+ghost use Rattle.shard_core.specs.Fate.{DroppedSpan as DroppedSpanData, Effect as EffectData};
+ghost use Rattle.otlp_types.specs.contracts.value.AnyValue as any_value;
+
 use otlp_types::{Arrival, Item, List};
 use span_ids::{ArrivalKey, Reason};
 use std::marker::Model;
@@ -15,10 +21,6 @@ pub struct Entry {
 }
 
 impl Model for Entry {
-    ghost use Rattle.shard_core.specs.Journal.{Entry as EntryData};
-    ghost use Rattle.std.specs.Coded.{codes};
-    ghost use Rattle.otlp_types.specs.contracts.value.AnyValue as any_value;
-
     ghost Value = { EntryData };
 
     ghost coded = { Prim.hlevel (codes, any_value.the_row.coded) };
@@ -34,8 +36,6 @@ pub struct DroppedSpan {
 }
 
 impl Model for DroppedSpan {
-    ghost use Rattle.shard_core.specs.Fate.{DroppedSpan as DroppedSpanData};
-
     ghost Value = { DroppedSpanData };
 
     ghost view = { λ d. record { reason = d.reason; key = d.key } };
@@ -53,10 +53,6 @@ pub struct Effect {
 }
 
 impl Model for Effect {
-    ghost use Rattle.shard_core.specs.Fate.{Effect as EffectData};
-    ghost use Rattle.std.specs.Coded.{codes};
-    ghost use Rattle.otlp_types.specs.contracts.value.AnyValue as any_value;
-
     ghost Value = { EffectData };
 
     ghost coded = { Prim.hlevel (codes, any_value.the_row.coded) };

@@ -1,9 +1,11 @@
 //! What is noted of a journal, the newest first: openings, decisions and touches.
-ghost use Rattle.std.specs.Prelude.{◌≡◌, Bool, ◌==◌, ◌-◌, ◌∷◌, ◌&&◌, OnOk, position, find, option_copied, slice_get, length, option_map, is_none, nat_lt, not, take_while, if◌then◌else◌};
+ghost use Rattle.std.specs.Prelude.{◌≡◌, Bool, ◌==◌, ◌-◌, [], ◌∷◌, ◌&&◌, OnOk, position, find, option_copied, slice_get, length, option_map, is_none, nat_lt, not, take_while, if◌then◌else◌};
 ghost use Rattle.std.specs.List.{list_any};
+ghost use Rattle.std.specs.Coded.{codes};
+ghost use Rattle.otlp_types.specs.contracts.value.AnyValue as any_value;
 ghost use Rattle.span_ids.specs.Same.{same_trace};
-ghost use Rattle.decision_cache.specs.Touches.{is_same_verdict, last_touched, touches_since};
-ghost use Rattle.shard_core.specs.Journal.{last_of, leaving};
+ghost use Rattle.decision_cache.specs.Touches.{Touch as TouchData, is_same_verdict, last_touched, touches_since};
+ghost use Rattle.shard_core.specs.Journal.{Opening as OpeningData, Decision as DecisionData, Notes as NotesData, last_of, leaving};
 ghost use Rattle.shard_journal.specs.Touched.{is_further, is_touched};
 
 use span_ids::{Moment, TraceId, Verdict};
@@ -19,8 +21,6 @@ pub struct Opening {
 }
 
 impl Model for Opening {
-    ghost use Rattle.shard_core.specs.Journal.{Opening as OpeningData};
-
     ghost Value = { OpeningData };
 
     ghost view = { λ o. record { at = o.at; trace = o.trace; moment = o.moment } };
@@ -68,11 +68,6 @@ pub struct Decision {
 }
 
 impl Model for Decision {
-    ghost use Rattle.std.specs.Prelude.{[]};
-    ghost use Rattle.shard_core.specs.Journal.{Decision as DecisionData};
-    ghost use Rattle.std.specs.Coded.{codes};
-    ghost use Rattle.otlp_types.specs.contracts.value.AnyValue as any_value;
-
     ghost Value = { DecisionData };
 
     ghost coded = { Prim.hlevel (codes, any_value.the_row.coded) };
@@ -113,8 +108,6 @@ pub struct Touch {
 }
 
 impl Model for Touch {
-    ghost use Rattle.decision_cache.specs.Touches.{Touch as TouchData};
-
     ghost Value = { TouchData };
 
     ghost view = { λ t. record { episode = t.episode; trace = t.trace; verdict = t.verdict } };
@@ -173,10 +166,6 @@ pub struct Notes {
 }
 
 impl Model for Notes {
-    ghost use Rattle.shard_core.specs.Journal.{Notes as NotesData};
-    ghost use Rattle.std.specs.Coded.{codes};
-    ghost use Rattle.otlp_types.specs.contracts.value.AnyValue as any_value;
-
     ghost Value = { NotesData };
 
     ghost coded = { Prim.hlevel (codes, any_value.the_row.coded) };

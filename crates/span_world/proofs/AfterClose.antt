@@ -187,6 +187,12 @@ module _ (c : Config) (room : HasRoom c.limit) (w : World) (given : AllAnswered 
   is_sender shard sh sender None g e = omega (arith, eqb-true sender (length w.lanes) e)
   is_sender shard sh sender (Some l) g e = omega (arith, get_below w.lanes sender l g)
 
+  -- no span is left to be routed
+  none_next : (lane shard : ℕ) (l : Lane) → slice_get w.lanes lane ≡ Some l → (n : Arrival × List Arrival) → next_for w l shard ≡ Some n → ⊥
+  none_next lane shard l at n is =
+      let t = taken (goes_to (length w.shards) shard) l.unrouted n is in
+      no_middle t.front t.back n.0 l.unrouted (no_unrouted lane l at) t.was
+
   -- no other step is enabled
   not_enabled : (s : Step) (next : World) → step c w s ≡ Some next → (s ≡ fail) × (next.handed ≡ w.handed) × (next.counted ≡ w.counted)
   not_enabled (receive lane ordinal moment records) next e =
@@ -197,14 +203,12 @@ module _ (c : Config) (room : HasRoom c.limit) (w : World) (given : AllAnswered 
       let k = and_then_some _ (slice_get w.lanes lane) next e in
       let m = and_then_some _ (slice_get w.shards shard) next k.2 in
       let n = map_some _ (next_for w k.0 shard) next m.2 in
-      let t = taken (goes_to (length w.shards) shard) k.0.unrouted n.0 n.1 in
-      absurd (no_middle t.front t.back n.0.0 k.0.unrouted (no_unrouted lane k.0 k.1) t.was)
+      absurd (none_next lane shard k.0 k.1 n.0 n.1)
   not_enabled (refuse lane shard) next e =
       let k = and_then_some _ (slice_get w.lanes lane) next e in
       let m = and_then_some _ (slice_get w.shards shard) next k.2 in
       let n = map_some _ (next_for w k.0 shard) next m.2 in
-      let t = taken (goes_to (length w.shards) shard) k.0.unrouted n.0 n.1 in
-      absurd (no_middle t.front t.back n.0.0 k.0.unrouted (no_unrouted lane k.0 k.1) t.was)
+      absurd (none_next lane shard k.0 k.1 n.0 n.1)
   not_enabled (take_step shard refused lost) next e =
       let k = and_then_some _ (slice_get w.shards shard) next e in
       let f : take_on c w shard refused lost k.0 [] ≡ Some next = subst (λ (q : List Arrival). take_on c w shard refused lost k.0 q ≡ Some next) (at_shard shard k.0 k.1).queue k.2 in

@@ -237,8 +237,8 @@ module _ (c : Config) (room : HasRoom c.limit) (w : World) (h : SourcedAt c w) (
   spoil_cause Evicted e b k = absurd (cc e)
   spoil_cause DecidedAgainst e b k = absurd (cc e)
   spoil_cause LateNotSampled e b k = absurd (cc e)
-  spoil_cause NoMemory e b k = let i = k.released in inr (record { shard = k.shard; sh = k.sh; at = k.at; fate = record { ids = i.ids; valid = i.valid; refused = false; lost = i.lost; given = i.given; later = i.later; before = i.before; split = i.split; is = i.fate_is } })
-  spoil_cause ExporterDown e b k = let i = k.released in (e, record { shard = k.shard; sh = k.sh; at = k.at; fate = record { ids = i.ids; valid = i.valid; refused = false; lost = i.lost; given = i.given; later = i.later; before = i.before; split = i.split; is = i.fate_is } })
+  spoil_cause NoMemory e b k = let i = k.released in inr (record { shard = k.shard; sh = k.sh; at = k.at; fate = record { ids = i.ids; valid = i.valid; refused = false; lost = i.lost; given = i.given; later = i.later; before = i.before; split = i.split; is = i.holds } })
+  spoil_cause ExporterDown e b k = let i = k.released in (e, record { shard = k.shard; sh = k.sh; at = k.at; fate = record { ids = i.ids; valid = i.valid; refused = false; lost = i.lost; given = i.given; later = i.later; before = i.before; split = i.split; is = i.holds } })
 
   sourced : (next : World) → Stepped c w next → Next next
   sourced next (received_by lane ordinal moment records l g p e) = subst Next e (

@@ -143,48 +143,39 @@ pub undecided_ascend : (s : Settings) (J : Journal) (noted : Notes) → Sound s 
 undecided_ascend s J noted h = let fr = buffer_front s.limit noted.openings in
     Pairs-reverse IsOlder (filter (is_open noted) (in_buffer s noted)) (Pairs-filter IsOlder (is_open noted) (in_buffer s noted) (Pairs-left IsOlder (in_buffer s noted) fr.0 (rw fr.1 at (h.ordered))))
 
-pub dealt_with : (s : Settings) → HasRoom s.limit → (J : Journal) (dealt : ℕ) (d : Decision) → slice_get (decisions_now s J) dealt ≡ Some d
-    → Dealing d (content s J (notes_dealt s J dealt)) (content s J (notes_dealt s J (suc dealt)))
-dealt_with s room [] dealt d e = absurd (cc e)
-dealt_with s room (e ∷ J) dealt d is = by_item e.item e.refused e.lost e.answers is
+-- the next decision deals with its episode, which stands open in the buffer until then
+abbrev Deals : Settings → Journal → ℕ → Decision → Type 0
+Deals s J dealt d = Dealing d (content s J (notes_dealt s J dealt)) (content s J (notes_dealt s J (suc dealt)))
+    × ((is_open (notes_dealt s J dealt) d.opening ≡ true) × Split d.opening (in_buffer s (notes_dealt s J dealt)))
+
+deals : (s : Settings) → HasRoom s.limit → (J : Journal) (dealt : ℕ) (d : Decision) → slice_get (decisions_now s J) dealt ≡ Some d → Deals s J dealt d
+deals s room [] dealt d e = absurd (cc e)
+deals s room (e ∷ J) dealt d is = by_item e.item e.refused e.lost e.answers is
   where
     noted : Notes
     noted = notes s J
 
     in_general : (e : Entry) → after_item s e J e.item noted ≡ noted → slice_get (decisions_at s e J noted) dealt ≡ Some d
         → Dealing d (content s (e ∷ J) (after_decisions (take dealt (decisions_at s e J noted)) noted)) (content s (e ∷ J) (after_decisions (take (suc dealt) (decisions_at s e J noted)) noted))
+        × ((is_open (after_decisions (take dealt (decisions_at s e J noted)) noted) d.opening ≡ true) × Split d.opening (in_buffer s noted))
     in_general e q is =
         let h : Sound s (e ∷ J) noted = rw q at (sound_item s room J e.item e noted (sound_notes s room J)) in
         let hn : Sound s (e ∷ J) (after_decisions (take dealt (decisions_at s e J noted)) noted) = rw q at (sound_dealt s room (e ∷ J) dealt) in
-        dealing s (e ∷ J) noted h (due_at s e J e.item noted) e.answers
-        (Pairs-due IsEarlier s e J e.item noted (undecided_ascend s J noted (sound_notes s room J)))
-        (Each-due (λ (o : Opening). Split o (in_buffer s noted) × (is_open noted o ≡ true)) s e J e.item noted (undecided_stand s noted)) dealt d is hn
-
-    by_item : (item : Item) (refused lost : Bool) (given : List (List Bool)) → slice_get (decisions_at s (record { item = item; refused = refused; lost = lost; answers = given }) J noted) dealt ≡ Some d
-        → Dealing d (content s (record { item = item; refused = refused; lost = lost; answers = given } ∷ J) (notes_dealt s (record { item = item; refused = refused; lost = lost; answers = given } ∷ J) dealt)) (content s (record { item = item; refused = refused; lost = lost; answers = given } ∷ J) (notes_dealt s (record { item = item; refused = refused; lost = lost; answers = given } ∷ J) (suc dealt)))
-    by_item (Span a) refused lost given is = absurd (cc is)
-    by_item (Tick m) refused lost given is = in_general (record { item = Tick m; refused = refused; lost = lost; answers = given }) refl is
-    by_item (End i) refused lost given is = in_general (record { item = End i; refused = refused; lost = lost; answers = given }) refl is
-
--- the episode of the next decision stands open in the buffer until it is dealt with
-pub open_dealt : (s : Settings) → HasRoom s.limit → (J : Journal) (dealt : ℕ) (d : Decision) → slice_get (decisions_now s J) dealt ≡ Some d
-    → (is_open (notes_dealt s J dealt) d.opening ≡ true) × Split d.opening (in_buffer s (notes_dealt s J dealt))
-open_dealt s room [] dealt d e = absurd (cc e)
-open_dealt s room (e ∷ J) dealt d is = by_item e.item e.refused e.lost e.answers is
-  where
-    noted : Notes
-    noted = notes s J
-
-    in_general : (e : Entry) → after_item s e J e.item noted ≡ noted → slice_get (decisions_at s e J noted) dealt ≡ Some d
-        → (is_open (after_decisions (take dealt (decisions_at s e J noted)) noted) d.opening ≡ true) × Split d.opening (in_buffer s noted)
-    in_general e q is =
-        let h : Sound s (e ∷ J) noted = rw q at (sound_item s room J e.item e noted (sound_notes s room J)) in
+        let due = due_at s e J e.item noted in
         let ascends = Pairs-due IsEarlier s e J e.item noted (undecided_ascend s J noted (sound_notes s room J)) in
         let stand = Each-due (λ (o : Opening). Split o (in_buffer s noted) × (is_open noted o ≡ true)) s e J e.item noted (undecided_stand s noted) in
-        (open_now s (e ∷ J) noted h (due_at s e J e.item noted) e.answers ascends stand dealt d is, (place s (e ∷ J) noted h (due_at s e J e.item noted) e.answers ascends stand dealt d is).0)
+        (dealing s (e ∷ J) noted h due e.answers ascends stand dealt d is hn, (open_now s (e ∷ J) noted h due e.answers ascends stand dealt d is, (place s (e ∷ J) noted h due e.answers ascends stand dealt d is).0))
 
     by_item : (item : Item) (refused lost : Bool) (given : List (List Bool)) → slice_get (decisions_at s (record { item = item; refused = refused; lost = lost; answers = given }) J noted) dealt ≡ Some d
-        → let e : Entry = record { item = item; refused = refused; lost = lost; answers = given } in (is_open (notes_dealt s (e ∷ J) dealt) d.opening ≡ true) × Split d.opening (in_buffer s (notes_dealt s (e ∷ J) dealt))
+        → Deals s (record { item = item; refused = refused; lost = lost; answers = given } ∷ J) dealt d
     by_item (Span a) refused lost given is = absurd (cc is)
     by_item (Tick m) refused lost given is = in_general (record { item = Tick m; refused = refused; lost = lost; answers = given }) refl is
     by_item (End i) refused lost given is = in_general (record { item = End i; refused = refused; lost = lost; answers = given }) refl is
+
+pub dealt_with : (s : Settings) → HasRoom s.limit → (J : Journal) (dealt : ℕ) (d : Decision) → slice_get (decisions_now s J) dealt ≡ Some d
+    → Dealing d (content s J (notes_dealt s J dealt)) (content s J (notes_dealt s J (suc dealt)))
+dealt_with s room J dealt d is = (deals s room J dealt d is).0
+
+pub open_dealt : (s : Settings) → HasRoom s.limit → (J : Journal) (dealt : ℕ) (d : Decision) → slice_get (decisions_now s J) dealt ≡ Some d
+    → (is_open (notes_dealt s J dealt) d.opening ≡ true) × Split d.opening (in_buffer s (notes_dealt s J dealt))
+open_dealt s room J dealt d is = (deals s room J dealt d is).1

@@ -28,6 +28,7 @@ pub mod TakenAt
 pub mod Parts
 pub mod Samples
 pub mod Rows
+pub mod EnabledRows
 pub mod WrongTables
 pub mod Arriving
 pub mod Firsts

@@ -16,7 +16,8 @@ use Rattle.span_world.proofs.Content.{same_spans, one_more}
 
 -- ---- how a span came into its episode
 
-pub record Joined (s : Settings) (J : Journal) (o : Opening) (a : Arrival) : Type 0 where
+-- a span of the journal to which memory was not refused, with what holds of its ids and of the entries before it
+pub record Took (J : Journal) (a : Arrival) (Holds : Ids → Journal → Type 0) : Type 0 where
   pub ids : Ids
   pub valid : a.rec.span.ids ≡ Some ids
   pub lost : Bool
@@ -24,10 +25,13 @@ pub record Joined (s : Settings) (J : Journal) (o : Opening) (a : Arrival) : Typ
   pub later : Journal
   pub before : Journal
   pub split : J ≡ later ++ record { item = Span a; refused = false; lost = lost; answers = given } ∷ before
-  pub how : (finding s (notes s before) ids.trace ≡ joins o) ⊎ ((finding s (notes s before) ids.trace ≡ opens) × (length before ≡ o.at))
+  pub holds : Holds ids before
+
+abbrev pub Joined : Settings → Journal → Opening → Arrival → Type 0
+Joined s J o a = Took J a (λ ids before. (finding s (notes s before) ids.trace ≡ joins o) ⊎ ((finding s (notes s before) ids.trace ≡ opens) × (length before ≡ o.at)))
 
 pub joined_later : (s : Settings) (J : Journal) (e : Entry) (o : Opening) (a : Arrival) → Joined s J o a → Joined s (e ∷ J) o a
-joined_later s J e o a h = record { ids = h.ids; valid = h.valid; lost = h.lost; given = h.given; later = e ∷ h.later; before = h.before; split = ap (λ (z : Journal). e ∷ z) h.split; how = h.how }
+joined_later s J e o a h = record { ids = h.ids; valid = h.valid; lost = h.lost; given = h.given; later = e ∷ h.later; before = h.before; split = ap (λ (z : Journal). e ∷ z) h.split; holds = h.holds }
 
 abbrev pub AreJoined : Settings → Journal → Notes → Opening → Type 0
 AreJoined s J noted o = is_open noted o ≡ true → Each (Joined s J o) (spans_since J o)
@@ -80,7 +84,7 @@ module _ (s : Settings) (room : HasRoom s.limit) (J : Journal) (h : Each (AreJoi
           (Each-append (AreJoined s (taken false ∷ J) (notes s J)) newer (o ∷ older) (by_apart newer (Each-left (λ (o : Opening). o.at < length J) newer (o ∷ older) l) (Each-left (AreJoined s J (notes s J)) newer (o ∷ older) k) (Each-weaker (λ (x : Opening). same_trace x.trace ids.trace ≡ false) IsApart newer (λ x q p. q) n)) (
             (λ p. subst (λ z. Each (Joined s (taken false ∷ J) o) z) (sym (one_more s room J (notes s J) sound a ids has lost given o (omega (arith, lo.0)) same))
                 (Each-append (Joined s (taken false ∷ J) o) (spans_since J o) (a ∷ []) (Each-weaker (Joined s J o) (Joined s (taken false ∷ J) o) (spans_since J o) (λ b q. joined_later s J (taken false) o b q) (ko.0 p))
-                (record { ids = ids; valid = has; lost = lost; given = given; later = []; before = J; split = refl; how = inl fi }, tt))),
+                (record { ids = ids; valid = has; lost = lost; given = given; later = []; before = J; split = refl; holds = inl fi }, tt))),
             by_apart older lo.1 ko.1 f,
           ))
         where
@@ -102,7 +106,7 @@ module _ (s : Settings) (room : HasRoom s.limit) (J : Journal) (h : Each (AreJoi
       by_opens : Each IsApart (in_buffer s (notes s J)) → finding s (notes s J) ids.trace ≡ opens → Each (AreJoined s (taken false ∷ J) (notes s J)) (last_of s.limit (opened ∷ (notes s J).openings))
       by_opens f fi = subst (λ z. Each (AreJoined s (taken false ∷ J) (notes s J)) z) (sym (m.with_next opened)) (
         (λ p. subst (λ z. Each (Joined s (taken false ∷ J) opened) z) (sym (one_more s room J (notes s J) sound a ids has lost given opened (omega arith) (same_trace-refl ids.trace) ∙ ap (λ z. z ++ a ∷ []) (spans_before J opened (omega arith))))
-            (record { ids = ids; valid = has; lost = lost; given = given; later = []; before = J; split = refl; how = inr (fi, refl) }, tt)),
+            (record { ids = ids; valid = has; lost = lost; given = given; later = []; before = J; split = refl; holds = inr (fi, refl) }, tt)),
         by_apart m.kept (Each-left (λ (o : Opening). o.at < length J) m.kept out (subst (λ z. Each (λ (o : Opening). o.at < length J) z) m.was below))
             (Each-left (AreJoined s J (notes s J)) m.kept out (subst (λ z. Each (AreJoined s J (notes s J)) z) m.was h)) (Each-left IsApart m.kept out (subst (λ z. Each IsApart z) m.was f)),
       )

@@ -8,8 +8,8 @@ use Rattle.span_world.specs.World.{Config, Lane, World, new_lane}
 use Rattle.span_world.specs.Step.{is_of_conn, arrivals}
 use Rattle.span_world.specs.Headline.{IsNumbered}
 use Rattle.shard_core.proofs.ListFacts.{tally-append}
-use Rattle.span_world.proofs.Received.{on_conn, count_is}
-use Rattle.span_world.proofs.Steps.{Stepped, received_by, routed, refused_by, took_span, took_tick, closed_by, took_end, answered_by, decided_one, shipped, pulled, handed_over, failed, spoiled}
+use Rattle.span_world.proofs.Received.{on_conn, count_is, EachLane, lane_at, lanes_new, lanes_step}
+use Rattle.span_world.proofs.Steps.{Stepped}
 
 -- the spans that a lane received after these are numbered in turn
 abbrev pub Follows : (lane : ℕ) → (before spans : List Arrival) → Type 0
@@ -38,44 +38,22 @@ new_follow conn moment (r ∷ rs) before next e = (refl, e, new_follow conn mome
 -- ---- all lanes
 
 abbrev pub AllFollow : ℕ → List Lane → Type 0
-AllFollow n [] = Unit {0}
-AllFollow n (l ∷ rest) = Follows n [] l.received × AllFollow (suc n) rest
-
-follow_at : (n : ℕ) (lanes : List Lane) (i : ℕ) (l : Lane) (m : ℕ) → m ≡ n + i → slice_get lanes i ≡ Some l → AllFollow n lanes → Follows m [] l.received
-follow_at n [] i l m q e h = absurd (cc e)
-follow_at n (x ∷ rest) zero l m q e h = let k : x ≡ l = cc e in let j : n ≡ m = omega arith in subst (λ (l : Lane). Follows m [] l.received) k (subst (λ (i : ℕ). Follows i [] x.received) j h.0)
-follow_at n (x ∷ rest) (suc i) l m q e h = follow_at (suc n) rest i l m (omega arith) e h.1
-
-follow_set : (n : ℕ) (lanes : List Lane) (i : ℕ) (l : Lane) (m : ℕ) → m ≡ n + i → Follows m [] l.received → AllFollow n lanes → AllFollow n (slice_set lanes i l)
-follow_set n [] i l m q k h = h
-follow_set n (x ∷ rest) zero l m q k h = let j : m ≡ n = omega arith in (subst (λ (i : ℕ). Follows i [] l.received) j k, h.1)
-follow_set n (x ∷ rest) (suc i) l m q k h = (h.0, follow_set (suc n) rest i l m (omega arith) k h.1)
+AllFollow n lanes = EachLane (λ lane spans. Follows lane [] spans) n lanes
 
 pub follow_new : (n m : ℕ) → AllFollow n (replicate m new_lane)
-follow_new n zero = tt
-follow_new n (suc m) = (tt, follow_new (suc n) m)
+follow_new = lanes_new (λ lane spans. Follows lane [] spans) (λ n. tt)
+
+follow_more : (lane ordinal moment : ℕ) (records : List Record) (spans : List Arrival) → Follows lane [] spans
+    → Follows lane [] (spans ++ arrivals (record { lane = lane; ordinal = ordinal }) (count_by (is_of_conn (record { lane = lane; ordinal = ordinal })) spans) moment records)
+follow_more lane ordinal moment records spans h =
+    let conn : ConnKey = record { lane = lane; ordinal = ordinal } in
+    Follows-append lane [] spans _ h (new_follow conn moment records spans (count_by (is_of_conn conn) spans) (sym (count_is conn spans)))
 
 pub follow_step : (c : Config) (w next : World) → Stepped c w next → AllFollow 0 w.lanes → AllFollow 0 next.lanes
-follow_step c w next (received_by lane ordinal moment records l g n e) h =
-    let conn : ConnKey = record { lane = lane; ordinal = ordinal } in
-    let old = follow_at 0 w.lanes lane l lane (omega arith) g h in
-    rw (← e) (follow_set 0 w.lanes lane _ lane (omega arith) (Follows-append lane [] l.received _ old (new_follow conn moment records l.received (count_by (is_of_conn conn) l.received) (sym (count_is conn l.received)))) h)
-follow_step c w next (routed lane shard l sh a rest g m t e) h = rw (← e) (follow_set 0 w.lanes lane _ lane (omega arith) (follow_at 0 w.lanes lane l lane (omega arith) g h) h)
-follow_step c w next (refused_by lane shard l a rest g t e) h = rw (← e) (follow_set 0 w.lanes lane _ lane (omega arith) (follow_at 0 w.lanes lane l lane (omega arith) g h) h)
-follow_step c w next (took_span shard refused lost sh a rest g q n m e) h = rw (← e) h
-follow_step c w next (took_tick shard moment sh g n m e) h = rw (← e) h
-follow_step c w next (closed_by lane l g n e) h = rw (← e) (follow_set 0 w.lanes lane _ lane (omega arith) (follow_at 0 w.lanes lane l lane (omega arith) g h) h)
-follow_step c w next (took_end shard sender sh g n m d e) h = rw (← e) h
-follow_step c w next (answered_by shard sh answers o g d i e) h = rw (← e) h
-follow_step c w next (decided_one shard sh d g i e) h = rw (← e) h
-follow_step c w next (shipped shard sh a rest g u e) h = rw (← e) h
-follow_step c w next (pulled a rest u e) h = rw (← e) h
-follow_step c w next (handed_over b d e) h = rw (← e) h
-follow_step c w next (failed d e) h = rw (← e) h
-follow_step c w next (spoiled r b a e) h = rw (← e) h
+follow_step = lanes_step (λ lane spans. Follows lane [] spans) follow_more
 
 pub are_numbered : (w : World) → AllFollow 0 w.lanes → IsNumbered w
 are_numbered w h lane l before later a g e =
-    let all : Follows lane [] (before ++ a ∷ later) = subst (λ (z : List Arrival). Follows lane [] z) e (follow_at 0 w.lanes lane l lane (omega arith) g h) in
+    let all : Follows lane [] (before ++ a ∷ later) = subst (λ (z : List Arrival). Follows lane [] z) e (lane_at (λ lane spans. Follows lane [] spans) 0 w.lanes lane l g h lane (omega arith)) in
     let own = Follows-right lane [] before (a ∷ later) all in
     (own.0, own.1 ∙ count_is a.key.conn before)

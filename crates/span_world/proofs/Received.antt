@@ -123,19 +123,48 @@ numbered_more lane ordinal moment rs spans h k = go (matches k conn moment) refl
 
 -- ---- all lanes
 
+-- this holds of what each lane received, with the lane's number
+abbrev pub EachLane : (ℕ → List Arrival → Type 0) → ℕ → List Lane → Type 0
+EachLane P n [] = Unit {0}
+EachLane P n (l ∷ rest) = P n l.received × EachLane P (suc n) rest
+
 abbrev pub AllNumbered : ℕ → List Lane → Type 0
-AllNumbered n [] = Unit {0}
-AllNumbered n (l ∷ rest) = Numbered n l.received × AllNumbered (suc n) rest
+AllNumbered n lanes = EachLane Numbered n lanes
 
-pub numbered_at : (n : ℕ) (lanes : List Lane) (i : ℕ) (l : Lane) → slice_get lanes i ≡ Some l → AllNumbered n lanes → (m : ℕ) → m ≡ n + i → Numbered m l.received
-numbered_at n [] i l e h m q = absurd (cc e)
-numbered_at n (x ∷ rest) zero l e h m q = let k : x ≡ l = cc e in let j : n ≡ m = omega arith in subst (λ (l : Lane). Numbered m l.received) k (subst (λ (i : ℕ). Numbered i x.received) j h.0)
-numbered_at n (x ∷ rest) (suc i) l e h m q = numbered_at (suc n) rest i l e h.1 m (omega arith)
+module _ (P : ℕ → List Arrival → Type 0) where
+  pub lane_at : (n : ℕ) (lanes : List Lane) (i : ℕ) (l : Lane) → slice_get lanes i ≡ Some l → EachLane P n lanes → (m : ℕ) → m ≡ n + i → P m l.received
+  lane_at n [] i l e h m q = absurd (cc e)
+  lane_at n (x ∷ rest) zero l e h m q = let k : x ≡ l = cc e in let j : n ≡ m = omega arith in subst (λ (l : Lane). P m l.received) k (subst (λ (i : ℕ). P i x.received) j h.0)
+  lane_at n (x ∷ rest) (suc i) l e h m q = lane_at (suc n) rest i l e h.1 m (omega arith)
 
-pub numbered_set : (n : ℕ) (lanes : List Lane) (i : ℕ) (l : Lane) (m : ℕ) → m ≡ n + i → Numbered m l.received → AllNumbered n lanes → AllNumbered n (slice_set lanes i l)
-numbered_set n [] i l m q k h = h
-numbered_set n (x ∷ rest) zero l m q k h = let j : m ≡ n = omega arith in (subst (λ (i : ℕ). Numbered i l.received) j k, h.1)
-numbered_set n (x ∷ rest) (suc i) l m q k h = (h.0, numbered_set (suc n) rest i l m (omega arith) k h.1)
+  lane_set : (n : ℕ) (lanes : List Lane) (i : ℕ) (l : Lane) (m : ℕ) → m ≡ n + i → P m l.received → EachLane P n lanes → EachLane P n (slice_set lanes i l)
+  lane_set n [] i l m q k h = h
+  lane_set n (x ∷ rest) zero l m q k h = let j : m ≡ n = omega arith in (subst (λ (i : ℕ). P i l.received) j k, h.1)
+  lane_set n (x ∷ rest) (suc i) l m q k h = (h.0, lane_set (suc n) rest i l m (omega arith) k h.1)
+
+  pub lanes_new : ((n : ℕ) → P n []) → (n m : ℕ) → EachLane P n (replicate m new_lane)
+  lanes_new none n zero = tt
+  lanes_new none n (suc m) = (none n, lanes_new none (suc n) m)
+
+  -- each step keeps it, where a request's arrivals do
+  pub lanes_step : ((lane ordinal moment : ℕ) (records : List Record) (spans : List Arrival) → P lane spans
+      → P lane (spans ++ arrivals (record { lane = lane; ordinal = ordinal }) (count_by (is_of_conn (record { lane = lane; ordinal = ordinal })) spans) moment records))
+      → (c : Config) (w next : World) → Stepped c w next → EachLane P 0 w.lanes → EachLane P 0 next.lanes
+  lanes_step more c w next (received_by lane ordinal moment records l g n e) h =
+      rw (← e) (lane_set 0 w.lanes lane _ lane (omega arith) (more lane ordinal moment records l.received (lane_at 0 w.lanes lane l g h lane (omega arith))) h)
+  lanes_step more c w next (routed lane shard l sh a rest g m t e) h = rw (← e) (lane_set 0 w.lanes lane _ lane (omega arith) (lane_at 0 w.lanes lane l g h lane (omega arith)) h)
+  lanes_step more c w next (refused_by lane shard l a rest g t e) h = rw (← e) (lane_set 0 w.lanes lane _ lane (omega arith) (lane_at 0 w.lanes lane l g h lane (omega arith)) h)
+  lanes_step more c w next (took_span shard refused lost sh a rest g q n m e) h = rw (← e) h
+  lanes_step more c w next (took_tick shard moment sh g n m e) h = rw (← e) h
+  lanes_step more c w next (closed_by lane l g n e) h = rw (← e) (lane_set 0 w.lanes lane _ lane (omega arith) (lane_at 0 w.lanes lane l g h lane (omega arith)) h)
+  lanes_step more c w next (took_end shard sender sh g n m d e) h = rw (← e) h
+  lanes_step more c w next (answered_by shard sh answers o g d i e) h = rw (← e) h
+  lanes_step more c w next (decided_one shard sh d g i e) h = rw (← e) h
+  lanes_step more c w next (shipped shard sh a rest g u e) h = rw (← e) h
+  lanes_step more c w next (pulled a rest u e) h = rw (← e) h
+  lanes_step more c w next (handed_over b d e) h = rw (← e) h
+  lanes_step more c w next (failed d e) h = rw (← e) h
+  lanes_step more c w next (spoiled r b a e) h = rw (← e) h
 
 pub own_lane : (lane : ℕ) (spans : List Arrival) (k : ArrivalKey) → Numbered lane spans → (k.conn.lane ≡ lane → ⊥) → occ k spans ≡ 0
 own_lane lane spans k h n = h k ∙ ap (λ (b : Bool). cond {A = ℕ} (b && nat_lt k.number (on_conn k.conn spans)) 1 0) (ne_eqb k.conn.lane lane n)
@@ -160,8 +189,7 @@ got_at_most_once k n (x ∷ rest) h = go (k.conn.lane == n) refl (got_at_most_on
     go false e r = omega (arith, own_lane n x.received k h.0 (eqb-false k.conn.lane n e))
 
 pub numbered_new : (n m : ℕ) → AllNumbered n (replicate m new_lane)
-numbered_new n zero = tt
-numbered_new n (suc m) = (numbered_none n, numbered_new (suc n) m)
+numbered_new = lanes_new Numbered numbered_none
 
 -- ---- whether a key was received
 
@@ -182,17 +210,4 @@ some_got k (l ∷ rest) e = go (list_any (λ a. same_key a.key k) l.received) re
 
 -- each step keeps the lanes numbered
 pub numbered_step : (c : Config) (w next : World) → Stepped c w next → AllNumbered 0 w.lanes → AllNumbered 0 next.lanes
-numbered_step c w next (received_by lane ordinal moment records l g n e) h = rw (← e) (numbered_set 0 w.lanes lane _ lane (omega arith) (numbered_more lane ordinal moment records l.received (numbered_at 0 w.lanes lane l g h lane (omega arith))) h)
-numbered_step c w next (routed lane shard l sh a rest g m t e) h = rw (← e) (numbered_set 0 w.lanes lane _ lane (omega arith) (numbered_at 0 w.lanes lane l g h lane (omega arith)) h)
-numbered_step c w next (refused_by lane shard l a rest g t e) h = rw (← e) (numbered_set 0 w.lanes lane _ lane (omega arith) (numbered_at 0 w.lanes lane l g h lane (omega arith)) h)
-numbered_step c w next (took_span shard refused lost sh a rest g q n m e) h = rw (← e) h
-numbered_step c w next (took_tick shard moment sh g n m e) h = rw (← e) h
-numbered_step c w next (closed_by lane l g n e) h = rw (← e) (numbered_set 0 w.lanes lane _ lane (omega arith) (numbered_at 0 w.lanes lane l g h lane (omega arith)) h)
-numbered_step c w next (took_end shard sender sh g n m d e) h = rw (← e) h
-numbered_step c w next (answered_by shard sh answers o g d i e) h = rw (← e) h
-numbered_step c w next (decided_one shard sh d g i e) h = rw (← e) h
-numbered_step c w next (shipped shard sh a rest g u e) h = rw (← e) h
-numbered_step c w next (pulled a rest u e) h = rw (← e) h
-numbered_step c w next (handed_over b d e) h = rw (← e) h
-numbered_step c w next (failed d e) h = rw (← e) h
-numbered_step c w next (spoiled r b a e) h = rw (← e) h
+numbered_step = lanes_step Numbered numbered_more

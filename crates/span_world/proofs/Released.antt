@@ -16,7 +16,7 @@ use Rattle.shard_core.proofs.ListFacts.{Each, Each-append, Each-left, Each-right
 use Rattle.shard_core.proofs.Sound.{sound_notes}
 use Rattle.span_world.proofs.Content.{gone_released}
 use Rattle.span_world.proofs.Dealing.{Each-due, Pairs-due, in_turn, IsEarlier, undecided_ascend, undecided_stand}
-use Rattle.span_world.proofs.Members.{Joined, AreJoined, all_joined, by_item}
+use Rattle.span_world.proofs.Members.{Took, Joined, AreJoined, all_joined, by_item}
 use Rattle.span_world.proofs.Answered.{split_answered, fate_answered}
 use Rattle.shard_core.specs.Journal.{due_now, answered, IsAnsweredUpTo}
 use Rattle.span_world.proofs.Decided.{decided_stays, noted_decision}
@@ -27,15 +27,8 @@ use Rattle.span_world.proofs.Lined.{at_each}
 
 -- ---- released by a journal
 
-pub record IsReleased (s : Settings) (J : Journal) (a : Arrival) : Type 0 where
-  pub ids : Ids
-  pub valid : a.rec.span.ids ≡ Some ids
-  pub lost : Bool
-  pub given : List (List Bool)
-  pub later : Journal
-  pub before : Journal
-  pub split : J ≡ later ++ record { item = Span a; refused = false; lost = lost; answers = given } ∷ before
-  pub fate_is : fate s J before false ids ≡ is_released
+abbrev pub IsReleased : Settings → Journal → Arrival → Type 0
+IsReleased s J a = Took J a (λ ids before. fate s J before false ids ≡ is_released)
 
 -- a member is released just where its episode is decided so
 decided_of_member : (b : Bool) (d : Option Verdict) → fate_of_member_decided b d ≡ is_released → d ≡ Some Sampled
@@ -66,18 +59,18 @@ released_later s room J e a h = record {
   later = e ∷ h.later;
   before = h.before;
   split = ap (λ (z : Journal). e ∷ z) h.split;
-  fate_is = fate_stays s room J e (length h.before) (finding s (notes s h.before) h.ids.trace) h.fate_is;
+  holds = fate_stays s room J e (length h.before) (finding s (notes s h.before) h.ids.trace) h.holds;
 }
 
 -- answers to the next decision take nothing back
 pub released_answered : (s : Settings) → HasRoom s.limit → (J : Journal) (k : ℕ) (answers : List Bool) (o : Opening) → slice_get (due_now s J) k ≡ Some o → IsAnsweredUpTo s J k → (a : Arrival) → IsReleased s J a → IsReleased s (answered J answers) a
 released_answered s room J k answers o d i a h =
     let p = split_answered J answers h.later h.before a false h.lost h.given h.split in
-    record { ids = h.ids; valid = h.valid; lost = h.lost; given = p.1; later = p.0; before = h.before; split = p.2; fate_is = fate_answered s room J k answers o d i h.before false h.ids is_released (inl refl) h.fate_is }
+    record { ids = h.ids; valid = h.valid; lost = h.lost; given = p.1; later = p.0; before = h.before; split = p.2; holds = fate_answered s room J k answers o d i h.before false h.ids is_released (inl refl) h.holds }
 
 -- a member of an episode that is decided for is released
 released_member : (s : Settings) (J : Journal) (o : Opening) (a : Arrival) → Joined s J o a → decided_as (notes s J) o.at ≡ Some Sampled → IsReleased s J a
-released_member s J o a h d = record { ids = h.ids; valid = h.valid; lost = h.lost; given = h.given; later = h.later; before = h.before; split = h.split; fate_is = go h.how }
+released_member s J o a h d = record { ids = h.ids; valid = h.valid; lost = h.lost; given = h.given; later = h.later; before = h.before; split = h.split; holds = go h.holds }
   where
     go : (finding s (notes s h.before) h.ids.trace ≡ joins o) ⊎ ((finding s (notes s h.before) h.ids.trace ≡ opens) × (length h.before ≡ o.at)) → fate s J h.before false h.ids ≡ is_released
     go (inl f) = ap (fate_of_finding s (notes s J) (length h.before)) f ∙ decided_member _ (decided_as (notes s J) o.at) d
@@ -113,7 +106,7 @@ released_at_once s room J a refused lost ids has = subst (λ (z : Option Ids). E
   where
     late_one : (o : Opening) (v : Verdict) → finding s (notes s J) ids.trace ≡ meets o v → Each (IsReleased s (record { item = Span a; refused = false; lost = lost; answers = [] } ∷ J)) (effect_of_verdict LateNotSampled (a ∷ []) v).released
     late_one o NotSampled f = tt
-    late_one o Sampled f = (record { ids = ids; valid = has; lost = lost; given = []; later = []; before = J; split = refl; fate_is = ap (fate_of_finding s (notes s (record { item = Span a; refused = false; lost = lost; answers = [] } ∷ J)) (length J)) f }, tt)
+    late_one o Sampled f = (record { ids = ids; valid = has; lost = lost; given = []; later = []; before = J; split = refl; holds = ap (fate_of_finding s (notes s (record { item = Span a; refused = false; lost = lost; answers = [] } ∷ J)) (length J)) f }, tt)
 
     by_finding : (f : Finding) → finding s (notes s J) ids.trace ≡ f → Each (IsReleased s (record { item = Span a; refused = false; lost = lost; answers = [] } ∷ J)) (effect_of_finding s J (notes s J) a f).released
     by_finding (joins o) e = tt

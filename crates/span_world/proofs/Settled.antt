@@ -153,7 +153,7 @@ fate_is_answered s room J k answers o d i a became which h =
 
 -- a member's fate by its episode
 member_fate : (s : Settings) (J : Journal) (o : Opening) (a : Arrival) (became : Fate) → Joined s J o a → fate_of_member s (notes s J) o.at ≡ became → FateIs s J a became
-member_fate s J o a became h d = record { ids = h.ids; valid = h.valid; refused = false; lost = h.lost; given = h.given; later = h.later; before = h.before; split = h.split; is = go h.how }
+member_fate s J o a became h d = record { ids = h.ids; valid = h.valid; refused = false; lost = h.lost; given = h.given; later = h.later; before = h.before; split = h.split; is = go h.holds }
   where
     go : (finding s (notes s h.before) h.ids.trace ≡ joins o) ⊎ ((finding s (notes s h.before) h.ids.trace ≡ opens) × (length h.before ≡ o.at)) → fate s J h.before false h.ids ≡ became
     go (inl f) = ap (fate_of_finding s (notes s J) (length h.before)) f ∙ d
@@ -197,7 +197,7 @@ module _ (s : Settings) (room : HasRoom s.limit) (J : Journal) (a : Arrival) (id
   -- the episode that leaves undecided
   pub evicted_fate : (o : Opening) → finding s (notes s J) ids.trace ≡ opens → leaving s.limit (notes s J).openings ≡ Some o → decided_as (notes s J) o.at ≡ None → Each (λ (b : Arrival). FateIs s (taken false ∷ J) b (is_counted Evicted)) (spans_since J o)
   evicted_fate o f out d = Each-weaker (Joined s J o) (λ (b : Arrival). FateIs s (taken false ∷ J) b (is_counted Evicted)) (spans_since J o)
-      (λ b h. member_fate s (taken false ∷ J) o b (is_counted Evicted) (record { ids = h.ids; valid = h.valid; lost = h.lost; given = h.given; later = taken false ∷ h.later; before = h.before; split = ap (λ (z : Journal). taken false ∷ z) h.split; how = h.how })
+      (λ b h. member_fate s (taken false ∷ J) o b (is_counted Evicted) (record { ids = h.ids; valid = h.valid; lost = h.lost; given = h.given; later = taken false ∷ h.later; before = h.before; split = ap (λ (z : Journal). taken false ∷ z) h.split; holds = h.holds })
       (ap (fate_of_member_decided (is_in_buffer s (notes s (taken false ∷ J)) o.at)) (ap (λ (z : List Decision). option_map (λ (d : Decision). d.verdict) (find (λ (d : Decision). d.opening.at == o.at) z)) same_after ∙ d) ∙ ap (λ b. fate_of_member_decided b None) gone))
       (Each-split (AreJoined s J (notes s J)) o (in_buffer s (notes s J)) place (all_joined s room J) (ap is_none d))
     where

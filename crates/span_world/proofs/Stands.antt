@@ -45,7 +45,7 @@ each_waits s room J dealt = Each-spill (Waits s J dealt) (spans_since J) (is_ope
 
 -- where nothing is due, such a span's fate is to wait
 pub waits_fate : (s : Settings) (J : Journal) (dealt : ℕ) (a : Arrival) → notes_dealt s J dealt ≡ notes s J → (h : Waits s J dealt a) → fate s J h.joined.before false h.joined.ids ≡ waits
-waits_fate s J dealt a e h = go h.joined.how
+waits_fate s J dealt a e h = go h.joined.holds
   where
     inside : is_in_buffer s (notes s J) h.opening.at ≡ true
     inside = subst (λ n. is_in_buffer s n h.opening.at ≡ true) e h.inside
@@ -74,7 +74,7 @@ pub data Stands (c : Config) (w : World) (place : Place) (k : ArrivalKey) : Type
   in_counts : (n : DroppedSpan) → Split n w.counted → place ≡ counted_under n.reason → n.key ≡ k → Stands c w place k
 
 pub has_fate_of : (s : Settings) (J : Journal) (a : Arrival) → IsReleased s J a → FateIs s J a is_released
-has_fate_of s J a i = record { ids = i.ids; valid = i.valid; refused = false; lost = i.lost; given = i.given; later = i.later; before = i.before; split = i.split; is = i.fate_is }
+has_fate_of s J a i = record { ids = i.ids; valid = i.valid; refused = false; lost = i.lost; given = i.given; later = i.later; before = i.before; split = i.split; is = i.holds }
 
 module _ (c : Config) (room : HasRoom c.limit) (w : World) (h : Whole c w) where
   abbrev s : Settings

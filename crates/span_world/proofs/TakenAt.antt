@@ -124,7 +124,7 @@ module _ (c : Config) (room : HasRoom c.limit) (w : World) (h : Whole c w) (t : 
       let j = x.joined in
       let o = own i sh a false j.lost j.given j.later j.before g q j.split in
       let ids = own_ids a j.ids o.arrival j.valid in
-      waits_there (e ∙ ap buffered o.shard) (sym o.refusal) (found j.how o.past ids) (λ n.
+      waits_there (e ∙ ap buffered o.shard) (sym o.refusal) (found j.holds o.past ids) (λ n.
       let n' = subst (λ (sh : Shard). has_due s sh ≡ false) (sym o.of) n in
       sym (own_fate sh.journal j.before false j.ids (ap (λ (sh : Shard). sh.journal) o.of) o.past o.refusal ids) ∙ waits_fate s sh.journal sh.dealt a (all_dealt s sh.journal sh.dealt n') x)
     where

@@ -1,5 +1,6 @@
 -- A remembered verdict is that of a decision on the spans buffered then.
 use Rattle.std.proofs.Common.{◌≡◌, ℕ, ◌<◌, Bool, true, false, cond, ◌==◌, List, [], ◌∷◌, ◌++◌, length, reverse, find, slice_get, ◌&&◌, Option, Some, None, refl, ap, sym, subst, ◌∙◌, arith, eqb-true}
+use Rattle.std.proofs.lemmas.Bool.{and_parts}
 use Rattle.span_ids.specs.Same.{same_trace}
 use Rattle.shard_core.specs.Journal.{Settings, Journal, Opening, Decision, Notes, in_buffer, decided_as, undecided, latest_episode, Finding, joins, meets, opens, finding, due_at, decision, decisions_in_turn, after_finding, after_span, after_item, decisions_at, notes, due_now, Entry, spans_since, are_each_answered, IsAnswered}
 use Rattle.policy_tree.specs.Tree.{Policies}
@@ -116,23 +117,15 @@ behind : (s : Settings) (since : Journal) (item : Entry) (past : Journal) → Is
 behind s [] item past h = h.0
 behind s (e ∷ since) item past h = behind s since item past h.1
 
-first_of : (a b : Bool) → (a && b) ≡ true → a ≡ true
-first_of true b h = refl
-first_of false b h = cc
-
-second_of : (a b : Bool) → (a && b) ≡ true → b ≡ true
-second_of true b h = h
-second_of false b h = cc
-
 each_there : (policies : Policies) (past : Journal) (sooner rest : List Opening) (o : Opening) (given : List (List Bool)) (answers : List Bool) → are_each_answered policies past (sooner ++ o ∷ rest) given ≡ true →
     slice_get given (length sooner) ≡ Some answers → are_answered policies answers (spans_since past o) ≡ true
 each_there policies past [] rest o [] answers h e = cc
 each_there policies past [] rest o (g ∷ given) answers h e =
     let same : g ≡ answers = cc in
-    ap (λ (x : List Bool). are_answered policies x (spans_since past o)) (sym same) ∙ first_of (are_answered policies g (spans_since past o)) (are_each_answered policies past rest given) h
+    ap (λ (x : List Bool). are_answered policies x (spans_since past o)) (sym same) ∙ (and_parts (are_answered policies g (spans_since past o)) (are_each_answered policies past rest given) h).0
 each_there policies past (p ∷ sooner) rest o [] answers h e = cc
 each_there policies past (p ∷ sooner) rest o (g ∷ given) answers h e =
-    each_there policies past sooner rest o given answers (second_of (are_answered policies g (spans_since past p)) (are_each_answered policies past (sooner ++ o ∷ rest) given) h) e
+    each_there policies past sooner rest o given answers (and_parts (are_answered policies g (spans_since past p)) (are_each_answered policies past (sooner ++ o ∷ rest) given) h).1 e
 
 pub was_decided : (s : Settings) → HasRoom s.limit → (J : Journal) → IsAnswered s J → (t : TraceId) (o : Opening) (v : Verdict) → finding s (notes s J) t ≡ meets o v → WasDecided s J t v
 was_decided s room J answered t o v f = go (meeting s J (notes s J) t sound)

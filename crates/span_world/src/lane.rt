@@ -1,10 +1,12 @@
 //! A lane of the world, and what it does with the spans that it receives.
 ghost use Rattle.std.specs.Prelude.{◌≡◌, ◌+◌, ◌<◌, ◌^◌, ◌++◌, ◌∷◌, [], length, true, not, filter, count_by, position, slice_index_or, IfOk, OnOk, OnErr};
 ghost use Rattle.std.specs.List.{remove, list_any};
+ghost use Rattle.std.specs.Coded.{codes};
+ghost use Rattle.otlp_types.specs.contracts.value.AnyValue as any_value;
 ghost use Rattle.shard_core.specs.Fate.{counts};
 ghost use Rattle.span_ids.specs.declared.outcome.Reason.TheVariants.{InvalidId};
 ghost use Rattle.span_ids.specs.Route.{shard_of};
-ghost use Rattle.span_world.specs.World.{new_lane, goes_to};
+ghost use Rattle.span_world.specs.World.{Lane as LaneData, new_lane, goes_to};
 ghost use Rattle.span_world.specs.Step.{is_of_conn, arrivals, has_ids};
 
 use otlp_types::{Arrival, Record, TryClone};
@@ -22,10 +24,6 @@ pub struct Lane {
 }
 
 impl Model for Lane {
-    ghost use Rattle.span_world.specs.World.{Lane as LaneData};
-    ghost use Rattle.std.specs.Coded.{codes};
-    ghost use Rattle.otlp_types.specs.contracts.value.AnyValue as any_value;
-
     ghost Value = { LaneData };
 
     ghost coded = { Prim.hlevel (codes, any_value.the_row.coded) };

@@ -4,7 +4,7 @@ use Rattle.std.specs.Str.{bytes_eq}
 use Rattle.toml.specs.Data.{Data, string, integer, boolean, array, table, Items, no_items, item, Members, no_members, member, get_member}
 use Rattle.tsc_config.proofs.FaultSets.{least_is_one}
 use Rattle.tsc_config.specs.Keys.{has_unknown_key, type_name, type_at, type_of, code_of}
-use Rattle.tsc_config.specs.Faults.{number_of, least, optional, required, unknown_fault, integer_fault, natural_fault, whole_fault, truth_fault, text_fault, type_fault, code_fault, named_fault}
+use Rattle.tsc_config.specs.Faults.{number_of, least, optional, required, unknown_fault, integer_fault, natural_fault, whole_fault, truth_fault, text_fault, type_fault, code_fault, named_fault, items_fault, array_fault}
 use Rattle.tsc_config.specs.Faults as spec
 use Rattle.tsc_config.specs.declared.fault.ConfigFault.{ConfigFault}
 use Rattle.tsc_config.specs.declared.fault.ConfigFault.TheVariants.{UnknownKey, MissingKey, WrongType, OutOfRange}
@@ -81,21 +81,13 @@ status_codes : (value : Data) → IsSmall (code_fault value)
 status_codes (string text) = named (code_of (string text))
 status_codes _ = wrong
 
-code_items : (items : Items) → IsSmall (spec.code_items_fault items)
-code_items no_items = none
-code_items (item value rest) = both _ _ (status_codes value) (code_items rest)
+all_items : (f : Data → Option ConfigFault) → ((value : Data) → IsSmall (f value)) → (items : Items) → IsSmall (items_fault f items)
+all_items f each no_items = none
+all_items f each (item value rest) = both _ _ (each value) (all_items f each rest)
 
-code_arrays : (value : Data) → IsSmall (spec.codes_fault value)
-code_arrays (array items) = code_items items
-code_arrays _ = wrong
-
-text_items : (items : Items) → IsSmall (spec.text_items_fault items)
-text_items no_items = none
-text_items (item value rest) = both _ _ (texts value) (text_items rest)
-
-text_arrays : (value : Data) → IsSmall (spec.texts_fault value)
-text_arrays (array items) = text_items items
-text_arrays _ = wrong
+arrays : (f : Data → Option ConfigFault) → ((value : Data) → IsSmall (f value)) → (value : Data) → IsSmall (array_fault f value)
+arrays f each (array items) = all_items f each items
+arrays f each _ = wrong
 
 attributes : (members : Members) (wanted : Option ConfigFault) → IsSmall wanted → IsSmall (spec.attribute_fault members wanted)
 attributes members wanted w =
@@ -105,8 +97,8 @@ attributes members wanted w =
 rows : (kind : PolicyType) (members : Members) → IsSmall (spec.rows_fault kind members)
 unfolding spec.rows_fault
 rows type_is.Latency members = both _ _ (requiredly natural_fault naturals (get_member (codes "threshold_ms") members)) (optionally natural_fault naturals (get_member (codes "upper_threshold_ms") members))
-rows type_is.StatusCode members = requiredly spec.codes_fault code_arrays (get_member (codes "status_codes") members)
-rows type_is.StringAttribute members = attributes members _ (requiredly spec.texts_fault text_arrays (get_member (codes "values") members))
+rows type_is.StatusCode members = requiredly (array_fault code_fault) (arrays code_fault status_codes) (get_member (codes "status_codes") members)
+rows type_is.StringAttribute members = attributes members _ (requiredly (array_fault text_fault) (arrays text_fault texts) (get_member (codes "values") members))
 rows type_is.NumericAttribute members = attributes members _ (both _ _ (optionally whole_fault wholes (get_member (codes "min_value") members)) (optionally whole_fault wholes (get_member (codes "max_value") members)))
 rows type_is.BooleanAttribute members = attributes members _ (requiredly truth_fault truths (get_member (codes "value") members))
 rows type_is.SpanCount members = both _ _ (requiredly natural_fault naturals (get_member (codes "min_spans") members)) (optionally natural_fault naturals (get_member (codes "max_spans") members))

@@ -4,7 +4,7 @@ use Rattle.std.proofs.lemmas.Bool.Decides.{nat_tests}
 use Rattle.std.specs.Str.{bytes_eq}
 use Rattle.toml.specs.Data.{Data, array, table, Items, no_items, item, Members, no_members, member, get_member}
 use Rattle.tsc_config.specs.Keys.{type_name, type_at}
-use Rattle.tsc_config.specs.Faults.{number_of, least, optional, required, unknown_fault, integer_fault, natural_fault, whole_fault, truth_fault, text_fault, type_fault, code_fault}
+use Rattle.tsc_config.specs.Faults.{number_of, least, optional, required, unknown_fault, integer_fault, natural_fault, whole_fault, truth_fault, text_fault, type_fault, code_fault, items_fault, array_fault}
 use Rattle.tsc_config.specs.Faults as spec
 use Rattle.tsc_config.specs.FaultSets.{IsLeastOf, OptionalHas, RequiredHas, SomeItemHas, ArrayHas, AttributeHas, RowsHave, SettingsHave, SettingsAtHave, TypedHas, PolicyTableHas, PoliciesHave, SomePolicyHas, PolicyHas, AndHas, AndSettingsHave, SubPoliciesHave, CacheHas, NumbersHave, SizesHave, HasFault}
 use Rattle.tsc_config.specs.declared.fault.ConfigFault.{ConfigFault}
@@ -93,21 +93,13 @@ required_least : (Has : Data → ConfigFault → Type 0) (f : Data → Option Co
 required_least Has f each None = alone MissingKey
 required_least Has f each (Some value) = each value
 
-code_items_least : (items : Items) → IsLeastOf (SomeItemHas code_fault items) (spec.code_items_fault items)
-code_items_least no_items = none
-code_items_least (item value rest) = both (λ fault. code_fault value ≡ Some fault) (SomeItemHas code_fault rest) _ _ (row (code_fault value)) (code_items_least rest)
+items_least : (f : Data → Option ConfigFault) (items : Items) → IsLeastOf (SomeItemHas f items) (items_fault f items)
+items_least f no_items = none
+items_least f (item value rest) = both (λ fault. f value ≡ Some fault) (SomeItemHas f rest) _ _ (row (f value)) (items_least f rest)
 
-codes_least : (value : Data) → IsLeastOf (ArrayHas code_fault value) (spec.codes_fault value)
-codes_least (array items) = code_items_least items
-codes_least _ = alone WrongType
-
-text_items_least : (items : Items) → IsLeastOf (SomeItemHas text_fault items) (spec.text_items_fault items)
-text_items_least no_items = none
-text_items_least (item value rest) = both (λ fault. text_fault value ≡ Some fault) (SomeItemHas text_fault rest) _ _ (row (text_fault value)) (text_items_least rest)
-
-texts_least : (value : Data) → IsLeastOf (ArrayHas text_fault value) (spec.texts_fault value)
-texts_least (array items) = text_items_least items
-texts_least _ = alone WrongType
+array_least : (f : Data → Option ConfigFault) (value : Data) → IsLeastOf (ArrayHas f value) (array_fault f value)
+array_least f (array items) = items_least f items
+array_least f _ = alone WrongType
 
 -- two rows with one fault at most each
 rows : (a b : Option ConfigFault) → IsLeastOf (λ fault. (a ≡ Some fault) ⊎ (b ≡ Some fault)) (least a b)
@@ -123,8 +115,8 @@ attribute_least members Wanted wanted w =
 rows_least : (kind : PolicyType) (members : Members) → IsLeastOf (RowsHave kind members) (spec.rows_fault kind members)
 unfolding spec.rows_fault
 rows_least type_is.Latency members = rows _ _
-rows_least type_is.StatusCode members = required_least (ArrayHas code_fault) spec.codes_fault codes_least _
-rows_least type_is.StringAttribute members = attribute_least members _ _ (required_least (ArrayHas text_fault) spec.texts_fault texts_least (get_member (codes "values") members))
+rows_least type_is.StatusCode members = required_least (ArrayHas code_fault) (array_fault code_fault) (array_least code_fault) _
+rows_least type_is.StringAttribute members = attribute_least members _ _ (required_least (ArrayHas text_fault) (array_fault text_fault) (array_least text_fault) (get_member (codes "values") members))
 rows_least type_is.NumericAttribute members =
     attribute_least members _ _ (rows (optional whole_fault (get_member (codes "min_value") members)) (optional whole_fault (get_member (codes "max_value") members)))
 rows_least type_is.BooleanAttribute members = attribute_least members _ _ (row (required truth_fault (get_member (codes "value") members)))

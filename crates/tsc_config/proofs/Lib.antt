@@ -5,3 +5,4 @@ mod Bounds
 mod Whole
 mod Rows
 mod Settings
+mod PolicyKeys

@@ -1,12 +1,12 @@
 -- Each setting is what stands at its key, or the key's default. For `settings_are_of_their_keys`.
-use Rattle.std.proofs.Common.{◌≡◌, ℕ, ◌<◌, ◌≤◌, pos, negsuc, zero, suc, Bool, true, false, ◌⊎◌, inl, inr, refl, arith, codes, Option, None, Some, Ok, Err, subst, if◌then◌else◌, nat_lt, int_le, ◌&&◌}
+use Rattle.std.proofs.Common.{◌≡◌, ℕ, ◌<◌, ◌≤◌, pos, negsuc, zero, suc, Bool, true, false, ◌⊎◌, inl, inr, refl, arith, codes, List, Option, None, Some, Ok, Err, subst, if◌then◌else◌, nat_lt, int_le, ◌&&◌}
 use Rattle.std.proofs.lemmas.Bool.Decides.{nat_tests}
 use Rattle.toml.specs.Data.{Data, string, integer, table, Members, get_member}
 use Rattle.toml.specs.Parse.{parse_document}
 use Rattle.policy_tree.specs.Faults.{fault_of_policies}
 use Rattle.policy_tree.specs.declared.fault.PolicyFault.{PolicyFault}
 use Rattle.tsc_config.specs.Faults.{number_of, least, optional, unknown_fault, integer_fault, text_fault, cache_fault, numbers_fault, sizes_fault, table_fault}
-use Rattle.tsc_config.specs.Reading.{reading_of, reading_unless, reading_where}
+use Rattle.tsc_config.specs.Reading.{reading, reading_of, reading_unless, reading_where}
 use Rattle.tsc_config.specs.Settings.{IsTextAt, IsCacheSize, HasSettings, ReadsSettings}
 use Rattle.tsc_config.specs.Values.{config_of, positive_of, natural_of, cache_size, listen_of}
 use Rattle.tsc_config.specs.declared.config.Config.{Config}
@@ -15,7 +15,7 @@ use Rattle.tsc_config.specs.declared.fault.ConfigFault.TheVariants.{OutOfRange, 
 use Rattle.tsc_config.specs.declared.kinds.TableKind.TheVariants as table_is
 
 -- no fault among two
-neither : (a b : Option ConfigFault) → least a b ≡ None → (a ≡ None) × (b ≡ None)
+pub neither : (a b : Option ConfigFault) → least a b ≡ None → (a ≡ None) × (b ≡ None)
 neither None b e = (refl, e)
 neither (Some x) None e = cc
 neither (Some x) (Some y) e = absurd (some (nat_lt (number_of y) (number_of x)) e)
@@ -25,7 +25,7 @@ neither (Some x) (Some y) e = absurd (some (nat_lt (number_of y) (number_of x)) 
     some false e = cc
 
 -- what stands at a key, as a number
-abbrev NumberOf : Option Data → (default lowest greatest number : ℕ) → Type 0
+abbrev pub NumberOf : Option Data → (default lowest greatest number : ℕ) → Type 0
 NumberOf at default lowest greatest number =
     ((at ≡ None) × (number ≡ default)) ⊎ ((at ≡ Some (integer (pos number))) × (lowest ≤ number) × (number ≤ greatest))
 
@@ -49,7 +49,7 @@ positive default greatest (Some (integer (negsuc n))) e = cc
 positive default greatest (Some (string text)) e = cc
 positive default greatest (Some _) e = cc
 
-natural : (greatest : ℕ) (at : Option Data) → optional (integer_fault (pos 0) (pos greatest)) at ≡ None
+pub natural : (greatest : ℕ) (at : Option Data) → optional (integer_fault (pos 0) (pos greatest)) at ≡ None
     → NumberOf at 0 0 greatest (natural_of at)
 natural greatest None e = inl (refl, refl)
 natural greatest (Some (integer (pos n))) e = inr (refl, omega arith, within)
@@ -118,17 +118,23 @@ with_enough : (r : Bool) (made config : Config) → (if r then Err TooFewTraces 
 with_enough true made config e = cc
 with_enough false made config e = where_none (fault_of_policies made.policies) made config e
 
-of_table : (members : Members) (found : Option ConfigFault) (config : Config) → table_fault members ≡ found → reading_unless found (config_of members) ≡ Ok config
-    → HasSettings members config
-of_table members None config f e =
+of_table : (Has : Members → Config → Type 0) → ((members : Members) → table_fault members ≡ None → Has members (config_of members))
+    → (members : Members) (found : Option ConfigFault) (config : Config) → table_fault members ≡ found → reading_unless found (config_of members) ≡ Ok config → Has members config
+of_table Has each members None config f e =
     let same : config_of members ≡ config = with_enough (nat_lt (config_of members).num_traces (config_of members).shards) (config_of members) config e in
-    let P : Config → Type 0 = λ c. HasSettings members c in
-    subst P same (whole members f)
-of_table members (Some fault) config f e = cc
+    let P : Config → Type 0 = λ c. Has members c in
+    subst P same (each members f)
+of_table Has each members (Some fault) config f e = cc
 
-of_document : (document : Option Members) (config : Config) → reading_of document ≡ Ok config → (members : Members) × (document ≡ Some members) × HasSettings members config
-of_document None config e = cc
-of_document (Some members) config e = (members, refl, of_table members (table_fault members) config refl e)
+of_document : (Has : Members → Config → Type 0) → ((members : Members) → table_fault members ≡ None → Has members (config_of members))
+    → (document : Option Members) (config : Config) → reading_of document ≡ Ok config → (members : Members) × (document ≡ Some members) × Has members config
+of_document Has each None config e = cc
+of_document Has each (Some members) config e = (members, refl, of_table Has each members (table_fault members) config refl e)
+
+-- what the configuration of each table without a fault has, each configuration that is read has
+pub read_as : (Has : Members → Config → Type 0) → ((members : Members) → table_fault members ≡ None → Has members (config_of members))
+    → (text : List ℕ) (config : Config) → reading text ≡ Ok config → (members : Members) × (parse_document text ≡ Some members) × Has members config
+read_as Has each text config e = of_document Has each (parse_document text) config e
 
 pub reads_settings : ReadsSettings
-reads_settings text config e = of_document (parse_document text) config e
+reads_settings text config e = read_as HasSettings whole text config e

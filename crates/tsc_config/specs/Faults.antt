@@ -9,6 +9,8 @@ use Rattle.tsc_config.specs.declared.kinds.PolicyType.{PolicyType}
 use Rattle.tsc_config.specs.declared.kinds.PolicyType.TheVariants as type_is
 use Rattle.tsc_config.specs.declared.kinds.TableKind.{TableKind}
 use Rattle.tsc_config.specs.declared.kinds.TableKind.TheVariants as table_is
+use Rattle.tsc_config.specs.declared.settings_faults.Wanted.{Wanted}
+use Rattle.tsc_config.specs.declared.settings_faults.Wanted.TheVariants as wants
 
 -- the number of a fault
 abbrev pub number_of : ConfigFault → ℕ
@@ -67,24 +69,14 @@ code_fault (string text) = named_fault (code_of (string text))
 code_fault _ = Some WrongType
 
 -- the least fault among some items
-abbrev pub code_items_fault : Items → Option ConfigFault
-code_items_fault no_items = None
-code_items_fault (item value rest) = least (code_fault value) (code_items_fault rest)
+abbrev pub items_fault : (Data → Option ConfigFault) → Items → Option ConfigFault
+items_fault fault_of no_items = None
+items_fault fault_of (item value rest) = least (fault_of value) (items_fault fault_of rest)
 
--- an array of texts that name status codes is wanted
-abbrev pub codes_fault : Data → Option ConfigFault
-codes_fault (array items) = code_items_fault items
-codes_fault _ = Some WrongType
-
--- the least fault among some items
-abbrev pub text_items_fault : Items → Option ConfigFault
-text_items_fault no_items = None
-text_items_fault (item value rest) = least (text_fault value) (text_items_fault rest)
-
--- an array of texts is wanted
-abbrev pub texts_fault : Data → Option ConfigFault
-texts_fault (array items) = text_items_fault items
-texts_fault _ = Some WrongType
+-- an array of such items is wanted
+abbrev pub array_fault : (Data → Option ConfigFault) → Data → Option ConfigFault
+array_fault fault_of (array items) = items_fault fault_of items
+array_fault fault_of _ = Some WrongType
 
 -- a truth value is wanted
 abbrev pub truth_fault : Data → Option ConfigFault
@@ -100,6 +92,15 @@ whole_fault _ = Some WrongType
 abbrev pub natural_fault : Data → Option ConfigFault
 natural_fault value = integer_fault (pos 0) (pos 9223372036854775807) value
 
+-- what is wanted of a value
+abbrev pub wanted_fault : Wanted → Data → Option ConfigFault
+wanted_fault (wants.Integer lowest greatest) = integer_fault lowest greatest
+wanted_fault wants.Whole = whole_fault
+wanted_fault wants.Truth = truth_fault
+wanted_fault wants.Text = text_fault
+wanted_fault wants.StatusCode = code_fault
+wanted_fault wants.PolicyType = type_fault
+
 -- the rows of the settings of an attribute policy, where this is the fault of what is wanted of the value
 abbrev pub attribute_fault : Members → (wanted : Option ConfigFault) → Option ConfigFault
 attribute_fault members wanted =
@@ -112,8 +113,8 @@ rows_fault type_is.AlwaysSample _ = None
 rows_fault type_is.Latency members =
     least (required natural_fault (get_member (codes "threshold_ms") members))
     (optional natural_fault (get_member (codes "upper_threshold_ms") members))
-rows_fault type_is.StatusCode members = required codes_fault (get_member (codes "status_codes") members)
-rows_fault type_is.StringAttribute members = attribute_fault members (required texts_fault (get_member (codes "values") members))
+rows_fault type_is.StatusCode members = required (array_fault code_fault) (get_member (codes "status_codes") members)
+rows_fault type_is.StringAttribute members = attribute_fault members (required (array_fault text_fault) (get_member (codes "values") members))
 rows_fault type_is.NumericAttribute members =
     attribute_fault members (least (optional whole_fault (get_member (codes "min_value") members))
     (optional whole_fault (get_member (codes "max_value") members)))

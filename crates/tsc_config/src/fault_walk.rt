@@ -8,7 +8,7 @@ use crate::fault::{ConfigFault, least};
 use crate::keys::{member, unknown_fault};
 use crate::kinds::TableKind;
 use crate::policy_faults::policies_fault;
-use crate::settings_faults::text_fault;
+use crate::settings_faults::{Wanted, optional_fault};
 use toml::{Table, Value};
 
 /// The least fault of the table of a configuration, up to 5. It takes no memory.
@@ -19,7 +19,7 @@ pub fn table_fault(table: &Table) -> Option<ConfigFault>
     let keys = unknown_fault(TableKind::Config, table);
     let numbers = numbers_fault(table);
     let sizes = sizes_fault(table);
-    let listen = listen_fault(table);
+    let listen = optional_fault(table, "listen", Wanted::Text);
     let cache = cache_at_fault(table);
     let rest = least(listen, least(cache, required_policies_fault(table)));
     least(keys, least(numbers, least(sizes, rest)))
@@ -49,23 +49,11 @@ fn sizes_fault(table: &Table) -> Option<ConfigFault>
     least(queue, least(export, batch))
 }
 
-fn listen_fault(table: &Table) -> Option<ConfigFault>
-    ensures { result ≡ spec.optional spec.text_fault (get_member (codes "listen") (table_view table.now)) }
-{
-    match member(table, "listen") {
-        Some(value) => text_fault(value),
-        None => None,
-    }
-}
-
 /// The fault of a whole number that may be missing.
 fn integer_at_fault(table: &Table, key: &str, lowest: i64, greatest: i64) -> Option<ConfigFault>
     ensures { result ≡ spec.optional (spec.integer_fault lowest greatest) (get_member key.now (table_view table.now)) }
 {
-    match member(table, key) {
-        Some(value) => integer_fault(value, lowest, greatest),
-        None => None,
-    }
+    optional_fault(table, key, Wanted::Integer(lowest, greatest))
 }
 
 fn cache_at_fault(table: &Table) -> Option<ConfigFault>
@@ -86,22 +74,6 @@ fn cache_fault(value: &Value) -> Option<ConfigFault>
             let sampled = integer_at_fault(table, "sampled_cache_size", 0, 1_000_000);
             let non_sampled = integer_at_fault(table, "non_sampled_cache_size", 0, 1_000_000);
             least(keys, least(sampled, non_sampled))
-        }
-        _ => Some(ConfigFault::WrongType),
-    }
-}
-
-/// The fault of a whole number within these bounds.
-pub fn integer_fault(value: &Value, least: i64, greatest: i64) -> Option<ConfigFault>
-    ensures { result ≡ spec.integer_fault least greatest (view value.now) }
-{
-    match value {
-        Value::Integer(number) => {
-            if least <= *number && *number <= greatest {
-                None
-            } else {
-                Some(ConfigFault::OutOfRange)
-            }
         }
         _ => Some(ConfigFault::WrongType),
     }

@@ -2,6 +2,7 @@
 ghost use Rattle.std.specs.Prelude.{ℕ, List};
 ghost use Rattle.std.specs.Result.{result_err};
 ghost use Rattle.tsc_config.specs.FaultSets.{IsLeastOf, TextHas};
+ghost use Rattle.tsc_config.specs.PolicyKeys.{ReadsPolicies};
 ghost use Rattle.tsc_config.specs.Reading.{reading};
 ghost use Rattle.tsc_config.specs.Settings.{ReadsSettings};
 
@@ -15,4 +16,11 @@ pub fn answers_least_fault()
 /// else the key's default.
 pub fn settings_are_of_their_keys()
     ensures { ReadsSettings }
+{}
+
+/// The policies of a configuration that a text is read as are as many as the tables of `policies`, and each, however deep
+/// in an `and`, is that of the table at its place: its name, its type, and each of its settings is what stands at its key,
+/// or else the key's default.
+pub fn policies_are_of_their_keys()
+    ensures { ReadsPolicies }
 {}

@@ -1,14 +1,14 @@
 //! The least fault of the policies of a configuration.
-ghost use Rattle.std.specs.Prelude.{◌≡◌, codes};
+ghost use Rattle.std.specs.Prelude.{◌≡◌};
 ghost use Rattle.toml.specs.Data.{get_member};
 ghost use Rattle.toml.specs.View.{view, table_view, array_view};
 ghost use Rattle.tsc_config.specs.Keys.{type_name};
 ghost use Rattle.tsc_config.specs.Faults as spec;
 
 use crate::fault::{ConfigFault, least};
-use crate::keys::{member, type_at, type_of, unknown_fault};
+use crate::keys::{member, type_at, unknown_fault};
 use crate::kinds::{PolicyType, TableKind};
-use crate::settings_faults::{settings_fault, text_fault};
+use crate::settings_faults::{Wanted, required_fault, settings_fault};
 use toml::value::Array;
 use toml::{Table, Value};
 
@@ -87,42 +87,11 @@ fn sub_policies_fault(table: &Table) -> Option<ConfigFault>
 fn policy_table_fault(table: &Table, nested: Option<ConfigFault>) -> Option<ConfigFault>
     ensures { result ≡ spec.policy_table_fault (table_view table.now) nested }
 {
-    let name = name_fault(table);
-    let (kind, of_type) = (type_at(table), type_fault(table));
-    let head = least(name, of_type);
-    match kind {
+    let name = required_fault(table, "name", Wanted::Text);
+    let head = least(name, required_fault(table, "type", Wanted::PolicyType));
+    match type_at(table) {
         Some(kind) => least(head, typed_fault(kind, table, nested)),
         None => head,
-    }
-}
-
-fn name_fault(table: &Table) -> Option<ConfigFault>
-    ensures { result ≡ spec.required spec.text_fault (get_member (codes "name") (table_view table.now)) }
-{
-    match member(table, "name") {
-        Some(value) => text_fault(value),
-        None => Some(ConfigFault::MissingKey),
-    }
-}
-
-fn type_fault(table: &Table) -> Option<ConfigFault>
-    ensures { result ≡ spec.required spec.type_fault (get_member (codes "type") (table_view table.now)) }
-{
-    match member(table, "type") {
-        Some(value) => type_value_fault(value),
-        None => Some(ConfigFault::MissingKey),
-    }
-}
-
-fn type_value_fault(value: &Value) -> Option<ConfigFault>
-    ensures { result ≡ spec.type_fault (view value.now) }
-{
-    match value {
-        Value::String(_) => match type_of(value) {
-            Some(_) => None,
-            None => Some(ConfigFault::OutOfRange),
-        },
-        _ => Some(ConfigFault::WrongType),
     }
 }
 

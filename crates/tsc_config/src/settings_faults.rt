@@ -5,8 +5,7 @@ ghost use Rattle.toml.specs.View.{view, table_view, array_view};
 ghost use Rattle.tsc_config.specs.Faults as spec;
 
 use crate::fault::{ConfigFault, least};
-use crate::fault_walk::integer_fault;
-use crate::keys::{code_of, member, unknown_fault};
+use crate::keys::{code_of, member, type_of, unknown_fault};
 use crate::kinds::{PolicyType, TableKind};
 use toml::value::Array;
 use toml::{Table, Value};
@@ -31,18 +30,24 @@ fn rows_fault(kind: PolicyType, table: &Table) -> Option<ConfigFault>
     match kind {
         PolicyType::AlwaysSample | PolicyType::And => None,
         PolicyType::Latency => least(
-            required_natural_fault(table, "threshold_ms"),
-            optional_natural_fault(table, "upper_threshold_ms"),
+            required_fault(table, "threshold_ms", NATURAL),
+            optional_fault(table, "upper_threshold_ms", NATURAL),
         ),
-        PolicyType::StatusCode => required_codes_fault(table),
-        PolicyType::StringAttribute => attribute_fault(table, required_texts_fault(table)),
+        PolicyType::StatusCode => required_array_fault(table, "status_codes", Wanted::StatusCode),
+        PolicyType::StringAttribute => attribute_fault(
+            table,
+            required_array_fault(table, "values", Wanted::Text),
+        ),
         PolicyType::NumericAttribute => attribute_fault(table, bounds_fault(table)),
-        PolicyType::BooleanAttribute => attribute_fault(table, required_truth_fault(table)),
-        PolicyType::SpanCount => least(
-            required_natural_fault(table, "min_spans"),
-            optional_natural_fault(table, "max_spans"),
+        PolicyType::BooleanAttribute => attribute_fault(
+            table,
+            required_fault(table, "value", Wanted::Truth),
         ),
-        PolicyType::RateLimiting => required_natural_fault(table, "spans_per_second"),
+        PolicyType::SpanCount => least(
+            required_fault(table, "min_spans", NATURAL),
+            optional_fault(table, "max_spans", NATURAL),
+        ),
+        PolicyType::RateLimiting => required_fault(table, "spans_per_second", NATURAL),
     }
 }
 
@@ -50,8 +55,8 @@ fn rows_fault(kind: PolicyType, table: &Table) -> Option<ConfigFault>
 fn attribute_fault(table: &Table, wanted: Option<ConfigFault>) -> Option<ConfigFault>
     ensures { result ≡ spec.attribute_fault (table_view table.now) wanted }
 {
-    let key = required_text_fault(table, "key");
-    let invert = optional_truth_fault(table, "invert_match");
+    let key = required_fault(table, "key", Wanted::Text);
+    let invert = optional_fault(table, "invert_match", Wanted::Truth);
     least(key, least(wanted, invert))
 }
 
@@ -59,160 +64,85 @@ fn bounds_fault(table: &Table) -> Option<ConfigFault>
     ensures { result ≡ spec.least (spec.optional spec.whole_fault (get_member (codes "min_value") (table_view table.now)))
         (spec.optional spec.whole_fault (get_member (codes "max_value") (table_view table.now))) }
 {
-    let least_value = optional_whole_fault(table, "min_value");
-    let greatest_value = optional_whole_fault(table, "max_value");
+    let least_value = optional_fault(table, "min_value", Wanted::Whole);
+    let greatest_value = optional_fault(table, "max_value", Wanted::Whole);
     least(least_value, greatest_value)
 }
 
-fn required_natural_fault(table: &Table, key: &str) -> Option<ConfigFault>
-    ensures { result ≡ spec.required spec.natural_fault (get_member key.now (table_view table.now)) }
+/// What is wanted of a value.
+#[derive(Clone, Copy)]
+pub enum Wanted {
+    /// A whole number within these bounds.
+    Integer(i64, i64),
+    Whole,
+    Truth,
+    Text,
+    /// A text that names a status code.
+    StatusCode,
+    /// A text that names a type of policy.
+    PolicyType,
+}
+
+/// A whole number from 0 on.
+const NATURAL: Wanted = Wanted::Integer(0, i64::MAX);
+
+/// The fault of what stands at a required key.
+pub fn required_fault(table: &Table, key: &str, wanted: Wanted) -> Option<ConfigFault>
+    ensures { result ≡ spec.required (spec.wanted_fault wanted) (get_member key.now (table_view table.now)) }
 {
     match member(table, key) {
-        Some(value) => natural_fault(value),
+        Some(value) => value_fault(value, wanted),
         None => Some(ConfigFault::MissingKey),
     }
 }
 
-fn optional_natural_fault(table: &Table, key: &str) -> Option<ConfigFault>
-    ensures { result ≡ spec.optional spec.natural_fault (get_member key.now (table_view table.now)) }
+/// The fault of what stands at a key that may be missing.
+pub fn optional_fault(table: &Table, key: &str, wanted: Wanted) -> Option<ConfigFault>
+    ensures { result ≡ spec.optional (spec.wanted_fault wanted) (get_member key.now (table_view table.now)) }
 {
-    match member(table, key) {
-        Some(value) => natural_fault(value),
-        None => None,
-    }
+    value_fault(member(table, key)?, wanted)
 }
 
-fn required_text_fault(table: &Table, key: &str) -> Option<ConfigFault>
-    ensures { result ≡ spec.required spec.text_fault (get_member key.now (table_view table.now)) }
+/// The fault of the array of such items at a required key.
+fn required_array_fault(table: &Table, key: &str, wanted: Wanted) -> Option<ConfigFault>
+    ensures { result ≡ spec.required (spec.array_fault (spec.wanted_fault wanted)) (get_member key.now (table_view table.now)) }
 {
     match member(table, key) {
-        Some(value) => text_fault(value),
+        Some(Value::Array(items)) => items_fault(items, wanted),
+        Some(_) => Some(ConfigFault::WrongType),
         None => Some(ConfigFault::MissingKey),
     }
 }
 
-fn optional_truth_fault(table: &Table, key: &str) -> Option<ConfigFault>
-    ensures { result ≡ spec.optional spec.truth_fault (get_member key.now (table_view table.now)) }
-{
-    match member(table, key) {
-        Some(value) => truth_fault(value),
-        None => None,
-    }
-}
-
-fn optional_whole_fault(table: &Table, key: &str) -> Option<ConfigFault>
-    ensures { result ≡ spec.optional spec.whole_fault (get_member key.now (table_view table.now)) }
-{
-    match member(table, key) {
-        Some(value) => whole_fault(value),
-        None => None,
-    }
-}
-
-fn required_codes_fault(table: &Table) -> Option<ConfigFault>
-    ensures { result ≡ spec.required spec.codes_fault (get_member (codes "status_codes") (table_view table.now)) }
-{
-    match member(table, "status_codes") {
-        Some(value) => codes_fault(value),
-        None => Some(ConfigFault::MissingKey),
-    }
-}
-
-fn required_texts_fault(table: &Table) -> Option<ConfigFault>
-    ensures { result ≡ spec.required spec.texts_fault (get_member (codes "values") (table_view table.now)) }
-{
-    match member(table, "values") {
-        Some(value) => texts_fault(value),
-        None => Some(ConfigFault::MissingKey),
-    }
-}
-
-fn required_truth_fault(table: &Table) -> Option<ConfigFault>
-    ensures { result ≡ spec.required spec.truth_fault (get_member (codes "value") (table_view table.now)) }
-{
-    match member(table, "value") {
-        Some(value) => truth_fault(value),
-        None => Some(ConfigFault::MissingKey),
-    }
-}
-
-fn natural_fault(value: &Value) -> Option<ConfigFault>
-    ensures { result ≡ spec.natural_fault (view value.now) }
-{
-    integer_fault(value, 0, i64::MAX)
-}
-
-/// The fault of a text.
-pub fn text_fault(value: &Value) -> Option<ConfigFault>
-    ensures { result ≡ spec.text_fault (view value.now) }
-{
-    match value {
-        Value::String(_) => None,
-        _ => Some(ConfigFault::WrongType),
-    }
-}
-
-fn truth_fault(value: &Value) -> Option<ConfigFault>
-    ensures { result ≡ spec.truth_fault (view value.now) }
-{
-    match value {
-        Value::Boolean(_) => None,
-        _ => Some(ConfigFault::WrongType),
-    }
-}
-
-fn whole_fault(value: &Value) -> Option<ConfigFault>
-    ensures { result ≡ spec.whole_fault (view value.now) }
-{
-    match value {
-        Value::Integer(_) => None,
-        _ => Some(ConfigFault::WrongType),
-    }
-}
-
-fn texts_fault(value: &Value) -> Option<ConfigFault>
-    ensures { result ≡ spec.texts_fault (view value.now) }
-{
-    match value {
-        Value::Array(items) => text_items_fault(items),
-        _ => Some(ConfigFault::WrongType),
-    }
-}
-
-fn text_items_fault(items: &Array) -> Option<ConfigFault>
-    ensures { result ≡ spec.text_items_fault (array_view items.now) }
+fn items_fault(items: &Array, wanted: Wanted) -> Option<ConfigFault>
+    ensures { result ≡ spec.items_fault (spec.wanted_fault wanted) (array_view items.now) }
 {
     let mut fault = None;
     for item in items {
-        fault = least(fault, text_fault(item));
+        fault = least(fault, value_fault(item, wanted));
     }
     fault
 }
 
-fn codes_fault(value: &Value) -> Option<ConfigFault>
-    ensures { result ≡ spec.codes_fault (view value.now) }
+fn value_fault(value: &Value, wanted: Wanted) -> Option<ConfigFault>
+    ensures { result ≡ spec.wanted_fault wanted (view value.now) }
 {
-    match value {
-        Value::Array(items) => code_items_fault(items),
-        _ => Some(ConfigFault::WrongType),
-    }
-}
-
-fn code_items_fault(items: &Array) -> Option<ConfigFault>
-    ensures { result ≡ spec.code_items_fault (array_view items.now) }
-{
-    let mut fault = None;
-    for item in items {
-        fault = least(fault, code_fault(item));
-    }
-    fault
-}
-
-fn code_fault(value: &Value) -> Option<ConfigFault>
-    ensures { result ≡ spec.code_fault (view value.now) }
-{
-    match value {
-        Value::String(_) => match code_of(value) {
+    match (wanted, value) {
+        (Wanted::Integer(lowest, greatest), Value::Integer(number)) => {
+            if lowest <= *number && *number <= greatest {
+                None
+            } else {
+                Some(ConfigFault::OutOfRange)
+            }
+        }
+        (Wanted::Whole, Value::Integer(_)) => None,
+        (Wanted::Truth, Value::Boolean(_)) => None,
+        (Wanted::Text, Value::String(_)) => None,
+        (Wanted::StatusCode, Value::String(_)) => match code_of(value) {
+            Some(_) => None,
+            None => Some(ConfigFault::OutOfRange),
+        },
+        (Wanted::PolicyType, Value::String(_)) => match type_of(value) {
             Some(_) => None,
             None => Some(ConfigFault::OutOfRange),
         },

@@ -63,6 +63,13 @@ fn new_recorder(alloc: Global, life: u32) -> Recorder
     }
 }
 
+/// What a script comes to on a machine that stays up.
+fn played(alloc: Global, script: &[u8]) -> Result<(), Stop> {
+    let mut machine = new_recorder(alloc, u32::MAX);
+    let mut reader = script;
+    play_script(alloc, &mut reader, &mut machine)
+}
+
 /// A reader that gives one byte at a time, each after an interruption, and fails behind the last.
 #[derive(Drop)]
 struct FailingReader<'a> {
@@ -117,13 +124,7 @@ fn lines_are_taken_or_refused(rt: HostRuntime) -> Result<(), Fail> {
         (b"close\n\n", Err(Stop::Refused(2))),
     ];
     for (text, result) in cases {
-        let mut machine = new_recorder(rt.alloc(), u32::MAX);
-        let mut reader = text;
-        assert_eq!(rt;
-            play_script(rt.alloc(), &mut reader, &mut machine),
-            result,
-            "at {text:?}"
-        );
+        assert_eq!(rt; played(rt.alloc(), text), result, "at {text:?}");
     }
     Ok(())
 }
@@ -135,13 +136,7 @@ fn longest_line_is_taken(rt: HostRuntime) -> Result<(), Fail> {
         for (place, byte) in text.iter_mut().zip(b"recv 1 0") {
             *place = *byte;
         }
-        let mut machine = new_recorder(rt.alloc(), u32::MAX);
-        let mut reader = text.as_slice();
-        assert_eq!(rt;
-            play_script(rt.alloc(), &mut reader, &mut machine),
-            result,
-            "at {length}"
-        );
+        assert_eq!(rt; played(rt.alloc(), text.as_slice()), result, "at {length}");
     }
     Ok(())
 }

@@ -1,6 +1,7 @@
 use Rattle.std.proofs.Common.{◌≡◌, ℕ, List, Option, refl, sym, subst}
 use Rattle.span_sink.specs.Sinks.{SinkState}
 use Rattle.pipeline.specs.Outcome.{SinkAnswers}
+use Rattle.pipeline.specs.Promise.{CoreRunTells}
 use Rattle.collector_main.specs.Configuration.{file_of}
 use Rattle.collector_main.specs.Ending.{Course, Serves}
 use Rattle.collector_main.specs.declared.program.Outcome.{Outcome}
@@ -22,6 +23,9 @@ returns g c = λ arguments unread.
     let From : SinkState → Type 0 = λ first. SinkAnswers first.taken first.failures after.taken after.failures answer in
     let To : Option (List ℕ) → Type 0 = λ taken. SinkAnswers (g.W.Write.contents c.args.writer) 0 taken after.failures answer in
     let tells = subst To (sym c.end.ensures) (subst From c.new-sink.ensures c.serve_on-sink.ensures.sink) in
+    let RanFrom : SinkState → Type 0 = λ first. CoreRunTells c.in-Ok.config first.taken first.failures after.taken after.failures answer in
+    let RanTo : Option (List ℕ) → Type 0 = λ taken. CoreRunTells c.in-Ok.config (g.W.Write.contents c.args.writer) 0 taken after.failures answer in
+    let ran = subst RanTo (sym c.end.ensures) (subst RanFrom c.new-sink.ensures c.serve_on-sink.ensures.ran) in
     let now = course (g.W.Write.contents c.args.writer) (g.W.Write.contents c.end.result) in
     let P : Outcome → Type 0 = λ outcome. Serves now outcome in
-    subst P (sym c.served_to.ensures) (Serves-ran now c.in-Ok.config after.failures answer c.in-Ok.ensures.is_read refl tells)
+    subst P (sym c.served_to.ensures) (Serves-ran now c.in-Ok.config after.failures answer c.in-Ok.ensures.is_read refl tells ran)

@@ -1,7 +1,6 @@
-use Rattle.std.proofs.Common.{◌≡◌, ◌-◌, [], ◌∷◌, ◌++◌, Some, None, sym, ap, ◌∙◌, arith}
-use Rattle.json.specs.Json.{after_end_array}
+use Rattle.std.proofs.Common.{◌≡◌, ◌-◌, [], ◌∷◌, ◌++◌, Some, sym, ap, ◌∙◌, arith}
 use Rattle.otlp_reading.specs.Kinds.{message}
-use Rattle.otlp_stream.proofs.Streaming.{WithinItems-start, WithinItems-item, each-push, list_array}
+use Rattle.otlp_stream.proofs.Streaming.{WithinItems-start, WithinItems-next, each-push, list_array}
 use Rattle.otlp_stream.proofs.stream.list_of.Goals as goal
 
 pub items-init : goal.items-init
@@ -11,10 +10,9 @@ pub items-preserved : goal.items-preserved
 items-preserved g c =
     let l = c.items in
     let w = l.invariant in
-    let going : (after_end_array l.reader ≡ None) × (c.take_end_array.new.self ≡ l.reader) = grind arith in
     let t = c.in_ok-message.ensures in (
       w.0 ++ t.found ∷ [],
-      WithinItems-item (c.args.depth - 1) c.next.new.self l.reader w.0 c.message.new.reader t.found w.1 going.0 (rw (← going.1) t.takes),
+      WithinItems-next (c.args.depth - 1) c.next.new.self l.reader w.0 c.take_end_array.new.self c.message.new.reader t.found w.1 (grind arith) (grind arith) t.takes,
       each-push (message g.B.Building.meaning) w.0 t.found l.all c.in_ok-message.field-0 w.2 t.is ∙ ap Some (sym c.in_ok-push.ensures.ok),
     )
 

@@ -4,7 +4,7 @@ use Rattle.json.specs.Json.{after_end_array, read_key}
 use Rattle.serde_json.specs.Data.{array, object, no_items, no_members, put}
 use Rattle.otlp_stream.specs.Taking.{items_then}
 use Rattle.otlp_stream.proofs.Takes.{takes_string, takes_null, takes_boolean, takes_number}
-use Rattle.otlp_stream.proofs.Streaming.{Within-start, Within-member, Within-end, takes_object, WithinItems-start, WithinItems-item, WithinItems-end, takes_array}
+use Rattle.otlp_stream.proofs.Streaming.{Within-start, Within-member, Within-end, takes_object, WithinItems-start, WithinItems-next, WithinItems-end, takes_array}
 use Rattle.otlp_stream.proofs.take.+skip.Goals as goal
 
 pub skip-returns-in-Some-String : goal.skip-returns-in-Some-String
@@ -38,9 +38,8 @@ pub skip_items-items-preserved : goal.skip_items-items-preserved
 skip_items-items-preserved t c =
     let l = c.items in
     let w = l.invariant in
-    let going : (after_end_array l.reader ≡ None) × (c.take_end_array.new.self ≡ l.reader) = grind arith in
     let d = c.in_ok-skip.ensures in
-    (w.0 ++ d.0 ∷ [], WithinItems-item c.args.depth c.args.reader.now l.reader w.0 c.skip.new.reader d.0 w.1 going.0 (rw (← going.1) d.1))
+    (w.0 ++ d.0 ∷ [], WithinItems-next c.args.depth c.args.reader.now l.reader w.0 c.take_end_array.new.self c.skip.new.reader d.0 w.1 (grind arith) (grind arith) d.1)
 
 pub skip_items-returns : goal.skip_items-returns
 skip_items-returns t c =

@@ -6,7 +6,7 @@ use Rattle.otlp_types.specs.declared.value.AnyValue.{Str, Bool as Truth, Int, Ar
 use Rattle.otlp_reading.specs.Kinds.{message, i64_value}
 use Rattle.otlp_reading.specs.Reading.{value_to, key_value}
 use Rattle.otlp_stream.specs.Taking.{TakesAs, held}
-use Rattle.otlp_stream.proofs.Streaming.{WithinItems-start, WithinItems-item}
+use Rattle.otlp_stream.proofs.Streaming.{WithinItems-start, WithinItems-next}
 use Rattle.otlp_stream.proofs.Sieving.{Sieved-start, Sieved-kept, Sieved-discarded, sieved_array, all_none, all_some, all_not, held_map, held_any, value_empty, value_one, pair_key, pair_both}
 use Rattle.otlp_stream.proofs.values.+value.Goals as goal
 use Rattle.otlp_stream.proofs.values.+value.Goals.{all_values-in-Some+in_ok-push-in-Some, all_values-in-None+else-discarded, key_values-in-Some+in_ok-push-in-Some, key_values-in-None+else-discarded}
@@ -25,9 +25,8 @@ pub all_values-items-preserved : goal.all_values-items-preserved
 all_values-items-preserved t c =
     let l = c.items in
     let w = l.invariant in
-    let going : (after_end_array l.reader ≡ None) × (c.take_end_array.new.self ≡ l.reader) = grind arith in
     let m = c.in_ok-value.ensures in
-    let more = WithinItems-item (c.args.depth - 1) c.next.new.self l.reader w.0 c.value_to.new.reader m.found w.1 going.0 (rw (← going.1) m.takes) in
+    let more = WithinItems-next (c.args.depth - 1) c.next.new.self l.reader w.0 c.take_end_array.new.self c.value_to.new.reader m.found w.1 (grind arith) (grind arith) m.takes in
     elim c.match-branch-2.branch [
       | all_values-in-Some+in_ok-push-in-Some b ↦
           (w.0 ++ m.found ∷ [], more, rw (b.kept-is, b.in_ok-push-in-Some.ensures.ok, b.discarded-is) (Sieved-kept (value_to c.args.levels) w.0 l.kept l.discarded m.found b.in-Some.value w.2 (m.is ∙ ap Some b.in-Some.is)))
@@ -49,9 +48,8 @@ pub key_values-items-preserved : goal.key_values-items-preserved
 key_values-items-preserved t c =
     let l = c.items in
     let w = l.invariant in
-    let going : (after_end_array l.reader ≡ None) × (c.take_end_array.new.self ≡ l.reader) = grind arith in
     let m = c.in_ok-pair.ensures in
-    let more = WithinItems-item (c.args.depth - 1) c.next.new.self l.reader w.0 c.pair.new.reader m.found w.1 going.0 (rw (← going.1) m.takes) in
+    let more = WithinItems-next (c.args.depth - 1) c.next.new.self l.reader w.0 c.take_end_array.new.self c.pair.new.reader m.found w.1 (grind arith) (grind arith) m.takes in
     elim c.match-branch-2.branch [
       | key_values-in-Some+in_ok-push-in-Some b ↦
           (w.0 ++ m.found ∷ [], more, rw (b.kept-is, b.in_ok-push-in-Some.ensures.ok, b.discarded-is) (Sieved-kept (message (key_value (value_to c.args.levels))) w.0 l.kept l.discarded m.found b.in-Some.pair w.2 (m.is ∙ ap Some b.in-Some.is)))

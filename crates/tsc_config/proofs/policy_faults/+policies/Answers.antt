@@ -1,11 +1,11 @@
-use Rattle.std.proofs.Common.{ap, ◌∙◌}
+use Rattle.std.proofs.Common.{refl, ap, ◌∙◌}
 use Rattle.toml.specs.View.{view, array_view}
 use Rattle.tsc_config.specs.Faults.{policy_fault, policy_items_fault}
-use Rattle.tsc_config.proofs.Least.{policy_step}
+use Rattle.tsc_config.proofs.Least.{items_step}
 use Rattle.tsc_config.proofs.policy_faults.+policies.Goals as goal
 
 pub policy_items_fault-loop-item-preserved : goal.policy_items_fault-loop-item-preserved
 policy_items_fault-loop-item-preserved t c =
     let one_is = c.policy_fault.ensures ∙ ap (λ v. policy_fault (view v)) c.item-item.is in
-    policy_step c.loop-item.fault c.policy_fault.result c.least-fault.result c.deref-item-items.result.now c.loop-item.item-index c.item-item.result
+    items_step policy_fault policy_items_fault (λ value rest. refl) c.loop-item.fault c.policy_fault.result c.least-fault.result c.deref-item-items.result.now c.loop-item.item-index c.item-item.result
     (policy_items_fault (array_view c.args.items.now)) c.loop-item-test.true one_is c.least-fault.ensures c.loop-item.invariant

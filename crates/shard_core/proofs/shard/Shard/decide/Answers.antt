@@ -66,12 +66,6 @@ returns-in_default-clause-answered g c = λ _ past k s.
     let P = λ (x : Held). StandsFor x past k → IsAnswered (settings x) past in
     subst P (c.self.view_is ∙ c.search.ensures) (all_answered (the_view c.self.inside) past k c.self.invariant.0 c.self.invariant.1 (nothing_due (the_view c.self.inside) c.self.invariant.3 none)) s
 
-pub returns-in_default-clause-output : goal.returns-in_default-clause-output
-returns-in_default-clause-output g c = λ _ past k s.
-    let none = none_found (the_view c.self.inside) _ c.self.inside.buffer.episodes (c.due_by-mark.ensures ∙ ap due_by (sym c.self.view_is)) (sym c.next_due.ensures ∙ ap option_copied c.in_default.is) in
-    let P = λ (x : Held). StandsFor x past k → effect_dealt (settings x) past k ≡ effect (settings x) past in
-    ap (λ (x : Effect). x.released) (subst P (c.self.view_is ∙ c.search.ensures) (all_dealt (the_view c.self.inside) past k c.self.invariant.0 c.self.invariant.1 (nothing_due (the_view c.self.inside) c.self.invariant.3 none)) s)
-
 -- ---- an episode was due
 
 due_found : (g : Over) (c : goal.After-decided g) → find (is_due_at c.due_by-mark.result.0 c.due_by-mark.result.1 c.due_by-mark.result.2) c.self.inside.buffer.episodes ≡ Some c.in-Some.episode.now

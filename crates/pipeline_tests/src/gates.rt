@@ -1,0 +1,131 @@
+//! Gates that hold one thread until another has reached a place, and give up after so many turns.
+use lane_queue::{Gate, Place};
+use std::sync::atomic::{AtomicBool, Ordering};
+use std::thread;
+
+/// So many turns a thread is held at most.
+const TURNS: u32 = 100_000;
+
+/// Whether each of two threads has reached a place.
+#[derive(Drop)]
+struct Two {
+    first: AtomicBool,
+    second: AtomicBool,
+}
+
+impl Two {
+    /// Neither has.
+    fn new() -> Self {
+        Two {
+            first: AtomicBool::new(false),
+            second: AtomicBool::new(false),
+        }
+    }
+
+    /// The mark of one thread, and then the other's.
+    fn marks(&self, is_first: bool) -> (&AtomicBool, &AtomicBool) {
+        if is_first {
+            (&self.first, &self.second)
+        } else {
+            (&self.second, &self.first)
+        }
+    }
+}
+
+/// Which places were reached, and whether a thread was held for too long.
+#[derive(Drop)]
+pub struct Places {
+    /// The lanes, at their first connections.
+    first: Two,
+    /// The lanes, at their second connections.
+    second: Two,
+    /// The shards, behind their first items.
+    taken: Two,
+    gave_up: AtomicBool,
+}
+
+impl Places {
+    /// No place was reached.
+    pub fn new() -> Self {
+        Places {
+            first: Two::new(),
+            second: Two::new(),
+            taken: Two::new(),
+            gave_up: AtomicBool::new(false),
+        }
+    }
+
+    /// Whether a thread was held for too long.
+    pub fn gave_up(&self) -> bool {
+        self.gave_up.load(Ordering::SeqCst)
+    }
+
+    /// Holds this thread until one of two places was reached.
+    fn hold(&self, one: &AtomicBool, other: &AtomicBool) {
+        for _ in 0..TURNS {
+            if one.load(Ordering::SeqCst) || other.load(Ordering::SeqCst) {
+                return;
+            }
+            thread::yield_now();
+        }
+        self.gave_up.store(true, Ordering::SeqCst);
+    }
+
+    /// Says that a thread has reached its place, and holds it until the other one has reached its own.
+    fn meet(&self, place: &Two, is_first: bool) {
+        let (own, other) = place.marks(is_first);
+        own.store(true, Ordering::SeqCst);
+        self.hold(other, other);
+    }
+}
+
+/// Holds each lane at its first two connections until the other lane has reached the same one.
+#[derive(Drop)]
+pub struct LanesMeet<'p>(pub &'p Places);
+
+impl<'p> Gate for LanesMeet<'p> {
+    fn reach(&self, place: Place) {
+        if let Place::Connected { lane, ordinal } = place {
+            if lane < 2 && ordinal == 0 {
+                self.0.meet(&self.0.first, lane == 0);
+            } else if lane < 2 && ordinal == 1 {
+                self.0.meet(&self.0.second, lane == 0);
+            }
+        }
+    }
+}
+
+/// Holds lane 0 behind its first connection until a shard has taken its first item.
+#[derive(Drop)]
+pub struct ShardsBeginEarly<'p>(pub &'p Places);
+
+impl<'p> Gate for ShardsBeginEarly<'p> {
+    fn reach(&self, place: Place) {
+        match place {
+            Place::Taken { shard } => {
+                let (own, _) = self.0.taken.marks(shard == 0);
+                own.store(true, Ordering::SeqCst);
+            }
+            Place::Served { lane, ordinal } => {
+                if lane == 0 && ordinal == 0 {
+                    self.0.hold(&self.0.taken.first, &self.0.taken.second);
+                }
+            }
+            Place::Connected { .. } => {}
+        }
+    }
+}
+
+/// Holds each of two shards behind its first item until the other has taken its own.
+#[derive(Drop)]
+pub struct ShardsMeet<'p>(pub &'p Places);
+
+impl<'p> Gate for ShardsMeet<'p> {
+    fn reach(&self, place: Place) {
+        if let Place::Taken { shard } = place {
+            if shard < 2 {
+                self.0.meet(&self.0.taken, shard == 0);
+            }
+        }
+    }
+}

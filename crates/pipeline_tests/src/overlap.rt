@@ -1,0 +1,170 @@
+//! Two lanes over readers in memory: the threads overlap, and nothing is lost.
+ghost use Rattle.std.specs.Prelude.{◌<◌, IfOk};
+ghost use Rattle.tsc_config.specs.Values.{InRange};
+
+use crate::gates::{LanesMeet, Places, ShardsBeginEarly, ShardsMeet};
+use crate::memory::{Held, Mark, MemoryFeed, MemorySink, NoTicks, Standing};
+use drop_ledger::{Count, Report};
+use lane_queue::{Gate, OpenGate};
+use pipeline::{RunFault, run};
+use span_ids::Reason;
+use std::alloc::{AllocError, Global};
+use std::sync::Wait;
+use std::sync::atomic::AtomicBool;
+use std::test::Fail;
+use std::thread::Threads;
+use std::time::Clock;
+use tsc_config::{Config, ConfigFault, read};
+
+/// A trace of shard 0 of two, and one of shard 1.
+pub const A: &str = "5b8efff798038103d269b633813fc60c";
+
+const B: &str = "5b8efff798038103d269b633813fc60d";
+
+/// Two lanes that keep everything, and one shard.
+const ONE_SHARD: &str = "lanes = 2\npolicies = [{ name = \"all\", type = \"always_sample\" }]\n";
+
+/// Two lanes that keep everything, and two shards.
+const TWO_SHARDS: &str =
+    "lanes = 2\nshards = 2\npolicies = [{ name = \"all\", type = \"always_sample\" }]\n";
+
+/// A request with so many spans of a trace.
+pub fn request(alloc: Global, trace: &str, spans: u32) -> Result<Vec<u8>, Fail>
+    requires { spans < 1000 }
+{
+    let mut body = String::from_str(alloc, "{\"resourceSpans\":[{\"scopeSpans\":[{\"spans\":[")?;
+    for span in 1..spans + 1 {
+        if span > 1 {
+            body.push(',')?;
+        }
+        let text = format!(in alloc; "{{\"traceId\":\"{trace}\",\"spanId\":\"{span:016x}\"}}")?;
+        body.push_str(&text)?;
+    }
+    body.push_str("]}]}]}")?;
+    let len = body.len();
+    let head = format!(in alloc;
+        "POST /v1/traces HTTP/1.1\r\nHost: x\r\nContent-Type: application/json\r\nContent-Length: {len}\r\n\r\n{body}"
+    )?;
+    Ok(head.into_bytes())
+}
+
+/// A feed of one connection with this request, and of a second one of no bytes if that is asked for.
+fn feed(alloc: Global, bytes: Vec<u8>, second: bool) -> Result<MemoryFeed, AllocError> {
+    let mut connections = Vec::new(alloc);
+    if second {
+        connections.push(Held::whole(Vec::new(alloc)))?;
+    }
+    connections.push(Held::whole(bytes))?;
+    Ok(MemoryFeed { alloc, connections })
+}
+
+/// The configuration in a text.
+pub fn configured(alloc: Global, text: &str) -> Result<Config, Fail>
+    ensures { IfOk result InRange }
+{
+    match read(alloc, text) {
+        Ok(config) => Ok(config),
+        Err(ConfigFault::NoMemory) => Err(Fail::from(AllocError)),
+        Err(_) => Err(Fail::from("configuration")),
+    }
+}
+
+/// What a run answers of two lanes with one request each, and the bytes that its sink has.
+fn run_two<G: Gate + Sync, R: Threads + Wait + Clock + Sync>(
+    rt: &R,
+    alloc: Global,
+    config: &str,
+    feeds: [MemoryFeed; 2],
+    gate: &G,
+) -> Result<(Vec<u8>, Result<Report, RunFault>), Fail> {
+    let config = configured(alloc, config)?;
+    let feeds = Vec::from_array(alloc, feeds)?;
+    if feeds.len() != config.lanes as usize || config.shards > 64 {
+        return Err(Fail::from("lanes"));
+    }
+    let stop = Mark {
+        is_set: AtomicBool::new(false),
+    };
+    let sink = MemorySink::new(alloc)?;
+    let (sink, answer) = run(
+        rt, alloc, config, feeds, NoTicks, sink, gate, &stop, &Standing,
+    );
+    Ok((sink.taken, answer))
+}
+
+/// The nine numbers of a report.
+pub fn numbers(report: &Report) -> [u64; 9] {
+    [
+        report.number(Count::Received),
+        report.number(Count::Handed),
+        report.number(Count::Dropped(Reason::InvalidId)),
+        report.number(Count::Dropped(Reason::QueueFull)),
+        report.number(Count::Dropped(Reason::NoMemory)),
+        report.number(Count::Dropped(Reason::Evicted)),
+        report.number(Count::Dropped(Reason::NotSampled)),
+        report.number(Count::Dropped(Reason::LateNotSampled)),
+        report.number(Count::Dropped(Reason::ExporterDown)),
+    ]
+}
+
+#[test]
+fn hundred_spans_a_lane(rt: HostRuntime) -> Result<(), Fail> {
+    let alloc = rt.alloc();
+    let first = feed(alloc, request(alloc, A, 100)?, false)?;
+    let second = feed(alloc, request(alloc, A, 100)?, false)?;
+    let (lines, answer) = run_two(&rt, alloc, ONE_SHARD, [first, second], &OpenGate)?;
+    let Ok(report) = answer else {
+        return Err(Fail::from("a fault"));
+    };
+    assert_eq!(rt; numbers(&report), [200, 200, 0, 0, 0, 0, 0, 0, 0]);
+    assert!(rt; !lines.is_empty());
+    Ok(())
+}
+
+/// Runs two lanes with one span each, behind a gate.
+fn two_spans<G: Gate + Sync, R: Threads + Wait + Clock + Sync>(
+    rt: &R,
+    alloc: Global,
+    config: &str,
+    traces: [&str; 2],
+    second: bool,
+    gate: &G,
+) -> Result<[u64; 9], Fail> {
+    let [one, other] = traces;
+    let first = feed(alloc, request(alloc, one, 1)?, second)?;
+    let last = feed(alloc, request(alloc, other, 1)?, second)?;
+    let (_, answer) = run_two(rt, alloc, config, [first, last], gate)?;
+    let Ok(report) = answer else {
+        return Err(Fail::from("a fault"));
+    };
+    Ok(numbers(&report))
+}
+
+#[test]
+fn threads_overlap(rt: HostRuntime) -> Result<(), Fail> {
+    let alloc = rt.alloc();
+    let places = Places::new();
+    let met = two_spans(&rt, alloc, ONE_SHARD, [A, A], true, &LanesMeet(&places))?;
+    assert_eq!(rt; met, [2, 2, 0, 0, 0, 0, 0, 0, 0]);
+    let early = two_spans(
+        &rt,
+        alloc,
+        ONE_SHARD,
+        [A, A],
+        false,
+        &ShardsBeginEarly(&places),
+    )?;
+    assert_eq!(rt; early, [2, 2, 0, 0, 0, 0, 0, 0, 0]);
+    let places_of_shards = Places::new();
+    let shards = two_spans(
+        &rt,
+        alloc,
+        TWO_SHARDS,
+        [A, B],
+        false,
+        &ShardsMeet(&places_of_shards),
+    )?;
+    assert_eq!(rt; shards, [2, 2, 0, 0, 0, 0, 0, 0, 0]);
+    assert!(rt; !places.gave_up() && !places_of_shards.gave_up());
+    Ok(())
+}

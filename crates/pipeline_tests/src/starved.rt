@@ -1,0 +1,109 @@
+//! One lane: a reader that fails, and a run that may be short of memory, each of whose allocations
+//! `tests/refused_memory/crates.sh` refuses in turn.
+ghost use Rattle.tsc_config.specs.Values.{InRange};
+
+use crate::memory::{Held, Mark, MemoryFeed, MemorySink, NoTicks, Standing};
+use crate::overlap::{A, configured, numbers, request};
+use drop_ledger::Report;
+use lane_queue::OpenGate;
+use pipeline::{RunFault, run};
+use std::alloc::Global;
+use std::sync::Wait;
+use std::sync::atomic::AtomicBool;
+use std::test::Fail;
+use std::thread::Threads;
+use std::time::Clock;
+use tsc_config::Config;
+
+/// One lane and one shard that keep everything.
+const ALL: &str = "policies = [{ name = \"all\", type = \"always_sample\" }]\n";
+
+/// How often a span's id stands in the lines.
+fn spans_in(lines: &[u8]) -> u64 {
+    let mut count: u64 = 0;
+    for window in lines.windows(8) {
+        if window == b"\"spanId\"".as_slice() {
+            count = count.wrapping_add(1);
+        }
+    }
+    count
+}
+
+/// What a run answers of one lane with these connections, the last one first, and its sink.
+fn run_one<R: Threads + Wait + Clock + Sync>(
+    rt: &R,
+    alloc: Global,
+    config: Config,
+    connections: Vec<Held>,
+) -> Result<(MemorySink, Result<Report, RunFault>), Fail>
+    requires { InRange config }
+{
+    let mut feeds = Vec::new(alloc);
+    feeds.push(MemoryFeed { alloc, connections })?;
+    if config.lanes != 1 {
+        return Err(Fail::from("lanes"));
+    }
+    let stop = Mark {
+        is_set: AtomicBool::new(false),
+    };
+    let sink = MemorySink::new(alloc)?;
+    Ok(run(
+        rt, alloc, config, feeds, NoTicks, sink, &OpenGate, &stop, &Standing,
+    ))
+}
+
+/// A reader that fails in a body ends its own connection alone: the next one is served.
+#[test]
+fn reader_fails_in_a_body(rt: HostRuntime) -> Result<(), Fail> {
+    let alloc = rt.alloc();
+    let config = configured(alloc, ALL)?;
+    let mut cut = request(alloc, A, 1)?;
+    let _ = cut.pop();
+    let mut connections = Vec::new(alloc);
+    connections.push(Held::whole(request(alloc, A, 1)?))?;
+    connections.push(Held::broken(cut))?;
+    let (sink, answer) = run_one(&rt, alloc, config, connections)?;
+    let Ok(report) = answer else {
+        return Err(Fail::from("a fault"));
+    };
+    assert_eq!(rt; numbers(&report), [1, 1, 0, 0, 0, 0, 0, 0, 0]);
+    assert_eq!(rt; spans_in(&sink.taken), 1);
+    Ok(())
+}
+
+/// The same request twice on one connection: where one was refused its memory, the other is served as ever.
+#[test]
+fn busy_then_done(rt: HostRuntime) -> Result<(), Fail> {
+    let alloc = rt.alloc();
+    let config = configured(alloc, ALL)?;
+    let mut bytes = request(alloc, A, 1)?;
+    bytes.extend_from_slice(&request(alloc, A, 1)?)?;
+    let mut connections = Vec::new(alloc);
+    connections.push(Held::whole(bytes))?;
+    let (sink, answer) = run_one(&rt, alloc, config, connections)?;
+    match answer {
+        Ok(report) => {
+            let [
+                received,
+                handed,
+                invalid,
+                full,
+                refused,
+                evicted,
+                sampled,
+                late,
+                down,
+            ] = numbers(&report);
+            assert!(rt; received <= 2 && handed <= 2 && refused <= 2);
+            assert_eq!(rt; handed + refused, received);
+            assert_eq!(rt;
+                [invalid, full, evicted, sampled, late, down],
+                [0, 0, 0, 0, 0, 0]
+            );
+            assert_eq!(rt; spans_in(&sink.taken), handed);
+        }
+        Err(RunFault::NoMemory) => assert!(rt; sink.taken.is_empty()),
+        Err(_) => return Err(Fail::from("a fault")),
+    }
+    Ok(())
+}

@@ -1,8 +1,0 @@
-use Rattle.std.proofs.Common.{◌≡◌, drop}
-use Rattle.toml.specs.View.{items_view, array_view}
-use Rattle.tsc_config.specs.Faults.{least, text_items_fault}
-use Rattle.tsc_config.proofs.settings_faults.text_items_fault.Given as goal
-
--- the least so far and the least of those that are left make the least of all
-abbrev pub invariant-loop-item : goal.invariant-loop-item
-invariant-loop-item l = least l.fault (text_items_fault (items_view (drop l.item-index l.item-items))) ≡ text_items_fault (array_view l.items)

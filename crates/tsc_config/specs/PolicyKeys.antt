@@ -1,0 +1,165 @@
+-- What each policy has from its table, key by key, for each type of policy: what stands at the key, or the key's default.
+use Rattle.std.specs.Prelude.{◌≡◌, ℕ, ◌+◌, ◌≤◌, ℤ, pos, negsuc, Bool, false, List, [], ◌∷◌, length, slice_get, ◌⊎◌, codes, Option, Some, None, Ok}
+use Rattle.toml.specs.Data.{Data, string, integer, boolean, array, table, Items, no_items, item, Members, get_member, get_item}
+use Rattle.toml.specs.Parse.{parse_document}
+use Rattle.policy_tree.specs.declared.policy.Policy.{Policy}
+use Rattle.policy_tree.specs.declared.policy.PolicyKind.{PolicyKind, out-PolicyKind}
+use Rattle.policy_tree.specs.declared.policy.PolicyKind.TheOpen.{PolicyKind-F}
+use Rattle.policy_tree.specs.declared.policy.Wanted.{Wanted}
+use Rattle.policy_tree.specs.declared.policy.Wanted.TheVariants.{StringAmong, NumberWithin, Boolean}
+use Rattle.tsc_config.specs.Reading.{reading}
+use Rattle.tsc_config.specs.Settings.{IsNumberAt}
+use Rattle.tsc_config.specs.declared.config.Config.{Config}
+
+-- ---- one key
+
+-- the text at a required key
+abbrev pub IsText : Members → (key text : List ℕ) → Type 0
+IsText members key text = get_member key members ≡ Some (string text)
+
+-- the number at a required key, a whole one from 0 to 2^63-1
+abbrev pub IsNatural : Members → (key : List ℕ) → (number : ℕ) → Type 0
+IsNatural members key number = (get_member key members ≡ Some (integer (pos number))) × (number ≤ 9223372036854775807)
+
+-- the number of a key that may be missing: a whole one from 0 to 2^63-1, else 0
+abbrev pub IsNaturalOrZero : Members → (key : List ℕ) → (number : ℕ) → Type 0
+IsNaturalOrZero members key number = IsNumberAt members key 0 0 9223372036854775807 number
+
+-- the whole number of a key that may be missing
+abbrev pub IsWholeAt : Members → (key : List ℕ) → (default number : ℤ) → Type 0
+IsWholeAt members key default number =
+    ((get_member key members ≡ None) × (number ≡ default)) ⊎ (get_member key members ≡ Some (integer number))
+
+-- the truth value of a key that may be missing, else false
+abbrev pub IsTruthAt : Members → (key : List ℕ) → (truth : Bool) → Type 0
+IsTruthAt members key truth =
+    ((get_member key members ≡ None) × (truth ≡ false)) ⊎ (get_member key members ≡ Some (boolean truth))
+
+-- the texts of an array, one for each item
+abbrev pub AreTexts : Items → List (List ℕ) → Type 0
+AreTexts no_items texts = texts ≡ []
+AreTexts (item value rest) [] = ⊥
+AreTexts (item value rest) (text ∷ texts) = (value ≡ string text) × AreTexts rest texts
+
+-- the status code that a text names (trace.proto v1, Status.StatusCode)
+abbrev pub IsCode : Data → ℤ → Type 0
+IsCode value code =
+    ((value ≡ string (codes "UNSET")) × (code ≡ pos 0))
+    ⊎ (((value ≡ string (codes "OK")) × (code ≡ pos 1))
+    ⊎ ((value ≡ string (codes "ERROR")) × (code ≡ pos 2)))
+
+-- the status codes of an array, one for each item
+abbrev pub AreCodes : Items → List ℤ → Type 0
+AreCodes no_items numbers = numbers ≡ []
+AreCodes (item value rest) [] = ⊥
+AreCodes (item value rest) (number ∷ numbers) = IsCode value number × AreCodes rest numbers
+
+-- how many items there are
+abbrev pub count_items : Items → ℕ
+count_items no_items = 0
+count_items (item value rest) = 1 + count_items rest
+
+-- ---- one policy
+
+-- the table is one of this type, and its settings are the table at the key of that name
+pub record IsTyped (members : Members) (name : List ℕ) (settings : Members) : Type 0 where
+  pub typed : IsText members (codes "type") name
+  pub at_name : get_member name members ≡ Some (table settings)
+
+-- what the value of an attribute is to be, by the settings of a policy, and the type of policy that wants it
+abbrev pub IsWanted : (settings : Members) → Wanted → (name : List ℕ) → Type 0
+IsWanted settings (StringAmong values) name =
+    (name ≡ codes "string_attribute") × ((items : Items) × (get_member (codes "values") settings ≡ Some (array items)) × AreTexts items values)
+IsWanted settings (NumberWithin least greatest) name =
+    (name ≡ codes "numeric_attribute")
+    × IsWholeAt settings (codes "min_value") (negsuc 9223372036854775807) least
+    × IsWholeAt settings (codes "max_value") (pos 9223372036854775807) greatest
+IsWanted settings (Boolean truth) name = (name ≡ codes "boolean_attribute") × (get_member (codes "value") settings ≡ Some (boolean truth))
+
+-- the settings of an attribute policy
+pub record IsAttribute (members : Members) (key : List ℕ) (wanted : Wanted) (inverted : Bool) : Type 0 where
+  pub name : List ℕ
+  pub settings : Members
+  pub typed : IsTyped members name settings
+  pub at_key : IsText settings (codes "key") key
+  pub at_wanted : IsWanted settings wanted name
+  pub at_invert : IsTruthAt settings (codes "invert_match") inverted
+
+-- what a policy samples, by the keys of its table; the policies of an `and` are as many as the items of its array
+abbrev pub IsLayer : Members → PolicyKind-F PolicyKind Policy → Type 0
+IsLayer members PolicyKind-F.AlwaysSample = IsText members (codes "type") (codes "always_sample")
+IsLayer members (PolicyKind-F.Latency threshold upper) =
+    (settings : Members) × IsTyped members (codes "latency") settings × IsNatural settings (codes "threshold_ms") threshold
+    × IsNaturalOrZero settings (codes "upper_threshold_ms") upper
+IsLayer members (PolicyKind-F.StatusCode numbers) =
+    (settings : Members) × IsTyped members (codes "status_code") settings
+    × ((items : Items) × (get_member (codes "status_codes") settings ≡ Some (array items)) × AreCodes items numbers)
+IsLayer members (PolicyKind-F.Attribute key wanted inverted) = IsAttribute members key wanted inverted
+IsLayer members (PolicyKind-F.SpanCount least most) =
+    (settings : Members) × IsTyped members (codes "span_count") settings × IsNatural settings (codes "min_spans") least
+    × IsNaturalOrZero settings (codes "max_spans") most
+IsLayer members (PolicyKind-F.RateLimiting limit) =
+    (settings : Members) × IsTyped members (codes "rate_limiting") settings × IsNatural settings (codes "spans_per_second") limit
+IsLayer members (PolicyKind-F.And parts) =
+    (settings : Members) × IsTyped members (codes "and") settings
+    × ((items : Items) × (get_member (codes "and_sub_policy") settings ≡ Some (array items)) × (length parts ≡ count_items items))
+
+-- the same of a kind
+abbrev pub IsKind : Members → PolicyKind → Type 0
+IsKind members kind = IsLayer members (out-PolicyKind kind)
+
+-- a policy of this table
+pub record IsPolicy (members : Members) (policy : Policy) : Type 0 where
+  pub name : IsText members (codes "name") policy.name
+  pub kind : IsKind members policy.kind
+
+-- ---- all policies, each by its place: the number of its item in `policies`, or further that of an item in the `and_sub_policy` of the one before
+
+-- the items of an array
+abbrev pub items_of : Option Data → Items
+items_of (Some (array items)) = items
+items_of _ = no_items
+
+-- the items of the array in the settings of an `and`
+abbrev pub settings_items : Option Data → Items
+settings_items (Some (table settings)) = items_of (get_member (codes "and_sub_policy") settings)
+settings_items _ = no_items
+
+-- those of the `and` of a policy table
+abbrev pub nested_items : Option Data → Items
+nested_items (Some (table members)) = settings_items (get_member (codes "and") members)
+nested_items _ = no_items
+
+-- the value at a place among these items, and further places among the nested ones
+abbrev pub value_at : Items → (place : ℕ) → (deeper : List ℕ) → Option Data
+value_at items place [] = get_item place items
+value_at items place (next ∷ deeper) = value_at (nested_items (get_item place items)) next deeper
+
+-- the policies inside an `and`
+abbrev pub parts_in : PolicyKind-F PolicyKind Policy → List Policy
+parts_in (PolicyKind-F.And parts) = parts
+parts_in _ = []
+
+-- the same of a kind
+abbrev pub parts_of : PolicyKind → List Policy
+parts_of kind = parts_in (out-PolicyKind kind)
+
+abbrev pub parts_at : Option Policy → List Policy
+parts_at None = []
+parts_at (Some policy) = parts_of policy.kind
+
+-- the policy at a place of this list, and further places among those inside
+abbrev pub policy_at : List Policy → (place : ℕ) → (deeper : List ℕ) → Option Policy
+policy_at policies place [] = slice_get policies place
+policy_at policies place (next ∷ deeper) = policy_at (parts_at (slice_get policies place)) next deeper
+
+-- the policies are as many as the items at their key, and each, however deep, is of the table at its place
+pub record HasPolicies (members : Members) (policies : List Policy) : Type 0 where
+  pub as_many : length policies ≡ count_items (items_of (get_member (codes "policies") members))
+  pub each : (place : ℕ) (deeper : List ℕ) (policy : Policy) → policy_at policies place deeper ≡ Some policy
+      → (of : Members) × (value_at (items_of (get_member (codes "policies") members)) place deeper ≡ Some (table of)) × IsPolicy of policy
+
+-- a text that is read as a configuration is a document with these policies
+abbrev pub ReadsPolicies : Type 0
+ReadsPolicies = (text : List ℕ) (config : Config) → reading text ≡ Ok config
+    → (members : Members) × (parse_document text ≡ Some members) × HasPolicies members config.policies
