@@ -1,3 +1,4 @@
+-- To be read in this order: Policies (what a policy means), Given, Judged (the verdict by a list of answers), Laws (what holds of all askings), Meaning (what a caller sees); GivenLaws, AskingLaws, Walks (for provers).
 pub mod Policies
 pub mod Meaning
 pub mod Given

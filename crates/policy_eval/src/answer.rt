@@ -1,3 +1,4 @@
+//! What a policy answers, and the verdict of all answers (tailsamplingprocessor README, "Policies").
 ghost use Rattle.std.specs.Prelude.{◌≡◌, if◌then◌else◌};
 ghost use Rattle.policy_eval.specs.Policies.{plain, inverted};
 ghost use Rattle.policy_eval.specs.Meaning.{answer_of, is_for, none_seen, seen_with, verdict_of_seen};

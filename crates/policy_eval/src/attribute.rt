@@ -1,3 +1,4 @@
+//! The attribute policies: what a span or its resource has under a key.
 ghost use Rattle.std.specs.Prelude.{◌≡◌};
 ghost use Rattle.policy_eval.specs.Policies.{matches, has_wanted, is_among, is_wanted};
 ghost use Rattle.policy_tree.specs.Meaning.{wanted_of};

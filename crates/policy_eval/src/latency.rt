@@ -1,3 +1,4 @@
+//! The duration of a trace, and the bounds of the latency and span count policies.
 ghost use Rattle.std.specs.Prelude.{◌≡◌};
 ghost use Rattle.policy_eval.specs.Policies.{latest_end, earliest_start, duration_ms, is_slow, is_within};
 

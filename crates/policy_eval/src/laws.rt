@@ -1,3 +1,4 @@
+//! What holds of all askings of limiters.
 ghost use Rattle.policy_eval.specs.Laws.{AnswersByTheNode, AnswersAreByTheNode, AskedNodesRise, DecisionsKeepTheCounts};
 
 /// A `Budgets` that stands for the askings of some decisions gives the next one the answers, and so the verdict, that these

@@ -1,3 +1,4 @@
+//! The walk over a tree of policies that asks limiters on its way.
 ghost use Rattle.std.specs.Prelude.{◌≡◌, ℕ, ◌+◌, ◌/◌, ◌<◌, ◌≤◌, Bool, true, length};
 ghost use Rattle.policy_tree.specs.Tree.{nodes, limits, limiters};
 ghost use Rattle.policy_tree.specs.Meaning.{meaning, policy_meaning};

@@ -1,3 +1,4 @@
+//! The limiter nodes of some policies, asked by one thread.
 ghost use Rattle.std.specs.Prelude.{◌≡◌, ℕ, ◌+◌, ◌==◌, Bool, true, false, IsTrue, nat_le, length, ◌<◌, List, [], ◌∷◌, IfOk};
 ghost use Rattle.policy_tree.specs.Tree.{Policies as tree_of};
 ghost use Rattle.policy_tree.specs.Meaning.{meaning};

@@ -1,3 +1,4 @@
+//! The spans that one limiter node has granted in its second.
 ghost use Rattle.std.specs.Prelude.{◌≡◌};
 ghost use Rattle.rate_budget.specs.Budget.{grants_of, asked_count};
 

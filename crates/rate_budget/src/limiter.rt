@@ -1,3 +1,4 @@
+//! What policies ask for spans.
 ghost use Rattle.std.specs.Prelude.{◌≡◌, ℕ, ◌<◌, Bool, true};
 
 /// Grants or refuses spans to the limiter nodes of some policies. It promises what every limiter can: which asking was made,

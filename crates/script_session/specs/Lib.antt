@@ -1,3 +1,4 @@
+-- To be read in this order: Replay, Answers, CalmReplays (what a run leaves and answers); Starting, Submitting, Signals, Pulling, Adding (for provers).
 pub mod Adding
 pub mod Pulling
 pub mod Replay

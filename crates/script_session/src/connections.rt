@@ -1,3 +1,4 @@
+//! Which lane and which ordinal a connection of a script has.
 ghost use Rattle.std.specs.Prelude.{◌≡◌, ◌<◌, [], None, nat_eq, IsSome, IfOk, OnOk, OnErr, replicate, length};
 ghost use Rattle.std.specs.Map.{lookup};
 ghost use Rattle.indexmap.specs.IndexMap.{insert_entry};

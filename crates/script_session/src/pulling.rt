@@ -1,3 +1,4 @@
+//! What the exporter is given and sends, and how that is counted.
 ghost use Rattle.std.specs.Prelude.{◌≡◌, ◌+◌, ◌<◌, [], ◌∷◌, ◌++◌, true, length, replicate};
 ghost use Rattle.span_exporter.specs.Exports.{ExporterState, Sends};
 ghost use Rattle.script_run.specs.Counts.{counted_for};

@@ -1,3 +1,4 @@
+//! A request of a script, from its lane to the queues of the shards.
 ghost use Rattle.std.specs.Prelude.{◌≡◌, ◌<◌, length};
 ghost use Rattle.script_session.specs.Adding.{Adds};
 ghost use Rattle.script_session.specs.Submitting.{Submits, is_received, received_by};

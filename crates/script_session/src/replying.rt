@@ -1,3 +1,4 @@
+//! The line that answers a request.
 ghost use Rattle.std.specs.Prelude.{◌≡◌, ◌+◌, ◌≤◌, ◌++◌, length, vec_capacity};
 ghost use Rattle.script_run.specs.Requests.{reply_line};
 

@@ -1,3 +1,4 @@
+//! What shards do with their queues, and where their spans go.
 ghost use Rattle.std.specs.Prelude.{◌≡◌, ℕ, ◌<◌, List, [], ◌∷◌, Bool, true, false, length, map, if◌then◌else◌};
 ghost use Rattle.std.specs.List.{AllByRecursion, list_all};
 ghost use Rattle.rate_budget.specs.Budget.{limiter_counts, has_node};

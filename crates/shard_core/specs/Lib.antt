@@ -1,3 +1,4 @@
+-- To be read in this order: Journal, RootWait, Fate (what a shard did, looking back), Laws, Standing, Held, Taking, Deciding (what a caller sees); Marked, Holding, Keeping, Forgotten (for provers).
 pub mod Journal
 pub mod Fate
 pub mod Standing

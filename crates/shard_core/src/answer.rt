@@ -1,3 +1,4 @@
+//! What a shard answers.
 use decision_cache::Remembered;
 use otlp_types::Arrival;
 use span_ids::Reason;

@@ -1,3 +1,4 @@
+//! The buffer and the cache of a shard, and how it decides.
 ghost use Rattle.std.specs.Prelude.{◌≡◌, ◌⊎◌, ℕ, replicate, [], ◌∷◌, ◌++◌, ◌+◌, if◌then◌else◌, ◌<◌, ◌≤◌, max, Bool, IsTrue, IsSome, true, false, length, OnOk, IfOk, position, Some, None};
 ghost use Rattle.span_ids.specs.declared.outcome.Reason.{Reason};
 ghost use Rattle.span_ids.specs.Same.{same_trace};

@@ -1,3 +1,4 @@
+//! What a shard is made with.
 use policy_tree::Policies;
 use span_ids::Moment;
 

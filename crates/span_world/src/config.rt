@@ -1,3 +1,4 @@
+//! What the core is made with.
 use policy_tree::Policies;
 use span_ids::Moment;
 

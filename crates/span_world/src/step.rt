@@ -1,3 +1,4 @@
+//! The steps of the core, and why one is refused.
 use otlp_types::Record;
 use span_ids::{Moment, Reason};
 use std::alloc::AllocError;

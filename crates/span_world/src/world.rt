@@ -1,3 +1,4 @@
+//! The core as a value: lanes, shards, and what was handed over and counted.
 ghost use Rattle.std.specs.Prelude.{◌≡◌, ◌≢◌, ◌∷◌, [], replicate, Some, IfOk, length};
 ghost use Rattle.span_world.specs.World.{new_world, new_lane, new_shard, KeepsATrace};
 ghost use Rattle.shard_journal.specs.Settings.{settings_of};
