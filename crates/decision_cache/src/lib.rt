@@ -6,8 +6,6 @@
 #![tactic(auto)]
 
 mod cache;
-#[cfg(test)]
-mod tests;
 mod traces;
 
 pub use cache::DecisionCache;

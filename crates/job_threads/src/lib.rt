@@ -9,8 +9,6 @@ mod job;
 mod joining;
 mod starting;
 mod team;
-#[cfg(test)]
-mod tests;
 mod word;
 
 pub use job::{Done, Job, Works};

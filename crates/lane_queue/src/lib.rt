@@ -20,10 +20,6 @@ mod port;
 mod receiver;
 mod rule;
 mod sender_port;
-#[cfg(test)]
-mod tests;
-#[cfg(test)]
-mod thread_tests;
 
 pub use ends::Sender;
 pub use gate::{Gate, OpenGate, Place};

@@ -9,8 +9,6 @@ mod preparing;
 mod pushing;
 mod reply;
 mod routing;
-#[cfg(test)]
-mod tests;
 
 pub use lane::{Lane, LaneEnd};
 pub use law::list_pushes_are_determined;

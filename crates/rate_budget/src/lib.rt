@@ -6,8 +6,6 @@ mod budgets;
 mod count;
 mod laws;
 mod limiter;
-#[cfg(test)]
-mod tests;
 
 pub use budgets::Budgets;
 pub use count::LimiterCount;

@@ -12,8 +12,6 @@ mod known;
 mod law;
 mod node_budget;
 mod node_seat;
-#[cfg(test)]
-mod tests;
 
 pub use budget::SharedBudget;
 pub use budget_seat::BudgetSeat;

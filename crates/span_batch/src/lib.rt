@@ -5,8 +5,6 @@
 #![tactic(auto)]
 
 mod batch;
-#[cfg(test)]
-mod tests;
 mod unique;
 
 pub use batch::Batch;

@@ -2,15 +2,13 @@
 //!
 //! What is proved: the bytes that a sink took are the lines whose `hand` answered `Ok`, joined, and then at most a
 //! part of one line ([`takes_handed_lines`]); `hand` answers `Failed` only where one write failed in that call, and `Down` from then on.
-//! What no contract can say of a writer, and the tests show: how often an interrupted write is tried again, and
+//! What no contract can say of a writer, and `parts_tests` shows: how often an interrupted write is tried again, and
 //! that another error isn't.
 #![tactic(auto)]
 
 mod law;
 mod line_sink;
 mod sink;
-#[cfg(test)]
-mod tests;
 mod write_sink;
 
 pub use law::takes_handed_lines;

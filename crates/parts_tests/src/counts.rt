@@ -1,0 +1,90 @@
+//! Each count through the trait, one that would pass the greatest number, and what two shares of a book count.
+ghost use Rattle.std.specs.Prelude.{◌≡◌};
+
+use drop_ledger::{
+    Accounts, Blanks, Book, BookFull, BookShare, Count, Counter, Report, Tally, numbers_are_sums,
+};
+use span_ids::Reason;
+use std::alloc::{AllocError, Global};
+use std::marker::Brand;
+use std::sync::Wait;
+use std::test::Fail;
+
+/// Adds by the trait.
+fn add_to<C: Counter>(counter: &mut C, count: Count, n: u64) -> Result<(), BookFull> {
+    counter.add(count, n)
+}
+
+#[test]
+fn each_count_by_itself(rt: HostRuntime) {
+    let counts = [
+        Count::Received,
+        Count::Handed,
+        Count::Dropped(Reason::InvalidId),
+        Count::Dropped(Reason::QueueFull),
+        Count::Dropped(Reason::NoMemory),
+        Count::Dropped(Reason::Evicted),
+        Count::Dropped(Reason::NotSampled),
+        Count::Dropped(Reason::LateNotSampled),
+        Count::Dropped(Reason::ExporterDown),
+    ];
+    let mut report = Report::new();
+    for (n, count) in (1..).zip(counts) {
+        assert_eq!(rt; add_to(&mut report, count, n), Ok(()));
+    }
+    assert_eq!(rt; report.add(Count::Handed, u64::MAX - 2), Ok(()));
+    assert_eq!(rt; add_to(&mut report, Count::Handed, 1), Err(BookFull));
+    for (n, count) in (1..).zip(counts) {
+        let expected = if count == Count::Handed { u64::MAX } else { n };
+        assert_eq!(rt; report.number(count), expected, "{count:?}");
+    }
+    numbers_are_sums();
+}
+
+/// The report of a book of three parts, of which two count; the second of them would pass the greatest number, and
+/// counts nothing more.
+fn gathered<B: Accounts, R: Wait>(
+    rt: &R,
+    alloc: Global,
+    blanks: Blanks,
+) -> Result<Report, AllocError>
+    requires names { blanks.names ≡ B.names }
+    requires parts { (blanks.parts ≡ B.parts) × (B.parts ≡ 3) }
+{
+    let (book, mut parts) = Book::<B>::new(alloc, blanks, 2)?;
+    let (Some(lane), Some(shard)) = (parts.pop(), parts.pop()) else {
+        return Err(AllocError);
+    };
+    let mut lane = Tally::new(BookShare::new(rt, &book, lane));
+    let mut shard = Tally::new(BookShare::new(rt, &book, shard));
+    lane.count(Count::Received, 7);
+    shard.count(Count::Dropped(Reason::NotSampled), 4);
+    lane.count(Count::Dropped(Reason::QueueFull), 1);
+    shard.count(Count::Dropped(Reason::QueueFull), 2);
+    shard.count(Count::Dropped(Reason::LateNotSampled), u64::MAX);
+    lane.count(Count::Dropped(Reason::LateNotSampled), 1);
+    lane.count(Count::Handed, 5);
+    if !lane.is_full() || shard.is_full() {
+        return Err(AllocError);
+    }
+    parts.push(lane.end().end())?;
+    parts.push(shard.end().end())?;
+    Ok(book.gather(parts))
+}
+
+#[test]
+fn two_shares_are_gathered(rt: HostRuntime) -> Result<(), Fail> {
+    let report = gathered::<Brand, _>(&rt, rt.alloc(), Blanks::new(3))?;
+    let numbers = [
+        (Count::Received, 7),
+        (Count::Handed, 0),
+        (Count::Dropped(Reason::InvalidId), 0),
+        (Count::Dropped(Reason::QueueFull), 3),
+        (Count::Dropped(Reason::NotSampled), 4),
+        (Count::Dropped(Reason::LateNotSampled), u64::MAX),
+    ];
+    for (count, number) in numbers {
+        assert_eq!(rt; report.number(count), number, "{count:?}");
+    }
+    Ok(())
+}

@@ -1,0 +1,113 @@
+//! Writers that are interrupted, write little, or fail.
+ghost use Rattle.std.specs.Prelude.{Some, []};
+
+use span_sink::{LineSink, Sink, SinkFault, WriteSink};
+use std::io;
+use std::io::{ErrorKind, Write};
+use std::test::Fail;
+
+/// A writer that is first interrupted some times, then takes some bytes in pieces, and then fails.
+#[derive(Drop)]
+struct TestWriter {
+    taken: Vec<u8>,
+    interruptions: u32,
+    piece: usize,
+    room: usize,
+    calls: u32,
+}
+
+impl Write for TestWriter {
+    ghost contents = { λ w. Some w.taken.items };
+
+    fn write(&mut self, bytes: &[u8]) -> io::Result<usize> {
+        self.calls = self.calls.saturating_add(1);
+        if self.interruptions > 0 {
+            self.interruptions -= 1;
+            return Err(io::Error::from(ErrorKind::Interrupted));
+        }
+        let count = bytes.len().min(self.piece).min(self.room);
+        if count == 0 {
+            return Err(io::Error::from(ErrorKind::BrokenPipe));
+        }
+        self.taken.extend_from_slice(&bytes[..count])?;
+        self.room -= count;
+        Ok(count)
+    }
+
+    fn flush(&mut self) -> io::Result<()> {
+        Ok(())
+    }
+}
+
+#[test]
+fn interrupted_writes_are_tried_again(rt: HostRuntime) -> Result<(), Fail> {
+    let cases: [(u32, Result<usize, SinkFault>, u32, u64); 3] = [
+        (0, Ok(3), 1, 0),
+        (16, Ok(3), 17, 0),
+        (17, Err(SinkFault::Failed), 17, 1),
+    ];
+    for (interruptions, result, calls, failures) in cases {
+        let mut sink = WriteSink::new(TestWriter {
+            taken: Vec::new(rt.alloc()),
+            interruptions,
+            piece: 3,
+            room: 3,
+            calls: 0,
+        });
+        assert_eq!(rt; sink.write(b"abcd"), result, "after {interruptions}");
+        assert_eq!(rt; sink.failures(), failures, "after {interruptions}");
+        assert_eq!(rt; sink.end().calls, calls, "after {interruptions}");
+    }
+    Ok(())
+}
+
+/// A writer that takes nothing, which it counts.
+#[derive(Drop)]
+struct FullWriter {
+    calls: u32,
+}
+
+impl Write for FullWriter {
+    ghost contents = { λ w. Some [] };
+
+    fn write(&mut self, _bytes: &[u8]) -> io::Result<usize> {
+        self.calls = self.calls.saturating_add(1);
+        Ok(0)
+    }
+
+    fn flush(&mut self) -> io::Result<()> {
+        Ok(())
+    }
+}
+
+#[test]
+fn write_of_nothing_is_a_failure(rt: HostRuntime) -> Result<(), Fail> {
+    let mut sink = WriteSink::new(FullWriter { calls: 0 });
+    assert_eq!(rt; sink.write(b"abcd"), Err(SinkFault::Failed));
+    assert_eq!(rt; sink.failures(), 1);
+    assert_eq!(rt; sink.end().calls, 1);
+    Ok(())
+}
+
+#[test]
+fn lines_end_at_the_first_failure(rt: HostRuntime) -> Result<(), Fail> {
+    let mut lines = LineSink::new(WriteSink::new(TestWriter {
+        taken: Vec::new(rt.alloc()),
+        interruptions: 0,
+        piece: 1,
+        room: 5,
+        calls: 0,
+    }));
+    assert_eq!(rt; lines.hand(b"abc\n"), Ok(()));
+    assert!(rt; !lines.is_down());
+    // One byte is taken, and the next write fails and isn't tried again.
+    assert_eq!(rt; lines.hand(b"de\n"), Err(SinkFault::Failed));
+    assert_eq!(rt; lines.hand(b"f\n"), Err(SinkFault::Down));
+    assert!(rt; lines.is_down());
+    let sink = lines.end();
+    assert_eq!(rt; sink.failures(), 1);
+    let writer = sink.end();
+    assert_eq!(rt; writer.taken.as_slice(), b"abc\nd".as_slice());
+    assert_eq!(rt; writer.calls, 6);
+    Ok(())
+}
