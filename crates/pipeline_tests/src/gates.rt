@@ -3,8 +3,18 @@ use lane_queue::{Gate, Place};
 use std::sync::atomic::{AtomicBool, Ordering};
 use std::thread;
 
-/// So many turns a thread is held at most.
+/// So many turns a thread is held at most: some seconds.
 const TURNS: u32 = 100_000;
+
+/// How often a turn lets other threads run.
+const YIELDS: u32 = 32;
+
+/// Lets other threads run.
+fn turn() {
+    for _ in 0..YIELDS {
+        thread::yield_now();
+    }
+}
 
 /// Whether each of two threads has reached a place.
 #[derive(Drop)]
@@ -66,7 +76,7 @@ impl Places {
             if one.load(Ordering::SeqCst) || other.load(Ordering::SeqCst) {
                 return;
             }
-            thread::yield_now();
+            turn();
         }
         self.gave_up.store(true, Ordering::SeqCst);
     }
