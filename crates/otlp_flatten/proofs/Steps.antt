@@ -1,9 +1,9 @@
 -- One more group, and the last one, at each level.
-use Rattle.std.proofs.lemmas.Option.{slice_get_read}
 use Rattle.std.proofs.lemmas.Bool.Decides.{nat_tests}
-use Rattle.std.proofs.Common.{◌≡◌, ◌≢◌, ℕ, zero, suc, true, ◌==◌, get_or, ◌<◌, ◌≤◌, List, [], ◌∷◌, ◌++◌, map, length, take, drop, Some, option_map, refl, sym, ap, subst, ◌∙◌, arith}
+use Rattle.std.proofs.Common.{◌≡◌, ◌≢◌, ℕ, zero, suc, true, ◌==◌, get_or, ◌<◌, ◌≤◌, ◌+◌, List, [], ◌∷◌, ◌++◌, map, length, take, drop, Some, option_map, refl, sym, ap, subst, ◌∙◌, arith, set, add-one}
 use Rattle.std.specs.List.{AllByRecursion, flat_map, slice_get}
-use Rattle.std.proofs.lemmas.List.{take-append-drop, map-append}
+use Rattle.std.proofs.Math.Seq.{drop-cons}
+use Rattle.std.proofs.lemmas.List.{take-append-drop, map-append, drop-set-lt}
 use Rattle.otlp_types.specs.declared.request.Resource.{Resource}
 use Rattle.otlp_types.specs.declared.request.ScopeSpans.{ScopeSpans}
 use Rattle.otlp_types.specs.declared.request.ResourceSpans.{ResourceSpans}
@@ -102,11 +102,24 @@ module _ {A : Type 0} where
       has_some [] h e = absurd (omega arith)
       has_some (x ∷ xs) h e = cc
 
-  -- what the first span's resource and schema URL are
-  pub first_resource : (record_in : A → Record) (spans : List A) (x : A) (now : Record) (r : Resource) (url : List ℕ) → 0 < length spans → x ≡ get_or spans 0 x
-      → now ≡ record_in x → r ≡ now.resource → url ≡ now.resource_schema_url → Some (r, url) ≡ option_map (λ x. resource_of (record_in x)) (slice_get spans 0)
-  first_resource record_in spans x now r url some is now_is r_is url_is =
-      rw (slice_get_read spans (length spans) 0 x refl some is) (rw (r_is, url_is, now_is) refl)
+  first_left : (xs : List A) (i : ℕ) (x : A) (left : List A) → drop i xs ≡ x ∷ left → (take (suc i) xs ≡ take i xs ++ x ∷ []) × (drop (suc i) xs ≡ left)
+  first_left [] zero x left e = cc
+  first_left [] (suc i) x left e = cc
+  first_left (y ∷ xs) zero x left e = (cc, cc)
+  first_left (y ∷ xs) (suc i) x left e = let both = first_left xs i x left e in (ap (λ zs. y ∷ zs) both.0, both.1)
+
+  -- what is taken of one more item, with another item put in its place
+  pub one_more_taken : {B : Type 0} (part : A → B) (xs whole : List A) (i : ℕ) (x new : A) (taken : B) (so_far now : List B)
+      → i < length xs → x ≡ get_or xs i x → taken ≡ part x → now ≡ so_far ++ taken ∷ []
+      → (so_far ≡ map part (take i whole)) × (drop i xs ≡ drop i whole)
+      → (now ≡ map part (take (i + 1) whole)) × (drop (i + 1) (set xs i new) ≡ drop (i + 1) whole)
+  one_more_taken part xs whole i x new taken so_far now within is taken_is pushed both =
+      let left : drop i whole ≡ x ∷ drop (suc i) xs = sym both.1 ∙ drop-cons xs i x within ∙ ap (λ y. y ∷ drop (suc i) xs) (sym is) in
+      let more = first_left whole i x (drop (suc i) xs) left in
+      let grown : now ≡ map part (take (suc i) whole) = pushed ∙ ap (λ ys. ys ++ taken ∷ []) both.0 ∙ ap (λ y. map part (take i whole) ++ y ∷ []) taken_is
+      ∙ sym (map-append part (take i whole) (x ∷ [])) ∙ ap (map part) (sym more.0) in
+      let rest_kept : drop (suc i) (set xs i new) ≡ drop (suc i) whole = drop-set-lt (suc i) xs i new (omega arith) ∙ sym more.1 in
+      rw (add-one i) (grown, rest_kept)
 
 is_zero : (n : ℕ) → true ≡ (n == 0) → n ≡ 0
 is_zero n e = grind (arith, nat_tests)

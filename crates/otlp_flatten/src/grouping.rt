@@ -11,14 +11,17 @@ use std::alloc::{AllocError, Global};
 
 /// Records grouped as a request: neighbours of equal resource and resource schema URL share a `ResourceSpans`, and
 /// inside it neighbours of equal scope and scope schema URL share a `ScopeSpans`. `Err` only where memory was refused.
-pub fn group<T: HasRecord>(alloc: Global, spans: &[T]) -> Result<Request, AllocError>
-    ensures flat { IfOk result (λ request. records_of request ≡ map T.record_in spans.now) }
+///
+/// Each span is moved, and an empty one stands in its place after that; a resource or scope is copied once a group.
+pub fn group<T: HasRecord>(alloc: Global, spans: &mut [T]) -> Result<Request, AllocError>
+    ensures flat { IfOk result (λ request. records_of request ≡ map T.record_in spans.old) }
     ensures grouped { IfOk result IsGrouped }
 {
     let mut groups = List::new(alloc);
     let mut rest = spans;
     while !rest.is_empty() {
-        let (front, behind) = rest.split_at(resource_run(rest));
+        let count = resource_run(rest);
+        let (front, behind) = rest.split_at_mut(count);
         groups.push(resource_group(alloc, front)?)?;
         rest = behind;
     }
@@ -28,45 +31,50 @@ pub fn group<T: HasRecord>(alloc: Global, spans: &[T]) -> Result<Request, AllocE
 }
 
 /// The group of spans of one resource.
-fn resource_group<T: HasRecord>(alloc: Global, spans: &[T]) -> Result<ResourceSpans, AllocError>
-    requires some { 0 < length spans.now }
-    requires same { (k : ℕ) → k < length spans.now → option_map (λ x. resource_of (T.record_in x)) (slice_get spans.now k)
-        ≡ option_map (λ x. resource_of (T.record_in x)) (slice_get spans.now 0) }
+fn resource_group<T: HasRecord>(alloc: Global, spans: &mut [T]) -> Result<ResourceSpans, AllocError>
+    requires some { 0 < length spans.old }
+    requires same { (k : ℕ) → k < length spans.old → option_map (λ x. resource_of (T.record_in x)) (slice_get spans.old k)
+        ≡ option_map (λ x. resource_of (T.record_in x)) (slice_get spans.old 0) }
     ensures grouped { IfOk result IsResourceGroup }
-    ensures flat { IfOk result (λ group. resource_records group ≡ map T.record_in spans.now) }
+    ensures flat { IfOk result (λ group. resource_records group ≡ map T.record_in spans.old) }
     ensures key { IfOk result (λ group. Some (resource_key group)
-        ≡ option_map (λ x. resource_of (T.record_in x)) (slice_get spans.now 0)) }
+        ≡ option_map (λ x. resource_of (T.record_in x)) (slice_get spans.old 0)) }
 {
-    let mut groups = List::new(alloc);
+    let first = spans[0].rec();
+    let resource = first.resource.get().try_clone(alloc)?;
+    let schema_url = first.resource_schema_url.get().try_clone(alloc)?;
+    let mut scope_spans = List::new(alloc);
     let mut rest = spans;
     while !rest.is_empty() {
-        let (front, behind) = rest.split_at(scope_run(rest));
-        groups.push(scope_group(alloc, front)?)?;
+        let count = scope_run(rest);
+        let (front, behind) = rest.split_at_mut(count);
+        scope_spans.push(scope_group(alloc, front)?)?;
         rest = behind;
     }
-    let first = spans[0].rec();
     Ok(ResourceSpans {
-        resource: first.resource.get().try_clone(alloc)?,
-        scope_spans: groups,
-        schema_url: first.resource_schema_url.get().try_clone(alloc)?,
+        resource,
+        scope_spans,
+        schema_url,
     })
 }
 
 /// The group of spans of one scope.
-fn scope_group<T: HasRecord>(alloc: Global, spans: &[T]) -> Result<ScopeSpans, AllocError>
-    requires some { 0 < length spans.now }
-    ensures spans { IfOk result (λ group. group.spans ≡ map (λ x. (T.record_in x).span) spans.now) }
+fn scope_group<T: HasRecord>(alloc: Global, items: &mut [T]) -> Result<ScopeSpans, AllocError>
+    requires some { 0 < length items.old }
+    ensures spans { IfOk result (λ group. group.spans ≡ map (λ x. (T.record_in x).span) items.old) }
     ensures key { IfOk result (λ group. Some (scope_key group)
-        ≡ option_map (λ x. scope_of (T.record_in x)) (slice_get spans.now 0)) }
+        ≡ option_map (λ x. scope_of (T.record_in x)) (slice_get items.old 0)) }
 {
-    let mut copies = List::from_vec(Vec::with_capacity(alloc, spans.len())?);
-    for item in spans {
-        copies.push(item.rec().span.try_clone(alloc)?)?;
+    let first = items[0].rec();
+    let scope = first.scope.get().try_clone(alloc)?;
+    let schema_url = first.scope_schema_url.get().try_clone(alloc)?;
+    let mut spans = List::from_vec(Vec::with_capacity(alloc, items.len())?);
+    for item in items.iter_mut() {
+        spans.push(item.take_span(alloc))?;
     }
-    let first = spans[0].rec();
     Ok(ScopeSpans {
-        scope: first.scope.get().try_clone(alloc)?,
-        spans: copies,
-        schema_url: first.scope_schema_url.get().try_clone(alloc)?,
+        scope,
+        spans,
+        schema_url,
     })
 }

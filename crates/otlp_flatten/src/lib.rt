@@ -6,6 +6,7 @@
 //! [`grouping_is_unique`] says.
 #![tactic(auto)]
 
+mod empty;
 mod grouping;
 mod records;
 mod runs;

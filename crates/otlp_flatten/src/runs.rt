@@ -3,8 +3,11 @@ ghost use Rattle.std.specs.Prelude.{◌≡◌, ◌<◌, ◌↔◌, length, IsTru
 ghost use Rattle.otlp_types.specs.declared.arrival.Record.{Record};
 ghost use Rattle.otlp_flatten.specs.Runs.{resource_of, scope_of, IsRun};
 
+use crate::empty::empty_span;
 use crate::same::Same;
-use otlp_types::{Arrival, Record};
+use otlp_types::{Arrival, Record, Span};
+use std::alloc::Global;
+use std::mem;
 
 /// What holds a record.
 pub trait HasRecord {
@@ -14,6 +17,10 @@ pub trait HasRecord {
     /// The record that it holds.
     fn rec(&self) -> &Record
         ensures { result.now ≡ record_in self.now };
+
+    /// Moves the record's span out, and leaves an empty one in its place. It takes no memory.
+    fn take_span(&mut self, alloc: Global) -> Span
+        ensures { result ≡ (record_in self.old).span };
 }
 
 impl HasRecord for Record {
@@ -22,6 +29,10 @@ impl HasRecord for Record {
     fn rec(&self) -> &Record {
         self
     }
+
+    fn take_span(&mut self, alloc: Global) -> Span {
+        mem::replace(&mut self.span, empty_span(alloc))
+    }
 }
 
 impl HasRecord for Arrival {
@@ -29,6 +40,10 @@ impl HasRecord for Arrival {
 
     fn rec(&self) -> &Record {
         &self.rec
+    }
+
+    fn take_span(&mut self, alloc: Global) -> Span {
+        mem::replace(&mut self.rec.span, empty_span(alloc))
     }
 }
 

@@ -28,8 +28,7 @@ fn batch_of_two(rt: HostRuntime) -> Result<(), Fail> {
         assert_eq!(rt; batch.add(arrival).is_err(), full);
     }
     assert_eq!(rt; batch.len(), 2);
-    assert_eq!(rt; batch.line()?.as_slice(), line.as_bytes());
-    batch.drain();
+    assert_eq!(rt; batch.take_line()?.as_slice(), line.as_bytes());
     assert!(rt; batch.is_empty());
     Ok(())
 }

@@ -41,8 +41,8 @@ fn measure_sizes(alloc: Global, spans: u64) -> Result<Sizes, Bad> {
     let text = body(alloc, spans)?;
     let request = decode(alloc, text.as_bytes())?;
     let written = encode(alloc, &request)?.len();
-    let records = flatten(alloc, request)?;
-    let grouped = group(alloc, &records)?;
+    let mut records = flatten(alloc, request)?;
+    let grouped = group(alloc, records.as_mut_slice())?;
     Ok(Sizes {
         read: text.len(),
         written,

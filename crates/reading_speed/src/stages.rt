@@ -55,9 +55,9 @@ pub fn measure(
     lap(clock, &mut since, &mut stages.encoded)?;
     drop(written);
     since = Instant::now(clock)?;
-    let records = flatten(alloc, request)?;
+    let mut records = flatten(alloc, request)?;
     lap(clock, &mut since, &mut stages.flattened)?;
-    let grouped = group(alloc, &records)?;
+    let grouped = group(alloc, records.as_mut_slice())?;
     lap(clock, &mut since, &mut stages.grouped)?;
     drop(grouped);
     drop(records);

@@ -32,8 +32,8 @@ fn holds(alloc: Global, row: &[u8]) -> Result<bool, AllocError> {
 
 /// Whether as many records stand in the groups of a request's records.
 fn keeps_records(alloc: Global, request: Request) -> Result<bool, AllocError> {
-    let records = flatten(alloc, request)?;
-    let grouped = flatten(alloc, group(alloc, &records)?)?;
+    let mut records = flatten(alloc, request)?;
+    let grouped = flatten(alloc, group(alloc, records.as_mut_slice())?)?;
     Ok(grouped.len() == records.len())
 }
 

@@ -76,16 +76,16 @@ impl Batch {
         Ok(())
     }
 
-    /// Its line: the canonical text of its records, grouped as a request, and one line feed. `Err` where memory was
-    /// refused.
-    pub fn line(&self) -> Result<Vec<u8>, AllocError>
-        ensures { IfOk result (λ line. IsLineOf (records_in self.now.spans) line.items) }
+    /// Moves its spans into their line, and leaves the batch empty, with its room. The line is the canonical text of the
+    /// records, grouped as a request, and one line feed. `Err` where memory was refused: the spans are gone then too.
+    pub fn take_line(&mut self) -> Result<Vec<u8>, AllocError>
+        ensures line { IfOk result (λ line. IsLineOf (records_in self.old.spans) line.items) }
+        ensures emptied { self.new ≡ record { spans = []; size = self.old.size } }
     {
         let alloc = *self.spans.allocator();
-        let request = otlp_flatten::group(alloc, self.spans.as_slice())?;
-        let mut line = otlp_json::encode(alloc, &request)?;
-        line.push(b'\n')?;
-        Ok(line)
+        let line = line_of(alloc, self.spans.as_mut_slice());
+        self.drain();
+        line
     }
 
     /// Lets its spans go, and keeps their room.
@@ -94,6 +94,16 @@ impl Batch {
     {
         self.spans.clear();
     }
+}
+
+/// The line of these spans, which are moved out.
+fn line_of(alloc: Global, spans: &mut [Arrival]) -> Result<Vec<u8>, AllocError>
+    ensures { IfOk result (λ line. IsLineOf (records_in spans.old) line.items) }
+{
+    let request = otlp_flatten::group(alloc, spans)?;
+    let mut line = otlp_json::encode(alloc, &request)?;
+    line.push(b'\n')?;
+    Ok(line)
 }
 
 /// Puts a span last, where there is room.
