@@ -180,9 +180,12 @@ def spans_of(lines):
 
 
 def one_error(start):
-    """An error span is kept, and the counts add up."""
-    collector = start(ERRORS)
+    """An error span is kept, and the counts add up. Its wait is over at once, but with a tick a minute nothing comes out until the close."""
+    collector = start("decision_wait_ms = 50\ntick_ms = 60000\n" + ERRORS)
     want("the answer", collector.ask(post(body_of([ERROR_SPAN])))[::2], (200, "{}"))
+    time.sleep(2)
+    with open(collector.printed, encoding="utf-8") as file:
+        want("the output before a tick", file.read(), "")
     lines, numbers = collector.close()
     want("the lines", lines, [ERROR_LINE])
     want("the report", numbers, [1, 1, 0, 0, 0, 0, 0, 0, 0])
