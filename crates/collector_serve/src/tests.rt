@@ -5,7 +5,7 @@ use crate::stop_mark::StopMark;
 use crate::ticker::Ticker;
 use crate::wall_clock::WallClock;
 use drop_ledger::{Count, Report};
-use http_lane::Stop;
+use http_lane::{Clock as Moments, Stop};
 use lane_worker::{Feed, Ticks};
 use pipeline::RunFault;
 use span_ids::Reason;
@@ -182,6 +182,23 @@ fn reads_and_writes_wait_only_so_long(rt: HostRuntime) -> Result<(), Fail> {
     );
     assert_eq!(rt; writer.write_timeout()?, Some(Duration::from_secs(30)));
     assert!(rt; writer.nodelay()?);
+    Ok(())
+}
+
+/// Of ten ticks 20 milliseconds apart the two that are nearest lie so far apart, and not five times as far.
+#[test]
+fn ticks_are_a_period_apart(rt: HostRuntime) -> Result<(), Fail> {
+    let stop = StopMark::new();
+    let clock = WallClock::new(&rt);
+    let mut ticker = Ticker::new(20, &clock, &stop);
+    let mut last = clock.now();
+    let mut nearest = u64::MAX;
+    for _ in 0..10 {
+        let moment = ticker.next(&rt).unwrap_or(0);
+        nearest = nearest.min(moment.saturating_sub(last));
+        last = moment;
+    }
+    assert!(rt; 19 <= nearest && nearest < 100, "{nearest} milliseconds");
     Ok(())
 }
 
