@@ -18,7 +18,7 @@ pub trait HasRecord {
     fn rec(&self) -> &Record
         ensures { result.now ≡ record_in self.now };
 
-    /// Moves the record's span out, and leaves an empty one in its place. It takes no memory.
+    /// Moves the record's span out; what it leaves in its place (an empty one) isn't promised. It takes no memory.
     fn take_span(&mut self, alloc: Global) -> Span
         ensures { result ≡ (record_in self.old).span };
 }

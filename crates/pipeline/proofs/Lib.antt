@@ -9,3 +9,4 @@ pub mod JobsSent
 pub mod SinkWent
 pub mod Told
 pub mod Worked
+mod Rows

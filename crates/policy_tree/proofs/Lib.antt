@@ -1,3 +1,4 @@
 pub mod Lists
 pub mod Sent
 pub mod Walks
+mod Rows

@@ -14,3 +14,4 @@ pub mod Receives
 pub mod Finish
 pub mod Leading
 pub mod CalmReplays
+mod Rows

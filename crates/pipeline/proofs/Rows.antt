@@ -1,0 +1,16 @@
+-- Worked rows of a run's configuration, by computation. No clause needs them: they show what `core_of` says, which code and contracts follow.
+use Rattle.std.specs.Prelude.{ℕ, List, [], ◌∷◌, Some, ◌≡◌, refl}
+use Rattle.tsc_config.specs.declared.config.Config.{Config}
+use Rattle.pipeline.specs.Promise.{core_of}
+
+-- three lanes, and four shards of 103 traces; 50 of those that were sampled are remembered, and 20 of the others; batches of 7
+abbrev with_numbers : Config → Config
+with_numbers config = record config { decision_wait = 10; root_wait = 3; num_traces = 103; sampled_cache_size = 50; non_sampled_cache_size = 20; lanes = 3; shards = 4; send_batch_size = 7 }
+
+-- the traces of a shard
+pub traces : (config : Config) → (core_of (with_numbers config)).limit ≡ Some 25
+traces config = refl
+
+-- its waits, its caches and the batches
+pub core : (config : Config) → let c = core_of (with_numbers config) in c.wait ∷ c.root_wait ∷ c.sampled_size ∷ c.non_sampled_size ∷ c.batch_size ∷ [] ≡ 10 ∷ 3 ∷ 12 ∷ 5 ∷ 7 ∷ []
+core config = refl

@@ -1,0 +1,19 @@
+-- Worked rows of the faults of a policy's settings, by computation.
+use Rattle.std.specs.Prelude.{true, false, pos, [], ◌∷◌, map, ◌≡◌, refl}
+use Rattle.policy_tree.specs.Tree.{always_sample, latency, status_code, attribute, span_count, text_among, whole_within, truth_of}
+use Rattle.policy_tree.specs.Faults.{has_crossed_bounds, has_no_values}
+
+-- latencies above 500 ms and up to 500, up to 499, from 500 on, and above 0 up to 1
+pub latencies : map has_crossed_bounds (latency 500 500 ∷ latency 500 499 ∷ latency 500 0 ∷ latency 0 1 ∷ []) ≡ true ∷ true ∷ false ∷ false ∷ []
+latencies = refl
+
+-- counts from 3 up to 3, up to 2, and with no upper bound
+pub counts : map has_crossed_bounds (span_count 3 3 ∷ span_count 3 2 ∷ span_count 3 0 ∷ []) ≡ false ∷ true ∷ false ∷ []
+counts = refl
+
+-- numbers from 1 to 1, and to 0
+pub numbers : map has_crossed_bounds (attribute [] (whole_within (pos 1) (pos 1)) false ∷ attribute [] (whole_within (pos 1) (pos 0)) false ∷ []) ≡ false ∷ true ∷ []
+numbers = refl
+
+pub values : map has_no_values (status_code [] ∷ status_code (pos 2 ∷ []) ∷ attribute [] (text_among []) false ∷ attribute [] (text_among ([] ∷ [])) false ∷ attribute [] (truth_of false) false ∷ always_sample ∷ []) ≡ true ∷ false ∷ true ∷ false ∷ false ∷ false ∷ []
+values = refl
