@@ -48,6 +48,28 @@ fn note(played: &mut Played, effect: &Effect) -> Result<(), AllocError> {
     Ok(())
 }
 
+/// The entry of an event without marks.
+fn entry_of(rt: &impl Abort, alloc: Global, event: Event) -> Result<Entry, AllocError> {
+    Ok(Entry {
+        item: item_of(rt, alloc, event)?,
+        refused: false,
+        lost: false,
+        answers: Vec::new(alloc),
+    })
+}
+
+/// Puts an entry at the end of the journal, and notes what taking it does.
+fn take(
+    alloc: Global,
+    settings: &Settings,
+    played: &mut Played,
+    entry: Entry,
+) -> Result<(), AllocError> {
+    let effect = effect_of_taking(alloc, settings, &played.journal, &entry)?;
+    played.journal.push(entry)?;
+    note(played, &effect)
+}
+
 fn decide_all(
     rt: &impl Abort,
     alloc: Global,
@@ -78,24 +100,33 @@ fn play(
         counted: Vec::new(alloc),
     };
     for event in events {
-        let entry = Entry {
-            item: item_of(rt, alloc, *event)?,
-            refused: false,
-            lost: false,
-            answers: Vec::new(alloc),
-        };
-        let effect = effect_of_taking(alloc, settings, &played.journal, &entry)?;
-        note(&mut played, &effect)?;
-        played.journal.push(entry)?;
+        let entry = entry_of(rt, alloc, *event)?;
+        take(alloc, settings, &mut played, entry)?;
         decide_all(rt, alloc, settings, &mut played)?;
     }
     Ok(played)
 }
 
+/// Plays these events with this policy and these caches, and compares the numbers of what was released, and the reasons
+/// and numbers of what was counted.
+fn plays(
+    rt: &impl Abort,
+    alloc: Global,
+    policy: (Option<i32>, usize, usize),
+    events: &[Event],
+    released: &[u64],
+    counted: &[(u8, u64)],
+) -> Result<(), Fail> {
+    let (code, sampled_size, non_sampled_size) = policy;
+    let settings = settings_with(alloc, code, sampled_size, non_sampled_size)?;
+    let played = play(rt, alloc, &settings, events)?;
+    assert_eq!(rt; played.released.as_slice(), released);
+    assert_eq!(rt; played.counted.as_slice(), counted);
+    Ok(())
+}
+
 #[test]
 fn full_buffer_evicts_undecided(rt: HostRuntime) -> Result<(), Fail> {
-    let alloc = rt.alloc();
-    let settings = settings_with(alloc, None, 0, 0)?;
     let events = [
         Event::Span(1, 0, 0, 0),
         Event::Span(2, 1, 1, 0),
@@ -103,16 +134,18 @@ fn full_buffer_evicts_undecided(rt: HostRuntime) -> Result<(), Fail> {
         Event::End(0),
         Event::End(1),
     ];
-    let played = play(&rt, alloc, &settings, &events)?;
-    assert_eq!(&rt; played.released.as_slice(), [2].as_slice());
-    assert_eq!(&rt; played.counted.as_slice(), [(4, 0), (4, 1)].as_slice());
-    Ok(())
+    plays(
+        &rt,
+        rt.alloc(),
+        (None, 0, 0),
+        &events,
+        &[2],
+        &[(4, 0), (4, 1)],
+    )
 }
 
 #[test]
 fn cache_of_one_forgets(rt: HostRuntime) -> Result<(), Fail> {
-    let alloc = rt.alloc();
-    let settings = settings_with(alloc, Some(2), 1, 0)?;
     let events = [
         Event::Span(1, 0, 0, 2),
         Event::Tick(10_000),
@@ -125,10 +158,14 @@ fn cache_of_one_forgets(rt: HostRuntime) -> Result<(), Fail> {
         Event::End(0),
         Event::End(1),
     ];
-    let played = play(&rt, alloc, &settings, &events)?;
-    assert_eq!(&rt; played.released.as_slice(), [0, 1, 2].as_slice());
-    assert_eq!(&rt; played.counted.as_slice(), [(5, 3)].as_slice());
-    Ok(())
+    plays(
+        &rt,
+        rt.alloc(),
+        (Some(2), 1, 0),
+        &events,
+        &[0, 1, 2],
+        &[(5, 3)],
+    )
 }
 
 const RENEWING: [Event; 11] = [
@@ -147,17 +184,69 @@ const RENEWING: [Event; 11] = [
 
 #[test]
 fn late_span_renews(rt: HostRuntime) -> Result<(), Fail> {
-    let alloc = rt.alloc();
+    plays(
+        &rt,
+        rt.alloc(),
+        (Some(2), 2, 2),
+        &RENEWING,
+        &[0, 1, 3, 2, 5, 4],
+        &[],
+    )
+}
+
+/// The clock of a journal; whether sender 1 and sender 2 have ended, and the first two and the first three.
+fn clock_and_ends(rt: &impl Abort, alloc: Global) -> Result<(u64, [bool; 4]), Fail> {
     let settings = settings_with(alloc, Some(2), 2, 2)?;
-    let played = play(&rt, alloc, &settings, &RENEWING)?;
-    assert_eq!(&rt; played.released.as_slice(), [0, 1, 3, 2, 5, 4].as_slice());
-    assert_eq!(&rt; played.counted.len(), 0);
-    assert_eq!(&rt; clock(&played.journal), 30_000);
-    assert!(&rt; has_ended(&played.journal, 1));
-    assert!(&rt; !has_ended(&played.journal, 2));
-    assert!(&rt; have_ended(&played.journal, 2));
-    assert!(&rt; !have_ended(&played.journal, 3));
+    let played = play(rt, alloc, &settings, &RENEWING)?;
+    let journal = played.journal.as_slice();
+    let ends = [
+        has_ended(journal, 1),
+        has_ended(journal, 2),
+        have_ended(journal, 2),
+        have_ended(journal, 3),
+    ];
+    Ok((clock(journal), ends))
+}
+
+#[test]
+fn two_senders_end(rt: HostRuntime) -> Result<(), Fail> {
+    let (clock, ends) = clock_and_ends(&rt, rt.alloc())?;
+    assert_eq!(rt; clock, 30_000);
+    assert_eq!(rt; ends, [true, false, true, false]);
     Ok(())
+}
+
+/// What a journal answers for each of four traces, and what it remembers of the first.
+fn answer_traces(
+    rt: &impl Abort,
+    alloc: Global,
+    settings: &Settings,
+    journal: &[Entry],
+) -> Result<(), Fail> {
+    for (trace, finding) in [
+        (1, Finding::Meets(Verdict::Sampled)),
+        (2, Finding::Meets(Verdict::Sampled)),
+        (3, Finding::Joins),
+        (4, Finding::Opens),
+    ] {
+        let found = finding_of(alloc, settings, journal, trace_of(rt, trace))?;
+        assert_eq!(rt; found, finding, "{trace}");
+    }
+    let late = remembered(alloc, settings, journal, trace_of(rt, 1))?;
+    assert_eq!(rt; late, Some(Verdict::Sampled));
+    Ok(())
+}
+
+/// Which marks apply to a span of each of three traces.
+fn mark_traces(rt: &impl Abort, settings: &Settings, look: &LookBack) {
+    for (trace, refused, lost, apply) in [
+        (3, true, false, true),
+        (1, true, false, false),
+        (4, false, true, false),
+    ] {
+        let ids = Some(ids_in(rt, trace_of(rt, trace), true));
+        assert_eq!(rt; look.marks_apply(settings, refused, lost, ids), apply);
+    }
 }
 
 #[test]
@@ -166,27 +255,7 @@ fn answers_for_each_trace(rt: HostRuntime) -> Result<(), Fail> {
     let settings = settings_with(alloc, Some(2), 2, 2)?;
     let played = play(&rt, alloc, &settings, &RENEWING[..5])?;
     let journal = played.journal.as_slice();
-    let found = [
-        (1, Finding::Meets(Verdict::Sampled)),
-        (2, Finding::Meets(Verdict::Sampled)),
-        (3, Finding::Joins),
-        (4, Finding::Opens),
-    ];
-    for (trace, finding) in found {
-        let trace = trace_of(&rt, trace);
-        assert_eq!(&rt; finding_of(alloc, &settings, journal, trace)?, finding);
-    }
-    let late = remembered(alloc, &settings, journal, trace_of(&rt, 1))?;
-    assert_eq!(&rt; late, Some(Verdict::Sampled));
-    let look = LookBack::new(alloc, &settings, journal)?;
-    for (trace, refused, lost, apply) in [
-        (3, true, false, true),
-        (1, true, false, false),
-        (4, false, true, false),
-    ] {
-        let ids = Some(ids_in(&rt, trace_of(&rt, trace), true));
-        let answer = look.marks_apply(&settings, refused, lost, ids);
-        assert_eq!(&rt; answer, apply);
-    }
+    answer_traces(&rt, alloc, &settings, journal)?;
+    mark_traces(&rt, &settings, &LookBack::new(alloc, &settings, journal)?);
     Ok(())
 }

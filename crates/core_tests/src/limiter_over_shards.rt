@@ -11,7 +11,7 @@ use otlp_types::{Item, TryClone};
 use policy_tree::PolicyKind;
 use rate_budget::Budgets;
 use shard_core::{Decided, Shard, Taken};
-use std::alloc::Global;
+use std::alloc::{AllocError, Global};
 use std::process::Abort;
 use std::test::Fail;
 
@@ -76,8 +76,7 @@ fn take(rt: &impl Abort, shard: &mut Shard, item: Item)
     requires { has_ids item ≡ true }
     ensures { shard.new.policies ≡ shard.old.policies }
 {
-    assert!(rt; !shard.has_due());
-    assert!(rt; !shard.finished());
+    assert!(rt; !shard.has_due() && !shard.finished());
     let taken = shard.take(item);
     assert!(rt; matches!(taken, Taken::Kept { .. } | Taken::Ticked));
 }
@@ -97,10 +96,8 @@ fn ticked(
     }
 }
 
-#[test]
-fn one_limiter_for_two_shards(rt: HostRuntime) -> Result<(), Fail> {
-    let alloc = rt.alloc();
-    let mut shards = TwoShards::new(alloc, 3)?;
+/// The shards take nine spans of five traces, over two seconds.
+fn take_nine(rt: &impl Abort, alloc: Global, shards: &mut TwoShards) -> Result<(), AllocError> {
     for (which, trace, number, moment) in [
         (Which::First, 1, 0, 0),
         (Which::First, 1, 1, 0),
@@ -112,10 +109,17 @@ fn one_limiter_for_two_shards(rt: HostRuntime) -> Result<(), Fail> {
         (Which::Second, 4, 7, 1000),
         (Which::First, 5, 8, 1000),
     ] {
-        let ids = ids_in(&rt, trace_of(&rt, trace), true);
+        let ids = ids_in(rt, trace_of(rt, trace), true);
         let span = span_with(alloc, ids, number, moment, 0, 0)?;
-        shards.take(&rt, which, span);
+        shards.take(rt, which, span);
     }
+    Ok(())
+}
+
+#[test]
+fn one_limiter_for_two_shards(rt: HostRuntime) -> Result<(), Fail> {
+    let mut shards = TwoShards::new(rt.alloc(), 3)?;
+    take_nine(&rt, rt.alloc(), &mut shards)?;
     let first = [
         (Which::First, Ok(2)),
         (Which::First, Err(0)),

@@ -59,13 +59,15 @@ fn attributes(alloc: Global, value: Option<AnyValue>) -> Result<List<KeyValue>, 
 }
 
 fn arrival_of(alloc: Global, given: Given) -> Result<Arrival, AllocError> {
-    let mut rec = plain_record(alloc, None, given.code, given.start, given.end)?;
-    rec.span.attributes = attributes(alloc, given.own)?;
+    let own = attributes(alloc, given.own)?;
     let resource = Resource {
         attributes: attributes(alloc, given.of_resource)?,
         dropped_attributes_count: 0,
     };
-    rec.resource = Shared::new(alloc, resource)?;
+    let resource = Shared::new(alloc, resource)?;
+    let mut rec = plain_record(alloc, None, given.code, given.start, given.end)?;
+    rec.span.attributes = own;
+    rec.resource = resource;
     Ok(received(0, 0, 0, rec))
 }
 
@@ -267,34 +269,56 @@ fn dev(alloc: Global, invert_match: bool) -> Result<PolicyKind, AllocError> {
     )
 }
 
+/// A copy of a value where there is to be one.
+fn copy_if(
+    alloc: Global,
+    is_there: bool,
+    value: &AnyValue,
+) -> Result<Option<AnyValue>, AllocError> {
+    if is_there {
+        Ok(Some(value.try_clone(alloc)?))
+    } else {
+        Ok(None)
+    }
+}
+
+/// Whether a policy samples a trace whose last span has this value, or its resource, or both.
+fn samples_where(
+    alloc: Global,
+    kind: &PolicyKind,
+    value: &AnyValue,
+    own: bool,
+    of_resource: bool,
+) -> Result<bool, Fail> {
+    let span = in_env(
+        copy_if(alloc, own, value)?,
+        copy_if(alloc, of_resource, value)?,
+    );
+    let spans = vec![in alloc; in_env(None, None), span]?;
+    is_sampled(alloc, vec![in alloc; kind.try_clone(alloc)?]?, spans)
+}
+
+/// The same in all three cases, in this order.
+fn samples(alloc: Global, kind: &PolicyKind, value: &AnyValue) -> Result<[bool; 3], Fail> {
+    Ok([
+        samples_where(alloc, kind, value, true, false)?,
+        samples_where(alloc, kind, value, false, true)?,
+        samples_where(alloc, kind, value, true, true)?,
+    ])
+}
+
 /// Whether an attribute is matched where the span has this value, where its resource has it, and where both have;
 /// and that an inverted match alone samples just where it isn't.
 fn is_matched(alloc: Global, wanted: Wanted, value: AnyValue) -> Result<Option<bool>, Fail> {
     let plain = of_env(alloc, wanted.try_clone(alloc)?, false)?;
     let inverted = of_env(alloc, wanted, true)?;
-    let mut all = Vec::new(alloc);
-    for (own, of_resource) in [(true, false), (false, true), (true, true)] {
-        for kind in [&plain, &inverted] {
-            let own_value = if own {
-                Some(value.try_clone(alloc)?)
-            } else {
-                None
-            };
-            let other = if of_resource {
-                Some(value.try_clone(alloc)?)
-            } else {
-                None
-            };
-            let spans = vec![in alloc; in_env(None, None), in_env(own_value, other)]?;
-            all.push(is_sampled(alloc, vec![in alloc; kind.try_clone(alloc)?]?, spans)?)?;
-        }
-    }
-    if all.as_slice() == [true, false, true, false, true, false].as_slice() {
-        Ok(Some(true))
-    } else if all.as_slice() == [false, true, false, true, false, true].as_slice() {
-        Ok(Some(false))
-    } else {
-        Ok(None)
+    match (
+        samples(alloc, &plain, &value)?,
+        samples(alloc, &inverted, &value)?,
+    ) {
+        ([true, true, true], [false, false, false]) => Ok(Some(true)),
+        ([false, false, false], [true, true, true]) => Ok(Some(false)),
+        _ => Ok(None),
     }
 }
 
@@ -379,29 +403,38 @@ fn inverted_match_wins(rt: HostRuntime) -> Result<(), Fail> {
     Ok(())
 }
 
-#[test]
-fn and_with_inverted_part(rt: HostRuntime) -> Result<(), Fail> {
-    let alloc = rt.alloc();
+/// Whether policies of these kinds sample a trace of one span, which has this value of `env`.
+fn samples_env(alloc: Global, kinds: Vec<PolicyKind>, value: &str) -> Result<bool, Fail> {
+    let span = in_env(Some(text(alloc, value)?), None);
+    is_sampled(alloc, kinds, vec![in alloc; span]?)
+}
+
+/// An `and` whose inverted part is against the trace decides nothing beyond it: another policy samples it.
+fn and_samples_beside(alloc: Global) -> Result<bool, Fail> {
     let parts = vec![in alloc; PolicyKind::AlwaysSample, dev(alloc, true)?]?;
     let policies = policies_of(alloc, parts)?;
     let kinds = vec![in alloc; PolicyKind::And { policies }, PolicyKind::AlwaysSample]?;
-    let span = in_env(Some(text(alloc, "dev")?), None);
-    assert!(rt; is_sampled(alloc, kinds, vec![in alloc; span]?)?);
+    samples_env(alloc, kinds, "dev")
+}
 
-    let prod = in_env(Some(text(alloc, "prod")?), None);
-    assert!(rt;
-        is_sampled(
-            alloc,
-            vec![in alloc; dev(alloc, true)?]?,
-            vec![in alloc; prod]?
-        )?
-    );
+#[test]
+fn and_with_inverted_part(rt: HostRuntime) -> Result<(), Fail> {
+    assert!(rt; and_samples_beside(rt.alloc())?);
+    Ok(())
+}
 
+/// An inverted policy that finds nothing, beside one on errors that finds none.
+fn errors_beside_inverted(alloc: Global) -> Result<bool, Fail> {
     let errors = PolicyKind::StatusCode {
         codes: List::from_vec(vec![in alloc; 2]?),
     };
-    let prod = in_env(Some(text(alloc, "prod")?), None);
-    let kinds = vec![in alloc; dev(alloc, true)?, errors]?;
-    assert!(rt; !is_sampled(alloc, kinds, vec![in alloc; prod]?)?);
+    samples_env(alloc, vec![in alloc; dev(alloc, true)?, errors]?, "prod")
+}
+
+#[test]
+fn inverted_match_alone(rt: HostRuntime) -> Result<(), Fail> {
+    let alloc = rt.alloc();
+    let alone = samples_env(alloc, vec![in alloc; dev(alloc, true)?]?, "prod")?;
+    assert!(rt; alone && !errors_beside_inverted(alloc)?);
     Ok(())
 }

@@ -70,8 +70,7 @@ fn take(
     moment: u64,
 ) -> Result<Entry, AllocError> {
     let item = item_of(rt, alloc, kind, moment, past.entries.len() as u64)?;
-    assert!(rt; !shard.has_due());
-    assert!(rt; !shard.finished());
+    assert!(rt; !shard.has_due() && !shard.finished());
     let taken = shard.take(item);
     let is_right = match kind {
         Kind::Span(_, _, finding) => past.may_answer(finding, &taken),

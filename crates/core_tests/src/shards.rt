@@ -34,8 +34,7 @@ fn shard_with(alloc: Global, code: Option<i32>) -> Result<LimitedShard, Fail> {
 fn play(rt: &impl Abort, shard: &mut LimitedShard, item: Item) -> (&'static str, usize)
     requires { has_ids item ≡ true }
 {
-    assert!(rt; !shard.has_due());
-    assert!(rt; !shard.finished());
+    assert!(rt; !shard.has_due() && !shard.finished());
     let taken = match shard.take(item) {
         Taken::Kept { .. } => "kept",
         Taken::Late(_) => "late",
@@ -51,6 +50,19 @@ fn play(rt: &impl Abort, shard: &mut LimitedShard, item: Item) -> (&'static str,
     (taken, released)
 }
 
+/// Plays an event, and compares the answer.
+fn compare(
+    rt: &impl Abort,
+    alloc: Global,
+    shard: &mut LimitedShard,
+    event: Event,
+    answer: (&'static str, usize),
+) -> Result<(), AllocError> {
+    let item = item_of(rt, alloc, event)?;
+    assert_eq!(rt; play(rt, shard, item), answer);
+    Ok(())
+}
+
 /// Plays these events to a shard with one policy, on this status code or on none, and compares each answer.
 fn plays(
     rt: &impl Abort,
@@ -60,8 +72,7 @@ fn plays(
 ) -> Result<(), Fail> {
     let mut shard = shard_with(alloc, code)?;
     for (event, answer) in rows {
-        let item = item_of(rt, alloc, *event)?;
-        assert_eq!(rt; play(rt, &mut shard, item), *answer);
+        compare(rt, alloc, &mut shard, *event, *answer)?;
     }
     Ok(())
 }
@@ -132,10 +143,8 @@ fn decide(shard: &mut LimitedShard) -> Result<usize, u64> {
     }
 }
 
-#[test]
-fn and_of_latency_and_rate(rt: HostRuntime) -> Result<(), Fail> {
-    let alloc = rt.alloc();
-    let mut shard = shard_of_slow_and_granted(alloc)?;
+/// The shard takes six spans of four traces, which it keeps.
+fn take_six(rt: &impl Abort, alloc: Global, shard: &mut LimitedShard) -> Result<(), AllocError> {
     for (trace, number, end) in [
         (1, 0, 0),
         (1, 1, 499_999_999),
@@ -144,15 +153,26 @@ fn and_of_latency_and_rate(rt: HostRuntime) -> Result<(), Fail> {
         (3, 4, 500_000_000),
         (4, 5, 500_000_000),
     ] {
-        let ids = ids_in(&rt, trace_of(&rt, trace), true);
+        let ids = ids_in(rt, trace_of(rt, trace), true);
         let span = span_with(alloc, ids, number, 1000, 0, end)?;
-        assert_eq!(&rt; play(&rt, &mut shard, span), ("kept", 0));
+        assert_eq!(rt; play(rt, shard, span), ("kept", 0));
     }
-    assert!(&rt; !shard.has_due());
-    assert!(&rt; !shard.finished());
-    assert!(&rt; matches!(shard.take(Item::Tick(11_000)), Taken::Ticked));
+    Ok(())
+}
+
+/// A tick, and what is decided then.
+fn decide_four(rt: &impl Abort, shard: &mut LimitedShard) {
+    assert!(rt; !shard.has_due() && !shard.finished());
+    assert!(rt; matches!(shard.take(Item::Tick(11_000)), Taken::Ticked));
     for decided in [Err(2), Ok(2), Ok(1), Err(1), Err(0)] {
-        assert_eq!(&rt; decide(&mut shard), decided);
+        assert_eq!(rt; decide(shard), decided);
     }
+}
+
+#[test]
+fn and_of_latency_and_rate(rt: HostRuntime) -> Result<(), Fail> {
+    let mut shard = shard_of_slow_and_granted(rt.alloc())?;
+    take_six(&rt, rt.alloc(), &mut shard)?;
+    decide_four(&rt, &mut shard);
     Ok(())
 }

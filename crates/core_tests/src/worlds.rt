@@ -173,26 +173,53 @@ fn answered(answer: Result<(), Refusal>) -> Result<Result<(), Refusal>, AllocErr
     }
 }
 
+/// The world after these steps.
+fn replayed(
+    rt: &impl Abort,
+    alloc: Global,
+    config: Config,
+    steps: Vec<Step>,
+) -> Result<World, AllocError>
+    requires { KeepsATrace (config_of config) }
+{
+    match World::replay(alloc, 1, 1, config, steps) {
+        Ok(world) => Ok(world),
+        Err((_, Refusal::NoMemory)) => Err(AllocError),
+        Err((place, refusal)) => panic!(rt; "{refusal:?} at {place}"),
+    }
+}
+
+/// Whether the world enables none of these steps.
+fn enables_none(world: &mut World, steps: Vec<Step>) -> Result<bool, AllocError> {
+    let mut none = true;
+    for step in steps {
+        none = none && answered(world.step(step))? == Err(Refusal::NotEnabled);
+    }
+    Ok(none)
+}
+
+/// Whether one batch of one span was handed over, and nothing was counted.
+fn has_handed_one(world: &World) -> bool {
+    let handed = world.handed();
+    handed.len() == 1 && handed.iter().all(|batch| batch.len() == 1) && world.counted().is_empty()
+}
+
+/// A world in which one span was handed over, and which then closed.
+fn closed_world(rt: &impl Abort, alloc: Global) -> Result<World, Fail> {
+    let config = config_with(alloc, PolicyKind::AlwaysSample, 1, 0, 0, 1)?;
+    let steps = one_span(rt, alloc, false)?;
+    Ok(replayed(rt, alloc, config, steps)?)
+}
+
 #[test]
 fn one_span_through_the_world(rt: HostRuntime) -> Result<(), Fail> {
     let alloc = rt.alloc();
-    let config = config_with(alloc, PolicyKind::AlwaysSample, 1, 0, 0, 1)?;
-    let steps = one_span(&rt, alloc, false)?;
-    let mut world = match World::replay(alloc, 1, 1, config, steps) {
-        Ok(world) => world,
-        Err((_, Refusal::NoMemory)) => return Err(AllocError.into()),
-        Err((place, refusal)) => panic!(&rt; "{refusal:?} at {place}"),
-    };
-    assert_eq!(&rt; world.handed().len(), 1);
-    for batch in world.handed() {
-        assert_eq!(&rt; batch.len(), 1);
-    }
-    assert_eq!(&rt; world.counted().len(), 0);
-    for step in others(&rt, alloc)? {
-        assert_eq!(&rt; answered(world.step(step))?, Err(Refusal::NotEnabled));
-    }
-    assert_eq!(&rt; world.step(Step::Fail), Ok(()));
-    assert_eq!(&rt; world.step(Step::Fail), Err(Refusal::NotEnabled));
+    let mut world = closed_world(&rt, alloc)?;
+    let is_handed = has_handed_one(&world);
+    let is_ended = enables_none(&mut world, others(&rt, alloc)?)?;
+    let fails = [world.step(Step::Fail), world.step(Step::Fail)];
+    assert!(&rt; is_handed && is_ended);
+    assert_eq!(&rt; fails, [Ok(()), Err(Refusal::NotEnabled)]);
     Ok(())
 }
 
@@ -222,11 +249,7 @@ fn decided_by(rt: &impl Abort, alloc: Global, answers: &[bool]) -> Result<Option
         })?;
     }
     let config = config_with(alloc, PolicyKind::And { policies: parts }, 1, 0, 0, 1)?;
-    let mut world = match World::replay(alloc, 1, 1, config, due_span(rt, alloc, 1, 0)?) {
-        Ok(world) => world,
-        Err((_, Refusal::NoMemory)) => return Err(AllocError.into()),
-        Err((place, refusal)) => panic!(rt; "{refusal:?} at {place}"),
-    };
+    let mut world = replayed(rt, alloc, config, due_span(rt, alloc, 1, 0)?)?;
     let decide = Step::Decide {
         shard: 0,
         answers: Vec::from_slice(alloc, answers)?,
@@ -258,39 +281,42 @@ fn one_answer_for_each_asking(rt: HostRuntime) -> Result<(), Fail> {
     Ok(())
 }
 
-/// Random steps, each made by the world and by the simulation, with a root wait in two runs of three; one to which memory
-/// was refused is made again. `reached` gets the numbers of the reasons that were counted, 8 where a batch was handed over,
-/// and 9 where each shard took every End.
-fn run_beside(
+/// Makes a step in the world and in the simulation; one to which memory was refused is made again.
+fn step_both(
     rt: &impl Abort,
     alloc: Global,
-    seed: u64,
-    reached: &mut Vec<u8>,
+    world: &mut World,
+    simulated: &mut Simulated,
+    choice: Choice,
 ) -> Result<(), Fail> {
+    let wanted = if simulated.step(choice)? {
+        Ok(())
+    } else {
+        Err(Refusal::NotEnabled)
+    };
+    let mut answer = world.step(step_of(rt, alloc, choice)?);
+    if answer == Err(Refusal::NoMemory) {
+        answer = world.step(step_of(rt, alloc, choice)?);
+    }
+    assert_eq!(rt; answer, wanted, "{choice:?}");
+    assert!(rt; simulated.is_like(world), "{choice:?}");
+    Ok(())
+}
+
+/// The world and the simulation of a run: a root wait in two runs of three.
+fn start_both(alloc: Global, seed: u64) -> Result<(World, Simulated), Fail> {
     let kind = PolicyKind::StatusCode {
         codes: List::from_vec(vec![in alloc; 2]?),
     };
     let mut config = config_with(alloc, kind, 2, 1, 2, 2)?;
     config.root_wait = seed % 3 * 3;
-    let mut world = World::new(alloc, 2, 2, config)?;
-    let mut simulated = Simulated::new(alloc, seed % 3 * 3)?;
-    let mut seed = seed;
-    for made in 0..600 {
-        let (next, choice) = choose(seed, made, made >= 300);
-        seed = next;
-        let enabled = simulated.step(choice)?;
-        let wanted = if enabled {
-            Ok(())
-        } else {
-            Err(Refusal::NotEnabled)
-        };
-        let mut answer = world.step(step_of(rt, alloc, choice)?);
-        if answer == Err(Refusal::NoMemory) {
-            answer = world.step(step_of(rt, alloc, choice)?);
-        }
-        assert_eq!(rt; answer, wanted, "{choice:?}, step {made}");
-        assert!(rt; simulated.is_like(&world), "{choice:?}, step {made}");
-    }
+    let simulated = Simulated::new(alloc, seed % 3 * 3)?;
+    Ok((World::new(alloc, 2, 2, config)?, simulated))
+}
+
+/// Notes the numbers of the reasons that were counted, 8 where a batch was handed over, and 9 where each shard took every
+/// End.
+fn note(reached: &mut Vec<u8>, world: &World, simulated: &Simulated) -> Result<(), AllocError> {
     for span in world.counted() {
         reached.push(span.reason.number())?;
     }
@@ -300,6 +326,24 @@ fn run_beside(
     if simulated.have_ended() {
         reached.push(9)?;
     }
+    Ok(())
+}
+
+/// Random steps, each made by the world and by the simulation. Notes what they reached.
+fn run_beside(
+    rt: &impl Abort,
+    alloc: Global,
+    seed: u64,
+    reached: &mut Vec<u8>,
+) -> Result<(), Fail> {
+    let (mut world, mut simulated) = start_both(alloc, seed)?;
+    let mut seed = seed;
+    for made in 0..600 {
+        let (next, choice) = choose(seed, made, made >= 300);
+        seed = next;
+        step_both(rt, alloc, &mut world, &mut simulated, choice)?;
+    }
+    note(reached, &world, &simulated)?;
     Ok(())
 }
 

@@ -1,13 +1,13 @@
 -- Worked rows, computed: the head of `GET /v1/traces`, and what the fields of a post come to.
 -- They serve the definitions that `judge` and `cut_on` promise.
-use Rattle.std.proofs.Common.{◌≡◌, ◌++◌, false, refl, List, ℕ, Some, [], ◌∷◌}
+use Rattle.std.proofs.Common.{◌≡◌, ◌++◌, true, false, refl, List, ℕ, Some, [], ◌∷◌}
 use Rattle.std.specs.Prelude.{codes}
 use Rattle.http_text.specs.declared.lines.TheConstants.{PART_LIMIT}
 use Rattle.http_text.specs.declared.request.TheConstants.{BODY_LIMIT, FIELD_LIMIT}
 use Rattle.http_text.specs.declared.request.Verdict.TheVariants.{Post as Posted}
 use Rattle.http_text.specs.declared.request.Framing.TheVariants.{Length}
 use Rattle.http_text.specs.Lines.{head_len}
-use Rattle.http_text.specs.Head.{verdict_by, field_lines}
+use Rattle.http_text.specs.Head.{fits, verdict_by, field_lines}
 use Rattle.httparse.specs.Grammar.{trim_ows}
 use Rattle.httparse.specs.Ascii.{crlf_bytes}
 
@@ -35,3 +35,7 @@ greatest_body = refl
 
 most_fields : FIELD_LIMIT ≡ 64
 most_fields = refl
+
+-- a body of just so many bytes, and one of a byte more
+bodies_at_the_greatest : fits (Length 4194304) ∷ fits (Length 4194305) ∷ [] ≡ true ∷ false ∷ []
+bodies_at_the_greatest = refl

@@ -1,6 +1,7 @@
 //! Puts and askings, one after the other.
 use decision_cache::{DecisionCache, Remembered};
 use span_ids::{TraceId, Verdict};
+use std::alloc::{AllocError, Global};
 use std::process::Abort;
 use std::test::Fail;
 
@@ -14,42 +15,64 @@ fn trace(rt: &impl Abort, text: &str) -> TraceId {
     TraceId::parse(text).expect(rt, "a trace id")
 }
 
-/// Puts a trace that isn't remembered.
-fn put(rt: &impl Abort, cache: &mut DecisionCache, id: TraceId, verdict: Verdict) -> Remembered {
-    let met = cache.ask(id);
-    assert!(rt; met.is_none());
-    cache.remember(id, verdict)
+/// What is done with a trace, and answered: it is put under a verdict where it isn't remembered, or asked for.
+#[derive(Clone, Copy)]
+enum Step {
+    Put(Verdict, Remembered),
+    Ask(Option<Verdict>),
+}
+
+fn is_answered(cache: &mut DecisionCache, id: TraceId, step: Step) -> bool {
+    match step {
+        Step::Put(verdict, answer) => {
+            cache.ask(id).is_none() && cache.remember(id, verdict) == answer
+        }
+        Step::Ask(answer) => cache.ask(id) == answer,
+    }
+}
+
+/// The place of the first step that a cache of these sizes answers otherwise.
+fn first_wrong(
+    rt: &impl Abort,
+    alloc: Global,
+    sampled: usize,
+    non_sampled: usize,
+    steps: &[(&str, Step)],
+) -> Result<Option<usize>, AllocError> {
+    let mut cache = DecisionCache::new(alloc, sampled, non_sampled)?;
+    for (place, (text, step)) in steps.iter().enumerate() {
+        if !is_answered(&mut cache, trace(rt, text), *step) {
+            return Ok(Some(place));
+        }
+    }
+    Ok(None)
 }
 
 #[test]
 fn a_look_up_renews(rt: HostRuntime) -> Result<(), Fail> {
-    let (a, b, c) = (trace(&rt, A), trace(&rt, B), trace(&rt, C));
-    let mut cache = DecisionCache::new(rt.alloc(), 2, 1)?;
-    assert_eq!(rt; put(&rt, &mut cache, a, Verdict::Sampled), Remembered::Kept);
-    assert_eq!(rt; put(&rt, &mut cache, b, Verdict::Sampled), Remembered::Kept);
-    assert_eq!(rt; cache.ask(a), Some(Verdict::Sampled));
-    assert_eq!(rt; put(&rt, &mut cache, c, Verdict::Sampled), Remembered::Kept);
-    assert_eq!(rt; cache.ask(b), None);
-    assert_eq!(rt; cache.ask(a), Some(Verdict::Sampled));
-    assert_eq!(rt;
-        put(&rt, &mut cache, b, Verdict::NotSampled),
-        Remembered::Kept
-    );
-    assert_eq!(rt; cache.ask(b), Some(Verdict::NotSampled));
-    assert_eq!(rt; cache.ask(c), Some(Verdict::Sampled));
+    let steps = [
+        (A, Step::Put(Verdict::Sampled, Remembered::Kept)),
+        (B, Step::Put(Verdict::Sampled, Remembered::Kept)),
+        (A, Step::Ask(Some(Verdict::Sampled))),
+        (C, Step::Put(Verdict::Sampled, Remembered::Kept)),
+        (B, Step::Ask(None)),
+        (A, Step::Ask(Some(Verdict::Sampled))),
+        (B, Step::Put(Verdict::NotSampled, Remembered::Kept)),
+        (B, Step::Ask(Some(Verdict::NotSampled))),
+        (C, Step::Ask(Some(Verdict::Sampled))),
+    ];
+    assert_eq!(rt; first_wrong(&rt, rt.alloc(), 2, 1, &steps)?, None);
     Ok(())
 }
 
 #[test]
 fn a_size_of_zero_is_off(rt: HostRuntime) -> Result<(), Fail> {
-    let a = trace(&rt, A);
-    let mut cache = DecisionCache::new(rt.alloc(), 0, 1)?;
-    assert_eq!(rt; put(&rt, &mut cache, a, Verdict::Sampled), Remembered::Off);
-    assert_eq!(rt; cache.ask(a), None);
-    assert_eq!(rt;
-        put(&rt, &mut cache, a, Verdict::NotSampled),
-        Remembered::Kept
-    );
-    assert_eq!(rt; cache.ask(a), Some(Verdict::NotSampled));
+    let steps = [
+        (A, Step::Put(Verdict::Sampled, Remembered::Off)),
+        (A, Step::Ask(None)),
+        (A, Step::Put(Verdict::NotSampled, Remembered::Kept)),
+        (A, Step::Ask(Some(Verdict::NotSampled))),
+    ];
+    assert_eq!(rt; first_wrong(&rt, rt.alloc(), 0, 1, &steps)?, None);
     Ok(())
 }

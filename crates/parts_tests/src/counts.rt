@@ -2,7 +2,8 @@
 ghost use Rattle.std.specs.Prelude.{◌≡◌};
 
 use drop_ledger::{
-    Accounts, Blanks, Book, BookFull, BookShare, Count, Counter, Report, Tally, numbers_are_sums,
+    Accounts, Blanks, Book, BookFull, BookShare, Count, Counter, Part, Report, Tally,
+    numbers_are_sums,
 };
 use span_ids::Reason;
 use std::alloc::{AllocError, Global};
@@ -41,6 +42,29 @@ fn each_count_by_itself(rt: HostRuntime) {
     numbers_are_sums();
 }
 
+/// The parts of a lane and of a shard, of which both count on the book, and whether the lane's and the shard's is full then.
+fn counted<B: Accounts, R: Wait>(
+    rt: &R,
+    book: &Book<B>,
+    lane: Part<B>,
+    shard: Part<B>,
+) -> (Part<B>, Part<B>, (bool, bool))
+    requires { (lane.parts ≡ 1) × (shard.parts ≡ 1) }
+    ensures { (result.0.parts ≡ 1) × (result.1.parts ≡ 1) }
+{
+    let mut lane = Tally::new(BookShare::new(rt, book, lane));
+    let mut shard = Tally::new(BookShare::new(rt, book, shard));
+    lane.count(Count::Received, 7);
+    shard.count(Count::Dropped(Reason::NotSampled), 4);
+    lane.count(Count::Dropped(Reason::QueueFull), 1);
+    shard.count(Count::Dropped(Reason::QueueFull), 2);
+    shard.count(Count::Dropped(Reason::LateNotSampled), u64::MAX);
+    lane.count(Count::Dropped(Reason::LateNotSampled), 1);
+    lane.count(Count::Handed, 5);
+    let is_full = (lane.is_full(), shard.is_full());
+    (lane.end().end(), shard.end().end(), is_full)
+}
+
 /// The report of a book of three parts, of which two count; the second of them would pass the greatest number, and
 /// counts nothing more.
 fn gathered<B: Accounts, R: Wait>(
@@ -52,23 +76,18 @@ fn gathered<B: Accounts, R: Wait>(
     requires parts { (blanks.parts ≡ B.parts) × (B.parts ≡ 3) }
 {
     let (book, mut parts) = Book::<B>::new(alloc, blanks, 2)?;
-    let (Some(lane), Some(shard)) = (parts.pop(), parts.pop()) else {
+    let Some(lane) = parts.pop() else {
         return Err(AllocError);
     };
-    let mut lane = Tally::new(BookShare::new(rt, &book, lane));
-    let mut shard = Tally::new(BookShare::new(rt, &book, shard));
-    lane.count(Count::Received, 7);
-    shard.count(Count::Dropped(Reason::NotSampled), 4);
-    lane.count(Count::Dropped(Reason::QueueFull), 1);
-    shard.count(Count::Dropped(Reason::QueueFull), 2);
-    shard.count(Count::Dropped(Reason::LateNotSampled), u64::MAX);
-    lane.count(Count::Dropped(Reason::LateNotSampled), 1);
-    lane.count(Count::Handed, 5);
-    if !lane.is_full() || shard.is_full() {
+    let Some(shard) = parts.pop() else {
+        return Err(AllocError);
+    };
+    let (lane, shard, is_full) = counted(rt, &book, lane, shard);
+    if is_full != (true, false) {
         return Err(AllocError);
     }
-    parts.push(lane.end().end())?;
-    parts.push(shard.end().end())?;
+    parts.push(lane)?;
+    parts.push(shard)?;
     Ok(book.gather(parts))
 }
 

@@ -127,19 +127,45 @@ fn sent(
     Ok(flushes)
 }
 
+/// What batches of one come to over a sink that takes the first line and a part of the second.
+#[derive(Clone, Copy)]
+struct Seen {
+    flushes: [Flushed; 3],
+    noted: Result<(), SinkFault>,
+    is_down: bool,
+    last: Flushed,
+    is_cut_short: bool,
+    failures: u64,
+}
+
+fn second_line_fails(alloc: Global) -> Result<Seen, Fail> {
+    let held = line_and_part();
+    let records = arrivals(alloc)?;
+    let mut exporter = exporter_of(alloc, 1, 1000, held.len())?;
+    let flushes = sent(&mut exporter, records)?;
+    let noted = exporter.note(b"a line\n");
+    let is_down = exporter.is_down();
+    let last = exporter.flush();
+    let sink = exporter.end().end();
+    Ok(Seen {
+        flushes,
+        noted,
+        is_down,
+        last,
+        is_cut_short: sink.taken.as_slice() == held.as_bytes(),
+        failures: sink.failures(),
+    })
+}
+
 #[test]
 fn sink_fails_within_a_line(rt: HostRuntime) -> Result<(), Fail> {
-    let held = line_and_part();
-    let mut exporter = exporter_of(rt.alloc(), 1, 1000, held.len())?;
-    let flushes = sent(&mut exporter, arrivals(rt.alloc())?)?;
+    let seen = second_line_fails(rt.alloc())?;
     let down = Flushed::Spoiled(1, Reason::ExporterDown);
-    assert_eq!(rt; flushes, [Flushed::Handed(1), down, down]);
-    assert_eq!(rt; exporter.note(b"a line\n"), Err(SinkFault::Down));
-    assert!(rt; exporter.is_down());
-    assert_eq!(rt; exporter.flush(), Flushed::Empty);
-    let sink = exporter.end().end();
-    assert_eq!(rt; sink.taken.as_slice(), held.as_bytes());
-    assert_eq!(rt; sink.failures(), 1);
+    assert_eq!(rt; seen.flushes, [Flushed::Handed(1), down, down]);
+    assert_eq!(rt; seen.noted, Err(SinkFault::Down));
+    assert_eq!(rt; seen.last, Flushed::Empty);
+    assert!(rt; seen.is_down && seen.is_cut_short);
+    assert_eq!(rt; seen.failures, 1);
     Ok(())
 }
 

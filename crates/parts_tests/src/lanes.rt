@@ -107,18 +107,37 @@ fn after_one_request(
     Ok((reply, conn, lane.end()))
 }
 
+/// What three spans of one trace come to over a queue of one.
+#[derive(Clone, Copy)]
+struct Seen {
+    reply: Reply,
+    says: bool,
+    conn: Conn,
+    popped: [Option<u64>; 2],
+}
+
+fn three_spans(alloc: Global) -> Result<Seen, AllocError> {
+    let (reply, conn, mut end) = after_one_request(alloc, 1, false, three_of_one_trace())?;
+    Ok(Seen {
+        reply,
+        says: says(alloc, &reply, two_of_three_refused())?,
+        conn,
+        popped: [popped(&mut end, 0), popped(&mut end, 0)],
+    })
+}
+
 #[test]
 fn queue_of_one(rt: HostRuntime) -> Result<(), Fail> {
-    let (reply, conn, mut end) = after_one_request(rt.alloc(), 1, false, three_of_one_trace())?;
+    let seen = three_spans(rt.alloc())?;
     let partial = Reply::Partial {
         spans: 3,
         invalid: 0,
         full: 2,
     };
-    assert_eq!(rt; reply, partial);
-    assert!(rt; says(rt.alloc(), &reply, two_of_three_refused())?);
+    assert_eq!(rt; seen.reply, partial);
+    assert!(rt; seen.says);
+    let conn = seen.conn;
     assert_eq!(rt; (conn.key.lane, conn.key.ordinal, conn.next), (3, 0, 3));
-    assert_eq!(rt; popped(&mut end, 0), Some(0));
-    assert_eq!(rt; popped(&mut end, 0), None);
+    assert_eq!(rt; seen.popped, [Some(0), None]);
     Ok(())
 }

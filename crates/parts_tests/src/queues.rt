@@ -1,5 +1,8 @@
 //! A queue of two and one of the greatest capacity in one thread, and the open gate.
+ghost use Rattle.std.specs.Prelude.{◌<◌};
+
 use lane_queue::{Gate, ListPort, OpenGate, Place, Port, popped_then_held_is_pushed};
+use std::alloc::{AllocError, Global};
 use std::cell::Cell;
 use std::test::Fail;
 
@@ -8,33 +11,60 @@ fn pushed<P: Port<u64>>(port: &mut P, item: u64) -> Option<u64> {
     port.try_push(item).err()
 }
 
+/// What a queue of two answers to a pop, three pushes, a pop, a push and three pops.
+fn pushed_and_popped(alloc: Global) -> Result<[Option<u64>; 9], AllocError> {
+    let mut port = ListPort::new(alloc, 2)?;
+    Ok([
+        port.pop(),
+        pushed(&mut port, 1),
+        pushed(&mut port, 2),
+        pushed(&mut port, 3),
+        port.pop(),
+        pushed(&mut port, 4),
+        port.pop(),
+        port.pop(),
+        port.pop(),
+    ])
+}
+
 #[test]
 fn queue_of_two(rt: HostRuntime) -> Result<(), Fail> {
-    let mut port = ListPort::new(rt.alloc(), 2)?;
-    assert_eq!(rt; port.pop(), None);
-    for (item, back) in [(1, None), (2, None), (3, Some(3))] {
-        assert_eq!(rt; pushed(&mut port, item), back);
-    }
-    assert_eq!(rt; port.pop(), Some(1));
-    assert_eq!(rt; port.try_push(4), Ok(()));
-    assert_eq!(rt; port.pop(), Some(2));
-    assert_eq!(rt; port.pop(), Some(4));
-    assert_eq!(rt; port.pop(), None);
+    let full = Some(3);
+    let answers = [
+        None,
+        None,
+        None,
+        full,
+        Some(1),
+        None,
+        Some(2),
+        Some(4),
+        None,
+    ];
+    assert_eq!(rt; pushed_and_popped(rt.alloc())?, answers);
     popped_then_held_is_pushed::<u64>();
     Ok(())
 }
 
+/// Whether a queue of this capacity takes just so many items, and gives them in order.
+fn fills(alloc: Global, capacity: usize) -> Result<bool, AllocError>
+    requires { 0 < capacity }
+{
+    let mut port = ListPort::new(alloc, capacity)?;
+    let mut fits = true;
+    for item in 0..capacity as u64 {
+        fits = fits && port.try_push(item).is_ok();
+    }
+    fits = fits && port.try_push(0).is_err();
+    for item in 0..capacity as u64 {
+        fits = fits && port.pop() == Some(item);
+    }
+    Ok(fits && port.pop().is_none())
+}
+
 #[test]
 fn greatest_queue_fills(rt: HostRuntime) -> Result<(), Fail> {
-    let mut port = ListPort::new(rt.alloc(), 65536)?;
-    for item in 0..65536u64 {
-        assert_eq!(rt; port.try_push(item), Ok(()));
-    }
-    assert_eq!(rt; port.try_push(65536), Err(65536));
-    for item in 0..65536u64 {
-        assert_eq!(rt; port.pop(), Some(item));
-    }
-    assert_eq!(rt; port.pop(), None);
+    assert!(rt; fills(rt.alloc(), 65536)?);
     Ok(())
 }
 

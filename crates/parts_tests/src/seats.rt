@@ -159,29 +159,51 @@ fn four_seats_over_seconds(rt: HostRuntime) -> Result<(), Fail> {
     Ok(())
 }
 
+/// Whether a seat, the node and second of an asking and its spans are answered so.
+fn is_answered<'r, R: Wait>(
+    seats: &mut Vec<BudgetSeat<'r, R>>,
+    asking: (usize, u16, u64, u64),
+    granted: bool,
+) -> bool {
+    let (seat, node, second, spans) = asking;
+    match seats.get_mut(seat) {
+        Some(seat) => ask(seat, node, second, spans) == granted,
+        None => false,
+    }
+}
+
+/// The place of the first of these askings that two seats answer otherwise.
+fn first_wrong<R: Threads + Wait + Sync>(
+    rt: &R,
+    alloc: Global,
+    policies: &Policies,
+    askings: &[((usize, u16, u64, u64), bool)],
+) -> Result<Option<usize>, AllocError> {
+    let mut seats = SharedBudget::new(rt, alloc, policies, 2)?;
+    for (place, (asking, granted)) in askings.iter().enumerate() {
+        if !is_answered(&mut seats, *asking, *granted) {
+            return Ok(Some(place));
+        }
+    }
+    Ok(None)
+}
+
 #[test]
 fn nodes_of_two_seats(rt: HostRuntime) -> Result<(), Fail> {
     let alloc = rt.alloc();
     let list = vec![in alloc; rate(alloc, "a", 3)?, rate(alloc, "b", u64::MAX)?]?;
     let policies = Policies::new(alloc, list)?;
-    let mut seats = SharedBudget::new(&rt, alloc, &policies, 2)?;
-    assert!(rt; seats.len() == 2);
-    assert!(rt; seats[0].has_node(1) && !seats[0].has_node(2));
-    for (seat, node, second, spans, granted) in [
-        (0, 0, 5, 2, true),
-        (1, 0, 4, 2, false),
-        (1, 1, 0, u64::MAX, true),
-        (0, 0, 4, 1, true),
-        (1, 0, 6, 3, true),
-        (0, 0, 5, 1, false),
-        (0, 1, 0, 1, false),
-        (0, 1, 1, 1, true),
-    ] {
-        let answer = match seats.get_mut(seat) {
-            Some(seat) => ask(seat, node, second, spans),
-            None => !granted,
-        };
-        assert_eq!(rt; answer, granted, "{spans} in {second}");
-    }
+    let askings = [
+        ((0, 0, 5, 2), true),
+        ((1, 0, 4, 2), false),
+        ((1, 1, 0, u64::MAX), true),
+        ((0, 0, 4, 1), true),
+        ((1, 0, 6, 3), true),
+        ((0, 0, 5, 1), false),
+        ((0, 1, 0, 1), false),
+        ((0, 1, 1, 1), true),
+        ((0, 2, 2, 1), false),
+    ];
+    assert_eq!(rt; first_wrong(&rt, alloc, &policies, &askings)?, None);
     Ok(())
 }

@@ -2,6 +2,7 @@
 ghost use Rattle.std.specs.Prelude.{Some, []};
 
 use span_sink::{LineSink, Sink, SinkFault, WriteSink};
+use std::alloc::Global;
 use std::io;
 use std::io::{ErrorKind, Write};
 use std::test::Fail;
@@ -89,25 +90,50 @@ fn write_of_nothing_is_a_failure(rt: HostRuntime) -> Result<(), Fail> {
     Ok(())
 }
 
-#[test]
-fn lines_end_at_the_first_failure(rt: HostRuntime) -> Result<(), Fail> {
+/// What three lines come to over a writer that takes five bytes, one a write, and what that writer saw.
+#[derive(Clone, Copy)]
+struct Seen {
+    answers: [Result<(), SinkFault>; 3],
+    was_down: bool,
+    is_down: bool,
+    failures: u64,
+    is_cut_short: bool,
+    calls: u32,
+}
+
+fn three_lines(alloc: Global) -> Seen {
     let mut lines = LineSink::new(WriteSink::new(TestWriter {
-        taken: Vec::new(rt.alloc()),
+        taken: Vec::new(alloc),
         interruptions: 0,
         piece: 1,
         room: 5,
         calls: 0,
     }));
-    assert_eq!(rt; lines.hand(b"abc\n"), Ok(()));
-    assert!(rt; !lines.is_down());
-    // One byte is taken, and the next write fails and isn't tried again.
-    assert_eq!(rt; lines.hand(b"de\n"), Err(SinkFault::Failed));
-    assert_eq!(rt; lines.hand(b"f\n"), Err(SinkFault::Down));
-    assert!(rt; lines.is_down());
+    let first = lines.hand(b"abc\n");
+    let was_down = lines.is_down();
+    let answers = [first, lines.hand(b"de\n"), lines.hand(b"f\n")];
+    let is_down = lines.is_down();
     let sink = lines.end();
-    assert_eq!(rt; sink.failures(), 1);
+    let failures = sink.failures();
     let writer = sink.end();
-    assert_eq!(rt; writer.taken.as_slice(), b"abc\nd".as_slice());
-    assert_eq!(rt; writer.calls, 6);
+    Seen {
+        answers,
+        was_down,
+        is_down,
+        failures,
+        is_cut_short: writer.taken.as_slice() == b"abc\nd".as_slice(),
+        calls: writer.calls,
+    }
+}
+
+#[test]
+fn lines_end_at_the_first_failure(rt: HostRuntime) -> Result<(), Fail> {
+    let seen = three_lines(rt.alloc());
+    let failed = Err(SinkFault::Failed);
+    assert_eq!(rt; seen.answers, [Ok(()), failed, Err(SinkFault::Down)]);
+    assert!(rt; !seen.was_down && seen.is_down);
+    // Of the second line one byte is taken, and the next write fails and isn't tried again.
+    assert!(rt; seen.is_cut_short);
+    assert_eq!(rt; (seen.failures, seen.calls), (1, 6));
     Ok(())
 }

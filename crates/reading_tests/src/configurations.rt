@@ -3,13 +3,19 @@ use policy_tree::PolicyFault;
 use std::alloc::Global;
 use std::process::Abort;
 use std::test::Fail;
-use tsc_config::{ConfigFault, read};
+use tsc_config::{Config, ConfigFault, read};
 
 const GOOD: &str =
     "decision_wait_ms = 10000\n[[policies]]\nname = \"errors\"\ntype = \"status_code\"\nstatus_code = { status_codes = [\"ERROR\"] }\n";
 
+/// Compares the fault of a text.
+pub fn compare_text(rt: &impl Abort, alloc: Global, text: &str, fault: Option<ConfigFault>) {
+    let found = read(alloc, text).err();
+    assert_eq!(rt; found, fault, "{text}");
+}
+
 #[test]
-fn faults(rt: HostRuntime) -> Result<(), Fail> {
+fn faults(rt: HostRuntime) {
     let cases = [
         ("", ConfigFault::MissingKey),
         ("lanes =", ConfigFault::NotToml),
@@ -49,10 +55,8 @@ fn faults(rt: HostRuntime) -> Result<(), Fail> {
         ),
     ];
     for (text, fault) in cases {
-        let found = read(rt.alloc(), text).err();
-        assert_eq!(rt; found, Some(fault), "{text}");
+        compare_text(&rt, rt.alloc(), text, Some(fault));
     }
-    Ok(())
 }
 
 /// A policy that samples each trace.
@@ -70,47 +74,6 @@ const NUMBERS: [(&str, u64); 8] = [
     ("tick_ms", 60_000),
 ];
 
-#[test]
-fn ranges(rt: HostRuntime) -> Result<(), Fail> {
-    for (key, greatest) in NUMBERS {
-        let beyond = greatest + 1;
-        let cases = [
-            (format!(in rt.alloc(); "{key} = 1")?, None),
-            (format!(in rt.alloc(); "{key} = {greatest}")?, None),
-            (
-                format!(in rt.alloc(); "{key} = 0")?,
-                Some(ConfigFault::OutOfRange),
-            ),
-            (
-                format!(in rt.alloc(); "{key} = {beyond}")?,
-                Some(ConfigFault::OutOfRange),
-            ),
-            (
-                format!(in rt.alloc(); "{key} = -1")?,
-                Some(ConfigFault::OutOfRange),
-            ),
-            (
-                format!(in rt.alloc(); "{key} = 1.0")?,
-                Some(ConfigFault::WrongType),
-            ),
-            (
-                format!(in rt.alloc(); "{key} = \"1\"")?,
-                Some(ConfigFault::WrongType),
-            ),
-            (
-                format!(in rt.alloc(); "{key} = 1\n{key} = 1")?,
-                Some(ConfigFault::NotToml),
-            ),
-        ];
-        for (line, fault) in cases {
-            let text = format!(in rt.alloc(); "{line}\npolicies = [{ALL}]")?;
-            let found = read(rt.alloc(), text.as_str()).err();
-            assert_eq!(rt; found, fault, "{text}");
-        }
-    }
-    Ok(())
-}
-
 /// Compares the fault of each of these lines, with one policy behind it.
 fn compare(
     rt: &impl Abort,
@@ -119,8 +82,41 @@ fn compare(
 ) -> Result<(), Fail> {
     for (line, fault) in cases {
         let text = format!(in alloc; "{line}\npolicies = [{ALL}]")?;
-        let found = read(alloc, text.as_str()).err();
-        assert_eq!(rt; found, *fault, "{text}");
+        compare_text(rt, alloc, text.as_str(), *fault);
+    }
+    Ok(())
+}
+
+/// Compares the faults of numbers at the bounds of a key.
+fn compare_bounds(rt: &impl Abort, alloc: Global, key: &str, greatest: u64) -> Result<(), Fail> {
+    let out = Some(ConfigFault::OutOfRange);
+    let beyond = greatest.saturating_add(1);
+    for (number, fault) in [(1, None), (greatest, None), (0, out), (beyond, out)] {
+        let line = format!(in alloc; "{key} = {number}")?;
+        compare(rt, alloc, &[(line.as_str(), fault)])?;
+    }
+    Ok(())
+}
+
+/// Compares the faults of other values of a key, and of a key that stands twice.
+fn compare_values(rt: &impl Abort, alloc: Global, key: &str) -> Result<(), Fail> {
+    for (value, fault) in [
+        ("-1", ConfigFault::OutOfRange),
+        ("1.0", ConfigFault::WrongType),
+        ("\"1\"", ConfigFault::WrongType),
+    ] {
+        let line = format!(in alloc; "{key} = {value}")?;
+        compare(rt, alloc, &[(line.as_str(), Some(fault))])?;
+    }
+    let twice = format!(in alloc; "{key} = 1\n{key} = 1")?;
+    compare(rt, alloc, &[(twice.as_str(), Some(ConfigFault::NotToml))])
+}
+
+#[test]
+fn ranges(rt: HostRuntime) -> Result<(), Fail> {
+    for (key, greatest) in NUMBERS {
+        compare_bounds(&rt, rt.alloc(), key, greatest)?;
+        compare_values(&rt, rt.alloc(), key)?;
     }
     Ok(())
 }
@@ -192,29 +188,52 @@ fn least_of_two_faults(rt: HostRuntime) -> Result<(), Fail> {
             } else {
                 fault
             };
-            let found = read(rt.alloc(), text.as_str()).err();
-            assert_eq!(rt; found, Some(least), "{text}");
+            compare_text(&rt, rt.alloc(), text.as_str(), Some(least));
         }
     }
     Ok(())
 }
 
+/// The numbers of a configuration: the two waits, the traces and the two caches; lanes, shards, the two queues, the batch
+/// and the tick.
+fn numbers_of(config: &Config) -> [u64; 11] {
+    [
+        config.decision_wait,
+        config.root_wait,
+        config.num_traces as u64,
+        config.sampled_cache_size as u64,
+        config.non_sampled_cache_size as u64,
+        config.lanes as u64,
+        config.shards as u64,
+        config.queue_capacity as u64,
+        config.export_capacity as u64,
+        config.send_batch_size as u64,
+        config.tick,
+    ]
+}
+
+/// The numbers of a configuration, how many policies it has, and whether it has this address.
+fn read_numbers(
+    alloc: Global,
+    text: &str,
+    address: &str,
+) -> Result<([u64; 11], usize, bool), Fail> {
+    let config = read(alloc, text)?;
+    let policies = config.policies.as_slice().len();
+    Ok((
+        numbers_of(&config),
+        policies,
+        config.listen.as_str() == address,
+    ))
+}
+
 #[test]
 fn defaults(rt: HostRuntime) -> Result<(), Fail> {
-    let config = read(rt.alloc(), GOOD)?;
-    assert_eq!(rt; config.decision_wait, 10_000);
-    assert_eq!(rt; config.root_wait, 0);
-    assert_eq!(rt; config.policies.as_slice().len(), 1);
-    assert_eq!(rt; config.num_traces, 50_000);
-    assert_eq!(rt; config.sampled_cache_size, 0);
-    assert_eq!(rt; config.non_sampled_cache_size, 0);
-    assert_eq!(rt; config.lanes, 1);
-    assert_eq!(rt; config.shards, 1);
-    assert_eq!(rt; config.queue_capacity, 1024);
-    assert_eq!(rt; config.export_capacity, 1024);
-    assert_eq!(rt; config.send_batch_size, 512);
-    assert_eq!(rt; config.tick, 1000);
-    assert_eq!(rt; config.listen.as_str(), "127.0.0.1:4318");
+    let (numbers, policies, is_local) = read_numbers(rt.alloc(), GOOD, "127.0.0.1:4318")?;
+    let wanted = [10_000, 0, 50_000, 0, 0, 1, 1, 1024, 1024, 512, 1000];
+    assert_eq!(rt; numbers, wanted);
+    assert_eq!(rt; policies, 1);
+    assert!(rt; is_local);
     Ok(())
 }
 
@@ -237,21 +256,27 @@ non_sampled_cache_size = 3
 
 #[test]
 fn every_key(rt: HostRuntime) -> Result<(), Fail> {
-    let config = read(rt.alloc(), WHOLE)?;
-    assert_eq!(rt; config.decision_wait, 30_000);
-    assert_eq!(rt; config.root_wait, 3_600_000);
-    assert_eq!(rt; config.num_traces, 15);
-    assert_eq!(rt; config.sampled_cache_size, 1_000_000);
-    assert_eq!(rt; config.non_sampled_cache_size, 3);
-    assert_eq!(rt; config.lanes, 64);
-    assert_eq!(rt; config.shards, 4);
-    assert_eq!(rt; config.queue_capacity, 2);
-    assert_eq!(rt; config.export_capacity, 3);
-    assert_eq!(rt; config.send_batch_size, 8192);
-    assert_eq!(rt; config.tick, 60_000);
-    assert_eq!(rt; config.listen.as_str(), "0.0.0.0:80");
-    assert_eq!(rt; config.traces_per_shard(), 3);
-    assert_eq!(rt; config.sampled_cache_per_shard(), 250_000);
-    assert_eq!(rt; config.non_sampled_cache_per_shard(), 0);
+    let (numbers, _, is_read) = read_numbers(rt.alloc(), WHOLE, "0.0.0.0:80")?;
+    let wanted = [
+        30_000, 3_600_000, 15, 1_000_000, 3, 64, 4, 2, 3, 8192, 60_000,
+    ];
+    assert_eq!(rt; numbers, wanted);
+    assert!(rt; is_read);
+    Ok(())
+}
+
+/// A shard's traces, and those that its caches remember.
+fn numbers_of_a_shard(alloc: Global, text: &str) -> Result<[usize; 3], Fail> {
+    let config = read(alloc, text)?;
+    Ok([
+        config.traces_per_shard(),
+        config.sampled_cache_per_shard(),
+        config.non_sampled_cache_per_shard(),
+    ])
+}
+
+#[test]
+fn shares_of_a_shard(rt: HostRuntime) -> Result<(), Fail> {
+    assert_eq!(rt; numbers_of_a_shard(rt.alloc(), WHOLE)?, [3, 250_000, 0]);
     Ok(())
 }

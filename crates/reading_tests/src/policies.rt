@@ -61,8 +61,7 @@ fn fault_of(alloc: Global, kind: PolicyKind) -> Result<Option<u8>, AllocError> {
 }
 
 #[test]
-fn policy_bounds(rt: HostRuntime) -> Result<(), Fail> {
-    let alloc = rt.alloc();
+fn bounds_of_latencies_and_counts(rt: HostRuntime) -> Result<(), Fail> {
     for (least, most, of_latency, of_count) in [
         (500, 500, Some(5), None),
         (500, 499, Some(5), Some(5)),
@@ -73,47 +72,48 @@ fn policy_bounds(rt: HostRuntime) -> Result<(), Fail> {
             threshold_ms: least,
             upper_threshold_ms: most,
         };
+        let found = fault_of(rt.alloc(), latency)?;
+        assert_eq!(rt; found, of_latency, "latency {least} to {most}");
         let count = PolicyKind::SpanCount {
             min_spans: least,
             max_spans: most,
         };
-        assert_eq!(rt;
-            fault_of(alloc, latency)?,
-            of_latency,
-            "latency {least} to {most}"
-        );
-        assert_eq!(rt;
-            fault_of(alloc, count)?,
-            of_count,
-            "count {least} to {most}"
-        );
+        let found = fault_of(rt.alloc(), count)?;
+        assert_eq!(rt; found, of_count, "count {least} to {most}");
     }
-    let attributes = [
-        (
-            Wanted::NumberWithin {
-                min_value: 1,
-                max_value: 0,
-            },
-            Some(5),
-        ),
-        (
-            Wanted::NumberWithin {
-                min_value: -1,
-                max_value: -1,
-            },
-            None,
-        ),
-        (Wanted::StringAmong(List::new(alloc)), Some(6)),
-        (Wanted::Boolean(false), None),
+    Ok(())
+}
+
+/// The number of the fault of a policy that wants such an attribute.
+fn attribute_fault(alloc: Global, wanted: Wanted) -> Result<Option<u8>, AllocError> {
+    let kind = PolicyKind::Attribute {
+        key: Text::new(alloc),
+        wanted,
+        invert_match: false,
+    };
+    fault_of(alloc, kind)
+}
+
+/// The same of one that wants a number within these bounds.
+fn range_fault(alloc: Global, min_value: i64, max_value: i64) -> Result<Option<u8>, AllocError> {
+    let wanted = Wanted::NumberWithin {
+        min_value,
+        max_value,
+    };
+    attribute_fault(alloc, wanted)
+}
+
+#[test]
+fn bounds_of_attributes(rt: HostRuntime) -> Result<(), Fail> {
+    let alloc = rt.alloc();
+    let texts = Wanted::StringAmong(List::new(alloc));
+    let found = [
+        range_fault(alloc, 1, 0)?,
+        range_fault(alloc, -1, -1)?,
+        attribute_fault(alloc, Wanted::Boolean(false))?,
+        attribute_fault(alloc, texts)?,
     ];
-    for (wanted, number) in attributes {
-        let kind = PolicyKind::Attribute {
-            key: Text::new(alloc),
-            wanted,
-            invert_match: false,
-        };
-        assert_eq!(rt; fault_of(alloc, kind)?, number);
-    }
+    assert_eq!(rt; found, [Some(5), None, None, Some(6)]);
     Ok(())
 }
 
@@ -141,44 +141,76 @@ fn nested(alloc: Global, levels: u32, inner: PolicyKind) -> Result<PolicyKind, A
     Ok(kind)
 }
 
+/// The number of the fault of a kind inside so many `and`s.
+fn nested_fault(alloc: Global, levels: u32, inner: PolicyKind) -> Result<Option<u8>, AllocError> {
+    fault_of(alloc, nested(alloc, levels, inner)?)
+}
+
+/// The number of the fault of an `and` of policies on so many status codes.
+fn list_fault(
+    alloc: Global,
+    count: u32,
+    named: u32,
+    codes: usize,
+) -> Result<Option<u8>, AllocError> {
+    fault_of(alloc, and_of(list_of(alloc, count, named, codes)?))
+}
+
 #[test]
-fn policy_limits_of_nested_lists(rt: HostRuntime) -> Result<(), Fail> {
+fn lists_in_lists(rt: HostRuntime) -> Result<(), Fail> {
     let alloc = rt.alloc();
-    let empty = || and_of(Vec::new(alloc));
     for (levels, number) in [(7, None), (8, Some(2))] {
-        let kind = nested(alloc, levels, PolicyKind::AlwaysSample)?;
-        assert_eq!(rt; fault_of(alloc, kind)?, number, "{levels} levels");
+        let found = nested_fault(alloc, levels, PolicyKind::AlwaysSample)?;
+        assert_eq!(rt; found, number, "{levels} levels");
     }
     for levels in [0, 1, 8, 20] {
-        assert_eq!(rt; fault_of(alloc, nested(alloc, levels, empty())?)?, Some(1));
+        let found = nested_fault(alloc, levels, and_of(Vec::new(alloc)))?;
+        assert_eq!(rt; found, Some(1), "{levels} levels");
     }
-    for (count, number) in [(63, None), (64, Some(3))] {
-        let kind = and_of(list_of(alloc, count, count, 1)?);
-        assert_eq!(rt; fault_of(alloc, kind)?, number, "{count} parts");
+    for (count, named, codes, number) in [
+        (63, 63, 1, None),
+        (64, 64, 1, Some(3)),
+        (2, 0, 0, Some(4)),
+    ] {
+        let found = list_fault(alloc, count, named, codes)?;
+        assert_eq!(rt; found, number, "{count} parts");
     }
-    assert_eq!(rt; fault_of(alloc, and_of(list_of(alloc, 2, 0, 0)?))?, Some(4));
+    Ok(())
+}
+
+#[test]
+fn faults_deep_inside(rt: HostRuntime) -> Result<(), Fail> {
+    let alloc = rt.alloc();
     let crossed = PolicyKind::SpanCount {
         min_spans: 2,
         max_spans: 1,
     };
-    assert_eq!(rt; fault_of(alloc, nested(alloc, 3, crossed)?)?, Some(5));
     let no_codes = PolicyKind::StatusCode {
         codes: List::new(alloc),
     };
-    assert_eq!(rt; fault_of(alloc, nested(alloc, 3, no_codes)?)?, Some(6));
+    assert_eq!(rt; nested_fault(alloc, 3, no_codes)?, Some(6));
+    assert_eq!(rt; nested_fault(alloc, 3, crossed)?, Some(5));
     Ok(())
+}
+
+/// An `and` of (always, a limit of 3).
+fn always_and_rate(alloc: Global) -> Result<PolicyKind, AllocError> {
+    let always = named(alloc, "always", PolicyKind::AlwaysSample)?;
+    let mut parts = vec![in alloc; always]?;
+    parts.push(named(alloc, "rate", rate(3))?)?;
+    Ok(and_of(parts))
+}
+
+fn rate(spans_per_second: u64) -> PolicyKind {
+    PolicyKind::RateLimiting { spans_per_second }
 }
 
 /// `and` of (always, a limit of 3), a limit of 4, and an `and` of an `and` of a limit of 5.
 fn limited(alloc: Global) -> Result<Vec<Policy>, AllocError> {
-    let rate = |spans_per_second: u64| PolicyKind::RateLimiting { spans_per_second };
-    let always = named(alloc, "always", PolicyKind::AlwaysSample)?;
-    let first = and_of(vec![in alloc; always, named(alloc, "rate", rate(3))?]?);
-    Ok(vec![in alloc;
-        named(alloc, "first", first)?,
-        named(alloc, "rate", rate(4))?,
-        named(alloc, "last", nested(alloc, 2, rate(5))?)?,
-    ]?)
+    let mut list = vec![in alloc; named(alloc, "first", always_and_rate(alloc)?)?]?;
+    list.push(named(alloc, "rate", rate(4))?)?;
+    list.push(named(alloc, "last", nested(alloc, 2, rate(5))?)?)?;
+    Ok(list)
 }
 
 #[test]

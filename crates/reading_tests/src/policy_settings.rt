@@ -1,8 +1,9 @@
 //! Policies in a configuration: the settings of each type at their bounds, and how deep and how many.
+use crate::configurations::compare_text;
 use policy_tree::PolicyFault;
 use std::alloc::Global;
 use std::test::Fail;
-use tsc_config::{ConfigFault, read};
+use tsc_config::ConfigFault;
 
 /// The settings of a policy, and the fault of a text of that policy alone.
 const SETTINGS: [(&str, &str, Option<ConfigFault>); 65] = [
@@ -267,8 +268,7 @@ fn settings_of_each_type(rt: HostRuntime) -> Result<(), Fail> {
         let text = format!(in rt.alloc();
             "policies = [{{ name = \"a\", type = \"{kind}\", {kind} = {{ {settings} }} }}]"
         )?;
-        let found = read(rt.alloc(), text.as_str()).err();
-        assert_eq!(rt; found, fault, "{text}");
+        compare_text(&rt, rt.alloc(), text.as_str(), fault);
     }
     Ok(())
 }
@@ -286,30 +286,32 @@ fn nested(alloc: Global, depth: usize) -> Result<String, Fail> {
     Ok(text)
 }
 
-#[test]
-fn depth_and_number_of_policies(rt: HostRuntime) -> Result<(), Fail> {
-    for (depth, fault) in [
-        (1, None),
-        (8, None),
-        (9, Some(ConfigFault::Policy(PolicyFault::TooDeep))),
-    ] {
-        let text = nested(rt.alloc(), depth)?;
-        let found = read(rt.alloc(), text.as_str()).err();
-        assert_eq!(rt; found, fault, "{text}");
+/// A text of so many policies, one after the other.
+fn many(alloc: Global, number: u64) -> Result<String, Fail> {
+    let mut text = String::new(alloc);
+    for place in 0..number {
+        let policy = format!(in alloc;
+            "[[policies]]\nname = \"{place}\"\ntype = \"always_sample\"\n"
+        )?;
+        text.push_str(policy.as_str())?;
     }
-    for (number, fault) in [
-        (64, None),
-        (65, Some(ConfigFault::Policy(PolicyFault::TooMany))),
-    ] {
-        let mut text = String::new(rt.alloc());
-        for place in 0..number {
-            let policy = format!(in rt.alloc();
-                "[[policies]]\nname = \"{place}\"\ntype = \"always_sample\"\n"
-            )?;
-            text.push_str(policy.as_str())?;
-        }
-        let found = read(rt.alloc(), text.as_str()).err();
-        assert_eq!(rt; found, fault, "{number}");
+    Ok(text)
+}
+
+#[test]
+fn depth_of_policies(rt: HostRuntime) -> Result<(), Fail> {
+    let too_deep = ConfigFault::Policy(PolicyFault::TooDeep);
+    for (depth, fault) in [(1, None), (8, None), (9, Some(too_deep))] {
+        compare_text(&rt, rt.alloc(), nested(rt.alloc(), depth)?.as_str(), fault);
+    }
+    Ok(())
+}
+
+#[test]
+fn number_of_policies(rt: HostRuntime) -> Result<(), Fail> {
+    let too_many = ConfigFault::Policy(PolicyFault::TooMany);
+    for (number, fault) in [(64, None), (65, Some(too_many))] {
+        compare_text(&rt, rt.alloc(), many(rt.alloc(), number)?.as_str(), fault);
     }
     Ok(())
 }

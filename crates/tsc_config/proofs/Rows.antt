@@ -1,13 +1,15 @@
 -- The numbers of a configuration's settings, computed on the definitions: each key's default, its range, and what lies just outside.
 -- No clause needs them: they show what the words of `Values` and `Faults` say, which code and contracts follow. The table below repeats no definition.
-use Rattle.std.specs.Prelude.{◌≡◌, ℕ, ℤ, pos, negsuc, List, [], ◌∷◌, map, codes, Option, Some, None, refl}
+use Rattle.std.specs.Prelude.{◌≡◌, ℕ, ℤ, pos, negsuc, Bool, true, false, List, [], ◌∷◌, map, codes, Option, Some, None, refl}
 use Rattle.toml.specs.Data.{integer, table, Members, no_members, member}
-use Rattle.tsc_config.specs.Keys.{is_key}
-use Rattle.tsc_config.specs.Faults.{least, numbers_fault, sizes_fault, cache_fault}
+use Rattle.tsc_config.specs.Keys.{is_key, is_setting}
+use Rattle.tsc_config.specs.Faults.{least, number_of, numbers_fault, sizes_fault, cache_fault}
+use Rattle.tsc_config.specs.declared.kinds.PolicyType.{PolicyType}
+use Rattle.tsc_config.specs.declared.kinds.PolicyType.TheVariants as type_is
 use Rattle.tsc_config.specs.Values.{config_of}
 use Rattle.tsc_config.specs.declared.config.Config.{Config}
 use Rattle.tsc_config.specs.declared.fault.ConfigFault.{ConfigFault}
-use Rattle.tsc_config.specs.declared.fault.ConfigFault.TheVariants.{OutOfRange}
+use Rattle.tsc_config.specs.declared.fault.ConfigFault.TheVariants.{NotToml, UnknownKey, MissingKey, WrongType, OutOfRange, TooFewTraces, NoMemory}
 
 -- a key, the least number and the greatest that it may have, and the one below the least
 record Range : Type 0 where
@@ -124,3 +126,46 @@ own_numbers =
 
 own_values : numbers_of (config_of own_numbers) ≡ 2 ∷ 3 ∷ 5 ∷ 7 ∷ 11 ∷ 13 ∷ 17 ∷ 19 ∷ 23 ∷ 29 ∷ 31 ∷ []
 own_values = refl
+
+-- ---- settings of a policy
+
+-- which of these are settings of each type
+abbrev settings : PolicyType → List (List ℕ) → List Bool
+settings kind keys = map (is_setting kind) keys
+
+latency_settings : settings type_is.Latency (codes "threshold_ms" ∷ codes "upper_threshold_ms" ∷ codes "threshold" ∷ []) ≡ true ∷ true ∷ false ∷ []
+unfolding is_setting
+latency_settings = refl
+
+status_code_settings : settings type_is.StatusCode (codes "status_codes" ∷ codes "codes" ∷ []) ≡ true ∷ false ∷ []
+unfolding is_setting
+status_code_settings = refl
+
+string_settings : settings type_is.StringAttribute (codes "key" ∷ codes "values" ∷ codes "invert_match" ∷ codes "value" ∷ []) ≡ true ∷ true ∷ true ∷ false ∷ []
+unfolding is_setting
+string_settings = refl
+
+numeric_settings : settings type_is.NumericAttribute (codes "key" ∷ codes "min_value" ∷ codes "max_value" ∷ codes "invert_match" ∷ codes "value" ∷ []) ≡ true ∷ true ∷ true ∷ true ∷ false ∷ []
+unfolding is_setting
+numeric_settings = refl
+
+boolean_settings : settings type_is.BooleanAttribute (codes "key" ∷ codes "value" ∷ codes "invert_match" ∷ codes "values" ∷ []) ≡ true ∷ true ∷ true ∷ false ∷ []
+unfolding is_setting
+boolean_settings = refl
+
+span_count_settings : settings type_is.SpanCount (codes "min_spans" ∷ codes "max_spans" ∷ codes "spans" ∷ []) ≡ true ∷ true ∷ false ∷ []
+unfolding is_setting
+span_count_settings = refl
+
+rate_limiting_settings : settings type_is.RateLimiting (codes "spans_per_second" ∷ codes "limit" ∷ []) ≡ true ∷ false ∷ []
+unfolding is_setting
+rate_limiting_settings = refl
+
+and_settings : settings type_is.And (codes "and_sub_policy" ∷ codes "policies" ∷ []) ≡ true ∷ false ∷ []
+unfolding is_setting
+and_settings = refl
+
+-- ---- the numbers of the faults
+
+fault_numbers : map number_of (NotToml ∷ UnknownKey ∷ MissingKey ∷ WrongType ∷ OutOfRange ∷ TooFewTraces ∷ NoMemory ∷ []) ≡ 1 ∷ 2 ∷ 3 ∷ 4 ∷ 5 ∷ 6 ∷ 8 ∷ []
+fault_numbers = refl
