@@ -109,11 +109,11 @@ granted_or_not = refl
 
 -- ---- what a leaf looks at
 
-abbrev is_true : List KeyValue → Arrival
-is_true own = arrival 0 0 0 own []
+abbrev with_own : List KeyValue → Arrival
+with_own own = arrival 0 0 0 own []
 
 -- `env` is to be true: it is, it is not, and another key is
-pub keys_of_attributes : map (λ (own : List KeyValue). leaf_answer (attribute (101 ∷ 110 ∷ 118 ∷ []) (truth_of true) false) (is_true own ∷ [])) (env (Truth true) ∷ env (Truth false) ∷ (record { key = 101 ∷ []; value = Truth true } ∷ []) ∷ []) ≡ sample ∷ not_sample ∷ not_sample ∷ []
+pub keys_of_attributes : map (λ (own : List KeyValue). leaf_answer (attribute (101 ∷ 110 ∷ 118 ∷ []) (truth_of true) false) (with_own own ∷ [])) (env (Truth true) ∷ env (Truth false) ∷ (record { key = 101 ∷ []; value = Truth true } ∷ []) ∷ []) ≡ sample ∷ not_sample ∷ not_sample ∷ []
 keys_of_attributes = refl
 
 -- a status of 2, of 0 and of 1, where 2 or 0 is looked for; spans whose kind is 0
