@@ -4,7 +4,7 @@ ghost use Rattle.policy_tree.specs.Tree.{limiters};
 ghost use Rattle.policy_tree.specs.Meaning.{meaning};
 ghost use Rattle.policy_eval.specs.Meaning.{knows};
 ghost use Rattle.rate_budget.specs.Budget.{has_node};
-ghost use Rattle.shard_core.specs.Taking.{has_ids};
+ghost use Rattle.journal_theory.specs.Journal.{has_ids};
 
 use crate::spans::{ids_in, policies_of, span_with, trace_of};
 use otlp_types::{Item, TryClone};

@@ -1,6 +1,6 @@
 //! Random items through a shard, beside the plain program that looks back over them.
 ghost use Rattle.std.specs.Prelude.{◌≡◌, ◌<◌, IfOk, true};
-ghost use Rattle.shard_core.specs.Taking.{has_ids};
+ghost use Rattle.journal_theory.specs.Journal.{has_ids};
 
 use crate::limited_shard::{LimitedShard, Numbers};
 use crate::looking_back::{Entry, ITEMS, Kind, Past, TRACES, WAIT, is_root};

@@ -1,6 +1,6 @@
 //! A shard with ample memory: the first path, and each kind of policy.
 ghost use Rattle.std.specs.Prelude.{◌≡◌, ◌<◌, true};
-ghost use Rattle.shard_core.specs.Taking.{has_ids};
+ghost use Rattle.journal_theory.specs.Journal.{has_ids};
 
 use crate::limited_shard::{LimitedShard, Numbers};
 use crate::spans::{Event, ids_in, item_of, policies_on, span_with, trace_of};

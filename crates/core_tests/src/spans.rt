@@ -1,6 +1,6 @@
 //! Lists of policies, and what a shard takes, for the tests.
 ghost use Rattle.std.specs.Prelude.{◌≡◌, IfOk, true};
-ghost use Rattle.shard_core.specs.Taking.{has_ids};
+ghost use Rattle.journal_theory.specs.Journal.{has_ids};
 
 use otlp_types::{Ids, Item, List, Text};
 use plain_spans::{plain_record, received};

@@ -1,6 +1,6 @@
 //! A worked run, and random runs beside a plain simulation of the table of steps.
 ghost use Rattle.std.specs.Prelude.{◌<◌, IfOk};
-ghost use Rattle.span_world.specs.World.{KeepsATrace};
+ghost use Rattle.world_theory.specs.World.{KeepsATrace};
 ghost use Rattle.span_world.specs.Core.{config_of};
 
 use crate::choices::{Choice, Sent, choose};

@@ -7,7 +7,7 @@ use Rattle.otlp_types.specs.declared.arrival.Item.{Item}
 use Rattle.lane_queue.specs.Ends.{EndState}
 use Rattle.lane_seq.specs.Pushes.{LaneState}
 use Rattle.lane_worker.specs.Serving.{Connection}
-use Rattle.shard_core.specs.Journal.{Settings}
+use Rattle.journal_theory.specs.Journal.{Settings}
 use Rattle.run_weave.specs.Jobs.{LaneDid, ShardDid}
 use Rattle.run_weave.specs.Workers.{zeros, LaneOut, ShardIn, ShardOut, LanesDid, ShardsDid}
 use Rattle.pipeline.specs.Made.{NumberedFrom}

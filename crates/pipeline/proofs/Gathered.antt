@@ -3,7 +3,7 @@
 use Rattle.std.proofs.Common.{◌≡◌, ◌||◌, Bool, false, List, [], ◌∷◌, ◌++◌, map, All, sym, ap, ◌∙◌, append_assoc}
 use Rattle.std.proofs.lemmas.List.{map-append}
 use Rattle.std.proofs.lemmas.List.Elements.{All-push}
-use Rattle.span_world.proofs.Steps.{or_both}
+use Rattle.world_theory.proofs.Steps.{or_both}
 
 pub one_more : {X Y : Type 0} (v : X → Y) (old new before : List Y) (yielded : List X) (x : X) → new ≡ old ++ v x ∷ [] → old ≡ before ++ map v yielded → new ≡ before ++ map v (yielded ++ x ∷ [])
 one_more v old new before yielded x pushed e = pushed ∙ (ap (λ (z : List _). z ++ v x ∷ []) e ∙ (append_assoc before (map v yielded) (v x ∷ []) ∙ ap (λ (z : List _). before ++ z) (sym (map-append v yielded (x ∷ [])))))

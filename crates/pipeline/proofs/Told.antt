@@ -12,7 +12,7 @@ use Rattle.drop_ledger.specs.Places.{place_of}
 use Rattle.lane_worker.specs.Serving.{Connection}
 use Rattle.span_exporter.specs.Exports.{ExporterState}
 use Rattle.span_sink.specs.LineSinks.{LineSinkState, up_state, down_state}
-use Rattle.span_world.specs.World.{KeepsATrace, Config as CoreConfig}
+use Rattle.world_theory.specs.World.{KeepsATrace, Config as CoreConfig}
 use Rattle.span_weave.proofs.Headlines.{woven_headline}
 use Rattle.tsc_config.specs.declared.config.Config.{Config}
 use Rattle.run_weave.specs.Workers.{NoneFull, parts_of, ReportsAll}

@@ -11,7 +11,7 @@ use Rattle.lane_queue.specs.Ends.{EndState, ReceiverState, queues, AreTied, HasH
 use Rattle.lane_worker.specs.Serving.{Connection}
 use Rattle.policy_tree.specs.declared.limiter_node.LimiterNode.{LimiterNode}
 use Rattle.queue_grid.specs.Grid.{IsTiedGrid, HaveHistories}
-use Rattle.shard_core.specs.Journal.{Settings}
+use Rattle.journal_theory.specs.Journal.{Settings}
 use Rattle.shared_budget.specs.Seats.{Stand}
 use Rattle.shared_budget.specs.Budget.{AreOfOneBudget, NewSeatsAreOfOne, AskingKeepsCells, SameCellsSuffice, HaveOneHistoryEach}
 use Rattle.run_weave.specs.Jobs.{TickerDid, ExporterDid}

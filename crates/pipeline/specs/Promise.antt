@@ -8,7 +8,7 @@ use Rattle.policy_tree.specs.Meaning.{meaning}
 use Rattle.policy_tree.specs.Tree.{limiters}
 use Rattle.span_exporter.specs.Exports.{ExporterState}
 use Rattle.span_sink.specs.LineSinks.{LineSinkState, up_state, down_state}
-use Rattle.span_world.specs.World.{Config as CoreConfig, settings_for}
+use Rattle.world_theory.specs.World.{Config as CoreConfig, settings_for}
 use Rattle.span_weave.specs.Threads.{Threads, Export}
 use Rattle.span_weave.specs.Woven.{HoldsOfThreads}
 use Rattle.tsc_config.specs.declared.config.Config.{Config}

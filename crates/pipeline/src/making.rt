@@ -8,7 +8,7 @@ ghost use Rattle.policy_eval.specs.Meaning.{knows};
 ghost use Rattle.queue_grid.specs.Grid.{HasRoom};
 ghost use Rattle.shard_core.specs.Held.{StandsFor, has_due, is_finished, settings};
 ghost use Rattle.shared_budget.specs.Seats.{has_node};
-ghost use Rattle.span_world.specs.World.{settings_for};
+ghost use Rattle.world_theory.specs.World.{settings_for};
 ghost use Rattle.tsc_config.specs.declared.config.Config.{Config};
 ghost use Rattle.pipeline.specs.Made.{NumberedFrom, HasEnds};
 ghost use Rattle.pipeline.specs.Promise.{core_of, nodes_of};

@@ -18,8 +18,8 @@ use Rattle.drop_ledger.specs.Places.{place_of, Gains}
 use Rattle.lane_queue.specs.Ends.{EndState, ReceiverState, HasHistoryAt}
 use Rattle.lane_queue.specs.Merges.{of}
 use Rattle.lane_queue.proofs.Steps.{popped_then_held}
-use Rattle.shard_core.specs.Fate.{DroppedSpan, counts, under}
-use Rattle.shard_core.proofs.Counted.{under_append, under_counts}
+use Rattle.journal_theory.specs.Fate.{DroppedSpan, counts, under}
+use Rattle.journal_theory.proofs.Counted.{under_append, under_counts}
 use Rattle.shard_worker.proofs.Counting.{same_place}
 use Rattle.span_batch.specs.Batches.{records_in, IsLineOf}
 use Rattle.span_sink.specs.Hands.{Handing, StopsWithin, handed_lines, TookLines}
@@ -30,7 +30,7 @@ use Rattle.span_exporter.specs.Exports.{ExporterState}
 use Rattle.span_exporter.specs.Calls.{ExporterCall, pulled, flushed, noted, FlushedBatch, batches_flushed, AnswersFor, CallsLead, CallsHand, FlushHands}
 use Rattle.span_exporter.specs.Work.{Works, NotesNothing, calls_of, shipments_in, counted_by, counted_in as counted_in_batches}
 use Rattle.span_exporter.proofs.Keeping.{sink_takes_lines}
-use Rattle.span_world.specs.World.{Config}
+use Rattle.world_theory.specs.World.{Config}
 use Rattle.span_weave.specs.Threads.{Act, pulls, Export, new_export, after_acts}
 use Rattle.span_weave.specs.Popped.{spans_popped}
 use Rattle.span_weave.specs.Calls.{handed_by, counted_by as dropped_by, handed_in, counted_in, export_of, ActsOf}
@@ -41,7 +41,7 @@ use Rattle.run_weave.specs.Jobs.{ExporterDid, counting}
 use Rattle.run_weave.specs.Ran.{AreLinesOf, Cut, Wrote}
 use Rattle.run_weave.specs.Workers.{zeros, ExporterOut}
 use Rattle.run_weave.proofs.Places.{chosen, each_of_all}
-use Rattle.shard_core.proofs.ListFacts.{Each}
+use Rattle.journal_theory.proofs.ListFacts.{Each}
 use Rattle.span_sink.specs.declared.sink.SinkFault.TheVariants.{Failed}
 
 -- ---- what the exporter counts

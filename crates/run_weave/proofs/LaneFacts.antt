@@ -13,9 +13,9 @@ use Rattle.drop_ledger.specs.declared.count.Count.TheVariants.{Received, Handed,
 use Rattle.span_ids.specs.declared.outcome.Reason.TheVariants.{InvalidId, QueueFull, NoMemory, Evicted, NotSampled, LateNotSampled, ExporterDown}
 use Rattle.lane_queue.specs.Ends.{EndState, IsNew, with_item}
 use Rattle.lane_worker.specs.Serving.{Connection, LaneAt, lane_at, ServesAll, with_end}
-use Rattle.shard_core.proofs.ListFacts.{Each}
-use Rattle.span_world.proofs.Routing.{some_read}
-use Rattle.span_world.specs.World.{goes_to}
+use Rattle.journal_theory.proofs.ListFacts.{Each}
+use Rattle.world_theory.proofs.Routing.{some_read}
+use Rattle.world_theory.specs.World.{goes_to}
 use Rattle.span_weave.specs.Threads.{Try, AreNumbered, span_of, pushed_in, refused_in}
 use Rattle.span_weave.specs.Woven.{sum_below}
 use Rattle.span_weave.specs.Pushes.{FullLate, TriesOf}

@@ -33,9 +33,9 @@ use Rattle.http_lane.specs.declared.answer.ServeEnd.{ServeEnd}
 use Rattle.http_lane.specs.Engine.{KnownReader, Served}
 use Rattle.http_lane.specs.Intake.{Intake, Submits, Counts, additions_of, intake, first_conn, connected}
 use Rattle.lane_worker.specs.Serving.{Connection, LaneAt, lane_at, ServedOne, ServesAll, is_book_full}
-use Rattle.shard_core.proofs.ListFacts.{Each, Each-append, Each-weaker, tally-append}
-use Rattle.span_world.specs.Step.{has_ids, is_of_conn, arrivals}
-use Rattle.span_world.proofs.Received.{on_conn, count_is}
+use Rattle.journal_theory.proofs.ListFacts.{Each, Each-append, Each-weaker, tally-append}
+use Rattle.world_theory.specs.Step.{has_ids, is_of_conn, arrivals}
+use Rattle.world_theory.proofs.Received.{on_conn, count_is}
 use Rattle.span_weave.specs.Threads.{AreNumbered}
 use Rattle.span_weave.specs.Pushes.{TriesOf}
 use Rattle.span_weave.proofs.Numbering.{numbers_go_on}

@@ -20,8 +20,8 @@ use Rattle.lane_seq.specs.Replies.{IsReplyTo}
 use Rattle.lane_seq.specs.Numbers.{is_invalid}
 use Rattle.lane_seq.specs.Pushes.{Receives as IsPushed}
 use Rattle.lane_seq.proofs.ListPushes.{list_pushes_are_determined}
-use Rattle.shard_core.specs.Journal.{Settings, Journal, Entry}
-use Rattle.shard_core.specs.Fate.{output}
+use Rattle.journal_theory.specs.Journal.{Settings, Journal, Entry}
+use Rattle.journal_theory.specs.Fate.{output}
 use Rattle.span_sink.specs.LineSinks.{LineSinkState}
 use Rattle.span_exporter.specs.Exports.{Sends, Spoils}
 use Rattle.span_exporter.specs.declared.answer.Flushed.{Flushed}

@@ -6,10 +6,10 @@ use Rattle.policy_tree.specs.Tree.{Policies}
 use Rattle.policy_eval.specs.Given.{are_answered}
 use Rattle.policy_eval.specs.GivenLaws.{given-by}
 use Rattle.rate_budget.specs.Grant.{Asking, granted_after}
-use Rattle.shard_core.specs.Journal.{Settings, Entry, Journal, Opening, clock, due_now, decision, spans_since, are_each_answered}
-use Rattle.shard_core.specs.Fate.{effect_of_decision}
-use Rattle.shard_core.proofs.Answering.{due-same, each-same}
-use Rattle.shard_journal.specs.Answered.{effect_answered, effect_answered_at}
+use Rattle.journal_theory.specs.Journal.{Settings, Entry, Journal, Opening, clock, due_now, decision, spans_since, are_each_answered}
+use Rattle.journal_theory.specs.Fate.{effect_of_decision}
+use Rattle.journal_theory.proofs.Answering.{due-same, each-same}
+use Rattle.journal_theory.specs.Answered.{effect_answered, effect_answered_at}
 use Rattle.script_run.specs.Limiting.{asked_more, answers_in_turn, with_answers}
 
 -- an entry, where its first decisions were given these answers

@@ -6,7 +6,7 @@ use Rattle.otlp_types.specs.declared.arrival.Item.{Item}
 use Rattle.span_ids.specs.declared.outcome.Reason.{Reason}
 use Rattle.span_ids.specs.declared.outcome.Reason.TheVariants.{InvalidId, QueueFull, NoMemory, Evicted, NotSampled, LateNotSampled, ExporterDown}
 use Rattle.rate_budget.specs.Grant.{Asking}
-use Rattle.shard_core.specs.Journal.{Settings, Journal}
+use Rattle.journal_theory.specs.Journal.{Settings, Journal}
 use Rattle.span_sink.specs.LineSinks.{LineSinkState, FailsInside}
 use Rattle.span_exporter.specs.Exports.{Sends, Spoils, WritesLine}
 use Rattle.span_exporter.specs.declared.answer.Flushed.{Flushed}

@@ -9,7 +9,7 @@ use Rattle.span_ids.specs.declared.outcome.Reason.TheVariants.{InvalidId, QueueF
 use Rattle.lane_queue.specs.Queues.{QueueState}
 use Rattle.lane_seq.specs.declared.reply.Reply.{Reply}
 use Rattle.lane_seq.specs.declared.reply.Reply.TheVariants.{Busy}
-use Rattle.shard_core.specs.Journal.{Settings}
+use Rattle.journal_theory.specs.Journal.{Settings}
 use Rattle.span_sink.specs.LineSinks.{LineSinkState, up_state, TakesWhole, FailsInside}
 use Rattle.span_batch.specs.Batches.{records_in, LineIsUnique}
 use Rattle.span_exporter.specs.Exports.{Sends, Spoils, WritesLine}

@@ -4,11 +4,11 @@ use Rattle.std.specs.List.{AllByRecursion}
 use Rattle.std.proofs.lemmas.Bool.{and_parts}
 use Rattle.otlp_types.specs.declared.arrival.Arrival.{Arrival}
 use Rattle.otlp_types.specs.declared.arrival.Item.TheVariants.{End}
-use Rattle.shard_core.specs.Journal.{Settings, Entry, Journal, due_now, is_end_of, has_ended, have_ended}
-use Rattle.span_world.specs.World.{Config, Lane, World as Core}
-use Rattle.span_world.specs.Step.{sender_is_done}
-use Rattle.span_world.specs.Places.{buffered_spans}
-use Rattle.span_world.proofs.Finishing.{nothing_buffered}
+use Rattle.journal_theory.specs.Journal.{Settings, Entry, Journal, due_now, is_end_of, has_ended, have_ended}
+use Rattle.world_theory.specs.World.{Config, Lane, World as Core}
+use Rattle.world_theory.specs.Step.{sender_is_done}
+use Rattle.world_theory.specs.Places.{buffered_spans}
+use Rattle.world_theory.proofs.Finishing.{nothing_buffered}
 use Rattle.script_run.specs.World.{World, Sizes, Turn, entry_of, with_entry, TakesEach, TakesRounds, to_each, ends_from}
 use Rattle.script_run.specs.Limiting.{with_answers}
 use Rattle.rate_budget.specs.Grant.{Asking}

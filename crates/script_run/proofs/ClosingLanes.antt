@@ -1,7 +1,7 @@
 -- The lanes of the core end, one after the other.
 use Rattle.std.proofs.Common.{◌≡◌, ℕ, zero, suc, ◌+◌, true, false, cond, List, [], ◌∷◌, ◌++◌, length, slice_get, Some, None, option_and_then, refl, ap, sym, ◌∙◌, arith, append_assoc, length-append}
-use Rattle.span_world.specs.World.{Config, Lane, World as Core}
-use Rattle.span_world.specs.Step.{close, with_lane}
+use Rattle.world_theory.specs.World.{Config, Lane, World as Core}
+use Rattle.world_theory.specs.Step.{close, with_lane}
 use Rattle.script_run.specs.World.{World}
 use Rattle.script_run.proofs.Stands.{routed_lane, lanes_from}
 use Rattle.script_run.proofs.QuietRuns.{Leads, leads_same, leads_one, leads_then}

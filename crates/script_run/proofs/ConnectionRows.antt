@@ -10,8 +10,8 @@ use Rattle.otlp_types.specs.declared.arrival.Item.TheVariants.{End, Tick}
 use Rattle.script_run.specs.Connections.{Contacts, lane_of, connection_of, with_connection, with_received}
 use Rattle.script_run.specs.Requests.{refuses, arrivals_of}
 use Rattle.script_run.specs.World.{World, Sizes, Plays, Receives, Answers, RepliesAndRuns, RunsToQuiet, after_receiving, empty_queues, ends_from}
-use Rattle.shard_core.specs.Journal.{Settings}
-use Rattle.span_world.proofs.Samples.{plain}
+use Rattle.journal_theory.specs.Journal.{Settings}
+use Rattle.world_theory.proofs.Samples.{plain}
 use Rattle.tsc_script.specs.Instructions.{receive, tick, close}
 use Rattle.otlp_flatten.specs.Flat.{records_of}
 use Rattle.otlp_types.specs.declared.request.Request.{Request}

@@ -3,12 +3,12 @@ use Rattle.std.proofs.Common.{◌≡◌, ℕ, zero, suc, ◌+◌, ◌<◌, ◌�
 use Rattle.otlp_types.specs.declared.arrival.Arrival.{Arrival}
 use Rattle.otlp_types.specs.declared.arrival.Record.{Record}
 use Rattle.span_ids.specs.declared.keys.ConnKey.{ConnKey}
-use Rattle.shard_core.specs.Journal.{Settings, Journal}
-use Rattle.shard_core.specs.Fate.{counts}
-use Rattle.shard_core.proofs.ListFacts.{tally}
+use Rattle.journal_theory.specs.Journal.{Settings, Journal}
+use Rattle.journal_theory.specs.Fate.{counts}
+use Rattle.journal_theory.proofs.ListFacts.{tally}
 use Rattle.lane_seq.specs.Numbers.{arrival_of, arrivals_from}
-use Rattle.span_world.specs.World.{Config, Lane, Shard, World as Core}
-use Rattle.span_world.specs.Step.{Step, step, run_from, arrivals, is_of_conn}
+use Rattle.world_theory.specs.World.{Config, Lane, Shard, World as Core}
+use Rattle.world_theory.specs.Step.{Step, step, run_from, arrivals, is_of_conn}
 use Rattle.script_run.specs.World.{World, Sizes}
 use Rattle.script_run.specs.CoreRun.{core_config, is_of_lane}
 use Rattle.script_run.proofs.Stands.{quiet_shard, shards_with, routed_lane, lanes_from, Reaches}

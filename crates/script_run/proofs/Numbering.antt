@@ -9,8 +9,8 @@ use Rattle.otlp_types.specs.declared.arrival.Record.{Record}
 use Rattle.span_ids.specs.declared.keys.ConnKey.{ConnKey}
 use Rattle.lane_seq.specs.declared.preparing.Conn.{Conn}
 use Rattle.lane_seq.specs.Numbers.{arrival_of, arrivals_from}
-use Rattle.shard_core.proofs.ListFacts.{Each, Each-append, Each-weaker, tally, tally-append, length-slice_set}
-use Rattle.span_world.specs.Step.{is_of_conn}
+use Rattle.journal_theory.proofs.ListFacts.{Each, Each-append, Each-weaker, tally, tally-append, length-slice_set}
+use Rattle.world_theory.specs.Step.{is_of_conn}
 use Rattle.script_run.specs.Connections.{Contacts, with_spans, lane_of, conn_where, connection_of, connected_where, with_connection, with_received}
 use Rattle.script_run.specs.World.{World}
 

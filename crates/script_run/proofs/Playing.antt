@@ -5,10 +5,10 @@ use Rattle.otlp_types.specs.declared.arrival.Item.{Item}
 use Rattle.otlp_types.specs.declared.arrival.Item.TheVariants.{Span, Tick}
 use Rattle.lane_seq.specs.declared.reply.Reply.{Reply}
 use Rattle.lane_seq.specs.declared.reply.Reply.TheVariants.{Busy}
-use Rattle.shard_core.specs.Journal.{Settings}
+use Rattle.journal_theory.specs.Journal.{Settings}
 use Rattle.span_sink.specs.LineSinks.{LineSinkState}
 use Rattle.span_exporter.specs.Exports.{WritesLine}
-use Rattle.span_world.specs.World.{World as Core}
+use Rattle.world_theory.specs.World.{World as Core}
 use Rattle.tsc_script.specs.Instructions.{Instruction, receive, tick, close}
 use Rattle.script_run.specs.Connections.{Contacts, connection_of, with_connection}
 use Rattle.script_run.specs.Requests.{Reading, reads, refuses, arrivals_of, reply_line}

@@ -6,13 +6,13 @@ use Rattle.otlp_types.specs.declared.arrival.Arrival.{Arrival}
 use Rattle.otlp_types.specs.declared.arrival.Item.{Item}
 use Rattle.otlp_types.specs.declared.arrival.Item.TheVariants.{Span, Tick}
 use Rattle.lane_seq.specs.declared.reply.Reply.{Reply}
-use Rattle.shard_core.specs.Journal.{Settings, Journal}
+use Rattle.journal_theory.specs.Journal.{Settings, Journal}
 use Rattle.span_sink.specs.LineSinks.{LineSinkState}
 use Rattle.span_exporter.specs.Exports.{WritesLine}
 use Rattle.drop_ledger.specs.declared.count.Count.{Count}
 use Rattle.drop_ledger.specs.declared.count.Count.TheVariants.{Handed, Dropped}
-use Rattle.span_world.specs.World.{Config, World as Core}
-use Rattle.span_world.specs.Step.{fail, run_from}
+use Rattle.world_theory.specs.World.{Config, World as Core}
+use Rattle.world_theory.specs.Step.{fail, run_from}
 use Rattle.script_run.specs.World.{World, Sizes, TakesEach, RunsToQuiet, was_sent, replied, after_reply, to_each, ends_from}
 use Rattle.script_run.specs.Counts.{number_of, counted_at}
 use Rattle.script_run.specs.Writing.{handed_in}

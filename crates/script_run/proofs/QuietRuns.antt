@@ -1,8 +1,8 @@
 -- Runs of the core's steps, one after the other.
 use Rattle.std.proofs.Common.{◌≡◌, List, [], ◌∷◌, ◌++◌, Some, option_and_then, ap, ◌∙◌}
-use Rattle.span_world.proofs.Running.{run_append}
-use Rattle.span_world.specs.World.{Config, World as Core}
-use Rattle.span_world.specs.Step.{Step, step, run_from}
+use Rattle.world_theory.proofs.Running.{run_append}
+use Rattle.world_theory.specs.World.{Config, World as Core}
+use Rattle.world_theory.specs.Step.{Step, step, run_from}
 
 -- steps lead from one state of the core to another
 abbrev pub Leads : Config → Core → Core → Type 0

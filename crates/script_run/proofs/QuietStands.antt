@@ -2,21 +2,21 @@
 use Rattle.std.proofs.Common.{◌≡◌, ℕ, zero, suc, ◌+◌, ◌<◌, true, false, List, [], ◌∷◌, ◌++◌, map, filter, flat_map, length, refl, ap, sym, subst, ◌∙◌, arith}
 use Rattle.std.specs.List.{sum_by, list_all, AllByRecursion}
 use Rattle.std.proofs.lemmas.List.Sums.{sum_by-append}
-use Rattle.span_world.proofs.WaitingPlaces.{none_waits_counted, none_waits_handed}
+use Rattle.world_theory.proofs.WaitingPlaces.{none_waits_counted, none_waits_handed}
 use Rattle.otlp_types.specs.declared.arrival.Arrival.{Arrival}
 use Rattle.otlp_types.specs.declared.arrival.Item.{Item}
 use Rattle.span_ids.specs.declared.outcome.Reason.{Reason}
 use Rattle.span_ids.specs.declared.outcome.Reason.TheVariants.{InvalidId, QueueFull, NoMemory, Evicted, NotSampled, LateNotSampled, ExporterDown}
 use Rattle.lane_seq.specs.Numbers.{is_invalid}
 use Rattle.rate_budget.specs.Grant.{Asking}
-use Rattle.shard_core.specs.Journal.{Settings, Journal, due_now, have_ended}
-use Rattle.shard_core.specs.Fate.{DroppedSpan, under}
+use Rattle.journal_theory.specs.Journal.{Settings, Journal, due_now, have_ended}
+use Rattle.journal_theory.specs.Fate.{DroppedSpan, under}
 use Rattle.span_sink.specs.LineSinks.{LineSinkState}
 use Rattle.drop_ledger.specs.declared.count.Count.{Count}
 use Rattle.drop_ledger.specs.declared.count.Count.TheVariants.{Received, Handed, Dropped}
-use Rattle.span_world.specs.World.{Config, Lane, Shard, World as Core, settings}
-use Rattle.span_world.specs.Places.{HeldKey, handed, counted_under, held_at, held_by_lanes, held_by_shards, held, is_waiting, buffered_spans, IsClosed}
-use Rattle.span_world.specs.Headline.{handed_spans}
+use Rattle.world_theory.specs.World.{Config, Lane, Shard, World as Core, settings}
+use Rattle.world_theory.specs.Places.{HeldKey, handed, counted_under, held_at, held_by_lanes, held_by_shards, held, is_waiting, buffered_spans, IsClosed}
+use Rattle.world_theory.specs.Headline.{handed_spans}
 use Rattle.script_run.specs.Sending.{Sent, spans_of, SendsInBatches}
 use Rattle.script_run.specs.World.{World, Sizes, was_sent, TakesEach}
 use Rattle.script_run.specs.Counts.{counted_at_lanes, counted_at, dropped_by_journal, number_of}

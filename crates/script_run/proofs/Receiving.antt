@@ -2,7 +2,7 @@
 use Rattle.std.proofs.Common.{◌≡◌, ℕ, ◌+◌, ◌<◌, false, cond, not, is_some, is_none, List, [], ◌∷◌, ◌++◌, length, filter, count_by, slice_get, slice_set, Option, Some, None, refl, ap, sym, ◌∙◌, arith}
 use Rattle.std.proofs.lemmas.List.{length-append, append-nil, set-set}
 use Rattle.std.proofs.lemmas.List.Elements.{filter-append}
-use Rattle.shard_core.proofs.Counted.{under_append, under_counts}
+use Rattle.journal_theory.proofs.Counted.{under_append, under_counts}
 use Rattle.otlp_types.specs.declared.arrival.Arrival.{Arrival}
 use Rattle.otlp_types.specs.declared.arrival.Record.{Record}
 use Rattle.otlp_types.specs.declared.arrival.Item.{Item}
@@ -16,14 +16,14 @@ use Rattle.lane_queue.specs.Queues.{QueueState, TakesLast, IsFull}
 use Rattle.lane_seq.specs.declared.reply.Reply.{Reply}
 use Rattle.lane_seq.specs.Numbers.{arrivals_from, is_invalid}
 use Rattle.lane_seq.specs.Pushes.{Receives as IsPushed}
-use Rattle.shard_core.specs.Journal.{Settings, Journal}
-use Rattle.shard_core.specs.Fate.{DroppedSpan, counts, is_same_reason}
-use Rattle.shard_core.proofs.ListFacts.{tally}
-use Rattle.span_world.specs.World.{Lane, World as Core}
-use Rattle.span_world.specs.Step.{receive, step, arrivals, is_of_conn, has_ids}
-use Rattle.span_world.proofs.Arriving.{receives}
-use Rattle.span_world.proofs.Received.{count_is}
-use Rattle.span_world.proofs.Released.{get_set}
+use Rattle.journal_theory.specs.Journal.{Settings, Journal}
+use Rattle.journal_theory.specs.Fate.{DroppedSpan, counts, is_same_reason}
+use Rattle.journal_theory.proofs.ListFacts.{tally}
+use Rattle.world_theory.specs.World.{Lane, World as Core}
+use Rattle.world_theory.specs.Step.{receive, step, arrivals, is_of_conn, has_ids}
+use Rattle.world_theory.proofs.Arriving.{receives}
+use Rattle.world_theory.proofs.Received.{count_is}
+use Rattle.world_theory.proofs.Released.{get_set}
 use Rattle.drop_ledger.specs.declared.count.Count.TheVariants.{Dropped}
 use Rattle.script_run.specs.Connections.{Contacts, connection_of, with_received}
 use Rattle.script_run.specs.Requests.{arrivals_of}

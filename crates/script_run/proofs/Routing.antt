@@ -1,7 +1,7 @@
 -- The pushes of a request's spans are steps of the core, by induction over the spans.
 use Rattle.std.proofs.Common.{◌≡◌, ℕ, ◌+◌, Bool, true, cond, is_some, List, [], ◌∷◌, ◌++◌, length, map, filter, slice_get, slice_set, Option, Some, None, option_map, refl, ap, sym, subst, ◌∙◌, arith, inl, inr, eq-eqb, append_assoc}
 use Rattle.std.proofs.lemmas.List.{append-nil, map-append, length-map, map-set, set-set}
-use Rattle.shard_core.proofs.Counted.{under_append, under_counts}
+use Rattle.journal_theory.proofs.Counted.{under_append, under_counts}
 use Rattle.otlp_types.specs.declared.arrival.Arrival.{Arrival}
 use Rattle.otlp_types.specs.declared.arrival.Item.{Item}
 use Rattle.otlp_types.specs.declared.arrival.Item.TheVariants.{Span}
@@ -11,13 +11,13 @@ use Rattle.span_ids.specs.declared.outcome.Reason.{Reason}
 use Rattle.span_ids.specs.declared.outcome.Reason.TheVariants.{QueueFull}
 use Rattle.lane_queue.specs.Queues.{QueueState, with_last, TakesLast, IsFull}
 use Rattle.lane_seq.specs.Pushes.{PushesOne, PushesAll}
-use Rattle.shard_core.specs.Journal.{Settings, Journal}
-use Rattle.shard_core.specs.Fate.{DroppedSpan, counts, under, is_same_reason}
-use Rattle.shard_core.proofs.ListFacts.{length-slice_set}
-use Rattle.span_world.specs.World.{Config, Lane, Shard, World as Core, goes_to, ids_go_to}
-use Rattle.span_world.specs.Step.{Step, route, refuse, step, run_from, has_ids, take_first}
-use Rattle.span_world.proofs.Released.{get_set}
-use Rattle.span_world.proofs.Routing.{put_back}
+use Rattle.journal_theory.specs.Journal.{Settings, Journal}
+use Rattle.journal_theory.specs.Fate.{DroppedSpan, counts, under, is_same_reason}
+use Rattle.journal_theory.proofs.ListFacts.{length-slice_set}
+use Rattle.world_theory.specs.World.{Config, Lane, Shard, World as Core, goes_to, ids_go_to}
+use Rattle.world_theory.specs.Step.{Step, route, refuse, step, run_from, has_ids, take_first}
+use Rattle.world_theory.proofs.Released.{get_set}
+use Rattle.world_theory.proofs.Routing.{put_back}
 use Rattle.script_run.proofs.Stands.{quiet_shard, shards_with}
 use Rattle.script_run.proofs.Lanes.{runs_on, ShardAt, shard_at, many_shards, mapped_from, mapped_at, if_none, if_both}
 

@@ -6,20 +6,20 @@ use Rattle.std.proofs.lemmas.List.Sums.{sum_by-cons}
 use Rattle.otlp_types.specs.declared.arrival.Arrival.{Arrival}
 use Rattle.span_ids.specs.declared.outcome.Reason.{Reason}
 use Rattle.span_ids.specs.declared.outcome.Reason.TheVariants.{InvalidId, QueueFull, NoMemory, Evicted, NotSampled, LateNotSampled, ExporterDown}
-use Rattle.shard_core.specs.Fate.{DroppedSpan, counts, is_same_reason, under}
+use Rattle.journal_theory.specs.Fate.{DroppedSpan, counts, is_same_reason, under}
 use Rattle.span_sink.specs.LineSinks.{LineSinkState}
 use Rattle.span_exporter.specs.Exports.{Sends, Spoils}
 use Rattle.span_exporter.specs.declared.answer.Flushed.{Flushed}
 use Rattle.span_exporter.specs.declared.answer.Flushed.TheVariants.{Handed as WasHanded, Spoiled, Empty}
 use Rattle.drop_ledger.specs.declared.count.Count.TheVariants.{Handed, Dropped}
-use Rattle.span_world.specs.World.{Config, World as Core}
-use Rattle.span_world.specs.Step.{pull, hand, fail, spoil, is_empty, pull_from, spoil_applies}
+use Rattle.world_theory.specs.World.{Config, World as Core}
+use Rattle.world_theory.specs.Step.{pull, hand, fail, spoil, is_empty, pull_from, spoil_applies}
 use Rattle.script_run.specs.Sending.{Sent, spans_of, AreBatches, SendsAll}
 use Rattle.script_run.specs.World.{Event, replied, was_sent}
 use Rattle.script_run.specs.Counts.{counted_for, counted_at}
 use Rattle.script_run.specs.Writing.{handed_with, handed_in}
 use Rattle.script_run.proofs.QuietRuns.{Leads, leads_same, leads_one, leads_then}
-use Rattle.shard_core.proofs.Counted.{under_append, under_counts}
+use Rattle.journal_theory.proofs.Counted.{under_append, under_counts}
 
 -- ---- tests and counts
 

@@ -3,12 +3,12 @@ use Rattle.std.specs.Prelude.{◌≡◌, ℕ, zero, suc, ◌+◌, true, false, L
 use Rattle.std.specs.List.{AllByRecursion}
 use Rattle.otlp_types.specs.declared.arrival.Arrival.{Arrival}
 use Rattle.span_ids.specs.declared.outcome.Reason.{Reason}
-use Rattle.shard_core.specs.Journal.{Settings, Journal, due_now, has_ended}
-use Rattle.shard_core.specs.Fate.{under}
-use Rattle.span_world.specs.World.{Lane, Shard, World as Core}
-use Rattle.span_world.specs.Step.{Step, run_from}
-use Rattle.span_world.specs.Places.{IsClosed}
-use Rattle.span_world.specs.Headline.{handed_spans}
+use Rattle.journal_theory.specs.Journal.{Settings, Journal, due_now, has_ended}
+use Rattle.journal_theory.specs.Fate.{under}
+use Rattle.world_theory.specs.World.{Lane, Shard, World as Core}
+use Rattle.world_theory.specs.Step.{Step, run_from}
+use Rattle.world_theory.specs.Places.{IsClosed}
+use Rattle.world_theory.specs.Headline.{handed_spans}
 use Rattle.drop_ledger.specs.declared.count.Count.TheVariants.{Handed, Dropped}
 use Rattle.script_run.specs.World.{World, Sizes}
 use Rattle.script_run.specs.Counts.{number_of}

@@ -4,8 +4,8 @@ use Rattle.std.specs.List.{AllByRecursion}
 use Rattle.otlp_types.specs.declared.arrival.Arrival.{Arrival}
 use Rattle.otlp_types.specs.declared.arrival.Item.{Item}
 use Rattle.otlp_types.specs.declared.arrival.Item.TheVariants.{Span, Tick}
-use Rattle.shard_core.specs.Journal.{Settings, Journal, is_end_of, has_ended}
-use Rattle.span_world.specs.World.{Config, World as Core, ticker}
+use Rattle.journal_theory.specs.Journal.{Settings, Journal, is_end_of, has_ended}
+use Rattle.world_theory.specs.World.{Config, World as Core, ticker}
 use Rattle.script_run.specs.World.{Turn, entry_of, with_entry, Takes, TakesEach, to_each}
 use Rattle.rate_budget.specs.Grant.{Asking}
 use Rattle.script_run.proofs.Stands.{no_queues, HasNoEnd}

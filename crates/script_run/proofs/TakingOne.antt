@@ -4,12 +4,12 @@ use Rattle.std.proofs.lemmas.Bool.Decides.{nat_tests}
 use Rattle.std.proofs.lemmas.Bool.{and_parts}
 use Rattle.otlp_types.specs.declared.arrival.Arrival.{Arrival}
 use Rattle.otlp_types.specs.declared.arrival.Item.TheVariants.{Span, Tick, End}
-use Rattle.shard_core.specs.Journal.{Settings, Entry, Journal, Opening, due_now, decision, decisions_in_turn, decisions_now, spans_since, are_each_answered, has_ended}
+use Rattle.journal_theory.specs.Journal.{Settings, Entry, Journal, Opening, due_now, decision, decisions_in_turn, decisions_now, spans_since, are_each_answered, has_ended}
 use Rattle.policy_eval.specs.Given.{are_answered}
-use Rattle.shard_core.specs.Fate.{Effect, no_effect, ◌then◌, DroppedSpan, effect, effect_of_taking, effect_of_decision, effect_of_decisions}
-use Rattle.shard_core.specs.Taking.{marks_apply_to_ids}
-use Rattle.span_world.specs.World.{Config, Shard, World as Core, settings, ticker, has_due}
-use Rattle.span_world.specs.Step.{take as take_step, tick, end, decide, ship, take_on, tick_on, end_on, decide_on, ship_on, sender_is_done, after_decision}
+use Rattle.journal_theory.specs.Fate.{Effect, no_effect, ◌then◌, DroppedSpan, effect, effect_of_taking, effect_of_decision, effect_of_decisions}
+use Rattle.journal_theory.specs.Marked.{marks_apply_to_ids}
+use Rattle.world_theory.specs.World.{Config, Shard, World as Core, settings, ticker, has_due}
+use Rattle.world_theory.specs.Step.{take as take_step, tick, end, decide, ship, take_on, tick_on, end_on, decide_on, ship_on, sender_is_done, after_decision}
 use Rattle.script_run.specs.World.{entry_of}
 use Rattle.script_run.proofs.Answering.{given_to, AreGiven, next_effect}
 use Rattle.script_run.proofs.Stands.{quiet_shard}

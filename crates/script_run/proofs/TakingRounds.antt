@@ -3,15 +3,15 @@ use Rattle.std.proofs.Common.{◌≡◌, ℕ, ◌+◌, Bool, true, false, not, �
 use Rattle.std.specs.List.{sum_by}
 use Rattle.std.proofs.lemmas.List.{append_cancel_left}
 use Rattle.std.proofs.lemmas.List.Sums.{sum_by-cons}
-use Rattle.shard_core.proofs.Counted.{under_append}
+use Rattle.journal_theory.proofs.Counted.{under_append}
 use Rattle.otlp_types.specs.declared.arrival.Arrival.{Arrival}
 use Rattle.otlp_types.specs.declared.arrival.Item.{Item}
 use Rattle.otlp_types.specs.declared.arrival.Item.TheVariants.{Span, Tick, End}
 use Rattle.span_ids.specs.declared.outcome.Reason.{Reason}
-use Rattle.shard_core.specs.Journal.{Entry, Journal, has_ended}
-use Rattle.shard_core.specs.Fate.{Effect, no_effect, ◌then◌, DroppedSpan, effect, under}
-use Rattle.span_world.specs.World.{Config, Shard, World as Core, ticker}
-use Rattle.span_world.specs.Step.{sender_is_done}
+use Rattle.journal_theory.specs.Journal.{Entry, Journal, has_ended}
+use Rattle.journal_theory.specs.Fate.{Effect, no_effect, ◌then◌, DroppedSpan, effect, under}
+use Rattle.world_theory.specs.World.{Config, Shard, World as Core, ticker}
+use Rattle.world_theory.specs.Step.{sender_is_done}
 use Rattle.script_run.specs.World.{Turn, entry_of, with_entry, Takes, TakesEach}
 use Rattle.script_run.specs.Limiting.{with_answers}
 use Rattle.rate_budget.specs.Grant.{Asking}

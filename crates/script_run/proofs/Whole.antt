@@ -7,14 +7,14 @@ use Rattle.std.proofs.lemmas.Bool.{eqb-false}
 use Rattle.otlp_types.specs.declared.arrival.Arrival.{Arrival}
 use Rattle.span_ids.specs.declared.outcome.Reason.{Reason}
 use Rattle.span_ids.specs.declared.outcome.Reason.TheVariants.{InvalidId, QueueFull, NoMemory, Evicted, NotSampled, LateNotSampled, ExporterDown}
-use Rattle.shard_core.specs.Journal.{Settings, Journal, due_now}
-use Rattle.shard_core.proofs.ListFacts.{Each, tally, length_filter}
+use Rattle.journal_theory.specs.Journal.{Settings, Journal, due_now}
+use Rattle.journal_theory.proofs.ListFacts.{Each, tally, length_filter}
 use Rattle.span_exporter.specs.declared.answer.Flushed.{Flushed}
 use Rattle.span_exporter.specs.declared.answer.Flushed.TheVariants.{Handed as WasHanded, Spoiled, Empty}
 use Rattle.span_sink.specs.LineSinks.{LineSinkState}
-use Rattle.span_world.specs.World.{Config, Lane, Shard, World as Core, KeepsATrace, new_lane, new_shard, new_world as new_core, settings, has_due}
-use Rattle.span_world.specs.Step.{Step, run, is_empty}
-use Rattle.span_world.proofs.Parts.{headline}
+use Rattle.world_theory.specs.World.{Config, Lane, Shard, World as Core, KeepsATrace, new_lane, new_shard, new_world as new_core, settings, has_due}
+use Rattle.world_theory.specs.Step.{Step, run, is_empty}
+use Rattle.world_theory.proofs.Parts.{headline}
 use Rattle.drop_ledger.specs.declared.count.Count.{Count}
 use Rattle.drop_ledger.specs.declared.count.Count.TheVariants.{Received, Handed, Dropped}
 use Rattle.script_run.specs.World.{World, Sizes, Event, replied, was_sent, new_world}

@@ -1,7 +1,7 @@
 -- The sink has the lines of the events, by induction over a script.
 use Rattle.std.proofs.Common.{◌≡◌, ℕ, ◌+◌, Bool, false, cond, List, [], ◌∷◌, ◌++◌, map, refl, ap, sym, subst, ◌∙◌, arith, ◌⊎◌, inl, inr, ⊎_elim}
 use Rattle.otlp_types.specs.declared.arrival.Arrival.{Arrival}
-use Rattle.shard_core.specs.Journal.{Settings}
+use Rattle.journal_theory.specs.Journal.{Settings}
 use Rattle.span_ids.specs.declared.outcome.Reason.{Reason}
 use Rattle.span_ids.specs.declared.outcome.Reason.TheVariants.{InvalidId, QueueFull, NoMemory, Evicted, NotSampled, LateNotSampled, ExporterDown}
 use Rattle.span_sink.specs.LineSinks.{LineSinkState, TakesWhole, FailsInside}

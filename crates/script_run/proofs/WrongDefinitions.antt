@@ -10,18 +10,18 @@ use Rattle.span_ids.specs.declared.outcome.Reason.TheVariants.{NoMemory}
 use Rattle.drop_ledger.specs.declared.count.Count.{Count}
 use Rattle.drop_ledger.specs.declared.count.Count.TheVariants.{Handed}
 use Rattle.lane_seq.specs.declared.reply.Reply.TheVariants.{Done, Busy}
-use Rattle.shard_core.specs.Journal.{Settings, Journal, Entry, notes, have_ended}
+use Rattle.journal_theory.specs.Journal.{Settings, Journal, Entry, notes, have_ended}
 use Rattle.span_sink.specs.LineSinks.{LineSinkState}
 use Rattle.span_exporter.specs.declared.answer.Flushed.{Flushed}
 use Rattle.span_exporter.specs.declared.answer.Flushed.TheVariants.{Handed as WasHanded, Spoiled, Empty}
-use Rattle.span_world.specs.World.{Lane, Shard, World as Core, new_world as new_core, settings}
-use Rattle.span_world.specs.Step.{Step, run}
-use Rattle.span_world.specs.Places.{IsClosed}
-use Rattle.span_world.specs.Headline.{HoldsOf, handed_spans}
-use Rattle.span_world.proofs.Samples.{always, plain, key}
-use Rattle.span_world.proofs.Balance.{same_settings}
-use Rattle.span_world.proofs.OnePlace.{run_keeps}
-use Rattle.span_world.proofs.AllAnswered.{answered_new}
+use Rattle.world_theory.specs.World.{Lane, Shard, World as Core, new_world as new_core, settings}
+use Rattle.world_theory.specs.Step.{Step, run}
+use Rattle.world_theory.specs.Places.{IsClosed}
+use Rattle.world_theory.specs.Headline.{HoldsOf, handed_spans}
+use Rattle.world_theory.proofs.Samples.{always, plain, key}
+use Rattle.world_theory.proofs.Balance.{same_settings}
+use Rattle.world_theory.proofs.OnePlace.{run_keeps}
+use Rattle.world_theory.proofs.AllAnswered.{answered_new}
 use Rattle.tsc_script.specs.Instructions.{Instruction, receive, tick}
 use Rattle.script_run.specs.Connections.{Contacts, with_connection, with_received}
 use Rattle.script_run.specs.Requests.{reads, refuses, IsTakenFor, reply_line}

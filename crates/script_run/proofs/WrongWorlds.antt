@@ -3,8 +3,8 @@
 use Rattle.std.proofs.Common.{inl, inr, ◌≡◌, ℕ, ◌+◌, ◌&&◌, ◌||◌, Bool, true, false, not, cond, List, [], ◌∷◌, ◌++◌, length, map, filter, flat_map, slice_get, Some, refl, ap, sym, subst, ◌∙◌, arith}
 use Rattle.std.specs.Prelude.{IsTrue}
 use Rattle.std.specs.List.{list_all, list_any, sum_by}
-use Rattle.span_world.proofs.WaitingPlaces.{not_waiting, buffered_waits}
-use Rattle.shard_core.proofs.Counted.{same_reason}
+use Rattle.world_theory.proofs.WaitingPlaces.{not_waiting, buffered_waits}
+use Rattle.journal_theory.proofs.Counted.{same_reason}
 use Rattle.otlp_types.specs.declared.arrival.Arrival.{Arrival}
 use Rattle.otlp_types.specs.declared.arrival.Item.TheVariants.{Span, End}
 use Rattle.span_ids.specs.declared.outcome.Reason.{Reason}
@@ -13,13 +13,13 @@ use Rattle.drop_ledger.specs.declared.count.Count.{Count}
 use Rattle.drop_ledger.specs.declared.count.Count.TheVariants.{Received, Dropped}
 use Rattle.lane_seq.specs.declared.reply.Reply.{Reply}
 use Rattle.lane_seq.specs.declared.reply.Reply.TheVariants.{Done, Partial}
-use Rattle.shard_core.specs.Journal.{Settings, Journal, notes}
-use Rattle.shard_core.specs.Fate.{DroppedSpan, Fate, waits, fate, is_same_reason, under}
-use Rattle.span_world.specs.World.{Lane, Shard, settings, has_due, same_key}
-use Rattle.span_world.specs.Step.{is_empty}
-use Rattle.span_world.specs.Places.{HeldKey, unrouted, queued, buffered, unshipped, exported, in_batch, handed, counted_under, held_at, buffered_spans, held_by_lanes, held_by_shards, held}
-use Rattle.span_world.specs.Headline.{Taken, fate_of, is_where, is_received}
-use Rattle.span_world.proofs.Samples.{ids_of, key}
+use Rattle.journal_theory.specs.Journal.{Settings, Journal, notes}
+use Rattle.journal_theory.specs.Fate.{DroppedSpan, Fate, waits, fate, is_same_reason, under}
+use Rattle.world_theory.specs.World.{Lane, Shard, settings, has_due, same_key}
+use Rattle.world_theory.specs.Step.{is_empty}
+use Rattle.world_theory.specs.Places.{HeldKey, unrouted, queued, buffered, unshipped, exported, in_batch, handed, counted_under, held_at, buffered_spans, held_by_lanes, held_by_shards, held}
+use Rattle.world_theory.specs.Headline.{Taken, fate_of, is_where, is_received}
+use Rattle.world_theory.proofs.Samples.{ids_of, key}
 use Rattle.tsc_script.specs.Instructions.{receive, close}
 use Rattle.script_run.specs.Connections.{connection_of, with_received}
 use Rattle.script_run.specs.Requests.{reads, IsTakenFor, arrivals_of, reply_line}

@@ -3,7 +3,7 @@ use Rattle.std.specs.Prelude.{◌≡◌, Bool, true, false, ◌||◌}
 use Rattle.std.specs.List.{AllByRecursion}
 use Rattle.span_ids.specs.declared.outcome.Reason.TheVariants.{NoMemory}
 use Rattle.lane_seq.specs.declared.reply.Reply.TheVariants.{Busy}
-use Rattle.shard_core.specs.Journal.{Entry, Journal}
+use Rattle.journal_theory.specs.Journal.{Entry, Journal}
 use Rattle.span_exporter.specs.declared.answer.Flushed.{Flushed}
 use Rattle.span_exporter.specs.declared.answer.Flushed.TheVariants.{Spoiled}
 use Rattle.script_run.specs.World.{World, Event, replied, was_sent}

@@ -2,12 +2,12 @@
 use Rattle.std.specs.Prelude.{◌≡◌, ℕ, ◌==◌, Bool, true, ◌&&◌, not, List, [], length, map, filter, flat_map, slice_get, Some}
 use Rattle.std.specs.List.{list_all}
 use Rattle.otlp_types.specs.declared.arrival.Arrival.{Arrival}
-use Rattle.shard_core.specs.Journal.{Settings}
-use Rattle.shard_core.specs.Fate.{under}
-use Rattle.span_world.specs.World.{Config, Lane, Shard, World as Core, settings, has_due}
-use Rattle.span_world.specs.Step.{Step, is_empty, run}
-use Rattle.span_world.specs.Places.{IsClosed}
-use Rattle.span_world.specs.Headline.{HoldsOf, handed_spans}
+use Rattle.journal_theory.specs.Journal.{Settings}
+use Rattle.journal_theory.specs.Fate.{under}
+use Rattle.world_theory.specs.World.{Config, Lane, Shard, World as Core, settings, has_due}
+use Rattle.world_theory.specs.Step.{Step, is_empty, run}
+use Rattle.world_theory.specs.Places.{IsClosed}
+use Rattle.world_theory.specs.Headline.{HoldsOf, handed_spans}
 use Rattle.drop_ledger.specs.declared.count.Count.{Count}
 use Rattle.drop_ledger.specs.declared.count.Count.TheVariants.{Received, Handed, Dropped}
 use Rattle.script_run.specs.World.{World, Sizes}

@@ -3,8 +3,8 @@ use Rattle.std.specs.Prelude.{◌≡◌, ℕ, ◌+◌, ◌^◌, ◌<◌, ◌≤�
 use Rattle.std.specs.List.{sum_by}
 use Rattle.span_ids.specs.declared.outcome.Reason.{Reason}
 use Rattle.span_ids.specs.declared.outcome.Reason.TheVariants.{InvalidId, QueueFull, NoMemory, Evicted, NotSampled, LateNotSampled, ExporterDown}
-use Rattle.shard_core.specs.Journal.{Settings, Journal}
-use Rattle.shard_core.specs.Fate.{is_same_reason, effect, under}
+use Rattle.journal_theory.specs.Journal.{Settings, Journal}
+use Rattle.journal_theory.specs.Fate.{is_same_reason, effect, under}
 use Rattle.lane_seq.specs.Numbers.{is_invalid}
 use Rattle.span_exporter.specs.declared.answer.Flushed.{Flushed}
 use Rattle.span_exporter.specs.declared.answer.Flushed.TheVariants.{Handed as WasHanded, Spoiled}

@@ -1,8 +1,8 @@
 -- What holds of every script that is played.
 use Rattle.std.specs.Prelude.{◌≡◌, ℕ, ◌+◌, ◌<◌, false, List, Option, Some, Ok}
-use Rattle.shard_core.specs.Journal.{Settings}
+use Rattle.journal_theory.specs.Journal.{Settings}
 use Rattle.span_sink.specs.LineSinks.{LineSinkState}
-use Rattle.span_world.specs.World.{KeepsATrace}
+use Rattle.world_theory.specs.World.{KeepsATrace}
 use Rattle.tsc_script.specs.Instructions.{Instruction}
 use Rattle.tsc_script.specs.Script.{instructions_of}
 use Rattle.tsc_script.specs.Progress.{StopsAt}

@@ -4,7 +4,7 @@ use Rattle.otlp_types.specs.declared.arrival.Arrival.{Arrival}
 use Rattle.policy_tree.specs.Tree.{Policies}
 use Rattle.policy_eval.specs.Policies.{asked_nodes}
 use Rattle.rate_budget.specs.Grant.{Asking, granted_after}
-use Rattle.shard_core.specs.Journal.{Settings, Entry, Journal, Opening, clock, due_now, spans_since}
+use Rattle.journal_theory.specs.Journal.{Settings, Entry, Journal, Opening, clock, due_now, spans_since}
 
 -- the limiter's answers to the decision on these spans in this second, in the order in which the policies ask, after these askings, the latest of which comes first
 abbrev pub answers_to : Policies → List Asking → (second : ℕ) → List Arrival → List Bool

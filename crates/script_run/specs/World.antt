@@ -9,9 +9,9 @@ use Rattle.lane_seq.specs.Pushes.{Receives as IsPushed}
 use Rattle.lane_seq.specs.declared.reply.Reply.{Reply}
 use Rattle.lane_seq.specs.declared.reply.Reply.TheVariants.{Busy}
 use Rattle.rate_budget.specs.Grant.{Asking}
-use Rattle.shard_core.specs.Journal.{Settings, Journal, Entry}
-use Rattle.shard_core.specs.Fate.{output}
-use Rattle.shard_core.specs.Taking.{marks_apply}
+use Rattle.journal_theory.specs.Journal.{Settings, Journal, Entry}
+use Rattle.journal_theory.specs.Fate.{output}
+use Rattle.journal_theory.specs.Marked.{marks_apply}
 use Rattle.span_sink.specs.LineSinks.{LineSinkState}
 use Rattle.span_exporter.specs.Exports.{WritesLine}
 use Rattle.tsc_script.specs.Instructions.{Instruction, receive, tick, close}

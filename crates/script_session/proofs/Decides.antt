@@ -7,13 +7,13 @@ use Rattle.policy_eval.specs.Given.{asked_given, Asked}
 use Rattle.policy_eval.specs.AskingLaws.{askings_by, decides_by_counts}
 use Rattle.rate_budget.specs.Grant.{Asking, granted_after}
 use Rattle.rate_budget.specs.Budget.{limiter_counts, AsksBudgets}
-use Rattle.shard_core.specs.Journal.{Entry, Settings, Journal, Opening, clock, due_now, spans_since}
-use Rattle.shard_core.specs.Fate.{effect, effect_dealt, released_dealt, dropped_dealt}
+use Rattle.journal_theory.specs.Journal.{Entry, Settings, Journal, Opening, clock, due_now, spans_since}
+use Rattle.journal_theory.specs.Fate.{effect, effect_dealt, released_dealt, dropped_dealt}
 use Rattle.shard_core.specs.Held.{Held, StandsFor, settings}
 use Rattle.shard_core.specs.Taking.{released_in, dropped_in, dealt_after, journal_after, DecidesFirst, AddsDecision, Decides}
 use Rattle.shard_core.specs.declared.answer.Decided.{Decided}
 use Rattle.shard_core.specs.declared.answer.Decided.TheVariants.{Release, Nothing, Dropped}
-use Rattle.shard_core.proofs.Answering.{due-same}
+use Rattle.journal_theory.proofs.Answering.{due-same}
 use Rattle.span_ids.specs.declared.outcome.Reason.{Reason}
 use Rattle.script_run.specs.Limiting.{answers_to, asked_more, answers_in_turn, asked_in_turn, with_answers, askings_after}
 use Rattle.script_run.specs.World.{Turn}

@@ -1,6 +1,6 @@
 -- What a played script leads to.
 use Rattle.std.proofs.Common.{◌≡◌, ℕ, Bool, true, false, List, [], ◌∷◌, ◌++◌, Option, refl, sym, subst}
-use Rattle.shard_core.specs.Journal.{Settings}
+use Rattle.journal_theory.specs.Journal.{Settings}
 use Rattle.span_sink.specs.LineSinks.{LineSinkState}
 use Rattle.tsc_script.specs.Instructions.{Instruction, close}
 use Rattle.script_run.specs.World.{World, Sizes, new_world, Plays, PlaysAll}

@@ -10,7 +10,7 @@ use Rattle.policy_eval.specs.Meaning.{knows}
 use Rattle.policy_eval.specs.AskingLaws.{counts_know}
 use Rattle.rate_budget.specs.Budget.{limiter_counts, has_node}
 use Rattle.rate_budget.specs.BudgetLaws.{limits-of-counts}
-use Rattle.shard_core.specs.Journal.{Settings}
+use Rattle.journal_theory.specs.Journal.{Settings}
 use Rattle.shard_core.specs.Held.{Held, settings}
 use Rattle.script_session.specs.Pulling.{Counts, HaveSettings, has_nodes_of, has_all_nodes}
 

@@ -13,7 +13,7 @@ use Rattle.lane_seq.specs.Replies.{IsReplyTo}
 use Rattle.lane_seq.specs.declared.reply.Reply.{Reply}
 use Rattle.lane_seq.specs.declared.reply.Reply.TheVariants.{Done, Partial, BadData, Busy}
 use Rattle.rate_budget.specs.Grant.{Asking}
-use Rattle.shard_core.specs.Journal.{Settings, Journal}
+use Rattle.journal_theory.specs.Journal.{Settings, Journal}
 use Rattle.span_sink.specs.LineSinks.{LineSinkState}
 use Rattle.drop_ledger.specs.declared.count.Count.{Count}
 use Rattle.drop_ledger.specs.declared.count.Count.TheVariants.{Received, Handed, Dropped}

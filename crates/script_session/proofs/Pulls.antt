@@ -12,7 +12,7 @@ use Rattle.span_exporter.specs.declared.answer.Pulled.{Pulled}
 use Rattle.span_exporter.specs.declared.answer.Pulled.TheVariants.{Added, AddedFull}
 use Rattle.span_exporter.specs.Exports.{ExporterState, with_shipment, answer_to, Sends}
 use Rattle.span_ids.specs.declared.outcome.Reason.{Reason}
-use Rattle.shard_core.specs.Fate.{is_same_reason}
+use Rattle.journal_theory.specs.Fate.{is_same_reason}
 use Rattle.drop_ledger.specs.declared.count.Count.{Count}
 use Rattle.drop_ledger.specs.declared.count.Count.TheVariants.{Received, Handed as HandedOver, Dropped}
 use Rattle.script_run.specs.Sending.{Sent, spans_of, AreBatches, SendsAll, SendsInBatches}

@@ -7,7 +7,7 @@ use Rattle.lane_seq.specs.declared.reply.Reply.TheVariants.{Done, Partial, BadDa
 use Rattle.lane_seq.specs.Replies.{IsReplyTo}
 use Rattle.rate_budget.specs.Grant.{Asking}
 use Rattle.rate_budget.specs.Budget.{limiter_counts}
-use Rattle.shard_core.specs.Journal.{Settings, Journal}
+use Rattle.journal_theory.specs.Journal.{Settings, Journal}
 use Rattle.shard_core.specs.Held.{Held}
 use Rattle.span_sink.specs.LineSinks.{LineSinkState}
 use Rattle.span_exporter.specs.declared.answer.Flushed.{Flushed}

@@ -3,11 +3,12 @@
 use Rattle.std.proofs.Common.{◌≡◌, ℕ, ◌+◌, true, List, [], ◌∷◌, ◌++◌, length, refl, sym, ap, subst, ◌∙◌, append_assoc, append-nil, arith}
 use Rattle.otlp_types.specs.declared.arrival.Item.{Item}
 use Rattle.rate_budget.specs.Budget.{limiter_counts}
-use Rattle.shard_core.specs.Journal.{Settings, Journal}
+use Rattle.journal_theory.specs.Journal.{Settings, Journal}
 use Rattle.span_ids.specs.declared.outcome.Reason.{Reason}
-use Rattle.shard_core.specs.Fate.{Effect, under, effect, output, effect_dealt, released_dealt, dropped_dealt}
+use Rattle.journal_theory.specs.Fate.{Effect, under, effect, output, effect_dealt, released_dealt, dropped_dealt}
 use Rattle.shard_core.specs.Held.{Held, settings}
-use Rattle.shard_core.specs.Taking.{entry, is_refusal, is_loss, marks_apply, released_by, dropped_by}
+use Rattle.shard_core.specs.Taking.{entry, is_refusal, is_loss, released_by, dropped_by}
+use Rattle.journal_theory.specs.Marked.{marks_apply}
 use Rattle.shard_core.specs.declared.answer.Taken.{Taken}
 use Rattle.script_run.specs.World.{Turn, entry_of, with_entry, Takes}
 use Rattle.script_run.specs.Counts.{dropped_by_journal}

@@ -8,7 +8,7 @@ use Rattle.otlp_types.specs.declared.arrival.Item.{Item}
 use Rattle.otlp_types.specs.declared.arrival.Item.TheVariants.{Span, Tick, End}
 use Rattle.rate_budget.specs.Grant.{Asking}
 use Rattle.rate_budget.specs.Budget.{limiter_counts}
-use Rattle.shard_core.specs.Journal.{Settings, Journal}
+use Rattle.journal_theory.specs.Journal.{Settings, Journal}
 use Rattle.shard_core.specs.Held.{Held, settings, has_due}
 use Rattle.shard_core.specs.Taking.{ends_after}
 use Rattle.span_ids.specs.declared.outcome.Reason.{Reason}

@@ -12,8 +12,8 @@ use Rattle.policy_eval.specs.Meaning.{knows}
 use Rattle.rate_budget.specs.Grant.{Asking}
 use Rattle.rate_budget.specs.Budget.{limiter_counts, has_node}
 use Rattle.rate_budget.specs.declared.count.LimiterCount.{LimiterCount}
-use Rattle.shard_core.specs.Journal.{Entry, Settings, Journal}
-use Rattle.shard_core.specs.Fate.{effect, effect_dealt, released_dealt, dropped_dealt}
+use Rattle.journal_theory.specs.Journal.{Entry, Settings, Journal}
+use Rattle.journal_theory.specs.Fate.{effect, effect_dealt, released_dealt, dropped_dealt}
 use Rattle.shard_core.specs.Held.{Held, StandsFor, settings, has_due}
 use Rattle.span_exporter.specs.Exports.{ExporterState}
 use Rattle.script_run.specs.Sending.{Sent, spans_of, SendsAll}

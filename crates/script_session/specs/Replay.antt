@@ -1,6 +1,6 @@
 -- What a run over a script leaves of its sink.
 use Rattle.std.specs.Prelude.{◌≡◌, ◌⊎◌, ◌+◌, ◌/◌, ℕ, true, [], ◌∷◌, ◌++◌, List, Option, Some, None, Result, Ok, Err, IfSome}
-use Rattle.shard_core.specs.Journal.{Settings}
+use Rattle.journal_theory.specs.Journal.{Settings}
 use Rattle.shard_core.specs.Held.{settings_of}
 use Rattle.tsc_config.specs.declared.config.Config.{Config}
 use Rattle.span_sink.specs.LineSinks.{LineSinkState, up_state, down_state}

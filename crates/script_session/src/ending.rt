@@ -1,6 +1,6 @@
 //! The senders end one after the other.
 ghost use Rattle.std.specs.Prelude.{◌≡◌, ◌+◌, ◌<◌, true, false, length};
-ghost use Rattle.shard_core.specs.Journal.{Settings};
+ghost use Rattle.journal_theory.specs.Journal.{Settings};
 ghost use Rattle.script_run.specs.World.{ends_from};
 ghost use Rattle.script_session.specs.Pulling.{AreQuiet, HaveSettings, RoundsTaken, ends_of, has_all_nodes};
 

@@ -1,6 +1,6 @@
 //! The parts of the collector, driven by a script.
 ghost use Rattle.std.specs.Prelude.{◌≡◌, ◌<◌, ◌≤◌, [], ◌++◌, true, false, not, map, length, vec_capacity};
-ghost use Rattle.shard_core.specs.Journal.{Settings};
+ghost use Rattle.journal_theory.specs.Journal.{Settings};
 ghost use Rattle.tsc_script.specs.Instructions.{instruction_of_command, is_close, receive, tick, close};
 ghost use Rattle.span_exporter.specs.Exports.{WritesLine};
 ghost use Rattle.script_session.specs.declared.replying.TheConstants.{MAX_REPLY_LINE};

@@ -1,6 +1,6 @@
 //! What all shards are told alike.
 ghost use Rattle.std.specs.Prelude.{◌≡◌, true};
-ghost use Rattle.shard_core.specs.Taking.{has_ids};
+ghost use Rattle.journal_theory.specs.Journal.{has_ids};
 ghost use Rattle.script_session.specs.Signals.{item_of};
 
 use otlp_types::Item;

@@ -2,9 +2,9 @@
 ghost use Rattle.std.specs.Prelude.{◌≡◌, ℕ, ◌<◌, List, [], ◌∷◌, Bool, true, false, length, map, if◌then◌else◌};
 ghost use Rattle.std.specs.List.{AllByRecursion, list_all};
 ghost use Rattle.rate_budget.specs.Budget.{limiter_counts, has_node};
-ghost use Rattle.shard_core.specs.Journal.{Entry, Settings};
+ghost use Rattle.journal_theory.specs.Journal.{Entry, Settings, has_ids};
 ghost use Rattle.shard_core.specs.Held.{StandsFor, has_due, is_finished, settings};
-ghost use Rattle.shard_core.specs.Taking.{has_ids, ends_after, released_by, released_in, dropped_by, dropped_in};
+ghost use Rattle.shard_core.specs.Taking.{ends_after, released_by, released_in, dropped_by, dropped_in};
 ghost use Rattle.script_run.specs.World.{Turn, to_each};
 ghost use Rattle.script_session.specs.Signals.{item_of};
 ghost use Rattle.script_session.specs.Pulling.{PullsAll, TakesItems, DecidesAll, has_nodes_of, has_all_nodes, AreOpen, AreQuiet, HaveSettings, EachTakes, RoundsTaken, rounds_of, is_queued, emptied, items_in, HoldsQueued};

@@ -13,17 +13,18 @@ use Rattle.trace_buffer.specs.declared.episode.Evicted.{Evicted}
 use Rattle.decision_cache.specs.Lists.{CacheLists, TraceList, asked, after_asking, list_after_put, puts, PutAs, Remembers}
 use Rattle.decision_cache.specs.declared.traces.Remembered.{Remembered}
 use Rattle.decision_cache.specs.declared.traces.Remembered.TheVariants.{Kept as InCache, Off, Lost}
-use Rattle.shard_core.specs.Journal.{Settings, cache_size}
-use Rattle.shard_core.specs.Standing.{Standing}
+use Rattle.journal_theory.specs.Journal.{Settings, cache_size}
+use Rattle.journal_theory.specs.Standing.{Standing}
 use Rattle.shard_core.specs.Held.{Held, held_of, settings}
-use Rattle.shard_core.specs.Keeping.{after_span_of, after_episode, after_known, after_unknown, after_leaving, after_leaving_decided, with_caches}
-use Rattle.shard_core.specs.Laws.{State, state_in, state_by}
-use Rattle.shard_core.specs.Taking.{is_refusal, is_loss, answer_to_late, put_answer, put_in, cache_is_on}
+use Rattle.journal_theory.specs.Keeping.{after_span_of, after_episode, after_known, after_unknown, after_leaving, after_leaving_decided, with_caches}
+use Rattle.journal_theory.specs.Laws.{State, state_in, state_by}
+use Rattle.shard_core.specs.Taking.{is_refusal, is_loss, answer_to_late, put_answer, put_in}
+use Rattle.journal_theory.specs.Marked.{cache_is_on}
 use Rattle.shard_core.specs.Holding.{answer_held, verdict_leaving, marks_held, at_clock, TakesSpanOf, Puts, PutsDecided, KeepsAs}
 use Rattle.shard_core.specs.declared.answer.Taken.{Taken}
 use Rattle.shard_core.specs.declared.answer.Taken.TheVariants.{Kept, Dropped, Late, Ticked, Ended, Finished}
 use Rattle.decision_cache.specs.Touches.{is_lost}
-use Rattle.shard_core.proofs.StandingParts.{state_asked, sizes_asked}
+use Rattle.journal_theory.proofs.StandingParts.{state_asked, sizes_asked}
 
 -- ---- what `find` says of the trace's episode
 

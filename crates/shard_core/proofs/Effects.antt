@@ -1,13 +1,13 @@
 -- What the answers of a shard hand over and count is what the definitions release and count.
-use Rattle.std.proofs.Common.{◌≡◌, ℕ, zero, suc, ◌+◌, ◌<◌, Bool, true, false, cond, List, [], ◌∷◌, ◌++◌, map, length, take, drop, Option, Some, None, option_map, refl, sym, ap, subst, ◌∙◌, arith, append-nil, append_assoc, add-one, length-append}
+use Rattle.std.proofs.Common.{◌≡◌, ℕ, suc, ◌+◌, ◌<◌, Bool, true, false, cond, List, [], ◌∷◌, ◌++◌, map, length, take, drop, Option, Some, None, option_map, refl, sym, ap, ◌∙◌, arith, append-nil, append_assoc, add-one, length-append}
 use Rattle.std.specs.List.{filter}
 use Rattle.std.proofs.lemmas.List.{map-append}
 use Rattle.std.proofs.lemmas.List.Elements.{filter-append}
-use Rattle.shard_core.specs.Journal.{Entry, Settings, Journal, Decision, Notes, Finding, joins, meets, opens, Opening, notes, finding, leaving, decided_as, spans_since, due_now, decision, decisions_now, has_finished, answered, IsAnswered, IsAnsweredUpTo}
-use Rattle.shard_core.specs.Standing.{spans_left}
-use Rattle.shard_core.specs.Fate.{DroppedSpan, Effect, counts, under, is_same_reason, effect, effect_dealt, effect_of_taking, effect_of_item, effect_of_span, effect_of_finding, effect_of_leaving, effect_of_leaving_decided, effect_of_verdict, effect_of_decision, effect_of_decisions, released_dealt, dropped_dealt}
+use Rattle.journal_theory.specs.Journal.{Entry, Settings, Journal, Decision, Notes, Finding, joins, meets, opens, Opening, notes, finding, leaving, decided_as, spans_since, due_now, decision, decisions_now, has_finished, answered, IsAnswered, IsAnsweredUpTo}
+use Rattle.journal_theory.specs.Standing.{spans_left, evicted_of}
+use Rattle.journal_theory.specs.Fate.{DroppedSpan, Effect, counts, under, is_same_reason, effect, effect_dealt, effect_of_taking, effect_of_item, effect_of_span, effect_of_finding, effect_of_leaving, effect_of_leaving_decided, effect_of_verdict, effect_of_decision, effect_of_decisions, released_dealt, dropped_dealt}
 use Rattle.shard_core.specs.Held.{Held, settings, StandsFor, has_due, is_due_in}
-use Rattle.shard_core.specs.Taking.{entry, answer_to, answer_to_ids, answer_to_item, answer_to_finding, evicted_of, spans_left_by, released_by, dropped_by, released_in, dropped_in, Releases, AddsDecision}
+use Rattle.shard_core.specs.Taking.{entry, answer_to, answer_to_ids, answer_to_item, answer_to_finding, spans_left_by, released_by, dropped_by, released_in, dropped_in, Releases, AddsDecision}
 use Rattle.policy_eval.specs.Given.{verdict_given}
 use Rattle.shard_core.specs.declared.answer.Taken.{Taken}
 use Rattle.shard_core.specs.declared.answer.Taken.TheVariants.{Ended, Finished}
@@ -21,11 +21,11 @@ use Rattle.span_ids.specs.declared.outcome.Reason.{Reason}
 use Rattle.span_ids.specs.declared.outcome.Reason.TheVariants.{NoMemory, LateNotSampled, Evicted as EvictedReason, NotSampled as NotSampledReason}
 use Rattle.span_ids.specs.declared.outcome.Verdict.{Verdict}
 use Rattle.span_ids.specs.declared.outcome.Verdict.TheVariants.{Sampled, NotSampled}
-use Rattle.shard_core.proofs.Lists.{find-from_any}
-use Rattle.shard_core.proofs.Notes.{HasRoom}
-use Rattle.shard_core.proofs.Due.{nothing_left, turn-done, due_list}
+use Rattle.journal_theory.proofs.Lists.{find-from_any}
+use Rattle.journal_theory.proofs.Notes.{HasRoom}
+use Rattle.journal_theory.proofs.Due.{nothing_left, turn-done, due_list}
 use Rattle.shard_core.proofs.Stands.{room_of}
-use Rattle.shard_core.proofs.Answering.{decisions-answered, all-answered}
+use Rattle.journal_theory.proofs.Answering.{decisions-answered, all-answered}
 
 -- ---- how many are counted
 

@@ -1,8 +1,8 @@
 -- The fate of a span, right after it was taken.
 use Rattle.std.proofs.Common.{[], ◌≡◌, ℕ, ◌<◌, Bool, true, false, cond, ◌||◌, ◌==◌, ◌∷◌, length, Option, Some, None, option_map, refl, sym, ap, ◌∙◌, arith, ne_eqb, eq-eqb}
 use Rattle.std.specs.List.{list_any}
-use Rattle.shard_core.specs.Journal.{Entry, Settings, Journal, Opening, Decision, Notes, Finding, joins, meets, opens, notes, finding, finding_of, finding_at, is_in_buffer, is_remembered, latest_episode, decided_as, after_span, after_finding, clock}
-use Rattle.shard_core.specs.Fate.{fate, fate_of_finding, fate_of_member_decided}
+use Rattle.journal_theory.specs.Journal.{Entry, Settings, Journal, Opening, Decision, Notes, Finding, joins, meets, opens, notes, finding, finding_of, finding_at, is_in_buffer, is_remembered, latest_episode, decided_as, after_span, after_finding, clock}
+use Rattle.journal_theory.specs.Fate.{fate, fate_of_finding, fate_of_member_decided}
 use Rattle.shard_core.specs.Held.{Held, settings}
 use Rattle.shard_core.specs.Taking.{entry, is_refusal, is_loss, answer_to, answer_to_ids, answer_to_finding, answer_to_late, fate_told, TellsFateOf, TellsFate}
 use Rattle.shard_core.specs.declared.answer.Taken.{Taken}
@@ -12,10 +12,10 @@ use Rattle.otlp_types.specs.declared.arrival.Arrival.{Arrival}
 use Rattle.otlp_types.specs.declared.arrival.Item.TheVariants.{Span}
 use Rattle.span_ids.specs.declared.outcome.Verdict.{Verdict}
 use Rattle.span_ids.specs.declared.outcome.Verdict.TheVariants.{Sampled, NotSampled}
-use Rattle.shard_core.proofs.ListFacts.{Each-weaker}
-use Rattle.shard_core.proofs.Find.{find_none}
-use Rattle.shard_core.proofs.Notes.{HasRoom}
-use Rattle.shard_core.proofs.Sound.{makes_room, sound_notes}
+use Rattle.journal_theory.proofs.ListFacts.{Each-weaker}
+use Rattle.journal_theory.proofs.Find.{find_none}
+use Rattle.journal_theory.proofs.Notes.{HasRoom}
+use Rattle.journal_theory.proofs.Sound.{makes_room, sound_notes}
 use Rattle.shard_core.proofs.Stands.{room_of}
 
 module _ (s : Settings) (room : HasRoom s.limit) where

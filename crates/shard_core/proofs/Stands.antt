@@ -11,22 +11,23 @@ use Rattle.policy_tree.specs.declared.policy.Policy.{Policy}
 use Rattle.trace_buffer.specs.Buffer.{Episode, Buffer, leaves}
 use Rattle.trace_buffer.specs.declared.episode.Evicted.{Evicted}
 use Rattle.decision_cache.specs.Lists.{CacheLists}
-use Rattle.shard_core.specs.Journal.{Entry, Settings, Journal, StoppedInTime, Opening, Notes, Finding, joins, meets, opens, notes, finding, leaving, decided_as, due_now, have_ended, are_each_answered, IsAnswered, IsAnsweredUpTo}
-use Rattle.shard_core.specs.Standing.{Standing, standing, ends}
+use Rattle.journal_theory.specs.Journal.{Entry, Settings, Journal, StoppedInTime, Opening, Notes, Finding, joins, meets, opens, notes, finding, leaving, decided_as, due_now, have_ended, are_each_answered, IsAnswered, IsAnsweredUpTo}
+use Rattle.journal_theory.specs.Standing.{Standing, standing, ends, evicted_of}
 use Rattle.shard_core.specs.Held.{Held, held_of, settings, settings_of, StandsFor, has_due, is_finished, is_due_in}
-use Rattle.shard_core.specs.Keeping.{buffer, after_span_of, after_span_in, after_entry}
-use Rattle.shard_core.specs.Laws.{state_found, state_in}
-use Rattle.shard_core.specs.Taking.{entry, is_refusal, is_loss, answer_to, answer_to_ids, answer_to_finding, evicted_of, put_answer, cache_is_on, marks_apply, marks_apply_to, marks_apply_to_ids}
+use Rattle.journal_theory.specs.Keeping.{buffer, after_span_of, after_span_in, after_entry}
+use Rattle.journal_theory.specs.Laws.{state_found, state_in}
+use Rattle.shard_core.specs.Taking.{entry, is_refusal, is_loss, answer_to, answer_to_ids, answer_to_finding, put_answer}
+use Rattle.journal_theory.specs.Marked.{cache_is_on, marks_apply, marks_apply_to, marks_apply_to_ids}
 use Rattle.shard_core.specs.Holding.{answer_by_state, answer_held, verdict_leaving, marks_held, at_clock, TakesSpan, TakesSpanOf, held_after_tick, held_after_end}
 use Rattle.shard_core.specs.declared.answer.Taken.{Taken}
 use Rattle.shard_core.specs.declared.answer.Taken.TheVariants.{Kept, Ticked, Ended, Finished}
-use Rattle.shard_core.proofs.Lists.{find-from_any}
-use Rattle.shard_core.proofs.Notes.{HasRoom}
-use Rattle.shard_core.proofs.Due.{nothing_left, all_ended, length-ends}
-use Rattle.shard_core.proofs.FoundAsHeld.{found_as_held, all_dealt}
-use Rattle.shard_core.proofs.StandingParts.{standing_by}
-use Rattle.shard_core.proofs.Keeping.{keeps_standing, leaves_held}
-use Rattle.shard_core.proofs.Answering.{all-answered}
+use Rattle.journal_theory.proofs.Lists.{find-from_any}
+use Rattle.journal_theory.proofs.Notes.{HasRoom}
+use Rattle.journal_theory.proofs.Due.{nothing_left, all_ended, length-ends}
+use Rattle.journal_theory.proofs.FoundAsHeld.{found_as_held, all_dealt}
+use Rattle.journal_theory.proofs.StandingParts.{standing_by}
+use Rattle.journal_theory.proofs.Keeping.{keeps_standing, leaves_held}
+use Rattle.journal_theory.proofs.Answering.{all-answered}
 
 pub room_of : (h : Held) → 0 < h.limit → HasRoom (settings h).limit
 room_of h l e = let z : h.limit ≡ 0 = cc e in absurd (omega (arith, l, z))

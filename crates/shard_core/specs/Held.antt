@@ -1,9 +1,10 @@
 -- What a caller sees of a shard, and when it stands for a journal.
-use Rattle.std.specs.Prelude.{ℕ, ◌+◌, ◌≡◌, Bool, ◌&&◌, ◌||◌, nat_le, is_none, List, if◌then◌else◌, length, Some}
+use Rattle.std.specs.Prelude.{ℕ, ◌≡◌, Bool, List, if◌then◌else◌, length, Some}
 use Rattle.std.specs.List.{list_any, list_all}
-use Rattle.shard_core.specs.Journal.{Settings, Journal, StoppedInTime, IsAnsweredUpTo}
-use Rattle.trace_buffer.specs.Buffer.{Episode, is_root_due}
-use Rattle.shard_core.specs.Standing.{Standing, standing}
+use Rattle.journal_theory.specs.Deciding.{is_due_by}
+use Rattle.journal_theory.specs.Journal.{Settings, Journal, StoppedInTime, IsAnsweredUpTo}
+use Rattle.trace_buffer.specs.Buffer.{Episode}
+use Rattle.journal_theory.specs.Standing.{Standing, standing}
 use Rattle.trace_buffer.specs.Buffer.{Buffer}
 use Rattle.decision_cache.specs.Lists.{CacheLists}
 use Rattle.policy_tree.specs.Meaning.{meaning}
@@ -42,10 +43,6 @@ settings h = settings_of h.policies h.wait h.root_wait h.limit h.sampled_size h.
 -- every sender has ended
 abbrev pub is_finished : Held → Bool
 is_finished h = list_all (λ b. b) h.standing.ends
-
--- an undecided episode is due where it, or its first root, had waited long enough at the last tick, or all senders have ended
-abbrev pub is_due_by : (finished : Bool) → (mark wait root_wait : ℕ) → Episode → Bool
-is_due_by finished mark wait root_wait e = is_none e.verdict && (finished || (nat_le (e.moment + wait) mark || is_root_due mark root_wait e.first_root))
 
 -- an episode of the shard is due
 abbrev pub is_due_in : Held → Episode → Bool

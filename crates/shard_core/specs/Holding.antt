@@ -1,6 +1,6 @@
 -- What the code of a shard does to what it holds: words of its private functions, beside the definitions.
 use Rattle.std.specs.Prelude.{ℕ, ◌≡◌, max, Bool, true, false, not, ◌&&◌, ◌||◌, is_none, if◌then◌else◌, List, slice_set, find, Option, Some, None}
-use Rattle.shard_core.specs.Standing.{Standing}
+use Rattle.journal_theory.specs.Standing.{Standing}
 use Rattle.trace_buffer.specs.Buffer.{Episode, leaves, settle_first, is_due_at}
 use Rattle.trace_buffer.specs.declared.episode.Evicted.{Evicted}
 use Rattle.decision_cache.specs.Lists.{CacheLists, Remembers, is_held_in_either}
@@ -12,11 +12,12 @@ use Rattle.span_ids.specs.declared.ids.TraceId.{TraceId}
 use Rattle.otlp_types.specs.declared.arrival.Arrival.{Arrival}
 use Rattle.span_ids.specs.declared.outcome.Verdict.{Verdict}
 use Rattle.span_ids.specs.declared.outcome.Reason.TheVariants.{NoMemory}
-use Rattle.shard_core.specs.Journal.{Settings}
-use Rattle.shard_core.specs.Keeping.{buffer, after_span_of}
-use Rattle.shard_core.specs.Laws.{State, state_in}
+use Rattle.journal_theory.specs.Journal.{Settings}
+use Rattle.journal_theory.specs.Keeping.{buffer, after_span_of}
+use Rattle.journal_theory.specs.Laws.{State, state_in}
 use Rattle.shard_core.specs.Held.{Held, settings}
-use Rattle.shard_core.specs.Taking.{is_refusal, is_loss, answer_to_late, put_answer, cache_is_on, Releases}
+use Rattle.shard_core.specs.Taking.{is_refusal, is_loss, answer_to_late, put_answer, Releases}
+use Rattle.journal_theory.specs.Marked.{cache_is_on}
 use Rattle.shard_core.specs.declared.answer.Taken.{Taken}
 use Rattle.shard_core.specs.declared.answer.Taken.TheVariants.{Kept, Dropped}
 use Rattle.shard_core.specs.declared.answer.Decided.{Decided}

@@ -1,18 +1,17 @@
 -- What `take` and `decide` answer.
-use Rattle.std.specs.Prelude.{ℕ, ◌+◌, ◌/◌, ◌≡◌, ◌==◌, nat_lt, max, Bool, true, false, not, ◌&&◌, ◌||◌, is_none, is_some, if◌then◌else◌, List, [], ◌∷◌, ◌++◌, length, drop, filter, slice_set, Option, Some, None, option_map, option_and_then}
-use Rattle.shard_core.specs.Journal.{Settings, Journal, Opening, Notes, Finding, joins, meets, opens, notes, finding, leaving, decided_as, cache_size, has_finished, due_now, item_moment, spans_since, clock, answered}
-use Rattle.shard_core.specs.Standing.{episode}
-use Rattle.trace_buffer.specs.Buffer.{evicted_as}
+use Rattle.std.specs.Prelude.{ℕ, ◌+◌, ◌/◌, ◌≡◌, ◌==◌, max, Bool, true, false, is_none, if◌then◌else◌, List, [], ◌∷◌, ◌++◌, length, drop, filter, slice_set, Option, Some, None, option_map}
+use Rattle.journal_theory.specs.Journal.{Settings, Journal, Opening, Notes, Finding, joins, meets, opens, notes, finding, leaving, cache_size, has_finished, due_now, item_moment, spans_since, clock, answered}
+use Rattle.journal_theory.specs.Standing.{evicted_of}
 use Rattle.trace_buffer.specs.declared.episode.Evicted.{Evicted}
 use Rattle.decision_cache.specs.declared.traces.Remembered.{Remembered}
 use Rattle.decision_cache.specs.declared.traces.Remembered.TheVariants.{Kept as InCache, Off, Lost}
-use Rattle.shard_core.specs.Fate.{Fate, waits, is_released, is_counted, fate, is_same_reason, released_dealt, dropped_dealt}
+use Rattle.journal_theory.specs.Fate.{Fate, waits, is_released, is_counted, fate, is_same_reason, released_dealt, dropped_dealt}
 use Rattle.policy_eval.specs.Given.{verdict_given, asked_given, are_answered, Asked}
 use Rattle.otlp_types.specs.declared.span.Ids.{Ids}
 use Rattle.otlp_types.specs.declared.arrival.Arrival.{Arrival}
 use Rattle.otlp_types.specs.declared.arrival.Item.{Item}
 use Rattle.otlp_types.specs.declared.arrival.Item.TheVariants.{Span, Tick, End}
-use Rattle.shard_core.specs.Journal.{Entry}
+use Rattle.journal_theory.specs.Journal.{Entry}
 use Rattle.span_ids.specs.declared.outcome.Verdict.{Verdict}
 use Rattle.span_ids.specs.declared.outcome.Verdict.TheVariants.{Sampled, NotSampled}
 use Rattle.span_ids.specs.declared.outcome.Reason.{Reason}
@@ -44,10 +43,6 @@ abbrev pub answer_to_late : Arrival → Verdict → Taken
 answer_to_late a Sampled = Late a
 answer_to_late a NotSampled = Dropped LateNotSampled
 
--- what is told of the episode that leaves: its trace, how many spans it still holds, and its verdict
-abbrev pub evicted_of : (before : Journal) → Notes → Opening → Evicted
-evicted_of before noted o = evicted_as (episode before noted o)
-
 -- what became of a put, by the size of the cache
 abbrev pub put_in : (lost : Bool) → (size : ℕ) → Remembered
 put_in lost size = if lost then Lost else if size == 0 then Off else InCache
@@ -78,48 +73,6 @@ answer_to_item s e before (End sender) = if has_finished s e before then Finishe
 -- the answer to an entry: its fate at once, and what it ends
 abbrev pub answer_to : Settings → Entry → (before : Journal) → Taken
 answer_to s e before = answer_to_item s e before e.item
-
--- a refusal is of an append or an opening
-abbrev pub refusal_applies : Finding → Bool
-refusal_applies (joins o) = true
-refusal_applies (meets o v) = false
-refusal_applies opens = true
-
--- a decided episode is put into a cache that isn't off
-abbrev pub cache_is_on : Settings → Option Verdict → Bool
-cache_is_on s None = false
-cache_is_on s (Some v) = nat_lt 0 (cache_size s v)
-
--- a loss is of the put of a decided episode, evicted by an opening, whose cache isn't off
-abbrev pub loss_applies : Settings → Notes → Finding → Bool
-loss_applies s noted (joins o) = false
-loss_applies s noted (meets o v) = false
-loss_applies s noted opens = cache_is_on s (option_and_then (λ (o : Opening). decided_as noted o.at) (leaving s.limit noted.openings))
-
--- the marks are such as can apply to a span that finds this
-abbrev pub marks_apply_to : Settings → Notes → (refused lost : Bool) → Finding → Bool
-marks_apply_to s noted refused lost f = (not refused || refusal_applies f) && (not lost || (not refused && loss_applies s noted f))
-
--- the marks are such as can apply to a span with these ids
-abbrev pub marks_apply_to_ids : Settings → (before : Journal) → (refused lost : Bool) → Option Ids → Bool
-marks_apply_to_ids s before refused lost None = false
-marks_apply_to_ids s before refused lost (Some ids) = marks_apply_to s (notes s before) refused lost (finding s (notes s before) ids.trace)
-
--- the marks are such as can apply to the item
-abbrev pub marks_apply_to_item : Settings → (before : Journal) → (refused lost : Bool) → Item → Bool
-marks_apply_to_item s before refused lost (Span a) = marks_apply_to_ids s before refused lost a.rec.span.ids
-marks_apply_to_item s before refused lost (Tick m) = not refused && not lost
-marks_apply_to_item s before refused lost (End sender) = not refused && not lost
-
--- memory is refused at most to an append or an opening, or to the put of a decision that an opening evicted
-abbrev pub marks_apply : Settings → Entry → (before : Journal) → Bool
-marks_apply s e before = marks_apply_to_item s before e.refused e.lost e.item
-
--- a span that a shard is handed has valid ids
-abbrev pub has_ids : Item → Bool
-has_ids (Span a) = is_some a.rec.span.ids
-has_ids (Tick m) = true
-has_ids (End sender) = true
 
 -- the shard takes no more
 abbrev pub is_last : Taken → Bool

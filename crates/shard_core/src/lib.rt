@@ -2,13 +2,14 @@
 //! and hands late spans on by it (tailsamplingprocessor README, `decision_wait`).
 //!
 //! What a shard answers is a function of the list of items that it has taken, its journal, and of where memory was
-//! refused. No journal is stored: each clause speaks of every journal that the shard stands for.
+//! refused. No journal is stored: each clause speaks of every journal that the shard stands for. The words for journals are
+//! those of `journal_theory`, whose module `laws`, of what holds of every journal, is shown here too.
 //! The buffer holds so many traces at most; the verdict of a decided trace that leaves it goes into a cache of decisions.
 #![tactic(auto)]
 
 mod answer;
-pub mod laws;
 mod shard;
 
 pub use answer::{Decided, Taken};
+pub use journal_theory::laws;
 pub use shard::Shard;

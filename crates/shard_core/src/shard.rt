@@ -2,11 +2,11 @@
 ghost use Rattle.std.specs.Prelude.{◌≡◌, ◌⊎◌, ℕ, replicate, [], ◌∷◌, ◌++◌, ◌+◌, if◌then◌else◌, ◌<◌, ◌≤◌, max, Bool, IsTrue, IsSome, true, false, length, OnOk, IfOk, position, Some, None};
 ghost use Rattle.span_ids.specs.declared.outcome.Reason.{Reason};
 ghost use Rattle.span_ids.specs.Same.{same_trace};
-ghost use Rattle.shard_core.specs.Journal.{Journal, IsAnswered};
+ghost use Rattle.journal_theory.specs.Journal.{Journal, IsAnswered};
 ghost use Rattle.policy_tree.specs.Tree.{limiters};
 ghost use Rattle.policy_tree.specs.Meaning.{meaning};
 ghost use Rattle.policy_eval.specs.Meaning.{knows};
-ghost use Rattle.shard_core.specs.Fate.{effect, effect_dealt, released_dealt, dropped_dealt};
+ghost use Rattle.journal_theory.specs.Fate.{effect, effect_dealt, released_dealt, dropped_dealt};
 ghost use Rattle.shard_core.specs.Taking.{Releases, answer_to_late};
 ghost use Rattle.shard_core.specs.Holding.{KeepsAs, leaves_forgotten};
 
@@ -58,7 +58,9 @@ impl Model for Shard {
 
 impl Shard {
     ghost use Rattle.shard_core.specs.Held.{StandsFor, has_due, is_finished, due_by, settings, settings_of};
-    ghost use Rattle.shard_core.specs.Taking.{entry, ends_after, answer_to, marks_apply, has_ids, is_refusal, only_clock, TellsFate, is_last, released_by, dropped_by, Decides, waiting, released_in, dropped_in, dealt_after};
+    ghost use Rattle.shard_core.specs.Taking.{entry, ends_after, answer_to, is_refusal, only_clock, TellsFate, is_last, released_by, dropped_by, Decides, waiting, released_in, dropped_in, dealt_after};
+    ghost use Rattle.journal_theory.specs.Journal.{has_ids};
+    ghost use Rattle.journal_theory.specs.Marked.{marks_apply};
     ghost use Rattle.shard_core.specs.Holding.{held_after_tick, held_after_end, TakesSpan};
 
     /// A shard that has taken nothing. `wait` is how long a trace waits for its decision, in milliseconds, and `root_wait`

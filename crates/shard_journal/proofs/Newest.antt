@@ -2,7 +2,7 @@
 use Rattle.std.proofs.Common.{◌≡◌, ℕ, ◌+◌, ◌<◌, ◌≤◌, ◌&&◌, ◌||◌, nat_le, List, [], ◌∷◌, ◌++◌, length, get_or, take, reverse, ap, sym, ◌∙◌, add-one, refl, arith}
 use Rattle.std.proofs.lemmas.List.{reverse-append, take_more, length-reverse, length-take-le}
 use Rattle.std.specs.List.{list_any}
-use Rattle.shard_core.specs.Journal.{Entry, Journal, Opening, clock, has_ended, have_ended, is_root, is_root_past, item_spans, spans_since}
+use Rattle.journal_theory.specs.Journal.{Entry, Journal, Opening, clock, has_ended, have_ended, is_root, is_root_past, item_spans, spans_since}
 
 -- one element more in a list seen from its end
 pub newest_more : {X : Type 0} → (xs : List X) (i : ℕ) (d : X) → i < length xs → reverse (take (i + 1) xs) ≡ get_or xs i d ∷ reverse (take i xs)

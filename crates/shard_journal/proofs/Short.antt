@@ -2,10 +2,10 @@
 use Rattle.std.proofs.Common.{◌≡◌, ℕ, ◌==◌, Bool, true, false, cond, not, ◌&&◌, ◌||◌, List, [], ◌∷◌, ◌++◌, map, reverse, filter, find, length, Option, Some, None, option_map, is_none, refl, ap, ◌∙◌}
 use Rattle.std.specs.Option.{option_and_then}
 use mathlib.Core.Path.{fun_ext}
-use Rattle.shard_core.specs.Journal.{Settings, Entry, Journal, Opening, Decision, Notes, Finding, joins, meets, opens, in_buffer, leaving, decided_as, undecided, latest_episode, finding_at, finding_of, finding, due_at, is_due, has_finished, touch_of_leaving, touch_of_leaving_decided, after_finding, after_span, after_item, clock}
-use Rattle.shard_core.specs.Taking.{cache_is_on, refusal_applies, loss_applies, marks_apply_to}
-use Rattle.shard_core.specs.Fate.{effect_of_leaving, effect_of_leaving_decided, effect_of_finding}
-use Rattle.shard_core.specs.Journal.{spans_since}
+use Rattle.journal_theory.specs.Journal.{Settings, Entry, Journal, Opening, Decision, Notes, Finding, joins, meets, opens, in_buffer, leaving, decided_as, undecided, latest_episode, finding_at, finding_of, finding, due_at, is_due, has_finished, touch_of_leaving, touch_of_leaving_decided, after_finding, after_span, after_item, clock}
+use Rattle.journal_theory.specs.Marked.{cache_is_on, refusal_applies, loss_applies, marks_apply_to}
+use Rattle.journal_theory.specs.Fate.{effect_of_leaving, effect_of_leaving_decided, effect_of_finding}
+use Rattle.journal_theory.specs.Journal.{spans_since}
 use Rattle.otlp_types.specs.declared.arrival.Arrival.{Arrival}
 use Rattle.otlp_types.specs.declared.arrival.Item.{Item}
 use Rattle.otlp_types.specs.declared.arrival.Item.TheVariants.{Span, Tick, End}

@@ -1,17 +1,16 @@
 -- What the program's notes stand for, decision by decision and entry by entry.
 -- Serves `decide_each`, `note_entry`, `notes_of` and those that read the notes.
-use Rattle.std.proofs.Common.{◌≡◌, ℕ, zero, suc, ◌+◌, ◌<◌, ◌≤◌, Bool, false, Some, None, option_map, slice_get, List, [], ◌∷◌, ◌++◌, map, take, reverse, length, get_or, min, refl, ap, sym, ◌∙◌, arith}
+use Rattle.std.proofs.Common.{◌≡◌, ℕ, zero, suc, ◌+◌, ◌<◌, ◌≤◌, Bool, false, Some, slice_get, List, [], ◌∷◌, ◌++◌, map, take, reverse, length, get_or, min, refl, ap, sym, ◌∙◌, arith}
 use Rattle.std.proofs.lemmas.List.{take_more, reverse-append}
-use Rattle.shard_core.specs.Journal.{Settings, Entry, Journal, Opening, Decision, Notes, decision, decisions_in_turn, due_at, due_now, Finding, finding, after_item, after_decisions, no_notes, notes}
-use Rattle.shard_core.specs.Fate.{Effect, effect_of_finding, effect_of_span}
-use Rattle.shard_core.specs.Taking.{marks_apply_to, marks_apply_to_ids}
+use Rattle.journal_theory.specs.Journal.{Settings, Entry, Journal, Opening, Decision, Notes, decision, decisions_in_turn, due_at, due_now, Finding, finding, after_item, after_decisions, no_notes, notes}
+use Rattle.journal_theory.specs.Fate.{effect_of_finding, effect_of_span}
 use Rattle.otlp_types.specs.declared.span.Ids.{Ids}
 use Rattle.span_ids.specs.declared.ids.TraceId.{TraceId}
 use Rattle.otlp_types.specs.declared.arrival.Arrival.{Arrival}
 use Rattle.shard_journal.specs.Found.{kind_of}
 use Rattle.shard_journal.specs.Short.{short_notes, without_spans}
 use Rattle.std.proofs.lemmas.Option.{slice_get_read}
-use Rattle.shard_journal.proofs.Short.{after_item_short, item_keeps, due_short, finding_short, effect_short, marks_short}
+use Rattle.shard_journal.proofs.Short.{after_item_short, due_short, finding_short, effect_short}
 
 -- ---- decisions in turn
 

@@ -1,5 +1,5 @@
 -- What a span finds, as the definitions say it.
-use Rattle.shard_core.specs.Journal.{Finding as FindingData, joins, meets, opens}
+use Rattle.journal_theory.specs.Journal.{Finding as FindingData, joins, meets, opens}
 use Rattle.shard_journal.specs.declared.asked.Finding.{Finding}
 use Rattle.shard_journal.specs.declared.asked.Finding.TheVariants.{Joins as AsJoins, Meets as AsMeets, Opens as AsOpens}
 use Rattle.shard_journal.specs.declared.finding.Found.{Found}

@@ -1,7 +1,7 @@
 -- What looking back over a journal finds.
 use Rattle.std.specs.Prelude.{ℕ, List, map, length}
 use Rattle.otlp_types.specs.declared.arrival.Arrival.{Arrival}
-use Rattle.shard_core.specs.Journal.{Settings, Journal, Notes, due_now, notes, spans_since}
+use Rattle.journal_theory.specs.Journal.{Settings, Journal, Notes, due_now, notes, spans_since}
 use Rattle.shard_journal.specs.Short.{short_notes}
 
 -- how many episodes are due at the journal's last item, the spans of each, and what is noted of the journal

@@ -1,6 +1,6 @@
 -- The settings of a shard, as its definitions see them.
 use Rattle.policy_tree.specs.Meaning.{meaning}
-use Rattle.shard_core.specs.Journal.{Settings as SettingsData}
+use Rattle.journal_theory.specs.Journal.{Settings as SettingsData}
 use Rattle.shard_journal.specs.declared.settings.Settings.{Settings}
 
 -- the settings, with what the policies mean

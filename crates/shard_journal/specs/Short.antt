@@ -1,6 +1,6 @@
 -- What the program notes of a journal, by what the definitions note.
-use Rattle.std.specs.Prelude.{[], ◌∷◌, map}
-use Rattle.shard_core.specs.Journal.{Decision, Notes}
+use Rattle.std.specs.Prelude.{[], map}
+use Rattle.journal_theory.specs.Journal.{Decision, Notes}
 
 -- a decision without its spans
 abbrev pub without_spans : Decision → Decision

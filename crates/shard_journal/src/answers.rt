@@ -1,9 +1,9 @@
 //! What a journal says, for those who hold it.
 ghost use Rattle.std.specs.Prelude.{◌≡◌, ◌∷◌, [], map, reverse, length, IfOk};
-ghost use Rattle.shard_core.specs.Journal.{due_now, leaving, spans_since};
-ghost use Rattle.shard_core.specs.Fate.{no_effect, counts, effect_of_verdict, effect_of_leaving, effect_of_span, effect_of_finding, effect_of_taking};
-ghost use Rattle.shard_journal.specs.Answered.{effect_answered, effect_answered_at};
-ghost use Rattle.shard_core.specs.Taking.{refusal_applies, cache_is_on, loss_applies, marks_apply_to};
+ghost use Rattle.journal_theory.specs.Journal.{due_now, leaving, spans_since};
+ghost use Rattle.journal_theory.specs.Fate.{no_effect, counts, effect_of_verdict, effect_of_leaving, effect_of_span, effect_of_finding, effect_of_taking};
+ghost use Rattle.journal_theory.specs.Answered.{effect_answered, effect_answered_at};
+ghost use Rattle.journal_theory.specs.Marked.{refusal_applies, cache_is_on, loss_applies, marks_apply_to};
 ghost use Rattle.shard_journal.specs.Settings.{settings_of};
 ghost use Rattle.shard_journal.specs.Found.{the_finding};
 

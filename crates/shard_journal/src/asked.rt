@@ -1,6 +1,6 @@
 //! What a journal says of a trace.
 ghost use Rattle.std.specs.Prelude.{◌≡◌, reverse, IfOk};
-ghost use Rattle.shard_core.specs.Journal.{finding, notes, remembered};
+ghost use Rattle.journal_theory.specs.Journal.{finding, notes, remembered};
 ghost use Rattle.shard_journal.specs.Settings.{settings_of};
 ghost use Rattle.shard_journal.specs.Found.{kind_of};
 

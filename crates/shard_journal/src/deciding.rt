@@ -1,6 +1,6 @@
 //! The decisions at the end of a journal.
 ghost use Rattle.std.specs.Prelude.{◌≡◌, reverse, OnOk, IfOk};
-ghost use Rattle.shard_core.specs.Journal.{Notes as NotesData, decisions_in_turn, after_decisions, decision, spans_since};
+ghost use Rattle.journal_theory.specs.Journal.{Notes as NotesData, decisions_in_turn, after_decisions, decision, spans_since};
 ghost use Rattle.shard_journal.specs.Settings.{settings_of};
 ghost use Rattle.shard_journal.specs.Short.{short_notes, without_spans};
 

@@ -1,7 +1,7 @@
 //! Which episodes are due at the last item of a journal.
 ghost use Rattle.std.specs.Prelude.{◌≡◌, ◌∷◌, ◌+◌, ◌&&◌, not, nat_le, filter, reverse, IfOk};
 ghost use Rattle.std.specs.List.{list_any};
-ghost use Rattle.shard_core.specs.Journal.{undecided, have_ended, due_at, is_due, is_root_past, is_root, item_spans};
+ghost use Rattle.journal_theory.specs.Journal.{undecided, have_ended, due_at, is_due, is_root_past, is_root, item_spans};
 ghost use Rattle.shard_journal.specs.Settings.{settings_of};
 
 use crate::entry::Entry;

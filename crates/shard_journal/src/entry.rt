@@ -1,7 +1,7 @@
 //! An item of a journal, and what it does at once.
 ghost use Rattle.std.specs.Coded.{codes};
-ghost use Rattle.shard_core.specs.Journal.{Entry as EntryData};
-ghost use Rattle.shard_core.specs.Fate.{DroppedSpan as DroppedSpanData, Effect as EffectData};
+ghost use Rattle.journal_theory.specs.Journal.{Entry as EntryData};
+ghost use Rattle.journal_theory.specs.Fate.{DroppedSpan as DroppedSpanData, Effect as EffectData};
 ghost use Rattle.otlp_types.specs.contracts.value.AnyValue as any_value;
 
 use otlp_types::{Arrival, Item, List};

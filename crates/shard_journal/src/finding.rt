@@ -1,6 +1,6 @@
 //! What a span finds of its trace, by what is noted.
 ghost use Rattle.std.specs.Prelude.{◌≡◌};
-ghost use Rattle.shard_core.specs.Journal.{in_buffer, is_in_buffer, cache_size, is_cached, is_remembered, finding};
+ghost use Rattle.journal_theory.specs.Journal.{in_buffer, is_in_buffer, cache_size, is_cached, is_remembered, finding};
 ghost use Rattle.shard_journal.specs.Settings.{settings_of};
 ghost use Rattle.shard_journal.specs.Found.{the_finding};
 

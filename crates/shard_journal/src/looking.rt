@@ -1,10 +1,10 @@
 //! What looking back over a journal finds, kept so that questions about it take no memory.
 ghost use Rattle.std.specs.Prelude.{◌≡◌, reverse, is_some, IfOk};
-ghost use Rattle.shard_core.specs.Journal.{Journal};
-ghost use Rattle.shard_core.specs.Taking.{marks_apply_to_ids};
+ghost use Rattle.journal_theory.specs.Journal.{Journal};
+ghost use Rattle.journal_theory.specs.Marked.{marks_apply_to_ids};
 ghost use Rattle.shard_journal.specs.Settings.{settings_of};
 ghost use Rattle.shard_journal.specs.Look.{look_of};
-ghost use Rattle.shard_journal.specs.Answered.{effect_answered_at};
+ghost use Rattle.journal_theory.specs.Answered.{effect_answered_at};
 
 use crate::answers::{due_count, due_spans, marks_apply_to};
 use crate::entry::Entry;

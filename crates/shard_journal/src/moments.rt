@@ -1,6 +1,6 @@
 //! The clock and the ends of a journal.
 ghost use Rattle.std.specs.Prelude.{◌≡◌, reverse};
-ghost use Rattle.shard_core.specs.Journal.{clock, item_moment, has_ended, have_ended, is_end_of};
+ghost use Rattle.journal_theory.specs.Journal.{clock, item_moment, has_ended, have_ended, is_end_of};
 
 use crate::entry::Entry;
 use otlp_types::Item;

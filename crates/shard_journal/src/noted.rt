@@ -5,7 +5,7 @@ ghost use Rattle.std.specs.Coded.{codes};
 ghost use Rattle.otlp_types.specs.contracts.value.AnyValue as any_value;
 ghost use Rattle.span_ids.specs.Same.{same_trace};
 ghost use Rattle.decision_cache.specs.Touches.{Touch as TouchData, is_same_verdict, last_touched, touches_since};
-ghost use Rattle.shard_core.specs.Journal.{Opening as OpeningData, Decision as DecisionData, Notes as NotesData, last_of, leaving};
+ghost use Rattle.journal_theory.specs.Journal.{Opening as OpeningData, Decision as DecisionData, Notes as NotesData, last_of, leaving};
 ghost use Rattle.shard_journal.specs.Touched.{is_further, is_touched};
 
 use span_ids::{Moment, TraceId, Verdict};
@@ -116,7 +116,7 @@ impl Model for Touch {
 }
 
 impl Touch {
-    ghost use Rattle.shard_core.specs.Journal.{touch};
+    ghost use Rattle.journal_theory.specs.Journal.{touch};
 
     pub fn new(opening: &Opening, verdict: Verdict) -> Touch
         ensures { result ≡ touch opening.now verdict }
@@ -174,7 +174,7 @@ impl Model for Notes {
 }
 
 impl Notes {
-    ghost use Rattle.shard_core.specs.Journal.{decided_as, latest_episode, no_notes};
+    ghost use Rattle.journal_theory.specs.Journal.{decided_as, latest_episode, no_notes};
 
     /// The notes of the empty journal.
     pub fn new(alloc: Global) -> Notes

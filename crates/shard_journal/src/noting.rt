@@ -1,6 +1,6 @@
 //! What is noted of a journal, entry by entry.
 ghost use Rattle.std.specs.Prelude.{◌≡◌, ◌∷◌, reverse, IfOk, OnOk, option_to_list};
-ghost use Rattle.shard_core.specs.Journal.{opens, finding, leaving, touch_of_leaving, after_finding, after_item, notes};
+ghost use Rattle.journal_theory.specs.Journal.{opens, finding, leaving, touch_of_leaving, after_finding, after_item, notes};
 ghost use Rattle.shard_journal.specs.Settings.{settings_of};
 ghost use Rattle.shard_journal.specs.Short.{short_notes};
 

@@ -1,6 +1,6 @@
 //! The spans of an episode, looked up in a journal.
 ghost use Rattle.std.specs.Prelude.{◌≡◌, ◌++◌, ◌&&◌, nat_le, reverse, IfOk, OnOk};
-ghost use Rattle.shard_core.specs.Journal.{is_of_trace, item_spans, spans_since};
+ghost use Rattle.journal_theory.specs.Journal.{is_of_trace, item_spans, spans_since};
 
 use crate::entry::Entry;
 use crate::noted::Opening;

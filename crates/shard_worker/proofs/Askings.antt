@@ -2,12 +2,12 @@
 -- For the clause `done` of `Turns::decide_due`.
 use Rattle.std.proofs.Common.{◌≡◌, ℕ, zero, suc, ◌/◌, Bool, true, false, not, ◌&&◌, cond, List, [], ◌∷◌, ◌++◌, length, take, drop, refl, sym, ap, subst}
 use Rattle.std.proofs.lemmas.Bool.{and_parts}
-use Rattle.shard_core.proofs.Answering.{no_more}
+use Rattle.journal_theory.proofs.Answering.{no_more}
 use Rattle.otlp_types.specs.declared.arrival.Item.{Item}
 use Rattle.otlp_types.specs.declared.arrival.Item.TheVariants.{Span, Tick, End}
 use Rattle.policy_tree.specs.Tree.{Policies}
 use Rattle.policy_eval.specs.Given.{asked_given, are_answered, Asked}
-use Rattle.shard_core.specs.Journal.{Entry, Settings, Journal, Opening, Notes, notes, due_at, due_now, undecided, have_ended, has_ended, spans_since, clock, answered, are_each_answered, IsAnsweredUpTo}
+use Rattle.journal_theory.specs.Journal.{Entry, Settings, Journal, Opening, Notes, notes, due_at, due_now, undecided, have_ended, has_ended, spans_since, clock, answered, are_each_answered, IsAnsweredUpTo}
 use Rattle.shard_core.specs.Held.{Held, settings}
 use Rattle.shard_core.specs.Taking.{journal_after, DecidesFirst}
 use Rattle.shard_core.specs.declared.answer.Decided.{Decided}

@@ -14,12 +14,11 @@ use Rattle.drop_ledger.proofs.Gains.{tallies_none}
 use Rattle.lane_queue.specs.Ends.{EndState, ReceiverState, with_item, TakesAt}
 use Rattle.lane_queue.specs.Merges.{IsMergeOf}
 use Rattle.lane_queue.proofs.Merging.{merge_more}
-use Rattle.shard_core.specs.Journal.{Entry, Settings, Journal, has_ended, have_ended, IsAnswered}
-use Rattle.shard_core.specs.Fate.{Effect, effect, effect_dealt, under}
+use Rattle.journal_theory.specs.Journal.{Entry, Settings, Journal, has_ended, have_ended, IsAnswered, has_ids}
+use Rattle.journal_theory.specs.Fate.{Effect, effect, effect_dealt, under}
 use Rattle.shard_core.specs.Held.{Held, settings, StandsFor, is_finished}
-use Rattle.shard_core.specs.Standing.{Standing, ends}
-use Rattle.shard_core.specs.Taking.{has_ids, marks_apply}
-use Rattle.shard_core.specs.Marked.{MarksApply}
+use Rattle.journal_theory.specs.Standing.{Standing, ends}
+use Rattle.journal_theory.specs.Marked.{MarksApply, marks_apply}
 use Rattle.shard_worker.specs.Asking.{AskedBy}
 use Rattle.shard_worker.specs.Work.{shipments, items, with_ids, journal_of, counted_in, Works}
 use Rattle.shard_worker.specs.Turns.{counted_dealt, HasDone, TakesItem}

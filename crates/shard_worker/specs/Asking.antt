@@ -3,7 +3,7 @@ use Rattle.std.specs.Prelude.{◌≡◌, ℕ, ◌/◌, Bool, List, [], ◌∷◌
 use Rattle.otlp_types.specs.declared.arrival.Arrival.{Arrival}
 use Rattle.policy_tree.specs.Tree.{Policies}
 use Rattle.policy_eval.specs.Given.{asked_given, Asked}
-use Rattle.shard_core.specs.Journal.{Settings, Journal, Opening, clock, due_now, spans_since}
+use Rattle.journal_theory.specs.Journal.{Settings, Journal, Opening, clock, due_now, spans_since}
 
 -- Asked at the decisions of these episodes in turn, in this second, as the policies ask on their spans, the limiter gave each decision its answers, and went from one state to the other.
 abbrev pub AskedInTurn : {L : Type 0} → (asks : L → ℕ → ℕ → ℕ → Bool → L → Type 0) → Policies → (second : ℕ) → (spans_of : Opening → List Arrival) → List Opening → (answers : List (List Bool)) → (old new : L) → Type 0

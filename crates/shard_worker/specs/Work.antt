@@ -9,11 +9,10 @@ use Rattle.drop_ledger.specs.declared.count.Count.TheVariants.{Received, Handed,
 use Rattle.drop_ledger.specs.Places.{TallyState, Tallies}
 use Rattle.lane_queue.specs.Ends.{EndState, ReceiverState}
 use Rattle.lane_queue.specs.Merges.{IsMergeOf}
-use Rattle.shard_core.specs.Journal.{Entry, Settings, Journal, have_ended, IsAnswered}
-use Rattle.shard_core.specs.Fate.{effect, output, under}
+use Rattle.journal_theory.specs.Journal.{Entry, Settings, Journal, have_ended, IsAnswered, has_ids}
+use Rattle.journal_theory.specs.Fate.{effect, output, under}
 use Rattle.shard_core.specs.Held.{Held, StandsFor}
-use Rattle.shard_core.specs.Marked.{MarksApply}
-use Rattle.shard_core.specs.Taking.{has_ids}
+use Rattle.journal_theory.specs.Marked.{MarksApply}
 use Rattle.shard_worker.specs.Asking.{AskedBy}
 
 -- the spans, as the exporter takes them

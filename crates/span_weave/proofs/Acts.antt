@@ -6,14 +6,14 @@ use Rattle.otlp_types.specs.declared.arrival.Arrival.{Arrival}
 use Rattle.otlp_types.specs.declared.arrival.Shipment.TheVariants.{Span, End}
 use Rattle.span_ids.specs.declared.outcome.Reason.{Reason}
 use Rattle.span_ids.specs.declared.outcome.Reason.TheVariants.{InvalidId, QueueFull, NoMemory, Evicted, NotSampled, LateNotSampled, ExporterDown}
-use Rattle.shard_core.specs.Fate.{DroppedSpan, counts}
+use Rattle.journal_theory.specs.Fate.{DroppedSpan, counts}
 use Rattle.span_sink.specs.LineSinks.{LineSinkState}
 use Rattle.span_exporter.specs.Exports.{ExporterState, with_shipment, Sends, Spoils}
 use Rattle.span_exporter.specs.Calls.{ExporterCall, pulled, flushed, noted, CallsLead}
 use Rattle.span_exporter.specs.declared.answer.Flushed.{Flushed}
 use Rattle.span_exporter.specs.declared.answer.Flushed.TheVariants.{Handed, Spoiled, Empty}
-use Rattle.span_world.specs.World.{Config}
-use Rattle.span_world.specs.Step.{is_empty}
+use Rattle.world_theory.specs.World.{Config}
+use Rattle.world_theory.specs.Step.{is_empty}
 use Rattle.span_weave.specs.Threads.{Act, pulled as pulled_of, handed_over, failed, spoiled, pulls, Export, after_act, after_acts}
 use Rattle.span_weave.specs.Popped.{spans_popped}
 use Rattle.span_exporter.specs.Work.{NotesNothing, calls_of, shipments_in}

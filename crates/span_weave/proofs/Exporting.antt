@@ -2,15 +2,15 @@
 -- For the contract of `weave`.
 use Rattle.std.proofs.Common.{◌≡◌, ℕ, ◌+◌, ◌<◌, true, not, ◌||◌, cond, nat_lt, List, [], ◌∷◌, ◌++◌, length, Some, None, option_and_then, sym, refl, ap, ◌∙◌, subst, arith}
 use Rattle.std.specs.List.{AllByRecursion}
-use Rattle.shard_core.proofs.Counted.{under_append}
+use Rattle.journal_theory.proofs.Counted.{under_append}
 use native.Mathlib.Decide.{ℕ_discrete}
 use Rattle.otlp_types.specs.declared.arrival.Arrival.{Arrival}
 use Rattle.span_ids.specs.declared.outcome.Reason.{Reason}
 use Rattle.span_ids.specs.declared.outcome.Reason.TheVariants.{InvalidId, QueueFull, NoMemory, Evicted, NotSampled, LateNotSampled, ExporterDown}
-use Rattle.shard_core.specs.Fate.{DroppedSpan, counts}
-use Rattle.span_world.specs.World.{Config, Shard, World}
-use Rattle.span_world.specs.Step.{ship, pull, hand, fail, spoil, ship_on, is_empty, spoil_applies, step}
-use Rattle.span_world.proofs.Steps.{and_then_some, some_if, some_unless}
+use Rattle.journal_theory.specs.Fate.{DroppedSpan, counts}
+use Rattle.world_theory.specs.World.{Config, Shard, World}
+use Rattle.world_theory.specs.Step.{ship, pull, hand, fail, spoil, ship_on, is_empty, spoil_applies, step}
+use Rattle.world_theory.proofs.Steps.{and_then_some, some_if, some_unless}
 use Rattle.lane_queue.specs.Merges.{of}
 use Rattle.span_weave.specs.Threads.{Act, pulled, handed_over, failed, spoiled, pulls, Export, may_spoil, after_act, after_acts}
 use Rattle.span_weave.proofs.Lists.{set_at, set_same, set_other, get_tab, set_tab, of_here, of_there}

@@ -3,8 +3,8 @@
 use Rattle.std.proofs.Common.{List, flat_map, subst}
 use Rattle.std.specs.Prelude.{AllPairs}
 use Rattle.otlp_types.specs.declared.arrival.Arrival.{Arrival}
-use Rattle.span_world.specs.Headline.{ComesFirst, HoldsOf}
-use Rattle.span_world.proofs.Parts
+use Rattle.world_theory.specs.Headline.{ComesFirst, HoldsOf}
+use Rattle.world_theory.proofs.Parts
 use Rattle.span_weave.specs.Woven.{Woven, WovenHeadline}
 use Rattle.span_weave.proofs.Weaves.{weaves}
 

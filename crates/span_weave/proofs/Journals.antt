@@ -5,9 +5,8 @@ use Rattle.std.proofs.lemmas.List.{reverse-append}
 use native.Mathlib.Decide.{ℕ_discrete}
 use Rattle.otlp_types.specs.declared.arrival.Item.{Item}
 use Rattle.otlp_types.specs.declared.arrival.Item.TheVariants.{Span, Tick, End}
-use Rattle.shard_core.specs.Journal.{Settings, Entry, Journal, is_end_of, has_ended, have_ended, IsAnswered}
-use Rattle.shard_core.specs.Taking.{marks_apply}
-use Rattle.shard_core.specs.Marked.{MarksApply}
+use Rattle.journal_theory.specs.Journal.{Settings, Entry, Journal, is_end_of, has_ended, have_ended, IsAnswered}
+use Rattle.journal_theory.specs.Marked.{MarksApply, marks_apply}
 use Rattle.span_weave.specs.Threads.{Try, pushed_in, items_of}
 use Rattle.span_weave.proofs.Lists.{of_here, of_there}
 use Rattle.span_weave.proofs.Worlds.{entry_of, AreGiven}

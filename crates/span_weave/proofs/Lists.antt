@@ -5,8 +5,8 @@ use Rattle.std.specs.List.{list_any}
 use Rattle.otlp_types.specs.declared.arrival.Arrival.{Arrival}
 use Rattle.otlp_types.specs.declared.span.Ids.{Ids}
 use Rattle.span_ids.specs.Route.{shard_of}
-use Rattle.span_world.specs.World.{goes_to, ids_go_to}
-use Rattle.span_world.specs.Step.{take_first}
+use Rattle.world_theory.specs.World.{goes_to, ids_go_to}
+use Rattle.world_theory.specs.Step.{take_first}
 use Rattle.lane_queue.specs.Merges.{of}
 
 -- ---- a function with another value at one number

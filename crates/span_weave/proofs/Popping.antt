@@ -9,10 +9,10 @@ use Rattle.otlp_types.specs.declared.arrival.Item.{Item}
 use Rattle.otlp_types.specs.declared.arrival.Item.TheVariants.{End}
 use Rattle.otlp_types.specs.declared.arrival.Shipment.{Shipment}
 use Rattle.otlp_types.specs.declared.arrival.Shipment.TheVariants.{Span as ShippedSpan, End as ShippedEnd}
-use Rattle.shard_core.specs.Journal.{Entry, Journal, is_end_of, has_ended, have_ended}
-use Rattle.shard_core.proofs.ListFacts.{Each, Each-map, Each-reverse}
-use Rattle.shard_core.proofs.Find.{any_none}
-use Rattle.span_world.proofs.Steps.{or_both}
+use Rattle.journal_theory.specs.Journal.{Entry, Journal, is_end_of, has_ended, have_ended}
+use Rattle.journal_theory.proofs.ListFacts.{Each, Each-map, Each-reverse}
+use Rattle.journal_theory.proofs.Find.{any_none}
+use Rattle.world_theory.proofs.Steps.{or_both}
 use Rattle.lane_queue.specs.Merges.{of}
 use Rattle.span_weave.specs.Threads.{items_of}
 use Rattle.span_exporter.specs.Work.{is_shipped_end}

@@ -2,17 +2,17 @@
 -- For the contract of `weave`.
 use Rattle.std.proofs.Common.{◌≡◌, ◌≢◌, ℕ, ◌+◌, ◌<◌, ◌==◌, ◌&&◌, Bool, true, false, cond, List, [], ◌∷◌, ◌++◌, length, map, filter, slice_get, Some, sym, refl, ap, ◌∙◌, subst, append_assoc, append-nil, length-append, arith}
 use Rattle.std.proofs.lemmas.Bool.{and_parts}
-use Rattle.shard_core.proofs.Counted.{under_append, under_counts}
+use Rattle.journal_theory.proofs.Counted.{under_append, under_counts}
 use native.Mathlib.Decide.{ℕ_discrete}
 use Rattle.otlp_types.specs.declared.arrival.Arrival.{Arrival}
 use Rattle.otlp_types.specs.declared.arrival.Item.TheVariants.{Span, Tick, End}
 use Rattle.span_ids.specs.declared.outcome.Reason.{Reason}
 use Rattle.span_ids.specs.declared.outcome.Reason.TheVariants.{QueueFull}
-use Rattle.shard_core.specs.Journal.{Settings, Entry, Journal, Opening, due_now, decision, decisions_in_turn, decisions_now, are_each_answered, has_ended}
-use Rattle.shard_core.specs.Fate.{DroppedSpan, Effect, counts, effect, effect_of_decision, effect_of_decisions}
-use Rattle.shard_core.specs.Taking.{marks_apply_to_ids}
-use Rattle.span_world.specs.World.{Config, Shard, World, goes_to}
-use Rattle.span_world.specs.Step.{route, refuse, take as take_step, tick, end, decide}
+use Rattle.journal_theory.specs.Journal.{Settings, Entry, Journal, Opening, due_now, decision, decisions_in_turn, decisions_now, are_each_answered, has_ended}
+use Rattle.journal_theory.specs.Fate.{DroppedSpan, Effect, counts, effect, effect_of_decision, effect_of_decisions}
+use Rattle.journal_theory.specs.Marked.{marks_apply_to_ids}
+use Rattle.world_theory.specs.World.{Config, Shard, World, goes_to}
+use Rattle.world_theory.specs.Step.{route, refuse, take as take_step, tick, end, decide}
 use Rattle.span_weave.specs.Threads.{Try, pushed, full, span_of, was_pushed, pushed_in, refused_in}
 use Rattle.span_weave.proofs.Lists.{set_at, set_same, set_other, First, first_of_filter, any_of_filter}
 use Rattle.span_weave.proofs.Counting.{number, if_same, if_same_plus, if_same_none}

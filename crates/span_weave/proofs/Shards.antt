@@ -8,10 +8,10 @@ use Rattle.otlp_types.specs.declared.arrival.Item.{Item}
 use Rattle.otlp_types.specs.declared.arrival.Item.TheVariants.{Span, Tick, End}
 use Rattle.span_ids.specs.declared.outcome.Reason.{Reason}
 use Rattle.span_ids.specs.declared.outcome.Reason.TheVariants.{QueueFull}
-use Rattle.shard_core.specs.Journal.{Settings, Entry, Journal, due_now, has_ended, have_ended}
-use Rattle.shard_core.specs.Fate.{DroppedSpan, effect}
-use Rattle.span_world.specs.World.{Config}
-use Rattle.span_world.specs.Places.{buffered_spans}
+use Rattle.journal_theory.specs.Journal.{Settings, Entry, Journal, due_now, has_ended, have_ended}
+use Rattle.journal_theory.specs.Fate.{DroppedSpan, effect}
+use Rattle.world_theory.specs.World.{Config}
+use Rattle.world_theory.specs.Places.{buffered_spans}
 use Rattle.span_weave.specs.Threads.{Try, span_of, was_pushed, pushed_in, refused_in, items_of}
 use Rattle.span_weave.specs.Woven.{sum_below}
 use Rattle.span_weave.proofs.Lists.{set_at, set_same, set_other}
@@ -20,7 +20,7 @@ use Rattle.span_weave.proofs.Counting.{number, if_same, if_same_plus, if_same_no
 use Rattle.span_weave.proofs.Runs.{LeadsBy, leads_same, by_quiet, by_then}
 use Rattle.span_weave.proofs.Worlds.{Model, entry_of, AreGiven}
 use Rattle.span_weave.proofs.Serving.{S, W, still, goes, only, Served, serve_tries, end_tries, serve_tick, serve_end_ticker}
-use Rattle.span_world.proofs.Finishing.{nothing_buffered}
+use Rattle.world_theory.proofs.Finishing.{nothing_buffered}
 use Rattle.span_weave.proofs.Journals.{journal_after, MarksApplyAfter, AnsweredAfter, not_all, all_ended, end_here, IsNoEndOfOthers, end_of_one, LaneOwes, TickerOwes, items_here, lane_owes_there, ticker_owes_there, no_marks, marks_of_item, plain_entry}
 
 module _ (c : Config) (lanes shards : ℕ) (received : ℕ → List Arrival) (m : Model) (s : ℕ) (below : s < shards) where

@@ -10,10 +10,10 @@ use Rattle.otlp_types.specs.declared.arrival.Item.TheVariants.{Span}
 use Rattle.otlp_types.specs.declared.span.Ids.{Ids}
 use Rattle.span_ids.specs.Route.{shard_of}
 use Rattle.lane_seq.specs.Pushes.{PushesOne, PushesAll}
-use Rattle.shard_core.proofs.ListFacts.{length-slice_set}
-use Rattle.span_world.specs.World.{goes_to, ids_go_to}
-use Rattle.span_world.proofs.Released.{get_set, get_set_other}
-use Rattle.span_world.proofs.Routing.{some_read}
+use Rattle.journal_theory.proofs.ListFacts.{length-slice_set}
+use Rattle.world_theory.specs.World.{goes_to, ids_go_to}
+use Rattle.world_theory.proofs.Released.{get_set, get_set_other}
+use Rattle.world_theory.proofs.Routing.{some_read}
 use Rattle.span_weave.specs.Threads.{Try, pushed, full, span_of, pushed_in, refused_in}
 use Rattle.span_weave.specs.Woven.{sum_below}
 use Rattle.span_weave.proofs.Lists.{set_at, set_same, set_other}

@@ -6,12 +6,12 @@ use Rattle.otlp_types.specs.declared.arrival.Item.TheVariants.{Tick, End}
 use Rattle.otlp_types.specs.declared.span.Ids.{Ids}
 use Rattle.span_ids.specs.declared.outcome.Reason.{Reason}
 use Rattle.span_ids.specs.declared.outcome.Reason.TheVariants.{InvalidId, QueueFull, NoMemory, Evicted, NotSampled, LateNotSampled, ExporterDown}
-use Rattle.shard_core.specs.Journal.{Settings, Journal, IsAnswered, have_ended}
-use Rattle.shard_core.specs.Fate.{effect, output}
-use Rattle.span_world.specs.World.{Config, Lane, Shard, World, new_world, goes_to, ids_go_to}
-use Rattle.span_world.specs.Step.{has_ids}
-use Rattle.span_world.specs.Places.{IsClosed}
-use Rattle.shard_core.specs.Marked.{MarksApply}
+use Rattle.journal_theory.specs.Journal.{Settings, Journal, IsAnswered, have_ended}
+use Rattle.journal_theory.specs.Fate.{effect, output}
+use Rattle.world_theory.specs.World.{Config, Lane, Shard, World, new_world, goes_to, ids_go_to}
+use Rattle.world_theory.specs.Step.{has_ids}
+use Rattle.world_theory.specs.Places.{IsClosed}
+use Rattle.journal_theory.specs.Marked.{MarksApply}
 use Rattle.span_weave.specs.Threads.{Threads, was_pushed, refused_in, items_of, journal_of, Export, new_export, Meets}
 use Rattle.span_weave.specs.Woven.{sum_below, counted_by_lane, counted_by_shard, counted_in_all, Woven, Weave}
 use Rattle.span_weave.proofs.Lists.{get_tab}

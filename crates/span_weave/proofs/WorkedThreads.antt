@@ -7,13 +7,13 @@ use Rattle.otlp_types.specs.declared.arrival.Item.TheVariants.{Span, Tick, End}
 use Rattle.span_ids.specs.declared.outcome.Reason.{Reason}
 use Rattle.span_ids.specs.declared.outcome.Reason.TheVariants.{InvalidId, QueueFull, NoMemory, Evicted, NotSampled, LateNotSampled, ExporterDown}
 use Rattle.lane_queue.specs.Merges.{of}
-use Rattle.shard_core.specs.Journal.{IsAnswered, Entry, notes}
-use Rattle.shard_core.specs.Fate.{output, under}
-use Rattle.shard_core.specs.Marked.{MarksApply}
-use Rattle.span_world.specs.World.{Config, World, settings_for, goes_to}
-use Rattle.span_world.specs.Step.{Step, receive, route, refuse, take, tick, close, end as end_step, decide, ship, pull, hand, fail, spoil, run}
-use Rattle.span_world.proofs.Samples.{errors, configured, error, plain, invalid}
-use Rattle.span_world.proofs.WrongTables.{reached}
+use Rattle.journal_theory.specs.Journal.{IsAnswered, Entry, notes}
+use Rattle.journal_theory.specs.Fate.{output, under}
+use Rattle.journal_theory.specs.Marked.{MarksApply}
+use Rattle.world_theory.specs.World.{Config, World, settings_for, goes_to}
+use Rattle.world_theory.specs.Step.{Step, receive, route, refuse, take, tick, close, end as end_step, decide, ship, pull, hand, fail, spoil, run}
+use Rattle.world_theory.proofs.Samples.{errors, configured, error, plain, invalid}
+use Rattle.world_theory.proofs.WrongTables.{reached}
 use Rattle.span_weave.specs.Threads.{Try, Threads, pushed, full, span_of, was_pushed, pushed_in, Act, pulled, handed_over, failed, spoiled, pulls, items_of, journal_of, Export, AreNumbered, Meets}
 use Rattle.span_weave.specs.Woven.{counted_in_all, tries_in, Woven}
 use Rattle.span_weave.proofs.Worlds.{entry_of}

@@ -4,12 +4,12 @@ use Rattle.std.proofs.Common.{◌≡◌, ℕ, Bool, true, false, List, [], ◌�
 use Rattle.policy_tree.specs.Tree.{no_more, one_more, rate_limiting}
 use Rattle.otlp_types.specs.declared.arrival.Item.TheVariants.{Tick}
 use Rattle.lane_queue.specs.Merges.{of}
-use Rattle.shard_core.specs.Journal.{IsAnswered, IsAnsweredUpTo, Settings, Entry, Journal, notes}
-use Rattle.span_world.specs.World.{Config, World, new_world, settings_for, settings}
-use Rattle.span_world.proofs.Samples.{configured}
-use Rattle.span_world.proofs.Balance.{same_settings}
-use Rattle.span_world.proofs.OnePlace.{run_keeps}
-use Rattle.span_world.proofs.AllAnswered.{answered_new}
+use Rattle.journal_theory.specs.Journal.{IsAnswered, IsAnsweredUpTo, Settings, Entry, Journal, notes}
+use Rattle.world_theory.specs.World.{Config, World, new_world, settings_for, settings}
+use Rattle.world_theory.proofs.Samples.{configured}
+use Rattle.world_theory.proofs.Balance.{same_settings}
+use Rattle.world_theory.proofs.OnePlace.{run_keeps}
+use Rattle.world_theory.proofs.AllAnswered.{answered_new}
 use Rattle.span_weave.specs.Threads.{Threads, pushed, pulled, handed_over, journal_of, Export}
 use Rattle.span_weave.specs.Woven.{Woven}
 use Rattle.span_weave.proofs.Worlds.{entry_of}

@@ -4,24 +4,24 @@ use Rattle.std.proofs.Common.{◌≡◌, ℕ, zero, suc, ◌+◌, ◌<◌, ◌�
 use Rattle.std.specs.Prelude.{IsTrue, AllPairs}
 use Rattle.std.specs.List.{AllByRecursion, list_any}
 use Rattle.std.proofs.lemmas.List.Elements.{filter-append}
-use Rattle.span_world.proofs.WaitingPlaces.{buffered_waits, not_waiting}
+use Rattle.world_theory.proofs.WaitingPlaces.{buffered_waits, not_waiting}
 use Rattle.otlp_types.specs.declared.arrival.Arrival.{Arrival}
 use Rattle.otlp_types.specs.declared.arrival.Item.TheVariants.{Span, Tick, End}
 use Rattle.span_ids.specs.declared.outcome.Reason.{Reason}
 use Rattle.span_ids.specs.declared.outcome.Reason.TheVariants.{InvalidId, QueueFull, NoMemory, Evicted, NotSampled, LateNotSampled, ExporterDown}
 use Rattle.span_ids.specs.declared.outcome.Verdict.TheVariants.{Sampled}
 use Rattle.lane_queue.specs.Merges.{of}
-use Rattle.shard_core.specs.Journal.{IsAnswered, Settings, Entry, Journal, notes, remembered}
-use Rattle.shard_core.specs.Fate.{DroppedSpan, Fate, waits, fate, output}
-use Rattle.shard_core.specs.Marked.{MarksApply}
-use Rattle.span_world.specs.World.{Config, Lane, Shard, World, new_world, settings_for, settings, has_due, goes_to, same_key}
-use Rattle.span_world.specs.Places.{Place, HeldKey, unrouted, queued, buffered, unshipped, exported, in_batch, handed, counted_under, is_waiting, held_at, buffered_spans, held_by_lanes, held_by_shards, held}
-use Rattle.span_world.specs.Headline.{Taken, fate_of, is_where, ComesFirst, HoldsOf}
-use Rattle.span_world.proofs.Parts as SpanWorldParts
-use Rattle.span_world.proofs.Samples.{always, configured, plain, ids_of}
-use Rattle.span_world.proofs.Balance.{same_settings}
-use Rattle.span_world.proofs.OnePlace.{run_keeps}
-use Rattle.span_world.proofs.AllAnswered.{answered_new}
+use Rattle.journal_theory.specs.Journal.{IsAnswered, Settings, Entry, Journal, notes, remembered}
+use Rattle.journal_theory.specs.Fate.{DroppedSpan, Fate, waits, fate, output}
+use Rattle.journal_theory.specs.Marked.{MarksApply}
+use Rattle.world_theory.specs.World.{Config, Lane, Shard, World, new_world, settings_for, settings, has_due, goes_to, same_key}
+use Rattle.world_theory.specs.Places.{Place, HeldKey, unrouted, queued, buffered, unshipped, exported, in_batch, handed, counted_under, is_waiting, held_at, buffered_spans, held_by_lanes, held_by_shards, held}
+use Rattle.world_theory.specs.Headline.{Taken, fate_of, is_where, ComesFirst, HoldsOf}
+use Rattle.world_theory.proofs.Parts as SpanWorldParts
+use Rattle.world_theory.proofs.Samples.{always, configured, plain, ids_of}
+use Rattle.world_theory.proofs.Balance.{same_settings}
+use Rattle.world_theory.proofs.OnePlace.{run_keeps}
+use Rattle.world_theory.proofs.AllAnswered.{answered_new}
 use Rattle.span_weave.specs.Threads.{Try, Threads, pushed, span_of, pushed_in, Act, pulled, handed_over, pulls, items_of, journal_of, Export, new_export, after_acts, AreNumbered}
 use Rattle.span_weave.specs.Woven.{counted_in_all, Woven}
 use Rattle.span_weave.proofs.Worlds.{entry_of}

@@ -2,13 +2,13 @@
 use Rattle.std.specs.Prelude.{◌≡◌, ℕ, List, [], ◌∷◌, Some}
 use Rattle.std.specs.List.{flat_map, AllByRecursion}
 use Rattle.otlp_types.specs.declared.arrival.Arrival.{Arrival}
-use Rattle.shard_core.specs.Fate.{DroppedSpan, counts}
+use Rattle.journal_theory.specs.Fate.{DroppedSpan, counts}
 use Rattle.span_exporter.specs.Exports.{ExporterState}
 use Rattle.span_exporter.specs.Calls.{ExporterCall, CallsLead, FlushedBatch, batches_flushed}
 use Rattle.span_exporter.specs.Work.{NotesNothing, calls_of, shipments_in}
 use Rattle.span_exporter.specs.declared.answer.Flushed.{Flushed}
 use Rattle.span_exporter.specs.declared.answer.Flushed.TheVariants.{Handed, Spoiled, Empty}
-use Rattle.span_world.specs.World.{Config}
+use Rattle.world_theory.specs.World.{Config}
 use Rattle.span_weave.specs.Threads.{Act, pulls, Export, after_acts}
 use Rattle.span_weave.specs.Popped.{spans_popped}
 

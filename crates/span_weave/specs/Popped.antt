@@ -6,7 +6,7 @@ use Rattle.otlp_types.specs.declared.arrival.Item.{Item}
 use Rattle.otlp_types.specs.declared.arrival.Item.TheVariants.{End}
 use Rattle.otlp_types.specs.declared.arrival.Shipment.{Shipment}
 use Rattle.otlp_types.specs.declared.arrival.Shipment.TheVariants.{Span as ShippedSpan, End as ShippedEnd}
-use Rattle.shard_core.specs.Journal.{Entry, is_end_of, have_ended}
+use Rattle.journal_theory.specs.Journal.{Entry, is_end_of, have_ended}
 use Rattle.lane_queue.specs.Merges.{of}
 use Rattle.span_exporter.specs.Work.{is_shipped_end}
 use Rattle.span_weave.specs.Threads.{items_of}

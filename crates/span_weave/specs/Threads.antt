@@ -6,12 +6,12 @@ use Rattle.otlp_types.specs.declared.arrival.Item.{Item}
 use Rattle.otlp_types.specs.declared.arrival.Item.TheVariants.{Span, Tick, End}
 use Rattle.span_ids.specs.declared.outcome.Reason.{Reason}
 use Rattle.span_ids.specs.declared.outcome.Reason.TheVariants.{NoMemory, ExporterDown}
-use Rattle.shard_core.specs.Journal.{Entry, Journal, IsAnswered}
-use Rattle.shard_core.specs.Fate.{DroppedSpan, counts, output}
-use Rattle.shard_core.specs.Marked.{MarksApply}
+use Rattle.journal_theory.specs.Journal.{Entry, Journal, IsAnswered}
+use Rattle.journal_theory.specs.Fate.{DroppedSpan, counts, output}
+use Rattle.journal_theory.specs.Marked.{MarksApply}
 use Rattle.lane_queue.specs.Merges.{of}
-use Rattle.span_world.specs.World.{Config, goes_to, settings_for}
-use Rattle.span_world.specs.Step.{is_of_conn, is_empty}
+use Rattle.world_theory.specs.World.{Config, goes_to, settings_for}
+use Rattle.world_theory.specs.Step.{is_of_conn, is_empty}
 
 -- ---- what each thread did
 

@@ -3,8 +3,8 @@
 use Rattle.std.proofs.Common.{◌≡◌, ℕ, zero, suc, ◌<◌, ◌-◌, Bool, List, [], ◌∷◌, ◌++◌, length, reverse, take, get_or, slice_get, slice_set, Some, refl, sym, ap, ◌∙◌, arith}
 use Rattle.std.proofs.lemmas.List.{reverse-append, length-append, set-set}
 use Rattle.std.proofs.Math.Seq.{take-append_seam}
-use Rattle.shard_core.specs.Journal.{Entry, answered}
-use Rattle.span_world.proofs.Routing.{put_back}
+use Rattle.journal_theory.specs.Journal.{Entry, answered}
+use Rattle.world_theory.proofs.Routing.{put_back}
 
 -- a list by its last element
 record Last (xs : List Entry) (i : ℕ) (e : Entry) : Type 0 where

@@ -4,13 +4,13 @@ use Rattle.std.specs.Prelude.{Result, Ok, Err}
 use Rattle.otlp_types.specs.declared.arrival.Arrival.{Arrival}
 use Rattle.otlp_types.specs.declared.arrival.Item.{Item}
 use Rattle.otlp_types.specs.declared.arrival.Item.TheVariants.{Span, Tick, End}
-use Rattle.shard_core.specs.Journal.{Entry, Settings, Journal, answered, due_now}
-use Rattle.shard_core.specs.Fate.{DroppedSpan, Effect, effect_of_taking}
-use Rattle.shard_journal.specs.Answered.{effect_answered, effect_answered_at}
+use Rattle.journal_theory.specs.Journal.{Entry, Settings, Journal, answered, due_now}
+use Rattle.journal_theory.specs.Fate.{DroppedSpan, Effect, effect_of_taking}
+use Rattle.journal_theory.specs.Answered.{effect_answered, effect_answered_at}
 use Rattle.std.specs.Option.{option_and_then}
-use Rattle.shard_core.specs.Taking.{marks_apply_to_ids}
-use Rattle.span_world.specs.World.{Config, Shard, World, settings, ticker, has_due}
-use Rattle.span_world.specs.Step.{Step, take_on, take, tick, end, decide, ship, step, after_taking, after_decision, sender_is_done}
+use Rattle.journal_theory.specs.Marked.{marks_apply_to_ids}
+use Rattle.world_theory.specs.World.{Config, Shard, World, settings, ticker, has_due}
+use Rattle.world_theory.specs.Step.{Step, take_on, take, tick, end, decide, ship, step, after_taking, after_decision, sender_is_done}
 use Rattle.span_world.specs.Answers.{next_of, may_take, entry_of_first, next_decision, KeepsItem, StepsTo}
 use Rattle.span_world.specs.Core.{config_of, Core}
 use Rattle.span_world.specs.declared.step.Refusal.{Refusal}

@@ -1,9 +1,9 @@
 -- What was found looking back, where one shard of the list changes.
 use Rattle.std.proofs.Common.{◌≡◌, ℕ, zero, suc, List, [], ◌∷◌, length, map, replicate, slice_get, slice_set, Some, refl, ap, sym, ◌∙◌}
 use Rattle.std.proofs.lemmas.List.{length-map}
-use Rattle.shard_core.specs.Journal.{Settings}
+use Rattle.journal_theory.specs.Journal.{Settings}
 use Rattle.shard_journal.specs.Look.{Look, look_of}
-use Rattle.span_world.specs.World.{Shard, new_shard}
+use Rattle.world_theory.specs.World.{Shard, new_shard}
 use Rattle.span_world.specs.Core.{LooksBack}
 
 -- what is found looking back over each shard's journal

@@ -2,8 +2,8 @@
 use Rattle.std.proofs.Common.{◌≡◌, ℕ, suc, ◌+◌, ◌<◌, true, is_some, List, [], ◌∷◌, ◌++◌, length, map, take, Option, Some, None, option_and_then, refl, ap, sym, subst, ◌∙◌, arith}
 use Rattle.std.proofs.lemmas.List.{map-append, length-append, length-map}
 use Rattle.std.specs.Prelude.{Err}
-use Rattle.span_world.specs.World.{Config, World}
-use Rattle.span_world.specs.Step.{Step, step, run, run_from}
+use Rattle.world_theory.specs.World.{Config, World}
+use Rattle.world_theory.specs.Step.{Step, step, run, run_from}
 use Rattle.span_world.specs.Core.{Core, config_of}
 use Rattle.span_world.specs.Answers.{the_step, StepsTo, StopsAt, next_of}
 use Rattle.span_world.specs.declared.step.Step.{Step as Asked}

@@ -1,14 +1,14 @@
 -- What the program answers to a step, and to a list of steps.
 use Rattle.std.specs.Prelude.{◌≡◌, ℕ, ◌+◌, ◌<◌, Bool, true, false, not, ◌&&◌, if◌then◌else◌, is_some, List, [], ◌∷◌, length, take, slice_get, Option, Some, None, Result, Ok, Err}
-use Rattle.shard_core.specs.Journal.{Entry, Settings, has_ended}
-use Rattle.shard_core.specs.Fate.{Effect}
-use Rattle.shard_journal.specs.Answered.{effect_answered_at}
-use Rattle.shard_core.specs.Taking.{marks_apply_to_ids}
+use Rattle.journal_theory.specs.Journal.{Entry, Settings, has_ended}
+use Rattle.journal_theory.specs.Fate.{Effect}
+use Rattle.journal_theory.specs.Answered.{effect_answered_at}
+use Rattle.journal_theory.specs.Marked.{marks_apply_to_ids}
 use Rattle.otlp_types.specs.declared.arrival.Arrival.{Arrival}
 use Rattle.otlp_types.specs.declared.arrival.Item.{Item}
 use Rattle.otlp_types.specs.declared.arrival.Item.TheVariants.{Span}
-use Rattle.span_world.specs.World.{Config, Shard, World, has_due}
-use Rattle.span_world.specs.Step.{Step, receive, route, refuse, take as take_step, tick, close, end, decide, ship, pull, hand, fail, spoil, step, run, after_taking}
+use Rattle.world_theory.specs.World.{Config, Shard, World, has_due}
+use Rattle.world_theory.specs.Step.{Step, receive, route, refuse, take as take_step, tick, close, end, decide, ship, pull, hand, fail, spoil, step, run, after_taking}
 use Rattle.span_world.specs.Core.{config_of, Core}
 use Rattle.span_world.specs.declared.step.Step.{Step as Asked}
 use Rattle.span_world.specs.declared.step.Step.TheVariants.{Receive, Route, Refuse, Take, Tick, Close, End, Decide, Ship, Pull, Hand, Fail, Spoil}

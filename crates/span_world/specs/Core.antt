@@ -1,9 +1,9 @@
 -- What a caller sees of the program's world.
 use Rattle.policy_tree.specs.Meaning.{meaning}
 use Rattle.std.specs.Prelude.{◌≡◌, List, map}
-use Rattle.shard_core.specs.Journal.{Settings}
+use Rattle.journal_theory.specs.Journal.{Settings}
 use Rattle.shard_journal.specs.Look.{Look, look_of}
-use Rattle.span_world.specs.World.{Config, Shard, World}
+use Rattle.world_theory.specs.World.{Config, Shard, World}
 use Rattle.span_world.specs.declared.config.Config.{Config as Given}
 
 -- the configuration, with what its policies mean

@@ -1,7 +1,3 @@
--- To be read in this order: World, Step (the core), Places, Headline (what holds of every run), Core, Answers (what the program shows of it).
-pub mod World
-pub mod Step
-pub mod Places
-pub mod Headline
+-- To be read in this order: Core (what a caller sees of the program), Answers (what it answers); the core that it is stands in `world_theory`.
 pub mod Core
 pub mod Answers

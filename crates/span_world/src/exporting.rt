@@ -1,7 +1,7 @@
 //! The steps of the exporter.
 ghost use Rattle.std.specs.Prelude.{◌≡◌, IfOk};
-ghost use Rattle.shard_core.specs.Fate.{counts};
-ghost use Rattle.span_world.specs.Step.{ship, pull, hand, fail, spoil};
+ghost use Rattle.journal_theory.specs.Fate.{counts};
+ghost use Rattle.world_theory.specs.Step.{ship, pull, hand, fail, spoil};
 ghost use Rattle.span_world.specs.Answers.{StepsTo};
 
 use crate::lane::dropped;

@@ -3,11 +3,11 @@ ghost use Rattle.std.specs.Prelude.{◌≡◌, ◌+◌, ◌<◌, ◌^◌, ◌++�
 ghost use Rattle.std.specs.List.{remove, list_any};
 ghost use Rattle.std.specs.Coded.{codes};
 ghost use Rattle.otlp_types.specs.contracts.value.AnyValue as any_value;
-ghost use Rattle.shard_core.specs.Fate.{counts};
+ghost use Rattle.journal_theory.specs.Fate.{counts};
 ghost use Rattle.span_ids.specs.declared.outcome.Reason.TheVariants.{InvalidId};
 ghost use Rattle.span_ids.specs.Route.{shard_of};
-ghost use Rattle.span_world.specs.World.{Lane as LaneData, new_lane, goes_to};
-ghost use Rattle.span_world.specs.Step.{is_of_conn, arrivals, has_ids};
+ghost use Rattle.world_theory.specs.World.{Lane as LaneData, new_lane, goes_to};
+ghost use Rattle.world_theory.specs.Step.{is_of_conn, arrivals, has_ids};
 
 use otlp_types::{Arrival, Record, TryClone};
 use shard_journal::DroppedSpan;
@@ -164,7 +164,7 @@ fn shard_of(trace: TraceId, shards: usize) -> usize
 }
 
 /// The arrivals of these records on a connection, whose first has this number.
-#[tactic(auto, using(crate::proofs::Arriving::arrivals_append))]
+#[tactic(auto, using(world_theory::proofs::Arriving::arrivals_append))]
 fn arrivals(
     alloc: Global,
     conn: ConnKey,

@@ -1,6 +1,6 @@
 //! The steps of the lanes.
 ghost use Rattle.std.specs.Prelude.{◌≡◌};
-ghost use Rattle.span_world.specs.Step.{receive, route, refuse, close};
+ghost use Rattle.world_theory.specs.Step.{receive, route, refuse, close};
 ghost use Rattle.span_world.specs.Answers.{StepsTo};
 
 use crate::lane::dropped;

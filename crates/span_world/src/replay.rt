@@ -1,8 +1,8 @@
 //! A step of the world by its kind, and a run of steps.
 ghost use Rattle.std.specs.Prelude.{◌≡◌, Some, map, IfOk, IfErr};
-ghost use Rattle.span_world.specs.World.{KeepsATrace};
-ghost use Rattle.span_world.specs.Step.{run};
-ghost use Rattle.span_world.specs.Headline.{HoldsOf};
+ghost use Rattle.world_theory.specs.World.{KeepsATrace};
+ghost use Rattle.world_theory.specs.Step.{run};
+ghost use Rattle.world_theory.specs.Headline.{HoldsOf};
 ghost use Rattle.span_world.specs.Core.{config_of};
 ghost use Rattle.span_world.specs.Answers.{the_step, StepsTo, StopsAt};
 

@@ -2,12 +2,12 @@
 ghost use Rattle.std.specs.Prelude.{◌≡◌, ◌++◌, ◌∷◌, [], Some, ◌+◌, ◌<◌, ◌≤◌, ◌==◌, ◌^◌, length, vec_capacity, drop, not, slice_index_or, IfOk, IfSome, OnOk, OnErr, is_some, reverse, IsTrue, true, false};
 ghost use Rattle.std.specs.List.{remove, list_any};
 ghost use Rattle.otlp_types.specs.declared.arrival.Arrival.{Arrival};
-ghost use Rattle.shard_core.specs.Journal.{has_ended, answered};
-ghost use Rattle.shard_core.specs.Fate.{effect_of_taking, Effect as EffectData};
+ghost use Rattle.journal_theory.specs.Journal.{has_ended, answered};
+ghost use Rattle.journal_theory.specs.Fate.{effect_of_taking, Effect as EffectData};
 ghost use Rattle.shard_journal.specs.Settings.{settings_of};
 ghost use Rattle.shard_journal.specs.Look.{look_of};
-ghost use Rattle.span_world.specs.World.{new_shard};
-ghost use Rattle.span_world.specs.Step.{is_empty};
+ghost use Rattle.world_theory.specs.World.{new_shard};
+ghost use Rattle.world_theory.specs.Step.{is_empty};
 ghost use Rattle.span_world.specs.Answers.{may_take, entry_of_first, next_decision};
 
 use crate::lane::Lane;
@@ -31,7 +31,7 @@ pub struct Shard {
 
 impl Model for Shard {
     ghost use Rattle.std.specs.Prelude.{reverse};
-    ghost use Rattle.span_world.specs.World.{Shard as ShardData};
+    ghost use Rattle.world_theory.specs.World.{Shard as ShardData};
     ghost use Rattle.std.specs.Coded.{codes};
     ghost use Rattle.otlp_types.specs.contracts.value.AnyValue as any_value;
 

@@ -1,7 +1,7 @@
 //! The steps of the shards.
 ghost use Rattle.std.specs.Prelude.{◌≡◌, ◌<◌, length, slice_get, Some, IfOk};
-ghost use Rattle.span_world.specs.World.{Shard, settings};
-ghost use Rattle.span_world.specs.Step.{take as take_step, tick, end, decide, sender_is_done};
+ghost use Rattle.world_theory.specs.World.{Shard, settings};
+ghost use Rattle.world_theory.specs.Step.{take as take_step, tick, end, decide, sender_is_done};
 ghost use Rattle.span_world.specs.Core.{config_of};
 ghost use Rattle.span_world.specs.Answers.{StepsTo, KeepsItem};
 

@@ -1,6 +1,6 @@
 //! The core as a value: lanes, shards, and what was handed over and counted.
 ghost use Rattle.std.specs.Prelude.{◌≡◌, ◌≢◌, ◌∷◌, [], replicate, Some, IfOk, length};
-ghost use Rattle.span_world.specs.World.{new_world, new_lane, new_shard, KeepsATrace};
+ghost use Rattle.world_theory.specs.World.{new_world, new_lane, new_shard, KeepsATrace};
 ghost use Rattle.shard_journal.specs.Settings.{settings_of};
 ghost use Rattle.shard_journal.specs.Look.{look_of};
 ghost use Rattle.span_world.specs.Core.{config_of};

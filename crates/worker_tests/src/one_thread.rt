@@ -5,7 +5,7 @@ ghost use Rattle.policy_tree.specs.Meaning.{meaning};
 ghost use Rattle.policy_eval.specs.Meaning.{knows};
 ghost use Rattle.rate_budget.specs.Budget.{has_node};
 ghost use Rattle.shard_core.specs.Held.{StandsFor, has_due, is_finished};
-ghost use Rattle.shard_core.specs.Taking.{has_ids};
+ghost use Rattle.journal_theory.specs.Journal.{has_ids};
 
 use crate::spans::{Sent, Traces, sent_of, span_item};
 use otlp_types::{Arrival, Item, List, Text};

@@ -1,6 +1,6 @@
 //! The spans that the lanes send: which trace each is of, and what tells it again.
 ghost use Rattle.std.specs.Prelude.{◌≡◌, IfOk, true};
-ghost use Rattle.shard_core.specs.Taking.{has_ids};
+ghost use Rattle.journal_theory.specs.Journal.{has_ids};
 
 use otlp_types::{Ids, Item, Record};
 use plain_spans::{plain_record, received};

@@ -5,8 +5,8 @@ use Rattle.lane_worker.specs.Serving.{connection}
 use Rattle.queue_grid.specs.Grid.{ends_of, HasRoom, IsTiedGrid, HaveHistories}
 use Rattle.shard_core.specs.Held.{settings}
 use Rattle.shared_budget.specs.Budget.{AreOfOneBudget, HaveOneHistoryEach}
-use Rattle.span_world.specs.World.{settings_for}
-use Rattle.span_world.proofs.Steps.{or_both}
+use Rattle.world_theory.specs.World.{settings_for}
+use Rattle.world_theory.proofs.Steps.{or_both}
 use Rattle.run_weave.specs.Jobs.{TickerDid, ExporterDid}
 use Rattle.run_weave.specs.Workers.{zeros, LaneOut, ShardIn, ShardOut, Given, Left, senders_of, Worked}
 use Rattle.pipeline.specs.Made.{HasEnds}

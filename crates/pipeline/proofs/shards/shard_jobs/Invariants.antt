@@ -6,7 +6,7 @@ use Rattle.policy_tree.specs.Meaning.{meaning}
 use Rattle.policy_eval.specs.Meaning.{knows}
 use Rattle.shard_core.specs.Held.{StandsFor, has_due, is_finished, settings}
 use Rattle.shared_budget.specs.Seats.{has_node}
-use Rattle.span_world.specs.World.{settings_for}
+use Rattle.world_theory.specs.World.{settings_for}
 use Rattle.pipeline.specs.Made.{NumberedFrom}
 use Rattle.pipeline.specs.Promise.{core_of}
 use Rattle.pipeline.proofs.shards.shard_jobs.Given as goal

@@ -2,7 +2,7 @@ use Rattle.std.proofs.Common.{◌≡◌, ◌<◌, ◌+◌, ◌-◌, ℕ, suc, Li
 use Rattle.std.specs.List.{list_all, slice_set}
 use Rattle.otlp_types.specs.declared.arrival.Item.{Item}
 use Rattle.otlp_types.specs.declared.arrival.Item.TheVariants.{End}
-use Rattle.shard_core.specs.Journal.{Settings}
+use Rattle.journal_theory.specs.Journal.{Settings}
 use Rattle.shard_core.specs.Held.{Held}
 use Rattle.script_run.specs.World.{ends_from, to_each}
 use Rattle.script_session.specs.Pulling.{Export, Counts, AreQuiet, HaveSettings, AreOpen, RoundsTaken, EachTakes}

@@ -1,5 +1,5 @@
 use Rattle.std.proofs.Common.{◌≡◌, ◌<◌, ◌+◌, ◌-◌, ◌≤◌, true, length}
-use Rattle.shard_core.specs.Journal.{Settings}
+use Rattle.journal_theory.specs.Journal.{Settings}
 use Rattle.script_run.specs.World.{ends_from}
 use Rattle.script_session.specs.Pulling.{AreQuiet, HaveSettings, RoundsTaken, has_all_nodes}
 use Rattle.script_session.proofs.Several.{ended}

@@ -1,6 +1,6 @@
 use Rattle.std.proofs.Common.{◌≡◌, ◌<◌, ◌∷◌, [], true, length}
 use Rattle.rate_budget.specs.Budget.{limiter_counts}
-use Rattle.shard_core.specs.Journal.{Entry}
+use Rattle.journal_theory.specs.Journal.{Entry}
 use Rattle.shard_core.specs.Held.{StandsFor, settings}
 use Rattle.shard_core.specs.Taking.{waiting}
 use Rattle.script_run.specs.World.{Turn}

@@ -1,6 +1,6 @@
 use Rattle.std.proofs.Common.{◌≡◌, refl, subst, sym}
 use Rattle.rate_budget.specs.Budget.{limiter_counts}
-use Rattle.shard_core.specs.Journal.{Settings}
+use Rattle.journal_theory.specs.Journal.{Settings}
 use Rattle.shard_core.specs.Taking.{entry}
 use Rattle.script_session.specs.Pulling.{Export, DecidesAll}
 use Rattle.script_session.proofs.Nodes.{nodes-kept}

@@ -2,10 +2,10 @@ use Rattle.std.proofs.Common.{◌≡◌, ◌<◌, reverse, length, List, Option,
 use Rattle.std.specs.Option.{option_and_then}
 use Rattle.std.proofs.lemmas.Result.{IfOk-weaker}
 use Rattle.std.proofs.lemmas.Option.{slice_get_past, slice_get_read}
-use Rattle.shard_core.specs.Journal.{Opening, due_now}
-use Rattle.shard_core.specs.Fate.{Effect}
+use Rattle.journal_theory.specs.Journal.{Opening, due_now}
+use Rattle.journal_theory.specs.Fate.{Effect}
 use Rattle.shard_journal.specs.Settings.{settings_of}
-use Rattle.shard_journal.specs.Answered.{effect_answered, effect_answered_at}
+use Rattle.journal_theory.specs.Answered.{effect_answered, effect_answered_at}
 use Rattle.shard_journal.proofs.Turns.{last_first, due_now_is}
 use Rattle.shard_journal.proofs.answers.decision_at.Goals.{In_ok-due}
 use Rattle.shard_journal.proofs.answers.decision_at.Goals as goal

@@ -1,7 +1,6 @@
-use Rattle.std.proofs.Common.{◌≡◌, reverse, map, List, ap, ◌∙◌}
+use Rattle.std.proofs.Common.{reverse, map, ap, ◌∙◌}
 use Rattle.std.proofs.lemmas.Result.{IfOk-weaker}
-use Rattle.shard_core.specs.Journal.{Opening, due_now, spans_since}
-use Rattle.otlp_types.specs.declared.arrival.Arrival.{Arrival}
+use Rattle.journal_theory.specs.Journal.{spans_since}
 use Rattle.shard_journal.specs.Settings.{settings_of}
 use Rattle.shard_journal.proofs.Turns.{last_first, due_now_is}
 use Rattle.shard_journal.proofs.answers.due_spans.Goals as goal

@@ -1,6 +1,6 @@
 use Rattle.std.proofs.Common.{◌≡◌, reverse, ◌∙◌}
 use Rattle.std.proofs.lemmas.Result.{IfOk-weaker}
-use Rattle.shard_core.specs.Fate.{Effect, effect_of_finding, effect_of_span}
+use Rattle.journal_theory.specs.Fate.{Effect, effect_of_finding, effect_of_span}
 use Rattle.shard_journal.specs.Settings.{settings_of}
 use Rattle.shard_journal.specs.Found.{the_finding}
 use Rattle.shard_journal.proofs.Turns.{span_effect}

@@ -1,5 +1,5 @@
 use Rattle.std.proofs.Common.{◌≡◌, map, take, reverse}
-use Rattle.shard_core.specs.Journal.{spans_since}
+use Rattle.journal_theory.specs.Journal.{spans_since}
 use Rattle.shard_journal.proofs.answers.spans_of_each.Given as goal
 
 abbrev pub invariant-loop-opening : goal.invariant-loop-opening

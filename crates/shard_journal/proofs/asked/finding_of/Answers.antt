@@ -1,5 +1,5 @@
 use Rattle.std.proofs.Common.{reverse}
-use Rattle.shard_core.specs.Journal.{joins, meets, opens, notes}
+use Rattle.journal_theory.specs.Journal.{joins, meets, opens, notes}
 use Rattle.shard_journal.specs.Settings.{settings_of}
 use Rattle.shard_journal.proofs.Turns.{found_by}
 use Rattle.shard_journal.proofs.asked.finding_of.Goals as goal

@@ -1,6 +1,6 @@
-use Rattle.std.proofs.Common.{◌<◌, ◌≤◌, ◌∷◌, Bool, List, length, min, reverse, ◌∙◌, ap, arith}
+use Rattle.std.proofs.Common.{◌<◌, ◌∷◌, Bool, List, length, reverse, ◌∙◌, ap, arith}
 use Rattle.shard_journal.specs.Settings.{settings_of}
-use Rattle.shard_core.specs.Journal.{Decision, Notes, decision}
+use Rattle.journal_theory.specs.Journal.{Decision, Notes, decision}
 use Rattle.shard_journal.specs.Short.{without_spans}
 use Rattle.shard_journal.proofs.Turns.{turn_more, turns_made}
 use Rattle.shard_journal.proofs.deciding.decide_each.Goals as goal

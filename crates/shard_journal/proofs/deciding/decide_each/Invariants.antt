@@ -1,5 +1,5 @@
 use Rattle.std.proofs.Common.{◌≡◌, take, reverse}
-use Rattle.shard_core.specs.Journal.{Notes, decisions_in_turn, after_decisions}
+use Rattle.journal_theory.specs.Journal.{Notes, decisions_in_turn, after_decisions}
 use Rattle.shard_journal.specs.Settings.{settings_of}
 use Rattle.shard_journal.specs.Short.{short_notes}
 use Rattle.shard_journal.proofs.deciding.decide_each.Given as goal

@@ -1,5 +1,5 @@
 use Rattle.std.proofs.Common.{◌≡◌, take, filter, reverse}
-use Rattle.shard_core.specs.Journal.{is_due}
+use Rattle.journal_theory.specs.Journal.{is_due}
 use Rattle.shard_journal.specs.Settings.{settings_of}
 use Rattle.shard_journal.proofs.due.due_at_tick.Given as goal
 

@@ -1,5 +1,5 @@
 use Rattle.std.proofs.Common.{◌≡◌, take, reverse}
-use Rattle.shard_core.specs.Journal.{clock, is_root_past}
+use Rattle.journal_theory.specs.Journal.{clock, is_root_past}
 use Rattle.shard_journal.proofs.due.is_root_past.Given as goal
 
 abbrev pub invariant-loop-at : goal.invariant-loop-at

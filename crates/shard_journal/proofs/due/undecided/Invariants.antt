@@ -1,5 +1,5 @@
 use Rattle.std.proofs.Common.{◌≡◌, is_none, take, filter, reverse}
-use Rattle.shard_core.specs.Journal.{Opening, decided_as}
+use Rattle.journal_theory.specs.Journal.{Opening, decided_as}
 use Rattle.shard_journal.proofs.due.undecided.Given as goal
 
 abbrev pub invariant-loop-i : goal.invariant-loop-i

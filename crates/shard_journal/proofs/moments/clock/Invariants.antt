@@ -1,5 +1,5 @@
 use Rattle.std.proofs.Common.{◌≡◌, take, reverse}
-use Rattle.shard_core.specs.Journal.{clock}
+use Rattle.journal_theory.specs.Journal.{clock}
 use Rattle.shard_journal.proofs.moments.clock.Given as goal
 
 abbrev pub invariant-loop-entry : goal.invariant-loop-entry

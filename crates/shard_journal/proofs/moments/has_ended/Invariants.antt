@@ -1,5 +1,5 @@
 use Rattle.std.proofs.Common.{◌≡◌, take, reverse}
-use Rattle.shard_core.specs.Journal.{has_ended}
+use Rattle.journal_theory.specs.Journal.{has_ended}
 use Rattle.shard_journal.proofs.moments.has_ended.Given as goal
 
 abbrev pub invariant-loop-entry : goal.invariant-loop-entry

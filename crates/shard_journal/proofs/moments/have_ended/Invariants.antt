@@ -1,5 +1,5 @@
 use Rattle.std.proofs.Common.{◌≡◌, reverse}
-use Rattle.shard_core.specs.Journal.{have_ended}
+use Rattle.journal_theory.specs.Journal.{have_ended}
 use Rattle.shard_journal.proofs.moments.have_ended.Given as goal
 
 abbrev pub invariant-loop-sender : goal.invariant-loop-sender

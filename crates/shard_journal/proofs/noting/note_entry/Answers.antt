@@ -1,6 +1,6 @@
 use Rattle.std.proofs.Common.{reverse, ap, ◌∙◌}
 use Rattle.std.proofs.lemmas.Result.{on_ok_weaker}
-use Rattle.shard_core.specs.Journal.{Entry, after_item, notes}
+use Rattle.journal_theory.specs.Journal.{Entry, after_item, notes}
 use Rattle.shard_journal.specs.Settings.{settings_of}
 use Rattle.shard_journal.proofs.Turns.{item_noted, due_is, entry_noted}
 use Rattle.shard_journal.proofs.noting.note_entry.Goals as goal

@@ -1,5 +1,5 @@
 use Rattle.std.proofs.Common.{◌≡◌, take, reverse}
-use Rattle.shard_core.specs.Journal.{notes}
+use Rattle.journal_theory.specs.Journal.{notes}
 use Rattle.shard_journal.specs.Settings.{settings_of}
 use Rattle.shard_journal.specs.Short.{short_notes}
 use Rattle.shard_journal.proofs.noting.notes_of.Given as goal

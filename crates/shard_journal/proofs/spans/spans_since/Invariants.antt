@@ -1,5 +1,5 @@
 use Rattle.std.proofs.Common.{◌≡◌, take, reverse}
-use Rattle.shard_core.specs.Journal.{spans_since}
+use Rattle.journal_theory.specs.Journal.{spans_since}
 use Rattle.shard_journal.proofs.spans.spans_since.Given as goal
 
 abbrev pub invariant-loop-at : goal.invariant-loop-at

@@ -4,9 +4,9 @@ use Rattle.lane_queue.specs.Merges.{IsMergeOf}
 use Rattle.policy_tree.specs.Tree.{limiters}
 use Rattle.policy_tree.specs.Meaning.{meaning}
 use Rattle.policy_eval.specs.Meaning.{knows}
-use Rattle.shard_core.specs.Journal.{Entry}
+use Rattle.journal_theory.specs.Journal.{Entry}
 use Rattle.shard_core.specs.Held.{has_due, is_finished, settings}
-use Rattle.shard_core.specs.Marked.{MarksApply}
+use Rattle.journal_theory.specs.Marked.{MarksApply}
 use Rattle.shard_worker.specs.Work.{items, journal_of}
 use Rattle.shard_worker.specs.Turns.{HasDone}
 use Rattle.shard_worker.proofs.worker.work.Given as goal

@@ -1,5 +1,5 @@
 use Rattle.std.proofs.Common.{◌≡◌, take}
-use Rattle.shard_core.specs.Fate.{counts}
+use Rattle.journal_theory.specs.Fate.{counts}
 use Rattle.span_world.proofs.exporting.drops.Given as goal
 
 abbrev pub invariant-loop-span : goal.invariant-loop-span

@@ -1,5 +1,5 @@
 use Rattle.std.proofs.Common.{◌≡◌, ◌+◌, length}
-use Rattle.span_world.specs.Step.{arrivals}
+use Rattle.world_theory.specs.Step.{arrivals}
 use Rattle.span_world.proofs.lane.arrivals.Given as goal
 
 abbrev pub invariant-loop-rec : goal.invariant-loop-rec

@@ -1,5 +1,5 @@
 use Rattle.std.proofs.Common.{◌≡◌, filter, take}
-use Rattle.span_world.specs.Step.{has_ids}
+use Rattle.world_theory.specs.Step.{has_ids}
 use Rattle.span_world.proofs.lane.routable.Given as goal
 
 abbrev pub invariant-loop-arrival : goal.invariant-loop-arrival

@@ -1,7 +1,7 @@
 use Rattle.std.proofs.Common.{◌≡◌, not, filter, take}
-use Rattle.shard_core.specs.Fate.{counts}
+use Rattle.journal_theory.specs.Fate.{counts}
 use Rattle.span_ids.specs.declared.outcome.Reason.TheVariants.{InvalidId}
-use Rattle.span_world.specs.Step.{has_ids}
+use Rattle.world_theory.specs.Step.{has_ids}
 use Rattle.span_world.proofs.lane.without_ids.Given as goal
 
 abbrev pub invariant-loop-arrival : goal.invariant-loop-arrival

@@ -1,6 +1,6 @@
 use Rattle.std.proofs.Common.{◌≡◌, ℕ, suc, ◌-◌, Bool, List, ◌∷◌, ◌++◌, [], length, take, ap, ◌∙◌, arith}
-use Rattle.shard_core.specs.Journal.{Entry}
-use Rattle.span_world.proofs.Routing.{read_is}
+use Rattle.journal_theory.specs.Journal.{Entry}
+use Rattle.world_theory.proofs.Routing.{read_is}
 use Rattle.span_world.proofs.Giving.{answers_last, answers_back}
 use Rattle.span_world.proofs.shard.give.Goals as goal
 

@@ -1,5 +1,5 @@
 use Rattle.std.proofs.Common.{◌≡◌, replicate}
-use Rattle.span_world.specs.World.{new_lane}
+use Rattle.world_theory.specs.World.{new_lane}
 use Rattle.span_world.proofs.world.new_lanes.Given as goal
 
 abbrev pub invariant-loop-i : goal.invariant-loop-i

@@ -1,5 +1,5 @@
 use Rattle.std.proofs.Common.{◌≡◌, replicate}
-use Rattle.span_world.specs.World.{new_shard}
+use Rattle.world_theory.specs.World.{new_shard}
 use Rattle.span_world.proofs.world.new_shards.Given as goal
 
 abbrev pub invariant-loop-i : goal.invariant-loop-i

@@ -12,8 +12,8 @@ use Rattle.shard_core.specs.Held.{Held, held_of, settings, StandsFor, due_by, ha
 use Rattle.shard_core.specs.contracts.shard.Shard.{the_view}
 use Rattle.shard_core.proofs.Forgetting.{settle_keeps}
 use Rattle.std.specs.Option.{option_copied}
-use Rattle.shard_core.specs.Journal.{IsAnswered}
-use Rattle.shard_core.specs.Fate.{Effect, effect, effect_dealt}
+use Rattle.journal_theory.specs.Journal.{IsAnswered}
+use Rattle.journal_theory.specs.Fate.{effect, effect_dealt}
 use Rattle.shard_core.proofs.HeldSpans.{settle_spans, due_spans}
 use Rattle.shard_core.proofs.Effects.{all_dealt, all_answered}
 use Rattle.shard_core.proofs.Deciding.{nothing_due, decides_nothing, decides_some, waits_less}

@@ -1,8 +1,9 @@
 use Rattle.std.proofs.Common.{◌≡◌, ℕ, ◌<◌, ◌∷◌, sym, ap, subst, ◌∙◌, true, if◌then◌else◌}
-use Rattle.shard_core.specs.Journal.{Journal}
+use Rattle.journal_theory.specs.Journal.{Journal, has_ids}
 use Rattle.otlp_types.specs.declared.arrival.Item.{Item}
 use Rattle.shard_core.specs.Held.{StandsFor, settings, is_finished, Held}
-use Rattle.shard_core.specs.Taking.{entry, answer_to, marks_apply, has_ids, TellsFate}
+use Rattle.shard_core.specs.Taking.{entry, answer_to, TellsFate}
+use Rattle.journal_theory.specs.Marked.{marks_apply}
 use Rattle.shard_core.specs.declared.answer.Taken.{Taken}
 use Rattle.shard_core.specs.declared.answer.Taken.TheVariants.{Ticked, Ended, Finished}
 use Rattle.otlp_types.specs.declared.arrival.Item.TheVariants.{Tick, End}

@@ -1,11 +1,11 @@
-use Rattle.std.proofs.Common.{◌≡◌, ◌<◌, ◌≤◌, ℕ, suc, zero, Bool, true, false, cond, List, [], ◌∷◌, map, length, Option, Some, None, slice_get, refl, sym, ap, subst, ◌∙◌, arith}
+use Rattle.std.proofs.Common.{◌≡◌, ◌<◌, ℕ, suc, zero, Bool, true, false, cond, List, [], ◌∷◌, map, length, Some, None, slice_get, refl, sym, ap, ◌∙◌, arith}
 use Rattle.std.specs.Option.{is_some, option_and_then}
 use Rattle.std.proofs.lemmas.Option.{slice_get_past, slice_get_read}
 use Rattle.policy_eval.specs.Given.{are_answered}
 use Rattle.otlp_types.specs.declared.arrival.Arrival.{Arrival}
-use Rattle.shard_core.specs.Journal.{Settings, Journal, Opening, due_now, spans_since}
+use Rattle.journal_theory.specs.Journal.{Settings, Journal, Opening, due_now, spans_since}
 use Rattle.shard_journal.specs.Settings.{settings_of}
-use Rattle.shard_journal.specs.Answered.{effect_answered, effect_answered_at}
+use Rattle.journal_theory.specs.Answered.{effect_answered}
 use Rattle.shard_journal.specs.Look.{Look}
 use Rattle.shard_journal.proofs.looking.LookBack.is_answered.Goals as goal
 

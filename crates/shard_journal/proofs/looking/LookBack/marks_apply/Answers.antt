@@ -1,6 +1,6 @@
 use Rattle.std.proofs.Common.{ap, sym, ◌∙◌}
-use Rattle.shard_core.specs.Journal.{Notes, finding, notes}
-use Rattle.shard_core.specs.Taking.{marks_apply_to, marks_apply_to_ids}
+use Rattle.journal_theory.specs.Journal.{Notes, finding, notes}
+use Rattle.journal_theory.specs.Marked.{marks_apply_to, marks_apply_to_ids}
 use Rattle.shard_journal.specs.Settings.{settings_of}
 use Rattle.shard_journal.specs.Look.{Look}
 use Rattle.shard_journal.proofs.Short.{marks_short}

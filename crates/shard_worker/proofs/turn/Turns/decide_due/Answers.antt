@@ -1,7 +1,7 @@
 -- What is due is decided, one after the other.
 -- For the clauses of `Turns::decide_due`.
 use Rattle.std.proofs.Common.{◌∷◌, refl, ap, ◌∙◌}
-use Rattle.shard_core.specs.Journal.{Journal}
+use Rattle.journal_theory.specs.Journal.{Journal}
 use Rattle.shard_core.specs.Taking.{dealt_after}
 use Rattle.shard_worker.proofs.Nodes.{knows_kept}
 use Rattle.shard_worker.proofs.Moves.{given_after, at_decided, done_decided}

@@ -1,7 +1,8 @@
 -- One item is taken, and then all that is due is decided.
 -- For the clauses of `Turns::turn`.
 use Rattle.std.proofs.Common.{◌≡◌, true, ap, ◌∙◌, refl, sym, subst}
-use Rattle.shard_core.specs.Taking.{entry, marks_apply}
+use Rattle.shard_core.specs.Taking.{entry}
+use Rattle.journal_theory.specs.Marked.{marks_apply}
 use Rattle.shard_worker.proofs.Nodes.{knows_kept}
 use Rattle.shard_worker.proofs.Moves.{at_taken}
 use Rattle.shard_worker.proofs.turn.Turns.turn.Goals as goal

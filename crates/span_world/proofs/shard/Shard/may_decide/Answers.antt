@@ -1,9 +1,9 @@
 use Rattle.std.proofs.Common.{◌≤◌, length, reverse, ap, sym, arith}
 use Rattle.std.specs.Option.{is_some}
-use Rattle.shard_core.specs.Journal.{due_now}
+use Rattle.journal_theory.specs.Journal.{due_now}
 use Rattle.shard_journal.specs.Settings.{settings_of}
 use Rattle.shard_journal.specs.Look.{Look}
-use Rattle.span_world.specs.World.{Shard}
+use Rattle.world_theory.specs.World.{Shard}
 use Rattle.span_world.proofs.Items.{none_due}
 use Rattle.span_world.proofs.shard.Shard.may_decide.Goals as goal
 

@@ -1,11 +1,11 @@
 use Rattle.std.proofs.Common.{◌≡◌, ◌+◌, ◌++◌, Some, None, Option, List, Bool, true, is_some, refl, ap, sym, subst, arith, ◌∙◌}
 use Rattle.shard_journal.specs.Settings.{settings_of}
-use Rattle.shard_core.specs.Journal.{Settings, answered}
-use Rattle.span_world.specs.World.{Shard, settings_for}
+use Rattle.journal_theory.specs.Journal.{Settings, answered}
+use Rattle.world_theory.specs.World.{Shard, settings_for}
 use Rattle.span_world.specs.Core.{config_of}
 use Rattle.span_world.specs.Answers.{next_decision}
 use Rattle.span_world.specs.contracts.world.World.{the_view}
-use Rattle.span_world.proofs.Routing.{read_is, reads_same, put_back, on_ok, on_err}
+use Rattle.world_theory.proofs.Routing.{read_is, reads_same, put_back, on_ok, on_err}
 use Rattle.span_world.proofs.Items.{can_decide, decides, decided_is}
 use Rattle.span_world.proofs.Looking.{looks_put}
 use Rattle.span_world.proofs.world.World.decide.Goals as goal

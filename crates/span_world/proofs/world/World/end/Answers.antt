@@ -1,10 +1,10 @@
 use Rattle.std.proofs.Common.{◌≡◌, true, Some, slice_get, ap, sym, subst, arith, ◌∙◌}
-use Rattle.shard_core.specs.Journal.{Settings}
-use Rattle.span_world.specs.World.{settings, settings_for}
+use Rattle.journal_theory.specs.Journal.{Settings}
+use Rattle.world_theory.specs.World.{settings, settings_for}
 use Rattle.span_world.specs.Core.{Core, config_of}
 use Rattle.span_world.specs.Answers.{may_take}
 use Rattle.span_world.specs.contracts.world.World.{the_view}
-use Rattle.span_world.proofs.Routing.{read_is}
+use Rattle.world_theory.proofs.Routing.{read_is}
 use Rattle.span_world.proofs.Items.{end_steps}
 use Rattle.span_world.proofs.world.World.end.Goals as goal
 

@@ -1,11 +1,11 @@
 use Rattle.std.proofs.Common.{Bool, List, [], ◌<◌, false, length, refl, ap, sym, subst, ◌∙◌}
-use Rattle.shard_core.specs.Journal.{Entry}
+use Rattle.journal_theory.specs.Journal.{Entry}
 use Rattle.shard_journal.specs.Settings.{settings_of}
-use Rattle.span_world.specs.World.{Shard, settings_for}
-use Rattle.span_world.specs.Step.{after_taking}
+use Rattle.world_theory.specs.World.{Shard, settings_for}
+use Rattle.world_theory.specs.Step.{after_taking}
 use Rattle.span_world.specs.Core.{Core, config_of}
 use Rattle.span_world.specs.contracts.world.World.{the_view}
-use Rattle.span_world.proofs.Routing.{read_is, reads_same, put_back, on_ok, on_err}
+use Rattle.world_theory.proofs.Routing.{read_is, reads_same, put_back, on_ok, on_err}
 use Rattle.span_world.proofs.Items.{kept_is}
 use Rattle.span_world.proofs.Looking.{looks_put}
 use Rattle.span_world.proofs.world.World.keep_item.Goals as goal

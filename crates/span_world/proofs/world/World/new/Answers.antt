@@ -1,7 +1,7 @@
 use Rattle.std.proofs.Common.{◌≡◌, ◌+◌, length, ap, arith}
 use Rattle.std.proofs.lemmas.List.{length-replicate}
 use Rattle.shard_journal.specs.Settings.{settings_of}
-use Rattle.span_world.specs.World.{new_lane}
+use Rattle.world_theory.specs.World.{new_lane}
 use Rattle.span_world.proofs.Looking.{new_looks}
 use Rattle.span_world.proofs.world.World.new.Goals as goal
 

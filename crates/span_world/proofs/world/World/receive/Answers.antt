@@ -1,8 +1,8 @@
 use Rattle.std.proofs.Common.{refl, sym, arith, ◌∙◌}
 use Rattle.span_world.specs.Core.{config_of}
 use Rattle.span_world.specs.contracts.world.World.{the_view}
-use Rattle.span_world.proofs.Arriving.{can_receive, receives}
-use Rattle.span_world.proofs.Routing.{read_is, reads_same, put_back, on_ok, on_err}
+use Rattle.world_theory.proofs.Arriving.{can_receive, receives}
+use Rattle.world_theory.proofs.Routing.{read_is, reads_same, put_back, on_ok, on_err}
 use Rattle.span_world.proofs.world.World.receive.Goals as goal
 
 pub returns-then-is_err : goal.returns-then-is_err

@@ -1,9 +1,9 @@
 use Rattle.std.proofs.Common.{◌≡◌, refl, subst, arith, ◌∙◌}
 use Rattle.std.specs.List.{position}
-use Rattle.span_world.specs.World.{Lane, goes_to}
+use Rattle.world_theory.specs.World.{Lane, goes_to}
 use Rattle.span_world.specs.Core.{config_of}
 use Rattle.span_world.specs.contracts.world.World.{the_view}
-use Rattle.span_world.proofs.Routing.{read_is, some_read, reads_same, no_refuse, can_refuse, refuses}
+use Rattle.world_theory.proofs.Routing.{read_is, some_read, reads_same, no_refuse, can_refuse, refuses}
 use Rattle.span_world.proofs.world.World.refuse.Goals as goal
 
 pub returns-in_default : goal.returns-in_default

@@ -3,7 +3,7 @@ use Rattle.std.proofs.lemmas.List.{length-append}
 use Rattle.std.specs.Vec.Iter.{into_iter_items}
 use Rattle.span_world.specs.Core.{config_of}
 use Rattle.span_world.specs.Answers.{the_step, StopsAt}
-use Rattle.span_world.proofs.Parts.{headline}
+use Rattle.world_theory.proofs.Parts.{headline}
 use Rattle.span_world.proofs.Replaying.{runs_on, stops}
 use Rattle.span_world.proofs.world.World.replay.Goals as goal
 

@@ -1,6 +1,6 @@
 use Rattle.std.proofs.Common.{◌≡◌, ◌++◌, Some, map, length}
 use Rattle.std.specs.Vec.Iter.{into_iter_items}
-use Rattle.span_world.specs.Step.{run}
+use Rattle.world_theory.specs.Step.{run}
 use Rattle.span_world.specs.Core.{config_of}
 use Rattle.span_world.specs.Answers.{the_step}
 use Rattle.span_world.proofs.world.World.replay.Given as goal

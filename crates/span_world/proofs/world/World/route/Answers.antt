@@ -1,9 +1,9 @@
 use Rattle.std.proofs.Common.{◌≡◌, ◌+◌, length, slice_set, refl, sym, subst, arith, ◌∙◌}
 use Rattle.std.specs.List.{position}
-use Rattle.span_world.specs.World.{Lane, goes_to}
+use Rattle.world_theory.specs.World.{Lane, goes_to}
 use Rattle.span_world.specs.Core.{config_of}
 use Rattle.span_world.specs.contracts.world.World.{the_view}
-use Rattle.span_world.proofs.Routing.{read_is, some_read, reads_same, put_back, on_ok, on_err, no_route, can_route, routes}
+use Rattle.world_theory.proofs.Routing.{read_is, some_read, reads_same, put_back, on_ok, on_err, no_route, can_route, routes}
 use Rattle.std.proofs.lemmas.List.{length-set}
 use Rattle.shard_journal.specs.Settings.{settings_of}
 use Rattle.span_world.proofs.Looking.{looks_stay}

@@ -1,7 +1,7 @@
 use Rattle.std.proofs.Common.{ap, refl, arith}
 use Rattle.shard_journal.specs.Settings.{settings_of}
-use Rattle.span_world.specs.World.{Shard}
-use Rattle.span_world.proofs.Routing.{read_is}
+use Rattle.world_theory.specs.World.{Shard}
+use Rattle.world_theory.proofs.Routing.{read_is}
 use Rattle.span_world.proofs.Looking.{looks_stay}
 use Rattle.span_world.proofs.Items.{ships}
 use Rattle.span_world.specs.Core.{config_of}

@@ -1,11 +1,11 @@
 use Rattle.std.proofs.Common.{◌≡◌, Some, drop, is_some, refl, ap, sym, subst, arith, ◌∙◌}
 use Rattle.shard_journal.specs.Settings.{settings_of}
-use Rattle.shard_core.specs.Journal.{Settings}
-use Rattle.span_world.specs.World.{Shard, settings_for}
+use Rattle.journal_theory.specs.Journal.{Settings}
+use Rattle.world_theory.specs.World.{Shard, settings_for}
 use Rattle.span_world.specs.Core.{config_of}
 use Rattle.span_world.specs.Answers.{entry_of_first}
 use Rattle.span_world.specs.contracts.world.World.{the_view}
-use Rattle.span_world.proofs.Routing.{read_is, reads_same, put_back, on_ok, on_err}
+use Rattle.world_theory.proofs.Routing.{read_is, reads_same, put_back, on_ok, on_err}
 use Rattle.span_world.proofs.Items.{kept_is, can_take, takes}
 use Rattle.span_world.proofs.Looking.{looks_put}
 use Rattle.span_world.proofs.world.World.take.Goals as goal

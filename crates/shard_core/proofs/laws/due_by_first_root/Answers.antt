@@ -1,5 +1,0 @@
-use Rattle.shard_core.proofs.RootWait.{due_by_first_root}
-use Rattle.shard_core.proofs.laws.due_by_first_root.Goals as goal
-
-pub returns : goal.returns
-returns c = due_by_first_root
