@@ -153,61 +153,38 @@ module _ (p : List Policy) (w root_wait : ℕ) (b : Buffer) (c : CacheLists) (cl
     answer : r ≡ put_answer s (is_loss (Kept left r)) left
     mark : (not (is_loss (Kept left r)) || cache_is_on s (verdict_leaving left)) ≡ true
 
-  put_sampled : (x : Evicted) (y : Remembered) (e : CacheLists) → x.verdict ≡ Some Sampled → Remembers x.trace Sampled c y e → PutDone (Some x) (Some y) e
-  put_sampled x y e d q = go y (list_facts c.sampled e.sampled x.trace y q.0)
-    where
-      go : (y : Remembered) → ListFacts c.sampled e.sampled x.trace y → PutDone (Some x) (Some y) e
-      go InCache f = record {
-        caches = lists_are e (list_after_put x.trace c.sampled) c.not_sampled f.0 q.1 ∙ ap (λ v. after_leaving_decided false x.trace v c) (sym d);
-        size = f.1;
-        other_size = ap (λ (z : TraceList). z.size) q.1;
-        answer = ap (λ (z : Remembered). Some z) f.2 ∙ ap (option_map (λ v. put_in false (cache_size s v))) (sym d);
-        mark = refl;
-      }
-      go Off f = record {
-        caches = lists_are e (list_after_put x.trace c.sampled) c.not_sampled f.0 q.1 ∙ ap (λ v. after_leaving_decided false x.trace v c) (sym d);
-        size = f.1;
-        other_size = ap (λ (z : TraceList). z.size) q.1;
-        answer = ap (λ (z : Remembered). Some z) f.2 ∙ ap (option_map (λ v. put_in false (cache_size s v))) (sym d);
-        mark = refl;
-      }
-      go Lost f = record {
-        caches = lists_are e c.sampled c.not_sampled f.0 q.1 ∙ ap (λ v. after_leaving_decided true x.trace v c) (sym d);
-        size = f.1;
-        other_size = ap (λ (z : TraceList). z.size) q.1;
-        answer = ap (λ (z : Remembered). Some z) f.2 ∙ ap (option_map (λ v. put_in true (cache_size s v))) (sym d);
-        mark = ap (cache_is_on s) d ∙ f.3;
-      }
+  -- memory was refused to the put exactly where the put was lost
+  loss_of : (left : Option Evicted) (y : Remembered) → is_loss (Kept left (Some y)) ≡ is_lost y
+  loss_of left InCache = refl
+  loss_of left Off = refl
+  loss_of left Lost = refl
 
-  put_not_sampled : (x : Evicted) (y : Remembered) (e : CacheLists) → x.verdict ≡ Some NotSampled → Remembers x.trace NotSampled c y e → PutDone (Some x) (Some y) e
-  put_not_sampled x y e d q = go y (list_facts c.not_sampled e.not_sampled x.trace y q.0)
-    where
-      go : (y : Remembered) → ListFacts c.not_sampled e.not_sampled x.trace y → PutDone (Some x) (Some y) e
-      go InCache f = record {
-        caches = lists_are e c.sampled (list_after_put x.trace c.not_sampled) q.1 f.0 ∙ ap (λ v. after_leaving_decided false x.trace v c) (sym d);
-        size = ap (λ (z : TraceList). z.size) q.1;
-        other_size = f.1;
-        answer = ap (λ (z : Remembered). Some z) f.2 ∙ ap (option_map (λ v. put_in false (cache_size s v))) (sym d);
-        mark = refl;
-      }
-      go Off f = record {
-        caches = lists_are e c.sampled (list_after_put x.trace c.not_sampled) q.1 f.0 ∙ ap (λ v. after_leaving_decided false x.trace v c) (sym d);
-        size = ap (λ (z : TraceList). z.size) q.1;
-        other_size = f.1;
-        answer = ap (λ (z : Remembered). Some z) f.2 ∙ ap (option_map (λ v. put_in false (cache_size s v))) (sym d);
-        mark = refl;
-      }
-      go Lost f = record {
-        caches = lists_are e c.sampled c.not_sampled q.1 f.0 ∙ ap (λ v. after_leaving_decided true x.trace v c) (sym d);
-        size = ap (λ (z : TraceList). z.size) q.1;
-        other_size = f.1;
-        answer = ap (λ (z : Remembered). Some z) f.2 ∙ ap (option_map (λ v. put_in true (cache_size s v))) (sym d);
-        mark = ap (cache_is_on s) d ∙ f.3;
-      }
+  -- a put of this verdict, by what the lists became and what was answered
+  put_as : (x : Evicted) (v : Verdict) (y : Remembered) (e : CacheLists) → x.verdict ≡ Some v → e ≡ after_leaving_decided (is_lost y) x.trace (Some v) c → e.sampled.size ≡ c.sampled.size → e.not_sampled.size ≡ c.not_sampled.size →
+      y ≡ put_in (is_lost y) (cache_size s v) → (not (is_lost y) || nat_lt 0 (cache_size s v)) ≡ true → PutDone (Some x) (Some y) e
+  put_as x v y e d lists size other_size answer mark = let l = loss_of (Some x) y in record {
+    caches = lists ∙ sym (ap (λ b. after_leaving b (Some x) c) l ∙ ap (λ z. after_leaving_decided (is_lost y) x.trace z c) d);
+    size = size;
+    other_size = other_size;
+    answer = ap (λ (z : Remembered). Some z) answer ∙ sym (ap (λ b. put_answer s b (Some x)) l ∙ ap (option_map (λ v. put_in (is_lost y) (cache_size s v))) d);
+    mark = ap (λ b. not b || cache_is_on s x.verdict) l ∙ ap (λ z. not (is_lost y) || cache_is_on s z) d ∙ mark;
+  }
+
+  sampled_put : (lost : Bool) (tr : TraceId) → (let l : CacheLists = record { sampled = cond lost c.sampled (list_after_put tr c.sampled); not_sampled = c.not_sampled } in l) ≡ after_leaving_decided lost tr (Some Sampled) c
+  sampled_put true tr = refl
+  sampled_put false tr = refl
+
+  not_sampled_put : (lost : Bool) (tr : TraceId) → (let l : CacheLists = record { sampled = c.sampled; not_sampled = cond lost c.not_sampled (list_after_put tr c.not_sampled) } in l) ≡ after_leaving_decided lost tr (Some NotSampled) c
+  not_sampled_put true tr = refl
+  not_sampled_put false tr = refl
 
   put_decided : (x : Evicted) (v : Verdict) (y : Remembered) (e : CacheLists) → x.verdict ≡ Some v → Remembers x.trace v c y e → PutDone (Some x) (Some y) e
-  put_decided x Sampled y e d q = put_sampled x y e d q
-  put_decided x NotSampled y e d q = put_not_sampled x y e d q
+  put_decided x Sampled y e d q =
+      let f = list_facts c.sampled e.sampled x.trace y q.0 in
+      put_as x Sampled y e d (lists_are e (cond (is_lost y) c.sampled (list_after_put x.trace c.sampled)) c.not_sampled f.0 q.1 ∙ sampled_put (is_lost y) x.trace) f.1 (ap (λ (z : TraceList). z.size) q.1) f.2 f.3
+  put_decided x NotSampled y e d q =
+      let f = list_facts c.not_sampled e.not_sampled x.trace y q.0 in
+      put_as x NotSampled y e d (lists_are e c.sampled (cond (is_lost y) c.not_sampled (list_after_put x.trace c.not_sampled)) q.1 f.0 ∙ not_sampled_put (is_lost y) x.trace) (ap (λ (z : TraceList). z.size) q.1) f.1 f.2 f.3
 
   put_none : (left : Option Evicted) (r : Option Remembered) (e : CacheLists) → verdict_leaving left ≡ None → r ≡ None → e ≡ c → (lost : Bool) → is_loss (Kept left r) ≡ lost → PutDone left r e
   put_none None r e d q z lost l = let n : is_loss (Kept None r) ≡ false = ap (λ (x : Option Remembered). is_loss (Kept None x)) q in record {
