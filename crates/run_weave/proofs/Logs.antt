@@ -19,6 +19,7 @@ use Rattle.drop_ledger.specs.declared.count.Count.{Count}
 use Rattle.drop_ledger.specs.declared.count.Count.TheVariants.{Received, Handed, Dropped}
 use Rattle.drop_ledger.specs.Places.{place_of, Addition, added_to, Gains}
 use Rattle.drop_ledger.proofs.Gains.{gains_none, gains_both, gains_one}
+use Rattle.drop_ledger.proofs.EachCount.{each_count}
 use Rattle.lane_queue.specs.Ends.{EndState, TakesItem, IsRefused}
 use Rattle.lane_queue.specs.Histories.{pushes, pops}
 use Rattle.lane_queue.proofs.Steps.{popped_then_held}
@@ -59,15 +60,8 @@ lane_gains received refused (Dropped LateNotSampled) = 0
 lane_gains received refused (Dropped ExporterDown) = 0
 
 gains_append : (xs ys : List Arrival) (first others : ℕ) (count : Count) → lane_gains (xs ++ ys) (first + others) count ≡ lane_gains xs first count + lane_gains ys others count
-gains_append xs ys first others Received = length-append xs ys
-gains_append xs ys first others Handed = refl
-gains_append xs ys first others (Dropped InvalidId) = ap (λ (z : List Arrival). length z) (filter-append (λ a. not (has_ids a)) xs ys) ∙ length-append (filter (λ a. not (has_ids a)) xs) (filter (λ a. not (has_ids a)) ys)
-gains_append xs ys first others (Dropped QueueFull) = refl
-gains_append xs ys first others (Dropped NoMemory) = refl
-gains_append xs ys first others (Dropped Evicted) = refl
-gains_append xs ys first others (Dropped NotSampled) = refl
-gains_append xs ys first others (Dropped LateNotSampled) = refl
-gains_append xs ys first others (Dropped ExporterDown) = refl
+gains_append xs ys first others = each_count (λ count. lane_gains (xs ++ ys) (first + others) count ≡ lane_gains xs first count + lane_gains ys others count) (length-append xs ys) refl
+    (ap (λ (z : List Arrival). length z) (filter-append (λ a. not (has_ids a)) xs ys) ∙ length-append (filter (λ a. not (has_ids a)) xs) (filter (λ a. not (has_ids a)) ys)) refl refl refl refl refl refl
 
 -- a span has no valid ids in the words of lanes, and in those of the core
 same_invalid : (xs : List Arrival) → length (filter is_invalid xs) ≡ length (filter (λ a. not (has_ids a)) xs)
@@ -96,27 +90,13 @@ reply_gains : (came : List Arrival) (refused : ℕ) (reply : Reply) (old new : L
 reply_gains came refused (Done n) old new is counted = gains_one Received n (lane_gains came refused) old new all counted
   where
     all : (other : Count) → lane_gains came refused other ≡ cond (place_of Received == place_of other) n 0
-    all Received = sym is.0
-    all Handed = refl
-    all (Dropped InvalidId) = let none : length (filter is_invalid came) ≡ 0 = omega (arith, is.1) in sym (same_invalid came) ∙ none
-    all (Dropped QueueFull) = omega (arith, is.1)
-    all (Dropped NoMemory) = refl
-    all (Dropped Evicted) = refl
-    all (Dropped NotSampled) = refl
-    all (Dropped LateNotSampled) = refl
-    all (Dropped ExporterDown) = refl
+    all = each_count (λ other. lane_gains came refused other ≡ cond (place_of Received == place_of other) n 0) (sym is.0) refl
+        (let none : length (filter is_invalid came) ≡ 0 = omega (arith, is.1) in sym (same_invalid came) ∙ none) (omega (arith, is.1)) refl refl refl refl refl
 reply_gains came refused (Partial n i f) old new is counted = (additions_of (Partial n i f), counted, λ count. added n i f count ∙ all count)
   where
     all : (other : Count) → cond (place_of Received == place_of other) n 0 + (cond (place_of (Dropped InvalidId) == place_of other) i 0 + cond (place_of (Dropped QueueFull) == place_of other) f 0) ≡ lane_gains came refused other
-    all Received = omega (arith, is.0)
-    all Handed = refl
-    all (Dropped InvalidId) = omega (arith, is.1, same_invalid came)
-    all (Dropped QueueFull) = omega (arith, is.2)
-    all (Dropped NoMemory) = refl
-    all (Dropped Evicted) = refl
-    all (Dropped NotSampled) = refl
-    all (Dropped LateNotSampled) = refl
-    all (Dropped ExporterDown) = refl
+    all = each_count (λ other. cond (place_of Received == place_of other) n 0 + (cond (place_of (Dropped InvalidId) == place_of other) i 0 + cond (place_of (Dropped QueueFull) == place_of other) f 0) ≡ lane_gains came refused other)
+        (omega (arith, is.0)) refl (omega (arith, is.1, same_invalid came)) (omega (arith, is.2)) refl refl refl refl refl
 reply_gains came refused (BadData cause) old new is counted = absurd is
 reply_gains came refused Busy old new is counted = absurd is
 

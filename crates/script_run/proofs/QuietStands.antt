@@ -6,14 +6,14 @@ use Rattle.world_theory.proofs.WaitingPlaces.{none_waits_counted, none_waits_han
 use Rattle.otlp_types.specs.declared.arrival.Arrival.{Arrival}
 use Rattle.otlp_types.specs.declared.arrival.Item.{Item}
 use Rattle.span_ids.specs.declared.outcome.Reason.{Reason}
-use Rattle.span_ids.specs.declared.outcome.Reason.TheVariants.{InvalidId, QueueFull, NoMemory, Evicted, NotSampled, LateNotSampled, ExporterDown}
 use Rattle.lane_seq.specs.Numbers.{is_invalid}
 use Rattle.rate_budget.specs.Grant.{Asking}
 use Rattle.journal_theory.specs.Journal.{Settings, Journal, due_now, have_ended}
 use Rattle.journal_theory.specs.Fate.{DroppedSpan, under}
 use Rattle.span_sink.specs.LineSinks.{LineSinkState}
 use Rattle.drop_ledger.specs.declared.count.Count.{Count}
-use Rattle.drop_ledger.specs.declared.count.Count.TheVariants.{Received, Handed, Dropped}
+use Rattle.drop_ledger.specs.declared.count.Count.TheVariants.{Handed, Dropped}
+use Rattle.drop_ledger.proofs.EachCount.{each_count}
 use Rattle.world_theory.specs.World.{Config, Lane, Shard, World as Core, settings}
 use Rattle.world_theory.specs.Places.{HeldKey, handed, counted_under, held_at, held_by_lanes, held_by_shards, held, is_waiting, buffered_spans, IsClosed}
 use Rattle.world_theory.specs.Headline.{handed_spans}
@@ -32,15 +32,7 @@ use Rattle.script_run.proofs.SendingBatches.{batches_fit, handed_append, spans_a
 
 -- what the lanes count is by what was received, and by how many spans found their queue full
 pub lanes_count : (v w : World) → v.received ≡ w.received → v.full ≡ w.full → (count : Count) → counted_at_lanes v count ≡ counted_at_lanes w count
-lanes_count v w r f Received = ap (λ (z : List Arrival). length z) r
-lanes_count v w r f Handed = refl
-lanes_count v w r f (Dropped InvalidId) = ap (λ (z : List Arrival). length (filter is_invalid z)) r
-lanes_count v w r f (Dropped QueueFull) = f
-lanes_count v w r f (Dropped NoMemory) = refl
-lanes_count v w r f (Dropped Evicted) = refl
-lanes_count v w r f (Dropped NotSampled) = refl
-lanes_count v w r f (Dropped LateNotSampled) = refl
-lanes_count v w r f (Dropped ExporterDown) = refl
+lanes_count v w r f = each_count (λ count. counted_at_lanes v count ≡ counted_at_lanes w count) (ap (λ (z : List Arrival). length z) r) refl (ap (λ (z : List Arrival). length (filter is_invalid z)) r) f refl refl refl refl refl
 
 -- the lanes are by what was received, and by whether the script is closed
 pub lanes_same : (v w : World) → v.received ≡ w.received → v.closed ≡ w.closed → (lane lanes : ℕ) → lanes_from v lane lanes ≡ lanes_from w lane lanes

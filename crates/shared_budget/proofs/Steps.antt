@@ -39,9 +39,31 @@ every_end F views w mine others j u e = ⊎_elim (λ (x : (j < length views) × 
 abbrev Live : (ℕ → ℕ) → (n l s : ℕ) → List Asked → ℕ → View → Type 0
 Live owner n l s log port v = v.live ≡ true → Knows owner n l s log port v
 
+-- what the rule says of a cell of which no pass is fresh
+abbrev NotFresh : ℕ → View → Type 0
+NotFresh port v = v.fresh ≢ true
+
+no_fresh : (x : List ℕ) (views : List View) (owner : ℕ → ℕ) (n l s : ℕ) (log : List Asked) → IsLegal n l log → AreOfSeats s log → x ≡ words_of log → Every NotFresh views → Every (Live owner n l s log) views → Kept x views
+no_fresh x views owner n l s log legal within is none knows = record {
+  owner = owner;
+  n = n;
+  l = l;
+  s = s;
+  log = log;
+  legal = legal;
+  within = within;
+  is = is;
+  fresh = λ j u e f. absurd (none j u e f);
+  knows = knows;
+}
+
 -- beside a live pass none is fresh
 stale : (x : List ℕ) (views : List View) (port : ℕ) (v : View) → v.live ≡ true → Kept x views → get_elem? views port ≡ some v → (j : ℕ) (u : View) → get_elem? views j ≡ some u → u.fresh ≢ true
 stale x views port v live h at j u e f = true≢false (sym live ∙ ((h.fresh j u e f).1 port v at).0)
+
+-- nor where that pass becomes another one
+stale_but : (x : List ℕ) (views : List View) (port : ℕ) (v w : View) → v.live ≡ true → Kept x views → get_elem? views port ≡ some v → w.fresh ≢ true → Every NotFresh (set views port w)
+stale_but x views port v w live h at not = every_set NotFresh views port w not (λ j u other e. stale x views port v live h at j u e)
 
 -- ---- looking
 
@@ -56,20 +78,10 @@ pub looks : (x : List ℕ) (views : List View) (port : ℕ) (v : View) → v.liv
 looks x views port v live h at =
     let k = h.knows port v at live in
     let w : View = seen_all v h.log in
-    let none : Every (λ j u. u.fresh ≢ true) (set views port w) = every_set (λ j u. u.fresh ≢ true) views port w (stale x views port v live h at port v at) (λ j u other e. stale x views port v live h at j u e) in (
+    (
       w,
-      record {
-        owner = h.owner;
-        n = h.n;
-        l = h.l;
-        s = h.s;
-        log = h.log;
-        legal = h.legal;
-        within = h.within;
-        is = h.is;
-        fresh = λ j u e f. absurd (none j u e f);
-        knows = every_set (Live h.owner h.n h.l h.s h.log) views port w (λ _. looks_knows h.owner h.n h.l h.s h.log port v k) (λ j u other e. h.knows j u e);
-      },
+      no_fresh x (set views port w) h.owner h.n h.l h.s h.log h.legal h.within h.is (stale_but x views port v w live h at (stale x views port v live h at port v at))
+          (every_set (Live h.owner h.n h.l h.s h.log) views port w (λ _. looks_knows h.owner h.n h.l h.s h.log port v k) (λ j u other e. h.knows j u e)),
       (k.part.0.0, ap (λ (log : List Asked). seen_all v log) k.part.0.1),
     )
 
@@ -119,20 +131,10 @@ asks second spans x views port v seat h at =
     let k' : Knows h.owner h.n h.l h.s (e ∷ h.log) port w = asks_knows h.owner h.n h.l h.s h.log port v second spans (answer second spans v x) seat k in
     let grant = legal_after second spans v h.log x h.is in
     let legal : IsLegal h.n h.l (e ∷ h.log) = (k.of_node, subst (λ m. answer second spans v x ≡ grants m (askings h.log) second spans) k.of_limit grant, h.legal) in
-    let none : Every (λ j u. u.fresh ≢ true) (set views port w) = every_set (λ j u. u.fresh ≢ true) views port w (stale x views port v seat.0 h at port v at) (λ j u other e'. stale x views port v seat.0 h at j u e') in (
+    (
       w,
-      record {
-        owner = h.owner;
-        n = h.n;
-        l = h.l;
-        s = h.s;
-        log = e ∷ h.log;
-        legal = legal;
-        within = (k.below, h.within);
-        is = words_after second spans v h.log x h.is;
-        fresh = λ j u e' f. absurd (none j u e' f);
-        knows = every_set (Live h.owner h.n h.l h.s (e ∷ h.log)) views port w (λ _. k') (λ j u other e' live. others_know h.owner h.n h.l h.s h.log port e k.owns j u other (h.knows j u e' live));
-      },
+      no_fresh (next_words second spans v x) (set views port w) h.owner h.n h.l h.s (e ∷ h.log) legal (k.below, h.within) (words_after second spans v h.log x h.is) (stale_but x views port v w seat.0 h at (stale x views port v seat.0 h at port v at))
+          (every_set (Live h.owner h.n h.l h.s (e ∷ h.log)) views port w (λ _. k') (λ j u other e' live. others_know h.owner h.n h.l h.s h.log port e k.owns j u other (h.knows j u e' live))),
       (
         k.part.0.0,
         ap (λ (log : List Asked). record v { seen = e ∷ log; mine = e ∷ v.mine }) k.part.0.1,
@@ -175,20 +177,10 @@ exchanges second spans port v seen new seat is changes x views h at = exchanges_
 pub compares : (port : ℕ) (v : View) → v.live ≡ true → Turns Kept port v (λ x. x) Compares
 compares port v live x views h at =
     let k = h.knows port v at live in
-    let none : Every (λ j u. u.fresh ≢ true) (set views port v) = every_set (λ j u. u.fresh ≢ true) views port v (stale x views port v live h at port v at) (λ j u other e. stale x views port v live h at j u e) in (
+    (
       v,
-      record {
-        owner = h.owner;
-        n = h.n;
-        l = h.l;
-        s = h.s;
-        log = h.log;
-        legal = h.legal;
-        within = h.within;
-        is = h.is;
-        fresh = λ j u e f. absurd (none j u e f);
-        knows = every_set (Live h.owner h.n h.l h.s h.log) views port v (λ _. k) (λ j u other e. h.knows j u e);
-      },
+      no_fresh x (set views port v) h.owner h.n h.l h.s h.log h.legal h.within h.is (stale_but x views port v v live h at (stale x views port v live h at port v at))
+          (every_set (Live h.owner h.n h.l h.s h.log) views port v (λ _. k) (λ j u other e. h.knows j u e)),
       (
         refl,
         (
@@ -242,21 +234,11 @@ opens node limit last port v is x views h at =
     let vs : List View = set views port l in
     let K : ℕ → View → Type 0 = Live (λ k. port) node limit seats [] in
     let mine : Knows (λ k. port) node limit seats [] port l = record { of_node = refl; of_limit = refl; of_seats = refl; below = omega arith; owns = refl; part = (([], refl), refl); taken = All-nil (λ (p : Part). (port ≡ port) × HasPart [] p); rest = λ k low high. (refl, refl) } in
-    record {
-      owner = λ k. port;
-      n = node;
-      l = limit;
-      s = seats;
-      log = [];
-      legal = tt;
-      within = tt;
-      is = h.is ∙ ap words_of f.0;
-      fresh = λ j u e fr. absurd (none j u e fr);
-      knows = every_end K vs spent (λ live. absurd (true≢false (sym live))) (λ j u lt e. every_set K views port l (λ _. mine) (λ i t other e' live. absurd (not_live t (f.1 i t e').0 live)) j u e);
-    } where
-      none : (j : ℕ) (u : View) → get_elem? (set views port (seated node limit (last + 1) last 0 []) ++ spent ∷ []) j ≡ some u → u.fresh ≢ true
-      none = every_end (λ j u. u.fresh ≢ true) (set views port (seated node limit (last + 1) last 0 [])) spent (λ t. true≢false (sym t))
-          (λ j u lt e. every_set (λ j u. u.fresh ≢ true) views port (seated node limit (last + 1) last 0 []) (λ t. true≢false (sym t)) (λ i t other e' t'. other (((h.fresh port v at (ap (λ (y : View). y.fresh) is)).1 i t e').1 t')) j u e)
+    no_fresh x (vs ++ spent ∷ []) (λ k. port) node limit seats [] tt tt (h.is ∙ ap words_of f.0) none
+        (every_end K vs spent (λ live. absurd (true≢false (sym live))) (λ j u lt e. every_set K views port l (λ _. mine) (λ i t other e' live. absurd (not_live t (f.1 i t e').0 live)) j u e)) where
+      none : Every NotFresh (set views port (seated node limit (last + 1) last 0 []) ++ spent ∷ [])
+      none = every_end NotFresh (set views port (seated node limit (last + 1) last 0 [])) spent (λ t. true≢false (sym t))
+          (λ j u lt e. every_set NotFresh views port (seated node limit (last + 1) last 0 []) (λ t. true≢false (sym t)) (λ i t other e' t'. other (((h.fresh port v at (ap (λ (y : View). y.fresh) is)).1 i t e').1 t')) j u e)
 
 -- a seat that goes to another pass
 abbrev given_to : (owner : ℕ → ℕ) (from new k : ℕ) → ℕ
@@ -326,21 +308,10 @@ gives port v seat lt x views h at =
     let K : ℕ → View → Type 0 = Live owner' h.n h.l h.s h.log in
     let others : (j : ℕ) (u : View) → j ≢ port → get_elem? views j ≡ some u → K j u =
     (λ j u other e live. known_as h.owner owner' h.n h.l h.s h.log j j u (λ i is. ap (λ b. cond b new (h.owner i)) (ne_eqb i v.next (λ x. other (sym is ∙ ap h.owner x ∙ mine))) ∙ is) (h.knows j u e live)) in
-    let F : ℕ → View → Type 0 = λ j u. u.fresh ≢ true in
-    let none : Every F (vs ++ next_seat v ∷ []) = every_end F vs (next_seat v) (λ t. true≢false (sym t)) (λ j u _ e. every_set F views port l (stale x views port v seat.0 h at port v at) (λ i t other e'. stale x views port v seat.0 h at i t e') j u e) in
-    record {
-      owner = owner';
-      n = h.n;
-      l = h.l;
-      s = h.s;
-      log = h.log;
-      legal = h.legal;
-      within = h.within;
-      is = h.is;
-      fresh = λ j u e f. absurd (none j u e f);
-      knows = every_end K vs (next_seat v) (λ _. gives_right h.owner h.n h.l h.s h.log port new v lt k)
-          (λ j u _ e. every_set K views port l (λ _. gives_left h.owner h.n h.l h.s h.log port new v seat lt k) others j u e);
-    }
+    let none : Every NotFresh (vs ++ next_seat v ∷ []) = every_end NotFresh vs (next_seat v) (λ t. true≢false (sym t)) (λ j u _ e. stale_but x views port v l seat.0 h at (stale x views port v seat.0 h at port v at) j u e) in
+    no_fresh x (vs ++ next_seat v ∷ []) owner' h.n h.l h.s h.log h.legal h.within h.is none
+        (every_end K vs (next_seat v) (λ _. gives_right h.owner h.n h.l h.s h.log port new v lt k)
+          (λ j u _ e. every_set K views port l (λ _. gives_left h.owner h.n h.l h.s h.log port new v seat lt k) others j u e))
 
 pub leaves : (port : ℕ) (v : View) → v.live ≡ true → Forks Kept port v spent v
 leaves port v live x views h at =
@@ -349,21 +320,10 @@ leaves port v live x views h at =
     let k = h.knows port v at live in
     let owner' = moved_to h.owner port new in
     let K : ℕ → View → Type 0 = Live owner' h.n h.l h.s h.log in
-    let F : ℕ → View → Type 0 = λ j u. u.fresh ≢ true in
-    let none : Every F (vs ++ v ∷ []) = every_end F vs v (stale x views port v live h at port v at) (λ j u _ e. every_set F views port spent (λ t. true≢false (sym t)) (λ i t other e'. stale x views port v live h at i t e') j u e) in
-    record {
-      owner = owner';
-      n = h.n;
-      l = h.l;
-      s = h.s;
-      log = h.log;
-      legal = h.legal;
-      within = h.within;
-      is = h.is;
-      fresh = λ j u e f. absurd (none j u e f);
-      knows = every_end K vs v (λ _. known_as h.owner owner' h.n h.l h.s h.log port new v (λ i is. moved h.owner port new i is) k)
-          (λ j u _ e. every_set K views port spent (λ t. absurd (true≢false (sym t))) (λ i t other e' live'. known_as h.owner owner' h.n h.l h.s h.log i i t (λ m is. unmoved h.owner port new m i other is) (h.knows i t e' live')) j u e);
-    }
+    let none : Every NotFresh (vs ++ v ∷ []) = every_end NotFresh vs v (stale x views port v live h at port v at) (λ j u _ e. stale_but x views port v spent live h at (λ t. true≢false (sym t)) j u e) in
+    no_fresh x (vs ++ v ∷ []) owner' h.n h.l h.s h.log h.legal h.within h.is none
+        (every_end K vs v (λ _. known_as h.owner owner' h.n h.l h.s h.log port new v (λ i is. moved h.owner port new i is) k)
+          (λ j u _ e. every_set K views port spent (λ t. absurd (true≢false (sym t))) (λ i t other e' live'. known_as h.owner owner' h.n h.l h.s h.log i i t (λ m is. unmoved h.owner port new m i other is) (h.knows i t e' live')) j u e))
 
 unites : (owner : ℕ → ℕ) (n l s : ℕ) (log : List Asked) (port other : ℕ) (v w : View) → port ≢ other → Knows owner n l s log port v → Knows owner n l s log other w → Knows (moved_to owner other port) n l s log port (with_parts v w)
 unites owner n l s log port other v w apart k m =
@@ -393,18 +353,7 @@ merges port v other w live live' x views h at two at' =
     let Now : ℕ → View → Type 0 = λ j u. j ≢ other → K j u in
     let now : Every Now vs = every_set Now views port both (λ _ _. unites h.owner h.n h.l h.s h.log port other v w apart (h.knows port v at live) (h.knows other w was live'))
     (λ j u _ e not_other l. known_as h.owner owner' h.n h.l h.s h.log j j u (λ i is. unmoved h.owner other port i j not_other is) (h.knows j u e l)) in
-    let F : ℕ → View → Type 0 = λ j u. u.fresh ≢ true in
-    let before : Every F vs = every_set F views port both (stale x views port v live h at port v at) (λ i t o e'. stale x views port v live h at i t e') in
-    let none : Every F (set vs other spent) = every_set F vs other spent (λ t. true≢false (sym t)) (λ i t o e'. before i t e') in
-    record {
-      owner = owner';
-      n = h.n;
-      l = h.l;
-      s = h.s;
-      log = h.log;
-      legal = h.legal;
-      within = h.within;
-      is = h.is;
-      fresh = λ j u e f. absurd (none j u e f);
-      knows = every_set K vs other spent (λ t. absurd (true≢false (sym t))) (λ j u o e. now j u e o);
-    }
+    let before : Every NotFresh vs = stale_but x views port v both live h at (stale x views port v live h at port v at) in
+    let none : Every NotFresh (set vs other spent) = every_set NotFresh vs other spent (λ t. true≢false (sym t)) (λ i t o e'. before i t e') in
+    no_fresh x (set vs other spent) owner' h.n h.l h.s h.log h.legal h.within h.is none
+        (every_set K vs other spent (λ t. absurd (true≢false (sym t))) (λ j u o e. now j u e o))
