@@ -1,5 +1,6 @@
 //! Worked journals, played through what a journal says.
 use crate::spans::{Event, ids_in, item_of, policies_on, trace_of};
+use crate::telling::equal;
 use otlp_types::{Arrival, Ids, Item, List};
 use shard_journal::{
     Effect, Entry, Finding, LookBack, Settings, clock, decision_at, effect_of_taking, finding_of,
@@ -84,7 +85,8 @@ fn decide_all(
             last.answers.push(List::new(alloc))?;
         }
     }
-    assert!(rt; decision_at(alloc, settings, &played.journal, due, &[])?.is_none());
+    let decided = decision_at(alloc, settings, &played.journal, due, &[])?.is_some();
+    equal(rt, decided, false, &due);
     Ok(())
 }
 
@@ -120,8 +122,8 @@ fn plays(
     let (code, sampled_size, non_sampled_size) = policy;
     let settings = settings_with(alloc, code, sampled_size, non_sampled_size)?;
     let played = play(rt, alloc, &settings, events)?;
-    assert_eq!(rt; played.released.as_slice(), released);
-    assert_eq!(rt; played.counted.as_slice(), counted);
+    equal(rt, played.released.as_slice(), released, &"released");
+    equal(rt, played.counted.as_slice(), counted, &"counted");
     Ok(())
 }
 
@@ -230,10 +232,10 @@ fn answer_traces(
         (4, Finding::Opens),
     ] {
         let found = finding_of(alloc, settings, journal, trace_of(rt, trace))?;
-        assert_eq!(rt; found, finding, "{trace}");
+        equal(rt, found, finding, &trace);
     }
     let late = remembered(alloc, settings, journal, trace_of(rt, 1))?;
-    assert_eq!(rt; late, Some(Verdict::Sampled));
+    equal(rt, late, Some(Verdict::Sampled), &1u8);
     Ok(())
 }
 
@@ -245,7 +247,8 @@ fn mark_traces(rt: &impl Abort, settings: &Settings, look: &LookBack) {
         (4, false, true, false),
     ] {
         let ids = Some(ids_in(rt, trace_of(rt, trace), true));
-        assert_eq!(rt; look.marks_apply(settings, refused, lost, ids), apply);
+        let applied = look.marks_apply(settings, refused, lost, ids);
+        equal(rt, applied, apply, &(trace, refused, lost));
     }
 }
 

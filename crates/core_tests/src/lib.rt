@@ -25,4 +25,6 @@ mod simulated;
 #[cfg(test)]
 mod spans;
 #[cfg(test)]
+mod telling;
+#[cfg(test)]
 mod worlds;

@@ -7,6 +7,7 @@ ghost use Rattle.rate_budget.specs.Budget.{has_node};
 ghost use Rattle.journal_theory.specs.Journal.{has_ids};
 
 use crate::spans::{ids_in, policies_of, span_with, trace_of};
+use crate::telling::{equal, holds};
 use otlp_types::{Item, TryClone};
 use policy_tree::PolicyKind;
 use rate_budget::Budgets;
@@ -76,9 +77,9 @@ fn take(rt: &impl Abort, shard: &mut Shard, item: Item)
     requires { has_ids item ≡ true }
     ensures { shard.new.policies ≡ shard.old.policies }
 {
-    assert!(rt; !shard.has_due() && !shard.finished());
-    let taken = shard.take(item);
-    assert!(rt; matches!(taken, Taken::Kept { .. } | Taken::Ticked));
+    holds(rt, !shard.has_due() && !shard.finished(), &"nothing is due");
+    let is_kept = matches!(shard.take(item), Taken::Kept { .. } | Taken::Ticked);
+    holds(rt, is_kept, &"kept or ticked");
 }
 
 /// Both take a tick, and then these decide in turn.
@@ -92,7 +93,7 @@ fn ticked(
         shards.take(rt, which, Item::Tick(moment));
     }
     for (which, decided) in rows {
-        assert_eq!(rt; shards.decide(*which), *decided);
+        equal(rt, shards.decide(*which), *decided, &moment);
     }
 }
 

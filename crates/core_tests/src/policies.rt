@@ -1,4 +1,5 @@
 //! Each kind of policy at, below and above its bounds, and policies together.
+use crate::telling::equal;
 use otlp_types::{AnyValue, Arrival, KeyValue, List, Resource, Shared, Text, TryClone};
 use plain_spans::{plain_record, received};
 use policy_eval::evaluate;
@@ -130,22 +131,17 @@ fn latencies(rt: HostRuntime) -> Result<(), Fail> {
     ] {
         for start in [0, 7, u64::MAX - 501_000_000] {
             let span = lasting(start, start.saturating_add(nanoseconds));
-            assert_eq!(rt;
-                is_sampled(
-                    alloc,
-                    vec![in alloc; latency(threshold, upper)]?,
-                    vec![in alloc; span]?
-                )?,
-                sampled,
-                "{threshold} to {upper}, {nanoseconds} from {start}"
-            );
+            let kinds = vec![in alloc; latency(threshold, upper)]?;
+            let found = is_sampled(alloc, kinds, vec![in alloc; span]?)?;
+            equal(&rt, found, sampled, &(threshold, upper, nanoseconds, start));
         }
     }
     let spans = vec![in alloc;
         lasting(5_000_000, 6_000_000),
         lasting(7_000_000, 9_999_999),
     ]?;
-    assert!(rt; is_sampled(alloc, vec![in alloc; latency(3, 4)]?, spans)?);
+    let found = is_sampled(alloc, vec![in alloc; latency(3, 4)]?, spans)?;
+    equal(&rt, found, true, &"two spans of one trace");
     Ok(())
 }
 
@@ -162,15 +158,9 @@ fn times_at_the_top(rt: HostRuntime) -> Result<(), Fail> {
         (u64::MAX, 0, 0, u64::MAX, false),
         (0, 0, u64::MAX, u64::MAX, true),
     ] {
-        assert_eq!(rt;
-            is_sampled(
-                alloc,
-                vec![in alloc; latency(threshold, upper)]?,
-                vec![in alloc; lasting(start, end)]?
-            )?,
-            sampled,
-            "{threshold} to {upper}, from {start} to {end}"
-        );
+        let kinds = vec![in alloc; latency(threshold, upper)]?;
+        let found = is_sampled(alloc, kinds, vec![in alloc; lasting(start, end)]?)?;
+        equal(&rt, found, sampled, &(threshold, upper, start, end));
     }
     Ok(())
 }
@@ -198,11 +188,8 @@ fn status_codes(rt: HostRuntime) -> Result<(), Fail> {
                 ..lasting(0, 0)
             },
         ]?;
-        assert_eq!(rt;
-            is_sampled(alloc, vec![in alloc; kind]?, spans)?,
-            sampled,
-            "{code} for {wanted}"
-        );
+        let found = is_sampled(alloc, vec![in alloc; kind]?, spans)?;
+        equal(&rt, found, sampled, &(code, wanted));
     }
     Ok(())
 }
@@ -228,11 +215,8 @@ fn span_counts(rt: HostRuntime) -> Result<(), Fail> {
             min_spans,
             max_spans,
         };
-        assert_eq!(rt;
-            is_sampled(alloc, vec![in alloc; kind]?, spans)?,
-            sampled,
-            "{count} for {min_spans} to {max_spans}"
-        );
+        let found = is_sampled(alloc, vec![in alloc; kind]?, spans)?;
+        equal(&rt, found, sampled, &(count, min_spans, max_spans));
     }
     Ok(())
 }
@@ -243,7 +227,8 @@ fn limits_of_spans(rt: HostRuntime) -> Result<(), Fail> {
     for (spans_per_second, sampled) in [(2, true), (1, false), (0, false), (u64::MAX, true)] {
         let kind = PolicyKind::RateLimiting { spans_per_second };
         let spans = vec![in alloc; lasting(0, 0), lasting(0, 0)]?;
-        assert_eq!(rt; is_sampled(alloc, vec![in alloc; kind]?, spans)?, sampled);
+        let found = is_sampled(alloc, vec![in alloc; kind]?, spans)?;
+        equal(&rt, found, sampled, &spans_per_second);
     }
     Ok(())
 }
@@ -328,15 +313,12 @@ fn texts_of_attributes(rt: HostRuntime) -> Result<(), Fail> {
     for (value, matched) in [("dev", true), ("Dev", false), ("", false), ("dev2", false)] {
         let values = List::from_vec(vec![in alloc; Text::from_str(alloc, "dev")?]?);
         let wanted = Wanted::StringAmong(values);
-        assert_eq!(rt;
-            is_matched(alloc, wanted, text(alloc, value)?)?,
-            Some(matched),
-            "{value}"
-        );
+        let found = is_matched(alloc, wanted, text(alloc, value)?)?;
+        equal(&rt, found, Some(matched), &value);
     }
     let values = List::from_vec(vec![in alloc; Text::from_str(alloc, "1")?]?);
     let of_another_type = is_matched(alloc, Wanted::StringAmong(values), AnyValue::Int(1))?;
-    assert_eq!(rt; of_another_type, Some(false));
+    equal(&rt, of_another_type, Some(false), &1u8);
     Ok(())
 }
 
@@ -356,17 +338,15 @@ fn numbers_of_attributes(rt: HostRuntime) -> Result<(), Fail> {
             min_value,
             max_value,
         };
-        assert_eq!(rt;
-            is_matched(alloc, wanted, AnyValue::Int(value))?,
-            Some(matched),
-            "{value}"
-        );
+        let found = is_matched(alloc, wanted, AnyValue::Int(value))?;
+        equal(&rt, found, Some(matched), &value);
     }
     let wanted = Wanted::NumberWithin {
         min_value: 0,
         max_value: 9,
     };
-    assert_eq!(rt; is_matched(alloc, wanted, text(alloc, "1")?)?, Some(false));
+    let of_another_type = is_matched(alloc, wanted, text(alloc, "1")?)?;
+    equal(&rt, of_another_type, Some(false), &"1");
     Ok(())
 }
 
@@ -380,10 +360,8 @@ fn truth_values_of_attributes(rt: HostRuntime) -> Result<(), Fail> {
         (false, AnyValue::Empty, false),
         (true, AnyValue::Int(1), false),
     ] {
-        assert_eq!(rt;
-            is_matched(alloc, Wanted::Boolean(wanted), value)?,
-            Some(matched)
-        );
+        let found = is_matched(alloc, Wanted::Boolean(wanted), value)?;
+        equal(&rt, found, Some(matched), &wanted);
     }
     Ok(())
 }
@@ -394,11 +372,8 @@ fn inverted_match_wins(rt: HostRuntime) -> Result<(), Fail> {
     for (value, sampled) in [("dev", false), ("prod", true)] {
         let kinds = vec![in alloc; dev(alloc, true)?, PolicyKind::AlwaysSample]?;
         let span = in_env(Some(text(alloc, value)?), None);
-        assert_eq!(rt;
-            is_sampled(alloc, kinds, vec![in alloc; span]?)?,
-            sampled,
-            "{value}"
-        );
+        let found = is_sampled(alloc, kinds, vec![in alloc; span]?)?;
+        equal(&rt, found, sampled, &value);
     }
     Ok(())
 }

@@ -5,6 +5,7 @@ ghost use Rattle.journal_theory.specs.Journal.{has_ids};
 use crate::limited_shard::{LimitedShard, Numbers};
 use crate::looking_back::{Entry, ITEMS, Kind, Past, TRACES, WAIT, is_root};
 use crate::spans::{ids_in, policies_on, span_with};
+use crate::telling::holds;
 use decision_cache::Remembered;
 use otlp_types::Item;
 use shard_core::{Decided, Taken};
@@ -70,14 +71,14 @@ fn take(
     moment: u64,
 ) -> Result<Entry, AllocError> {
     let item = item_of(rt, alloc, kind, moment, past.entries.len() as u64)?;
-    assert!(rt; !shard.has_due() && !shard.finished());
+    holds(rt, !shard.has_due() && !shard.finished(), &kind);
     let taken = shard.take(item);
     let is_right = match kind {
         Kind::Span(_, _, finding) => past.may_answer(finding, &taken),
         Kind::Tick => matches!(taken, Taken::Ticked),
         Kind::End => matches!(taken, Taken::Finished),
     };
-    assert!(rt; is_right, "{kind:?} at {moment}: {taken:?}");
+    holds(rt, is_right, &(kind, moment));
     Ok(entry_of(kind, moment, &taken))
 }
 
@@ -87,13 +88,10 @@ fn decide(rt: &impl Abort, shard: &mut LimitedShard, past: &Past<'_>) {
     for _ in 0..ITEMS {
         let decided = shard.decide();
         let Some(opening) = past.decided_from(start) else {
-            assert!(rt; matches!(decided, Decided::Nothing), "{decided:?}");
+            holds(rt, matches!(decided, Decided::Nothing), &start);
             return;
         };
-        assert!(rt;
-            past.may_decide(opening, &decided),
-            "{opening}: {decided:?}"
-        );
+        holds(rt, past.may_decide(opening, &decided), &opening);
         start = opening.saturating_add(1);
     }
 }
@@ -156,7 +154,7 @@ fn run(
             },
         );
     }
-    assert!(rt; shard.finished());
+    holds(rt, shard.finished(), &seed);
     Ok(())
 }
 

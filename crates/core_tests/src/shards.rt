@@ -4,6 +4,7 @@ ghost use Rattle.journal_theory.specs.Journal.{has_ids};
 
 use crate::limited_shard::{LimitedShard, Numbers};
 use crate::spans::{Event, ids_in, item_of, policies_on, span_with, trace_of};
+use crate::telling::{equal, holds};
 use otlp_types::{Item, List, Text};
 use policy_tree::{Policies, Policy, PolicyKind};
 use shard_core::{Decided, Taken};
@@ -34,7 +35,7 @@ fn shard_with(alloc: Global, code: Option<i32>) -> Result<LimitedShard, Fail> {
 fn play(rt: &impl Abort, shard: &mut LimitedShard, item: Item) -> (&'static str, usize)
     requires { has_ids item ≡ true }
 {
-    assert!(rt; !shard.has_due() && !shard.finished());
+    holds(rt, !shard.has_due() && !shard.finished(), &"nothing is due");
     let taken = match shard.take(item) {
         Taken::Kept { .. } => "kept",
         Taken::Late(_) => "late",
@@ -59,7 +60,7 @@ fn compare(
     answer: (&'static str, usize),
 ) -> Result<(), AllocError> {
     let item = item_of(rt, alloc, event)?;
-    assert_eq!(rt; play(rt, shard, item), answer);
+    equal(rt, play(rt, shard, item), answer, &event);
     Ok(())
 }
 
@@ -155,17 +156,22 @@ fn take_six(rt: &impl Abort, alloc: Global, shard: &mut LimitedShard) -> Result<
     ] {
         let ids = ids_in(rt, trace_of(rt, trace), true);
         let span = span_with(alloc, ids, number, 1000, 0, end)?;
-        assert_eq!(rt; play(rt, shard, span), ("kept", 0));
+        equal(rt, play(rt, shard, span), ("kept", 0), &number);
     }
     Ok(())
 }
 
+/// Whether the shard, of which nothing is due, answers a tick as one.
+fn play_tick(rt: &impl Abort, shard: &mut LimitedShard, moment: u64) -> bool {
+    holds(rt, !shard.has_due() && !shard.finished(), &moment);
+    matches!(shard.take(Item::Tick(moment)), Taken::Ticked)
+}
+
 /// A tick, and what is decided then.
 fn decide_four(rt: &impl Abort, shard: &mut LimitedShard) {
-    assert!(rt; !shard.has_due() && !shard.finished());
-    assert!(rt; matches!(shard.take(Item::Tick(11_000)), Taken::Ticked));
+    equal(rt, play_tick(rt, shard, 11_000), true, &11_000u64);
     for decided in [Err(2), Ok(2), Ok(1), Err(1), Err(0)] {
-        assert_eq!(rt; decide(shard), decided);
+        equal(rt, decide(shard), decided, &"the next decision");
     }
 }
 

@@ -31,7 +31,7 @@ pub fn policies_on(alloc: Global, code: Option<i32>) -> Result<Policies, Fail> {
 }
 
 /// What a shard takes in a row: a span by its trace, its number, its moment and its status code.
-#[derive(Clone, Copy)]
+#[derive(Clone, Copy, Debug)]
 pub enum Event {
     Span(u8, u64, u64, i32),
     Tick(u64),

@@ -6,6 +6,7 @@ ghost use Rattle.span_world.specs.Core.{config_of};
 use crate::choices::{Choice, Sent, choose};
 use crate::simulated::Simulated;
 use crate::spans::{ids_in, policies_of, trace_of};
+use crate::telling::equal;
 use otlp_types::{Ids, List, Record, Text};
 use plain_spans::plain_record;
 use policy_tree::{Policy, PolicyKind};
@@ -218,8 +219,18 @@ fn one_span_through_the_world(rt: HostRuntime) -> Result<(), Fail> {
     let is_handed = has_handed_one(&world);
     let is_ended = enables_none(&mut world, others(&rt, alloc)?)?;
     let fails = [world.step(Step::Fail), world.step(Step::Fail)];
-    assert!(&rt; is_handed && is_ended);
-    assert_eq!(&rt; fails, [Ok(()), Err(Refusal::NotEnabled)]);
+    equal(
+        &rt,
+        (is_handed, is_ended),
+        (true, true),
+        &"handed, and ended",
+    );
+    equal(
+        &rt,
+        fails,
+        [Ok(()), Err(Refusal::NotEnabled)],
+        &"it fails once",
+    );
     Ok(())
 }
 
@@ -257,7 +268,7 @@ fn decided_by(rt: &impl Abort, alloc: Global, answers: &[bool]) -> Result<Option
     match answered(world.step(decide))? {
         Ok(()) => Ok(Some(world.counted().len())),
         Err(refusal) => {
-            assert_eq!(rt; refusal, Refusal::NotEnabled);
+            equal(rt, refusal, Refusal::NotEnabled, &"refused");
             Ok(None)
         }
     }
@@ -276,7 +287,7 @@ fn one_answer_for_each_asking(rt: HostRuntime) -> Result<(), Fail> {
         (&[true, true, true], None),
     ];
     for (answers, counted) in rows {
-        assert_eq!(&rt; decided_by(&rt, alloc, answers)?, counted, "{answers:?}");
+        equal(&rt, decided_by(&rt, alloc, answers)?, counted, &answers);
     }
     Ok(())
 }
@@ -298,8 +309,8 @@ fn step_both(
     if answer == Err(Refusal::NoMemory) {
         answer = world.step(step_of(rt, alloc, choice)?);
     }
-    assert_eq!(rt; answer, wanted, "{choice:?}");
-    assert!(rt; simulated.is_like(world), "{choice:?}");
+    equal(rt, answer, wanted, &choice);
+    equal(rt, simulated.is_like(world), true, &choice);
     Ok(())
 }
 
@@ -354,7 +365,7 @@ fn random_runs_beside_a_simulation(rt: HostRuntime) -> Result<(), Fail> {
         run_beside(&rt, rt.alloc(), seed, &mut reached)?;
     }
     for wanted in 1..10 {
-        assert!(&rt; reached.contains(&wanted), "{wanted}");
+        equal(&rt, reached.contains(&wanted), true, &wanted);
     }
     Ok(())
 }

@@ -112,12 +112,11 @@ pub fn shipped<C: Room, R: Wait + Clock>(
 ) -> Result<u64, AllocError>
     requires { (0 < capacity) × (capacity ≡ C.capacity) }
 {
-    let (shard, limiter) = new_shard(alloc)?;
     let (mut senders, items) = LaneQueue::new::<Item, C>(alloc, capacity, 1)?;
+    send_all(rt, alloc, ids, senders.pop().ok_or(AllocError)?)?;
     let (exports, shipments) = LaneQueue::new::<Shipment, C>(alloc, capacity, 1)?;
-    let sender = senders.pop().ok_or(AllocError)?;
     let export = last_of(exports)?;
-    send_all(rt, alloc, ids, sender)?;
+    let (shard, limiter) = new_shard(alloc)?;
     let tally = Tally::new(Report::new());
     let end = shard_worker::work(rt, 0, shard, limiter, items, export, tally, &OpenGate);
     drop(end);
