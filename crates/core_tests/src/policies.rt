@@ -292,19 +292,24 @@ fn samples(alloc: Global, kind: &PolicyKind, value: &AnyValue) -> Result<[bool; 
     ])
 }
 
+/// Whether all of the first are so and none of the second, or the other way round.
+fn matched_by(plain: [bool; 3], inverted: [bool; 3]) -> Option<bool> {
+    if plain == [true; 3] && inverted == [false; 3] {
+        return Some(true);
+    }
+    if plain == [false; 3] && inverted == [true; 3] {
+        return Some(false);
+    }
+    None
+}
+
 /// Whether an attribute is matched where the span has this value, where its resource has it, and where both have;
 /// and that an inverted match alone samples just where it isn't.
 fn is_matched(alloc: Global, wanted: Wanted, value: AnyValue) -> Result<Option<bool>, Fail> {
     let plain = of_env(alloc, wanted.try_clone(alloc)?, false)?;
     let inverted = of_env(alloc, wanted, true)?;
-    match (
-        samples(alloc, &plain, &value)?,
-        samples(alloc, &inverted, &value)?,
-    ) {
-        ([true, true, true], [false, false, false]) => Ok(Some(true)),
-        ([false, false, false], [true, true, true]) => Ok(Some(false)),
-        _ => Ok(None),
-    }
+    let found = samples(alloc, &plain, &value)?;
+    Ok(matched_by(found, samples(alloc, &inverted, &value)?))
 }
 
 #[test]
