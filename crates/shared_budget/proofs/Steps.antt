@@ -77,8 +77,7 @@ looks_knows owner n l s log port v k = record { of_node = k.of_node; of_limit = 
 pub looks : (x : List ℕ) (views : List View) (port : ℕ) (v : View) → v.live ≡ true → Kept x views → get_elem? views port ≡ some v → (w : View) × Kept x (set views port w) × Looks v w
 looks x views port v live h at =
     let k = h.knows port v at live in
-    let w : View = seen_all v h.log in
-    (
+    let w : View = seen_all v h.log in (
       w,
       no_fresh x (set views port w) h.owner h.n h.l h.s h.log h.legal h.within h.is (stale_but x views port v w live h at (stale x views port v live h at port v at))
           (every_set (Live h.owner h.n h.l h.s h.log) views port w (λ _. looks_knows h.owner h.n h.l h.s h.log port v k) (λ j u other e. h.knows j u e)),
@@ -130,8 +129,7 @@ asks second spans x views port v seat h at =
     let w : View = record v { seen = e ∷ h.log; mine = e ∷ v.mine } in
     let k' : Knows h.owner h.n h.l h.s (e ∷ h.log) port w = asks_knows h.owner h.n h.l h.s h.log port v second spans (answer second spans v x) seat k in
     let grant = legal_after second spans v h.log x h.is in
-    let legal : IsLegal h.n h.l (e ∷ h.log) = (k.of_node, subst (λ m. answer second spans v x ≡ grants m (askings h.log) second spans) k.of_limit grant, h.legal) in
-    (
+    let legal : IsLegal h.n h.l (e ∷ h.log) = (k.of_node, subst (λ m. answer second spans v x ≡ grants m (askings h.log) second spans) k.of_limit grant, h.legal) in (
       w,
       no_fresh (next_words second spans v x) (set views port w) h.owner h.n h.l h.s (e ∷ h.log) legal (k.below, h.within) (words_after second spans v h.log x h.is) (stale_but x views port v w seat.0 h at (stale x views port v seat.0 h at port v at))
           (every_set (Live h.owner h.n h.l h.s (e ∷ h.log)) views port w (λ _. k') (λ j u other e' live. others_know h.owner h.n h.l h.s h.log port e k.owns j u other (h.knows j u e' live))),
@@ -176,8 +174,7 @@ exchanges second spans port v seen new seat is changes x views h at = exchanges_
 -- the history has every part
 pub compares : (port : ℕ) (v : View) → v.live ≡ true → Turns Kept port v (λ x. x) Compares
 compares port v live x views h at =
-    let k = h.knows port v at live in
-    (
+    let k = h.knows port v at live in (
       v,
       no_fresh x (set views port v) h.owner h.n h.l h.s h.log h.legal h.within h.is (stale_but x views port v v live h at (stale x views port v live h at port v at))
           (every_set (Live h.owner h.n h.l h.s h.log) views port v (λ _. k) (λ j u other e. h.knows j u e)),
@@ -235,7 +232,7 @@ opens node limit last port v is x views h at =
     let K : ℕ → View → Type 0 = Live (λ k. port) node limit seats [] in
     let mine : Knows (λ k. port) node limit seats [] port l = record { of_node = refl; of_limit = refl; of_seats = refl; below = omega arith; owns = refl; part = (([], refl), refl); taken = All-nil (λ (p : Part). (port ≡ port) × HasPart [] p); rest = λ k low high. (refl, refl) } in
     no_fresh x (vs ++ spent ∷ []) (λ k. port) node limit seats [] tt tt (h.is ∙ ap words_of f.0) none
-        (every_end K vs spent (λ live. absurd (true≢false (sym live))) (λ j u lt e. every_set K views port l (λ _. mine) (λ i t other e' live. absurd (not_live t (f.1 i t e').0 live)) j u e)) where
+    (every_end K vs spent (λ live. absurd (true≢false (sym live))) (λ j u lt e. every_set K views port l (λ _. mine) (λ i t other e' live. absurd (not_live t (f.1 i t e').0 live)) j u e)) where
       none : Every NotFresh (set views port (seated node limit (last + 1) last 0 []) ++ spent ∷ [])
       none = every_end NotFresh (set views port (seated node limit (last + 1) last 0 [])) spent (λ t. true≢false (sym t))
           (λ j u lt e. every_set NotFresh views port (seated node limit (last + 1) last 0 []) (λ t. true≢false (sym t)) (λ i t other e' t'. other (((h.fresh port v at (ap (λ (y : View). y.fresh) is)).1 i t e').1 t')) j u e)
@@ -310,8 +307,8 @@ gives port v seat lt x views h at =
     (λ j u other e live. known_as h.owner owner' h.n h.l h.s h.log j j u (λ i is. ap (λ b. cond b new (h.owner i)) (ne_eqb i v.next (λ x. other (sym is ∙ ap h.owner x ∙ mine))) ∙ is) (h.knows j u e live)) in
     let none : Every NotFresh (vs ++ next_seat v ∷ []) = every_end NotFresh vs (next_seat v) (λ t. true≢false (sym t)) (λ j u _ e. stale_but x views port v l seat.0 h at (stale x views port v seat.0 h at port v at) j u e) in
     no_fresh x (vs ++ next_seat v ∷ []) owner' h.n h.l h.s h.log h.legal h.within h.is none
-        (every_end K vs (next_seat v) (λ _. gives_right h.owner h.n h.l h.s h.log port new v lt k)
-          (λ j u _ e. every_set K views port l (λ _. gives_left h.owner h.n h.l h.s h.log port new v seat lt k) others j u e))
+    (every_end K vs (next_seat v) (λ _. gives_right h.owner h.n h.l h.s h.log port new v lt k)
+    (λ j u _ e. every_set K views port l (λ _. gives_left h.owner h.n h.l h.s h.log port new v seat lt k) others j u e))
 
 pub leaves : (port : ℕ) (v : View) → v.live ≡ true → Forks Kept port v spent v
 leaves port v live x views h at =
@@ -322,8 +319,8 @@ leaves port v live x views h at =
     let K : ℕ → View → Type 0 = Live owner' h.n h.l h.s h.log in
     let none : Every NotFresh (vs ++ v ∷ []) = every_end NotFresh vs v (stale x views port v live h at port v at) (λ j u _ e. stale_but x views port v spent live h at (λ t. true≢false (sym t)) j u e) in
     no_fresh x (vs ++ v ∷ []) owner' h.n h.l h.s h.log h.legal h.within h.is none
-        (every_end K vs v (λ _. known_as h.owner owner' h.n h.l h.s h.log port new v (λ i is. moved h.owner port new i is) k)
-          (λ j u _ e. every_set K views port spent (λ t. absurd (true≢false (sym t))) (λ i t other e' live'. known_as h.owner owner' h.n h.l h.s h.log i i t (λ m is. unmoved h.owner port new m i other is) (h.knows i t e' live')) j u e))
+    (every_end K vs v (λ _. known_as h.owner owner' h.n h.l h.s h.log port new v (λ i is. moved h.owner port new i is) k)
+    (λ j u _ e. every_set K views port spent (λ t. absurd (true≢false (sym t))) (λ i t other e' live'. known_as h.owner owner' h.n h.l h.s h.log i i t (λ m is. unmoved h.owner port new m i other is) (h.knows i t e' live')) j u e))
 
 unites : (owner : ℕ → ℕ) (n l s : ℕ) (log : List Asked) (port other : ℕ) (v w : View) → port ≢ other → Knows owner n l s log port v → Knows owner n l s log other w → Knows (moved_to owner other port) n l s log port (with_parts v w)
 unites owner n l s log port other v w apart k m =
@@ -356,4 +353,4 @@ merges port v other w live live' x views h at two at' =
     let before : Every NotFresh vs = stale_but x views port v both live h at (stale x views port v live h at port v at) in
     let none : Every NotFresh (set vs other spent) = every_set NotFresh vs other spent (λ t. true≢false (sym t)) (λ i t o e'. before i t e') in
     no_fresh x (set vs other spent) owner' h.n h.l h.s h.log h.legal h.within h.is none
-        (every_set K vs other spent (λ t. absurd (true≢false (sym t))) (λ j u o e. now j u e o))
+    (every_set K vs other spent (λ t. absurd (true≢false (sym t))) (λ j u o e. now j u e o))
