@@ -2,9 +2,9 @@
 ghost use Rattle.std.specs.Prelude.{◌≡◌, ◌<◌, true};
 ghost use Rattle.journal_theory.specs.Journal.{has_ids};
 
-use crate::limited_shard::{LimitedShard, Numbers};
-use crate::spans::{Event, ids_in, item_of, policies_on, span_with, trace_of};
-use crate::telling::{equal, holds};
+use crate::tests::limited_shard::{LimitedShard, Numbers};
+use crate::tests::spans::{Event, ids_in, item_of, policies_on, span_with, trace_of};
+use crate::tests::telling::{equal, holds};
 use otlp_types::{Item, List, Text};
 use policy_tree::{Policies, Policy, PolicyKind};
 use shard_core::{Decided, Taken};

@@ -2,10 +2,10 @@
 ghost use Rattle.std.specs.Prelude.{◌≡◌, ◌<◌, IfOk, true};
 ghost use Rattle.journal_theory.specs.Journal.{has_ids};
 
-use crate::limited_shard::{LimitedShard, Numbers};
-use crate::looking_back::{Entry, ITEMS, Kind, Past, TRACES, WAIT, is_root};
-use crate::spans::{ids_in, policies_on, span_with};
-use crate::telling::holds;
+use crate::tests::limited_shard::{LimitedShard, Numbers};
+use crate::tests::looking_back::{Entry, ITEMS, Kind, Past, TRACES, WAIT, is_root};
+use crate::tests::spans::{ids_in, policies_on, span_with};
+use crate::tests::telling::holds;
 use decision_cache::Remembered;
 use otlp_types::Item;
 use shard_core::{Decided, Taken};

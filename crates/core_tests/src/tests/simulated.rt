@@ -1,6 +1,6 @@
 //! The table of steps by running state. It looks back over nothing.
-use crate::choices::{Choice, Sent};
-use crate::running_shard::{Counted, Found, Kept, SENDERS, Shard, TICKER, count};
+use crate::tests::choices::{Choice, Sent};
+use crate::tests::running_shard::{Counted, Found, Kept, SENDERS, Shard, TICKER, count};
 use otlp_types::Arrival;
 use span_ids::{ArrivalKey, ConnKey, Reason};
 use span_world::World;

@@ -6,7 +6,7 @@ use Rattle.policy_tree.specs.Meaning.{meaning}
 use Rattle.rate_budget.specs.Budget.{limiter_of}
 use Rattle.rate_budget.specs.BudgetLaws.{limits-of-counts}
 use Rattle.policy_eval.specs.AskingLaws.{counts_know}
-use Rattle.core_tests.proofs.policies.verdict_at_first.Goals as goal
+use Rattle.core_tests.proofs.tests.policies.verdict_at_first.Goals as goal
 
 pub evaluate-requires-clause-nodes : goal.evaluate-requires-clause-nodes
 evaluate-requires-clause-nodes c =

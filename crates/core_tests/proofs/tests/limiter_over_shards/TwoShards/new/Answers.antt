@@ -2,7 +2,7 @@
 -- For the ghost fields of `TwoShards`.
 use Rattle.std.proofs.Common.{◌∙◌}
 use Rattle.core_tests.proofs.Nodes.{new_knows}
-use Rattle.core_tests.proofs.limiter_over_shards.TwoShards.new.Goals as goal
+use Rattle.core_tests.proofs.tests.limiter_over_shards.TwoShards.new.Goals as goal
 
 pub invariant_of-result : goal.invariant_of-result
 invariant_of-result c =

@@ -6,8 +6,8 @@ ghost use Rattle.policy_eval.specs.Meaning.{knows};
 ghost use Rattle.rate_budget.specs.Budget.{has_node};
 ghost use Rattle.journal_theory.specs.Journal.{has_ids};
 
-use crate::spans::{ids_in, policies_of, span_with, trace_of};
-use crate::telling::{equal, holds};
+use crate::tests::spans::{ids_in, policies_of, span_with, trace_of};
+use crate::tests::telling::{equal, holds};
 use otlp_types::{Item, TryClone};
 use policy_tree::PolicyKind;
 use rate_budget::Budgets;

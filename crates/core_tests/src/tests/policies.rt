@@ -1,5 +1,5 @@
 //! Each kind of policy at, below and above its bounds, and policies together.
-use crate::telling::equal;
+use crate::tests::telling::equal;
 use otlp_types::{AnyValue, Arrival, KeyValue, List, Resource, Shared, Text, TryClone};
 use plain_spans::{plain_record, received};
 use policy_eval::evaluate;

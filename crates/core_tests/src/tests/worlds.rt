@@ -3,10 +3,10 @@ ghost use Rattle.std.specs.Prelude.{◌<◌, IfOk};
 ghost use Rattle.world_theory.specs.World.{KeepsATrace};
 ghost use Rattle.span_world.specs.Core.{config_of};
 
-use crate::choices::{Choice, Sent, choose};
-use crate::simulated::Simulated;
-use crate::spans::{ids_in, policies_of, trace_of};
-use crate::telling::equal;
+use crate::tests::choices::{Choice, Sent, choose};
+use crate::tests::simulated::Simulated;
+use crate::tests::spans::{ids_in, policies_of, trace_of};
+use crate::tests::telling::equal;
 use otlp_types::{Ids, List, Record, Text};
 use plain_spans::plain_record;
 use policy_tree::{Policy, PolicyKind};

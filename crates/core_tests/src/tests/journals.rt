@@ -1,6 +1,6 @@
 //! Worked journals, played through what a journal says.
-use crate::spans::{Event, ids_in, item_of, policies_on, trace_of};
-use crate::telling::equal;
+use crate::tests::spans::{Event, ids_in, item_of, policies_on, trace_of};
+use crate::tests::telling::equal;
 use otlp_types::{Arrival, Ids, Item, List};
 use shard_journal::{
     Effect, Entry, Finding, LookBack, Settings, clock, decision_at, effect_of_taking, finding_of,
