@@ -5,7 +5,7 @@ ghost use Rattle.otlp_flatten.specs.Flat.{records_of, resource_records, scope_re
 ghost use Rattle.otlp_flatten.specs.Grouped.{IsGrouped, IsResourceGroup, resource_key, scope_key};
 ghost use Rattle.otlp_flatten.specs.Runs.{resource_of, scope_of};
 
-use crate::runs::{HasRecord, resource_run, scope_run};
+use crate::runs::{HasRecord, ResourcePart, ScopePart, run};
 use otlp_types::{List, Request, ResourceSpans, ScopeSpans, TryClone};
 use std::alloc::{AllocError, Global};
 
@@ -20,7 +20,7 @@ pub fn group<T: HasRecord>(alloc: Global, spans: &mut [T]) -> Result<Request, Al
     let mut groups = List::new(alloc);
     let mut rest = spans;
     while !rest.is_empty() {
-        let count = resource_run(rest);
+        let count = run::<ResourcePart, T>(rest);
         let (front, behind) = rest.split_at_mut(count);
         groups.push(resource_group(alloc, front)?)?;
         rest = behind;
@@ -46,7 +46,7 @@ fn resource_group<T: HasRecord>(alloc: Global, spans: &mut [T]) -> Result<Resour
     let mut scope_spans = List::new(alloc);
     let mut rest = spans;
     while !rest.is_empty() {
-        let count = scope_run(rest);
+        let count = run::<ScopePart, T>(rest);
         let (front, behind) = rest.split_at_mut(count);
         scope_spans.push(scope_group(alloc, front)?)?;
         rest = behind;

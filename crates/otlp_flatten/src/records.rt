@@ -45,6 +45,34 @@ fn scope_span_count(groups: &[ScopeSpans]) -> usize
     count
 }
 
+/// A resource or a scope with its schema URL, both shared by the spans under it.
+#[derive(Drop)]
+struct Parent<T> {
+    value: Shared<T>,
+    schema_url: Shared<Text>,
+}
+
+impl<T: Drop> Parent<T> {
+    fn new(alloc: Global, value: T, schema_url: Text) -> Result<Parent<T>, AllocError>
+        ensures value { IfOk result (λ it. it.value ≡ value) }
+        ensures schema_url { IfOk result (λ it. it.schema_url ≡ schema_url) }
+    {
+        Ok(Parent {
+            value: Shared::new(alloc, value)?,
+            schema_url: Shared::new(alloc, schema_url)?,
+        })
+    }
+
+    fn share(&self) -> Result<Parent<T>, AllocError>
+        ensures { IfOk result (λ it. it ≡ self.now) }
+    {
+        Ok(Parent {
+            value: self.value.share()?,
+            schema_url: self.schema_url.share()?,
+        })
+    }
+}
+
 fn push_resource(
     alloc: Global,
     records: &mut Vec<Record>,
@@ -52,28 +80,21 @@ fn push_resource(
 ) -> Result<(), AllocError>
     ensures { OnOk result (records.new.items ≡ records.old.items ++ resource_records group) }
 {
-    let ResourceSpans {
-        resource,
-        scope_spans,
-        schema_url,
-    } = group;
-    let resource = Shared::new(alloc, resource)?;
-    let schema_url = Shared::new(alloc, schema_url)?;
-    push_scopes(alloc, records, &resource, &schema_url, scope_spans)
+    let resource = Parent::new(alloc, group.resource, group.schema_url)?;
+    push_scopes(alloc, records, &resource, group.scope_spans)
 }
 
 fn push_scopes(
     alloc: Global,
     records: &mut Vec<Record>,
-    resource: &Shared<Resource>,
-    resource_schema_url: &Shared<Text>,
+    resource: &Parent<Resource>,
     groups: List<ScopeSpans>,
 ) -> Result<(), AllocError>
     ensures { OnOk result (records.new.items
-        ≡ records.old.items ++ flat_map (scope_records resource.now resource_schema_url.now) groups) }
+        ≡ records.old.items ++ flat_map (scope_records resource.now.value resource.now.schema_url) groups) }
 {
     for group in groups.into_vec() {
-        push_scope(alloc, records, resource, resource_schema_url, group)?;
+        push_scope(alloc, records, resource, group)?;
     }
     Ok(())
 }
@@ -81,63 +102,47 @@ fn push_scopes(
 fn push_scope(
     alloc: Global,
     records: &mut Vec<Record>,
-    resource: &Shared<Resource>,
-    resource_schema_url: &Shared<Text>,
+    resource: &Parent<Resource>,
     group: ScopeSpans,
 ) -> Result<(), AllocError>
     ensures { OnOk result (records.new.items
-        ≡ records.old.items ++ scope_records resource.now resource_schema_url.now group) }
+        ≡ records.old.items ++ scope_records resource.now.value resource.now.schema_url group) }
 {
-    let ScopeSpans {
-        scope,
-        spans,
-        schema_url,
-    } = group;
-    let scope = Shared::new(alloc, scope)?;
-    let schema_url = Shared::new(alloc, schema_url)?;
-    push_spans(
-        records,
-        resource,
-        resource_schema_url,
-        &scope,
-        &schema_url,
-        spans,
-    )
+    let scope = Parent::new(alloc, group.scope, group.schema_url)?;
+    push_spans(records, resource, &scope, group.spans)
 }
 
 fn push_spans(
     records: &mut Vec<Record>,
-    resource: &Shared<Resource>,
-    resource_schema_url: &Shared<Text>,
-    scope: &Shared<Scope>,
-    scope_schema_url: &Shared<Text>,
+    resource: &Parent<Resource>,
+    scope: &Parent<Scope>,
     spans: List<Span>,
 ) -> Result<(), AllocError>
     ensures { OnOk result (records.new.items ≡ records.old.items
-        ++ map (record_with resource.now resource_schema_url.now scope.now scope_schema_url.now) spans) }
+        ++ map (record_with resource.now.value resource.now.schema_url scope.now.value scope.now.schema_url) spans) }
 {
     for span in spans.into_vec() {
-        let record = record_with(resource, resource_schema_url, scope, scope_schema_url, span)?;
+        let record = record_with(resource, scope, span)?;
         records.push(record)?;
     }
     Ok(())
 }
 
 fn record_with(
-    resource: &Shared<Resource>,
-    resource_schema_url: &Shared<Text>,
-    scope: &Shared<Scope>,
-    scope_schema_url: &Shared<Text>,
+    resource: &Parent<Resource>,
+    scope: &Parent<Scope>,
     span: Span,
 ) -> Result<Record, AllocError>
-    ensures { IfOk result
-        (λ r. r ≡ record_with resource.now resource_schema_url.now scope.now scope_schema_url.now span) }
+    ensures { IfOk result (λ r. r ≡ record_with resource.now.value resource.now.schema_url
+        scope.now.value scope.now.schema_url span) }
 {
+    let resource = resource.share()?;
+    let scope = scope.share()?;
     Ok(Record {
-        resource: resource.share()?,
-        resource_schema_url: resource_schema_url.share()?,
-        scope: scope.share()?,
-        scope_schema_url: scope_schema_url.share()?,
+        resource: resource.value,
+        resource_schema_url: resource.schema_url,
+        scope: scope.value,
+        scope_schema_url: scope.schema_url,
         span,
     })
 }

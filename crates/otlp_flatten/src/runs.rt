@@ -1,6 +1,8 @@
 //! How many records at the head of a list have one resource, or one scope.
-ghost use Rattle.std.specs.Prelude.{◌≡◌, ◌<◌, ◌↔◌, length, IsTrue};
+ghost use Rattle.std.specs.Prelude.{◌≡◌, ◌<◌, ◌↔◌, ℕ, List, length, IsTrue};
 ghost use Rattle.otlp_types.specs.declared.arrival.Record.{Record};
+ghost use Rattle.otlp_types.specs.declared.request.Resource.{Resource};
+ghost use Rattle.otlp_types.specs.declared.request.Scope.{Scope};
 ghost use Rattle.otlp_flatten.specs.Runs.{resource_of, scope_of, IsRun};
 
 use crate::empty::empty_span;
@@ -47,45 +49,56 @@ impl HasRecord for Arrival {
     }
 }
 
-/// Whether two records have the same resource and resource schema URL.
-fn same_resource(a: &Record, b: &Record) -> bool
-    ensures { IsTrue result ↔ (resource_of a.now ≡ resource_of b.now) }
-{
-    a.resource_schema_url
-        .get()
-        .same(b.resource_schema_url.get())
-        && a.resource.get().same(b.resource.get())
+/// What neighbouring records may have in common.
+pub trait Part {
+    /// What tells parts apart.
+    ghost Key: { Type 0 };
+
+    /// The part of a record.
+    ghost part_of: { Record → Key };
+
+    /// Whether two records have the same part.
+    fn same(a: &Record, b: &Record) -> bool
+        ensures { IsTrue result ↔ (part_of a.now ≡ part_of b.now) };
 }
 
-/// Whether two records have the same scope and scope schema URL.
-fn same_scope(a: &Record, b: &Record) -> bool
-    ensures { IsTrue result ↔ (scope_of a.now ≡ scope_of b.now) }
-{
-    a.scope_schema_url.get().same(b.scope_schema_url.get()) && a.scope.get().same(b.scope.get())
-}
+/// The resource and its schema URL.
+pub struct ResourcePart;
 
-/// How many spans at the front have the first one's resource and resource schema URL.
-pub fn resource_run<T: HasRecord>(spans: &[T]) -> usize
-    requires { 0 < length spans.now }
-    ensures { IsRun (λ x. resource_of (T.record_in x)) spans.now result }
-{
-    let first = spans[0].rec();
-    for i in 1..spans.len() {
-        if !same_resource(first, spans[i].rec()) {
-            return i;
-        }
+impl Part for ResourcePart {
+    ghost Key = { Resource × List ℕ };
+
+    ghost part_of = { resource_of };
+
+    fn same(a: &Record, b: &Record) -> bool {
+        a.resource_schema_url
+            .get()
+            .same(b.resource_schema_url.get())
+            && a.resource.get().same(b.resource.get())
     }
-    spans.len()
 }
 
-/// How many spans at the front have the first one's scope and scope schema URL.
-pub fn scope_run<T: HasRecord>(spans: &[T]) -> usize
+/// The scope and its schema URL.
+pub struct ScopePart;
+
+impl Part for ScopePart {
+    ghost Key = { Scope × List ℕ };
+
+    ghost part_of = { scope_of };
+
+    fn same(a: &Record, b: &Record) -> bool {
+        a.scope_schema_url.get().same(b.scope_schema_url.get()) && a.scope.get().same(b.scope.get())
+    }
+}
+
+/// How many spans at the front have the first one's part.
+pub fn run<P: Part, T: HasRecord>(spans: &[T]) -> usize
     requires { 0 < length spans.now }
-    ensures { IsRun (λ x. scope_of (T.record_in x)) spans.now result }
+    ensures { IsRun (λ x. P.part_of (T.record_in x)) spans.now result }
 {
     let first = spans[0].rec();
     for i in 1..spans.len() {
-        if !same_scope(first, spans[i].rec()) {
+        if !P::same(first, spans[i].rec()) {
             return i;
         }
     }

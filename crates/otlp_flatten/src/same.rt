@@ -1,7 +1,7 @@
 //! Whether two values of OTLP are the same.
 ghost use Rattle.std.specs.Prelude.{◌≡◌, ◌↔◌, IsTrue};
 
-use otlp_types::{AnyValue, KeyValue, Resource, Scope, Text};
+use otlp_types::{AnyValue, KeyValue, List, Resource, Scope, Text};
 
 /// A test of equality, which takes no memory.
 pub trait Same {
@@ -16,69 +16,49 @@ impl Same for Text {
     }
 }
 
+impl<T: Same> Same for List<T> {
+    fn same(&self, other: &List<T>) -> bool {
+        let a = self.as_slice();
+        let b = other.as_slice();
+        if a.len() != b.len() {
+            return false;
+        }
+        for i in 0..a.len() {
+            if !a[i].same(&b[i]) {
+                return false;
+            }
+        }
+        true
+    }
+}
+
 impl Same for KeyValue {
+    #[cycle(same)]
     fn same(&self, other: &KeyValue) -> bool {
-        same_pair(self, other)
+        self.key.same(&other.key) && self.value.same(&other.value)
     }
 }
 
-#[cycle(same)]
-fn same_pair(a: &KeyValue, b: &KeyValue) -> bool
-    ensures { IsTrue result ↔ (a.now ≡ b.now) }
-{
-    a.key.same(&b.key) && same_value(&a.value, &b.value)
-}
-
-#[cycle(same)]
-fn same_value(a: &AnyValue, b: &AnyValue) -> bool
-    ensures { IsTrue result ↔ (a.now ≡ b.now) }
-{
-    match (a, b) {
-        (AnyValue::Empty, AnyValue::Empty) => true,
-        (AnyValue::Str(a), AnyValue::Str(b)) => a.same(b),
-        (AnyValue::Bool(a), AnyValue::Bool(b)) => *a == *b,
-        (AnyValue::Int(a), AnyValue::Int(b)) => *a == *b,
-        (AnyValue::Array(a), AnyValue::Array(b)) => same_values(a.as_slice(), b.as_slice()),
-        (AnyValue::KvList(a), AnyValue::KvList(b)) => same_pairs(a.as_slice(), b.as_slice()),
-        (AnyValue::Bytes(a), AnyValue::Bytes(b)) => a.same(b),
-        _ => false,
-    }
-}
-
-#[cycle(same)]
-fn same_values(a: &[AnyValue], b: &[AnyValue]) -> bool
-    ensures { IsTrue result ↔ (a.now ≡ b.now) }
-{
-    if a.len() != b.len() {
-        return false;
-    }
-    for i in 0..a.len() {
-        if !same_value(&a[i], &b[i]) {
-            return false;
+impl Same for AnyValue {
+    #[cycle(same)]
+    fn same(&self, other: &AnyValue) -> bool {
+        match (self, other) {
+            (AnyValue::Empty, AnyValue::Empty) => true,
+            (AnyValue::Str(a), AnyValue::Str(b)) => a.same(b),
+            (AnyValue::Bool(a), AnyValue::Bool(b)) => *a == *b,
+            (AnyValue::Int(a), AnyValue::Int(b)) => *a == *b,
+            (AnyValue::Array(a), AnyValue::Array(b)) => a.same(b),
+            (AnyValue::KvList(a), AnyValue::KvList(b)) => a.same(b),
+            (AnyValue::Bytes(a), AnyValue::Bytes(b)) => a.same(b),
+            _ => false,
         }
     }
-    true
-}
-
-#[cycle(same)]
-fn same_pairs(a: &[KeyValue], b: &[KeyValue]) -> bool
-    ensures { IsTrue result ↔ (a.now ≡ b.now) }
-{
-    if a.len() != b.len() {
-        return false;
-    }
-    for i in 0..a.len() {
-        if !same_pair(&a[i], &b[i]) {
-            return false;
-        }
-    }
-    true
 }
 
 impl Same for Resource {
     fn same(&self, other: &Resource) -> bool {
         self.dropped_attributes_count == other.dropped_attributes_count
-            && same_pairs(self.attributes.as_slice(), other.attributes.as_slice())
+            && self.attributes.same(&other.attributes)
     }
 }
 
@@ -87,6 +67,6 @@ impl Same for Scope {
         self.dropped_attributes_count == other.dropped_attributes_count
             && self.name.same(&other.name)
             && self.version.same(&other.version)
-            && same_pairs(self.attributes.as_slice(), other.attributes.as_slice())
+            && self.attributes.same(&other.attributes)
     }
 }

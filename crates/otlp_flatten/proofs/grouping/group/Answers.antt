@@ -7,8 +7,8 @@ use Rattle.otlp_flatten.proofs.grouping.group.Goals as goal
 
 pub loop-rest-preserved : goal.loop-rest-preserved
 loop-rest-preserved g c =
-    let more = resource_step g.T.HasRecord.record_in c.loop-rest.rest.now c.split_at_mut-front.result.0.now c.split_at_mut-front.result.1.now c.resource_run-count.result (map g.T.HasRecord.record_in c.args.spans.now)
-    c.split_at_mut-front.ensures.front c.split_at_mut-front.ensures.back c.loop-rest.groups c.in_ok-resource_group.field-0 c.resource_run-count.ensures
+    let more = resource_step g.T.HasRecord.record_in c.loop-rest.rest.now c.split_at_mut-front.result.0.now c.split_at_mut-front.result.1.now c.run-count.result (map g.T.HasRecord.record_in c.args.spans.now)
+    c.split_at_mut-front.ensures.front c.split_at_mut-front.ensures.back c.loop-rest.groups c.in_ok-resource_group.field-0 c.run-count.ensures
     c.in_ok-resource_group.ensures.grouped c.in_ok-resource_group.ensures.flat c.in_ok-resource_group.ensures.key c.loop-rest.invariant in
     rw c.in_ok-push.ensures.ok more
 
