@@ -51,6 +51,10 @@ kept-append xs ys = filter_map-append (λ x. x) xs ys
 pub discarded-append : {A : Type 0} (xs ys : List (OrDiscarded A)) → discarded (xs ++ ys) ≡ discarded xs + discarded ys
 discarded-append {A} xs ys = sum_by-append (λ (x : OrDiscarded A). cond (is_none x) 1 0) xs ys
 
+one_at_most : {A : Type 0} (o : OrDiscarded A) → discarded (o ∷ []) ≤ 1
+one_at_most None = omega arith
+one_at_most (Some x) = omega arith
+
 -- Of a list of items those at the front are sieved, and the rest are left.
 pub record Sieves {A : Type 0} (read : Data → Option (OrDiscarded A)) (vs : List Value) (i : ℕ) (some : List A) (none : ℕ) : Type 0 where
   pub done : List (OrDiscarded A)
@@ -62,24 +66,15 @@ pub record Sieves {A : Type 0} (read : Data → Option (OrDiscarded A)) (vs : Li
 pub Sieves-start : {A : Type 0} (read : Data → Option (OrDiscarded A)) (vs : List Value) → Sieves read vs 0 [] 0
 Sieves-start read vs = record { done = []; reads = Reads-start read (items_view vs); some_is = refl; none_is = refl; at_most = omega arith }
 
-pub Sieves-kept : {A : Type 0} (read : Data → Option (OrDiscarded A)) (vs : List Value) (i : ℕ) (some : List A) (none : ℕ) (v : Value) (x : A)
-    → Sieves read vs i some none → i < length vs → v ≡ get_or vs i v → read (view v) ≡ Some (Some x) → Sieves read vs (i + 1) (some ++ x ∷ []) none
-Sieves-kept read vs i some none v x s h e r = record {
-  done = s.done ++ Some x ∷ [];
-  reads = Reads-step read (items_view vs) s.done (view v) (items_view (drop (i + 1) vs)) (Some x) (rw (items_view-drop vs i v h e) at s.reads) r;
-  some_is = ap (λ xs. xs ++ x ∷ []) s.some_is ∙ sym (kept-append s.done (Some x ∷ []));
-  none_is = let d = discarded-append s.done (Some x ∷ []) in let n = s.none_is in omega arith;
-  at_most = let n = s.at_most in omega arith;
-}
-
-pub Sieves-discarded : {A : Type 0} (read : Data → Option (OrDiscarded A)) (vs : List Value) (i : ℕ) (some : List A) (none : ℕ) (v : Value)
-    → Sieves read vs i some none → i < length vs → v ≡ get_or vs i v → read (view v) ≡ Some None → Sieves read vs (i + 1) some (none + 1)
-Sieves-discarded read vs i some none v s h e r = record {
-  done = s.done ++ None ∷ [];
-  reads = Reads-step read (items_view vs) s.done (view v) (items_view (drop (i + 1) vs)) None (rw (items_view-drop vs i v h e) at s.reads) r;
-  some_is = s.some_is ∙ sym (kept-append s.done (None ∷ []) ∙ append-nil (kept s.done));
-  none_is = let d = discarded-append s.done (None ∷ []) in let n = s.none_is in omega arith;
-  at_most = let n = s.at_most in omega arith;
+-- one more item, which is kept or discarded
+pub Sieves-next : {A : Type 0} (read : Data → Option (OrDiscarded A)) (vs : List Value) (i : ℕ) (some : List A) (none : ℕ) (v : Value) (o : OrDiscarded A) (more : List A) (gone : ℕ)
+    → Sieves read vs i some none → i < length vs → v ≡ get_or vs i v → read (view v) ≡ Some o → more ≡ some ++ kept (o ∷ []) → gone ≡ none + discarded (o ∷ []) → Sieves read vs (i + 1) more gone
+Sieves-next read vs i some none v o more gone s h e r some_more none_more = record {
+  done = s.done ++ o ∷ [];
+  reads = Reads-step read (items_view vs) s.done (view v) (items_view (drop (i + 1) vs)) o (rw (items_view-drop vs i v h e) at s.reads) r;
+  some_is = some_more ∙ ap (λ xs. xs ++ kept (o ∷ [])) s.some_is ∙ sym (kept-append s.done (o ∷ []));
+  none_is = let d = discarded-append s.done (o ∷ []) in let n = s.none_is in omega arith;
+  at_most = let n = s.at_most in let m = one_at_most o in omega arith;
 }
 
 pub Sieves-stop : {A : Type 0} (read : Data → Option (OrDiscarded A)) (vs : List Value) (i : ℕ) (some : List A) (none : ℕ) (v : Value)

@@ -1,5 +1,5 @@
 -- The value keys among the members of an object, one member after another.
-use Rattle.std.proofs.Common.{◌≡◌, List, [], ◌∷◌, ◌++◌, Option, Some, None, option_map, true, false, is_some, string_bytes, refl, sym, ap, ◌∙◌, append_assoc, append-nil}
+use Rattle.std.proofs.Common.{◌≡◌, ℕ, List, [], ◌∷◌, ◌++◌, Option, Some, None, option_map, true, false, is_some, string_bytes, refl, sym, ap, ◌∙◌, append_assoc, append-nil}
 use Rattle.std.specs.Option.{option_to_list}
 use Rattle.serde_json.specs.Data.{Data}
 use Rattle.serde_json.specs.View.{view, members_view}
@@ -15,6 +15,14 @@ value_members-append [] ys = refl
 value_members-append (e ∷ xs) ys =
     let here : List Held = option_to_list (value_member (string_bytes e.0) (view e.1)) in
     ap (λ hs. here ++ hs) (value_members-append xs ys) ∙ sym (append_assoc here _ _)
+
+-- the entry that an iterator gave, among all
+pub next_left : (done : List Entry) (e : Entry) (left before entries : List Entry) → entries ≡ done ++ before → before ≡ e ∷ left → entries ≡ done ++ e ∷ left
+next_left done e left before entries all step = all ∙ ap (λ es. done ++ es) step
+
+-- what a member holds, by its name as it stands in the map
+pub named_so : (o : Option Held) (shown name : List ℕ) (d : Data) → o ≡ value_member shown d → shown ≡ name → o ≡ value_member name d
+named_so o shown name d is same = is ∙ ap (λ n. value_member n d) same
 
 -- the members so far, and one more
 pub held_more : (o : Option Held) (done : List Entry) (e : Entry) (left entries : List Entry) (hs : List Held) → entries ≡ done ++ e ∷ left

@@ -1,18 +1,15 @@
 //! Values of attributes. `None` stands for a value that holds a double.
-ghost use Rattle.std.specs.Prelude.{◌≡◌, ◌+◌, ℕ, List, Some, None, IfOk, OnErr, option_map, option_and_then};
-ghost use Rattle.serde_json.specs.Data.{Data};
+ghost use Rattle.std.specs.Prelude.{◌≡◌, ◌+◌, ◌-◌, ◌^◌, ◌<◌, ◌==◌, ◌++◌, ◌∷◌, [], Some, None, IfOk, OnOk, codes, option_map, if◌then◌else◌};
 ghost use Rattle.serde_json.specs.View.{view, items_view, members_view};
-ghost use Rattle.otlp_types.specs.declared.value.AnyValue.{AnyValue, Array, KvList};
-ghost use Rattle.otlp_types.specs.declared.value.KeyValue.{KeyValue};
-ghost use Rattle.otlp_reading.specs.Kinds.{field, unless_null, each, list_of, message, i64_value};
+ghost use Rattle.otlp_reading.specs.Kinds.{field, items, each, message};
 ghost use Rattle.otlp_reading.specs.Gives.{Gives, GivesAs};
-ghost use Rattle.otlp_reading.specs.Reading.{value_member, value_members, at_most_one, sieved, key_value, values, pairs, value_by, value_in, value_to};
+ghost use Rattle.otlp_reading.specs.Reading.{value_member, value_members, at_most_one, kept, discarded, sieved, key_value, value_by, value_to};
 
 use crate::bad::Bad;
 use crate::kinds;
 use otlp_types::{AnyValue, KeyValue, List};
 use serde_json::{Map, Value};
-use std::alloc::Global;
+use std::alloc::{AllocError, Global};
 
 /// A member of an `AnyValue` that says which kind of value it is.
 #[derive(Clone, Copy, Debug, PartialEq, Eq)]
@@ -92,16 +89,8 @@ fn value_to(alloc: Global, value: &Value, levels: usize) -> Result<Option<AnyVal
     if levels == 0 {
         return Err(Bad::Shape);
     }
-    value_in(alloc, value, levels - 1)
-}
-
-/// A value whose inner values nest at most so many levels deep.
-#[cycle(value)]
-fn value_in(alloc: Global, value: &Value, levels: usize) -> Result<Option<AnyValue>, Bad>
-    ensures { Gives result (message (value_in (value_to levels)) (view value.now)) }
-{
     match only_value_member(kinds::object(value)?)? {
-        Some((key, inner)) => value_by(alloc, key, inner, levels),
+        Some((key, inner)) => value_by(alloc, key, inner, levels - 1),
         None => Ok(Some(AnyValue::Empty)),
     }
 }
@@ -121,39 +110,63 @@ fn value_by(
         ValueKey::Bool => Ok(Some(AnyValue::Bool(kinds::bool_of(value)?))),
         ValueKey::Int => Ok(Some(AnyValue::Int(kinds::i64_of(value)?))),
         ValueKey::Double => Ok(None),
-        ValueKey::Array => array(alloc, value, levels),
-        ValueKey::KvList => kv_list(alloc, value, levels),
+        ValueKey::Array => {
+            let (kept, discarded) = values(alloc, listed(value)?, levels)?;
+            Ok(unless_discarded(discarded, AnyValue::Array(kept)))
+        }
+        ValueKey::KvList => {
+            let (kept, discarded) = key_values(alloc, listed(value)?, levels)?;
+            Ok(unless_discarded(discarded, AnyValue::KvList(kept)))
+        }
         ValueKey::Bytes => Ok(Some(AnyValue::Bytes(kinds::text_of(alloc, value)?))),
     }
 }
 
-/// An `ArrayValue`.
-#[cycle(value)]
-fn array(alloc: Global, value: &Value, levels: usize) -> Result<Option<AnyValue>, Bad>
-    ensures { Gives result
-        (option_map (option_map Array) (message (values (value_to levels)) (view value.now))) }
+/// The items of an `ArrayValue` or of a `KeyValueList`.
+fn listed(value: &Value) -> Result<&[Value], Bad>
+    ensures { GivesAs (λ s. items_view s.now) result
+        (message (λ ms. items (field (codes "values") ms)) (view value.now)) }
 {
-    let items = kinds::items(kinds::object(value)?, "values")?;
-    let (kept, discarded) = values(alloc, items, levels)?;
-    if discarded == 0 {
-        Ok(Some(AnyValue::Array(kept)))
-    } else {
-        Ok(None)
-    }
+    kinds::items(kinds::object(value)?, "values")
 }
 
-/// A `KeyValueList`.
-#[cycle(value)]
-fn kv_list(alloc: Global, value: &Value, levels: usize) -> Result<Option<AnyValue>, Bad>
-    ensures { Gives result
-        (option_map (option_map KvList) (message (pairs (value_to levels)) (view value.now))) }
+/// The value of a list, where nothing in it is discarded.
+fn unless_discarded(discarded: usize, value: AnyValue) -> Option<AnyValue>
+    ensures { result ≡ (if discarded == 0 then Some value else None) }
 {
-    let items = kinds::items(kinds::object(value)?, "values")?;
-    let (kept, discarded) = key_values(alloc, items, levels)?;
-    if discarded == 0 {
-        Ok(Some(AnyValue::KvList(kept)))
-    } else {
-        Ok(None)
+    if discarded == 0 { Some(value) } else { None }
+}
+
+/// What is kept of the items of a list, and how many are discarded.
+#[derive(Drop)]
+struct Sieve<T> {
+    kept: List<T>,
+    discarded: usize,
+}
+
+impl<T: Drop> Sieve<T> {
+    /// Before the first of so many items.
+    fn new(alloc: Global, count: usize) -> Result<Sieve<T>, AllocError>
+        ensures kept { IfOk result (λ it. it.kept ≡ []) }
+        ensures discarded { IfOk result (λ it. it.discarded ≡ 0) }
+    {
+        Ok(Sieve {
+            kept: List::from_vec(Vec::with_capacity(alloc, count)?),
+            discarded: 0,
+        })
+    }
+
+    /// Takes one more item.
+    fn take(&mut self, found: Option<T>) -> Result<(), AllocError>
+        requires { self.old.discarded < 2 ^ 64 - 1 }
+        ensures kept { OnOk result (self.new.kept ≡ self.old.kept ++ kept (found ∷ [])) }
+        ensures discarded { OnOk result (self.new.discarded ≡ self.old.discarded + discarded (found ∷ [])) }
+    {
+        match found {
+            Some(item) => self.kept.push(item)?,
+            None => self.discarded += 1,
+        }
+        Ok(())
     }
 }
 
@@ -162,15 +175,11 @@ fn kv_list(alloc: Global, value: &Value, levels: usize) -> Result<Option<AnyValu
 fn values(alloc: Global, items: &[Value], levels: usize) -> Result<(List<AnyValue>, usize), Bad>
     ensures { Gives result (option_map sieved (each (value_to levels) (items_view items.now))) }
 {
-    let mut kept = List::from_vec(Vec::with_capacity(alloc, items.len())?);
-    let mut discarded = 0;
+    let mut all = Sieve::new(alloc, items.len())?;
     for item in items {
-        match value_to(alloc, item, levels)? {
-            Some(value) => kept.push(value)?,
-            None => discarded += 1,
-        }
+        all.take(value_to(alloc, item, levels)?)?;
     }
-    Ok((kept, discarded))
+    Ok((all.kept, all.discarded))
 }
 
 /// The pairs that are kept, and how many are discarded.
@@ -183,15 +192,11 @@ pub fn key_values(
     ensures { Gives result
         (option_map sieved (each (message (key_value (value_to levels))) (items_view items.now))) }
 {
-    let mut kept = List::from_vec(Vec::with_capacity(alloc, items.len())?);
-    let mut discarded = 0;
+    let mut all = Sieve::new(alloc, items.len())?;
     for item in items {
-        match key_value(alloc, item, levels)? {
-            Some(pair) => kept.push(pair)?,
-            None => discarded += 1,
-        }
+        all.take(key_value(alloc, item, levels)?)?;
     }
-    Ok((kept, discarded))
+    Ok((all.kept, all.discarded))
 }
 
 /// A pair.

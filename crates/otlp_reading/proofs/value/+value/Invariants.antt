@@ -5,31 +5,22 @@ use Rattle.otlp_reading.proofs.Each.{Sieves}
 use Rattle.otlp_reading.proofs.value.+value.Given as goal
 
 abbrev pub invariant-key_values-loop-item : goal.invariant-key_values-loop-item
-invariant-key_values-loop-item l = Sieves (message (key_value (value_to l.fn.levels))) l.items l.item-index l.kept l.discarded
+invariant-key_values-loop-item l = Sieves (message (key_value (value_to l.fn.levels))) l.items l.item-index l.all.kept l.all.discarded
 
 abbrev pub invariant-values-loop-item : goal.invariant-values-loop-item
-invariant-values-loop-item l = Sieves (value_to l.fn.levels) l.items l.item-index l.kept l.discarded
+invariant-values-loop-item l = Sieves (value_to l.fn.levels) l.items l.item-index l.all.kept l.all.discarded
 
 abbrev pub decreases-value_to : goal.decreases-value_to
-decreases-value_to l = 6 * l.levels
+decreases-value_to l = 4 * l.levels
 
 abbrev pub decreases-key_value : goal.decreases-key_value
-decreases-key_value l = 6 * l.levels + 1
+decreases-key_value l = 4 * l.levels + 1
 
 abbrev pub decreases-values : goal.decreases-values
-decreases-values l = 6 * l.levels + 2
+decreases-values l = 4 * l.levels + 2
 
 abbrev pub decreases-key_values : goal.decreases-key_values
-decreases-key_values l = 6 * l.levels + 2
-
-abbrev pub decreases-array : goal.decreases-array
-decreases-array l = 6 * l.levels + 3
-
-abbrev pub decreases-kv_list : goal.decreases-kv_list
-decreases-kv_list l = 6 * l.levels + 3
+decreases-key_values l = 4 * l.levels + 2
 
 abbrev pub decreases-value_by : goal.decreases-value_by
-decreases-value_by l = 6 * l.levels + 4
-
-abbrev pub decreases-value_in : goal.decreases-value_in
-decreases-value_in l = 6 * l.levels + 5
+decreases-value_by l = 4 * l.levels + 3
