@@ -6,7 +6,7 @@ ghost use Rattle.otlp_reading.specs.Decoding.{IsJson};
 ghost use Rattle.otlp_stream.specs.SoFar.{resource_parts_names, ResourcePartsSoFar, scope_parts_names, ScopePartsSoFar, scope_spans_parts_names, ScopeSpansPartsSoFar, resource_spans_parts_names, ResourceSpansPartsSoFar, request_parts_names, RequestPartsSoFar};
 
 use crate::spans::SpanParts;
-use crate::stream::{Building, inner, list_of, message_of};
+use crate::stream::{Building, list_of, message, message_of};
 use crate::take::{Stop, number_u32, skip, text};
 use crate::values::{Kept, attributes};
 use json::Reader;
@@ -167,7 +167,7 @@ impl Building for ScopeSpansParts {
         name: &str,
     ) -> Result<(), Stop> {
         if name == "scope" {
-            self.scope = inner::<ScopeParts>(alloc, reader, depth)?;
+            self.scope = message::<ScopeParts>(alloc, reader, depth)?;
             Ok(())
         } else if name == "spans" {
             self.spans = list_of::<SpanParts>(alloc, reader, depth)?;
@@ -226,7 +226,7 @@ impl Building for ResourceSpansParts {
         name: &str,
     ) -> Result<(), Stop> {
         if name == "resource" {
-            self.resource = inner::<ResourceParts>(alloc, reader, depth)?;
+            self.resource = message::<ResourceParts>(alloc, reader, depth)?;
             Ok(())
         } else if name == "scopeSpans" {
             self.scope_spans = list_of::<ScopeSpansParts>(alloc, reader, depth)?;

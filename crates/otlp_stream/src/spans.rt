@@ -5,7 +5,7 @@ ghost use Rattle.otlp_reading.specs.Reading.{status, event, link, span};
 ghost use Rattle.otlp_stream.specs.Taking.{TakesAs, present, status_names, StatusSoFar};
 ghost use Rattle.otlp_stream.specs.SoFar.{trace_field, id_field, parent_field, event_parts_names, EventPartsSoFar, link_parts_names, LinkPartsSoFar, span_parts_names, SpanPartsSoFar};
 
-use crate::stream::{Building, inner, list_of};
+use crate::stream::{Building, list_of, message};
 use crate::take::{Stop, enumeration, number_u32, number_u64, piece, skip, text};
 use crate::values::{Kept, attributes};
 use json::Reader;
@@ -345,7 +345,7 @@ impl Building for SpanParts {
             self.dropped_links = number_u32(reader)?;
             Ok(())
         } else if name == "status" {
-            self.status = inner::<Status>(alloc, reader, depth)?;
+            self.status = message::<Status>(alloc, reader, depth)?;
             Ok(())
         } else {
             skip(reader, depth)

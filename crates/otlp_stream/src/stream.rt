@@ -6,8 +6,8 @@ ghost use Rattle.otlp_reading.specs.Decoding.{IsJson};
 ghost use Rattle.otlp_reading.specs.Kinds.{message, inner, list_of};
 ghost use Rattle.otlp_stream.specs.Taking.{TakesAs, TakesMembers, TakesField, AreFields, present};
 
-use crate::take::Stop;
-use json::{Reader, Scratch, Token};
+use crate::take::{Stop, begin_array, begin_object};
+use json::{Reader, Scratch};
 use otlp_types::List;
 use std::alloc::Global;
 
@@ -68,39 +68,17 @@ fn members<B: Building + Drop>(
     Err(Stop::Declined)
 }
 
-/// A message in a field.
-#[inline(always)]
-pub fn inner<B: Building + Drop>(
-    alloc: Global,
-    reader: &mut Reader<'_>,
-    depth: usize,
-) -> Result<B::Message, Stop>
-    ensures { IfOk result (λ x. TakesAs (present (inner B.meaning)) depth reader.old reader.new x) }
-{
-    let Some(Token::BeginObject) = reader.next() else {
-        return Err(Stop::Declined);
-    };
-    if depth == 0 {
-        return Err(Stop::Declined);
-    }
-    members::<B>(alloc, reader, depth - 1)
-}
-
-/// A message in a list.
+/// A message in a list, or in a field.
 #[inline(always)]
 pub fn message<B: Building + Drop>(
     alloc: Global,
     reader: &mut Reader<'_>,
     depth: usize,
 ) -> Result<B::Message, Stop>
-    ensures { IfOk result (λ x. TakesAs (message B.meaning) depth reader.old reader.new x) }
+    ensures item { IfOk result (λ x. TakesAs (message B.meaning) depth reader.old reader.new x) }
+    ensures field { IfOk result (λ x. TakesAs (present (inner B.meaning)) depth reader.old reader.new x) }
 {
-    let Some(Token::BeginObject) = reader.next() else {
-        return Err(Stop::Declined);
-    };
-    if depth == 0 {
-        return Err(Stop::Declined);
-    }
+    begin_object(reader, depth)?;
     members::<B>(alloc, reader, depth - 1)
 }
 
@@ -115,12 +93,7 @@ where
     ensures { IfOk result
         (λ xs. TakesAs (present (list_of (message B.meaning))) depth reader.old reader.new xs) }
 {
-    let Some(Token::BeginArray) = reader.next() else {
-        return Err(Stop::Declined);
-    };
-    if depth == 0 {
-        return Err(Stop::Declined);
-    }
+    begin_array(reader, depth)?;
     let mut all = List::new(alloc);
     'items: for _ in 0..u64::MAX {
         if reader.take_end_array() {

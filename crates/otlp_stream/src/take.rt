@@ -1,18 +1,20 @@
 //! Single tokens. `Declined` where the token is of another kind than is taken here: it says nothing of the text.
-ghost use Rattle.std.specs.Prelude.{◌≡◌, ℕ, ◌<◌, ◌^◌, length, Some, None, IfOk, IfSome, IsTrue, OnOk};
+ghost use Rattle.std.specs.Prelude.{◌≡◌, ℕ, ◌<◌, ◌^◌, ◌∷◌, length, Some, None, IfOk, IfSome, IsTrue, OnOk};
 ghost use Rattle.std.specs.Bool.{MatchBool};
 ghost use Rattle.json.specs.Json.{read_key};
+ghost use Rattle.json.specs.Token as token;
 ghost use Rattle.serde_json.specs.Data.{Data, Items, Members, Num, unsigned};
 ghost use Rattle.serde_json.specs.Read.{number_of, number_from};
 ghost use Rattle.serde_json.specs.Find.{as_str, as_bool};
 ghost use Rattle.otlp_reading.specs.Kinds.{text, enum, u32, u64, i64_value, unless_null};
+ghost use Rattle.otlp_stream.specs.declared.take.Stop.TheVariants.{Declined, NoMemory};
 ghost use Rattle.otlp_stream.specs.Taking.{Takes, TakesAs, TakesItems, TakesMembers, present, held};
 
 use fast_float::Numeral;
 use json::{Invalid, Reader, Token};
 use otlp_reading::{first_byte, i64_text, u64_text};
 use otlp_types::Text;
-use std::alloc::{AllocError, AllocFailed, Global};
+use std::alloc::{AllocError, Global};
 
 /// Why the fast way gave up.
 #[derive(Clone, Copy, Debug, PartialEq, Eq, Drop)]
@@ -24,9 +26,6 @@ pub enum Stop {
 }
 
 impl From<AllocError> for Stop {
-    ghost use Rattle.std.specs.Prelude.{◌≡◌};
-    ghost use Rattle.otlp_stream.specs.declared.take.Stop.TheVariants.{NoMemory};
-
     ghost from_gives = { λ _ e. e ≡ NoMemory };
 
     fn from(_refused: AllocError) -> Stop {
@@ -34,21 +33,7 @@ impl From<AllocError> for Stop {
     }
 }
 
-impl<T: Drop> From<AllocFailed<T>> for Stop {
-    ghost use Rattle.std.specs.Prelude.{◌≡◌};
-    ghost use Rattle.otlp_stream.specs.declared.take.Stop.TheVariants.{NoMemory};
-
-    ghost from_gives = { λ _ e. e ≡ NoMemory };
-
-    fn from(_refused: AllocFailed<T>) -> Stop {
-        Stop::NoMemory
-    }
-}
-
 impl From<Invalid> for Stop {
-    ghost use Rattle.std.specs.Prelude.{◌≡◌};
-    ghost use Rattle.otlp_stream.specs.declared.take.Stop.TheVariants.{Declined};
-
     ghost from_gives = { λ _ e. e ≡ Declined };
 
     fn from(_invalid: Invalid) -> Stop {
@@ -81,6 +66,36 @@ pub fn end_object(reader: &mut Reader<'_>) -> Result<(), Stop>
         Some(_) => Err(Stop::Declined),
         None => Ok(()),
     }
+}
+
+/// The beginning of an object, which may stand so deep.
+#[inline(always)]
+pub fn begin_object(reader: &mut Reader<'_>, depth: usize) -> Result<(), Stop>
+    ensures deep { OnOk result (depth ≡ 0 → ⊥) }
+    ensures begins { OnOk result (reader.old ≡ token.begin_object ∷ reader.new) }
+{
+    let Some(Token::BeginObject) = reader.next() else {
+        return Err(Stop::Declined);
+    };
+    if depth == 0 {
+        return Err(Stop::Declined);
+    }
+    Ok(())
+}
+
+/// The beginning of a list, which may stand so deep.
+#[inline(always)]
+pub fn begin_array(reader: &mut Reader<'_>, depth: usize) -> Result<(), Stop>
+    ensures deep { OnOk result (depth ≡ 0 → ⊥) }
+    ensures begins { OnOk result (reader.old ≡ token.begin_array ∷ reader.new) }
+{
+    let Some(Token::BeginArray) = reader.next() else {
+        return Err(Stop::Declined);
+    };
+    if depth == 0 {
+        return Err(Stop::Declined);
+    }
+    Ok(())
 }
 
 /// A text, where it stands. Null is the empty one.

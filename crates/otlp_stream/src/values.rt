@@ -7,8 +7,11 @@ ghost use Rattle.otlp_reading.specs.Kinds.{message};
 ghost use Rattle.otlp_reading.specs.Reading.{values, pairs, key_value, value_by, value_to};
 ghost use Rattle.otlp_stream.specs.Taking.{TakesAs, present, held, sieved_list};
 
-use crate::take::{Stop, end_object, has_next, held_bool, held_double, held_i64, held_text, text};
-use json::{Reader, Token};
+use crate::take::{
+    Stop, begin_array, begin_object, end_object, has_next, held_bool, held_double, held_i64,
+    held_text, text,
+};
+use json::Reader;
 use otlp_reading::ValueKey;
 use otlp_types::{AnyValue, KeyValue, List};
 use std::alloc::Global;
@@ -26,12 +29,7 @@ fn value_to(
 ) -> Result<Option<AnyValue>, Stop>
     ensures { IfOk result (λ x. TakesAs (value_to levels) depth reader.old reader.new x) }
 {
-    let Some(Token::BeginObject) = reader.next() else {
-        return Err(Stop::Declined);
-    };
-    if depth == 0 {
-        return Err(Stop::Declined);
-    }
+    begin_object(reader, depth)?;
     if levels == 0 {
         return Err(Stop::Declined);
     }
@@ -83,12 +81,7 @@ fn array(
         (held (λ d. option_map (option_map Array) (message (values (value_to levels)) d)))
         depth reader.old reader.new x) }
 {
-    let Some(Token::BeginObject) = reader.next() else {
-        return Err(Stop::Declined);
-    };
-    if depth == 0 {
-        return Err(Stop::Declined);
-    }
+    begin_object(reader, depth)?;
     if !has_next(reader, "values")? {
         return Ok(Some(AnyValue::Array(List::new(alloc))));
     }
@@ -113,12 +106,7 @@ fn kv_list(
         (held (λ d. option_map (option_map KvList) (message (pairs (value_to levels)) d)))
         depth reader.old reader.new x) }
 {
-    let Some(Token::BeginObject) = reader.next() else {
-        return Err(Stop::Declined);
-    };
-    if depth == 0 {
-        return Err(Stop::Declined);
-    }
+    begin_object(reader, depth)?;
     if !has_next(reader, "values")? {
         return Ok(Some(AnyValue::KvList(List::new(alloc))));
     }
@@ -141,12 +129,7 @@ fn all_values(
 ) -> Result<(List<AnyValue>, usize), Stop>
     ensures { IfOk result (λ x. TakesAs (present (sieved_list (value_to levels))) depth reader.old reader.new x) }
 {
-    let Some(Token::BeginArray) = reader.next() else {
-        return Err(Stop::Declined);
-    };
-    if depth == 0 {
-        return Err(Stop::Declined);
-    }
+    begin_array(reader, depth)?;
     let mut kept = List::new(alloc);
     let mut discarded = 0usize;
     'items: for _ in 0..u64::MAX {
@@ -177,12 +160,7 @@ pub fn key_values(
     ensures { IfOk result (λ x. TakesAs (present (sieved_list (message (key_value (value_to levels)))))
         depth reader.old reader.new x) }
 {
-    let Some(Token::BeginArray) = reader.next() else {
-        return Err(Stop::Declined);
-    };
-    if depth == 0 {
-        return Err(Stop::Declined);
-    }
+    begin_array(reader, depth)?;
     let mut kept = List::new(alloc);
     let mut discarded = 0usize;
     'items: for _ in 0..u64::MAX {
@@ -212,12 +190,7 @@ fn pair(
 ) -> Result<Option<KeyValue>, Stop>
     ensures { IfOk result (λ x. TakesAs (message (key_value (value_to levels))) depth reader.old reader.new x) }
 {
-    let Some(Token::BeginObject) = reader.next() else {
-        return Err(Stop::Declined);
-    };
-    if depth == 0 {
-        return Err(Stop::Declined);
-    }
+    begin_object(reader, depth)?;
     if !has_next(reader, "key")? {
         return Err(Stop::Declined);
     }

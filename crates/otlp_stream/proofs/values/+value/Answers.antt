@@ -12,22 +12,22 @@ use Rattle.otlp_stream.proofs.values.+value.Goals as goal
 use Rattle.otlp_stream.proofs.values.+value.Goals.{all_values-in-Some+in_ok-push-in-Some, all_values-in-None+else-discarded, key_values-in-Some+in_ok-push-in-Some, key_values-in-None+else-discarded}
 
 pub all_values-items-init : goal.all_values-items-init
-all_values-items-init t c = ([], WithinItems-start (c.args.depth - 1) c.next.new.self, Sieved-start (value_to c.args.levels) c.new-kept.result c.new-kept.ensures)
+all_values-items-init t c = ([], WithinItems-start (c.args.depth - 1) c.begin_array.new.reader, Sieved-start (value_to c.args.levels) c.new-kept.result c.new-kept.ensures)
 
 pub all_values-returns-then-take_end_array : goal.all_values-returns-then-take_end_array
 all_values-returns-then-take_end_array t c =
     let l = c.items in
     let w = l.invariant in
-    sieved_array (value_to c.args.levels) l.kept l.discarded c.args.depth c.args.reader.now c.next.new.self l.reader c.take_end_array.new.self w.0 c.if-depth-eq0.false
-    (rw c.in-Some-BeginArray.field-0-is at c.in-Some-BeginArray.ensures.value) w.1 (grind arith) w.2
+    sieved_array (value_to c.args.levels) l.kept l.discarded c.args.depth c.args.reader.now c.begin_array.new.reader l.reader c.take_end_array.new.self w.0 c.in_ok-begin_array.ensures.deep
+    c.in_ok-begin_array.ensures.begins w.1 (grind arith) w.2
 
 pub all_values-items-preserved : goal.all_values-items-preserved
 all_values-items-preserved t c =
     let l = c.items in
     let w = l.invariant in
     let m = c.in_ok-value.ensures in
-    let more = WithinItems-next (c.args.depth - 1) c.next.new.self l.reader w.0 c.take_end_array.new.self c.value_to.new.reader m.found w.1 (grind arith) (grind arith) m.takes in
-    elim c.match-branch-2.branch [
+    let more = WithinItems-next (c.args.depth - 1) c.begin_array.new.reader l.reader w.0 c.take_end_array.new.self c.value_to.new.reader m.found w.1 (grind arith) (grind arith) m.takes in
+    elim c.match-branch-3.branch [
       | all_values-in-Some+in_ok-push-in-Some b ↦
           (w.0 ++ m.found ∷ [], more, rw (b.kept-is, b.in_ok-push-in-Some.ensures.ok, b.discarded-is) (Sieved-kept (value_to c.args.levels) w.0 l.kept l.discarded m.found b.in-Some.value w.2 (m.is ∙ ap Some b.in-Some.is)))
       | all_values-in-None+else-discarded b ↦
@@ -35,22 +35,22 @@ all_values-items-preserved t c =
     ]
 
 pub key_values-items-init : goal.key_values-items-init
-key_values-items-init t c = ([], WithinItems-start (c.args.depth - 1) c.next.new.self, Sieved-start (message (key_value (value_to c.args.levels))) c.new-kept.result c.new-kept.ensures)
+key_values-items-init t c = ([], WithinItems-start (c.args.depth - 1) c.begin_array.new.reader, Sieved-start (message (key_value (value_to c.args.levels))) c.new-kept.result c.new-kept.ensures)
 
 pub key_values-returns-then-take_end_array : goal.key_values-returns-then-take_end_array
 key_values-returns-then-take_end_array t c =
     let l = c.items in
     let w = l.invariant in
-    sieved_array (message (key_value (value_to c.args.levels))) l.kept l.discarded c.args.depth c.args.reader.now c.next.new.self l.reader c.take_end_array.new.self w.0 c.if-depth-eq0.false
-    (rw c.in-Some-BeginArray.field-0-is at c.in-Some-BeginArray.ensures.value) w.1 (grind arith) w.2
+    sieved_array (message (key_value (value_to c.args.levels))) l.kept l.discarded c.args.depth c.args.reader.now c.begin_array.new.reader l.reader c.take_end_array.new.self w.0 c.in_ok-begin_array.ensures.deep
+    c.in_ok-begin_array.ensures.begins w.1 (grind arith) w.2
 
 pub key_values-items-preserved : goal.key_values-items-preserved
 key_values-items-preserved t c =
     let l = c.items in
     let w = l.invariant in
     let m = c.in_ok-pair.ensures in
-    let more = WithinItems-next (c.args.depth - 1) c.next.new.self l.reader w.0 c.take_end_array.new.self c.pair.new.reader m.found w.1 (grind arith) (grind arith) m.takes in
-    elim c.match-branch-2.branch [
+    let more = WithinItems-next (c.args.depth - 1) c.begin_array.new.reader l.reader w.0 c.take_end_array.new.self c.pair.new.reader m.found w.1 (grind arith) (grind arith) m.takes in
+    elim c.match-branch-3.branch [
       | key_values-in-Some+in_ok-push-in-Some b ↦
           (w.0 ++ m.found ∷ [], more, rw (b.kept-is, b.in_ok-push-in-Some.ensures.ok, b.discarded-is) (Sieved-kept (message (key_value (value_to c.args.levels))) w.0 l.kept l.discarded m.found b.in-Some.pair w.2 (m.is ∙ ap Some b.in-Some.is)))
       | key_values-in-None+else-discarded b ↦
@@ -59,27 +59,27 @@ key_values-items-preserved t c =
 
 pub array-returns-then-not-branch : goal.array-returns-then-not-branch
 array-returns-then-not-branch t c =
-    all_none Array (value_to c.args.levels) c.args.depth _ _ _ c.if-depth-eq0.false (rw c.in-Some-BeginObject.field-0-is at c.in-Some-BeginObject.ensures.value) c.new.result c.new.ensures (grind arith)
+    all_none Array (value_to c.args.levels) c.args.depth _ _ _ c.in_ok-begin_object.ensures.deep c.in_ok-begin_object.ensures.begins c.new.result c.new.ensures (grind arith)
 
 pub array-returns-then-discarded-eq0 : goal.array-returns-then-discarded-eq0
 array-returns-then-discarded-eq0 t c =
-    all_some Array (value_to c.args.levels) c.args.depth _ _ _ c.if-depth-eq0.false (rw c.in-Some-BeginObject.field-0-is at c.in-Some-BeginObject.ensures.value) _ _ c.in_ok-kept.kept c.in_ok-kept.discarded (grind arith) c.in_ok-kept.ensures c.in_ok-end_object.ensures c.if-discarded-eq0.true
+    all_some Array (value_to c.args.levels) c.args.depth _ _ _ c.in_ok-begin_object.ensures.deep c.in_ok-begin_object.ensures.begins _ _ c.in_ok-kept.kept c.in_ok-kept.discarded (grind arith) c.in_ok-kept.ensures c.in_ok-end_object.ensures c.if-discarded-eq0.true
 
 pub array-returns-else-discarded-eq0 : goal.array-returns-else-discarded-eq0
 array-returns-else-discarded-eq0 t c =
-    all_not Array (value_to c.args.levels) c.args.depth _ _ _ c.if-depth-eq0.false (rw c.in-Some-BeginObject.field-0-is at c.in-Some-BeginObject.ensures.value) _ _ c.in_ok-kept.kept c.in_ok-kept.discarded (grind arith) c.in_ok-kept.ensures c.in_ok-end_object.ensures c.if-discarded-eq0.false
+    all_not Array (value_to c.args.levels) c.args.depth _ _ _ c.in_ok-begin_object.ensures.deep c.in_ok-begin_object.ensures.begins _ _ c.in_ok-kept.kept c.in_ok-kept.discarded (grind arith) c.in_ok-kept.ensures c.in_ok-end_object.ensures c.if-discarded-eq0.false
 
 pub kv_list-returns-then-not-branch : goal.kv_list-returns-then-not-branch
 kv_list-returns-then-not-branch t c =
-    all_none KvList (message (key_value (value_to c.args.levels))) c.args.depth _ _ _ c.if-depth-eq0.false (rw c.in-Some-BeginObject.field-0-is at c.in-Some-BeginObject.ensures.value) c.new.result c.new.ensures (grind arith)
+    all_none KvList (message (key_value (value_to c.args.levels))) c.args.depth _ _ _ c.in_ok-begin_object.ensures.deep c.in_ok-begin_object.ensures.begins c.new.result c.new.ensures (grind arith)
 
 pub kv_list-returns-then-discarded-eq0 : goal.kv_list-returns-then-discarded-eq0
 kv_list-returns-then-discarded-eq0 t c =
-    all_some KvList (message (key_value (value_to c.args.levels))) c.args.depth _ _ _ c.if-depth-eq0.false (rw c.in-Some-BeginObject.field-0-is at c.in-Some-BeginObject.ensures.value) _ _ c.in_ok-kept.kept c.in_ok-kept.discarded (grind arith) c.in_ok-kept.ensures c.in_ok-end_object.ensures c.if-discarded-eq0.true
+    all_some KvList (message (key_value (value_to c.args.levels))) c.args.depth _ _ _ c.in_ok-begin_object.ensures.deep c.in_ok-begin_object.ensures.begins _ _ c.in_ok-kept.kept c.in_ok-kept.discarded (grind arith) c.in_ok-kept.ensures c.in_ok-end_object.ensures c.if-discarded-eq0.true
 
 pub kv_list-returns-else-discarded-eq0 : goal.kv_list-returns-else-discarded-eq0
 kv_list-returns-else-discarded-eq0 t c =
-    all_not KvList (message (key_value (value_to c.args.levels))) c.args.depth _ _ _ c.if-depth-eq0.false (rw c.in-Some-BeginObject.field-0-is at c.in-Some-BeginObject.ensures.value) _ _ c.in_ok-kept.kept c.in_ok-kept.discarded (grind arith) c.in_ok-kept.ensures c.in_ok-end_object.ensures c.if-discarded-eq0.false
+    all_not KvList (message (key_value (value_to c.args.levels))) c.args.depth _ _ _ c.in_ok-begin_object.ensures.deep c.in_ok-begin_object.ensures.begins _ _ c.in_ok-kept.kept c.in_ok-kept.discarded (grind arith) c.in_ok-kept.ensures c.in_ok-end_object.ensures c.if-discarded-eq0.false
 
 pub value_by-returns-in_ok-held_text-in-Str : goal.value_by-returns-in_ok-held_text-in-Str
 value_by-returns-in_ok-held_text-in-Str t c =
@@ -98,27 +98,27 @@ value_by-returns-in_ok-held_double-in-Double t c =
     let d = c.in_ok-held_double-in-Double.ensures c.args.depth in
     rw c.in-Double.is (held_any None c.args.depth _ _ d.0 d.1 d.2)
 
-pub value_to-returns-in_default-2 : goal.value_to-returns-in_default-2
-value_to-returns-in_default-2 t c =
-    value_empty c.args.levels c.if-levels-eq0.false c.args.depth _ _ _ c.if-depth-eq0.false (rw c.in-Some-BeginObject.field-0-is at c.in-Some-BeginObject.ensures.value) (grind arith)
+pub value_to-returns-in_default : goal.value_to-returns-in_default
+value_to-returns-in_default t c =
+    value_empty c.args.levels c.if-levels-eq0.false c.args.depth _ _ _ c.in_ok-begin_object.ensures.deep c.in_ok-begin_object.ensures.begins (grind arith)
 
 pub value_to-returns : goal.value_to-returns
 value_to-returns t c =
-    value_one c.args.levels c.if-levels-eq0.false c.args.depth _ _ _ c.if-depth-eq0.false (rw c.in-Some-BeginObject.field-0-is at c.in-Some-BeginObject.ensures.value) c.in-Some-named.key c.in-Some.name.now _ _ _
+    value_one c.args.levels c.if-levels-eq0.false c.args.depth _ _ _ c.in_ok-begin_object.ensures.deep c.in_ok-begin_object.ensures.begins c.in-Some-named.key c.in-Some.name.now _ _ _
     c.in-Some-named.ensures (rw c.in-Some.is at c.in_ok-name.ensures.value) c.in_ok-value.ensures c.in_ok-end_object.ensures
 
 pub pair-returns-then-not-branch-2 : goal.pair-returns-then-not-branch-2
 pair-returns-then-not-branch-2 t c =
-    pair_key c.args.levels c.args.depth _ _ _ c.if-depth-eq0.false (rw c.in-Some-BeginObject.field-0-is at c.in-Some-BeginObject.ensures.value) _ _ _ (grind arith) (c.in_ok-key.ensures (c.args.depth - 1)) (grind arith)
+    pair_key c.args.levels c.args.depth _ _ _ c.in_ok-begin_object.ensures.deep c.in_ok-begin_object.ensures.begins _ _ _ (grind arith) (c.in_ok-key.ensures (c.args.depth - 1)) (grind arith)
 
 pub pair-returns-in-Some : goal.pair-returns-in-Some
 pair-returns-in-Some t c =
-    pair_both c.args.levels c.args.depth _ _ _ c.if-depth-eq0.false (rw c.in-Some-BeginObject.field-0-is at c.in-Some-BeginObject.ensures.value) _ _ _ _ c.in_ok-key.key c.in_ok-value.value _ (grind arith) (c.in_ok-key.ensures (c.args.depth - 1)) (grind arith)
+    pair_both c.args.levels c.args.depth _ _ _ c.in_ok-begin_object.ensures.deep c.in_ok-begin_object.ensures.begins _ _ _ _ c.in_ok-key.key c.in_ok-value.value _ (grind arith) (c.in_ok-key.ensures (c.args.depth - 1)) (grind arith)
     c.in_ok-value.ensures c.in_ok-end_object.ensures (rw c.in-Some.is refl)
 
 pub pair-returns-in-None : goal.pair-returns-in-None
 pair-returns-in-None t c =
-    pair_both c.args.levels c.args.depth _ _ _ c.if-depth-eq0.false (rw c.in-Some-BeginObject.field-0-is at c.in-Some-BeginObject.ensures.value) _ _ _ _ c.in_ok-key.key c.in_ok-value.value _ (grind arith) (c.in_ok-key.ensures (c.args.depth - 1)) (grind arith)
+    pair_both c.args.levels c.args.depth _ _ _ c.in_ok-begin_object.ensures.deep c.in_ok-begin_object.ensures.begins _ _ _ _ c.in_ok-key.key c.in_ok-value.value _ (grind arith) (c.in_ok-key.ensures (c.args.depth - 1)) (grind arith)
     c.in_ok-value.ensures c.in_ok-end_object.ensures (rw c.in-None.is refl)
 
 pub value_by-returns-in_ok-held_i64-in-Int : goal.value_by-returns-in_ok-held_i64-in-Int

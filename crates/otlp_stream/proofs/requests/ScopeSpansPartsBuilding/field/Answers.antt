@@ -8,7 +8,7 @@ use Rattle.otlp_stream.proofs.requests.ScopeSpansPartsBuilding.field.Goals as go
 
 pub returns-in_ok-self : goal.returns-in_ok-self
 returns-in_ok-self c =
-    field_at (inner scope) scope_spans_parts_names ScopeSpansPartsSoFar 0 (codes "scope") c.args.depth c.args.name.now _ _ _ _ _ c.if-eq.ensures refl (c.in_ok-self.ensures) (λ seen o e s. (e, s.1, s.2))
+    field_at (inner scope) scope_spans_parts_names ScopeSpansPartsSoFar 0 (codes "scope") c.args.depth c.args.name.now _ _ _ _ _ c.if-eq.ensures refl c.in_ok-self.ensures.field (λ seen o e s. (e, s.1, s.2))
 
 pub returns-in_ok-self-2 : goal.returns-in_ok-self-2
 returns-in_ok-self-2 c =

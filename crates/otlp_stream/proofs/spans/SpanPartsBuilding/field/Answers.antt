@@ -70,7 +70,7 @@ returns-in_ok-self-15 c =
 
 pub returns-in_ok-self-16 : goal.returns-in_ok-self-16
 returns-in_ok-self-16 c =
-    field_at (inner status) span_parts_names SpanPartsSoFar 15 (codes "status") c.args.depth c.args.name.now _ _ _ _ _ c.if-eq-16.ensures refl (c.in_ok-self-16.ensures) (λ seen o e s. (s.0, s.1, s.2, s.3, s.4, s.5, s.6, s.7, s.8, s.9, s.10, s.11, s.12, s.13, s.14, e))
+    field_at (inner status) span_parts_names SpanPartsSoFar 15 (codes "status") c.args.depth c.args.name.now _ _ _ _ _ c.if-eq-16.ensures refl c.in_ok-self-16.ensures.field (λ seen o e s. (s.0, s.1, s.2, s.3, s.4, s.5, s.6, s.7, s.8, s.9, s.10, s.11, s.12, s.13, s.14, e))
 
 pub returns-else-eq-16 : goal.returns-else-eq-16
 returns-else-eq-16 c =
