@@ -9,9 +9,8 @@ use Rattle.serde_json.specs.View.{items_of}
 use Rattle.serde_json.specs.Written.{items_outline}
 use Rattle.otlp_types.specs.declared.span.Span.{Span}
 use Rattle.otlp_json.specs.Tokens.{Adds, AddsField, AddsObject, value_tokens, field_tokens, objects_tokens, span_counts, span_head, span_tail}
-use Rattle.otlp_json.specs.Writing.{fields, text_field, u32_field, u64_field, enum_field, message_field, list_field, attributes_field, trace_field, span_field, parent_field, status_fields, event_fields, link_fields, span_fields}
-use Rattle.otlp_json.proofs.MessagesBack.{span_table}
-use Rattle.otlp_json.proofs.Table.{Table, table_tokens, ascends, object-tokens}
+use Rattle.otlp_json.specs.Writing.{fields, text_field, u32_field, u64_field, enum_field, message_field, list_field, attributes_field, trace_field, span_field, parent_field, status_fields, event_fields, link_fields, span_fields, span_table, Table}
+use Rattle.otlp_json.proofs.Table.{table_tokens, ascends, object-tokens}
 
 -- nothing was written
 pub nothing : (a : Written) → Adds a a []

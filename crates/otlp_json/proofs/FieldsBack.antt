@@ -27,11 +27,11 @@ use Rattle.otlp_types.specs.declared.request.Request.{Request}
 use Rattle.span_ids.specs.Id.{id_of, id_text}
 use Rattle.otlp_reading.specs.Kinds.{field, text, u32, u64, enum, list_of, message, inner}
 use Rattle.otlp_reading.specs.Reading.{discarded, any_value, key_value, attributes, parent_of, valid_ids, ids, status, event, link, span, resource, scope, scope_spans, resource_spans, request}
-use Rattle.otlp_json.specs.Writing.{fields, text_field, u32_field, u64_field, enum_field, message_field, list_field, attributes_field, pair_fields, trace_field, span_field, parent_field, status_fields, event_fields, link_fields, span_fields, resource_fields, scope_fields, scope_spans_fields, resource_spans_fields, request_fields}
+use Rattle.otlp_json.specs.Writing.{Table, fields, text_field, u32_field, u64_field, enum_field, message_field, list_field, attributes_field, pair_fields, trace_field, span_field, parent_field, status_fields, event_fields, link_fields, span_fields, resource_fields, scope_fields, scope_spans_fields, resource_spans_fields, request_fields}
 use Rattle.otlp_json.specs.ReadsBack.{PairReadsBack, ReadsBack, StatusReadsBack, EventReadsBack, LinkReadsBack, TraceReadsBack, IdReadsBack, OptionalIdReadsBack, ParentReadsBack, CountsReadBack, HeadReadsBack, TailReadsBack}
 use Rattle.otlp_reading.proofs.Spans.{SpanFields, span_of}
 use Rattle.otlp_json.proofs.NumbersBack.{u32-back, u64-back, enum-back}
-use Rattle.otlp_json.proofs.Table.{Table, found, IsField, IsTable, field-fields, table-canonical, found-depth}
+use Rattle.otlp_json.proofs.Table.{found, IsField, IsTable, field-fields, table-canonical, found-depth}
 use Rattle.otlp_json.proofs.ValuesBack.{text_field-present, text-back, message_field-present, message-within, items_field-present, objects-canonical, AllRead, Within, list-back, kept-all, none-discarded, pair_again, pairs_field-is}
 
 -- ---- fields

@@ -27,18 +27,23 @@ use Rattle.otlp_types.specs.declared.request.Request.{Request}
 use Rattle.span_ids.specs.Id.{id_of, id_text}
 use Rattle.otlp_reading.specs.Kinds.{field, text, u32, u64, enum, list_of, message, inner}
 use Rattle.otlp_reading.specs.Reading.{discarded, any_value, key_value, attributes, parent_of, valid_ids, ids, status, event, link, span, resource, scope, scope_spans, resource_spans, request}
-use Rattle.otlp_json.specs.Writing.{fields, text_field, u32_field, u64_field, enum_field, message_field, list_field, attributes_field, pair_fields, trace_field, span_field, parent_field, status_fields, event_fields, link_fields, span_fields, resource_fields, scope_fields, scope_spans_fields, resource_spans_fields, request_fields}
+use Rattle.otlp_json.specs.Writing.{Table, fields, text_field, u32_field, u64_field, enum_field, message_field, list_field, attributes_field, pair_fields, trace_field, span_field, parent_field, status_fields, event_fields, link_fields, span_fields, resource_fields, scope_fields, scope_spans_fields, resource_spans_fields, request_fields, status_table, event_table, link_table, span_table, resource_table, scope_table, scope_spans_table, resource_spans_table, request_table}
 use Rattle.otlp_json.specs.ReadsBack.{PairReadsBack, ReadsBack, StatusReadsBack, EventReadsBack, LinkReadsBack, TraceReadsBack, IdReadsBack, OptionalIdReadsBack, ParentReadsBack, CountsReadBack, HeadReadsBack, TailReadsBack}
 use Rattle.otlp_reading.proofs.Spans.{SpanFields, span_of}
 use Rattle.otlp_json.proofs.NumbersBack.{u32-back, u64-back, enum-back}
-use Rattle.otlp_json.proofs.Table.{Table, found, IsField, IsTable, field-fields, table-canonical, found-depth}
+use Rattle.otlp_json.proofs.Table.{found, IsField, IsTable, field-fields, table-canonical, found-depth, ascends}
 use Rattle.otlp_json.proofs.ValuesBack.{text_field-present, text-back, message_field-present, message-within, items_field-present, objects-canonical, AllRead, Within, list-back, kept-all, none-discarded, pair_again, pairs_field-is}
 use Rattle.otlp_json.proofs.FieldsBack.{u32_field-present, u64_field-present, enum_field-present, at, inner-at, inner-present, list-present, list-at, attributes-at}
 
--- ---- the messages
+-- a message whose fields stand in a table reads as itself, if its members do
+reads-back : {A : Type 0} (of : A → Members) (meaning : Members → Option A) (x : A) (fs : Table) → of x ≡ fields fs → ascends fs ≡ true → IsTable fs
+    → (IsTable fs → depth (object (fields fs)) ≤ 127 → meaning (fields fs) ≡ Some x) → ReadsBack of meaning x
+reads-back of meaning x fs is up t again = record {
+  canonical = rw is (table-canonical fs up t);
+  again = rw is (λ h. again t h);
+}
 
-abbrev pub status_table : Status → Table
-status_table s = (codes "code", enum_field s.code) ∷ (codes "message", text_field s.message) ∷ []
+-- ---- the messages
 
 status-is : (s : Status) → FitsSigned w32 s.code → IsTable (status_table s)
 status-is s fits = (refl, enum_field-present s.code fits, (refl, text_field-present s.message, tt))
@@ -47,20 +52,9 @@ status_of : (s : Status) (ms : Members) → text (field (codes "message") ms) �
 status_of s ms message code = rw (message, code)
 
 pub status-back : (s : Status) → FitsSigned w32 s.code → StatusReadsBack s
-status-back s fits = record {
-  canonical = table-canonical (status_table s) refl (status-is s fits);
-  again = λ h. status_of s (fields (status_table s))
-      (at text (codes "message") (status_table s) (text_field s.message) s.message (status-is s fits) refl (text-back s.message))
-      (at enum (codes "code") (status_table s) (enum_field s.code) s.code (status-is s fits) refl (enum-back s.code fits));
-}
-
-abbrev pub event_table : Event → Table
-event_table e =
-    (codes "attributes", attributes_field e.attributes)
-    ∷ (codes "droppedAttributesCount", u32_field e.dropped_attributes_count)
-    ∷ (codes "name", text_field e.name)
-    ∷ (codes "timeUnixNano", u64_field e.time_unix_nano)
-    ∷ []
+status-back s fits = reads-back status_fields status s (status_table s) refl refl (status-is s fits) (λ t h. status_of s (fields (status_table s))
+    (at text (codes "message") (status_table s) (text_field s.message) s.message t refl (text-back s.message))
+    (at enum (codes "code") (status_table s) (enum_field s.code) s.code t refl (enum-back s.code fits)))
 
 event-is : (e : Event) → AllByRecursion PairReadsBack e.attributes → e.dropped_attributes_count < 2 ^ 32 → IsTable (event_table e)
 event-is e all dropped = (refl, pairs_field-is e.attributes all, (refl, u32_field-present _ dropped, (refl, text_field-present e.name, (refl, u64_field-present _, tt))))
@@ -70,25 +64,10 @@ event_of : (e : Event) (ms : Members) → u64 (field (codes "timeUnixNano") ms) 
 event_of e ms time name all = rw (time, name, all)
 
 pub event-back : (e : Event) → AllByRecursion PairReadsBack e.attributes → e.dropped_attributes_count < 2 ^ 32 → e.time_unix_nano < 2 ^ 64 → EventReadsBack e
-event-back e all dropped time =
-    let t : IsTable (event_table e) = event-is e all dropped in
-    record {
-      canonical = table-canonical (event_table e) refl t;
-      again = λ h. event_of e (fields (event_table e))
-          (at u64 (codes "timeUnixNano") (event_table e) (u64_field e.time_unix_nano) e.time_unix_nano t refl (u64-back e.time_unix_nano time))
-          (at text (codes "name") (event_table e) (text_field e.name) e.name t refl (text-back e.name))
-          (attributes-at e.attributes e.dropped_attributes_count (event_table e) all dropped t h refl refl);
-    }
-
-abbrev pub link_table : Link → Table
-link_table l =
-    (codes "attributes", attributes_field l.attributes)
-    ∷ (codes "droppedAttributesCount", u32_field l.dropped_attributes_count)
-    ∷ (codes "flags", u32_field l.flags)
-    ∷ (codes "spanId", text_field l.span_id)
-    ∷ (codes "traceId", text_field l.trace_id)
-    ∷ (codes "traceState", text_field l.trace_state)
-    ∷ []
+event-back e all dropped time = reads-back event_fields event e (event_table e) refl refl (event-is e all dropped) (λ t h. event_of e (fields (event_table e))
+    (at u64 (codes "timeUnixNano") (event_table e) (u64_field e.time_unix_nano) e.time_unix_nano t refl (u64-back e.time_unix_nano time))
+    (at text (codes "name") (event_table e) (text_field e.name) e.name t refl (text-back e.name))
+    (attributes-at e.attributes e.dropped_attributes_count (event_table e) all dropped t h refl refl))
 
 link-is : (l : Link) → AllByRecursion PairReadsBack l.attributes → l.dropped_attributes_count < 2 ^ 32 → l.flags < 2 ^ 32 → IsTable (link_table l)
 link-is l all dropped flags =
@@ -99,17 +78,12 @@ link_of : (l : Link) (ms : Members) → text (field (codes "traceId") ms) ≡ So
 link_of l ms trace span state all flags = rw (trace, span, state, all, flags)
 
 pub link-back : (l : Link) → AllByRecursion PairReadsBack l.attributes → l.dropped_attributes_count < 2 ^ 32 → l.flags < 2 ^ 32 → LinkReadsBack l
-link-back l all dropped flags =
-    let t : IsTable (link_table l) = link-is l all dropped flags in
-    record {
-      canonical = table-canonical (link_table l) refl t;
-      again = λ h. link_of l (fields (link_table l))
-          (at text (codes "traceId") (link_table l) (text_field l.trace_id) l.trace_id t refl (text-back l.trace_id))
-          (at text (codes "spanId") (link_table l) (text_field l.span_id) l.span_id t refl (text-back l.span_id))
-          (at text (codes "traceState") (link_table l) (text_field l.trace_state) l.trace_state t refl (text-back l.trace_state))
-          (attributes-at l.attributes l.dropped_attributes_count (link_table l) all dropped t h refl refl)
-          (at u32 (codes "flags") (link_table l) (u32_field l.flags) l.flags t refl (u32-back l.flags flags));
-    }
+link-back l all dropped flags = reads-back link_fields link l (link_table l) refl refl (link-is l all dropped flags) (λ t h. link_of l (fields (link_table l))
+    (at text (codes "traceId") (link_table l) (text_field l.trace_id) l.trace_id t refl (text-back l.trace_id))
+    (at text (codes "spanId") (link_table l) (text_field l.span_id) l.span_id t refl (text-back l.span_id))
+    (at text (codes "traceState") (link_table l) (text_field l.trace_state) l.trace_state t refl (text-back l.trace_state))
+    (attributes-at l.attributes l.dropped_attributes_count (link_table l) all dropped t h refl refl)
+    (at u32 (codes "flags") (link_table l) (u32_field l.flags) l.flags t refl (u32-back l.flags flags)))
 
 -- ---- the ids of a span
 
@@ -189,26 +163,6 @@ parent_field-present None = (refl, tt)
 parent_field-present (Some i) = root_field-present i.parent
 
 -- ---- the span
-
-abbrev pub span_table : Span → Table
-span_table s =
-    (codes "attributes", attributes_field s.attributes)
-    ∷ (codes "droppedAttributesCount", u32_field s.dropped_attributes_count)
-    ∷ (codes "droppedEventsCount", u32_field s.dropped_events_count)
-    ∷ (codes "droppedLinksCount", u32_field s.dropped_links_count)
-    ∷ (codes "endTimeUnixNano", u64_field s.end_time_unix_nano)
-    ∷ (codes "events", list_field (map event_fields s.events))
-    ∷ (codes "flags", u32_field s.flags)
-    ∷ (codes "kind", enum_field s.kind)
-    ∷ (codes "links", list_field (map link_fields s.links))
-    ∷ (codes "name", text_field s.name)
-    ∷ (codes "parentSpanId", parent_field s.ids)
-    ∷ (codes "spanId", span_field s.ids)
-    ∷ (codes "startTimeUnixNano", u64_field s.start_time_unix_nano)
-    ∷ (codes "status", message_field (status_fields s.status))
-    ∷ (codes "traceId", trace_field s.ids)
-    ∷ (codes "traceState", text_field s.trace_state)
-    ∷ []
 
 span-is : (s : Span) → CountsReadBack s → HeadReadsBack s → TailReadsBack s → IsTable (span_table s)
 span-is s counts head tail = (
@@ -293,15 +247,9 @@ span_fields-are s counts head tail h =
     }
 
 pub span-back : (s : Span) → CountsReadBack s → HeadReadsBack s → TailReadsBack s → ReadsBack span_fields span s
-span-back s counts head tail = record {
-  canonical = table-canonical (span_table s) refl (span-is s counts head tail);
-  again = λ h. span_of s (fields (span_table s)) (span_fields-are s counts head tail h);
-}
+span-back s counts head tail = reads-back span_fields span s (span_table s) refl refl (span-is s counts head tail) (λ _ h. span_of s (fields (span_table s)) (span_fields-are s counts head tail h))
 
 -- ---- the request
-
-abbrev pub resource_table : Resource → Table
-resource_table r = (codes "attributes", attributes_field r.attributes) ∷ (codes "droppedAttributesCount", u32_field r.dropped_attributes_count) ∷ []
 
 resource-is : (r : Resource) → AllByRecursion PairReadsBack r.attributes → r.dropped_attributes_count < 2 ^ 32 → IsTable (resource_table r)
 resource-is r all dropped = (refl, pairs_field-is r.attributes all, (refl, u32_field-present _ dropped, tt))
@@ -310,20 +258,7 @@ resource_of : (r : Resource) (ms : Members) → attributes ms ≡ Some (r.attrib
 resource_of r ms all = rw all
 
 pub resource-back : (r : Resource) → AllByRecursion PairReadsBack r.attributes → r.dropped_attributes_count < 2 ^ 32 → ReadsBack resource_fields resource r
-resource-back r all dropped =
-    let t : IsTable (resource_table r) = resource-is r all dropped in
-    record {
-      canonical = table-canonical (resource_table r) refl t;
-      again = λ h. resource_of r (fields (resource_table r)) (attributes-at r.attributes r.dropped_attributes_count (resource_table r) all dropped t h refl refl);
-    }
-
-abbrev pub scope_table : Scope → Table
-scope_table s =
-    (codes "attributes", attributes_field s.attributes)
-    ∷ (codes "droppedAttributesCount", u32_field s.dropped_attributes_count)
-    ∷ (codes "name", text_field s.name)
-    ∷ (codes "version", text_field s.version)
-    ∷ []
+resource-back r all dropped = reads-back resource_fields resource r (resource_table r) refl refl (resource-is r all dropped) (λ t h. resource_of r (fields (resource_table r)) (attributes-at r.attributes r.dropped_attributes_count (resource_table r) all dropped t h refl refl))
 
 scope-is : (s : Scope) → AllByRecursion PairReadsBack s.attributes → s.dropped_attributes_count < 2 ^ 32 → IsTable (scope_table s)
 scope-is s all dropped = (refl, pairs_field-is s.attributes all, (refl, u32_field-present _ dropped, (refl, text_field-present s.name, (refl, text_field-present s.version, tt))))
@@ -333,22 +268,10 @@ scope_of : (s : Scope) (ms : Members) → text (field (codes "name") ms) ≡ Som
 scope_of s ms name version all = rw (name, version, all)
 
 pub scope-back : (s : Scope) → AllByRecursion PairReadsBack s.attributes → s.dropped_attributes_count < 2 ^ 32 → ReadsBack scope_fields scope s
-scope-back s all dropped =
-    let t : IsTable (scope_table s) = scope-is s all dropped in
-    record {
-      canonical = table-canonical (scope_table s) refl t;
-      again = λ h. scope_of s (fields (scope_table s))
-          (at text (codes "name") (scope_table s) (text_field s.name) s.name t refl (text-back s.name))
-          (at text (codes "version") (scope_table s) (text_field s.version) s.version t refl (text-back s.version))
-          (attributes-at s.attributes s.dropped_attributes_count (scope_table s) all dropped t h refl refl);
-    }
-
-abbrev pub scope_spans_table : ScopeSpans → Table
-scope_spans_table g =
-    (codes "schemaUrl", text_field g.schema_url)
-    ∷ (codes "scope", message_field (scope_fields g.scope))
-    ∷ (codes "spans", list_field (map span_fields g.spans))
-    ∷ []
+scope-back s all dropped = reads-back scope_fields scope s (scope_table s) refl refl (scope-is s all dropped) (λ t h. scope_of s (fields (scope_table s))
+    (at text (codes "name") (scope_table s) (text_field s.name) s.name t refl (text-back s.name))
+    (at text (codes "version") (scope_table s) (text_field s.version) s.version t refl (text-back s.version))
+    (attributes-at s.attributes s.dropped_attributes_count (scope_table s) all dropped t h refl refl))
 
 scope_spans-is : (g : ScopeSpans) → ReadsBack scope_fields scope g.scope → AllByRecursion (ReadsBack span_fields span) g.spans → IsTable (scope_spans_table g)
 scope_spans-is g s all = (refl, text_field-present g.schema_url, (refl, inner-present scope scope_fields g.scope s, (refl, list-present span span_fields g.spans all, tt)))
@@ -358,22 +281,10 @@ scope_spans_of : (g : ScopeSpans) (ms : Members) → inner scope (field (codes "
 scope_spans_of g ms s all url = rw (s, all, url)
 
 pub scope_spans-back : (g : ScopeSpans) → ReadsBack scope_fields scope g.scope → AllByRecursion (ReadsBack span_fields span) g.spans → ReadsBack scope_spans_fields scope_spans g
-scope_spans-back g s all =
-    let t : IsTable (scope_spans_table g) = scope_spans-is g s all in
-    record {
-      canonical = table-canonical (scope_spans_table g) refl t;
-      again = λ h. scope_spans_of g (fields (scope_spans_table g))
-          (inner-at scope scope_fields g.scope (codes "scope") (scope_spans_table g) s t h refl)
-          (list-at span span_fields g.spans (codes "spans") (scope_spans_table g) all t h refl)
-          (at text (codes "schemaUrl") (scope_spans_table g) (text_field g.schema_url) g.schema_url t refl (text-back g.schema_url));
-    }
-
-abbrev pub resource_spans_table : ResourceSpans → Table
-resource_spans_table g =
-    (codes "resource", message_field (resource_fields g.resource))
-    ∷ (codes "schemaUrl", text_field g.schema_url)
-    ∷ (codes "scopeSpans", list_field (map scope_spans_fields g.scope_spans))
-    ∷ []
+scope_spans-back g s all = reads-back scope_spans_fields scope_spans g (scope_spans_table g) refl refl (scope_spans-is g s all) (λ t h. scope_spans_of g (fields (scope_spans_table g))
+    (inner-at scope scope_fields g.scope (codes "scope") (scope_spans_table g) s t h refl)
+    (list-at span span_fields g.spans (codes "spans") (scope_spans_table g) all t h refl)
+    (at text (codes "schemaUrl") (scope_spans_table g) (text_field g.schema_url) g.schema_url t refl (text-back g.schema_url)))
 
 resource_spans-is : (g : ResourceSpans) → ReadsBack resource_fields resource g.resource → AllByRecursion (ReadsBack scope_spans_fields scope_spans) g.scope_spans → IsTable (resource_spans_table g)
 resource_spans-is g r all =
@@ -385,18 +296,10 @@ resource_spans_of g ms r all url = rw (r, all, url)
 
 pub resource_spans-back : (g : ResourceSpans) → ReadsBack resource_fields resource g.resource → AllByRecursion (ReadsBack scope_spans_fields scope_spans) g.scope_spans
     → ReadsBack resource_spans_fields resource_spans g
-resource_spans-back g r all =
-    let t : IsTable (resource_spans_table g) = resource_spans-is g r all in
-    record {
-      canonical = table-canonical (resource_spans_table g) refl t;
-      again = λ h. resource_spans_of g (fields (resource_spans_table g))
-          (inner-at resource resource_fields g.resource (codes "resource") (resource_spans_table g) r t h refl)
-          (list-at scope_spans scope_spans_fields g.scope_spans (codes "scopeSpans") (resource_spans_table g) all t h refl)
-          (at text (codes "schemaUrl") (resource_spans_table g) (text_field g.schema_url) g.schema_url t refl (text-back g.schema_url));
-    }
-
-abbrev pub request_table : Request → Table
-request_table q = (codes "resourceSpans", list_field (map resource_spans_fields q.resource_spans)) ∷ []
+resource_spans-back g r all = reads-back resource_spans_fields resource_spans g (resource_spans_table g) refl refl (resource_spans-is g r all) (λ t h. resource_spans_of g (fields (resource_spans_table g))
+    (inner-at resource resource_fields g.resource (codes "resource") (resource_spans_table g) r t h refl)
+    (list-at scope_spans scope_spans_fields g.scope_spans (codes "scopeSpans") (resource_spans_table g) all t h refl)
+    (at text (codes "schemaUrl") (resource_spans_table g) (text_field g.schema_url) g.schema_url t refl (text-back g.schema_url)))
 
 request-is : (q : Request) → AllByRecursion (ReadsBack resource_spans_fields resource_spans) q.resource_spans → IsTable (request_table q)
 request-is q all = (refl, list-present resource_spans resource_spans_fields q.resource_spans all, tt)
@@ -405,9 +308,4 @@ request_from : (q : Request) (ms : Members) → list_of (message resource_spans)
 request_from q ms all = rw all
 
 pub request-back : (q : Request) → AllByRecursion (ReadsBack resource_spans_fields resource_spans) q.resource_spans → ReadsBack request_fields request q
-request-back q all =
-    let t : IsTable (request_table q) = request-is q all in
-    record {
-      canonical = table-canonical (request_table q) refl t;
-      again = λ h. request_from q (fields (request_table q)) (list-at resource_spans resource_spans_fields q.resource_spans (codes "resourceSpans") (request_table q) all t h refl);
-    }
+request-back q all = reads-back request_fields request q (request_table q) refl refl (request-is q all) (λ t h. request_from q (fields (request_table q)) (list-at resource_spans resource_spans_fields q.resource_spans (codes "resourceSpans") (request_table q) all t h refl))
