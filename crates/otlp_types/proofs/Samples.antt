@@ -1,38 +1,11 @@
 -- Spans and records that worked rows share: all is empty but what a row speaks of.
 -- For the rows of the crates above, which are computed.
-use Rattle.std.specs.Prelude.{ℕ, pos, [], Option}
+use Rattle.std.specs.Prelude.{ℕ, [], Option}
 use Rattle.otlp_types.specs.declared.arrival.Record.{Record}
-use Rattle.otlp_types.specs.declared.request.Resource.{Resource}
-use Rattle.otlp_types.specs.declared.request.Scope.{Scope}
 use Rattle.otlp_types.specs.declared.span.Ids.{Ids}
-use Rattle.otlp_types.specs.declared.span.Span.{Span}
+pub use Rattle.otlp_types.specs.Empty.{no_resource, no_scope, plain_span}
 
-abbrev pub no_resource : Resource
-no_resource = record { attributes = []; dropped_attributes_count = 0 }
-
-abbrev pub no_scope : Scope
-no_scope = record { name = []; version = []; attributes = []; dropped_attributes_count = 0 }
-
--- a span with these ids, status code, start and end
-abbrev pub plain_span : Option Ids → (code start end : ℕ) → Span
-plain_span ids code start end = record {
-  ids = ids;
-  trace_state = [];
-  flags = 0;
-  name = [];
-  kind = pos 0;
-  start_time_unix_nano = start;
-  end_time_unix_nano = end;
-  attributes = [];
-  dropped_attributes_count = 0;
-  events = [];
-  dropped_events_count = 0;
-  links = [];
-  dropped_links_count = 0;
-  status = record { message = []; code = pos code };
-}
-
--- its record
+-- the record of a plain span
 abbrev pub plain_record : Option Ids → (code start end : ℕ) → Record
 plain_record ids code start end = record {
   resource = no_resource;

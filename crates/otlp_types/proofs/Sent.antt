@@ -1,5 +1,4 @@
--- Records, arrivals and what is sent of them may go to another thread, type by type: as a field of a struct, and by itself. What
--- records share may also be read from several threads.
+-- Records, arrivals and what is sent of them may go to another thread, type by type. What records share may also be read from several threads.
 -- For each call above that starts threads: the lines before its result are found step by step from these.
 use denote.Param.Send.{IsSend, IsSync, sendable}
 use Rattle.otlp_types.proofs.value.AnyValue.TheLaws.TheKnot as knot
@@ -9,7 +8,6 @@ use Rattle.otlp_types.proofs.shared.Shared.TheSendSync as shared
 use Rattle.otlp_types.proofs.span.Ids.TheSendSync as ids
 use Rattle.otlp_types.proofs.span.Status.TheSendSync as status
 use Rattle.span_ids.proofs.keys.ArrivalKey.TheSendSync as key
-use Rattle.otlp_types.specs.contracts.value.AnyValue as value
 use Rattle.otlp_types.specs.contracts.value.KeyValue as pair
 use Rattle.otlp_types.specs.contracts.request.Resource as resource
 use Rattle.otlp_types.specs.contracts.request.Scope as scope
@@ -21,71 +19,35 @@ use Rattle.otlp_types.specs.contracts.arrival.Arrival as arrival
 use Rattle.otlp_types.specs.contracts.arrival.Item as item
 use Rattle.otlp_types.specs.contracts.arrival.Shipment as shipment
 
-pub value_field : IsSend (value.the_field).row
-value_field = search (sendable, list.the_send, text.the_send, knot.send-AnyValue) depth 20
-
-pub value_send : IsSend value.the_row
-value_send = search (sendable, value_field) depth 20
-
-pub pair_field : IsSend (pair.the_field).row
-pair_field = search (sendable, list.the_send, text.the_send, knot.send-KeyValue) depth 20
-
 pub pair_send : IsSend pair.the_row
-pair_send = search (sendable, pair_field) depth 20
-
-pub resource_field : IsSend (resource.the_field).row
-resource_field = search (sendable, list.the_send, pair_send) depth 20
-
-pub resource_send : IsSend resource.the_row
-resource_send = search (sendable, resource_field) depth 20
-
-pub scope_field : IsSend (scope.the_field).row
-scope_field = search (sendable, list.the_send, text.the_send, pair_send) depth 20
-
-pub scope_send : IsSend scope.the_row
-scope_send = search (sendable, scope_field) depth 20
-
-pub pair_field_sync : IsSync (pair.the_field).row
-pair_field_sync = search (sendable, list.the_sync, text.the_sync, knot.sync-KeyValue) depth 20
+pair_send = search (sendable, list.the_send, text.the_send, knot.send-KeyValue) depth 40
 
 pub pair_sync : IsSync pair.the_row
-pair_sync = search (sendable, pair_field_sync) depth 20
+pair_sync = search (sendable, list.the_sync, text.the_sync, knot.sync-KeyValue) depth 40
 
-pub resource_field_sync : IsSync (resource.the_field).row
-resource_field_sync = search (sendable, list.the_sync, pair_sync) depth 20
+pub resource_send : IsSend resource.the_row
+resource_send = search (sendable, list.the_send, pair_send) depth 40
 
 pub resource_sync : IsSync resource.the_row
-resource_sync = search (sendable, resource_field_sync) depth 20
+resource_sync = search (sendable, list.the_sync, pair_sync) depth 40
 
-pub scope_field_sync : IsSync (scope.the_field).row
-scope_field_sync = search (sendable, list.the_sync, text.the_sync, pair_sync) depth 20
+pub scope_send : IsSend scope.the_row
+scope_send = search (sendable, list.the_send, text.the_send, pair_send) depth 40
 
 pub scope_sync : IsSync scope.the_row
-scope_sync = search (sendable, scope_field_sync) depth 20
-
-pub event_field : IsSend (event.the_field).row
-event_field = search (sendable, list.the_send, text.the_send, pair_send) depth 20
+scope_sync = search (sendable, list.the_sync, text.the_sync, pair_sync) depth 40
 
 pub event_send : IsSend event.the_row
-event_send = search (sendable, event_field) depth 20
-
-pub link_field : IsSend (link.the_field).row
-link_field = search (sendable, list.the_send, text.the_send, pair_send) depth 20
+event_send = search (sendable, list.the_send, text.the_send, pair_send) depth 40
 
 pub link_send : IsSend link.the_row
-link_send = search (sendable, link_field) depth 20
+link_send = search (sendable, list.the_send, text.the_send, pair_send) depth 40
 
 pub span_field : IsSend (span.the_field).row
 span_field = search (sendable, list.the_send, text.the_send, pair_send, event_send, link_send, ids.the_send, status.the_field_send) depth 20
 
-pub span_send : IsSend span.the_row
-span_send = search (sendable, span_field) depth 20
-
 pub rec_field : IsSend (rec.the_field).row
 rec_field = search (sendable, shared.the_send, text.the_send, text.the_sync, resource_send, resource_sync, scope_send, scope_sync, span_field) depth 20
-
-pub rec_send : IsSend rec.the_row
-rec_send = search (sendable, rec_field) depth 20
 
 pub arrival_field : IsSend (arrival.the_field).row
 arrival_field = search (sendable, rec_field, key.the_field_send) depth 20

@@ -1,5 +1,6 @@
 //! Requests: resources, scopes and their spans (OTLP 1.x, `trace.proto` v1).
 ghost use Rattle.std.specs.Prelude.{◌≡◌, IfOk};
+ghost use Rattle.otlp_types.specs.Empty.{no_resource, no_scope};
 
 use crate::list::{List, Text, TryClone};
 use crate::span::Span;
@@ -42,6 +43,32 @@ pub struct ResourceSpans {
 #[derive(Debug, Drop)]
 pub struct Request {
     pub resource_spans: List<ResourceSpans>,
+}
+
+impl Resource {
+    /// A resource of which nothing is told. It takes no memory.
+    pub fn empty(alloc: Global) -> Resource
+        ensures { result ≡ no_resource }
+    {
+        Resource {
+            attributes: List::new(alloc),
+            dropped_attributes_count: 0,
+        }
+    }
+}
+
+impl Scope {
+    /// A scope of which nothing is told. It takes no memory.
+    pub fn empty(alloc: Global) -> Scope
+        ensures { result ≡ no_scope }
+    {
+        Scope {
+            name: Text::new(alloc),
+            version: Text::new(alloc),
+            attributes: List::new(alloc),
+            dropped_attributes_count: 0,
+        }
+    }
 }
 
 impl TryClone for Resource {

@@ -1,5 +1,6 @@
 //! Spans, with their events and links (OTLP 1.x, `trace.proto` v1).
-ghost use Rattle.std.specs.Prelude.{◌≡◌, IfOk};
+ghost use Rattle.std.specs.Prelude.{◌≡◌, None, IfOk};
+ghost use Rattle.otlp_types.specs.Empty.{plain_span};
 
 use crate::list::{List, Text, TryClone};
 use crate::value::KeyValue;
@@ -64,6 +65,33 @@ pub struct Span {
     pub links: List<Link>,
     pub dropped_links_count: u32,
     pub status: Status,
+}
+
+impl Span {
+    /// A span of which nothing is told: no ids, and every text and list empty. It takes no memory.
+    pub fn empty(alloc: Global) -> Span
+        ensures { result ≡ plain_span None 0 0 0 }
+    {
+        Span {
+            ids: None,
+            trace_state: Text::new(alloc),
+            flags: 0,
+            name: Text::new(alloc),
+            kind: 0,
+            start_time_unix_nano: 0,
+            end_time_unix_nano: 0,
+            attributes: List::new(alloc),
+            dropped_attributes_count: 0,
+            events: List::new(alloc),
+            dropped_events_count: 0,
+            links: List::new(alloc),
+            dropped_links_count: 0,
+            status: Status {
+                message: Text::new(alloc),
+                code: 0,
+            },
+        }
+    }
 }
 
 impl TryClone for Ids {
