@@ -41,21 +41,19 @@ fn resource_group<T: HasRecord>(alloc: Global, spans: &mut [T]) -> Result<Resour
         ≡ option_map (λ x. resource_of (T.record_in x)) (slice_get spans.old 0)) }
 {
     let first = spans[0].rec();
-    let resource = first.resource.get().try_clone(alloc)?;
-    let schema_url = first.resource_schema_url.get().try_clone(alloc)?;
-    let mut scope_spans = List::new(alloc);
+    let mut group = ResourceSpans {
+        resource: first.resource.get().try_clone(alloc)?,
+        scope_spans: List::new(alloc),
+        schema_url: first.resource_schema_url.get().try_clone(alloc)?,
+    };
     let mut rest = spans;
     while !rest.is_empty() {
         let count = run::<ScopePart, T>(rest);
         let (front, behind) = rest.split_at_mut(count);
-        scope_spans.push(scope_group(alloc, front)?)?;
+        group.scope_spans.push(scope_group(alloc, front)?)?;
         rest = behind;
     }
-    Ok(ResourceSpans {
-        resource,
-        scope_spans,
-        schema_url,
-    })
+    Ok(group)
 }
 
 /// The group of spans of one scope.

@@ -6,7 +6,6 @@
 //! [`grouping_is_unique`] says.
 #![tactic(auto)]
 
-mod empty;
 mod grouping;
 mod records;
 mod runs;

@@ -5,7 +5,6 @@ ghost use Rattle.otlp_types.specs.declared.request.Resource.{Resource};
 ghost use Rattle.otlp_types.specs.declared.request.Scope.{Scope};
 ghost use Rattle.otlp_flatten.specs.Runs.{resource_of, scope_of, IsRun};
 
-use crate::empty::empty_span;
 use crate::same::Same;
 use otlp_types::{Arrival, Record, Span};
 use std::alloc::Global;
@@ -33,7 +32,7 @@ impl HasRecord for Record {
     }
 
     fn take_span(&mut self, alloc: Global) -> Span {
-        mem::replace(&mut self.span, empty_span(alloc))
+        mem::replace(&mut self.span, Span::empty(alloc))
     }
 }
 
@@ -45,7 +44,7 @@ impl HasRecord for Arrival {
     }
 
     fn take_span(&mut self, alloc: Global) -> Span {
-        mem::replace(&mut self.rec.span, empty_span(alloc))
+        mem::replace(&mut self.rec.span, Span::empty(alloc))
     }
 }
 
