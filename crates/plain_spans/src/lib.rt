@@ -3,7 +3,7 @@
 
 ghost use Rattle.std.specs.Prelude.{◌≡◌, IfOk};
 
-use otlp_types::{Arrival, Ids, List, Record, Resource, Scope, Shared, Span, Status, Text};
+use otlp_types::{Arrival, Ids, Record, Resource, Scope, Shared, Span, Text};
 use span_ids::{ArrivalKey, ConnKey};
 use std::alloc::{AllocError, Global};
 
@@ -20,40 +20,17 @@ pub fn plain_record(
     ensures start { IfOk result (λ rec. rec.span.start_time_unix_nano ≡ start) }
     ensures end { IfOk result (λ rec. rec.span.end_time_unix_nano ≡ end) }
 {
-    let resource = Resource {
-        attributes: List::new(alloc),
-        dropped_attributes_count: 0,
-    };
-    let scope = Scope {
-        name: Text::new(alloc),
-        version: Text::new(alloc),
-        attributes: List::new(alloc),
-        dropped_attributes_count: 0,
-    };
+    let mut span = Span::empty(alloc);
+    span.ids = ids;
+    span.status.code = code;
+    span.start_time_unix_nano = start;
+    span.end_time_unix_nano = end;
     Ok(Record {
-        resource: Shared::new(alloc, resource)?,
+        resource: Shared::new(alloc, Resource::empty(alloc))?,
         resource_schema_url: Shared::new(alloc, Text::new(alloc))?,
-        scope: Shared::new(alloc, scope)?,
+        scope: Shared::new(alloc, Scope::empty(alloc))?,
         scope_schema_url: Shared::new(alloc, Text::new(alloc))?,
-        span: Span {
-            ids,
-            trace_state: Text::new(alloc),
-            flags: 0,
-            name: Text::new(alloc),
-            kind: 0,
-            start_time_unix_nano: start,
-            end_time_unix_nano: end,
-            attributes: List::new(alloc),
-            dropped_attributes_count: 0,
-            events: List::new(alloc),
-            dropped_events_count: 0,
-            links: List::new(alloc),
-            dropped_links_count: 0,
-            status: Status {
-                message: Text::new(alloc),
-                code,
-            },
-        },
+        span,
     })
 }
 
