@@ -121,32 +121,36 @@ fn ranges(rt: HostRuntime) -> Result<(), Fail> {
     Ok(())
 }
 
+/// Lines with a root wait, each with its fault.
+const ROOT_WAITS: [(&str, Option<ConfigFault>); 6] = [
+    ("root_wait_ms = 0", None),
+    ("root_wait_ms = 3600000", None),
+    ("root_wait_ms = 3600001", Some(ConfigFault::OutOfRange)),
+    ("root_wait_ms = -1", Some(ConfigFault::OutOfRange)),
+    ("root_wait_ms = 0.5", Some(ConfigFault::WrongType)),
+    ("root_wait = 0", Some(ConfigFault::UnknownKey)),
+];
+
+/// Lines with an address, each with its fault.
+const ADDRESSES: [(&str, Option<ConfigFault>); 5] = [
+    ("listen = \"\"", None),
+    ("listen = \"[::1]:0\"", None),
+    ("listen = 4318", Some(ConfigFault::WrongType)),
+    (
+        "listen = [\"127.0.0.1:4318\"]",
+        Some(ConfigFault::WrongType),
+    ),
+    ("listen = \"a\"\nlisten = \"a\"", Some(ConfigFault::NotToml)),
+];
+
 #[test]
 fn root_wait_range(rt: HostRuntime) -> Result<(), Fail> {
-    let cases = [
-        ("root_wait_ms = 0", None),
-        ("root_wait_ms = 3600000", None),
-        ("root_wait_ms = 3600001", Some(ConfigFault::OutOfRange)),
-        ("root_wait_ms = -1", Some(ConfigFault::OutOfRange)),
-        ("root_wait_ms = 0.5", Some(ConfigFault::WrongType)),
-        ("root_wait = 0", Some(ConfigFault::UnknownKey)),
-    ];
-    compare(&rt, rt.alloc(), &cases)
+    compare(&rt, rt.alloc(), &ROOT_WAITS)
 }
 
 #[test]
 fn address(rt: HostRuntime) -> Result<(), Fail> {
-    let cases = [
-        ("listen = \"\"", None),
-        ("listen = \"[::1]:0\"", None),
-        ("listen = 4318", Some(ConfigFault::WrongType)),
-        (
-            "listen = [\"127.0.0.1:4318\"]",
-            Some(ConfigFault::WrongType),
-        ),
-        ("listen = \"a\"\nlisten = \"a\"", Some(ConfigFault::NotToml)),
-    ];
-    compare(&rt, rt.alloc(), &cases)
+    compare(&rt, rt.alloc(), &ADDRESSES)
 }
 
 /// For each fault a line and the beginning of a list of policies that has it.
