@@ -71,19 +71,23 @@ alone found = record { is_one = λ fault e. cc; is_least = λ fault e. (found, r
 none : IsLeastOf (λ fault. ⊥) None
 none = record { is_one = λ fault e. cc; is_least = λ fault h. elim h [ ] }
 
+-- of the same set, said otherwise
+as_well : (P Q : ConfigFault → Type 0) (a : Option ConfigFault) → ((fault : ConfigFault) → P fault → Q fault) → ((fault : ConfigFault) → Q fault → P fault) → IsLeastOf P a → IsLeastOf Q a
+as_well P Q a there back p = record { is_one = λ fault e. there fault (p.is_one fault e); is_least = λ fault h. p.is_least fault (back fault h) }
+
 -- of a value that is looked at only where a key has this value
 branch : (P Q : ConfigFault → Type 0) (r : Bool) (a b : Option ConfigFault) → IsLeastOf P a → IsLeastOf Q b
     → IsLeastOf (λ fault. ((r ≡ true) × P fault) ⊎ ((r ≡ false) × Q fault)) (if r then a else b)
-branch P Q true a b p q = record { is_one = λ fault e. inl (refl, p.is_one fault e); is_least = no_lesser }
+branch P Q true a b p q = as_well P _ a (λ fault h. inl (refl, h)) taken p
   where
-    no_lesser : (fault : ConfigFault) → ((true ≡ true) × P fault) ⊎ ((true ≡ false) × Q fault) → (found : ConfigFault) × (a ≡ Some found) × (number_of found ≤ number_of fault)
-    no_lesser fault (inl (e, h)) = p.is_least fault h
-    no_lesser fault (inr (e, h)) = cc
-branch P Q false a b p q = record { is_one = λ fault e. inr (refl, q.is_one fault e); is_least = no_lesser }
+    taken : (fault : ConfigFault) → ((true ≡ true) × P fault) ⊎ ((true ≡ false) × Q fault) → P fault
+    taken fault (inl (e, h)) = h
+    taken fault (inr (e, h)) = cc
+branch P Q false a b p q = as_well Q _ b (λ fault h. inr (refl, h)) taken q
   where
-    no_lesser : (fault : ConfigFault) → ((false ≡ true) × P fault) ⊎ ((false ≡ false) × Q fault) → (found : ConfigFault) × (b ≡ Some found) × (number_of found ≤ number_of fault)
-    no_lesser fault (inl (e, h)) = cc
-    no_lesser fault (inr (e, h)) = q.is_least fault h
+    taken : (fault : ConfigFault) → ((false ≡ true) × P fault) ⊎ ((false ≡ false) × Q fault) → Q fault
+    taken fault (inl (e, h)) = cc
+    taken fault (inr (e, h)) = h
 
 optional_least : (Has : Data → ConfigFault → Type 0) (f : Data → Option ConfigFault) → ((value : Data) → IsLeastOf (Has value) (f value)) → (at : Option Data) → IsLeastOf (OptionalHas Has at) (optional f at)
 optional_least Has f each None = none

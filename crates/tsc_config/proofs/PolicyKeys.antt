@@ -14,11 +14,11 @@ use Rattle.policy_tree.specs.declared.policy.PolicyKind.TheVariants as kind_is
 use Rattle.policy_tree.specs.declared.policy.PolicyKind.TheVariants.{rolls-AlwaysSample, rolls-Latency, rolls-StatusCode, rolls-Attribute, rolls-SpanCount, rolls-RateLimiting, rolls-And}
 use Rattle.policy_tree.specs.declared.policy.PolicyKind.TheViews.{out-PolicyKind, roll-PolicyKind, out-roll-PolicyKind}
 use Rattle.policy_tree.specs.declared.policy.Wanted.{Wanted}
-use Rattle.tsc_config.proofs.Settings.{neither, natural, read_as}
+use Rattle.tsc_config.proofs.Settings.{neither, natural, table_parts, read_as}
 use Rattle.tsc_config.specs.Keys.{type_name, type_named, type_found, type_at, code_named, code_of}
 use Rattle.tsc_config.specs.Faults.{optional, required, unknown_fault, natural_fault, text_fault, named_fault, items_fault, array_fault, type_fault, code_fault, truth_fault, whole_fault, attribute_fault, rows_fault, settings_fault, settings_at_fault, typed_fault_where, policy_table_fault, policy_fault, policy_items_fault, policies_fault, and_fault, and_settings_fault, sub_policies_fault, numbers_fault, sizes_fault, cache_fault, table_fault, least}
 use Rattle.tsc_config.specs.Values.{found_before, natural_of, codes_of, item_codes, text_found, texts_of, item_texts, text_of, truth_of, whole_of, attribute, kind_in, kind_by, kind_typed, policy_of, item_policies, policies_of, and_policies, and_settings, sub_policies, policies_value, policy_value, config_of}
-use Rattle.tsc_config.specs.PolicyKeys.{IsText, AreTexts, IsCode, AreCodes, count_items, IsTyped, IsWanted, IsLayer, IsKind, IsPolicy, items_of, settings_items, nested_items, value_at, parts_in, parts_of, parts_at, policy_at, HasPolicies, ReadsPolicies}
+use Rattle.tsc_config.specs.PolicyKeys.{IsText, AreTexts, IsCode, AreCodes, count_items, IsNatural, IsNaturalOrZero, IsTyped, IsWanted, IsLayer, IsKind, IsPolicy, items_of, settings_items, nested_items, value_at, parts_in, parts_of, parts_at, policy_at, HasPolicies, ReadsPolicies}
 use Rattle.tsc_config.specs.declared.fault.ConfigFault.{ConfigFault}
 use Rattle.tsc_config.specs.declared.fault.ConfigFault.TheVariants.{MissingKey, OutOfRange}
 use Rattle.tsc_config.specs.declared.kinds.PolicyType.{PolicyType}
@@ -102,10 +102,15 @@ are_texts (item value rest) e = of value (neither (text_fault value) (items_faul
     of (string text) f later = (refl, later)
     of _ f later = absurd (cc f)
 
+-- the array at a key, of whose items none has a fault
+array_keys : (f : Data → Option ConfigFault) (at : Option Data) → required (array_fault f) at ≡ None → (items : Items) × (at ≡ Some (array items)) × (items_fault f items ≡ None)
+array_keys f (Some (array items)) e = (items, refl, e)
+array_keys f None e = cc
+array_keys f (Some _) e = cc
+
 texts_keys : (at : Option Data) → required (array_fault text_fault) at ≡ None → (items : Items) × (at ≡ Some (array items)) × AreTexts items (texts_of at)
-texts_keys (Some (array items)) e = (items, refl, are_texts items e)
-texts_keys None e = cc
-texts_keys (Some _) e = cc
+texts_keys at e = let a = array_keys text_fault at e in
+    let P : Option Data → Type 0 = λ at. AreTexts a.0 (texts_of at) in (a.0, a.1, subst P (sym a.1) (are_texts a.0 a.2))
 
 are_codes : (items : Items) → items_fault code_fault items ≡ None → AreCodes items (item_codes items)
 are_codes no_items e = refl
@@ -121,9 +126,8 @@ are_codes (item value rest) e = of value (neither (code_fault value) (items_faul
     of _ f later = absurd (cc f)
 
 codes_keys : (at : Option Data) → required (array_fault code_fault) at ≡ None → (items : Items) × (at ≡ Some (array items)) × AreCodes items (codes_of at)
-codes_keys (Some (array items)) e = (items, refl, are_codes items e)
-codes_keys None e = cc
-codes_keys (Some _) e = cc
+codes_keys at e = let a = array_keys code_fault at e in
+    let P : Option Data → Type 0 = λ at. AreCodes a.0 (codes_of at) in (a.0, a.1, subst P (sym a.1) (are_codes a.0 a.2))
 
 -- ---- the settings of each type
 
@@ -140,26 +144,6 @@ settings_table kind (Some _) e = cc
 abbrev Typed : Members → PolicyType → Members → Type 0
 Typed members kind settings = IsTyped members (type_name kind) settings
 
-latency_keys : (members settings : Members) → Typed members type_is.Latency settings → rows_fault type_is.Latency settings ≡ None → IsKind members (kind_in type_is.Latency settings)
-unfolding rows_fault kind_in
-latency_keys members settings typed e =
-    let n = neither (required natural_fault (get_member (codes "threshold_ms") settings)) (optional natural_fault (get_member (codes "upper_threshold_ms") settings)) e in
-    is_layer members _ (PolicyKind-F.Latency _ _) (rolls-Latency _ _) (settings, typed, natural_keys (get_member (codes "threshold_ms") settings) n.0, natural 9223372036854775807 (get_member (codes "upper_threshold_ms") settings) n.1)
-
-status_keys : (members settings : Members) → Typed members type_is.StatusCode settings → rows_fault type_is.StatusCode settings ≡ None → IsKind members (kind_in type_is.StatusCode settings)
-unfolding rows_fault kind_in
-status_keys members settings typed e = is_layer members _ (PolicyKind-F.StatusCode _) (rolls-StatusCode _) (settings, typed, codes_keys (get_member (codes "status_codes") settings) e)
-
-count_keys : (members settings : Members) → Typed members type_is.SpanCount settings → rows_fault type_is.SpanCount settings ≡ None → IsKind members (kind_in type_is.SpanCount settings)
-unfolding rows_fault kind_in
-count_keys members settings typed e =
-    let n = neither (required natural_fault (get_member (codes "min_spans") settings)) (optional natural_fault (get_member (codes "max_spans") settings)) e in
-    is_layer members _ (PolicyKind-F.SpanCount _ _) (rolls-SpanCount _ _) (settings, typed, natural_keys (get_member (codes "min_spans") settings) n.0, natural 9223372036854775807 (get_member (codes "max_spans") settings) n.1)
-
-rate_keys : (members settings : Members) → Typed members type_is.RateLimiting settings → rows_fault type_is.RateLimiting settings ≡ None → IsKind members (kind_in type_is.RateLimiting settings)
-unfolding rows_fault kind_in
-rate_keys members settings typed e = is_layer members _ (PolicyKind-F.RateLimiting _) (rolls-RateLimiting _) (settings, typed, natural_keys (get_member (codes "spans_per_second") settings) e)
-
 -- the three of attributes, where nothing is wrong with what is wanted of the value
 attribute_keys : (members settings : Members) (name : List ℕ) (wanted : Wanted) (of_wanted : Option ConfigFault) → IsTyped members name settings
     → attribute_fault settings of_wanted ≡ None → (of_wanted ≡ None → IsWanted settings wanted name) → IsKind members (attribute settings wanted)
@@ -175,25 +159,12 @@ attribute_keys members settings name wanted of_wanted typed e h =
       at_invert = truth_keys (get_member (codes "invert_match") settings) i.1;
     })
 
-string_keys : (members settings : Members) → Typed members type_is.StringAttribute settings → rows_fault type_is.StringAttribute settings ≡ None → IsKind members (kind_in type_is.StringAttribute settings)
-unfolding rows_fault kind_in
-string_keys members settings typed e =
-    attribute_keys members settings (codes "string_attribute") _ (required (array_fault text_fault) (get_member (codes "values") settings)) typed e
-    (λ f. (refl, texts_keys (get_member (codes "values") settings) f))
-
-numeric_keys : (members settings : Members) → Typed members type_is.NumericAttribute settings → rows_fault type_is.NumericAttribute settings ≡ None → IsKind members (kind_in type_is.NumericAttribute settings)
-unfolding rows_fault kind_in
-numeric_keys members settings typed e =
-    let low : Option ConfigFault = optional whole_fault (get_member (codes "min_value") settings) in
-    let high : Option ConfigFault = optional whole_fault (get_member (codes "max_value") settings) in
-    attribute_keys members settings (codes "numeric_attribute") _ (least low high) typed e
-    (λ f. (refl, whole_keys (negsuc 9223372036854775807) _ (neither low high f).0, whole_keys (pos 9223372036854775807) _ (neither low high f).1))
-
-boolean_keys : (members settings : Members) → Typed members type_is.BooleanAttribute settings → rows_fault type_is.BooleanAttribute settings ≡ None → IsKind members (kind_in type_is.BooleanAttribute settings)
-unfolding rows_fault kind_in
-boolean_keys members settings typed e =
-    attribute_keys members settings (codes "boolean_attribute") _ (required truth_fault (get_member (codes "value") settings)) typed e
-    (λ f. (refl, required_truth (get_member (codes "value") settings) f))
+-- two numbers at keys, of which the second may be missing
+two_naturals : (settings : Members) (low high : List ℕ) → least (required natural_fault (get_member low settings)) (optional natural_fault (get_member high settings)) ≡ None
+    → IsNatural settings low (natural_of (get_member low settings)) × IsNaturalOrZero settings high (natural_of (get_member high settings))
+two_naturals settings low high e =
+    let n = neither (required natural_fault (get_member low settings)) (optional natural_fault (get_member high settings)) e in
+    (natural_keys (get_member low settings) n.0, natural 9223372036854775807 (get_member high settings) n.1)
 
 -- ---- the policies of an `and`
 
@@ -295,19 +266,35 @@ as_many (item value rest) e = of value (neither (policy_fault value) (policy_ite
 
 kind_keys : (kind : PolicyType) (members : Members) → IsText members (codes "type") (type_name kind) → settings_at_fault kind members (and_fault members) ≡ None
     → IsKind members (kind_typed (Some kind) members (and_policies members))
+unfolding rows_fault kind_in
 kind_keys type_is.AlwaysSample members named e = let P : PolicyKind → Type 0 = λ k. IsKind members k in
     subst P (sym (always (get_member (codes "always_sample") members))) (is_layer members _ PolicyKind-F.AlwaysSample rolls-AlwaysSample named)
 kind_keys type_is.And members named e =
     let n = nested members e in
     is_layer members _ (PolicyKind-F.And (and_policies members)) (rolls-And (and_policies members))
     (n.settings, record { typed = named; at_name = n.at_and }, (n.items, n.at_parts, ap length n.parts ∙ as_many n.items n.sound))
-kind_keys type_is.Latency members named e = by_settings type_is.Latency members (latency_keys members) named e
-kind_keys type_is.StatusCode members named e = by_settings type_is.StatusCode members (status_keys members) named e
-kind_keys type_is.StringAttribute members named e = by_settings type_is.StringAttribute members (string_keys members) named e
-kind_keys type_is.NumericAttribute members named e = by_settings type_is.NumericAttribute members (numeric_keys members) named e
-kind_keys type_is.BooleanAttribute members named e = by_settings type_is.BooleanAttribute members (boolean_keys members) named e
-kind_keys type_is.SpanCount members named e = by_settings type_is.SpanCount members (count_keys members) named e
-kind_keys type_is.RateLimiting members named e = by_settings type_is.RateLimiting members (rate_keys members) named e
+kind_keys type_is.Latency members named e = by_settings type_is.Latency members
+    (λ settings typed f. let n = two_naturals settings (codes "threshold_ms") (codes "upper_threshold_ms") f in
+    is_layer members _ (PolicyKind-F.Latency _ _) (rolls-Latency _ _) (settings, typed, n.0, n.1)) named e
+kind_keys type_is.StatusCode members named e = by_settings type_is.StatusCode members
+    (λ settings typed f. is_layer members _ (PolicyKind-F.StatusCode _) (rolls-StatusCode _) (settings, typed, codes_keys (get_member (codes "status_codes") settings) f)) named e
+kind_keys type_is.StringAttribute members named e = by_settings type_is.StringAttribute members
+    (λ settings typed f. attribute_keys members settings (codes "string_attribute") _ (required (array_fault text_fault) (get_member (codes "values") settings)) typed f
+    (λ g. (refl, texts_keys (get_member (codes "values") settings) g))) named e
+kind_keys type_is.NumericAttribute members named e = by_settings type_is.NumericAttribute members
+    (λ settings typed f.
+    let low : Option ConfigFault = optional whole_fault (get_member (codes "min_value") settings) in
+    let high : Option ConfigFault = optional whole_fault (get_member (codes "max_value") settings) in
+    attribute_keys members settings (codes "numeric_attribute") _ (least low high) typed f
+    (λ g. (refl, whole_keys (negsuc 9223372036854775807) _ (neither low high g).0, whole_keys (pos 9223372036854775807) _ (neither low high g).1))) named e
+kind_keys type_is.BooleanAttribute members named e = by_settings type_is.BooleanAttribute members
+    (λ settings typed f. attribute_keys members settings (codes "boolean_attribute") _ (required truth_fault (get_member (codes "value") settings)) typed f
+    (λ g. (refl, required_truth (get_member (codes "value") settings) g))) named e
+kind_keys type_is.SpanCount members named e = by_settings type_is.SpanCount members
+    (λ settings typed f. let n = two_naturals settings (codes "min_spans") (codes "max_spans") f in
+    is_layer members _ (PolicyKind-F.SpanCount _ _) (rolls-SpanCount _ _) (settings, typed, n.0, n.1)) named e
+kind_keys type_is.RateLimiting members named e = by_settings type_is.RateLimiting members
+    (λ settings typed f. is_layer members _ (PolicyKind-F.RateLimiting _) (rolls-RateLimiting _) (settings, typed, natural_keys (get_member (codes "spans_per_second") settings) f)) named e
 
 policy_keys : (members : Members) → policy_fault (table members) ≡ None → IsPolicy members (policy_of members (and_policies members))
 unfolding policy_table_fault policy_of
@@ -422,14 +409,8 @@ sound None e = cc
 sound (Some _) e = cc
 
 whole : (members : Members) → table_fault members ≡ None → HasPolicies members (config_of members).policies
-unfolding table_fault
 whole members e =
-    let t = neither (unknown_fault table_is.Config members) _ e in
-    let n = neither (numbers_fault members) _ t.1 in
-    let s = neither (sizes_fault members) _ n.1 in
-    let l = neither (optional text_fault (get_member (codes "listen") members)) _ s.1 in
-    let c = neither (optional cache_fault (get_member (codes "decision_cache") members)) _ l.1 in
-    let p = sound (get_member (codes "policies") members) c.1 in
+    let p = sound (get_member (codes "policies") members) (table_parts members e).4 in
     let items : Items = items_of (get_member (codes "policies") members) in record {
       as_many = ap length p.1 ∙ as_many items p.0;
       each = λ place deeper policy h.

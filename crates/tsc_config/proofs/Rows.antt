@@ -1,6 +1,6 @@
 -- The numbers of a configuration's settings, computed on the definitions: each key's default, its range, and what lies just outside.
 -- No clause needs them: they show what the words of `Values` and `Faults` say, which code and contracts follow. The table below repeats no definition.
-use Rattle.std.specs.Prelude.{◌≡◌, ℕ, ℤ, pos, negsuc, Bool, true, false, List, [], ◌∷◌, map, codes, Option, Some, None, refl}
+use Rattle.std.specs.Prelude.{◌≡◌, ℕ, ℤ, pos, negsuc, true, false, List, [], ◌∷◌, map, codes, Option, Some, None, refl}
 use Rattle.toml.specs.Data.{integer, table, Members, no_members, member}
 use Rattle.tsc_config.specs.Keys.{is_key, is_setting}
 use Rattle.tsc_config.specs.Faults.{least, number_of, numbers_fault, sizes_fault, cache_fault}
@@ -129,41 +129,31 @@ own_values = refl
 
 -- ---- settings of a policy
 
--- which of these are settings of each type
-abbrev settings : PolicyType → List (List ℕ) → List Bool
-settings kind keys = map (is_setting kind) keys
+-- a type, its settings, and a key that is none of them
+record Own : Type 0 where
+  kind : PolicyType
+  keys : List (List ℕ)
+  other : List ℕ
 
-latency_settings : settings type_is.Latency (codes "threshold_ms" ∷ codes "upper_threshold_ms" ∷ codes "threshold" ∷ []) ≡ true ∷ true ∷ false ∷ []
-unfolding is_setting
-latency_settings = refl
+abbrev own : List Own
+own =
+    record { kind = type_is.Latency; keys = codes "threshold_ms" ∷ codes "upper_threshold_ms" ∷ []; other = codes "threshold" }
+    ∷ record { kind = type_is.StatusCode; keys = codes "status_codes" ∷ []; other = codes "codes" }
+    ∷ record { kind = type_is.StringAttribute; keys = codes "key" ∷ codes "values" ∷ codes "invert_match" ∷ []; other = codes "value" }
+    ∷ record { kind = type_is.NumericAttribute; keys = codes "key" ∷ codes "min_value" ∷ codes "max_value" ∷ codes "invert_match" ∷ []; other = codes "value" }
+    ∷ record { kind = type_is.BooleanAttribute; keys = codes "key" ∷ codes "value" ∷ codes "invert_match" ∷ []; other = codes "values" }
+    ∷ record { kind = type_is.SpanCount; keys = codes "min_spans" ∷ codes "max_spans" ∷ []; other = codes "spans" }
+    ∷ record { kind = type_is.RateLimiting; keys = codes "spans_per_second" ∷ []; other = codes "limit" }
+    ∷ record { kind = type_is.And; keys = codes "and_sub_policy" ∷ []; other = codes "policies" }
+    ∷ []
 
-status_code_settings : settings type_is.StatusCode (codes "status_codes" ∷ codes "codes" ∷ []) ≡ true ∷ false ∷ []
+own_settings : map (λ (o : Own). map (is_setting o.kind) o.keys) own ≡ map (λ (o : Own). map (λ key. true) o.keys) own
 unfolding is_setting
-status_code_settings = refl
+own_settings = refl
 
-string_settings : settings type_is.StringAttribute (codes "key" ∷ codes "values" ∷ codes "invert_match" ∷ codes "value" ∷ []) ≡ true ∷ true ∷ true ∷ false ∷ []
+other_keys : map (λ (o : Own). is_setting o.kind o.other) own ≡ map (λ o. false) own
 unfolding is_setting
-string_settings = refl
-
-numeric_settings : settings type_is.NumericAttribute (codes "key" ∷ codes "min_value" ∷ codes "max_value" ∷ codes "invert_match" ∷ codes "value" ∷ []) ≡ true ∷ true ∷ true ∷ true ∷ false ∷ []
-unfolding is_setting
-numeric_settings = refl
-
-boolean_settings : settings type_is.BooleanAttribute (codes "key" ∷ codes "value" ∷ codes "invert_match" ∷ codes "values" ∷ []) ≡ true ∷ true ∷ true ∷ false ∷ []
-unfolding is_setting
-boolean_settings = refl
-
-span_count_settings : settings type_is.SpanCount (codes "min_spans" ∷ codes "max_spans" ∷ codes "spans" ∷ []) ≡ true ∷ true ∷ false ∷ []
-unfolding is_setting
-span_count_settings = refl
-
-rate_limiting_settings : settings type_is.RateLimiting (codes "spans_per_second" ∷ codes "limit" ∷ []) ≡ true ∷ false ∷ []
-unfolding is_setting
-rate_limiting_settings = refl
-
-and_settings : settings type_is.And (codes "and_sub_policy" ∷ codes "policies" ∷ []) ≡ true ∷ false ∷ []
-unfolding is_setting
-and_settings = refl
+other_keys = refl
 
 -- ---- the numbers of the faults
 

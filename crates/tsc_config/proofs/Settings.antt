@@ -5,7 +5,7 @@ use Rattle.toml.specs.Data.{Data, string, integer, table, Members, get_member}
 use Rattle.toml.specs.Parse.{parse_document}
 use Rattle.policy_tree.specs.Faults.{fault_of_policies}
 use Rattle.policy_tree.specs.declared.fault.PolicyFault.{PolicyFault}
-use Rattle.tsc_config.specs.Faults.{number_of, least, optional, unknown_fault, integer_fault, text_fault, cache_fault, numbers_fault, sizes_fault, table_fault}
+use Rattle.tsc_config.specs.Faults.{number_of, least, optional, required, unknown_fault, integer_fault, text_fault, cache_fault, numbers_fault, sizes_fault, policies_fault, table_fault}
 use Rattle.tsc_config.specs.Reading.{reading, reading_of, reading_unless, reading_where}
 use Rattle.tsc_config.specs.Settings.{IsTextAt, IsCacheSize, HasSettings, ReadsSettings}
 use Rattle.tsc_config.specs.Values.{config_of, positive_of, natural_of, cache_size, listen_of}
@@ -78,23 +78,30 @@ cache given (Some (table sizes)) e f =
     )
 cache given (Some _) e f = cc
 
--- each row of the table's numbers has no fault
-whole : (members : Members) → table_fault members ≡ None → HasSettings members (config_of members)
+-- each part of a table without a fault has none
+pub table_parts : (members : Members) → table_fault members ≡ None → (numbers_fault members ≡ None) × (sizes_fault members ≡ None) × (optional text_fault (get_member (codes "listen") members) ≡ None)
+    × (optional cache_fault (get_member (codes "decision_cache") members) ≡ None) × (required policies_fault (get_member (codes "policies") members) ≡ None)
 unfolding table_fault
-whole members e =
+table_parts members e =
     let t = neither (unknown_fault table_is.Config members) _ e in
     let n = neither (numbers_fault members) _ t.1 in
     let s = neither (sizes_fault members) _ n.1 in
     let l = neither (optional text_fault (get_member (codes "listen") members)) _ s.1 in
     let c = neither (optional cache_fault (get_member (codes "decision_cache") members)) _ l.1 in
-    let wait = neither (optional (integer_fault (pos 1) (pos 3600000)) (get_member (codes "decision_wait_ms") members)) _ n.0 in
+    (n.0, s.0, l.0, c.0, c.1)
+
+-- each row of the table's numbers has no fault
+whole : (members : Members) → table_fault members ≡ None → HasSettings members (config_of members)
+whole members e =
+    let t = table_parts members e in
+    let wait = neither (optional (integer_fault (pos 1) (pos 3600000)) (get_member (codes "decision_wait_ms") members)) _ t.0 in
     let root = neither (optional (integer_fault (pos 0) (pos 3600000)) (get_member (codes "root_wait_ms") members)) _ wait.1 in
     let traces = neither (optional (integer_fault (pos 1) (pos 1000000)) (get_member (codes "num_traces") members)) _ root.1 in
     let lanes = neither (optional (integer_fault (pos 1) (pos 64)) (get_member (codes "lanes") members)) _ traces.1 in
     let shards = neither (optional (integer_fault (pos 1) (pos 64)) (get_member (codes "shards") members)) _ lanes.1 in
-    let queue = neither (optional (integer_fault (pos 1) (pos 65536)) (get_member (codes "queue_capacity") members)) _ s.0 in
+    let queue = neither (optional (integer_fault (pos 1) (pos 65536)) (get_member (codes "queue_capacity") members)) _ t.1 in
     let export = neither (optional (integer_fault (pos 1) (pos 65536)) (get_member (codes "export_capacity") members)) _ queue.1 in
-    let caches = cache members (get_member (codes "decision_cache") members) refl c.0 in record {
+    let caches = cache members (get_member (codes "decision_cache") members) refl t.3 in record {
       decision_wait = positive 30000 3600000 (get_member (codes "decision_wait_ms") members) wait.0;
       root_wait = natural 3600000 (get_member (codes "root_wait_ms") members) root.0;
       num_traces = positive 50000 1000000 (get_member (codes "num_traces") members) traces.0;
@@ -106,7 +113,7 @@ whole members e =
       export_capacity = positive 1024 65536 (get_member (codes "export_capacity") members) export.0;
       send_batch_size = positive 512 8192 (get_member (codes "send_batch_size") members) export.1;
       tick = positive 1000 60000 (get_member (codes "tick_ms") members) shards.1;
-      listen = text members (get_member (codes "listen") members) refl l.0;
+      listen = text members (get_member (codes "listen") members) refl t.2;
     }
 
 -- what is read as a configuration is the table's, which has no fault

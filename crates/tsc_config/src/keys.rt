@@ -103,26 +103,17 @@ pub fn unknown_fault(kind: TableKind, table: &Table) -> Option<ConfigFault>
 fn type_named(text: &str) -> Option<PolicyType>
     ensures { result ≡ spec.type_named text.now }
 {
-    if text == "always_sample" {
-        Some(PolicyType::AlwaysSample)
-    } else if text == "latency" {
-        Some(PolicyType::Latency)
-    } else if text == "status_code" {
-        Some(PolicyType::StatusCode)
-    } else if text == "string_attribute" {
-        Some(PolicyType::StringAttribute)
-    } else if text == "numeric_attribute" {
-        Some(PolicyType::NumericAttribute)
-    } else if text == "boolean_attribute" {
-        Some(PolicyType::BooleanAttribute)
-    } else if text == "span_count" {
-        Some(PolicyType::SpanCount)
-    } else if text == "rate_limiting" {
-        Some(PolicyType::RateLimiting)
-    } else if text == "and" {
-        Some(PolicyType::And)
-    } else {
-        None
+    match text {
+        "always_sample" => Some(PolicyType::AlwaysSample),
+        "latency" => Some(PolicyType::Latency),
+        "status_code" => Some(PolicyType::StatusCode),
+        "string_attribute" => Some(PolicyType::StringAttribute),
+        "numeric_attribute" => Some(PolicyType::NumericAttribute),
+        "boolean_attribute" => Some(PolicyType::BooleanAttribute),
+        "span_count" => Some(PolicyType::SpanCount),
+        "rate_limiting" => Some(PolicyType::RateLimiting),
+        "and" => Some(PolicyType::And),
+        _ => None,
     }
 }
 
@@ -140,10 +131,7 @@ pub fn type_of(value: &Value) -> Option<PolicyType>
 pub fn type_at(table: &Table) -> Option<PolicyType>
     ensures { result ≡ spec.type_at (table_view table.now) }
 {
-    match member(table, "type") {
-        Some(value) => type_of(value),
-        None => None,
-    }
+    type_of(member(table, "type")?)
 }
 
 /// The status code that a text names (`trace.proto` v1, `Status.StatusCode`).
@@ -151,14 +139,11 @@ pub fn type_at(table: &Table) -> Option<PolicyType>
 fn code_named(text: &str) -> Option<i32>
     ensures { result ≡ spec.code_named text.now }
 {
-    if text == "UNSET" {
-        Some(0)
-    } else if text == "OK" {
-        Some(1)
-    } else if text == "ERROR" {
-        Some(2)
-    } else {
-        None
+    match text {
+        "UNSET" => Some(0),
+        "OK" => Some(1),
+        "ERROR" => Some(2),
+        _ => None,
     }
 }
 

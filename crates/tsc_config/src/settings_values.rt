@@ -67,16 +67,7 @@ pub fn natural_at(settings: &Table, key: &str) -> u64
     ensures { result ≡ spec.natural_of (get_member key.now (table_view settings.now)) }
 {
     match member(settings, key) {
-        Some(value) => natural_of(value),
-        None => 0,
-    }
-}
-
-fn natural_of(value: &Value) -> u64
-    ensures { result ≡ spec.natural_value (view value.now) }
-{
-    match value {
-        Value::Integer(number) if 0 <= *number => *number as u64,
+        Some(Value::Integer(number)) if 0 <= *number => *number as u64,
         _ => 0,
     }
 }
@@ -85,16 +76,7 @@ fn whole_at(settings: &Table, key: &str, default: i64) -> i64
     ensures { result ≡ spec.whole_of default (get_member key.now (table_view settings.now)) }
 {
     match member(settings, key) {
-        Some(value) => whole_of(value, default),
-        None => default,
-    }
-}
-
-fn whole_of(value: &Value, default: i64) -> i64
-    ensures { result ≡ spec.whole_value default (view value.now) }
-{
-    match value {
-        Value::Integer(number) => *number,
+        Some(Value::Integer(number)) => *number,
         _ => default,
     }
 }
@@ -103,16 +85,7 @@ fn truth_at(settings: &Table, key: &str) -> bool
     ensures { result ≡ spec.truth_of (get_member key.now (table_view settings.now)) }
 {
     match member(settings, key) {
-        Some(value) => truth_of(value),
-        None => false,
-    }
-}
-
-fn truth_of(value: &Value) -> bool
-    ensures { result ≡ spec.truth_value (view value.now) }
-{
-    match value {
-        Value::Boolean(truth) => *truth,
+        Some(Value::Boolean(truth)) => *truth,
         _ => false,
     }
 }
@@ -141,16 +114,7 @@ fn codes_at(alloc: Global, settings: &Table) -> Result<List<i32>, AllocError>
     ensures { IfOk result (λ list. list ≡ spec.codes_of (get_member (codes "status_codes") (table_view settings.now))) }
 {
     match member(settings, "status_codes") {
-        Some(value) => codes_value(alloc, value),
-        None => Ok(List::new(alloc)),
-    }
-}
-
-fn codes_value(alloc: Global, value: &Value) -> Result<List<i32>, AllocError>
-    ensures { IfOk result (λ list. list ≡ spec.codes_value (view value.now)) }
-{
-    match value {
-        Value::Array(items) => item_codes(alloc, items),
+        Some(Value::Array(items)) => item_codes(alloc, items),
         _ => Ok(List::new(alloc)),
     }
 }
@@ -171,16 +135,7 @@ fn texts_at(alloc: Global, settings: &Table) -> Result<List<Text>, AllocError>
     ensures { IfOk result (λ list. list ≡ spec.texts_of (get_member (codes "values") (table_view settings.now))) }
 {
     match member(settings, "values") {
-        Some(value) => texts_value(alloc, value),
-        None => Ok(List::new(alloc)),
-    }
-}
-
-fn texts_value(alloc: Global, value: &Value) -> Result<List<Text>, AllocError>
-    ensures { IfOk result (λ list. list ≡ spec.texts_value (view value.now)) }
-{
-    match value {
-        Value::Array(items) => item_texts(alloc, items),
+        Some(Value::Array(items)) => item_texts(alloc, items),
         _ => Ok(List::new(alloc)),
     }
 }

@@ -23,20 +23,9 @@ pub fn positive_at(table: &Table, key: &str, default: u64, greatest: u64) -> u64
     ensures within { result ≤ greatest }
 {
     match member(table, key) {
-        Some(value) => positive_of(value, default, greatest),
-        None => default,
-    }
-}
-
-fn positive_of(value: &Value, default: u64, greatest: u64) -> u64
-    requires positive { 0 < default }
-    requires within { default ≤ greatest }
-    ensures number { result ≡ spec.positive_value default greatest (view value.now) }
-    ensures positive { 0 < result }
-    ensures within { result ≤ greatest }
-{
-    match value {
-        Value::Integer(number) if 1 <= *number && *number as u64 <= greatest => *number as u64,
+        Some(Value::Integer(number)) if 1 <= *number && *number as u64 <= greatest => {
+            *number as u64
+        }
         _ => default,
     }
 }
