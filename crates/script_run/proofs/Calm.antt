@@ -4,7 +4,6 @@ use Rattle.std.specs.List.{AllByRecursion}
 use Rattle.otlp_types.specs.declared.arrival.Arrival.{Arrival}
 use Rattle.otlp_types.specs.declared.arrival.Item.{Item}
 use Rattle.span_ids.specs.declared.outcome.Reason.{Reason}
-use Rattle.span_ids.specs.declared.outcome.Reason.TheVariants.{InvalidId, QueueFull, NoMemory, Evicted, NotSampled, LateNotSampled, ExporterDown}
 use Rattle.rate_budget.specs.Grant.{Asking}
 use Rattle.journal_theory.specs.Journal.{Settings, Journal}
 use Rattle.span_sink.specs.LineSinks.{LineSinkState, FailsInside}

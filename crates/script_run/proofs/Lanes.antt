@@ -4,7 +4,6 @@ use Rattle.otlp_types.specs.declared.arrival.Arrival.{Arrival}
 use Rattle.otlp_types.specs.declared.arrival.Record.{Record}
 use Rattle.span_ids.specs.declared.keys.ConnKey.{ConnKey}
 use Rattle.journal_theory.specs.Journal.{Settings, Journal}
-use Rattle.journal_theory.specs.Fate.{counts}
 use Rattle.journal_theory.proofs.ListFacts.{tally}
 use Rattle.lane_seq.specs.Numbers.{arrival_of, arrivals_from}
 use Rattle.world_theory.specs.World.{Config, Lane, Shard, World as Core}

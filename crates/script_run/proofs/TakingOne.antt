@@ -1,5 +1,5 @@
 -- One shard of the core takes an item, decides all that is due and ships all that it released.
-use Rattle.std.proofs.Common.{◌≡◌, ℕ, ◌+◌, Bool, true, false, cond, not, ◌&&◌, nat_lt, List, [], ◌∷◌, ◌++◌, length, slice_get, slice_set, Some, None, option_map, option_and_then, refl, ap, sym, ◌∙◌, arith, append_assoc, append-nil, length-append}
+use Rattle.std.proofs.Common.{◌≡◌, ℕ, ◌+◌, Bool, true, false, cond, not, ◌&&◌, nat_lt, List, [], ◌∷◌, ◌++◌, length, slice_get, slice_set, Option, Some, None, option_map, option_and_then, refl, ap, sym, ◌∙◌, arith, append_assoc, append-nil, length-append}
 use Rattle.std.proofs.lemmas.Bool.Decides.{nat_tests}
 use Rattle.std.proofs.lemmas.Bool.{and_parts}
 use Rattle.otlp_types.specs.declared.arrival.Arrival.{Arrival}
@@ -9,7 +9,7 @@ use Rattle.policy_eval.specs.Given.{are_answered}
 use Rattle.journal_theory.specs.Fate.{Effect, no_effect, ◌then◌, DroppedSpan, effect, effect_of_taking, effect_of_decision, effect_of_decisions}
 use Rattle.journal_theory.specs.Marked.{marks_apply_to_ids}
 use Rattle.world_theory.specs.World.{Config, Shard, World as Core, settings, ticker, has_due}
-use Rattle.world_theory.specs.Step.{take as take_step, tick, end, decide, ship, take_on, tick_on, end_on, decide_on, ship_on, sender_is_done, after_decision}
+use Rattle.world_theory.specs.Step.{Step, step, take as take_step, tick, end, decide, ship, take_on, tick_on, end_on, decide_on, ship_on, sender_is_done, after_decision}
 use Rattle.script_run.specs.World.{entry_of}
 use Rattle.script_run.proofs.Answering.{given_to, AreGiven, next_effect}
 use Rattle.script_run.proofs.Stands.{quiet_shard}
@@ -168,54 +168,42 @@ module _ (c : Config) (k : Core) where
     TakesQuietly before after J e = (X : List Arrival) (C : List DroppedSpan)
         → Leads c (among (quiet_shard own before J) X C) (among (quiet_shard own after (e ∷ J)) (X ++ (gain own e J).released) (C ++ (gain own e J).counted))
 
+    -- a step by which a quiet shard takes an entry leads to a quiet shard
+    takes_by : (s : Step) (before after : List Arrival) (J : Journal) (e : Entry) (on : List Arrival → List DroppedSpan → Shard → Option Core) → AreGiven own e J
+        → ((X : List Arrival) (C : List DroppedSpan) → step c (among (quiet_shard own before J) X C) s ≡ option_and_then (on X C) (slice_get (front ++ quiet_shard own before J ∷ rest) (length front)))
+        → ((X : List Arrival) (C : List DroppedSpan) → on X C (quiet_shard own before J)
+        ≡ Some (with_shards (slice_set (front ++ quiet_shard own before J ∷ rest) (length front) (shard after (given_to e [] ∷ J) 0 (effect_of_taking own e J).released)) X (C ++ (effect_of_taking own e J).counted)))
+        → TakesQuietly before after J e
+    takes_by s before after J e on fits steps takes X C = leads_then c _ _ _ (leads_one c _ _ s one) (settles after X J e C fits)
+      where
+        old : Shard
+        old = quiet_shard own before J
+
+        new : Shard
+        new = shard after (given_to e [] ∷ J) 0 (effect_of_taking own e J).released
+
+        one : step c (among old X C) s ≡ Some (among new X (C ++ (effect_of_taking own e J).counted))
+        one = steps X C ∙ (ap (option_and_then (on X C)) (mid_get front old rest) ∙ (takes X C
+            ∙ ap (λ (z : List Shard). Some (with_shards z X (C ++ (effect_of_taking own e J).counted))) (mid_set front old new rest)))
+
     -- a quiet shard takes the first span of its queue
     pub takes_span : (a : Arrival) (q : List Arrival) (J : Journal) (refused lost : Bool) (given : List (List Bool)) → marks_apply_to_ids own J refused lost a.rec.span.ids ≡ true
         → AreGiven own (given_to (entry_of (Span a) refused lost) given) J → TakesQuietly (a ∷ q) q J (given_to (entry_of (Span a) refused lost) given)
-    takes_span a q J refused lost given marks fits X C = leads_then c _ _ _ (leads_one c _ _ (take_step (length front) refused lost) one) (settles q X J e C fits)
-      where
-        e : Entry
-        e = given_to (entry_of (Span a) refused lost) given
-
-        w : Core
-        w = among (quiet_shard own (a ∷ q) J) X C
-
-        one : option_and_then (λ (sh : Shard). take_on c w (length front) refused lost sh sh.queue) (slice_get (front ++ quiet_shard own (a ∷ q) J ∷ rest) (length front))
-            ≡ Some (among (shard q (given_to e [] ∷ J) 0 (effect_of_taking own e J).released) X (C ++ (effect_of_taking own e J).counted))
-        one = ap (option_and_then (λ (sh : Shard). take_on c w (length front) refused lost sh sh.queue)) (mid_get front (quiet_shard own (a ∷ q) J) rest)
-            ∙ (passes (has_due own (quiet_shard own (a ∷ q) J)) (marks_apply_to_ids own J refused lost a.rec.span.ids) _ (nothing_due (a ∷ q) J) marks
-            ∙ ap (λ (z : List Shard). Some (with_shards z X (C ++ (effect_of_taking own e J).counted))) (mid_set front (quiet_shard own (a ∷ q) J) (shard q (given_to e [] ∷ J) 0 (effect_of_taking own e J).released) rest))
+    takes_span a q J refused lost given marks fits = takes_by (take_step (length front) refused lost) (a ∷ q) q J (given_to (entry_of (Span a) refused lost) given)
+        (λ X C sh. take_on c (among (quiet_shard own (a ∷ q) J) X C) (length front) refused lost sh sh.queue) fits (λ X C. refl)
+        (λ X C. passes (has_due own (quiet_shard own (a ∷ q) J)) (marks_apply_to_ids own J refused lost a.rec.span.ids) _ (nothing_due (a ∷ q) J) marks)
 
     -- a quiet shard takes a tick
     pub takes_tick : (moment : ℕ) (q : List Arrival) (J : Journal) (given : List (List Bool)) → has_ended J (ticker k) ≡ false → AreGiven own (given_to (entry_of (Tick moment) false false) given) J
         → TakesQuietly q q J (given_to (entry_of (Tick moment) false false) given)
-    takes_tick moment q J given runs fits X C = leads_then c _ _ _ (leads_one c _ _ (tick (length front) moment) one) (settles q X J e C fits)
-      where
-        e : Entry
-        e = given_to (entry_of (Tick moment) false false) given
-
-        w : Core
-        w = among (quiet_shard own q J) X C
-
-        one : option_and_then (tick_on c w (length front) moment) (slice_get (front ++ quiet_shard own q J ∷ rest) (length front))
-            ≡ Some (among (shard q (given_to e [] ∷ J) 0 (effect_of_taking own e J).released) X (C ++ (effect_of_taking own e J).counted))
-        one = ap (option_and_then (tick_on c w (length front) moment)) (mid_get front (quiet_shard own q J) rest)
-            ∙ (passes_none (has_due own (quiet_shard own q J)) (has_ended J (ticker k)) _ (nothing_due q J) runs
-            ∙ ap (λ (z : List Shard). Some (with_shards z X (C ++ (effect_of_taking own e J).counted))) (mid_set front (quiet_shard own q J) (shard q (given_to e [] ∷ J) 0 (effect_of_taking own e J).released) rest))
+    takes_tick moment q J given runs fits = takes_by (tick (length front) moment) q q J (given_to (entry_of (Tick moment) false false) given)
+        (λ X C. tick_on c (among (quiet_shard own q J) X C) (length front) moment) fits (λ X C. refl)
+        (λ X C. passes_none (has_due own (quiet_shard own q J)) (has_ended J (ticker k)) _ (nothing_due q J) runs)
 
     -- a quiet shard takes an End
     pub takes_end : (sender : ℕ) (q : List Arrival) (J : Journal) (given : List (List Bool)) → has_ended J sender ≡ false → AreGiven own (given_to (entry_of (End sender) false false) given) J
         → ((X : List Arrival) (C : List DroppedSpan) → sender_is_done (among (quiet_shard own q J) X C) (length front) (quiet_shard own q J) sender (slice_get k.lanes sender) ≡ true)
         → TakesQuietly q q J (given_to (entry_of (End sender) false false) given)
-    takes_end sender q J given runs fits done X C = leads_then c _ _ _ (leads_one c _ _ (end (length front) sender) one) (settles q X J e C fits)
-      where
-        e : Entry
-        e = given_to (entry_of (End sender) false false) given
-
-        w : Core
-        w = among (quiet_shard own q J) X C
-
-        one : option_and_then (end_on c w (length front) sender) (slice_get (front ++ quiet_shard own q J ∷ rest) (length front))
-            ≡ Some (among (shard q (given_to e [] ∷ J) 0 (effect_of_taking own e J).released) X (C ++ (effect_of_taking own e J).counted))
-        one = ap (option_and_then (end_on c w (length front) sender)) (mid_get front (quiet_shard own q J) rest)
-            ∙ (passes_third (has_due own (quiet_shard own q J)) (has_ended J sender) (sender_is_done w (length front) (quiet_shard own q J) sender (slice_get k.lanes sender)) _ (nothing_due q J) runs (done X C)
-            ∙ ap (λ (z : List Shard). Some (with_shards z X (C ++ (effect_of_taking own e J).counted))) (mid_set front (quiet_shard own q J) (shard q (given_to e [] ∷ J) 0 (effect_of_taking own e J).released) rest))
+    takes_end sender q J given runs fits done = takes_by (end (length front) sender) q q J (given_to (entry_of (End sender) false false) given)
+        (λ X C. end_on c (among (quiet_shard own q J) X C) (length front) sender) fits (λ X C. refl)
+        (λ X C. passes_third (has_due own (quiet_shard own q J)) (has_ended J sender) _ _ (nothing_due q J) runs (done X C))

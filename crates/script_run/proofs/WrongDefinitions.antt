@@ -1,17 +1,21 @@
 -- Wrong definitions of what a script means, each with a run that breaks a law.
 -- No clause needs them: they show what the laws of `Laws` say. Where a request is read, its body is any that is taken for it.
-use Rattle.std.proofs.Common.{inl, inr, ◌≡◌, ℕ, suc, ◌+◌, Bool, true, false, List, [], ◌∷◌, length, map, filter, flat_map, slice_get, Some, refl, ap, subst, ◌∙◌, arith}
+use Rattle.std.proofs.Common.{inl, inr, ◌≡◌, ℕ, suc, ◌+◌, Bool, true, false, List, [], ◌∷◌, ◌++◌, length, map, filter, flat_map, slice_get, Some, refl, sym, ap, subst, ◌∙◌, arith, append-nil}
 use Rattle.std.specs.Prelude.{if◌then◌else◌, IsTrue}
 use Rattle.std.specs.List.{list_all, AllByRecursion}
 use Rattle.otlp_types.specs.declared.arrival.Arrival.{Arrival}
+use Rattle.otlp_types.specs.declared.arrival.Item.{Item}
 use Rattle.otlp_types.specs.declared.arrival.Item.TheVariants.{Span, Tick, End}
 use Rattle.otlp_types.specs.declared.request.Request.{Request}
 use Rattle.span_ids.specs.declared.outcome.Reason.TheVariants.{NoMemory}
 use Rattle.drop_ledger.specs.declared.count.Count.{Count}
 use Rattle.drop_ledger.specs.declared.count.Count.TheVariants.{Handed}
+use Rattle.lane_queue.specs.Queues.{QueueState, TakesLast, IsFull}
+use Rattle.lane_seq.specs.Pushes.{Receives as IsPushed}
 use Rattle.lane_seq.specs.declared.reply.Reply.TheVariants.{Done, Busy}
 use Rattle.journal_theory.specs.Journal.{Settings, Journal, Entry, notes, have_ended}
 use Rattle.span_sink.specs.LineSinks.{LineSinkState}
+use Rattle.span_exporter.specs.Exports.{WritesLine}
 use Rattle.span_exporter.specs.declared.answer.Flushed.{Flushed}
 use Rattle.span_exporter.specs.declared.answer.Flushed.TheVariants.{Handed as WasHanded, Spoiled, Empty}
 use Rattle.world_theory.specs.World.{Lane, Shard, World as Core, new_world as new_core, settings}
@@ -23,9 +27,9 @@ use Rattle.world_theory.proofs.Balance.{same_settings}
 use Rattle.world_theory.proofs.OnePlace.{run_keeps}
 use Rattle.world_theory.proofs.AllAnswered.{answered_new}
 use Rattle.tsc_script.specs.Instructions.{Instruction, receive, tick}
-use Rattle.script_run.specs.Connections.{Contacts, with_connection, with_received}
-use Rattle.script_run.specs.Requests.{reads, refuses, IsTakenFor, reply_line}
-use Rattle.script_run.specs.World.{World, Event, replied, was_sent, Sizes, new_world, Plays, PlaysAll, RunsToQuiet, entry_of, ends_from}
+use Rattle.script_run.specs.Connections.{Contacts, connection_of, with_connection, with_received}
+use Rattle.script_run.specs.Requests.{reads, refuses, IsTakenFor, arrivals_of, reply_line}
+use Rattle.script_run.specs.World.{World, Event, replied, was_sent, Sizes, new_world, Plays, PlaysAll, TakesRounds, RunsToQuiet, empty_queues, entry_of, ends_from}
 use Rattle.script_run.specs.Counts.{number_of}
 use Rattle.script_run.specs.Calm.{is_for_memory, IsUnmarked, Calm}
 use Rattle.script_run.specs.Writing.{handed_in}
@@ -54,6 +58,28 @@ busy_line = reply_line Busy
 abbrev busy_written : LineSinkState
 busy_written = record { taken = Some busy_line; failures = 0; is_down = false }
 
+-- a sink that is up takes a line
+abbrev pub up_with : List ℕ → LineSinkState
+up_with taken = record { taken = Some taken; failures = 0; is_down = false }
+
+pub writes : (taken line : List ℕ) → WritesLine (up_with taken) line (up_with (taken ++ line))
+writes taken line = inl (record { was_up = refl; stays_up = refl; no_failure = refl; bytes = refl })
+
+-- what the shard takes releases nothing
+pub silent : (sizes : Sizes) (old : World) (journals : List Journal) (rounds : List (List (List Item))) → TakesRounds own old.journals old.askings rounds journals old.askings []
+    → RunsToQuiet own sizes old rounds (record old { journals = journals })
+silent sizes old journals rounds takes = record {
+  released = [];
+  takes = takes;
+  batches = [];
+  sends = record { are_batches = tt; are_all = refl; sends = refl };
+  becomes = ap (λ (events : List Event). record old { journals = journals; events = events }) (sym (append-nil old.events));
+}
+
+-- it takes nothing
+stays : (w : World) → RunsToQuiet own (with_queue 1) w [] w
+stays w = silent (with_queue 1) w w.journals [] (refl, refl, refl)
+
 -- ---- a script in which a request was refused as busy is calm, too
 
 abbrev is_refusal_but_busy : Event → Bool
@@ -81,41 +107,10 @@ busy_connected = record busy_unconnected { contacts = with_connection 0 start.co
 
 -- the first is busy before there was a connection, and the second behind one
 unconnected_played : PlaysAll own (with_queue 1) start (receive 0 0 [] ∷ []) busy_unconnected
-unconnected_played = (
-  busy_unconnected,
-  (
-    refl,
-    refl,
-    inl (
-      refl,
-      (
-        busy_written,
-        inl (record { was_up = refl; stays_up = refl; no_failure = refl; bytes = refl }),
-        record { released = []; takes = (refl, refl, refl); batches = []; sends = record { are_batches = tt; are_all = refl; sends = refl }; becomes = refl },
-      ),
-    ),
-  ),
-  refl,
-)
+unconnected_played = (busy_unconnected, (refl, refl, inl (refl, (busy_written, writes [] busy_line, stays busy_unconnected))), refl)
 
 connected_played : PlaysAll own (with_queue 1) start (receive 0 0 [] ∷ []) busy_connected
-connected_played = (
-  busy_connected,
-  (
-    refl,
-    refl,
-    inr (
-      refuses Busy,
-      tt,
-      (
-        busy_written,
-        inl (record { was_up = refl; stays_up = refl; no_failure = refl; bytes = refl }),
-        record { released = []; takes = (refl, refl, refl); batches = []; sends = record { are_batches = tt; are_all = refl; sends = refl }; becomes = refl },
-      ),
-    ),
-  ),
-  refl,
-)
+connected_played = (busy_connected, (refl, refl, inr (refuses Busy, tt, (busy_written, writes [] busy_line, stays busy_connected))), refl)
 
 busy_is_calm : RunsAgreeWhere CalmThoughBusy → ⊥
 busy_is_calm law =
@@ -133,23 +128,11 @@ FailedTwice first last = last.failures ≡ first.failures + (if last.is_down the
 abbrev failed : World
 failed = record start { events = replied Busy ∷ []; sink = record { taken = Some []; failures = 1; is_down = true } }
 
+failed_written : WritesLine first_sink busy_line failed.sink
+failed_written = inr (inl (record { was_up = refl; goes_down = refl; one_failure = refl; part = []; missing = busy_line; split = refl; cut_short = omega arith; bytes = refl }))
+
 failed_played : PlaysAll own (with_queue 1) start (receive 0 0 [] ∷ []) failed
-failed_played = (
-  failed,
-  (
-    refl,
-    refl,
-    inl (
-      refl,
-      (
-        failed.sink,
-        inr (inl (record { was_up = refl; goes_down = refl; one_failure = refl; part = []; missing = busy_line; split = refl; cut_short = omega arith; bytes = refl })),
-        record { released = []; takes = (refl, refl, refl); batches = []; sends = record { are_batches = tt; are_all = refl; sends = refl }; becomes = refl },
-      ),
-    ),
-  ),
-  refl,
-)
+failed_played = (failed, (refl, refl, inl (refl, (failed.sink, failed_written, stays failed))), refl)
 
 fails_twice : FailedTwice first_sink failed.sink → ⊥
 fails_twice law = let z : 1 ≡ 2 = law in absurd (omega (arith, z))
@@ -218,26 +201,23 @@ spoiled = record waiting_world {
   events = replied (Done 1) ∷ was_sent (record { batch = span ∷ []; flushed = Spoiled 1 NoMemory }) ∷ [];
 }
 
+-- the span is pushed to the shard's queue
+abbrev pub queued_span : QueueState Item
+queued_span = record { items = Span span ∷ []; capacity = 1 }
+
+abbrev pub span_pushed : IsPushed TakesLast IsFull (arrivals_of (connection_of 0 start.contacts) 0 of_one_span) (empty_queues 1 1) (Done 1) (queued_span ∷ [])
+span_pushed = record {
+  refused = 0;
+  pushed = (0, 0, queued_span ∷ [], refl, inl (refl, (record { items = []; capacity = 1 }, queued_span, refl, (omega arith, refl), refl)), (refl, refl));
+  replied = (refl, refl);
+}
+
 waiting_played : (body : List ℕ) → IsTakenFor body (reads of_one_span) → Plays own (with_queue 1) start (receive 0 0 body) waiting_world
 unfolding notes
-waiting_played body taken = (
-  refl,
-  refl,
-  inr (
-    reads of_one_span,
-    taken,
-    (
-      Done 1,
-      record { items = Span span ∷ []; capacity = 1 } ∷ [],
-      record { refused = 0; pushed = (0, 0, record { items = Span span ∷ []; capacity = 1 } ∷ [], refl, inl (refl, (record { items = []; capacity = 1 }, record { items = Span span ∷ []; capacity = 1 }, refl, (omega arith, refl), refl)), (refl, refl)); replied = (refl, refl) },
-      (
-        waiting_world.sink,
-        inl (record { was_up = refl; stays_up = refl; no_failure = refl; bytes = refl }),
-        record { released = []; takes = (waiting_world.journals, [], [], [], ([], [], [], ((false, false, refl, refl), refl), (refl, refl), refl), (refl, refl, refl), refl); batches = []; sends = record { are_batches = tt; are_all = refl; sends = refl }; becomes = refl },
-      ),
-    ),
-  ),
-)
+waiting_played body taken = (refl, refl, inr (reads of_one_span, taken, (Done 1, queued_span ∷ [], span_pushed, (waiting_world.sink, writes [] done_line, silent (with_queue 1) (record waiting_world { journals = start.journals }) waiting_world.journals _ takes))))
+  where
+    takes : TakesRounds own start.journals [] (((Span span ∷ []) ∷ []) ∷ []) waiting_world.journals [] []
+    takes = (waiting_world.journals, [], [], [], ([], [], [], ((false, false, refl, refl), refl), (refl, refl), refl), (refl, refl, refl), refl)
 
 spoiled_played : (body : List ℕ) → IsTakenFor body (reads of_one_span) → PlaysAll own (with_queue 1) start (receive 0 0 body ∷ tick 11 ∷ []) spoiled
 unfolding notes
@@ -304,13 +284,8 @@ never_ended = record start { journals = (entry_of (End 0) false false ∷ []) �
 
 never_ended_played : RunsToQuiet own (with_queue 1) (record start { closed = true }) (ends_from 0 (length start.contacts.connected) start.journals) never_ended
 unfolding notes
-never_ended_played = record {
-  released = [];
-  takes = (never_ended.journals, [], [], [], ([], [], [], ((false, false, refl, refl), refl), (refl, refl), refl), (refl, refl, refl), refl);
-  batches = [];
-  sends = record { are_batches = tt; are_all = refl; sends = refl };
-  becomes = refl;
-}
+never_ended_played = silent (with_queue 1) (record start { closed = true }) never_ended.journals (ends_from 0 (length start.contacts.connected) start.journals)
+    (never_ended.journals, [], [], [], ([], [], [], ((false, false, refl, refl), refl), (refl, refl), refl), (refl, refl, refl), refl)
 
 ticker_never_ends : IsRunBy number_of handed_in own (with_queue 1) 1 1 never_ended → ⊥
 ticker_never_ends law =

@@ -1,6 +1,6 @@
 -- More wrong definitions of what a script means, each with a run that breaks the law that each script is a run of the core.
 -- No clause needs them, as with those of `WrongDefinitions`.
-use Rattle.std.proofs.Common.{inl, inr, ◌≡◌, ℕ, ◌+◌, ◌&&◌, ◌||◌, Bool, true, false, not, cond, List, [], ◌∷◌, ◌++◌, length, map, filter, flat_map, slice_get, Some, refl, ap, sym, subst, ◌∙◌, arith}
+use Rattle.std.proofs.Common.{inr, ◌≡◌, ℕ, ◌+◌, ◌&&◌, ◌||◌, Bool, true, false, not, cond, List, [], ◌∷◌, ◌++◌, length, map, filter, flat_map, slice_get, Some, refl, ap, sym, subst, ◌∙◌, arith}
 use Rattle.std.specs.Prelude.{IsTrue}
 use Rattle.std.specs.List.{list_all, list_any, sum_by}
 use Rattle.world_theory.proofs.WaitingPlaces.{not_waiting, buffered_waits}
@@ -11,6 +11,8 @@ use Rattle.span_ids.specs.declared.outcome.Reason.{Reason}
 use Rattle.span_ids.specs.declared.outcome.Reason.TheVariants.{InvalidId, QueueFull, NoMemory, Evicted, NotSampled, LateNotSampled, ExporterDown}
 use Rattle.drop_ledger.specs.declared.count.Count.{Count}
 use Rattle.drop_ledger.specs.declared.count.Count.TheVariants.{Received, Dropped}
+use Rattle.lane_queue.specs.Queues.{TakesLast, IsFull}
+use Rattle.lane_seq.specs.Pushes.{Receives as IsPushed}
 use Rattle.lane_seq.specs.declared.reply.Reply.{Reply}
 use Rattle.lane_seq.specs.declared.reply.Reply.TheVariants.{Done, Partial}
 use Rattle.journal_theory.specs.Journal.{Settings, Journal, notes}
@@ -23,11 +25,11 @@ use Rattle.world_theory.proofs.Samples.{ids_of, key}
 use Rattle.tsc_script.specs.Instructions.{receive, close}
 use Rattle.script_run.specs.Connections.{connection_of, with_received}
 use Rattle.script_run.specs.Requests.{reads, IsTakenFor, arrivals_of, reply_line}
-use Rattle.script_run.specs.World.{World, replied, Plays, PlaysAll, Receives, RepliesAndRuns, empty_queues, entry_of}
+use Rattle.script_run.specs.World.{World, replied, Plays, PlaysAll, Receives, RepliesAndRuns, TakesRounds, empty_queues, entry_of}
 use Rattle.script_run.specs.Counts.{counted_at_lanes, counted_at_shards, counted_at, number_of}
 use Rattle.script_run.specs.Writing.{handed_in}
 use Rattle.script_run.specs.CoreRun.{core_config, is_quiet}
-use Rattle.script_run.proofs.WrongDefinitions.{own, with_queue, start, span, of_one_span, done_line, IsRunBy, some_lane, one_shard, own_settings}
+use Rattle.script_run.proofs.WrongDefinitions.{own, with_queue, start, writes, silent, span, of_one_span, done_line, queued_span, span_pushed, IsRunBy, some_lane, one_shard, own_settings}
 
 -- ---- what was received uses no numbers of its connection
 
@@ -59,21 +61,17 @@ used_again = record used_once {
   sink = record { taken = Some (full_line ++ full_line); failures = 0; is_down = false };
 }
 
+-- the shard takes nothing in a round
+idle_round : TakesRounds own ([] ∷ []) [] (([] ∷ []) ∷ []) ([] ∷ []) [] []
+idle_round = ([] ∷ [], [], [], [], ([], [], [], (refl, refl), (refl, refl), refl), (refl, refl, refl), refl)
+
 used_once_played : RepliesAndRuns own (with_queue 0) (received_again start) full_reply (([] ∷ []) ∷ []) used_once
 unfolding notes
-used_once_played = (
-  used_once.sink,
-  inl (record { was_up = refl; stays_up = refl; no_failure = refl; bytes = refl }),
-  record { released = []; takes = (used_once.journals, [], [], [], ([], [], [], (refl, refl), (refl, refl), refl), (refl, refl, refl), refl); batches = []; sends = record { are_batches = tt; are_all = refl; sends = refl }; becomes = refl },
-)
+used_once_played = (used_once.sink, writes [] full_line, silent (with_queue 0) used_once ([] ∷ []) _ idle_round)
 
 used_again_played : RepliesAndRuns own (with_queue 0) (received_again used_once) full_reply (([] ∷ []) ∷ []) used_again
 unfolding notes
-used_again_played = (
-  used_again.sink,
-  inl (record { was_up = refl; stays_up = refl; no_failure = refl; bytes = refl }),
-  record { released = []; takes = (used_again.journals, [], [], [], ([], [], [], (refl, refl), (refl, refl), refl), (refl, refl, refl), refl); batches = []; sends = record { are_batches = tt; are_all = refl; sends = refl }; becomes = refl },
-)
+used_again_played = (used_again.sink, writes full_line full_line, silent (with_queue 0) used_again ([] ∷ []) _ idle_round)
 
 numbers_used_again : IsRunBy number_of handed_in own (with_queue 0) 1 1 used_again → ⊥
 numbers_used_again law =
@@ -96,28 +94,10 @@ full_world = record used_once { contacts = with_received 0 1 start.contacts }
 
 full_played : (body : List ℕ) → IsTakenFor body (reads of_one_span) → PlaysAll own (with_queue 0) start (receive 0 0 body ∷ []) full_world
 unfolding notes
-full_played body taken = (
-  full_world,
-  (
-    refl,
-    refl,
-    inr (
-      reads of_one_span,
-      taken,
-      (
-        full_reply,
-        empty_queues 0 1,
-        record { refused = 1; pushed = (1, 0, empty_queues 0 1, refl, inr (refl, (record { items = []; capacity = 0 }, record { items = []; capacity = 0 }, refl, (refl, refl), refl)), (refl, refl)); replied = (refl, refl, refl, omega arith) },
-        (
-          full_world.sink,
-          inl (record { was_up = refl; stays_up = refl; no_failure = refl; bytes = refl }),
-          record { released = []; takes = (full_world.journals, [], [], [], ([], [], [], (refl, refl), (refl, refl), refl), (refl, refl, refl), refl); batches = []; sends = record { are_batches = tt; are_all = refl; sends = refl }; becomes = refl },
-        ),
-      ),
-    ),
-  ),
-  refl,
-)
+full_played body taken = (full_world, (refl, refl, inr (reads of_one_span, taken, (full_reply, empty_queues 0 1, refused, (full_world.sink, writes [] full_line, silent (with_queue 0) full_world ([] ∷ []) _ idle_round)))), refl)
+  where
+    refused : IsPushed TakesLast IsFull (arrivals_of (connection_of 0 start.contacts) 0 of_one_span) (empty_queues 0 1) full_reply (empty_queues 0 1)
+    refused = record { refused = 1; pushed = (1, 0, empty_queues 0 1, refl, inr (refl, (record { items = []; capacity = 0 }, record { items = []; capacity = 0 }, refl, (refl, refl), refl)), (refl, refl)); replied = (refl, refl, refl, omega arith) }
 
 -- a list of counts in which no reason has one is empty
 none_counted : (counted : List DroppedSpan) → ((r : Reason) → length (under r counted) ≡ 0) → counted ≡ []
@@ -194,21 +174,15 @@ close_played : Plays own (with_queue 1) start close closed_world
 unfolding notes
 close_played = (
   refl,
-  record {
-    released = [];
-    takes = (
-      (entry_of (End 0) false false ∷ []) ∷ [],
-      [],
-      [],
-      [],
-      ([], [], [], ((false, false, refl, refl), refl), (refl, refl), refl),
-      (closed_world.journals, [], [], [], ([], [], [], ((false, false, refl, refl), refl), (refl, refl), refl), (refl, refl, refl), refl),
-      refl,
-    );
-    batches = [];
-    sends = record { are_batches = tt; are_all = refl; sends = refl };
-    becomes = refl;
-  },
+  silent (with_queue 1) (record start { closed = true }) closed_world.journals _ (
+    (entry_of (End 0) false false ∷ []) ∷ [],
+    [],
+    [],
+    [],
+    ([], [], [], ((false, false, refl, refl), refl), (refl, refl), refl),
+    (closed_world.journals, [], [], [], ([], [], [], ((false, false, refl, refl), refl), (refl, refl), refl), (refl, refl, refl), refl),
+    refl,
+  ),
 )
 
 -- a request is read where nothing asks whether the script was closed
@@ -223,20 +197,10 @@ late_world = record closed_world {
 
 late_played : (body : List ℕ) → IsTakenFor body (reads of_one_span) → Receives own (with_queue 1) closed_world 0 0 body late_world
 unfolding notes
-late_played body taken = inr (
-  reads of_one_span,
-  taken,
-  (
-    Done 1,
-    record { items = Span span ∷ []; capacity = 1 } ∷ [],
-    record { refused = 0; pushed = (0, 0, record { items = Span span ∷ []; capacity = 1 } ∷ [], refl, inl (refl, (record { items = []; capacity = 1 }, record { items = Span span ∷ []; capacity = 1 }, refl, (omega arith, refl), refl)), (refl, refl)); replied = (refl, refl) },
-    (
-      late_world.sink,
-      inl (record { was_up = refl; stays_up = refl; no_failure = refl; bytes = refl }),
-      record { released = []; takes = (late_world.journals, [], [], [], ([], [], [], ((false, false, refl, refl), refl), (refl, refl), refl), (refl, refl, refl), refl); batches = []; sends = record { are_batches = tt; are_all = refl; sends = refl }; becomes = refl },
-    ),
-  ),
-)
+late_played body taken = inr (reads of_one_span, taken, (Done 1, queued_span ∷ [], span_pushed, (late_world.sink, writes [] done_line, silent (with_queue 1) (record late_world { journals = ends ∷ [] }) late_world.journals _ takes)))
+  where
+    takes : TakesRounds own (ends ∷ []) [] (((Span span ∷ []) ∷ []) ∷ []) late_world.journals [] []
+    takes = (late_world.journals, [], [], [], ([], [], [], ((false, false, refl, refl), refl), (refl, refl), refl), (refl, refl, refl), refl)
 
 abbrev fate_by : Settings → Journal → Fate
 fate_by s past = fate s past ends false (ids_of 1)
