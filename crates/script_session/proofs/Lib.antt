@@ -3,6 +3,7 @@ pub mod Replies
 pub mod Numbers
 pub mod Pulls
 pub mod Nodes
+pub mod Kept
 pub mod Decides
 pub mod Runs
 pub mod Several

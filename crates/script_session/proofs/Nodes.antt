@@ -1,6 +1,6 @@
 -- The limiter goes on having the nodes of the shards' policies.
 -- For the clauses `nodes` of the functions that decide.
-use Rattle.std.proofs.Common.{◌≡◌, ℕ, Bool, true, List, [], ◌∷◌, refl, ap, subst, ◌∙◌}
+use Rattle.std.proofs.Common.{◌≡◌, ℕ, Bool, true, List, [], ◌∷◌, refl, sym, ap, subst, ◌∙◌}
 use Rattle.std.specs.List.{list_all}
 use Rattle.std.proofs.lemmas.Bool.{and_parts}
 use mathlib.Core.Path.{fun_ext}
@@ -39,14 +39,28 @@ first-nodes limiter h hs has = (and_parts (has_nodes_of limiter h) (has_all_node
 pub rest-nodes : (limiter : Counts) (h : Held) (hs : List Held) → has_all_nodes limiter (h ∷ hs) ≡ true → has_all_nodes limiter hs ≡ true
 rest-nodes limiter h hs has = (and_parts (has_nodes_of limiter h) (has_all_nodes limiter hs) has).1
 
+pub nodes-cons : (limiter : Counts) (h : Held) (hs : List Held) → has_nodes_of limiter h ≡ true → has_all_nodes limiter hs ≡ true → has_all_nodes limiter (h ∷ hs) ≡ true
+nodes-cons limiter h hs one others = rw one others
+
+-- of those that were lent
+pub lent-nodes : (limiter : Counts) (hs lent : List Held) → lent ≡ hs → has_all_nodes limiter hs ≡ true → has_all_nodes limiter lent ≡ true
+lent-nodes limiter hs lent is has = let P = λ (shards : List Held). has_all_nodes limiter shards ≡ true in subst P (sym is) has
+
+-- of the first
+pub first_has_nodes : (limiter : Counts) (h : Held) (hs all : List Held) → all ≡ h ∷ hs → has_all_nodes limiter all ≡ true → has_nodes_of limiter h ≡ true
+first_has_nodes limiter h hs all is has = let P = λ (shards : List Held). has_all_nodes limiter shards ≡ true in first-nodes limiter h hs (subst P is has)
+
+-- of all, once the first has decided, and then the others
+pub all_have_nodes : (old mid new : Counts) (h k : Held) (hs ks all : List Held) → all ≡ h ∷ hs → has_all_nodes old all ≡ true → SameNodes old mid → SameNodes mid new → settings k ≡ settings h → has_all_nodes new ks ≡ true
+    → has_all_nodes new (k ∷ ks) ≡ true
+all_have_nodes old mid new h k hs ks all is has first others set later =
+    nodes-cons new k ks (nodes-kept old new h k (nodes-then old mid new first others) set (first_has_nodes old h hs all is has)) later
+
 -- the others, once the first has decided
 pub others_have_nodes : (old new : Counts) (h : Held) (hs all : List Held) → all ≡ h ∷ hs → ((node : ℕ) → has_node new node ≡ has_node old node) → has_all_nodes old all ≡ true → has_all_nodes new hs ≡ true
 others_have_nodes old new h hs all is same has =
     let P = λ (shards : List Held). has_all_nodes old shards ≡ true in
     all-nodes-kept old new hs same (rest-nodes old h hs (subst P is has))
-
-pub nodes-cons : (limiter : Counts) (h : Held) (hs : List Held) → has_nodes_of limiter h ≡ true → has_all_nodes limiter hs ≡ true → has_all_nodes limiter (h ∷ hs) ≡ true
-nodes-cons limiter h hs one others = rw one others
 
 -- a new limiter has them
 pub nodes-new : (s : Settings) (limiter : Counts) (hs : List Held) → limiter ≡ limiter_counts s.policies [] → HaveSettings s hs → has_all_nodes limiter hs ≡ true

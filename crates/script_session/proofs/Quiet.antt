@@ -1,8 +1,11 @@
 -- A line of a script leaves all quiet.
 use Rattle.std.proofs.Common.{add-one, suc, replicate, ◌≡◌, ℕ, ◌+◌, ◌<◌, Bool, true, false, Option, Some, None, List, [], ◌∷◌, ◌++◌, map, length, refl, sym, ap, subst, ◌∙◌, arith}
-use Rattle.std.specs.Prelude.{not, ◌&&◌}
+use Rattle.std.proofs.lemmas.List.{with_items_is}
+use Rattle.std.specs.Prelude.{not, ◌&&◌, Vec}
 use Rattle.std.specs.List.{list_all}
+use Rattle.std.specs.Vec.{with_items}
 use Rattle.otlp_types.specs.declared.arrival.Item.{Item}
+use Rattle.lane_queue.specs.Queues.{QueueState}
 use Rattle.journal_theory.specs.Journal.{Settings, Journal}
 use Rattle.shard_core.specs.Held.{Held, has_due}
 use Rattle.span_sink.specs.LineSinks.{LineSinkState}
@@ -11,10 +14,10 @@ use Rattle.span_exporter.specs.Exports.{ExporterState, Sends}
 use Rattle.tsc_script.specs.Instructions.{Instruction}
 use Rattle.script_run.specs.Connections.{Contacts}
 use Rattle.script_run.specs.Sending.{SendsInBatches}
-use Rattle.script_run.specs.World.{World, Sizes, was_sent, RunsToQuiet, Plays, PlaysAll}
+use Rattle.script_run.specs.World.{World, Sizes, was_sent, RunsToQuiet, Plays, PlaysAll, empty_queues}
 use Rattle.script_run.specs.Counts.{number_of, counted_for, Reports}
 use Rattle.script_session.specs.Adding.{Adds, at_reasons, counted_in}
-use Rattle.script_session.specs.Pulling.{Export, Counts, HaveReleased, HaveSettings, AreQuiet, AreOpen, ends_of, has_none_due, ends_in, EachTakes, RoundsTaken, AreOf}
+use Rattle.script_session.specs.Pulling.{Export, Counts, HaveReleased, HaveSettings, AreQuiet, AreOpen, ends_of, has_all_nodes, has_none_due, ends_in, EachTakes, RoundsTaken, AreOf}
 use Rattle.script_session.proofs.Adds.{Adds-then, Reports-grow}
 use Rattle.script_session.proofs.Numbers.{number-quiet}
 use Rattle.script_session.proofs.Pulls.{sent-in_batches}
@@ -131,3 +134,38 @@ ends-now lanes closed later shards now is same q =
     let P = λ (hs : List Held). ends_in hs ≡ map (λ (h : Held). ends_of lanes later) hs in
     let E = λ (b : Bool). ends_in shards ≡ map (λ (h : Held). ends_of lanes b) shards in
     subst P (sym is) (subst E (sym same) (ends-are (ends_of lanes closed) shards q))
+
+-- ---- shards that were lent as a slice
+
+-- what those that came back are, the vector is
+pub returned : {Z : Type 0} (v : Vec Held Z) (new : List Held) → length new ≡ v.len → (P : List Held → Type 0) → P new → P (with_items v new).items
+returned v new len P h = subst P (sym (with_items_is v new len)) h
+
+-- what they took, the vector's took, which have the settings that they had
+pub told : {Z : Type 0} (s : Settings) (v : Vec Held Z) (lent new : List Held) (first last : Counts) (rounds : List (List (List Item))) (before after : Export) → lent ≡ v.items → length new ≡ v.len
+    → RoundsTaken lent first before rounds new last after → (HaveSettings s lent → HaveSettings s new) → HaveSettings s v.items
+    → RoundsTaken v.items first before rounds (with_items v new).items last after × HaveSettings s (with_items v new).items
+told s v lent new first last rounds before after is len took alike had =
+    let T = λ (hs : List Held). RoundsTaken hs first before rounds new last after in
+    let N = λ (hs : List Held). RoundsTaken v.items first before rounds hs last after in
+    let H = λ (hs : List Held). HaveSettings s hs in
+    (returned v new len N (subst T is took), returned v new len H (alike (subst H (sym is) had)))
+
+-- what a session says of its shards
+pub record Standing (limiter : Counts) (lanes : ℕ) (closed : Bool) (queues : List (QueueState Item)) (capacity : ℕ) (hs : List Held) : Type 0 where
+  pub nodes : has_all_nodes limiter hs ≡ true
+  pub none_due : has_none_due hs ≡ true
+  pub ends : ends_in hs ≡ map (λ (h : Held). ends_of lanes closed) hs
+  pub some : 0 < length hs
+  pub empty : queues ≡ empty_queues capacity (length hs)
+
+-- it goes on saying so of quiet shards, of which there are as many
+pub standing : (limiter : Counts) (lanes : ℕ) (closed later : Bool) (queues : List (QueueState Item)) (capacity : ℕ) (old new : List Held) → has_all_nodes limiter new ≡ true → AreQuiet (ends_of lanes closed) new → later ≡ closed
+    → length new ≡ length old → 0 < length old → queues ≡ empty_queues capacity (length old) → Standing limiter lanes later queues capacity new
+standing limiter lanes closed later queues capacity old new nodes quiet same many some empty = record {
+  nodes = nodes;
+  none_due = none-due (ends_of lanes closed) new quiet;
+  ends = ends-now lanes closed later new new refl same quiet;
+  some = omega (arith, many, some);
+  empty = empty ∙ ap (empty_queues capacity) (sym many);
+}

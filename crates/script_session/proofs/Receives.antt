@@ -1,5 +1,6 @@
 -- A request is answered, and what it gives is counted.
-use Rattle.std.proofs.Common.{◌≡◌, ℕ, ◌+◌, ◌<◌, Bool, true, false, List, Option, [], ◌∷◌, length, refl, sym, ap, subst, ◌∙◌, inl, inr, arith}
+use Rattle.std.proofs.Common.{◌≡◌, ℕ, ◌+◌, ◌<◌, Bool, true, false, List, Option, [], ◌∷◌, ◌++◌, length, refl, sym, ap, subst, ◌∙◌, inl, inr, arith}
+use Rattle.otlp_types.specs.declared.arrival.Arrival.{Arrival}
 use Rattle.otlp_types.specs.declared.arrival.Item.{Item}
 use Rattle.lane_queue.specs.Queues.{QueueState}
 use Rattle.lane_seq.specs.declared.reply.Reply.{Reply}
@@ -13,9 +14,9 @@ use Rattle.span_sink.specs.LineSinks.{LineSinkState}
 use Rattle.span_exporter.specs.declared.answer.Flushed.{Flushed}
 use Rattle.span_exporter.specs.Exports.{ExporterState, Sends, WritesLine}
 use Rattle.drop_ledger.specs.declared.count.Count.{Count}
-use Rattle.script_run.specs.Connections.{Contacts, connection_of, with_connection}
+use Rattle.script_run.specs.Connections.{Contacts, connection_of, with_connection, with_received}
 use Rattle.script_run.specs.Requests.{IsTakenFor, reply_line, reads, refuses, arrivals_of}
-use Rattle.script_run.specs.World.{World, Sizes, RunsToQuiet, RepliesAndRuns, Receives, after_reply, after_receiving, empty_queues}
+use Rattle.script_run.specs.World.{World, Sizes, RunsToQuiet, RepliesAndRuns, Receives, after_reply, empty_queues}
 use Rattle.script_run.specs.Counts.{number_of, counted_for}
 use Rattle.script_session.specs.Adding.{Adds}
 use Rattle.script_session.specs.Submitting.{Submits, is_received, received_by}
@@ -54,50 +55,39 @@ module _ (s : Settings) (sizes : Sizes) (w : World) (number moment : ℕ) (body 
       plus : (n m : ℕ) → m ≡ 0 → n ≡ n + m
       plus n m e = omega arith
 
+  -- from the world that has these connections, spans and refusals on
+  from : (contacts : Contacts) (received : List Arrival) (full : ℕ) → (let mid : World = record w { contacts = contacts; received = received; full = full } in
+      later ≡ contacts → ((k : Count) → number_of s mid k ≡ number_of s w k + received_by reply k) → (played : List (List (List Item))) → rounds ≡ played
+      → ((sink : LineSinkState) (end : World) → WritesLine w.sink (reply_line reply) sink → RunsToQuiet s sizes (after_reply reply sink mid) played end → Receives s sizes w number moment body end)
+      → Answered s sizes w number moment body reply rounds later)
+  from contacts received full is numbers played same leads =
+      let mid : World = record w { contacts = contacts; received = received; full = full } in
+      record {
+        mid = mid;
+        contacts = is;
+        journals = refl;
+        askings = refl;
+        closed = refl;
+        numbers = numbers;
+        leads = λ sink end line runs.
+            let P = λ (r : List (List (List Item))). RunsToQuiet s sizes (after_reply reply sink mid) r end in
+            leads sink end line (subst P same runs);
+      }
+
   pub answered : Submits w.contacts number moment body (empty_queues sizes.queue (length w.journals)) reply after later → Answered s sizes w number moment body reply rounds later
   answered (inl d) =
       let refuses_it : is_received reply ≡ false = ap is_received d.1 in
-      record {
-        mid = w;
-        contacts = d.3;
-        journals = refl;
-        askings = refl;
-        closed = refl;
-        numbers = none-counted w refuses_it (λ k. refl);
-        leads = λ sink end line runs.
-            let P = λ (r : List (List (List Item))). RunsToQuiet s sizes (after_reply reply sink w) r end in
-            let B = λ (r : Reply). RepliesAndRuns s sizes w r [] end in
-            inl (d.0, subst B d.1 (sink, line, subst P (on_refused refuses_it) runs));
-      }
+      from w.contacts w.received w.full d.3 (none-counted w refuses_it (λ k. refl)) [] (on_refused refuses_it)
+      (λ sink end line runs. let B = λ (r : Reply). RepliesAndRuns s sizes w r [] end in inl (d.0, subst B d.1 (sink, line, runs)))
   answered (inr (inl d)) =
       let refuses_it = not-read body reply d.0 in
-      let mid : World = record w { contacts = with_connection number w.contacts } in
-      record {
-        mid = mid;
-        contacts = d.2;
-        journals = refl;
-        askings = refl;
-        closed = refl;
-        numbers = none-counted mid refuses_it (λ k. refl);
-        leads = λ sink end line runs.
-            let P = λ (r : List (List (List Item))). RunsToQuiet s sizes (after_reply reply sink mid) r end in
-            inr (refuses reply, d.0, (sink, line, subst P (on_refused refuses_it) runs));
-      }
+      let connected = with_connection number w.contacts in
+      from connected w.received w.full d.2 (none-counted (record w { contacts = connected }) refuses_it (λ k. refl)) [] (on_refused refuses_it)
+      (λ sink end line runs. inr (refuses reply, d.0, (sink, line, runs)))
   answered (inr (inr d)) =
       let arrivals = arrivals_of (connection_of number w.contacts) moment d.0 in
-      let mid = after_receiving number arrivals d.2.refused w in
-      let reads_it = was-read _ _ d.2.refused reply d.2.replied in
-      record {
-        mid = mid;
-        contacts = d.3;
-        journals = refl;
-        askings = refl;
-        closed = refl;
-        numbers = number-received s w number arrivals d.2.refused reply d.2.replied;
-        leads = λ sink end line runs.
-            let P = λ (r : List (List (List Item))). RunsToQuiet s sizes (after_reply reply sink mid) r end in
-            inr (reads d.0, d.1, (reply, after, d.2, (sink, line, subst P (on_read reads_it) runs)));
-      }
+      from (with_received number (length arrivals) w.contacts) (w.received ++ arrivals) (w.full + d.2.refused) d.3 (number-received s w number arrivals d.2.refused reply d.2.replied) (items_in after ∷ [])
+      (on_read (was-read _ _ d.2.refused reply d.2.replied)) (λ sink end line runs. inr (reads d.0, d.1, (reply, after, d.2, (sink, line, runs))))
 
 -- a request was read or refused, what the reply tells was counted, and the shards took what was received
 pub receives : (s : Settings) (sizes : Sizes) (w : World) (number moment : ℕ) (body : List ℕ) (known later : Contacts) (before after : List (QueueState Item)) (reply : Reply) (old new : List Held) (start last : Counts)

@@ -145,7 +145,7 @@ pub fn drain<S: Sink>(
 }
 
 /// Each shard in its turn takes what its queue holds.
-#[tactic(auto, using(crate::proofs::Nodes::others_have_nodes))]
+#[tactic(auto, using(crate::proofs::Nodes::others_have_nodes, crate::proofs::Nodes::first_has_nodes, crate::proofs::Nodes::all_have_nodes))]
 pub fn take_queued<S: Sink>(
     shards: &mut [Shard],
     queues: &mut [ListPort<Item>],
@@ -209,7 +209,7 @@ pub fn take_received<S: Sink>(
 }
 
 /// Each shard in its turn is told the same, and decides by the one limiter.
-#[tactic(auto, using(crate::proofs::Nodes::others_have_nodes))]
+#[tactic(auto, using(crate::proofs::Nodes::others_have_nodes, crate::proofs::Nodes::first_has_nodes, crate::proofs::Nodes::all_have_nodes))]
 pub fn tell_each<S: Sink>(
     shards: &mut [Shard],
     limiter: &mut Budgets,

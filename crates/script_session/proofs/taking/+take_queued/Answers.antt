@@ -3,25 +3,9 @@ use Rattle.std.proofs.lemmas.List.{length-map}
 use Rattle.otlp_types.specs.declared.arrival.Item.{Item}
 use Rattle.lane_queue.specs.Queues.{QueueState}
 use Rattle.shard_core.specs.Held.{Held}
-use Rattle.script_session.specs.Pulling.{Export, EachTakes, AreQuiet, HaveSettings, has_all_nodes, items_in}
-use Rattle.script_session.proofs.Nodes.{nodes-then, nodes-kept, first-nodes, nodes-cons}
+use Rattle.script_session.specs.Pulling.{Export, EachTakes, AreQuiet, HaveSettings, items_in}
 use Rattle.script_session.proofs.Several.{EachTakes-empty, EachTakes-cons}
 use Rattle.script_session.proofs.taking.+take_queued.Goals as goal
-
-pub drain-requires-clause-nodes : goal.drain-requires-clause-nodes
-drain-requires-clause-nodes g t c =
-    let P = λ (old : List Held). has_all_nodes c.args.limiter.now old ≡ true in
-    first-nodes c.args.limiter.now c.in-Some.shard.now c.in-Some.others.now (subst P c.in-Some.ensures.cases.0 c.requires.nodes)
-
-pub returns-clause-nodes : goal.returns-clause-nodes
-returns-clause-nodes g t c =
-    let P = λ (old : List Held). has_all_nodes c.args.limiter.now old ≡ true in
-    let one = first-nodes c.args.limiter.now c.in-Some.shard.now c.in-Some.others.now (subst P c.in-Some.ensures.cases.0 c.requires.nodes) in
-    let same = nodes-then c.args.limiter.now c.drain.new.limiter c.take_queued.new.limiter c.drain.ensures.nodes c.take_queued.ensures.same_nodes in
-    nodes-cons c.take_queued.new.limiter c.drain.new.shard c.take_queued.new.shards (nodes-kept c.args.limiter.now c.take_queued.new.limiter c.in-Some.shard.now c.drain.new.shard same c.drain.ensures.settings one) c.take_queued.ensures.nodes
-
-pub returns-clause-same_nodes : goal.returns-clause-same_nodes
-returns-clause-same_nodes g t c = nodes-then c.args.limiter.now c.drain.new.limiter c.take_queued.new.limiter c.drain.ensures.nodes c.take_queued.ensures.same_nodes
 
 pub returns-clause-takes : goal.returns-clause-takes
 returns-clause-takes g t c =

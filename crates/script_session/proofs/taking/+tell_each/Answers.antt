@@ -5,25 +5,9 @@ use Rattle.shard_core.specs.Held.{Held}
 use Rattle.shard_core.specs.Taking.{ends_after}
 use Rattle.script_run.specs.World.{to_each}
 use Rattle.script_session.specs.Signals.{item_of}
-use Rattle.script_session.specs.Pulling.{Export, EachTakes, TakesItems, AreQuiet, HaveSettings, has_all_nodes}
-use Rattle.script_session.proofs.Nodes.{nodes-then, nodes-kept, first-nodes, nodes-cons}
+use Rattle.script_session.specs.Pulling.{Export, EachTakes, TakesItems, AreQuiet, HaveSettings}
 use Rattle.script_session.proofs.Several.{EachTakes-empty, EachTakes-cons, AreQuiet-cons}
 use Rattle.script_session.proofs.taking.+tell_each.Goals as goal
-
-pub take_item-requires-clause-nodes : goal.take_item-requires-clause-nodes
-take_item-requires-clause-nodes g t c =
-    let P = λ (old : List Held). has_all_nodes c.args.limiter.now old ≡ true in
-    first-nodes c.args.limiter.now c.in-Some.shard.now c.in-Some.others.now (subst P c.in-Some.ensures.cases.0 c.requires.nodes)
-
-pub returns-clause-nodes : goal.returns-clause-nodes
-returns-clause-nodes g t c =
-    let P = λ (old : List Held). has_all_nodes c.args.limiter.now old ≡ true in
-    let one = first-nodes c.args.limiter.now c.in-Some.shard.now c.in-Some.others.now (subst P c.in-Some.ensures.cases.0 c.requires.nodes) in
-    let same = nodes-then c.args.limiter.now c.take_item.new.limiter c.tell_each.new.limiter c.take_item.ensures.nodes c.tell_each.ensures.same_nodes in
-    nodes-cons c.tell_each.new.limiter c.take_item.new.shard c.tell_each.new.shards (nodes-kept c.args.limiter.now c.tell_each.new.limiter c.in-Some.shard.now c.take_item.new.shard same c.take_item.ensures.settings one) c.tell_each.ensures.nodes
-
-pub returns-clause-same_nodes : goal.returns-clause-same_nodes
-returns-clause-same_nodes g t c = nodes-then c.args.limiter.now c.take_item.new.limiter c.tell_each.new.limiter c.take_item.ensures.nodes c.tell_each.ensures.same_nodes
 
 pub returns-clause-takes : goal.returns-clause-takes
 returns-clause-takes g t c =

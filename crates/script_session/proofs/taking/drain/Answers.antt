@@ -1,6 +1,6 @@
 use Rattle.std.proofs.Common.{[], ◌∷◌, ◌++◌, List, Bool, ◌∙◌, refl, sym, ap, append_assoc}
 use Rattle.std.specs.List.{list_all}
-use Rattle.script_session.proofs.Nodes.{nodes-then, nodes-kept}
+use Rattle.script_session.proofs.Kept.{kept-first, kept-then}
 use Rattle.script_session.proofs.Runs.{TakesItems-none, TakesItems-append}
 use Rattle.script_session.proofs.Several.{first-queued, rest-queued, queued-keeps_ends}
 use Rattle.script_session.proofs.taking.drain.Goals as goal
@@ -9,18 +9,12 @@ pub draining-init : goal.draining-init
 draining-init g c = record {
   popped = [];
   split = refl;
-  nodes = c.requires.nodes;
-  same_nodes = λ node. refl;
   took = TakesItems-none c.args.shard.now c.args.limiter.now (c.args.exporter.now, c.args.report.now);
   queued = c.requires.queued;
   capacity = refl;
   nothing_due = c.requires.nothing_due;
   running = c.requires.running;
-  settings_same = refl;
-  ends_same = refl;
-  room = c.requires.room;
-  size_same = refl;
-  down = λ down. down;
+  kept = kept-first c.args.shard.now c.args.limiter.now c.args.exporter.now c.requires.nodes c.requires.room;
 }
 
 pub draining-preserved : goal.draining-preserved
@@ -34,17 +28,12 @@ draining-preserved g c =
     record {
       popped = before.popped ++ item ∷ [];
       split = before.split ∙ ap (λ xs. before.popped ++ xs) first ∙ sym (append_assoc before.popped (item ∷ []) c.pop.new.self.items);
-      nodes = nodes-kept c.draining.limiter c.take_item.new.limiter c.draining.shard c.take_item.new.shard step.nodes step.settings before.nodes;
-      same_nodes = nodes-then c.args.limiter.now c.draining.limiter c.take_item.new.limiter before.same_nodes step.nodes;
       took = TakesItems-append c.args.shard.now c.draining.shard c.take_item.new.shard c.args.limiter.now c.draining.limiter c.take_item.new.limiter before.popped (item ∷ [])
-          (c.args.exporter.now, c.args.report.now) (c.draining.exporter, c.draining.report) (c.take_item.new.exporter, c.take_item.new.report) before.settings_same before.took step.takes;
+          (c.args.exporter.now, c.args.report.now) (c.draining.exporter, c.draining.report) (c.take_item.new.exporter, c.take_item.new.report) before.kept.settings_same before.took step.takes;
       queued = rest-queued item c.pop.new.self.items c.draining.queue.items first before.queued;
       capacity = c.in-Some.ensures.capacity ∙ before.capacity;
       nothing_due = step.nothing_due;
       running = ap (λ (ends : List Bool). list_all (λ b. b) ends) ends ∙ before.running;
-      settings_same = step.settings ∙ before.settings_same;
-      ends_same = ends ∙ before.ends_same;
-      room = step.room;
-      size_same = step.size ∙ before.size_same;
-      down = λ down. step.stays_down (before.down down);
+      kept = kept-then c.args.shard.now c.draining.shard c.take_item.new.shard c.args.limiter.now c.draining.limiter c.take_item.new.limiter c.args.exporter.now c.draining.exporter c.take_item.new.exporter
+          before.kept step.nodes step.settings ends step.room step.size step.stays_down;
     }
