@@ -6,6 +6,7 @@ use Rattle.lane_worker.specs.Serving.{Connection}
 use Rattle.policy_tree.specs.declared.limiter_node.LimiterNode.{LimiterNode}
 use Rattle.policy_tree.specs.Meaning.{meaning}
 use Rattle.policy_tree.specs.Tree.{limiters}
+use Rattle.shard_core.specs.Held.{Held, settings}
 use Rattle.span_exporter.specs.Exports.{ExporterState}
 use Rattle.span_sink.specs.LineSinks.{LineSinkState, up_state, down_state}
 use Rattle.world_theory.specs.World.{Config as CoreConfig, settings_for}
@@ -28,6 +29,10 @@ core_of config = record {
   non_sampled_size = config.non_sampled_cache_size / config.shards;
   batch_size = config.send_batch_size;
 }
+
+-- a shard of the core by this configuration, whose senders are the lanes and the ticker
+abbrev pub HasSettings : Config → Held → Type 0
+HasSettings config shard = settings shard ≡ settings_for (core_of config) (config.lanes + 1)
 
 -- the limiter nodes of the policies
 abbrev pub nodes_of : Config → List LimiterNode

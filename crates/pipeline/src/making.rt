@@ -1,17 +1,11 @@
 //! All that a run needs is made before a thread is started.
-ghost use Rattle.std.specs.Prelude.{◌≡◌, ◌+◌, ◌<◌, ◌≤◌, [], All, true, false, length, map, replicate, vec_len, vec_capacity, IfOk};
+ghost use Rattle.std.specs.Prelude.{◌≡◌, ◌+◌, ◌<◌, ◌≤◌, [], All, length, map, replicate, vec_len, vec_capacity, IfOk};
 ghost use Rattle.drop_ledger.specs.Parts.{PartState};
 ghost use Rattle.lane_queue.specs.Ends.{IsNew};
-ghost use Rattle.policy_tree.specs.Tree.{limiters};
-ghost use Rattle.policy_tree.specs.Meaning.{meaning};
-ghost use Rattle.policy_eval.specs.Meaning.{knows};
 ghost use Rattle.queue_grid.specs.Grid.{HasRoom};
-ghost use Rattle.shard_core.specs.Held.{StandsFor, has_due, is_finished, settings};
-ghost use Rattle.shared_budget.specs.Seats.{has_node};
-ghost use Rattle.world_theory.specs.World.{settings_for};
 ghost use Rattle.tsc_config.specs.declared.config.Config.{Config};
-ghost use Rattle.pipeline.specs.Made.{NumberedFrom, HasEnds};
-ghost use Rattle.pipeline.specs.Promise.{core_of, nodes_of};
+ghost use Rattle.pipeline.specs.Made.{NumberedFrom, CanRun, IsReady, HasEnds};
+ghost use Rattle.pipeline.specs.Promise.{HasSettings, nodes_of};
 
 use crate::lane_job::LaneJob;
 use crate::lanes::lane_jobs;
@@ -67,25 +61,19 @@ pub fn make<'s, F: Drop, T: Drop, C: Room, D: Room, B: Accounts, G, P, M, R: Wai
     ticks: T,
     parts: Vec<Part<B>>,
 ) -> Result<Made<'s, F, T, C, D, B, G, P, M, R>, AllocError>
-    requires waits { 0 < config.now.decision_wait }
-    requires shards { (0 < config.now.shards) × (config.now.shards ≤ 64) }
-    requires traces { config.now.shards ≤ config.now.num_traces }
-    requires queue { (0 < config.now.queue_capacity) × (config.now.queue_capacity ≡ C.capacity) }
-    requires export { (0 < config.now.export_capacity) × (config.now.export_capacity ≡ D.capacity) }
+    requires runs { CanRun config.now C.capacity D.capacity }
     requires feeds { vec_len feeds ≡ config.now.lanes }
     requires parts { (vec_len parts ≡ config.now.lanes + config.now.shards + 1) × All (λ p. p ≡ record { parts = 1; numbers = replicate 9 0 }) parts.items }
     ensures lanes { IfOk result (λ made. (vec_len made.team.first ≡ config.now.lanes)
         × All (λ job. (job.lane.number ≡ job.number) × (job.room.items ≡ []) × (length job.lane.ports ≤ vec_capacity job.room)) made.team.first.items) }
     ensures shards { IfOk result (λ made. (vec_len made.team.third ≡ config.now.shards)
-        × All (λ job. StandsFor job.shard [] 0 × (has_due job.shard ≡ false) × (is_finished job.shard ≡ false)
-        × All IsNew job.receiver.ends × IsNew job.sender
-        × (knows (has_node job.seat) (limiters (meaning job.shard.policies)) ≡ true)) made.team.third.items) }
+        × All (λ job. IsReady job.shard job.receiver job.sender job.seat) made.team.third.items) }
     ensures shipments { IfOk result (λ made. All IsNew made.shipments.ends) }
     ensures feeds { IfOk result (λ made. map (λ job. job.feed) made.team.first.items ≡ feeds.items) }
     ensures ticker { IfOk result (λ made. (made.team.second.number ≡ config.now.lanes) × (made.team.second.ticks ≡ ticks)) }
     ensures numbers { IfOk result (λ made. NumberedFrom 0 (map (λ job. job.number) made.team.first.items) × NumberedFrom 0 (map (λ job. job.number) made.team.third.items)) }
     ensures new_lanes { IfOk result (λ made. All (λ job. (job.lane.connected ≡ 0) × (job.share.numbers ≡ replicate 9 0)) made.team.first.items) }
-    ensures new_shards { IfOk result (λ made. All (λ job. (settings job.shard ≡ settings_for (core_of config.now) (config.now.lanes + 1)) × (job.share.numbers ≡ replicate 9 0)) made.team.third.items) }
+    ensures new_shards { IfOk result (λ made. All (λ job. HasSettings config.now job.shard × (job.share.numbers ≡ replicate 9 0)) made.team.third.items) }
     ensures share { IfOk result (λ made. made.share.numbers ≡ replicate 9 0) }
     ensures ends { IfOk result (λ made. HasEnds (nodes_of config.now) config.now.shards (map (λ job. job.lane.ports) made.team.first.items) made.team.second.senders.items
         (map (λ job. job.receiver) made.team.third.items) (map (λ job. job.sender) made.team.third.items) (map (λ job. job.seat) made.team.third.items) made.shipments) }

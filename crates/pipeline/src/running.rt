@@ -4,6 +4,7 @@ ghost use Rattle.std.specs.List.{list_any};
 ghost use Rattle.drop_ledger.specs.Parts.{PartState};
 ghost use Rattle.lane_worker.specs.Serving.{connection};
 ghost use Rattle.span_sink.specs.LineSinks.{up_state};
+ghost use Rattle.pipeline.specs.Made.{CanRun};
 ghost use Rattle.pipeline.specs.Outcome.{ReportsSums, SinkAnswers, SinkWent, TellsFull, TellsSink};
 ghost use Rattle.pipeline.specs.Promise.{HasWorked, RunTells};
 ghost use Rattle.tsc_config.specs.declared.config.Config.{Config};
@@ -107,11 +108,7 @@ fn run_in<
 where
     F::Reader: Send,
     F::Writer: Send,
-    requires waits { 0 < config.now.decision_wait }
-    requires shards { (0 < config.now.shards) × (config.now.shards ≤ 64) }
-    requires traces { config.now.shards ≤ config.now.num_traces }
-    requires queue { (0 < config.now.queue_capacity) × (config.now.queue_capacity ≡ C.capacity) }
-    requires export { (0 < config.now.export_capacity) × (config.now.export_capacity ≡ D.capacity) }
+    requires runs { CanRun config.now C.capacity D.capacity }
     requires feeds { vec_len feeds ≡ config.now.lanes }
     requires names { blanks.names ≡ B.names }
     requires parts { (blanks.parts ≡ B.parts) × (B.parts ≡ config.now.lanes + config.now.shards + 2) }
@@ -187,11 +184,7 @@ fn run_over<
 where
     F::Reader: Send,
     F::Writer: Send,
-    requires waits { 0 < config.now.decision_wait }
-    requires shards { (0 < config.now.shards) × (config.now.shards ≤ 64) }
-    requires traces { config.now.shards ≤ config.now.num_traces }
-    requires queue { (0 < config.now.queue_capacity) × (config.now.queue_capacity ≡ C.capacity) }
-    requires export { (0 < config.now.export_capacity) × (config.now.export_capacity ≡ D.capacity) }
+    requires runs { CanRun config.now C.capacity D.capacity }
     requires feeds { vec_len feeds ≡ config.now.lanes }
     requires parts { (vec_len parts ≡ config.now.lanes + config.now.shards + 1) × All (λ p. p ≡ record { parts = 1; numbers = replicate 9 0 }) parts.items }
     requires new_exporter { (exporter.batch ≡ []) × (0 < exporter.size) × (list_any (λ ended. ended) exporter.ends ≡ false) × (exporter.sink.is_down ≡ false) }

@@ -1,7 +1,5 @@
 //! What a shard's thread is given, does and leaves.
-ghost use Rattle.std.specs.Prelude.{◌≡◌, [], All, true, false};
-ghost use Rattle.lane_queue.specs.Ends.{IsNew};
-ghost use Rattle.run_weave.specs.Jobs.{ShardDid};
+ghost use Rattle.std.specs.Prelude.{◌≡◌};
 
 use drop_ledger::{Accounts, BookShare, Part, Tally};
 use job_threads::Job;
@@ -43,20 +41,13 @@ pub struct ShardLeft<'s, C: Room, D: Room, B: Accounts, R: Wait> {
 
 impl<'s, C: Room, D: Room, B: Accounts, G: Gate, R: Wait + Clock> Job
     for ShardJob<'s, C, D, B, G, R> {
-    ghost use Rattle.std.specs.Prelude.{◌≡◌, [], All, true, false};
-    ghost use Rattle.lane_queue.specs.Ends.{IsNew};
-    ghost use Rattle.policy_tree.specs.Tree.{limiters};
-    ghost use Rattle.policy_tree.specs.Meaning.{meaning};
-    ghost use Rattle.policy_eval.specs.Meaning.{knows};
-    ghost use Rattle.shard_core.specs.Held.{StandsFor, has_due, is_finished, settings};
-    ghost use Rattle.shared_budget.specs.Seats.{has_node};
+    ghost use Rattle.shard_core.specs.Held.{settings};
     ghost use Rattle.run_weave.specs.Jobs.{ShardDid};
+    ghost use Rattle.pipeline.specs.Made.{IsReady};
 
     type Left = ShardLeft<'s, C, D, B, R>;
 
-    ghost ready = { λ job. StandsFor job.shard [] 0 × (has_due job.shard ≡ false) × (is_finished job.shard ≡ false)
-        × All IsNew job.receiver.ends × IsNew job.sender
-        × (knows (has_node job.seat) (limiters (meaning job.shard.policies)) ≡ true) };
+    ghost ready = { λ job. IsReady job.shard job.receiver job.sender job.seat };
 
     ghost did = { λ job left. ShardDid job.number (settings job.shard) job.seat job.receiver job.sender job.share.numbers
         left.seat left.receiver left.sender left.part.numbers left.is_full };

@@ -2,15 +2,10 @@
 ghost use Rattle.std.specs.Prelude.{◌≡◌, ◌+◌, ◌<◌, ◌≤◌, [], All, true, false, length, map, replicate, vec_len, IfOk, OnOk};
 ghost use Rattle.drop_ledger.specs.Parts.{PartState};
 ghost use Rattle.lane_queue.specs.Ends.{IsNew};
-ghost use Rattle.policy_tree.specs.Tree.{limiters};
-ghost use Rattle.policy_tree.specs.Meaning.{meaning};
-ghost use Rattle.policy_eval.specs.Meaning.{knows};
-ghost use Rattle.shard_core.specs.Held.{StandsFor, has_due, is_finished, settings};
-ghost use Rattle.shared_budget.specs.Seats.{has_node};
-ghost use Rattle.world_theory.specs.World.{settings_for};
+ghost use Rattle.shard_core.specs.Held.{StandsFor, has_due, is_finished};
 ghost use Rattle.tsc_config.specs.declared.config.Config.{Config};
-ghost use Rattle.pipeline.specs.Made.{NumberedFrom};
-ghost use Rattle.pipeline.specs.Promise.{core_of};
+ghost use Rattle.pipeline.specs.Made.{NumberedFrom, HasNodes, IsReady};
+ghost use Rattle.pipeline.specs.Promise.{HasSettings};
 
 use crate::lent::Lent;
 use crate::shard_job::ShardJob;
@@ -42,17 +37,15 @@ pub fn shard_jobs<'s, C: Room, D: Room, B: Accounts, G, P, M, R: Wait>(
     requires waits { 0 < config.now.decision_wait }
     requires shards { (0 < config.now.shards) × (config.now.shards ≤ 64) }
     requires traces { config.now.shards ≤ config.now.num_traces }
-    requires seats { (vec_len ends.seats ≡ config.now.shards) × All (λ seat. knows (has_node seat) (limiters (meaning config.now.policies)) ≡ true) ends.seats.items }
+    requires seats { (vec_len ends.seats ≡ config.now.shards) × All (λ seat. HasNodes seat config.now.policies) ends.seats.items }
     requires receivers { (vec_len ends.receivers ≡ config.now.shards) × All (λ r. All IsNew r.ends) ends.receivers.items }
     requires exports { (vec_len ends.exports ≡ config.now.shards) × All IsNew ends.exports.items }
     requires parts { (config.now.shards ≤ vec_len parts.old) × All (λ p. p ≡ record { parts = 1; numbers = replicate 9 0 }) parts.old.items }
     ensures count { IfOk result (λ jobs. vec_len jobs ≡ config.now.shards) }
-    ensures ready { IfOk result (λ jobs. All (λ job. StandsFor job.shard [] 0 × (has_due job.shard ≡ false) × (is_finished job.shard ≡ false)
-        × All IsNew job.receiver.ends × IsNew job.sender
-        × (knows (has_node job.seat) (limiters (meaning job.shard.policies)) ≡ true)) jobs.items) }
+    ensures ready { IfOk result (λ jobs. All (λ job. IsReady job.shard job.receiver job.sender job.seat) jobs.items) }
     ensures ends { IfOk result (λ jobs. (map (λ job. job.seat) jobs.items ≡ ends.entry.seats.items) × (map (λ job. job.receiver) jobs.items ≡ ends.entry.receivers.items) × (map (λ job. job.sender) jobs.items ≡ ends.entry.exports.items)) }
     ensures numbers { IfOk result (λ jobs. NumberedFrom 0 (map (λ job. job.number) jobs.items)) }
-    ensures new { IfOk result (λ jobs. All (λ job. (settings job.shard ≡ settings_for (core_of config.now) (config.now.lanes + 1)) × (job.share.numbers ≡ replicate 9 0)) jobs.items) }
+    ensures new { IfOk result (λ jobs. All (λ job. HasSettings config.now job.shard × (job.share.numbers ≡ replicate 9 0)) jobs.items) }
     ensures parts { OnOk result ((vec_len parts.new + config.now.shards ≡ vec_len parts.old) × All (λ p. p ≡ record { parts = 1; numbers = replicate 9 0 }) parts.new.items) }
 {
     let ShardEnds {
@@ -86,11 +79,11 @@ fn shard_job<'s, C: Room, D: Room, B: Accounts, G, P, M, R: Wait>(
     requires waits { 0 < config.now.decision_wait }
     requires shards { 0 < config.now.shards }
     requires traces { config.now.shards ≤ config.now.num_traces }
-    requires seat { knows (has_node seat) (limiters (meaning config.now.policies)) ≡ true }
+    requires seat { HasNodes seat config.now.policies }
     requires part { part.parts ≡ 1 }
     ensures shard { IfOk result (λ job. StandsFor job.shard [] 0 × (has_due job.shard ≡ false) × (is_finished job.shard ≡ false)) }
-    ensures settings { IfOk result (λ job. settings job.shard ≡ settings_for (core_of config.now) (config.now.lanes + 1)) }
-    ensures nodes { IfOk result (λ job. knows (has_node job.seat) (limiters (meaning job.shard.policies)) ≡ true) }
+    ensures settings { IfOk result (λ job. HasSettings config.now job.shard) }
+    ensures nodes { IfOk result (λ job. HasNodes job.seat job.shard.policies) }
     ensures ends { IfOk result (λ job. (job.receiver ≡ receiver) × (job.sender ≡ sender) × (job.seat ≡ seat.entry)) }
     ensures share { IfOk result (λ job. job.share ≡ part) }
     ensures number { IfOk result (λ job. job.number ≡ number) }

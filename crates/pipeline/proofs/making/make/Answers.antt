@@ -19,7 +19,7 @@ shard_jobs-requires-clause-parts g c = (omega (arith, c.take_last.ensures.len, c
 pub lane_jobs-requires-clause-columns : goal.lane_jobs-requires-clause-columns
 lane_jobs-requires-clause-columns g c = (
   omega (arith, c.take_last-2.ensures.len, c.in_ok-grid.ensures.senders, c.requires.feeds),
-  (All-pop (λ v. 0 < length v.items) c.in_ok-grid.grid.columns.items c.take_last-2.new.self.items (Some c.take_last-2.result) c.take_last-2.ensures.items (are_long _ c.requires.shards.0 c.in_ok-grid.grid.columns.items c.in_ok-grid.ensures.even)).0,
+  (All-pop (λ v. 0 < length v.items) c.in_ok-grid.grid.columns.items c.take_last-2.new.self.items (Some c.take_last-2.result) c.take_last-2.ensures.items (are_long _ c.requires.runs.some c.in_ok-grid.grid.columns.items c.in_ok-grid.ensures.even)).0,
 )
 
 pub returns-clause-share : goal.returns-clause-share
