@@ -3,26 +3,4 @@
 #![tactic(auto)]
 
 #[cfg(test)]
-mod batches;
-#[cfg(test)]
-mod caches;
-#[cfg(test)]
-mod counts;
-#[cfg(test)]
-mod exporters;
-#[cfg(test)]
-mod jobs;
-#[cfg(test)]
-mod lanes;
-#[cfg(test)]
-mod limiters;
-#[cfg(test)]
-mod queues;
-#[cfg(test)]
-mod queues_of_threads;
-#[cfg(test)]
-mod scripts;
-#[cfg(test)]
-mod seats;
-#[cfg(test)]
-mod sinks;
+mod tests;

@@ -1,4 +1,0 @@
-use Rattle.parts_tests.proofs.queues_of_threads.greatest_queue_fills.Given as goal
-
-abbrev pub ghosts-fills : goal.ghosts-fills
-ghosts-fills g a = record { capacity = a.capacity }
