@@ -9,11 +9,12 @@
 //! With no argument it does a little of each: so the gate runs it.
 #![tactic(auto)]
 
-ghost use Rattle.std.specs.Prelude.{◌<◌};
+ghost use Rattle.std.specs.Prelude.{◌≡◌, ◌<◌};
 
 mod numbers;
 
-use crate::numbers::{Waiting, pass_alone, pass_between};
+use crate::numbers::{Course, Waiting, new_queue, pass_alone, pass_between};
+use lane_queue::Room;
 use std::alloc::{AllocError, Global};
 use std::marker::Brand;
 use std::process::ExitCode;
@@ -45,22 +46,27 @@ fn named(name: &str) -> Option<Work> {
 }
 
 /// How many numbers came out at their place, over a queue that may hold so many.
-fn count_out<R: Threads + Wait + Clock + Sync>(
+fn count_out<C: Room + Send + Sync, R: Threads + Wait + Clock + Sync>(
     rt: &R,
     alloc: Global,
     work: Work,
     number: u64,
     capacity: usize,
 ) -> Result<u64, AllocError>
-    requires { 0 < capacity }
+    requires { (0 < capacity) × (capacity ≡ C.capacity) }
 {
+    let (sender, receiver) = new_queue::<C>(alloc, capacity)?;
     let (rest, count, waiting) = match work {
         Work::Between(waiting) => (0, number, waiting),
-        Work::Alone => return pass_alone::<Brand, R>(rt, alloc, capacity, number),
+        Work::Alone => return Ok(pass_alone(rt, sender, receiver, number)),
         Work::Idle => (number, 1, Waiting::Sleep),
     };
-    let rest = Duration::from_secs(rest);
-    pass_between::<Brand, R>(rt, alloc, capacity, rest, count, waiting)
+    let course = Course {
+        rest: Duration::from_secs(rest),
+        count,
+        waiting,
+    };
+    Ok(pass_between(rt, sender, receiver, course))
 }
 
 /// Does a piece of work, and prints how many numbers came out at their place.
@@ -73,7 +79,7 @@ fn run<R: Threads + Wait + Clock + Sync + Print>(
 ) -> io::Result<ExitCode> {
     match named(name) {
         Some(work) if capacity > 0 => {
-            let out = count_out(rt, alloc, work, number, capacity)?;
+            let out = count_out::<Brand, R>(rt, alloc, work, number, capacity)?;
             println!(rt; "{name}: {out} items")?;
             Ok(ExitCode::from(0))
         }

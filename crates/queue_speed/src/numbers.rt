@@ -18,6 +18,17 @@ pub enum Waiting {
     Yield,
 }
 
+/// Numbers from one thread to another.
+#[derive(Clone, Copy)]
+pub struct Course {
+    /// How long the sender sleeps before the first.
+    pub rest: Duration,
+    /// How many there are.
+    pub count: u64,
+    /// What both threads do while they wait.
+    pub waiting: Waiting,
+}
+
 /// Pushes, and never sleeps.
 fn push_yielding<C: Room, R: Wait>(rt: &R, sender: &mut Sender<u64, C>, item: u64) {
     let backoff = Backoff::new();
@@ -30,18 +41,11 @@ fn push_yielding<C: Room, R: Wait>(rt: &R, sender: &mut Sender<u64, C>, item: u6
     unreachable!()
 }
 
-/// Sleeps for so long, and then pushes the numbers below `count`.
-fn push_all<C: Room, R: Wait + Clock>(
-    rt: &R,
-    sender: Sender<u64, C>,
-    rest: Duration,
-    count: u64,
-    waiting: Waiting,
-) {
-    let mut sender = sender;
-    thread::sleep(rt, rest);
-    for item in 0..count {
-        match waiting {
+/// Sleeps, and then pushes the numbers from 0 on.
+fn push_all<C: Room, R: Wait + Clock>(rt: &R, mut sender: Sender<u64, C>, course: Course) {
+    thread::sleep(rt, course.rest);
+    for item in 0..course.count {
+        match course.waiting {
             Waiting::Sleep => sender.push(rt, item),
             Waiting::Yield => push_yielding(rt, &mut sender, item),
         }
@@ -68,60 +72,59 @@ fn pop_one<C: Room, R: Wait + Clock>(
     unreachable!()
 }
 
-/// Pops so many numbers, and answers how many of them came at their place.
+/// Pops the numbers, and answers how many of them came at their place.
 fn pop_all<C: Room, R: Wait + Clock>(
     rt: &R,
-    receiver: Receiver<u64, C>,
-    count: u64,
-    waiting: Waiting,
+    mut receiver: Receiver<u64, C>,
+    course: Course,
 ) -> u64 {
-    let mut receiver = receiver;
     let mut in_place = 0u64;
-    for item in 0..count {
-        if pop_one(rt, &mut receiver, waiting) == item {
+    for item in 0..course.count {
+        if pop_one(rt, &mut receiver, course.waiting) == item {
             in_place = in_place.saturating_add(1);
         }
     }
     in_place
 }
 
-/// Sends so many numbers from one thread, when it has slept for so long, to another, and answers how many came at their place.
-pub fn pass_between<C: Room + Send + Sync, R: Threads + Wait + Clock + Sync>(
-    rt: &R,
+/// The ends of a queue that may hold so many numbers.
+pub fn new_queue<C: Room>(
     alloc: Global,
     capacity: usize,
-    rest: Duration,
-    count: u64,
-    waiting: Waiting,
-) -> Result<u64, AllocError>
+) -> Result<(Sender<u64, C>, Receiver<u64, C>), AllocError>
     requires { (0 < capacity) × (capacity ≡ C.capacity) }
 {
     let (mut senders, receiver) = LaneQueue::new::<u64, C>(alloc, capacity, 1)?;
-    let sender = senders.pop().ok_or(AllocError)?;
+    Ok((senders.pop().ok_or(AllocError)?, receiver))
+}
+
+/// Sends numbers from one thread to another, and answers how many came at their place.
+pub fn pass_between<C: Room + Send + Sync, R: Threads + Wait + Clock + Sync>(
+    rt: &R,
+    sender: Sender<u64, C>,
+    receiver: Receiver<u64, C>,
+    course: Course,
+) -> u64 {
     let (_, in_place) = thread::join(
         rt,
-        move || push_all(rt, sender, rest, count, waiting),
-        move || pop_all(rt, receiver, count, waiting),
+        move || push_all(rt, sender, course),
+        move || pop_all(rt, receiver, course),
     );
-    Ok(in_place)
+    in_place
 }
 
 /// Pushes and pops so many numbers in turn, and answers how many came out.
 pub fn pass_alone<C: Room, R: Wait>(
     rt: &R,
-    alloc: Global,
-    capacity: usize,
+    mut sender: Sender<u64, C>,
+    mut receiver: Receiver<u64, C>,
     count: u64,
-) -> Result<u64, AllocError>
-    requires { (0 < capacity) × (capacity ≡ C.capacity) }
-{
-    let (mut senders, mut receiver) = LaneQueue::new::<u64, C>(alloc, capacity, 1)?;
-    let mut sender = senders.pop().ok_or(AllocError)?;
+) -> u64 {
     let mut in_place = 0u64;
     for item in 0..count {
         if sender.try_push(rt, item).is_ok() && receiver.pop(rt) == Some(item) {
             in_place = in_place.saturating_add(1);
         }
     }
-    Ok(in_place)
+    in_place
 }
