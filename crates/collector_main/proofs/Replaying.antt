@@ -3,27 +3,12 @@
 use Rattle.std.proofs.Common.{ℕ, Result, Ok, Err, inr, refl}
 use Rattle.drop_ledger.specs.declared.report.Report.{Report}
 use Rattle.tsc_config.specs.declared.config.Config.{Config}
-use Rattle.script_session.specs.Replay.{Run, RunEnds, settings_by}
+use Rattle.script_session.specs.Replay.{RunEnds}
 use Rattle.script_session.specs.declared.fault.RunFault.{RunFault}
 use Rattle.script_session.specs.declared.fault.RunFault.TheVariants.{NoMemory, Refused, Fault, BookFull, SinkDown}
 use Rattle.collector_main.specs.Configuration.{IsConfigOf}
 use Rattle.collector_main.specs.Outcomes.{outcome_of}
-use Rattle.collector_main.specs.Ending.{Course, Replays, RanTo}
-
--- the run over a course, with the sink's failures after it
-abbrev pub run_of : Course → Config → (failures : ℕ) → Run
-run_of course config failures = record {
-  settings = settings_by config;
-  sizes = record { batch = config.send_batch_size; queue = config.queue_capacity };
-  lanes = config.lanes;
-  shards = config.shards;
-  taken = course.taken;
-  failures = 0;
-  taken_after = course.taken_after;
-  failures_after = failures;
-  unread = course.unread;
-  unread_after = course.unread_after;
-}
+use Rattle.collector_main.specs.Ending.{Course, run_of, Replays, RanTo}
 
 ran : (course : Course) (config : Config) (failures : ℕ) (answer : Result Report RunFault) → IsConfigOf course.file config
     → RunEnds (run_of course config failures) answer → RanTo course (outcome_of answer)

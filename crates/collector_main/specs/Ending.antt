@@ -22,7 +22,7 @@ use Rattle.collector_main.specs.declared.program.Command.TheVariants.{Replay, Se
 use Rattle.collector_main.specs.Outcomes.{outcome_of, served_to, exit_status}
 use Rattle.collector_main.specs.Configuration.{FileFails, IsConfigOf}
 use Rattle.collector_main.specs.declared.configuration.FileFault.{FileFault}
-use Rattle.script_session.specs.Replay.{RunEnds, settings_by}
+use Rattle.script_session.specs.Replay.{Run, RunEnds, settings_by}
 use Rattle.pipeline.specs.declared.fault.RunFault.{RunFault as ServeFault}
 use Rattle.pipeline.specs.Outcome.{SinkAnswers}
 use Rattle.pipeline.specs.Promise.{CoreRunTells}
@@ -133,24 +133,28 @@ AsksNothing arguments = (asks_replay arguments ≡ false) × (asks_serve argumen
 abbrev pub NothingDone : Course → Type 0
 NothingDone course = (course.unread_after ≡ course.unread) × (course.taken_after ≡ course.taken)
 
+-- the run over a course, with the sink's failures after it
+abbrev pub run_of : Course → Config → (failures : ℕ) → Run
+run_of course config failures = record {
+  settings = settings_by config;
+  sizes = record { batch = config.send_batch_size; queue = config.queue_capacity };
+  lanes = config.lanes;
+  shards = config.shards;
+  taken = course.taken;
+  failures = 0;
+  taken_after = course.taken_after;
+  failures_after = failures;
+  unread = course.unread;
+  unread_after = course.unread_after;
+}
+
 -- a configuration was read, and the run of the script by it had an answer of this outcome
 pub record RanTo (course : Course) (outcome : Outcome) : Type 0 where
   pub config : Config
   pub is_read : IsConfigOf course.file config
   pub failures_after : ℕ
   pub answer : Result Report RunFault
-  pub ends : RunEnds (record {
-    settings = settings_by config;
-    sizes = record { batch = config.send_batch_size; queue = config.queue_capacity };
-    lanes = config.lanes;
-    shards = config.shards;
-    taken = course.taken;
-    failures = 0;
-    taken_after = course.taken_after;
-    failures_after = failures_after;
-    unread = course.unread;
-    unread_after = course.unread_after;
-  }) answer
+  pub ends : RunEnds (run_of course config failures_after) answer
   pub outcome_is : outcome ≡ outcome_of answer
 
 -- how an outcome arises where a replay is asked for: before the script, or by its run

@@ -2,9 +2,8 @@
 use crate::program::{Outcome, TEXT_ROOM, finish, program};
 use drop_ledger::{Count, Report};
 use script_session::{RunFault, replay_run};
-use span_ids::Reason;
 use span_sink::WriteSink;
-use std::io::{Read, Write};
+use std::io::Read;
 use std::net::{Net, TcpListener, TcpStream};
 use std::process::Abort;
 use std::rt::Files;
@@ -18,23 +17,6 @@ use tsc_config::read;
 /// Keeps traces with an error, ten seconds after their first span.
 const ERRORS: &str =
     "decision_wait_ms = 10000\npolicies = [{ name = \"errors\", type = \"status_code\", status_code = { status_codes = [\"ERROR\"] } }]\n";
-
-/// A writer into memory.
-#[derive(Drop)]
-struct Page {
-    bytes: Vec<u8>,
-}
-
-impl Write for Page {
-    fn write(&mut self, bytes: &[u8]) -> io::Result<usize> {
-        self.bytes.extend_from_slice(bytes)?;
-        Ok(bytes.len())
-    }
-
-    fn flush(&mut self) -> io::Result<()> {
-        Ok(())
-    }
-}
 
 /// A reader that gives its bytes and then fails.
 #[derive(Drop)]
@@ -54,50 +36,35 @@ impl Read for Broken {
     }
 }
 
-/// The nine counts in the order of the report.
-fn numbers(report: &Report) -> [u64; 9] {
-    [
-        report.number(Count::Received),
-        report.number(Count::Handed),
-        report.number(Count::Dropped(Reason::InvalidId)),
-        report.number(Count::Dropped(Reason::QueueFull)),
-        report.number(Count::Dropped(Reason::NoMemory)),
-        report.number(Count::Dropped(Reason::Evicted)),
-        report.number(Count::Dropped(Reason::NotSampled)),
-        report.number(Count::Dropped(Reason::LateNotSampled)),
-        report.number(Count::Dropped(Reason::ExporterDown)),
-    ]
-}
-
-/// Runs a script, and compares what the sink holds and the counts.
+/// Runs a script, and compares what the sink holds and the report.
 fn check(
     rt: &(impl Abort + AllocGlobal),
     config: &str,
     script: &'static [u8],
     output: &[u8],
-    counts: [u64; 9],
+    report: Report,
 ) -> Result<(), Fail> {
     let config = read(rt.alloc(), config)?;
-    let page = Page {
-        bytes: Vec::new(rt.alloc()),
-    };
     let mut reader = script;
-    let (sink, answer) = replay_run(rt.alloc(), config, &mut reader, WriteSink::new(page));
-    let page = sink.end();
-    assert_eq!(rt; page.bytes.as_slice(), output);
-    assert_eq!(rt; numbers(&answer?), counts);
+    let sink = WriteSink::new(Vec::new(rt.alloc()));
+    let (sink, answer) = replay_run(rt.alloc(), config, &mut reader, sink);
+    assert_eq!(rt; sink.end().as_slice(), output);
+    assert_eq!(rt; answer, Ok(report));
     Ok(())
 }
 
 /// An error span is kept when the wait is over.
 #[test]
 fn error_span_is_kept(rt: HostRuntime) -> Result<(), Fail> {
+    let mut report = Report::new();
+    report.add(Count::Received, 1)?;
+    report.add(Count::Handed, 1)?;
     check(
         &rt,
         ERRORS,
         b"recv 1 1000 {\"resourceSpans\":[{\"scopeSpans\":[{\"spans\":[{\"traceId\":\"5b8efff798038103d269b633813fc60c\",\"spanId\":\"eee19b7ec3c1b174\",\"status\":{\"code\":2}}]}]}]}\ntick 11000\n",
         b"reply 200 {}\n{\"resourceSpans\":[{\"scopeSpans\":[{\"spans\":[{\"spanId\":\"eee19b7ec3c1b174\",\"status\":{\"code\":2},\"traceId\":\"5b8efff798038103d269b633813fc60c\"}]}]}]}\n",
-        [1, 1, 0, 0, 0, 0, 0, 0, 0],
+        report,
     )
 }
 
@@ -123,12 +90,10 @@ fn check_program(
     arguments.push(String::from_str(rt.alloc(), command)?)?;
     arguments.push(String::from_str(rt.alloc(), path)?)?;
     let mut reader = script;
-    let page = Page {
-        bytes: Vec::new(rt.alloc()),
-    };
+    let page = Vec::new(rt.alloc());
     let (page, answer) = program(rt, rt.alloc(), &arguments, &mut reader, page);
     fs::remove_file(rt, path)?;
-    assert_eq!(rt; page.bytes.as_slice(), output);
+    assert_eq!(rt; page.as_slice(), output);
     assert_eq!(rt; answer, status);
     Ok(())
 }
@@ -137,12 +102,9 @@ fn check_program(
 #[test]
 fn wrong_arguments(rt: HostRuntime) -> Result<(), Fail> {
     let mut reader: &'static [u8] = b"";
-    let page = Page {
-        bytes: Vec::new(rt.alloc()),
-    };
-    let (page, status) = program(&rt, rt.alloc(), &[], &mut reader, page);
+    let (page, status) = program(&rt, rt.alloc(), &[], &mut reader, Vec::new(rt.alloc()));
     assert_eq!(rt;
-        page.bytes.as_slice(),
+        page.as_slice(),
         b"tsc: usage: tsc replay CONFIG or tsc serve CONFIG\n".as_slice()
     );
     assert_eq!(rt; status, 2);
@@ -203,11 +165,9 @@ fn failing_reader(rt: HostRuntime) -> Result<(), Fail> {
     let mut reader = Broken {
         bytes: b"recv 1 0 {}\ntick 1",
     };
-    let page = Page {
-        bytes: Vec::new(rt.alloc()),
-    };
-    let (sink, answer) = replay_run(rt.alloc(), config, &mut reader, WriteSink::new(page));
-    assert_eq!(rt; sink.end().bytes.as_slice(), b"reply 200 {}\n".as_slice());
+    let sink = WriteSink::new(Vec::new(rt.alloc()));
+    let (sink, answer) = replay_run(rt.alloc(), config, &mut reader, sink);
+    assert_eq!(rt; sink.end().as_slice(), b"reply 200 {}\n".as_slice());
     assert_eq!(rt; answer, Err(RunFault::Fault(2)));
     Ok(())
 }
@@ -220,11 +180,8 @@ fn check_ending(
     status: u8,
 ) -> Result<(), Fail> {
     let mut text = Vec::with_capacity(rt.alloc(), TEXT_ROOM)?;
-    let page = Page {
-        bytes: Vec::new(rt.alloc()),
-    };
-    let (page, answer) = finish(page, &mut text, outcome);
-    assert_eq!(rt; page.bytes.as_slice(), output);
+    let (page, answer) = finish(Vec::new(rt.alloc()), &mut text, outcome);
+    assert_eq!(rt; page.as_slice(), output);
     assert_eq!(rt; answer, status);
     Ok(())
 }

@@ -2,9 +2,9 @@ use Rattle.std.proofs.Common.{◌≡◌, ℕ, List, Option, sym, ap, subst}
 use Rattle.span_sink.specs.Sinks.{SinkState}
 use Rattle.script_session.specs.Replay.{RunEnds}
 use Rattle.collector_main.specs.Configuration.{file_of}
-use Rattle.collector_main.specs.Ending.{Course, Replays}
+use Rattle.collector_main.specs.Ending.{Course, run_of, Replays}
 use Rattle.collector_main.specs.declared.program.Outcome.{Outcome}
-use Rattle.collector_main.proofs.Replaying.{run_of, Replays-ran}
+use Rattle.collector_main.proofs.Replaying.{Replays-ran}
 use Rattle.collector_main.proofs.program.replay_by.Goals as goal
 
 pub returns : goal.returns
