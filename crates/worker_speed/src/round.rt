@@ -1,20 +1,14 @@
 //! A round: spans that lie in a queue, a worker, and what it shipped.
-ghost use Rattle.std.specs.Prelude.{◌≡◌, ◌<◌, [], All, IfOk, false, true};
+ghost use Rattle.std.specs.Prelude.{◌≡◌, ◌<◌, All, IfOk};
 ghost use Rattle.lane_queue.specs.Ends.{IsNew};
-ghost use Rattle.policy_tree.specs.Tree.{limiters};
-ghost use Rattle.policy_tree.specs.Meaning.{meaning};
-ghost use Rattle.policy_eval.specs.Meaning.{knows};
-ghost use Rattle.rate_budget.specs.Budget.{has_node};
-ghost use Rattle.shard_core.specs.Held.{StandsFor, has_due, is_finished};
 
 use crate::spans::span_item;
 use drop_ledger::{Report, Tally};
 use lane_queue::{LaneQueue, OpenGate, Receiver, Room, Sender};
-use otlp_types::{Ids, Item, Shipment, Text};
+use otlp_types::{Ids, Item, Shipment};
+use plain_shards::plain_shard;
 use plain_spans::plain_record;
-use policy_tree::{Policies, Policy, PolicyKind};
-use rate_budget::Budgets;
-use shard_core::Shard;
+use policy_tree::PolicyKind;
 use std::alloc::{AllocError, Global};
 use std::sync::Wait;
 use std::time::Clock;
@@ -28,25 +22,6 @@ const HELD_TRACES: usize = 128;
 /// After so many spans the clock goes on by a millisecond, and the traces that were opened before are decided: so none
 /// leaves the shard undecided.
 const SPANS_OF_A_TICK: u64 = 256;
-
-/// A shard that keeps every trace, a millisecond after its first span, and its limiter.
-fn new_shard(alloc: Global) -> Result<(Shard, Budgets), AllocError>
-    ensures stands { IfOk result (λ p. StandsFor p.0 [] 0) }
-    ensures nothing_due { IfOk result (λ p. has_due p.0 ≡ false) }
-    ensures running { IfOk result (λ p. is_finished p.0 ≡ false) }
-    ensures nodes { IfOk result (λ p. knows (has_node p.1) (limiters (meaning p.0.policies)) ≡ true) }
-{
-    let policy = Policy {
-        name: Text::from_str(alloc, "all")?,
-        kind: PolicyKind::AlwaysSample,
-    };
-    let Ok(policies) = Policies::new(alloc, vec![in alloc; policy]?) else {
-        return Err(AllocError);
-    };
-    let limiter = Budgets::new(alloc, &policies)?;
-    let shard = Shard::new(alloc, policies, 1, 0, HELD_TRACES, 0, 0, 1)?;
-    Ok((shard, limiter))
-}
 
 /// Sends the spans of these traces, and the End.
 fn send_all<C: Room, R: Wait + Clock>(
@@ -116,7 +91,8 @@ pub fn shipped<C: Room, R: Wait + Clock>(
     send_all(rt, alloc, ids, senders.pop().ok_or(AllocError)?)?;
     let (exports, shipments) = LaneQueue::new::<Shipment, C>(alloc, capacity, 1)?;
     let export = last_of(exports)?;
-    let (shard, limiter) = new_shard(alloc)?;
+    // It keeps every trace, a millisecond after its first span.
+    let (shard, limiter) = plain_shard(alloc, PolicyKind::AlwaysSample, 1, HELD_TRACES, 1)?;
     let tally = Tally::new(Report::new());
     let end = shard_worker::work(rt, 0, shard, limiter, items, export, tally, &OpenGate);
     drop(end);

@@ -3,12 +3,4 @@
 #![tactic(auto)]
 
 #[cfg(test)]
-mod jobs;
-#[cfg(test)]
-mod memory_sink;
-#[cfg(test)]
-mod one_thread;
-#[cfg(test)]
-mod spans;
-#[cfg(test)]
-mod workers;
+mod tests;

@@ -1,7 +1,8 @@
 //! 10,000 spans of three lanes through two shards and the exporter, each on a thread of its own, over queues of four items.
-use crate::jobs::{Done, SPANS, at_once};
-use crate::one_thread::released;
-use crate::spans::{Sent, Traces, is_of_second};
+use super::jobs::{Done, SPANS, at_once};
+use super::lines::spans_in;
+use super::one_thread::released;
+use super::spans::{Sent, Traces, is_of_second};
 use drop_ledger::{Count, Report};
 use span_ids::Reason;
 use std::alloc::{AllocError, Global};
@@ -69,9 +70,9 @@ fn workers_on_threads(rt: HostRuntime) -> Result<(), Fail> {
                 assert_eq!(rt; not_sampled(&report), 2500);
                 shards = shards.wrapping_add(1);
             }
-            Done::Exporter(sink, report) => {
+            Done::Exporter(lines, report) => {
                 assert_eq!(rt; report.number(Count::Handed), 5000);
-                let spans = sink.spans(alloc)?;
+                let spans = spans_in(alloc, &lines)?;
                 assert_eq!(rt; spans.len(), 5000);
                 assert_shard(&rt, alloc, &traces, &spans, false)?;
                 assert_shard(&rt, alloc, &traces, &spans, true)?;

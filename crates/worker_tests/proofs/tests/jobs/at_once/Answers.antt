@@ -11,17 +11,17 @@ use Rattle.lane_queue.specs.declared.rule.Room.{Ghosts}
 use Rattle.otlp_types.specs.contracts.arrival.Item as item
 use Rattle.otlp_types.specs.contracts.arrival.Shipment as shipment
 use Rattle.span_sink.proofs.line_sink.LineSink.TheSendSync as lines
+use Rattle.span_sink.proofs.write_sink.WriteSink.TheSendSync as sink
 use Rattle.std.proofs.Crossing.{crosses}
 use Rattle.otlp_types.proofs.Sent.{item_send, shipment_send}
 use Rattle.shard_core.proofs.Sent.{shard_send}
 use Rattle.worker_tests.proofs.Sent.{limiter_send, batch_send}
-use Rattle.worker_tests.proofs.jobs.at_once.Goals as goal
-use Rattle.worker_tests.proofs.memory_sink.MemorySink.TheSendSync as sink
-use Rattle.worker_tests.proofs.spans.Traces.TheSendSync as traces
-use Rattle.worker_tests.specs.contracts.jobs.ExporterStart as export
-use Rattle.worker_tests.specs.contracts.jobs.Job as job
-use Rattle.worker_tests.specs.contracts.jobs.Lane as lane
-use Rattle.worker_tests.specs.contracts.jobs.ShardStart as start
+use Rattle.worker_tests.proofs.tests.jobs.at_once.Goals as goal
+use Rattle.worker_tests.proofs.tests.spans.Traces.TheSendSync as traces
+use Rattle.worker_tests.specs.contracts.tests.jobs.ExporterStart as export
+use Rattle.worker_tests.specs.contracts.tests.jobs.Job as job
+use Rattle.worker_tests.specs.contracts.tests.jobs.Lane as lane
+use Rattle.worker_tests.specs.contracts.tests.jobs.ShardStart as start
 
 module _ (C : RattleType) (g : Ghosts C.Denot) where
   push_item : IsSend (sender.the_row item.the_row C g)

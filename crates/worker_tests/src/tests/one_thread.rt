@@ -1,15 +1,12 @@
 //! A shard that keeps the traces with an error, and what it releases in one thread.
-ghost use Rattle.std.specs.Prelude.{◌≡◌, [], IfOk, false, true};
-ghost use Rattle.policy_tree.specs.Tree.{limiters};
-ghost use Rattle.policy_tree.specs.Meaning.{meaning};
-ghost use Rattle.policy_eval.specs.Meaning.{knows};
-ghost use Rattle.rate_budget.specs.Budget.{has_node};
-ghost use Rattle.shard_core.specs.Held.{StandsFor, has_due, is_finished};
+ghost use Rattle.std.specs.Prelude.{◌≡◌, IfOk, true};
+ghost use Rattle.plain_shards.specs.Plain.{HasNodes, HasTakenNothing};
 ghost use Rattle.journal_theory.specs.Journal.{has_ids};
 
-use crate::spans::{Sent, Traces, sent_of, span_item};
-use otlp_types::{Arrival, Item, List, Text};
-use policy_tree::{Policies, Policy, PolicyKind};
+use super::spans::{Sent, Traces, sent_of, span_item};
+use otlp_types::{Arrival, Item, List};
+use plain_shards::plain_shard;
+use policy_tree::PolicyKind;
 use rate_budget::Budgets;
 use shard_core::{Decided, Shard, Taken};
 use std::alloc::{AllocError, Global};
@@ -22,22 +19,12 @@ pub const SENDERS: u16 = 4;
 pub const TICK: u64 = 20;
 
 /// A shard that keeps the traces with an error, ten milliseconds after their first span, and its limiter.
-pub fn new_shard(alloc: Global) -> Result<(Shard, Budgets), Fail>
-    ensures stands { IfOk result (λ p. StandsFor p.0 [] 0) }
-    ensures nothing_due { IfOk result (λ p. has_due p.0 ≡ false) }
-    ensures running { IfOk result (λ p. is_finished p.0 ≡ false) }
-    ensures nodes { IfOk result (λ p. knows (has_node p.1) (limiters (meaning p.0.policies)) ≡ true) }
+pub fn new_shard(alloc: Global) -> Result<(Shard, Budgets), AllocError>
+    ensures { IfOk result (λ made. HasTakenNothing made.0 made.1) }
 {
-    let policy = Policy {
-        name: Text::from_str(alloc, "errors")?,
-        kind: PolicyKind::StatusCode {
-            codes: List::from_vec(vec![in alloc; 2]?),
-        },
-    };
-    let policies = Policies::new(alloc, vec![in alloc; policy]?)?;
-    let limiter = Budgets::new(alloc, &policies)?;
-    let shard = Shard::new(alloc, policies, 10, 0, 100, 0, 0, SENDERS as usize)?;
-    Ok((shard, limiter))
+    let codes = List::from_vec(vec![in alloc; 2]?);
+    let kind = PolicyKind::StatusCode { codes };
+    plain_shard(alloc, kind, 10, 100, SENDERS as usize)
 }
 
 /// What a shard releases in one thread that takes these spans in this order, and then the tick and the Ends.
@@ -63,8 +50,8 @@ fn take_one(
     released: &mut Vec<Sent>,
 ) -> Result<(), Fail>
     requires ids { has_ids item ≡ true }
-    requires nodes { knows (has_node limiter.old) (limiters (meaning shard.old.policies)) ≡ true }
-    ensures nodes { knows (has_node limiter.new) (limiters (meaning shard.new.policies)) ≡ true }
+    requires nodes { HasNodes limiter.old shard.old.policies }
+    ensures nodes { HasNodes limiter.new shard.new.policies }
 {
     if shard.has_due() || shard.finished() {
         return Err(AllocError.into());

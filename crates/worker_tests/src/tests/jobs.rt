@@ -2,18 +2,16 @@
 ghost use Rattle.std.specs.Prelude.{◌≡◌, ◌<◌, [], All, IfOk, IfSome, false};
 ghost use Rattle.std.specs.List.{list_any};
 ghost use Rattle.lane_queue.specs.Ends.{IsNew};
-ghost use Rattle.shard_core.specs.Held.{StandsFor, has_due, is_finished};
 
-use crate::memory_sink::MemorySink;
-use crate::one_thread::{SENDERS, TICK, new_shard};
-use crate::spans::{Traces, is_of_second, span_item};
+use super::one_thread::{SENDERS, TICK, new_shard};
+use super::spans::{Traces, is_of_second, span_item};
 use drop_ledger::{Report, Tally};
 use lane_queue::{LaneQueue, OpenGate, Receiver, Room, Sender};
 use otlp_types::{Item, Shipment};
 use rate_budget::Budgets;
 use shard_core::Shard;
 use span_exporter::Exporter;
-use span_sink::LineSink;
+use span_sink::{LineSink, WriteSink};
 use std::alloc::{AllocError, Global};
 use std::marker::Model;
 use std::sync::Wait;
@@ -45,25 +43,21 @@ struct ShardStart<C: Room> {
 }
 
 impl<C: Room> Model for ShardStart<C> {
-    ghost use Rattle.std.specs.Prelude.{◌≡◌, ℕ, All, false, true, []};
-    ghost use Rattle.policy_tree.specs.Tree.{limiters};
-    ghost use Rattle.policy_tree.specs.Meaning.{meaning};
-    ghost use Rattle.policy_eval.specs.Meaning.{knows};
-    ghost use Rattle.rate_budget.specs.Budget.{has_node};
+    ghost use Rattle.std.specs.Prelude.{ℕ, All};
     ghost use Rattle.lane_queue.specs.Ends.{IsNew};
-    ghost use Rattle.shard_core.specs.Held.{StandsFor, has_due, is_finished};
+    ghost use Rattle.plain_shards.specs.Plain.{HasTakenNothing};
 
     ghost Value = { ℕ };
 
     ghost view = { λ s. s.number };
 
-    ghost invariant = { λ s. StandsFor s.shard [] 0 × (has_due s.shard ≡ false) × (is_finished s.shard ≡ false) × All IsNew s.receiver.ends × IsNew s.sender × (knows (has_node s.limiter) (limiters (meaning s.shard.policies)) ≡ true) };
+    ghost invariant = { λ s. HasTakenNothing s.shard s.limiter × All IsNew s.receiver.ends × IsNew s.sender };
 }
 
 /// The exporter, and its ends of the queues. Nothing was taken yet.
 #[derive(Drop)]
 struct ExporterStart<C: Room> {
-    exporter: Exporter<MemorySink>,
+    exporter: Exporter<WriteSink<Vec<u8>>>,
     receiver: Receiver<Shipment, C>,
 }
 
@@ -92,7 +86,7 @@ enum Job<C: Room> {
 pub enum Done {
     Lane,
     Shard(Report),
-    Exporter(MemorySink, Report),
+    Exporter(Vec<u8>, Report),
 }
 
 /// Sends the lane's spans, each to its shard, but for one to which memory is refused; from the ticker a tick to both. The End
@@ -138,10 +132,10 @@ fn run_shard<C: Room, R: Wait + Clock>(rt: &R, start: ShardStart<C>) -> Report {
     end.tally.end()
 }
 
-fn run_exporter<C: Room, R: Wait + Clock>(rt: &R, start: ExporterStart<C>) -> (MemorySink, Report) {
+fn run_exporter<C: Room, R: Wait + Clock>(rt: &R, start: ExporterStart<C>) -> (Vec<u8>, Report) {
     let ExporterStart { exporter, receiver } = start;
     let end = span_exporter::work(rt, exporter, receiver, Tally::new(Report::new()));
-    (end.exporter.end().end(), end.tally.end())
+    (end.exporter.end().end().end(), end.tally.end())
 }
 
 fn run<C: Room, R: Wait + Clock>(rt: &R, alloc: Global, job: Job<C>) -> Done {
@@ -152,8 +146,8 @@ fn run<C: Room, R: Wait + Clock>(rt: &R, alloc: Global, job: Job<C>) -> Done {
         }
         Job::Shard(start) => Done::Shard(run_shard(rt, start)),
         Job::Exporter(start) => {
-            let (sink, report) = run_exporter(rt, start);
-            Done::Exporter(sink, report)
+            let (lines, report) = run_exporter(rt, start);
+            Done::Exporter(lines, report)
         }
     }
 }
@@ -209,7 +203,8 @@ fn exporter_job<C: Room>(
 ) -> Result<Job<C>, AllocError>
     requires { All IsNew receiver.ends }
 {
-    match Exporter::new(alloc, 64, 2, LineSink::new(MemorySink::new(alloc))) {
+    let sink = WriteSink::new(Vec::new(alloc));
+    match Exporter::new(alloc, 64, 2, LineSink::new(sink)) {
         Ok(exporter) => Ok(Job::Exporter(ExporterStart { exporter, receiver })),
         Err(_) => Err(AllocError),
     }

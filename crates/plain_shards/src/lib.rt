@@ -1,0 +1,37 @@
+//! Shards of one policy, each with a limiter of its own: for tests, and for programs that measure.
+#![tactic(auto)]
+
+ghost use Rattle.std.specs.Prelude.{◌<◌, IfOk};
+ghost use Rattle.plain_shards.specs.Plain.{HasTakenNothing};
+
+use otlp_types::Text;
+use policy_tree::{Policies, Policy, PolicyKind};
+use rate_budget::Budgets;
+use shard_core::Shard;
+use std::alloc::{AllocError, Global};
+
+/// A shard that decides by one policy of this kind, when a trace has waited so many milliseconds; it has room for so many
+/// traces, and remembers no decision. Beside it the limiter of that policy. `AllocError` where the policy is refused, too.
+pub fn plain_shard(
+    alloc: Global,
+    kind: PolicyKind,
+    wait: u64,
+    traces: usize,
+    senders: usize,
+) -> Result<(Shard, Budgets), AllocError>
+    requires waits { 0 < wait }
+    requires keeps_a_trace { 0 < traces }
+    requires has_senders { 0 < senders }
+    ensures { IfOk result (λ made. HasTakenNothing made.0 made.1) }
+{
+    let policy = Policy {
+        name: Text::from_str(alloc, "one")?,
+        kind,
+    };
+    let Ok(policies) = Policies::new(alloc, vec![in alloc; policy]?) else {
+        return Err(AllocError);
+    };
+    let limiter = Budgets::new(alloc, &policies)?;
+    let shard = Shard::new(alloc, policies, wait, 0, traces, 0, 0, senders)?;
+    Ok((shard, limiter))
+}
