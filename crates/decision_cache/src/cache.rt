@@ -7,7 +7,7 @@ use std::alloc::{AllocError, Global};
 use std::marker::Model;
 
 /// The traces that are remembered as sampled, and those remembered as not sampled.
-#[derive(Debug, Drop)]
+#[derive(Drop)]
 pub struct DecisionCache {
     sampled: Traces,
     not_sampled: Traces,

@@ -20,7 +20,7 @@ pub enum Remembered {
 }
 
 /// The traces of one verdict, the last touched first.
-#[derive(Debug, Drop)]
+#[derive(Drop)]
 pub struct Traces {
     /// None where there is room for none.
     cache: Option<LruCache<TraceId, ()>>,

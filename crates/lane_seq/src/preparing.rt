@@ -26,7 +26,7 @@ pub struct Conn {
 }
 
 /// A request that was read.
-#[derive(Debug, Drop)]
+#[derive(Drop)]
 pub struct Prepared {
     /// Its spans in document order, those with invalid ids included.
     pub arrivals: Vec<Arrival>,
@@ -61,7 +61,7 @@ pub fn prepare(alloc: Global, conn: &Conn, body: &[u8], moment: Moment) -> Resul
 }
 
 /// What is wanting where records get no numbers.
-#[derive(Clone, Copy, Debug, PartialEq, Eq, Drop)]
+#[derive(Clone, Copy, PartialEq, Eq, Drop)]
 enum Lack {
     /// The connection's numbers would pass 2^64-1.
     Numbers,

@@ -11,7 +11,7 @@ use std::alloc::{AllocError, Global};
 /// A span with the resource and the scope that it was sent under, and the schema URLs of both.
 ///
 /// What it was sent under it shares with the other spans of its request.
-#[derive(Debug, Drop)]
+#[derive(Drop)]
 pub struct Record {
     pub resource: Shared<Resource>,
     pub resource_schema_url: Shared<Text>,
@@ -21,7 +21,7 @@ pub struct Record {
 }
 
 /// A received span.
-#[derive(Debug, Drop)]
+#[derive(Drop)]
 pub struct Arrival {
     /// Its place among all received spans.
     pub key: ArrivalKey,
@@ -32,7 +32,7 @@ pub struct Arrival {
 }
 
 /// What a shard takes.
-#[derive(Debug, Drop)]
+#[derive(Drop)]
 pub enum Item {
     /// A span of one of the shard's traces.
     Span(Arrival),
@@ -43,7 +43,7 @@ pub enum Item {
 }
 
 /// What the exporter takes.
-#[derive(Debug, Drop)]
+#[derive(Drop)]
 pub enum Shipment {
     /// A span of a sampled trace.
     Span(Arrival),

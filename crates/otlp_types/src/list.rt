@@ -13,7 +13,7 @@ pub trait TryClone: Sized {
 }
 
 /// A `Vec` that contracts see as the list of its elements.
-#[derive(Debug, Drop)]
+#[derive(Drop)]
 pub struct List<T> {
     items: Vec<T>,
 }
@@ -97,13 +97,13 @@ impl<T: TryClone + Drop> TryClone for List<T> {
 }
 
 /// A text that contracts see as its bytes. One of at most 16 bytes lies in the value itself, and takes no memory but that.
-#[derive(Debug, Drop)]
+#[derive(Drop)]
 pub struct Text {
     held: Held,
 }
 
 /// Where the bytes of a text lie: keys, names and values of spans are mostly short.
-#[derive(Debug, Drop)]
+#[derive(Drop)]
 enum Held {
     Short(ArrayString<16>),
     Long(String),

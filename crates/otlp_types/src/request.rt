@@ -8,14 +8,14 @@ use crate::value::KeyValue;
 use std::alloc::{AllocError, Global};
 
 /// What sends spans (`resource.proto` v1, `Resource`).
-#[derive(Debug, Drop)]
+#[derive(Drop)]
 pub struct Resource {
     pub attributes: List<KeyValue>,
     pub dropped_attributes_count: u32,
 }
 
 /// The library that made spans (`common.proto` v1, `InstrumentationScope`).
-#[derive(Debug, Drop)]
+#[derive(Drop)]
 pub struct Scope {
     pub name: Text,
     pub version: Text,
@@ -24,7 +24,7 @@ pub struct Scope {
 }
 
 /// The spans of one scope (`trace.proto` v1, `ScopeSpans`).
-#[derive(Debug, Drop)]
+#[derive(Drop)]
 pub struct ScopeSpans {
     pub scope: Scope,
     pub spans: List<Span>,
@@ -32,7 +32,7 @@ pub struct ScopeSpans {
 }
 
 /// The spans of one resource (`trace.proto` v1, `ResourceSpans`).
-#[derive(Debug, Drop)]
+#[derive(Drop)]
 pub struct ResourceSpans {
     pub resource: Resource,
     pub scope_spans: List<ScopeSpans>,
@@ -40,7 +40,7 @@ pub struct ResourceSpans {
 }
 
 /// A request to take traces (OTLP 1.x, `ExportTraceServiceRequest`).
-#[derive(Debug, Drop)]
+#[derive(Drop)]
 pub struct Request {
     pub resource_spans: List<ResourceSpans>,
 }

@@ -8,7 +8,7 @@ use std::sync::Arc;
 /// A value that several records hold at once, in any threads. It can't be changed, so contracts see it as the value.
 ///
 /// The spans of a request hold the resource and the scope that they were sent under once for all of them.
-#[derive(Debug, Drop)]
+#[derive(Drop)]
 pub struct Shared<T> {
     inner: Arc<T, Global>,
 }

@@ -16,7 +16,7 @@ pub struct Ids {
 }
 
 /// Something that happened during a span (`trace.proto` v1, `Span.Event`).
-#[derive(Debug, Drop)]
+#[derive(Drop)]
 pub struct Event {
     /// Nanoseconds since 1970.
     pub time_unix_nano: u64,
@@ -26,7 +26,7 @@ pub struct Event {
 }
 
 /// A pointer to another span (`trace.proto` v1, `Span.Link`). Its ids are kept as the text that came.
-#[derive(Debug, Drop)]
+#[derive(Drop)]
 pub struct Link {
     pub trace_id: Text,
     pub span_id: Text,
@@ -37,7 +37,7 @@ pub struct Link {
 }
 
 /// The status of a span (`trace.proto` v1, `Status`).
-#[derive(Debug, Drop)]
+#[derive(Drop)]
 pub struct Status {
     pub message: Text,
     /// 0 unset, 1 ok, 2 error; other numbers are kept.
@@ -45,7 +45,7 @@ pub struct Status {
 }
 
 /// One operation of a trace (`trace.proto` v1, `Span`).
-#[derive(Debug, Drop)]
+#[derive(Drop)]
 pub struct Span {
     /// `None` where an id is missing or invalid.
     pub ids: Option<Ids>,

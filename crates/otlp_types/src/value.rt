@@ -6,7 +6,7 @@ use std::alloc::{AllocError, Global};
 
 /// The value of an attribute (`common.proto` v1, `AnyValue`). Floating-point values are not kept.
 #[cycle(value)]
-#[derive(Debug, Drop)]
+#[derive(Drop)]
 pub enum AnyValue {
     /// No value at all.
     Empty,
@@ -21,7 +21,7 @@ pub enum AnyValue {
 
 /// An attribute, or a pair of a list of pairs (`common.proto` v1, `KeyValue`).
 #[cycle(value)]
-#[derive(Debug, Drop)]
+#[derive(Drop)]
 pub struct KeyValue {
     pub key: Text,
     pub value: AnyValue,

@@ -23,7 +23,7 @@ const MOST_POLICIES: usize = 64;
 
 /// A list of policies within its limits: no list is empty, there are at most 8 levels and at most 64 policies in all,
 /// no two policies of one list have the same name, none has crossed bounds, and none has no values to look for.
-#[derive(Debug, Drop)]
+#[derive(Drop)]
 pub struct Policies {
     list: Vec<Policy>,
 }

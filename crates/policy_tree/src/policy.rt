@@ -6,7 +6,7 @@ use std::alloc::{AllocError, Global};
 
 /// A policy by its name (tailsamplingprocessor README, `policies`).
 #[cycle(policy)]
-#[derive(Debug, Drop)]
+#[derive(Drop)]
 pub struct Policy {
     /// Different from the names of the other policies of its list.
     pub name: Text,
@@ -15,7 +15,7 @@ pub struct Policy {
 
 /// What a policy samples (tailsamplingprocessor README, `type`).
 #[cycle(policy)]
-#[derive(Debug, Drop)]
+#[derive(Drop)]
 pub enum PolicyKind {
     /// Every trace.
     AlwaysSample,
@@ -54,7 +54,7 @@ pub enum PolicyKind {
 
 /// What the value of an attribute is to be (tailsamplingprocessor README, `string_attribute`, `numeric_attribute`,
 /// `boolean_attribute`).
-#[derive(Debug, Drop)]
+#[derive(Drop)]
 pub enum Wanted {
     /// One of these texts.
     StringAmong(List<Text>),

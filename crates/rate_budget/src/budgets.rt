@@ -12,7 +12,7 @@ use std::alloc::{AllocError, Global};
 use std::marker::Model;
 
 /// One count for each limiter node of some policies, in the order of their numbers.
-#[derive(Debug, Drop)]
+#[derive(Drop)]
 pub struct Budgets {
     counts: Vec<LimiterCount>,
 }

@@ -5,7 +5,7 @@ use span_ids::Reason;
 use trace_buffer::Evicted;
 
 /// What a shard did with an item.
-#[derive(Debug, Drop)]
+#[derive(Drop)]
 pub enum Taken {
     /// The span waits for its trace's decision.
     Kept {
@@ -29,7 +29,7 @@ pub enum Taken {
 }
 
 /// What a shard did with the trace that was due.
-#[derive(Debug, Drop)]
+#[derive(Drop)]
 pub enum Decided {
     /// It is sampled: its spans, in order of arrival.
     Release(Vec<Arrival>),

@@ -26,7 +26,7 @@ use trace_buffer::{Evicted, State, TraceBuffer};
 /// Its clock is the greatest moment of the spans and ticks that it has taken, 0 at first. Its mark is the clock at the
 /// last tick. A caller hands it an item by `take`, then calls `decide` until the answer is `Nothing`, and so on until
 /// `take` answers `Finished` and the last traces are decided.
-#[derive(Debug, Drop)]
+#[derive(Drop)]
 pub struct Shard {
     policies: Policies,
     wait: Moment,

@@ -9,7 +9,7 @@ use span_ids::{ArrivalKey, Reason};
 use std::marker::Model;
 
 /// An item that a shard took, with its marks, and the limiter's answers to the decisions at it.
-#[derive(Debug, Drop)]
+#[derive(Drop)]
 pub struct Entry {
     pub item: Item,
     /// Memory was refused to the span itself.
@@ -29,7 +29,7 @@ impl Model for Entry {
 }
 
 /// A span counted under a reason, by its key.
-#[derive(Clone, Copy, Debug)]
+#[derive(Clone, Copy)]
 pub struct DroppedSpan {
     pub reason: Reason,
     pub key: ArrivalKey,
@@ -44,7 +44,7 @@ impl Model for DroppedSpan {
 }
 
 /// What an item or a decision does at once.
-#[derive(Debug, Drop)]
+#[derive(Drop)]
 pub struct Effect {
     /// The spans that are released, in order.
     pub released: Vec<Arrival>,

@@ -11,7 +11,7 @@ use crate::settings::Settings;
 use span_ids::{TraceId, Verdict};
 
 /// What a span finds of its trace.
-#[derive(Clone, Copy, Debug)]
+#[derive(Clone, Copy)]
 pub enum Found {
     /// Its trace stands undecided in the buffer: it joins that episode.
     Joins(Opening),

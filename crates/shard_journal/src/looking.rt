@@ -19,7 +19,7 @@ use std::marker::Model;
 
 /// What looking back over a journal found: how many episodes are due at its last item, the spans of each, and what is
 /// noted of it.
-#[derive(Debug, Drop)]
+#[derive(Drop)]
 pub struct LookBack {
     due: usize,
     spans: Vec<List<Arrival>>,

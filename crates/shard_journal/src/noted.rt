@@ -13,7 +13,7 @@ use std::alloc::{AllocError, Global};
 use std::marker::Model;
 
 /// An opening: its position, its trace, and the clock after its span.
-#[derive(Clone, Copy, Debug)]
+#[derive(Clone, Copy)]
 pub struct Opening {
     at: usize,
     trace: TraceId,
@@ -61,7 +61,7 @@ impl Opening {
 }
 
 /// The decision of an episode. Its spans are left out.
-#[derive(Clone, Copy, Debug)]
+#[derive(Clone, Copy)]
 pub struct Decision {
     opening: Opening,
     verdict: Verdict,
@@ -100,7 +100,7 @@ impl Decision {
 }
 
 /// A touch of an episode's verdict.
-#[derive(Clone, Copy, Debug)]
+#[derive(Clone, Copy)]
 pub struct Touch {
     episode: usize,
     trace: TraceId,
@@ -158,7 +158,7 @@ impl Touch {
 }
 
 /// What is noted, the newest first.
-#[derive(Debug, Drop)]
+#[derive(Drop)]
 pub struct Notes {
     openings: Vec<Opening>,
     decisions: Vec<Decision>,

@@ -3,7 +3,7 @@ use policy_tree::Policies;
 use span_ids::Moment;
 
 /// The settings of a shard.
-#[derive(Debug, Drop)]
+#[derive(Drop)]
 pub struct Settings {
     pub policies: Policies,
     /// How long a trace waits for its decision, in milliseconds.

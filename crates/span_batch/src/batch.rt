@@ -7,7 +7,7 @@ use std::alloc::{AllocError, Global};
 use std::marker::Model;
 
 /// Received spans on their way to the sink, in order, and at most a fixed number of them.
-#[derive(Debug, Drop)]
+#[derive(Drop)]
 pub struct Batch {
     spans: Vec<Arrival>,
     size: usize,

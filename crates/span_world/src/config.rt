@@ -3,7 +3,7 @@ use policy_tree::Policies;
 use span_ids::Moment;
 
 /// What a world is made with.
-#[derive(Debug, Drop)]
+#[derive(Drop)]
 pub struct Config {
     pub policies: Policies,
     /// How long a trace waits for its decision, in milliseconds.

@@ -4,7 +4,7 @@ use span_ids::{Moment, Reason};
 use std::alloc::AllocError;
 
 /// A step of the core. Lanes, shards and senders are named by their numbers from 0, and moments are milliseconds.
-#[derive(Debug, Drop)]
+#[derive(Drop)]
 pub enum Step {
     /// The lane's connection of this ordinal receives the spans of a request.
     Receive {

@@ -5,7 +5,7 @@ ghost use Rattle.trace_buffer.specs.Ring.{kept_at};
 use span_ids::Moment;
 
 /// None of the episodes before `end`, a place in the ring, is due by this mark and these waits, in milliseconds.
-#[derive(Clone, Copy, Debug)]
+#[derive(Clone, Copy)]
 pub(crate) struct Search {
     pub(crate) mark: Moment,
     pub(crate) wait: Moment,

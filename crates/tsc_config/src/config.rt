@@ -19,7 +19,7 @@ use std::alloc::Global;
 use toml::Table;
 
 /// What a collector does with what it receives.
-#[derive(Debug, Drop)]
+#[derive(Drop)]
 pub struct Config {
     /// How long the spans of a trace are gathered before it is decided, in milliseconds, from 1 to 3600000
     /// (tailsamplingprocessor README, `decision_wait`).

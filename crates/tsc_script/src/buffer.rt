@@ -14,7 +14,7 @@ use std::marker::Model;
 const CHUNK: usize = 65536;
 
 /// What a refill of the buffer found.
-#[derive(Clone, Copy, Debug, PartialEq, Eq, Drop)]
+#[derive(Clone, Copy, PartialEq, Eq, Drop)]
 pub(crate) enum Refill {
     /// More bytes.
     More,
@@ -99,7 +99,7 @@ impl<A: Allocator> Buffer<A> {
 }
 
 /// Why a reader gave nothing.
-#[derive(Clone, Copy, Debug, PartialEq, Eq, Drop)]
+#[derive(Clone, Copy, PartialEq, Eq, Drop)]
 enum ReadFault {
     /// All reads that may be made, 2^32, were made.
     NoReadLeft,

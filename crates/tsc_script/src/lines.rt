@@ -11,7 +11,7 @@ use std::alloc::Allocator;
 use std::io::Read;
 
 /// How a line ended.
-#[derive(Clone, Copy, Debug, PartialEq, Eq, Drop)]
+#[derive(Clone, Copy, PartialEq, Eq, Drop)]
 pub(crate) enum LineEnd {
     /// A line feed stands behind it.
     LineFeed,
@@ -62,7 +62,7 @@ pub(crate) fn read_line<R: Read, A: Allocator, B: Allocator>(
 }
 
 /// What came of a line.
-#[derive(Clone, Copy, Debug, PartialEq, Eq, Drop)]
+#[derive(Clone, Copy, PartialEq, Eq, Drop)]
 enum Part {
     /// All of it, and its line feed.
     Ended,
