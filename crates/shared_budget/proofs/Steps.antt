@@ -72,7 +72,7 @@ abbrev seen_all : View → List Asked → View
 seen_all v log = record v { seen = log }
 
 looks_knows : (owner : ℕ → ℕ) (n l s : ℕ) (log : List Asked) (port : ℕ) (v : View) → Knows owner n l s log port v → Knows owner n l s log port (seen_all v log)
-looks_knows owner n l s log port v k = record { of_node = k.of_node; of_limit = k.of_limit; of_seats = k.of_seats; below = k.below; owns = k.owns; part = (([], refl), k.part.1); taken = k.taken; rest = k.rest }
+looks_knows owner n l s log port v k = record { of = k.of; below = k.below; owns = k.owns; part = (([], refl), k.part.1); taken = k.taken; rest = k.rest }
 
 pub looks : (x : List ℕ) (views : List View) (port : ℕ) (v : View) → v.live ≡ true → Kept x views → get_elem? views port ≡ some v → (w : View) × Kept x (set views port w) × Looks v w
 looks x views port v live h at =
@@ -92,9 +92,7 @@ part_stays e log p apart h = ((e ∷ h.0.0, ap (λ (l : List Asked). e ∷ l) h.
 
 others_know : (owner : ℕ → ℕ) (n l s : ℕ) (log : List Asked) (port : ℕ) (e : Asked) → owner e.seat ≡ port → (j : ℕ) (u : View) → j ≢ port → Knows owner n l s log j u → Knows owner n l s (e ∷ log) j u
 others_know owner n l s log port e mine j u other k = record {
-  of_node = k.of_node;
-  of_limit = k.of_limit;
-  of_seats = k.of_seats;
+  of = k.of;
   below = k.below;
   owns = k.owns;
   part = part_stays e log (own u) (apart u.seat k.owns) k.part;
@@ -109,9 +107,7 @@ asks_knows : (owner : ℕ → ℕ) (n l s : ℕ) (log : List Asked) (port : ℕ)
 asks_knows owner n l s log port v second spans g seat k =
     let e = asked v second spans g in
     record {
-      of_node = k.of_node;
-      of_limit = k.of_limit;
-      of_seats = k.of_seats;
+      of = k.of;
       below = k.below;
       owns = k.owns;
       part = (([], refl), ap (λ b. cond b (e ∷ of_seat v.seat log) (of_seat v.seat log)) (eq-eqb v.seat v.seat refl) ∙ ap (λ (own : List Asked). e ∷ own) k.part.1);
@@ -129,14 +125,14 @@ asks second spans x views port v seat h at =
     let w : View = record v { seen = e ∷ h.log; mine = e ∷ v.mine } in
     let k' : Knows h.owner h.n h.l h.s (e ∷ h.log) port w = asks_knows h.owner h.n h.l h.s h.log port v second spans (answer second spans v x) seat k in
     let grant = legal_after second spans v h.log x h.is in
-    let legal : IsLegal h.n h.l (e ∷ h.log) = (k.of_node, subst (λ m. answer second spans v x ≡ grants m (askings h.log) second spans) k.of_limit grant, h.legal) in (
+    let legal : IsLegal h.n h.l (e ∷ h.log) = (k.of.of_node, subst (λ m. answer second spans v x ≡ grants m (askings h.log) second spans) k.of.of_limit grant, h.legal) in (
       w,
       no_fresh (next_words second spans v x) (set views port w) h.owner h.n h.l h.s (e ∷ h.log) legal (k.below, h.within) (words_after second spans v h.log x h.is) (stale_but x views port v w seat.0 h at (stale x views port v seat.0 h at port v at))
           (every_set (Live h.owner h.n h.l h.s (e ∷ h.log)) views port w (λ _. k') (λ j u other e' live. others_know h.owner h.n h.l h.s h.log port e k.owns j u other (h.knows j u e' live))),
       (
         k.part.0.0,
         ap (λ (log : List Asked). record v { seen = e ∷ log; mine = e ∷ v.mine }) k.part.0.1,
-        subst (λ (y : ℕ × ℕ). IsLegal y.0 y.1 (e ∷ h.log)) (λ i. (sym k.of_node i, sym k.of_limit i)) legal,
+        subst (λ (y : ℕ × ℕ). IsLegal y.0 y.1 (e ∷ h.log)) (λ i. (sym k.of.of_node i, sym k.of.of_limit i)) legal,
         k'.part.1,
       ),
     )
@@ -183,8 +179,8 @@ compares port v live x views h at =
         (
           h.log,
           (
-            subst (λ (y : ℕ × ℕ). IsLegal y.0 y.1 h.log) (λ i. (sym k.of_node i, sym k.of_limit i)) h.legal,
-            subst (λ m. AreOfSeats m h.log) (sym k.of_seats) h.within,
+            subst (λ (y : ℕ × ℕ). IsLegal y.0 y.1 h.log) (λ i. (sym k.of.of_node i, sym k.of.of_limit i)) h.legal,
+            subst (λ m. AreOfSeats m h.log) (sym k.of.of_seats) h.within,
             k.part,
             All-weaker (λ (p : Part). (h.owner p.seat ≡ port) × HasPart h.log p) (HasPart h.log) (λ p t. t.1) v.others k.taken,
           ),
@@ -230,7 +226,7 @@ opens node limit last port v is x views h at =
     let l : View = seated node limit seats last 0 [] in
     let vs : List View = set views port l in
     let K : ℕ → View → Type 0 = Live (λ k. port) node limit seats [] in
-    let mine : Knows (λ k. port) node limit seats [] port l = record { of_node = refl; of_limit = refl; of_seats = refl; below = omega arith; owns = refl; part = (([], refl), refl); taken = All-nil (λ (p : Part). (port ≡ port) × HasPart [] p); rest = λ k low high. (refl, refl) } in
+    let mine : Knows (λ k. port) node limit seats [] port l = record { of = record { of_node = refl; of_limit = refl; of_seats = refl }; below = omega arith; owns = refl; part = (([], refl), refl); taken = All-nil (λ (p : Part). (port ≡ port) × HasPart [] p); rest = λ k low high. (refl, refl) } in
     no_fresh x (vs ++ spent ∷ []) (λ k. port) node limit seats [] tt tt (h.is ∙ ap words_of f.0) none
     (every_end K vs spent (λ live. absurd (true≢false (sym live))) (λ j u lt e. every_set K views port l (λ _. mine) (λ i t other e' live. absurd (not_live t (f.1 i t e').0 live)) j u e)) where
       none : Every NotFresh (set views port (seated node limit (last + 1) last 0 []) ++ spent ∷ [])
@@ -254,9 +250,7 @@ unmoved owner from new k j other is = ap (λ b. cond b new (owner k)) (ne_eqb (o
 -- the pass is known as another one
 known_as : (owner owner' : ℕ → ℕ) (n l s : ℕ) (log : List Asked) (j j' : ℕ) (u : View) → ((i : ℕ) → owner i ≡ j → owner' i ≡ j') → Knows owner n l s log j u → Knows owner' n l s log j' u
 known_as owner owner' n l s log j j' u to k = record {
-  of_node = k.of_node;
-  of_limit = k.of_limit;
-  of_seats = k.of_seats;
+  of = k.of;
   below = k.below;
   owns = to u.seat k.owns;
   part = k.part;
@@ -267,9 +261,7 @@ known_as owner owner' n l s log j j' u to k = record {
 -- a seat without a part taken in
 gives_left : (owner : ℕ → ℕ) (n l s : ℕ) (log : List Asked) (port new : ℕ) (v : View) → IsSeat v → v.next < v.seat → Knows owner n l s log port v → Knows (given_to owner v.next new) n l s log port (without_next v)
 gives_left owner n l s log port new v seat lt k = record {
-  of_node = k.of_node;
-  of_limit = k.of_limit;
-  of_seats = k.of_seats;
+  of = k.of;
   below = k.below;
   owns = stays v.seat (λ same. omega arith) k.owns;
   part = k.part;
@@ -284,9 +276,7 @@ gives_right owner n l s log port new v lt k =
     let below : v.seat < s = k.below in
     let r = k.rest v.next (omega arith) lt in
     record {
-      of_node = k.of_node;
-      of_limit = k.of_limit;
-      of_seats = k.of_seats;
+      of = k.of;
       below = omega arith;
       owns = ap (λ b. cond b new (owner v.next)) (eq-eqb v.next v.next refl);
       part = (k.part.0, r.1);
@@ -329,9 +319,7 @@ unites owner n l s log port other v w apart k m =
     let b = known_as owner owner' n l s log other port w (λ i is. moved owner other port i is) m in
     let P : Part → Type 0 = λ p. (owner' p.seat ≡ port) × HasPart log p in
     record {
-      of_node = a.of_node;
-      of_limit = a.of_limit;
-      of_seats = a.of_seats;
+      of = a.of;
       below = a.below;
       owns = a.owns;
       part = a.part;
