@@ -34,50 +34,42 @@ pub all_last : {X : Type 0} (P : X → Type 0) (xs : List X) (y : X) → All P (
 all_last P [] y h = All-head P y [] h
 all_last P (x ∷ xs) y h = all_last P xs y (All-tail P x (xs ++ y ∷ []) h)
 
+-- a seat of the same table and node as these, with the same limit and number of seats
+abbrev IsOfTheirs : (stands : List Stand) → AreOfOne stands → Stand → Type 0
+IsOfTheirs stands one = IsOf one.0 one.1 one.2 one.3
+
 -- what the loop keeps: the seats that are left are the first ones, and the parts of the others are taken in
 pub record Uniting (whole left : List Stand) (first : Stand) : Type 0 where
-  pub table : TableId
-  pub n : ℕ
-  pub l : ℕ
-  pub s : ℕ
-  pub all : All (IsOf table n l s) whole
-  pub of : IsOf table n l s first
-  pub same : All (IsOf table n l s) left
+  pub one : AreOfOne whole
+  pub of : IsOfTheirs whole one first
+  pub same : All (IsOfTheirs whole one) left
   pub others : List Stand
   pub split : whole ≡ left ++ others
   pub parts : (log : List Asked) → HasPart log (own first.1) → All (HasPart log) first.1.others → All (StandsIn log) others
 
 pub uniting_init : (whole left : List Stand) (first : Stand) → AreOfOne whole → whole ≡ left ++ first ∷ [] → Uniting whole left first
 uniting_init whole left first h is =
-    let all = subst (All (IsOf h.0 h.1 h.2 h.3)) is h.4 in
+    let all = subst (All (IsOfTheirs whole h)) is h.4 in
     record {
-      table = h.0;
-      n = h.1;
-      l = h.2;
-      s = h.3;
-      all = h.4;
-      of = all_last (IsOf h.0 h.1 h.2 h.3) left first all;
-      same = all_front (IsOf h.0 h.1 h.2 h.3) left (first ∷ []) all;
+      one = h;
+      of = all_last (IsOfTheirs whole h) left first all;
+      same = all_front (IsOfTheirs whole h) left (first ∷ []) all;
       others = first ∷ [];
       split = is;
       parts = λ log mine theirs. All-cons (StandsIn log) first [] mine (All-nil (StandsIn log));
     }
 
 pub uniting_same : (whole left left' : List Stand) (first other : Stand) → Uniting whole left first → left ≡ left' ++ other ∷ [] → other.0 ≡ first.0
-uniting_same whole left left' first other u is = (all_last (IsOf u.table u.n u.l u.s) left' other (subst (All (IsOf u.table u.n u.l u.s)) is u.same)).0 ∙ sym u.of.0
+uniting_same whole left left' first other u is = (all_last (IsOfTheirs whole u.one) left' other (subst (All (IsOfTheirs whole u.one)) is u.same)).0 ∙ sym u.of.0
 
 pub uniting_step : (whole left left' : List Stand) (first other first' : Stand) → Uniting whole left first → left ≡ left' ++ other ∷ [] → first'.0 ≡ first.0 → first'.1 ≡ with_parts first.1 other.1 → Uniting whole left' first'
 uniting_step whole left left' first other first' u is same_table view =
-    let rest = subst (All (IsOf u.table u.n u.l u.s)) is u.same in
+    let rest = subst (All (IsOfTheirs whole u.one)) is u.same in
     let now : first' ≡ (first.0, with_parts first.1 other.1) = λ i. (same_table i, view i) in
     record {
-      table = u.table;
-      n = u.n;
-      l = u.l;
-      s = u.s;
-      all = u.all;
-      of = subst (IsOf u.table u.n u.l u.s) (sym now) u.of;
-      same = all_front (IsOf u.table u.n u.l u.s) left' (other ∷ []) rest;
+      one = u.one;
+      of = subst (IsOfTheirs whole u.one) (sym now) u.of;
+      same = all_front (IsOfTheirs whole u.one) left' (other ∷ []) rest;
       others = other ∷ u.others;
       split = u.split ∙ ap (λ (xs : List Stand). xs ++ u.others) is ∙ append_assoc left' (other ∷ []) u.others;
       parts = λ log. subst (λ (x : Stand). HasPart log (own x.1) → All (HasPart log) x.1.others → All (StandsIn log) (other ∷ u.others)) (sym now)
@@ -90,9 +82,9 @@ uniting_end whole left first u none log one =
     let is : whole ≡ u.others = u.split ∙ ap (λ (xs : List Stand). xs ++ u.others) none in
     let stand = subst (All (StandsIn log)) (sym is) (u.parts log one.2 one.3) in
     let P : Stand → Type 0 = λ x. IsLegal x.1.node x.1.limit log × AreOfSeats x.1.seats log in
-    let legal : IsLegal u.n u.l log = subst (λ (y : ℕ × ℕ). IsLegal y.0 y.1 log) (λ i. (u.of.1 i, u.of.2 i)) one.0 in
-    let within : AreOfSeats u.s log = subst (λ m. AreOfSeats m log) u.of.3 one.1 in
-    let each = All-weaker (IsOf u.table u.n u.l u.s) P (λ x o. (subst (λ (y : ℕ × ℕ). IsLegal y.0 y.1 log) (λ i. (sym o.1 i, sym o.2 i)) legal, subst (λ m. AreOfSeats m log) (sym o.3) within)) whole u.all in
+    let legal : IsLegal u.one.1 u.one.2 log = subst (λ (y : ℕ × ℕ). IsLegal y.0 y.1 log) (λ i. (u.of.1 i, u.of.2 i)) one.0 in
+    let within : AreOfSeats u.one.3 log = subst (λ m. AreOfSeats m log) u.of.3 one.1 in
+    let each = All-weaker (IsOfTheirs whole u.one) P (λ x o. (subst (λ (y : ℕ × ℕ). IsLegal y.0 y.1 log) (λ i. (sym o.1 i, sym o.2 i)) legal, subst (λ m. AreOfSeats m log) (sym o.3) within)) whole u.one.4 in
     (log, λ k d lt. ((each k d lt).0, (each k d lt).1, stand k d lt))
 
 pub none_left : (left : List Stand) → length left ≡ 0 → left ≡ []
