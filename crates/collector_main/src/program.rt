@@ -6,7 +6,7 @@ ghost use Rattle.collector_main.specs.Ending.{WritesText, HandsText, Finishes, A
 ghost use Rattle.collector_main.specs.declared.program.Outcome.TheVariants.{NoMemory};
 
 use crate::configuration::{FileFault, config_of, read_file};
-use collector_serve::{WallClock, listen, serve_on};
+use collector_serve::{StopMark, WallClock, listen, serve_on};
 use drop_ledger::{Count, Report};
 use itoa::Buffer;
 use lane_seq::put;
@@ -208,7 +208,8 @@ fn serve_by<
     };
     let clock = WallClock::new(rt);
     let sink = WriteSink::new(writer);
-    let (sink, answer) = serve_on(rt, alloc, config, &listener, sink, &clock);
+    let stop = StopMark::new();
+    let (sink, answer) = serve_on(rt, alloc, config, &listener, sink, &stop, &clock);
     (sink.end(), served_to(answer))
 }
 

@@ -5,7 +5,6 @@ ghost use Rattle.pipeline.specs.Promise.{CoreRunTells};
 ghost use Rattle.tsc_config.specs.Values.{InRange};
 
 use crate::connections::Connections;
-use crate::stop_mark::StopMark;
 use crate::ticker::Ticker;
 use drop_ledger::Report;
 use http_lane::{Clock as Moments, Stop};
@@ -30,27 +29,11 @@ pub fn listen<R: Net<Listener = TcpListener, Stream = TcpStream>>(
     Ok(listener)
 }
 
-/// Runs the collector on a listener that doesn't block, until a request says `POST /close`. It gives the sink back, and the
+/// Runs the collector on a listener that doesn't block, until a request says `POST /close`, which sets the mark, or it is set
+/// otherwise. It may be set already: then what is asked on a connection that waits is refused. It gives the sink back, and the
 /// report of all spans: what the threads did is a run of the core. `NoMemory`: there was none at the start, and no
 /// connection was taken.
-pub fn serve_on<S: Sink + Drop, M: Moments + Sync, R: Threads + Wait + Clock + Sync>(
-    rt: &R,
-    alloc: Global,
-    config: Config,
-    listener: &TcpListener,
-    sink: S,
-    clock: &M,
-) -> (S, Result<Report, RunFault>)
-    requires ranges { InRange config }
-    requires failures { S.failures sink < 2 ^ 64 - 1 }
-    ensures sink { SinkAnswers (S.taken sink) (S.failures sink) (S.taken result.0) (S.failures result.0) result.1 }
-    ensures ran { CoreRunTells config (S.taken sink) (S.failures sink) (S.taken result.0) (S.failures result.0) result.1 }
-{
-    serve_until(rt, alloc, config, listener, sink, &StopMark::new(), clock)
-}
-
-/// The same, until this mark is set, which it may be already: then what is asked on a connection that waits is refused.
-pub fn serve_until<
+pub fn serve_on<
     S: Sink + Drop,
     P: Stop + Sync,
     M: Moments + Sync,

@@ -1,6 +1,6 @@
 //! The collector on a listener of this machine, and a client on a thread of its own.
 use crate::connections::Connections;
-use crate::serving::{listen, serve_on, serve_until};
+use crate::serving::{listen, serve_on};
 use crate::stop_mark::StopMark;
 use crate::ticker::Ticker;
 use crate::wall_clock::WallClock;
@@ -101,7 +101,8 @@ fn serve_page<R: Threads + Wait + Clock + Sync>(
         bytes: Vec::new(alloc),
         room,
     });
-    let (sink, answer) = serve_on(rt, alloc, config, listener, sink, &clock);
+    let stop = StopMark::new();
+    let (sink, answer) = serve_on(rt, alloc, config, listener, sink, &stop, &clock);
     Ok((sink.end().bytes, answer))
 }
 
@@ -137,7 +138,7 @@ fn stop_mark_is_set(rt: HostRuntime) -> Result<(), Fail> {
         room: 1_000_000,
     });
     let clock = WallClock::new(&rt);
-    let (sink, answer) = serve_until(&rt, rt.alloc(), config, &listener, sink, &stop, &clock);
+    let (sink, answer) = serve_on(&rt, rt.alloc(), config, &listener, sink, &stop, &clock);
     let mut answers = Vec::new(rt.alloc());
     stream.read_to_end(&mut answers)?;
     assert_eq!(rt; answers.as_slice(), CLOSING);

@@ -1,11 +1,12 @@
 //! The loop of a connection.
-ghost use Rattle.std.specs.Prelude.{◌≡◌, ◌+◌, [], ℕ, ◌<◌, ◌≤◌, List, ◌++◌, IsTrue, take, IfOk, Option, false, true, ◌^◌, ◌-◌};
+ghost use Rattle.std.specs.Prelude.{◌≡◌, ◌+◌, [], ℕ, ◌<◌, ◌≤◌, List, ◌++◌, IsTrue, take, IfOk, Option, false, true, ◌^◌, ◌-◌, if◌then◌else◌};
 ghost use Rattle.http_lane.specs.Intake.{Submits, intake, Counts, first_conn, connected};
 ghost use Rattle.lane_seq.specs.declared.preparing.Conn.{Conn};
 ghost use Rattle.std.specs.Io.KnownBytes.{Appends};
 ghost use Rattle.http_lane.specs.Connection.{Reading};
 ghost use Rattle.http_lane.specs.Engine.{Puts, Settled, text_of_answer, Responds, Acts, IsOpenAfter, IsFateOfText, Waits, Served, Sees};
-ghost use Rattle.http_lane.specs.Connection.{end_with, Standing, in_head, counts_spans};
+ghost use Rattle.http_lane.specs.Connection.{end_with, Standing, in_head, is_between, counts_spans};
+ghost use Rattle.http_lane.specs.declared.answer.ServeEnd.TheVariants.{Closed, Cut};
 
 use crate::answer::{
     Answer, Brought, Fate, QUIET_LIMIT, READ_LIMIT, ReadTurn, SLOW_LIMIT, ServeEnd,
@@ -203,6 +204,17 @@ fn wait<E: Engine, W: Write, S: Stop>(
     None
 }
 
+/// How a connection ends at the end of its stream: between requests, or within one.
+fn ended<E: Engine>(engine: &E) -> ServeEnd
+    ensures { (r : Reading) → E.awaits engine.now r → result ≡ (if is_between r then Closed else Cut) }
+{
+    if engine.is_between() {
+        ServeEnd::Closed
+    } else {
+        ServeEnd::Cut
+    }
+}
+
 /// Serves one connection with an engine that has read nothing.
 fn serve_turns<E: Engine, P: Port<Item>, C: Counter, R: Source, W: Write, S: Stop, K: Clock>(
     alloc: Global,
@@ -237,8 +249,7 @@ fn serve_turns<E: Engine, P: Port<Item>, C: Counter, R: Source, W: Write, S: Sto
             }
             ReadTurn::Interrupted => row = 0,
             ReadTurn::Failed => return ServeEnd::ReadFault,
-            ReadTurn::Ended if engine.is_between() => return ServeEnd::Closed,
-            ReadTurn::Ended => return ServeEnd::Cut,
+            ReadTurn::Ended => return ended(engine),
         }
     }
     ServeEnd::Turns

@@ -5,7 +5,8 @@ use Rattle.world_theory.specs.Step.{close, with_lane}
 use Rattle.script_run.specs.World.{World}
 use Rattle.script_run.proofs.Stands.{routed_lane, lanes_from}
 use Rattle.script_run.proofs.QuietRuns.{Leads, leads_same, leads_one, leads_then}
-use Rattle.script_run.proofs.TakingOne.{mid_get, mid_set}
+use Rattle.world_theory.proofs.DecidingInTurn.{mid_get}
+use Rattle.script_run.proofs.TakingOne.{mid_set}
 
 -- the core with these lanes
 abbrev pub with_lanes : Core → List Lane → Core

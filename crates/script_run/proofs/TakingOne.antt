@@ -1,26 +1,21 @@
 -- One shard of the core takes an item, decides all that is due and ships all that it released.
-use Rattle.std.proofs.Common.{◌≡◌, ℕ, ◌+◌, Bool, true, false, cond, not, ◌&&◌, nat_lt, List, [], ◌∷◌, ◌++◌, length, slice_get, slice_set, Option, Some, None, option_map, option_and_then, refl, ap, sym, ◌∙◌, arith, append_assoc, append-nil, length-append}
+use Rattle.std.proofs.Common.{◌≡◌, ℕ, ◌+◌, Bool, true, false, cond, not, ◌&&◌, nat_lt, List, [], ◌∷◌, ◌++◌, length, slice_get, slice_set, Option, Some, None, option_map, option_and_then, refl, ap, sym, ◌∙◌, arith, append_assoc, append-nil}
 use Rattle.std.proofs.lemmas.Bool.Decides.{nat_tests}
-use Rattle.std.proofs.lemmas.Bool.{and_parts}
 use Rattle.otlp_types.specs.declared.arrival.Arrival.{Arrival}
 use Rattle.otlp_types.specs.declared.arrival.Item.TheVariants.{Span, Tick, End}
-use Rattle.journal_theory.specs.Journal.{Settings, Entry, Journal, Opening, due_now, decision, decisions_in_turn, decisions_now, spans_since, are_each_answered, has_ended}
+use Rattle.journal_theory.specs.Journal.{Settings, Entry, Journal, Opening, due_now, decision, decisions_now, spans_since, has_ended}
 use Rattle.policy_eval.specs.Given.{are_answered}
 use Rattle.journal_theory.specs.Fate.{Effect, no_effect, ◌then◌, DroppedSpan, effect, effect_of_taking, effect_of_decision, effect_of_decisions}
 use Rattle.journal_theory.specs.Marked.{marks_apply_to_ids}
 use Rattle.world_theory.specs.World.{Config, Shard, World as Core, settings, ticker, has_due}
 use Rattle.world_theory.specs.Step.{Step, step, take as take_step, tick, end, decide, ship, take_on, tick_on, end_on, decide_on, ship_on, sender_is_done, after_decision}
+use Rattle.world_theory.proofs.DecidingInTurn.{mid_get, decides_all}
 use Rattle.script_run.specs.World.{entry_of}
 use Rattle.script_run.proofs.Answering.{given_to, AreGiven, next_effect}
 use Rattle.script_run.proofs.Stands.{quiet_shard}
 use Rattle.script_run.proofs.QuietRuns.{Leads, leads_same, leads_one, leads_then}
 
 -- ---- lists, tests and effects
-
--- what stands behind a front
-pub mid_get : {X : Type 0} (front : List X) (x : X) (back : List X) → slice_get (front ++ x ∷ back) (length front) ≡ Some x
-mid_get [] x back = refl
-mid_get (y ∷ front) x back = mid_get front x back
 
 -- what stands behind a front is replaced
 pub mid_set : {X : Type 0} (front : List X) (x y : X) (back : List X) → slice_set (front ++ x ∷ back) (length front) y ≡ front ++ y ∷ back
@@ -107,31 +102,6 @@ module _ (c : Config) (k : Core) where
         did : Effect
         did = effect_of_decision (decision own (e ∷ J) o answers)
 
-    -- the episodes that are due are decided in turn, by their answers
-    decides_all : (q u X : List Arrival) (e : Entry) (J : Journal) (C : List DroppedSpan) (given left : List (List Bool)) (before os : List Opening) → due_now own (e ∷ J) ≡ before ++ os
-        → are_each_answered own.policies (e ∷ J) os left ≡ true → (let ds = decisions_in_turn own (e ∷ J) os left in
-        Leads c (among (shard q (given_to e given ∷ J) (length before) u) X C)
-        (among (shard q (given_to e (given ++ left) ∷ J) (length (due_now own (e ∷ J))) (u ++ (effect_of_decisions ds).released)) X (C ++ (effect_of_decisions ds).counted)))
-    decides_all q u X e J C given [] before [] is fits = leads_same c _ _ (cc (append-nil u, append-nil C, append-nil given, all))
-      where
-        all : length before ≡ length (due_now own (e ∷ J))
-        all = sym (ap (λ (z : List Opening). length z) (is ∙ append-nil before))
-    decides_all q u X e J C given (a ∷ left) before [] is fits = absurd (cc fits)
-    decides_all q u X e J C given [] before (o ∷ os) is fits = absurd (cc fits)
-    decides_all q u X e J C given (a ∷ left) before (o ∷ os) is fits = leads_then c _ _ _ (decides_one q u X e J given (length before) C o a (ap (λ (z : List Opening). slice_get z (length before)) is ∙ mid_get before o os) (and_parts _ _ fits).0)
-        (leads_then c _ _ _ (leads_same c _ _ (ap (λ (n : ℕ). among (shard q (given_to e (given ++ a ∷ []) ∷ J) n (u ++ one.released)) X (C ++ one.counted)) longer))
-        (leads_then c _ _ _ (decides_all q (u ++ one.released) X e J (C ++ one.counted) (given ++ a ∷ []) left (before ++ o ∷ []) os (is ∙ sym (append_assoc before (o ∷ []) os)) (and_parts _ _ fits).1)
-        (leads_same c _ _ (cc (append_assoc u one.released more.released, append_assoc C one.counted more.counted, append_assoc given (a ∷ []) left)))))
-      where
-        one : Effect
-        one = effect_of_decision (decision own (e ∷ J) o a)
-
-        more : Effect
-        more = effect_of_decisions (decisions_in_turn own (e ∷ J) os left)
-
-        longer : length before + 1 ≡ length (before ++ o ∷ [])
-        longer = omega (arith, length-append before (o ∷ []))
-
     -- the spans that were released go to the exporter in turn
     ships_all : (q u X : List Arrival) (J : Journal) (n : ℕ) (C : List DroppedSpan) → Leads c (among (shard q J n u) X C) (among (shard q J n []) (X ++ u) C)
     ships_all q [] X J n C = leads_same c _ _ (ap (λ (z : List Arrival). among (shard q J n []) z C) (sym (append-nil X)))
@@ -149,7 +119,8 @@ module _ (c : Config) (k : Core) where
     settles : (q X : List Arrival) (J : Journal) (e : Entry) (C : List DroppedSpan) → AreGiven own e J
         → Leads c (among (shard q (given_to e [] ∷ J) 0 (effect_of_taking own e J).released) X (C ++ (effect_of_taking own e J).counted))
         (among (quiet_shard own q (e ∷ J)) (X ++ (gain own e J).released) (C ++ (gain own e J).counted))
-    settles q X J e C fits = leads_then c _ _ _ (decides_all q did.released X e J (C ++ did.counted) [] e.answers [] (due_now own (e ∷ J)) refl fits)
+    settles q X J e C fits = leads_then c _ _ _ (decides_all own e J (λ given n u counted. among (shard q (given_to e given ∷ J) n u) X counted) (Leads c) (leads_same c) (leads_then c)
+        (λ given n u counted o answers due is. decides_one q u X e J given n counted o answers due is) [] e.answers did.released (C ++ did.counted) [] (due_now own (e ∷ J)) refl fits)
         (leads_then c _ _ _ (leads_same c _ _ (ap (λ (z : List DroppedSpan). among (shard q (e ∷ J) (length (due_now own (e ∷ J))) (gain own e J).released) X z) (append_assoc C did.counted ds.counted)))
         (ships_all q (gain own e J).released X (e ∷ J) (length (due_now own (e ∷ J))) (C ++ (gain own e J).counted)))
       where

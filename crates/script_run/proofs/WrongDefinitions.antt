@@ -1,6 +1,6 @@
 -- Wrong definitions of what a script means, each with a run that breaks a law.
 -- No clause needs them: they show what the laws of `Laws` say. Where a request is read, its body is any that is taken for it.
-use Rattle.std.proofs.Common.{inl, inr, ◌≡◌, ℕ, suc, ◌+◌, Bool, true, false, List, [], ◌∷◌, ◌++◌, length, map, filter, flat_map, slice_get, Some, refl, sym, ap, subst, ◌∙◌, arith, append-nil}
+use Rattle.std.proofs.Common.{inl, inr, ◌≡◌, ℕ, suc, ◌+◌, Bool, true, false, List, [], ◌∷◌, ◌++◌, length, map, flat_map, Some, refl, sym, ap, subst, ◌∙◌, arith, append-nil}
 use Rattle.std.specs.Prelude.{if◌then◌else◌, IsTrue}
 use Rattle.std.specs.List.{list_all, AllByRecursion}
 use Rattle.otlp_types.specs.declared.arrival.Arrival.{Arrival}
@@ -8,7 +8,6 @@ use Rattle.otlp_types.specs.declared.arrival.Item.{Item}
 use Rattle.otlp_types.specs.declared.arrival.Item.TheVariants.{Span, Tick, End}
 use Rattle.otlp_types.specs.declared.request.Request.{Request}
 use Rattle.span_ids.specs.declared.outcome.Reason.TheVariants.{NoMemory}
-use Rattle.drop_ledger.specs.declared.count.Count.{Count}
 use Rattle.drop_ledger.specs.declared.count.Count.TheVariants.{Handed}
 use Rattle.lane_queue.specs.Queues.{QueueState, TakesLast, IsFull}
 use Rattle.lane_seq.specs.Pushes.{Receives as IsPushed}
@@ -20,8 +19,7 @@ use Rattle.span_exporter.specs.declared.answer.Flushed.{Flushed}
 use Rattle.span_exporter.specs.declared.answer.Flushed.TheVariants.{Handed as WasHanded, Spoiled, Empty}
 use Rattle.world_theory.specs.World.{Lane, Shard, World as Core, new_world as new_core, settings}
 use Rattle.world_theory.specs.Step.{Step, run}
-use Rattle.world_theory.specs.Places.{IsClosed}
-use Rattle.world_theory.specs.Headline.{HoldsOf, handed_spans}
+use Rattle.world_theory.specs.Headline.{handed_spans}
 use Rattle.world_theory.proofs.Samples.{always, plain, key}
 use Rattle.world_theory.proofs.Balance.{same_settings}
 use Rattle.world_theory.proofs.OnePlace.{run_keeps}
@@ -33,7 +31,7 @@ use Rattle.script_run.specs.World.{World, Event, replied, was_sent, Sizes, new_w
 use Rattle.script_run.specs.Counts.{number_of}
 use Rattle.script_run.specs.Calm.{is_for_memory, IsUnmarked, Calm}
 use Rattle.script_run.specs.Writing.{handed_in}
-use Rattle.script_run.specs.CoreRun.{core_config, count_in, is_of_lane, WaitsInBuffers, IsRunOfCore}
+use Rattle.script_run.specs.CoreRun.{core_config, IsRunBy}
 use Rattle.script_run.specs.Laws.{Agrees, CalmRunsAgree}
 
 -- ---- one lane and one shard
@@ -137,23 +135,6 @@ failed_played = (failed, (refl, refl, inl (refl, (failed.sink, failed_written, s
 fails_twice : FailedTwice first_sink failed.sink → ⊥
 fails_twice law = let z : 1 ≡ 2 = law in absurd (omega (arith, z))
 
--- ---- the law that each script is a run of the core, by other counts and another list of what was handed over
-
-pub record IsRunBy (number : Settings → World → Count → ℕ) (handed_by : List Event → List (List Arrival)) (s : Settings) (sizes : Sizes) (lanes shards : ℕ) (w : World) : Type 0 where
-  pub steps : List Step
-  pub core : Core
-  pub runs : run (core_config s sizes) lanes shards steps ≡ Some core
-  pub holds : HoldsOf (core_config s sizes) core
-  pub received : (lane : ℕ) (l : Lane) → slice_get core.lanes lane ≡ Some l → l.received ≡ filter (is_of_lane lane) w.received
-  pub journals : map (λ (sh : Shard). sh.journal) core.shards ≡ w.journals
-  pub handed_over : core.handed ≡ handed_by w.events
-  pub counts : (count : Count) → count_in core count ≡ number s w count
-  pub between : WaitsInBuffers (core_config s sizes) core
-  pub closed : w.closed ≡ true → IsClosed (core_config s sizes) core
-
-right_run : (s : Settings) (sizes : Sizes) (lanes shards : ℕ) (w : World) → IsRunOfCore s sizes lanes shards w → IsRunBy number_of handed_in s sizes lanes shards w
-right_run s sizes lanes shards w h = record { steps = h.steps; core = h.core; runs = h.runs; holds = h.holds; received = h.received; journals = h.journals; handed_over = h.handed; counts = h.counts; between = h.between; closed = h.closed }
-
 -- ---- a batch that was given up is among those that were handed over
 
 abbrev given_up_too : Flushed → List Arrival → List (List Arrival) → List (List Arrival)
@@ -244,7 +225,7 @@ spoiled_played body taken = (
 given_up_batch_as_handed : IsRunBy number_of handed_or_given_up own (with_queue 1) 1 1 spoiled → ⊥
 unfolding notes
 given_up_batch_as_handed law =
-    let one : length (handed_spans law.core) ≡ 1 = ap (λ (batches : List (List Arrival)). length (flat_map (λ batch. batch) batches)) law.handed_over in
+    let one : length (handed_spans law.core) ≡ 1 = ap (λ (batches : List (List Arrival)). length (flat_map (λ batch. batch) batches)) law.handed in
     let none : length (handed_spans law.core) ≡ 0 = law.counts Handed in
     absurd (omega (arith, one, none))
 

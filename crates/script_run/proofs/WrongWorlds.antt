@@ -28,8 +28,8 @@ use Rattle.script_run.specs.Requests.{reads, IsTakenFor, arrivals_of, reply_line
 use Rattle.script_run.specs.World.{World, replied, Plays, PlaysAll, Receives, RepliesAndRuns, TakesRounds, empty_queues, entry_of}
 use Rattle.script_run.specs.Counts.{counted_at_lanes, counted_at_shards, counted_at, number_of}
 use Rattle.script_run.specs.Writing.{handed_in}
-use Rattle.script_run.specs.CoreRun.{core_config, is_quiet}
-use Rattle.script_run.proofs.WrongDefinitions.{own, with_queue, start, writes, silent, span, of_one_span, done_line, queued_span, span_pushed, IsRunBy, some_lane, one_shard, own_settings}
+use Rattle.script_run.specs.CoreRun.{core_config, is_quiet, IsRunBy}
+use Rattle.script_run.proofs.WrongDefinitions.{own, with_queue, start, writes, silent, span, of_one_span, done_line, queued_span, span_pushed, some_lane, one_shard, own_settings}
 
 -- ---- what was received uses no numbers of its connection
 
@@ -140,7 +140,7 @@ full_queue_uncounted law =
     ∙ ap (λ (keys : List HeldKey). keys ++ held_at exported k.exported ++ held_at in_batch k.batch ++ flat_map (held_at handed) k.handed ++ map place_of k.counted) inside
     ∙ ap (λ (spans : List Arrival). held_at exported spans ++ held_at in_batch k.batch ++ flat_map (held_at handed) k.handed ++ map place_of k.counted) law.between.pulled
     ∙ ap (λ (spans : List Arrival). held_at in_batch spans ++ flat_map (held_at handed) k.handed ++ map place_of k.counted) law.between.sent
-    ∙ ap (λ (batches : List (List Arrival)). flat_map (held_at handed) batches ++ map place_of k.counted) law.handed_over
+    ∙ ap (λ (batches : List (List Arrival)). flat_map (held_at handed) batches ++ map place_of k.counted) law.handed
     ∙ ap (map place_of) counted in
     let at = some_lane k.lanes 0 (law.counts Received) in
     let there : slice_get k.lanes 0 ≡ Some at.first = ap (λ (lanes : List Lane). slice_get lanes 0) at.are in

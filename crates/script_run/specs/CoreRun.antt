@@ -10,7 +10,7 @@ use Rattle.world_theory.specs.Places.{IsClosed}
 use Rattle.world_theory.specs.Headline.{HoldsOf, handed_spans}
 use Rattle.drop_ledger.specs.declared.count.Count.{Count}
 use Rattle.drop_ledger.specs.declared.count.Count.TheVariants.{Received, Handed, Dropped}
-use Rattle.script_run.specs.World.{World, Sizes}
+use Rattle.script_run.specs.World.{World, Sizes, Event}
 use Rattle.script_run.specs.Counts.{number_of}
 use Rattle.script_run.specs.Writing.{handed_in}
 
@@ -48,15 +48,20 @@ pub record WaitsInBuffers (c : Config) (w : Core) : Type 0 where
   pub sent : w.batch ≡ []
 
 -- A run of the core, for which the headline holds: its lanes received what the script's connections did, its shards have the journals, it handed over the batches that were handed over, and its counts are the script's. Between two lines all that waits is in the buffers. Once the script is closed, so is the core.
-pub record IsRunOfCore (s : Settings) (sizes : Sizes) (lanes shards : ℕ) (w : World) : Type 0 where
+-- `number` gives the script's counts, and `handed_by` the batches that its events handed over.
+pub record IsRunBy (number : Settings → World → Count → ℕ) (handed_by : List Event → List (List Arrival)) (s : Settings) (sizes : Sizes) (lanes shards : ℕ) (w : World) : Type 0 where
   pub steps : List Step
   pub core : Core
   pub runs : run (core_config s sizes) lanes shards steps ≡ Some core
   pub holds : HoldsOf (core_config s sizes) core
   pub received : (lane : ℕ) (l : Lane) → slice_get core.lanes lane ≡ Some l → l.received ≡ filter (is_of_lane lane) w.received
   pub journals : map (λ (sh : Shard). sh.journal) core.shards ≡ w.journals
-  pub handed : core.handed ≡ handed_in w.events
+  pub handed : core.handed ≡ handed_by w.events
   pub down : core.down ≡ w.sink.is_down
-  pub counts : (count : Count) → count_in core count ≡ number_of s w count
+  pub counts : (count : Count) → count_in core count ≡ number s w count
   pub between : WaitsInBuffers (core_config s sizes) core
   pub closed : w.closed ≡ true → IsClosed (core_config s sizes) core
+
+-- the same by the script's own counts and batches
+abbrev pub IsRunOfCore : Settings → Sizes → (lanes shards : ℕ) → World → Type 0
+IsRunOfCore s sizes lanes shards w = IsRunBy number_of handed_in s sizes lanes shards w

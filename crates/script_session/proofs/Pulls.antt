@@ -18,7 +18,7 @@ use Rattle.drop_ledger.specs.declared.count.Count.TheVariants.{Received, Handed 
 use Rattle.script_run.specs.Sending.{Sent, spans_of, AreBatches, SendsAll, SendsInBatches}
 use Rattle.script_run.specs.Counts.{counted_for}
 use Rattle.script_session.specs.Adding.{Adds, at_count, at_reasons, counted_in}
-use Rattle.script_session.specs.Pulling.{PullsAll, Export}
+use Rattle.script_session.specs.Pulling.{PullsAll, GoesOn, Export}
 use Rattle.script_session.proofs.Adds.{Adds-none, Adds-then, Adds-same, counted-append, counted-one, none-dropped, dropped-more}
 
 pub SendsAll-append : (old mid new : LineSinkState) (xs ys : List Sent) → SendsAll old xs mid → SendsAll mid ys new → SendsAll old (xs ++ ys) new
@@ -31,6 +31,14 @@ spans_of-append xs ys = flat_map-append (λ (one : Sent). one.batch) xs ys
 all_append : {A : Type 0} (P : A → Type 0) (xs ys : List A) → AllByRecursion P xs → AllByRecursion P ys → AllByRecursion P (xs ++ ys)
 all_append P [] ys a b = b
 all_append P (x ∷ xs) ys a b = (a.0, all_append P xs ys a.1 b)
+
+-- what stays of the exporter stays where nothing is done
+pub goes-on : (e : Export) → GoesOn e e
+goes-on e = (refl, λ down. down)
+
+-- and over two calls
+pub goes-on-then : (a b c : Export) → GoesOn a b → GoesOn b c → GoesOn a c
+goes-on-then a b c p q = (q.0 ∙ p.0, λ down. q.1 (p.1 down))
 
 pub PullsAll-none : (e : Export) (f : Reason → ℕ) → ((k : Count) → at_reasons f k ≡ 0) → PullsAll e [] f e
 PullsAll-none e f none = record {
@@ -125,16 +133,16 @@ part-room p old new a room is answer other =
     omega (arith, differs)
 
 -- spans were counted as dropped for this reason, and nothing came into the batch
-pub pulled-dropped : (e : ExporterState) (r n : Option (List ℕ)) (why : Reason) (spans : ℕ) → Adds r (at_count (Dropped why) spans) n
-    → PullsAll (e, r) [] (λ reason. if is_same_reason why reason then spans else 0) (e, n)
-pulled-dropped e r n why spans adds = record {
+pub pulled-dropped : (old new : Export) (why : Reason) (spans : ℕ) → new.0 ≡ old.0 → Adds old.1 (at_count (Dropped why) spans) new.1
+    → PullsAll old [] (λ reason. if is_same_reason why reason then spans else 0) new
+pulled-dropped old new why spans same adds = record {
   batches = [];
   full = tt;
-  are_all = sym (append-nil e.batch);
-  sends = refl;
-  adds = Adds-same r n _ _ (λ k. let same = dropped-at k in omega (arith, same)) adds;
-  size = refl;
-  ends = refl;
+  are_all = ap (λ (e : ExporterState). e.batch) same ∙ sym (append-nil old.0.batch);
+  sends = ap (λ (e : ExporterState). e.sink) same;
+  adds = Adds-same old.1 new.1 _ _ (λ k. let at = dropped-at k in omega (arith, at)) adds;
+  size = ap (λ (e : ExporterState). e.size) same;
+  ends = ap (λ (e : ExporterState). e.ends) same;
 }
   where
     dropped-at : (k : Count) → at_reasons (λ reason. if is_same_reason why reason then spans else 0) k ≡ at_count (Dropped why) spans k

@@ -10,7 +10,7 @@ use Rattle.journal_theory.specs.Journal.{Settings, Journal}
 use Rattle.shard_core.specs.Held.{Held, has_due}
 use Rattle.span_sink.specs.LineSinks.{LineSinkState}
 use Rattle.span_exporter.specs.declared.answer.Flushed.{Flushed}
-use Rattle.span_exporter.specs.Exports.{ExporterState, Sends}
+use Rattle.span_exporter.specs.Exports.{Sends}
 use Rattle.tsc_script.specs.Instructions.{Instruction}
 use Rattle.script_run.specs.Connections.{Contacts}
 use Rattle.script_run.specs.Sending.{SendsInBatches}
@@ -61,11 +61,11 @@ regroup all n d c b f p q = omega arith
 
 -- rounds were taken and the rest of the batch was sent
 pub quiets : (s : Settings) (sizes : Sizes) (w : World) (contacts : Contacts) (old new : List Held) (first last : Counts) (before between final : Export) (closed : Bool) (rounds : List (List (List Item)))
-    → AreOf s w contacts old first before.0 before.1 closed → before.0.size ≡ sizes.batch → length before.0.batch ≡ 0
+    → AreOf s w contacts old first before closed → before.0.size ≡ sizes.batch → length before.0.batch ≡ 0
     → RoundsTaken old first before rounds new last between → HaveSettings s new
     → length between.0.batch < between.0.size
     → ((flushed : Flushed) × Sends between.0.sink between.0.batch flushed final.0.sink × Adds between.1 (λ count. counted_for count flushed) final.1)
-    → (after : World) × RunsToQuiet s sizes w rounds after × AreOf s after contacts new last final.0 final.1 closed
+    → (after : World) × RunsToQuiet s sizes w rounds after × AreOf s after contacts new last final closed
 quiets s sizes w contacts old new first last before between final closed rounds are size_is empty takes alike room sent =
     let t = takes.takes s w.journals w.askings are.settings_are are.released_all are.limiter_is in
     let went = sent-in_batches before between final.0.sink t.released t.dropped sent.0 empty t.pulls room sent.1 in
@@ -89,15 +89,15 @@ quiets s sizes w contacts old new first last before between final closed rounds 
     )
 
 -- nothing but the mark changes at a close
-pub closes : (s : Settings) (w : World) (contacts : Contacts) (shards : List Held) (limiter : Counts) (exporter : ExporterState) (report : Option (List ℕ)) (closed : Bool) → AreOf s w contacts shards limiter exporter report closed
-    → AreOf s (record w { closed = true }) contacts shards limiter exporter report true
-closes s w contacts shards limiter exporter report closed are = record {
+pub closes : (s : Settings) (w : World) (contacts : Contacts) (shards : List Held) (limiter : Counts) (output : Export) (closed : Bool) → AreOf s w contacts shards limiter output closed
+    → AreOf s (record w { closed = true }) contacts shards limiter output true
+closes s w contacts shards limiter output closed are = record {
   contacts_are = are.contacts_are;
   settings_are = are.settings_are;
   released_all = are.released_all;
   limiter_is = are.limiter_is;
   sink_is = are.sink_is;
-  reports = reported report are.reports;
+  reports = reported output.1 are.reports;
   closed_is = refl;
 }
   where

@@ -1,5 +1,5 @@
 -- A request is answered, and what it gives is counted.
-use Rattle.std.proofs.Common.{◌≡◌, ℕ, ◌+◌, ◌<◌, Bool, true, false, List, Option, [], ◌∷◌, ◌++◌, length, refl, sym, ap, subst, ◌∙◌, inl, inr, arith}
+use Rattle.std.proofs.Common.{◌≡◌, ℕ, ◌+◌, ◌<◌, Bool, true, false, List, [], ◌∷◌, ◌++◌, length, refl, sym, ap, subst, ◌∙◌, inl, inr, arith}
 use Rattle.otlp_types.specs.declared.arrival.Arrival.{Arrival}
 use Rattle.otlp_types.specs.declared.arrival.Item.{Item}
 use Rattle.lane_queue.specs.Queues.{QueueState}
@@ -29,9 +29,7 @@ use Rattle.script_session.proofs.Quiet.{quiets}
 pub record Answered (s : Settings) (sizes : Sizes) (w : World) (number moment : ℕ) (body : List ℕ) (reply : Reply) (rounds : List (List (List Item))) (later : Contacts) : Type 0 where
   pub mid : World
   pub contacts : later ≡ mid.contacts
-  pub journals : mid.journals ≡ w.journals
-  pub askings : mid.askings ≡ w.askings
-  pub closed : mid.closed ≡ w.closed
+  pub same : (mid.journals ≡ w.journals) × (mid.askings ≡ w.askings) × (mid.closed ≡ w.closed)
   pub numbers : (k : Count) → number_of s mid k ≡ number_of s w k + received_by reply k
   pub leads : (sink : LineSinkState) (end : World) → WritesLine w.sink (reply_line reply) sink → RunsToQuiet s sizes (after_reply reply sink mid) rounds end → Receives s sizes w number moment body end
 
@@ -65,9 +63,7 @@ module _ (s : Settings) (sizes : Sizes) (w : World) (number moment : ℕ) (body 
       record {
         mid = mid;
         contacts = is;
-        journals = refl;
-        askings = refl;
-        closed = refl;
+        same = (refl, refl, refl);
         numbers = numbers;
         leads = λ sink end line runs.
             let P = λ (r : List (List (List Item))). RunsToQuiet s sizes (after_reply reply sink mid) r end in
@@ -91,29 +87,30 @@ module _ (s : Settings) (sizes : Sizes) (w : World) (number moment : ℕ) (body 
 
 -- a request was read or refused, what the reply tells was counted, and the shards took what was received
 pub receives : (s : Settings) (sizes : Sizes) (w : World) (number moment : ℕ) (body : List ℕ) (known later : Contacts) (before after : List (QueueState Item)) (reply : Reply) (old new : List Held) (start last : Counts)
-    (first noted : ExporterState) (report counted : Option (List ℕ)) (between final : Export) (closed : Bool) (rounds : List (List (List Item)))
-    → AreOf s w known old start first report closed → before ≡ empty_queues sizes.queue (length w.journals) → Submits known number moment body before reply after later
+    (first counted noted between final : Export) (closed : Bool) (rounds : List (List (List Item)))
+    → AreOf s w known old start first closed → before ≡ empty_queues sizes.queue (length w.journals) → Submits known number moment body before reply after later
     → (is_received reply ≡ true → rounds ≡ items_in after ∷ []) → (is_received reply ≡ false → rounds ≡ [])
-    → WritesLine first.sink (reply_line reply) noted.sink → Adds report (received_by reply) counted → noted.size ≡ sizes.batch → length noted.batch ≡ 0
-    → RoundsTaken old start (noted, counted) rounds new last between → HaveSettings s new
+    → counted.0 ≡ first.0 → Adds first.1 (received_by reply) counted.1 → WritesLine counted.0.sink (reply_line reply) noted.0.sink → noted.1 ≡ counted.1
+    → noted.0.batch ≡ counted.0.batch → noted.0.size ≡ counted.0.size → first.0.size ≡ sizes.batch → length first.0.batch ≡ 0
+    → RoundsTaken old start noted rounds new last between → HaveSettings s new
     → length between.0.batch < between.0.size
     → ((flushed : Flushed) × Sends between.0.sink between.0.batch flushed final.0.sink × Adds between.1 (λ count. counted_for count flushed) final.1)
-    → (end : World) × Receives s sizes w number moment body end × AreOf s end later new last final.0 final.1 closed
-receives s sizes w number moment body known later before after reply old new start last first noted report counted between final closed rounds are before_is submits on_read on_refused line adds size_is empty takes alike room sent =
+    → (end : World) × Receives s sizes w number moment body end × AreOf s end later new last final closed
+receives s sizes w number moment body known later before after reply old new start last first counted noted between final closed rounds are before_is submits on_read on_refused same adds line told batch_is size_is size empty takes alike room sent =
     let S = λ (k : Contacts). Submits k number moment body before reply after later in
     let E = λ (q : List (QueueState Item)). Submits w.contacts number moment body q reply after later in
-    let W = λ (k : LineSinkState). WritesLine k (reply_line reply) noted.sink in
+    let W = λ (k : LineSinkState). WritesLine k (reply_line reply) noted.0.sink in
     let a = answered s sizes w number moment body later after reply rounds on_read on_refused (subst E before_is (subst S are.contacts_are submits)) in
-    let mid = after_reply reply noted.sink a.mid in
+    let mid = after_reply reply noted.0.sink a.mid in
     let R = λ (js : List Journal). HaveReleased old js in
     let L = λ (asked : List Asking). start ≡ limiter_counts s.policies asked in
-    let q = quiets s sizes mid later old new start last (noted, counted) between final closed rounds (record {
+    let q = quiets s sizes mid later old new start last noted between final closed rounds (record {
       contacts_are = a.contacts;
       settings_are = are.settings_are;
-      released_all = subst R (sym a.journals) are.released_all;
-      limiter_is = subst L (sym a.askings) are.limiter_is;
+      released_all = subst R (sym a.same.0) are.released_all;
+      limiter_is = subst L (sym a.same.1) are.limiter_is;
       sink_is = refl;
-      reports = Reports-grow s w mid report counted (received_by reply) (λ k. number-replied s a.mid reply noted.sink k ∙ a.numbers k) are.reports adds;
-      closed_is = are.closed_is ∙ sym a.closed;
-    }) size_is empty takes alike room sent in
-    (q.0, a.leads noted.sink q.0 (subst W are.sink_is line) q.1, q.2)
+      reports = Reports-grow s w mid first.1 noted.1 (received_by reply) (λ k. number-replied s a.mid reply noted.0.sink k ∙ a.numbers k) are.reports (subst (Adds first.1 (received_by reply)) (sym told) adds);
+      closed_is = are.closed_is ∙ sym a.same.2;
+    }) (size_is ∙ ap (λ (e : ExporterState). e.size) same ∙ size) (ap length (batch_is ∙ ap (λ (e : ExporterState). e.batch) same) ∙ empty) takes alike room sent in
+    (q.0, a.leads noted.0.sink q.0 (subst W (ap (λ (e : ExporterState). e.sink) same ∙ are.sink_is) line) q.1, q.2)

@@ -26,6 +26,10 @@ use Rattle.script_session.specs.Adding.{Adds, at_reasons, counted_in}
 abbrev pub Export : Type 0
 Export = ExporterState × Option (List ℕ)
 
+-- what stays of the exporter, whatever it is given: the size of a batch, and that its sink is down
+abbrev pub GoesOn : (old new : Export) → Type 0
+GoesOn old new = (new.0.size ≡ old.0.size) × (old.0.sink.is_down ≡ true → new.0.sink.is_down ≡ true)
+
 -- The spans went into the batch in turn, which was sent each time that it was full. These numbers of spans were dropped, which is counted, and what became of the batches.
 pub record PullsAll (old : Export) (spans : List Arrival) (dropped : Reason → ℕ) (new : Export) : Type 0 where
   pub batches : List Sent
@@ -168,12 +172,12 @@ rounds_of received queues = if received then items_in queues ∷ [] else []
 abbrev pub HoldsQueued : QueueState Item → Type 0
 HoldsQueued queue = list_all is_queued queue.items ≡ true
 
--- the connections, the shards, the limiter, the exporter, the report and whether all is closed are those of a world, and the shards have these settings
-pub record AreOf (s : Settings) (w : World) (contacts : Contacts) (shards : List Held) (limiter : Counts) (exporter : ExporterState) (report : Option (List ℕ)) (closed : Bool) : Type 0 where
+-- the connections, the shards, the limiter, the exporter with the report, and whether all is closed are those of a world, and the shards have these settings
+pub record AreOf (s : Settings) (w : World) (contacts : Contacts) (shards : List Held) (limiter : Counts) (output : Export) (closed : Bool) : Type 0 where
   pub contacts_are : contacts ≡ w.contacts
   pub settings_are : HaveSettings s shards
   pub released_all : HaveReleased shards w.journals
   pub limiter_is : limiter ≡ limiter_counts s.policies w.askings
-  pub sink_is : exporter.sink ≡ w.sink
-  pub reports : Reports s w report
+  pub sink_is : output.0.sink ≡ w.sink
+  pub reports : Reports s w output.1
   pub closed_is : closed ≡ w.closed

@@ -8,7 +8,7 @@ mod connections;
 mod ending;
 mod fault;
 mod laws;
-mod pulling;
+mod output;
 mod receiving;
 mod replay;
 mod replying;

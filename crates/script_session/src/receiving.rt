@@ -4,12 +4,13 @@ ghost use Rattle.script_session.specs.Adding.{Adds};
 ghost use Rattle.script_session.specs.Submitting.{Submits, is_received, received_by};
 
 use crate::connections::Connections;
-use crate::pulling::count;
-use drop_ledger::{Count, Report};
+use crate::output::Output;
+use drop_ledger::Count;
 use lane_queue::ListPort;
 use lane_seq::{Lane, Reply};
 use otlp_types::Item;
 use span_ids::{Moment, Reason};
+use span_sink::Sink;
 use std::alloc::Global;
 
 /// Reads a request on the lane of its connection: its spans get their numbers and go to the queues of their shards, one
@@ -52,19 +53,20 @@ pub fn is_received(reply: &Reply) -> bool
 }
 
 /// Counts the spans of a request, and those of them that go to no shard.
-pub fn count_received(report: &mut Option<Report>, reply: &Reply)
-    ensures { Adds report.old (received_by reply.now) report.new }
+pub fn count_received<S: Sink>(output: &mut Output<S>, reply: &Reply)
+    ensures counted { Adds output.old.1 (received_by reply.now) output.new.1 }
+    ensures same { output.new.0 ≡ output.old.0 }
 {
     match reply {
-        Reply::Done { spans } => count(report, Count::Received, *spans),
+        Reply::Done { spans } => output.count(Count::Received, *spans),
         Reply::Partial {
             spans,
             invalid,
             full,
         } => {
-            count(report, Count::Received, *spans);
-            count(report, Count::Dropped(Reason::InvalidId), *invalid);
-            count(report, Count::Dropped(Reason::QueueFull), *full);
+            output.count(Count::Received, *spans);
+            output.count(Count::Dropped(Reason::InvalidId), *invalid);
+            output.count(Count::Dropped(Reason::QueueFull), *full);
         }
         Reply::BadData(_) | Reply::Busy => {}
     }

@@ -11,6 +11,7 @@ ghost use Rattle.script_session.specs.Replay.{RunEnds, settings_by};
 
 use crate::connections::Connections;
 use crate::fault::RunFault;
+use crate::output::Output;
 use crate::replying::MAX_REPLY_LINE;
 use crate::session::Session;
 use drop_ledger::Report;
@@ -77,9 +78,8 @@ pub fn replay_run<R: Read, S: Sink>(
         queue_capacity: config.queue_capacity,
         shards,
         limiter,
-        exporter,
+        output: Output::new(exporter),
         text,
-        report: Some(Report::new()),
         closed: false,
     };
     release(config);
@@ -177,17 +177,17 @@ fn run_session<R: Read, S: Sink>(
     session: Session<S>,
 ) -> (S, Result<Report, RunFault>)
     requires open { session.closed ≡ false }
-    requires up { session.exporter.sink.is_down ≡ false }
-    requires nothing_counted { session.report ≡ Some (replicate 9 0) }
-    ensures { (config : Config) → CanPlay (settings_by config) (record { batch = session.exporter.size; queue = session.queue_capacity }) config.lanes → session.connections ≡ record { connections = []; connected = replicate config.lanes 0 }
+    requires up { session.output.0.sink.is_down ≡ false }
+    requires nothing_counted { session.output.1 ≡ Some (replicate 9 0) }
+    ensures { (config : Config) → CanPlay (settings_by config) (record { batch = session.output.0.size; queue = session.queue_capacity }) config.lanes → session.connections ≡ record { connections = []; connected = replicate config.lanes 0 }
         → AreNew config config.shards session.shards.items → session.limiter ≡ limiter_counts (meaning config.policies) []
         → RunEnds (record {
           settings = settings_by config;
-          sizes = record { batch = session.exporter.size; queue = session.queue_capacity };
+          sizes = record { batch = session.output.0.size; queue = session.queue_capacity };
           lanes = config.lanes;
           shards = config.shards;
-          taken = session.exporter.sink.taken;
-          failures = session.exporter.sink.failures;
+          taken = session.output.0.sink.taken;
+          failures = session.output.0.sink.failures;
           taken_after = S.taken result.0;
           failures_after = S.failures result.0;
           unread = R.remaining reader.old;

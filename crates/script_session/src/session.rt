@@ -6,13 +6,13 @@ ghost use Rattle.span_exporter.specs.Exports.{WritesLine};
 ghost use Rattle.script_session.specs.declared.replying.TheConstants.{MAX_REPLY_LINE};
 ghost use Rattle.script_run.specs.Requests.{reply_line};
 ghost use Rattle.script_run.specs.World.{World, Plays, PlaysAll, empty_queues};
-ghost use Rattle.script_session.specs.Pulling.{AreOf, has_all_nodes, has_none_due, ends_in, ends_of};
+ghost use Rattle.script_session.specs.Pulling.{AreOf, GoesOn, has_all_nodes, has_none_due, ends_in, ends_of};
 ghost use Rattle.script_session.specs.Answers.{AnswersStop};
 
 use crate::connections::Connections;
 use crate::ending::end_all;
 use crate::fault::RunFault;
-use crate::pulling::send;
+use crate::output::Output;
 use crate::receiving::{count_received, is_received, submit};
 use crate::replying::{MAX_REPLY_LINE, write_reply_line};
 use crate::signal::Signal;
@@ -23,7 +23,6 @@ use lane_seq::Reply;
 use otlp_types::Item;
 use rate_budget::Budgets;
 use shard_core::Shard;
-use span_exporter::Exporter;
 use span_ids::Moment;
 use span_sink::Sink;
 use std::alloc::Global;
@@ -43,11 +42,9 @@ pub struct Session<S: Sink> {
     pub shards: Vec<Shard>,
     /// The one limiter of all shards.
     pub limiter: Budgets,
-    pub exporter: Exporter<S>,
+    pub output: Output<S>,
     /// Room for a reply line.
     pub text: Vec<u8>,
-    /// The counts, or `None` once a count would have passed 2^64-1.
-    pub report: Option<Report>,
     /// Whether the lanes and the ticker have ended.
     pub closed: bool,
     ghost nodes: { has_all_nodes limiter shards.items ≡ true },
@@ -55,17 +52,17 @@ pub struct Session<S: Sink> {
     ghost ends: { ends_in shards.items ≡ map (λ _. ends_of (length connections.connected) closed) shards.items },
     ghost some: { 0 < length shards.items },
     ghost empty: { queues.items ≡ empty_queues queue_capacity (length shards.items) },
-    ghost sent: { length exporter.batch ≡ 0 },
-    ghost batches: { 0 < exporter.size },
+    ghost sent: { length output.0.batch ≡ 0 },
+    ghost batches: { 0 < output.0.size },
     ghost room: { MAX_REPLY_LINE ≤ vec_capacity text },
 }
 
 impl<S: Sink> Session<S> {
     /// Gives the sink back, with the report or what kept the script from its end.
     pub fn end(self, played: Result<(), Stop>) -> (S, Result<Report, RunFault>)
-        ensures taken { S.taken result.0 ≡ self.exporter.sink.taken }
-        ensures failures { S.failures result.0 ≡ self.exporter.sink.failures }
-        ensures answer { AnswersStop played self.report result.1 }
+        ensures taken { S.taken result.0 ≡ self.output.0.sink.taken }
+        ensures failures { S.failures result.0 ≡ self.output.0.sink.failures }
+        ensures answer { AnswersStop played self.output.1 result.1 }
     {
         let Session {
             alloc: _,
@@ -74,25 +71,24 @@ impl<S: Sink> Session<S> {
             queue_capacity: _,
             shards: _,
             limiter: _,
-            exporter,
+            output,
             text: _,
-            report,
             closed: _,
         } = self;
-        (exporter.end().end(), answer_of(played, report))
+        let (sink, report) = output.end();
+        (sink, answer_of(played, report))
     }
 
     /// Answers a request, and gives its spans to the shards.
     fn receive(&mut self, number: u64, moment: Moment, body: &[u8])
         requires open { self.old.closed ≡ false }
-        requires up { self.old.exporter.sink.is_down ≡ false }
-        ensures plays { (s : Settings) (w : World) → AreOf s w self.old.connections self.old.shards.items self.old.limiter self.old.exporter self.old.report self.old.closed
-            → (after : World) × Plays s (record { batch = self.old.exporter.size; queue = self.old.queue_capacity }) w (receive number moment body.now) after
-            × AreOf s after self.new.connections self.new.shards.items self.new.limiter self.new.exporter self.new.report self.new.closed }
-        ensures size { self.new.exporter.size ≡ self.old.exporter.size }
+        requires up { self.old.output.0.sink.is_down ≡ false }
+        ensures plays { (s : Settings) (w : World) → AreOf s w self.old.connections self.old.shards.items self.old.limiter self.old.output self.old.closed
+            → (after : World) × Plays s (record { batch = self.old.output.0.size; queue = self.old.queue_capacity }) w (receive number moment body.now) after
+            × AreOf s after self.new.connections self.new.shards.items self.new.limiter self.new.output self.new.closed }
         ensures queue { self.new.queue_capacity ≡ self.old.queue_capacity }
         ensures stays_open { self.new.closed ≡ false }
-        ensures stays_down { self.old.exporter.sink.is_down ≡ true → self.new.exporter.sink.is_down ≡ true }
+        ensures goes_on { GoesOn self.old.output self.new.output }
     {
         let queues = mem::replace(&mut self.queues, Vec::new(self.alloc));
         let (reply, queues) = submit(
@@ -104,74 +100,68 @@ impl<S: Sink> Session<S> {
             body,
         );
         self.queues = queues;
-        count_received(&mut self.report, &reply);
-        hand_reply(&mut self.text, &mut self.exporter, &reply);
+        count_received(&mut self.output, &reply);
+        hand_reply(&mut self.text, &mut self.output, &reply);
         take_received(
             is_received(&reply),
             &mut self.shards,
             &mut self.queues,
             &mut self.limiter,
-            &mut self.exporter,
-            &mut self.report,
+            &mut self.output,
         );
-        send(&mut self.exporter, &mut self.report);
+        self.output.send();
     }
 
     /// Takes a moment.
     fn tick(&mut self, moment: Moment)
         requires open { self.old.closed ≡ false }
-        requires up { self.old.exporter.sink.is_down ≡ false }
-        ensures plays { (s : Settings) (w : World) → AreOf s w self.old.connections self.old.shards.items self.old.limiter self.old.exporter self.old.report self.old.closed
-            → (after : World) × Plays s (record { batch = self.old.exporter.size; queue = self.old.queue_capacity }) w (tick moment) after
-            × AreOf s after self.new.connections self.new.shards.items self.new.limiter self.new.exporter self.new.report self.new.closed }
-        ensures size { self.new.exporter.size ≡ self.old.exporter.size }
+        requires up { self.old.output.0.sink.is_down ≡ false }
+        ensures plays { (s : Settings) (w : World) → AreOf s w self.old.connections self.old.shards.items self.old.limiter self.old.output self.old.closed
+            → (after : World) × Plays s (record { batch = self.old.output.0.size; queue = self.old.queue_capacity }) w (tick moment) after
+            × AreOf s after self.new.connections self.new.shards.items self.new.limiter self.new.output self.new.closed }
         ensures queue { self.new.queue_capacity ≡ self.old.queue_capacity }
         ensures stays_open { self.new.closed ≡ false }
-        ensures stays_down { self.old.exporter.sink.is_down ≡ true → self.new.exporter.sink.is_down ≡ true }
+        ensures goes_on { GoesOn self.old.output self.new.output }
     {
         tell_each(
             &mut self.shards,
             &mut self.limiter,
-            &mut self.exporter,
-            &mut self.report,
+            &mut self.output,
             Signal::Tick(moment),
         );
-        send(&mut self.exporter, &mut self.report);
+        self.output.send();
     }
 
     /// Ends the lanes, and then the ticker.
     fn close(&mut self)
         requires { self.old.closed ≡ false }
-        ensures plays { (s : Settings) (w : World) → AreOf s w self.old.connections self.old.shards.items self.old.limiter self.old.exporter self.old.report self.old.closed
-            → (after : World) × Plays s (record { batch = self.old.exporter.size; queue = self.old.queue_capacity }) w close after
-            × AreOf s after self.new.connections self.new.shards.items self.new.limiter self.new.exporter self.new.report self.new.closed }
-        ensures size { self.new.exporter.size ≡ self.old.exporter.size }
+        ensures plays { (s : Settings) (w : World) → AreOf s w self.old.connections self.old.shards.items self.old.limiter self.old.output self.old.closed
+            → (after : World) × Plays s (record { batch = self.old.output.0.size; queue = self.old.queue_capacity }) w close after
+            × AreOf s after self.new.connections self.new.shards.items self.new.limiter self.new.output self.new.closed }
         ensures queue { self.new.queue_capacity ≡ self.old.queue_capacity }
         ensures closes { self.new.closed ≡ true }
-        ensures stays_down { self.old.exporter.sink.is_down ≡ true → self.new.exporter.sink.is_down ≡ true }
+        ensures goes_on { GoesOn self.old.output self.new.output }
     {
         end_all(
             &mut self.shards,
             &mut self.limiter,
-            &mut self.exporter,
-            &mut self.report,
+            &mut self.output,
             self.connections.lanes(),
         );
-        send(&mut self.exporter, &mut self.report);
+        self.output.send();
         self.closed = true;
     }
 
     /// Does what a command says.
     fn obey(&mut self, command: Command<'_>)
         requires open { self.old.closed ≡ false }
-        requires up { self.old.exporter.sink.is_down ≡ true → instruction_of_command command ≡ close }
-        ensures plays { (s : Settings) (w : World) → AreOf s w self.old.connections self.old.shards.items self.old.limiter self.old.exporter self.old.report self.old.closed
-            → (after : World) × Plays s (record { batch = self.old.exporter.size; queue = self.old.queue_capacity }) w (instruction_of_command command.entry) after
-            × AreOf s after self.new.connections self.new.shards.items self.new.limiter self.new.exporter self.new.report self.new.closed }
-        ensures size { self.new.exporter.size ≡ self.old.exporter.size }
+        requires up { self.old.output.0.sink.is_down ≡ true → instruction_of_command command ≡ close }
+        ensures plays { (s : Settings) (w : World) → AreOf s w self.old.connections self.old.shards.items self.old.limiter self.old.output self.old.closed
+            → (after : World) × Plays s (record { batch = self.old.output.0.size; queue = self.old.queue_capacity }) w (instruction_of_command command.entry) after
+            × AreOf s after self.new.connections self.new.shards.items self.new.limiter self.new.output self.new.closed }
         ensures queue { self.new.queue_capacity ≡ self.old.queue_capacity }
         ensures closed { self.new.closed ≡ is_close (instruction_of_command command.entry) }
-        ensures stays_down { self.old.exporter.sink.is_down ≡ true → self.new.exporter.sink.is_down ≡ true }
+        ensures goes_on { GoesOn self.old.output self.new.output }
     {
         match command {
             Command::Receive {
@@ -186,32 +176,32 @@ impl<S: Sink> Session<S> {
 }
 
 impl<S: Sink> Machine for Session<S> {
-    ghost leads = { λ start instructions now. (now.exporter.size ≡ start.exporter.size) × (now.queue_capacity ≡ start.queue_capacity)
-        × ((s : Settings) (w : World) → AreOf s w start.connections start.shards.items start.limiter start.exporter start.report start.closed
-        → (after : World) × PlaysAll s (record { batch = start.exporter.size; queue = start.queue_capacity }) w instructions after
-        × AreOf s after now.connections now.shards.items now.limiter now.exporter now.report now.closed) };
+    ghost leads = { λ start instructions now. (now.output.0.size ≡ start.output.0.size) × (now.queue_capacity ≡ start.queue_capacity)
+        × ((s : Settings) (w : World) → AreOf s w start.connections start.shards.items start.limiter start.output start.closed
+        → (after : World) × PlaysAll s (record { batch = start.output.0.size; queue = start.queue_capacity }) w instructions after
+        × AreOf s after now.connections now.shards.items now.limiter now.output now.closed) };
 
-    ghost is_up = { λ now. not now.exporter.sink.is_down };
+    ghost is_up = { λ now. not now.output.0.sink.is_down };
 
     ghost is_closed = { λ now. now.closed };
 
     fn play(&mut self, command: Command<'_>) -> bool {
         self.obey(command);
-        !self.exporter.is_down()
+        !self.output.is_down()
     }
 }
 
 /// Hands a reply to the sink, as a line.
-fn hand_reply<S: Sink>(text: &mut Vec<u8>, exporter: &mut Exporter<S>, reply: &Reply)
+fn hand_reply<S: Sink>(text: &mut Vec<u8>, output: &mut Output<S>, reply: &Reply)
     requires { MAX_REPLY_LINE ≤ vec_capacity text.old }
     ensures room { MAX_REPLY_LINE ≤ vec_capacity text.new }
-    ensures written { WritesLine exporter.old.sink (reply_line reply.now) exporter.new.sink }
-    ensures batch { exporter.new.batch ≡ exporter.old.batch }
-    ensures size { exporter.new.size ≡ exporter.old.size }
-    ensures stays_down { exporter.old.sink.is_down ≡ true → exporter.new.sink.is_down ≡ true }
+    ensures written { WritesLine output.old.0.sink (reply_line reply.now) output.new.0.sink }
+    ensures batch { output.new.0.batch ≡ output.old.0.batch }
+    ensures counted { output.new.1 ≡ output.old.1 }
+    ensures goes_on { GoesOn output.old output.new }
 {
     write_reply_line(text, reply);
-    let _ = exporter.note(text);
+    output.note(text);
 }
 
 /// The answer of a run: a refused line goes before a count that would have passed 2^64-1, and this before a sink fault.

@@ -7,16 +7,15 @@ ghost use Rattle.shard_core.specs.Held.{StandsFor, has_due, is_finished, setting
 ghost use Rattle.shard_core.specs.Taking.{ends_after, released_by, released_in, dropped_by, dropped_in};
 ghost use Rattle.script_run.specs.World.{Turn, to_each};
 ghost use Rattle.script_session.specs.Signals.{item_of};
-ghost use Rattle.script_session.specs.Pulling.{PullsAll, TakesItems, DecidesAll, has_nodes_of, has_all_nodes, AreOpen, AreQuiet, HaveSettings, EachTakes, RoundsTaken, rounds_of, is_queued, emptied, items_in, HoldsQueued};
+ghost use Rattle.script_session.specs.Pulling.{PullsAll, GoesOn, TakesItems, DecidesAll, has_nodes_of, has_all_nodes, AreOpen, AreQuiet, HaveSettings, EachTakes, RoundsTaken, rounds_of, is_queued, emptied, items_in, HoldsQueued};
 
-use crate::pulling::{count, pull, pull_all};
+use crate::output::Output;
 use crate::signal::Signal;
-use drop_ledger::{Count, Report};
+use drop_ledger::Count;
 use lane_queue::ListPort;
 use otlp_types::Item;
 use rate_budget::Budgets;
 use shard_core::{Decided, Shard, Taken};
-use span_exporter::Exporter;
 use span_ids::Reason;
 use span_sink::Sink;
 
@@ -24,43 +23,37 @@ use span_sink::Sink;
 pub fn take_item<S: Sink>(
     shard: &mut Shard,
     limiter: &mut Budgets,
-    exporter: &mut Exporter<S>,
-    report: &mut Option<Report>,
+    output: &mut Output<S>,
     item: Item,
 )
     requires nothing_due { has_due shard.old ≡ false }
     requires running { is_finished shard.old ≡ false }
     requires ids { has_ids item ≡ true }
     requires nodes { has_nodes_of limiter.old shard.old ≡ true }
-    requires room { length exporter.old.batch < exporter.old.size }
-    ensures takes { TakesItems shard.old limiter.old (exporter.old, report.old) (item ∷ []) shard.new limiter.new (exporter.new, report.new) }
+    ensures takes { TakesItems shard.old limiter.old output.old (item ∷ []) shard.new limiter.new output.new }
     ensures nodes { (node : ℕ) → has_node limiter.new node ≡ has_node limiter.old node }
     ensures nothing_due { has_due shard.new ≡ false }
     ensures ends { shard.new.standing.ends ≡ ends_after item shard.old.standing.ends }
     ensures settings { settings shard.new ≡ settings shard.old }
-    ensures room { length exporter.new.batch < exporter.new.size }
-    ensures size { exporter.new.size ≡ exporter.old.size }
-    ensures stays_down { exporter.old.sink.is_down ≡ true → exporter.new.sink.is_down ≡ true }
+    ensures goes_on { GoesOn output.old output.new }
 {
     let taken = shard.take(item);
-    pull_taken(exporter, report, taken);
-    decide_all(shard, limiter, exporter, report);
+    pull_taken(output, taken);
+    decide_all(shard, limiter, output);
 }
 
 /// Puts what an item released at once into the batch.
-fn pull_taken<S: Sink>(exporter: &mut Exporter<S>, report: &mut Option<Report>, taken: Taken)
-    requires { length exporter.old.batch < exporter.old.size }
-    ensures pulls { PullsAll (exporter.old, report.old) (released_by taken) (λ reason. dropped_by reason taken) (exporter.new, report.new) }
-    ensures room { length exporter.new.batch < exporter.new.size }
-    ensures stays_down { exporter.old.sink.is_down ≡ true → exporter.new.sink.is_down ≡ true }
+fn pull_taken<S: Sink>(output: &mut Output<S>, taken: Taken)
+    ensures pulls { PullsAll output.old (released_by taken) (λ reason. dropped_by reason taken) output.new }
+    ensures goes_on { GoesOn output.old output.new }
 {
     match taken {
-        Taken::Late(arrival) => pull(exporter, report, arrival),
-        Taken::Dropped(reason) => count(report, Count::Dropped(reason), 1),
+        Taken::Late(arrival) => output.pull(arrival),
+        Taken::Dropped(reason) => output.count(Count::Dropped(reason), 1),
         Taken::Kept {
             evicted: Some(left),
             cache: _,
-        } => count(report, Count::Dropped(Reason::Evicted), left.spans),
+        } => output.count(Count::Dropped(Reason::Evicted), left.spans),
         Taken::Kept {
             evicted: None,
             cache: _,
@@ -72,43 +65,33 @@ fn pull_taken<S: Sink>(exporter: &mut Exporter<S>, report: &mut Option<Report>, 
 }
 
 /// Decides all that is due by the limiter, and puts what that releases into the batch.
-fn decide_all<S: Sink>(
-    shard: &mut Shard,
-    limiter: &mut Budgets,
-    exporter: &mut Exporter<S>,
-    report: &mut Option<Report>,
-)
+fn decide_all<S: Sink>(shard: &mut Shard, limiter: &mut Budgets, output: &mut Output<S>)
     requires nodes { has_nodes_of limiter.old shard.old ≡ true }
-    requires room { length exporter.old.batch < exporter.old.size }
     ensures decides { (e : Entry) (past : Turn) → e.answers ≡ [] → StandsFor shard.old (e ∷ past.journal) 0 → limiter.old ≡ limiter_counts (settings shard.old).policies past.askings
-        → DecidesAll (settings shard.old) e past (exporter.old, report.old) shard.new limiter.new (exporter.new, report.new) }
+        → DecidesAll (settings shard.old) e past output.old shard.new limiter.new output.new }
     ensures nodes { (node : ℕ) → has_node limiter.new node ≡ has_node limiter.old node }
     ensures nothing_due { has_due shard.new ≡ false }
     ensures ends { shard.new.standing.ends ≡ shard.old.standing.ends }
     ensures settings { settings shard.new ≡ settings shard.old }
-    ensures room { length exporter.new.batch < exporter.new.size }
-    ensures size { exporter.new.size ≡ exporter.old.size }
-    ensures stays_down { exporter.old.sink.is_down ≡ true → exporter.new.sink.is_down ≡ true }
+    ensures goes_on { GoesOn output.old output.new }
 {
     'deciding: loop {
         let decided = shard.decide(limiter);
         if let Decided::Nothing = decided {
             return;
         }
-        pull_decided(exporter, report, decided);
+        pull_decided(output, decided);
     }
 }
 
 /// Puts what a decision released into the batch.
-fn pull_decided<S: Sink>(exporter: &mut Exporter<S>, report: &mut Option<Report>, decided: Decided)
-    requires { length exporter.old.batch < exporter.old.size }
-    ensures pulls { PullsAll (exporter.old, report.old) (released_in decided) (λ reason. dropped_in reason decided) (exporter.new, report.new) }
-    ensures room { length exporter.new.batch < exporter.new.size }
-    ensures stays_down { exporter.old.sink.is_down ≡ true → exporter.new.sink.is_down ≡ true }
+fn pull_decided<S: Sink>(output: &mut Output<S>, decided: Decided)
+    ensures pulls { PullsAll output.old (released_in decided) (λ reason. dropped_in reason decided) output.new }
+    ensures goes_on { GoesOn output.old output.new }
 {
     match decided {
-        Decided::Release(spans) => pull_all(exporter, report, spans),
-        Decided::Dropped(spans) => count(report, Count::Dropped(Reason::NotSampled), spans),
+        Decided::Release(spans) => output.pull_all(spans),
+        Decided::Dropped(spans) => output.count(Count::Dropped(Reason::NotSampled), spans),
         Decided::Nothing => {}
     }
 }
@@ -118,29 +101,25 @@ pub fn drain<S: Sink>(
     shard: &mut Shard,
     queue: &mut ListPort<Item>,
     limiter: &mut Budgets,
-    exporter: &mut Exporter<S>,
-    report: &mut Option<Report>,
+    output: &mut Output<S>,
 )
     requires nothing_due { has_due shard.old ≡ false }
     requires running { is_finished shard.old ≡ false }
     requires queued { list_all is_queued queue.old.items ≡ true }
     requires nodes { has_nodes_of limiter.old shard.old ≡ true }
-    requires room { length exporter.old.batch < exporter.old.size }
-    ensures takes { TakesItems shard.old limiter.old (exporter.old, report.old) queue.old.items shard.new limiter.new (exporter.new, report.new) }
+    ensures takes { TakesItems shard.old limiter.old output.old queue.old.items shard.new limiter.new output.new }
     ensures nodes { (node : ℕ) → has_node limiter.new node ≡ has_node limiter.old node }
     ensures emptied { queue.new ≡ record queue.old { items = [] } }
     ensures nothing_due { has_due shard.new ≡ false }
     ensures ends { shard.new.standing.ends ≡ shard.old.standing.ends }
     ensures settings { settings shard.new ≡ settings shard.old }
-    ensures room { length exporter.new.batch < exporter.new.size }
-    ensures size { exporter.new.size ≡ exporter.old.size }
-    ensures stays_down { exporter.old.sink.is_down ≡ true → exporter.new.sink.is_down ≡ true }
+    ensures goes_on { GoesOn output.old output.new }
 {
     'draining: loop {
         let Some(item) = queue.pop() else {
             return;
         };
-        take_item(shard, limiter, exporter, report, item);
+        take_item(shard, limiter, output, item);
     }
 }
 
@@ -150,24 +129,20 @@ pub fn take_queued<S: Sink>(
     shards: &mut [Shard],
     queues: &mut [ListPort<Item>],
     limiter: &mut Budgets,
-    exporter: &mut Exporter<S>,
-    report: &mut Option<Report>,
+    output: &mut Output<S>,
 )
     requires same { length queues.old ≡ length shards.old }
     requires open { AreOpen shards.old }
     requires queued { AllByRecursion HoldsQueued queues.old }
     requires nodes { has_all_nodes limiter.old shards.old ≡ true }
-    requires room { length exporter.old.batch < exporter.old.size }
-    ensures takes { EachTakes shards.old limiter.old (exporter.old, report.old) (items_in queues.old) shards.new limiter.new (exporter.new, report.new) }
+    ensures takes { EachTakes shards.old limiter.old output.old (items_in queues.old) shards.new limiter.new output.new }
     ensures nodes { has_all_nodes limiter.new shards.new ≡ true }
     ensures same_nodes { (node : ℕ) → has_node limiter.new node ≡ has_node limiter.old node }
     ensures emptied { queues.new ≡ map emptied queues.old }
     ensures quiet { (ends : List Bool) → AreQuiet ends shards.old → AreQuiet ends shards.new }
     ensures settings { (s : Settings) → HaveSettings s shards.old → HaveSettings s shards.new }
     ensures length { length shards.new ≡ length shards.old }
-    ensures room { length exporter.new.batch < exporter.new.size }
-    ensures size { exporter.new.size ≡ exporter.old.size }
-    ensures stays_down { exporter.old.sink.is_down ≡ true → exporter.new.sink.is_down ≡ true }
+    ensures goes_on { GoesOn output.old output.new }
 {
     let Some((shard, others)) = shards.split_first_mut() else {
         return;
@@ -175,8 +150,8 @@ pub fn take_queued<S: Sink>(
     let Some((queue, rest)) = queues.split_first_mut() else {
         return;
     };
-    drain(shard, queue, limiter, exporter, report);
-    take_queued(others, rest, limiter, exporter, report);
+    drain(shard, queue, limiter, output);
+    take_queued(others, rest, limiter, output);
 }
 
 /// Where a request's spans were received, each shard in its turn takes what its queue holds.
@@ -185,26 +160,22 @@ pub fn take_received<S: Sink>(
     shards: &mut Vec<Shard>,
     queues: &mut Vec<ListPort<Item>>,
     limiter: &mut Budgets,
-    exporter: &mut Exporter<S>,
-    report: &mut Option<Report>,
+    output: &mut Output<S>,
 )
     requires same { length queues.old.items ≡ length shards.old.items }
     requires open { AreOpen shards.old.items }
     requires queued { AllByRecursion HoldsQueued queues.old.items }
     requires nodes { has_all_nodes limiter.old shards.old.items ≡ true }
-    requires room { length exporter.old.batch < exporter.old.size }
-    ensures takes { RoundsTaken shards.old.items limiter.old (exporter.old, report.old) (rounds_of received queues.old.items) shards.new.items limiter.new (exporter.new, report.new) }
+    ensures takes { RoundsTaken shards.old.items limiter.old output.old (rounds_of received queues.old.items) shards.new.items limiter.new output.new }
     ensures nodes { has_all_nodes limiter.new shards.new.items ≡ true }
     ensures emptied { queues.new.items ≡ (if received then map emptied queues.old.items else queues.old.items) }
     ensures quiet { (ends : List Bool) → AreQuiet ends shards.old.items → AreQuiet ends shards.new.items }
     ensures settings { (s : Settings) → HaveSettings s shards.old.items → HaveSettings s shards.new.items }
     ensures length { length shards.new.items ≡ length shards.old.items }
-    ensures room { length exporter.new.batch < exporter.new.size }
-    ensures size { exporter.new.size ≡ exporter.old.size }
-    ensures stays_down { exporter.old.sink.is_down ≡ true → exporter.new.sink.is_down ≡ true }
+    ensures goes_on { GoesOn output.old output.new }
 {
     if received {
-        take_queued(shards, queues, limiter, exporter, report);
+        take_queued(shards, queues, limiter, output);
     }
 }
 
@@ -213,26 +184,22 @@ pub fn take_received<S: Sink>(
 pub fn tell_each<S: Sink>(
     shards: &mut [Shard],
     limiter: &mut Budgets,
-    exporter: &mut Exporter<S>,
-    report: &mut Option<Report>,
+    output: &mut Output<S>,
     signal: Signal,
 )
     requires open { AreOpen shards.old }
     requires nodes { has_all_nodes limiter.old shards.old ≡ true }
-    requires room { length exporter.old.batch < exporter.old.size }
-    ensures takes { EachTakes shards.old limiter.old (exporter.old, report.old) (to_each (item_of signal) shards.old) shards.new limiter.new (exporter.new, report.new) }
+    ensures takes { EachTakes shards.old limiter.old output.old (to_each (item_of signal) shards.old) shards.new limiter.new output.new }
     ensures nodes { has_all_nodes limiter.new shards.new ≡ true }
     ensures same_nodes { (node : ℕ) → has_node limiter.new node ≡ has_node limiter.old node }
     ensures quiet { (ends : List Bool) → AreQuiet ends shards.old → AreQuiet (ends_after (item_of signal) ends) shards.new }
     ensures settings { (s : Settings) → HaveSettings s shards.old → HaveSettings s shards.new }
     ensures length { length shards.new ≡ length shards.old }
-    ensures room { length exporter.new.batch < exporter.new.size }
-    ensures size { exporter.new.size ≡ exporter.old.size }
-    ensures stays_down { exporter.old.sink.is_down ≡ true → exporter.new.sink.is_down ≡ true }
+    ensures goes_on { GoesOn output.old output.new }
 {
     let Some((shard, others)) = shards.split_first_mut() else {
         return;
     };
-    take_item(shard, limiter, exporter, report, signal.item());
-    tell_each(others, limiter, exporter, report, signal);
+    take_item(shard, limiter, output, signal.item());
+    tell_each(others, limiter, output, signal);
 }

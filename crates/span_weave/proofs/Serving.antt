@@ -13,16 +13,12 @@ use Rattle.journal_theory.specs.Fate.{DroppedSpan, Effect, counts, effect, effec
 use Rattle.journal_theory.specs.Marked.{marks_apply_to_ids}
 use Rattle.world_theory.specs.World.{Config, Shard, World, goes_to}
 use Rattle.world_theory.specs.Step.{route, refuse, take as take_step, tick, end, decide}
+use Rattle.world_theory.proofs.DecidingInTurn.{decides_all}
 use Rattle.span_weave.specs.Threads.{Try, pushed, full, span_of, was_pushed, pushed_in, refused_in}
 use Rattle.span_weave.proofs.Lists.{set_at, set_same, set_other, First, first_of_filter, any_of_filter}
 use Rattle.span_weave.proofs.Counting.{number, if_same, if_same_plus, if_same_none}
 use Rattle.span_weave.proofs.Runs.{Leads, LeadsBy, leads_same, leads_one, leads_then, by_one, by_quiet, by_then, then_quiet}
 use Rattle.span_weave.proofs.Worlds.{Model, entry_of, given_to, AreGiven, own, stood, dealing, did, fresh, state, refuse_step, route_step, take_one, tick_one, end_lane, end_ticker, decide_one}
-
--- what stands behind a front
-behind_front : {X : Type 0} (front : List X) (x : X) (back : List X) → slice_get (front ++ x ∷ back) (length front) ≡ Some x
-behind_front [] x back = refl
-behind_front (y ∷ front) x back = behind_front front x back
 
 module _ (c : Config) (lanes shards : ℕ) (received : ℕ → List Arrival) (m : Model) (s : ℕ) (below : s < shards) where
   -- the settings of the shard
@@ -63,32 +59,6 @@ module _ (c : Config) (lanes shards : ℕ) (received : ℕ → List Arrival) (m 
 
   -- ---- all that is due is decided
 
-  -- the decisions that are left are made in turn, by their answers
-  decides_all : (u : ℕ → List Arrival) (e : Entry) (J : Journal) (out : List Arrival) (C : List DroppedSpan) (given left : List (List Bool)) (before os : List Opening) → due_now S (e ∷ J) ≡ before ++ os
-      → are_each_answered S.policies (e ∷ J) os left ≡ true → (let ds = decisions_in_turn S (e ∷ J) os left in
-      Leads c (W u (dealing c lanes shards received (given_to e given ∷ J) (length before) out) C)
-      (W u (dealing c lanes shards received (given_to e (given ++ left) ∷ J) (length (due_now S (e ∷ J))) (out ++ (effect_of_decisions ds).released)) (C ++ (effect_of_decisions ds).counted)))
-  decides_all u e J out C given [] before [] is fits = leads_same c _ _ (cc (append-nil out, append-nil C, append-nil given, all))
-    where
-      all : length before ≡ length (due_now S (e ∷ J))
-      all = sym (ap (λ (z : List Opening). length z) (is ∙ append-nil before))
-  decides_all u e J out C given (a ∷ left) before [] is fits = absurd (cc fits)
-  decides_all u e J out C given [] before (o ∷ os) is fits = absurd (cc fits)
-  decides_all u e J out C given (a ∷ left) before (o ∷ os) is fits =
-      leads_then c _ _ _ (leads_one c _ _ (decide s a) (λ l k. refl) (decide_one c lanes shards received m s below u C e J given (length before) out o a (ap (λ (z : List Opening). slice_get z (length before)) is ∙ behind_front before o os) (and_parts _ _ fits).0))
-      (leads_then c _ _ _ (leads_same c _ _ (ap (λ (n : ℕ). W u (dealing c lanes shards received (given_to e (given ++ a ∷ []) ∷ J) n (out ++ one.released)) (C ++ one.counted)) longer))
-      (leads_then c _ _ _ (decides_all u e J (out ++ one.released) (C ++ one.counted) (given ++ a ∷ []) left (before ++ o ∷ []) os (is ∙ sym (append_assoc before (o ∷ []) os)) (and_parts _ _ fits).1)
-      (leads_same c _ _ (cc (append_assoc out one.released more.released, append_assoc C one.counted more.counted, append_assoc given (a ∷ []) left)))))
-    where
-      one : Effect
-      one = effect_of_decision (decision S (e ∷ J) o a)
-
-      more : Effect
-      more = effect_of_decisions (decisions_in_turn S (e ∷ J) os left)
-
-      longer : length before + 1 ≡ length (before ++ o ∷ [])
-      longer = omega (arith, length-append before (o ∷ []))
-
   -- what is counted once an entry was taken and all that was due was decided
   abbrev pub with_counts : List DroppedSpan → Entry → Journal → List DroppedSpan
   with_counts C e J = (C ++ (did c lanes shards received e J).counted) ++ (effect_of_decisions (decisions_now S (e ∷ J))).counted
@@ -96,7 +66,9 @@ module _ (c : Config) (lanes shards : ℕ) (received : ℕ → List Arrival) (m 
   -- The decisions of the last item, one after the other, deal with all that is due.
   pub settles : (u : ℕ → List Arrival) (C : List DroppedSpan) (e : Entry) (J : Journal) → AreGiven S e J
       → Leads c (W u (fresh c lanes shards received e J) (C ++ (did c lanes shards received e J).counted)) (W u (still (e ∷ J)) (with_counts C e J))
-  settles u C e J fits = decides_all u e J ((effect S J).released ++ (did c lanes shards received e J).released) (C ++ (did c lanes shards received e J).counted) [] e.answers [] (due_now S (e ∷ J)) refl fits
+  settles u C e J fits = decides_all S e J (λ given n out counted. W u (dealing c lanes shards received (given_to e given ∷ J) n out) counted) (Leads c) (leads_same c) (leads_then c)
+      (λ given n out counted o answers due is. leads_one c _ _ (decide s answers) (λ l k. refl) (decide_one c lanes shards received m s below u counted e J given n out o answers due is))
+      [] e.answers ((effect S J).released ++ (did c lanes shards received e J).released) (C ++ (did c lanes shards received e J).counted) [] (due_now S (e ∷ J)) refl fits
 
   settled_number : (reason : Reason) (C : List DroppedSpan) (e : Entry) (J : Journal)
       → number reason (with_counts C e J) + number reason (effect S J).counted ≡ number reason C + number reason (with_counts (effect S J).counted e J)

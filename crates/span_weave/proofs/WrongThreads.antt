@@ -190,41 +190,35 @@ backwards t w =
     let q : 1 < 0 = h 0 1 first (omega arith) (omega arith) refl in
     absurd (omega (arith, q))
 
+-- what they handed over
+abbrev turned : Export
+turned = made ((second ∷ []) ∷ (first ∷ []) ∷ [])
+
+-- by these tries, and by these items that the shard popped, the second span went to the exporter first
+abbrev second_first : List Try → (popped : List (ℕ × Entry)) → Threads
+second_first tries popped = did (first ∷ second ∷ []) tries (11 ∷ []) popped (pulled 0 second ∷ handed_over ∷ pulled 0 first ∷ handed_over ∷ [])
+
+-- they meet all promises but this one, and are no run
+abbrev pub BreaksAlone : Promise → Threads → Type 0
+BreaksAlone broken t = MeetsBut broken config 1 1 t turned × (Woven config 1 1 t turned → ⊥)
+
 -- ---- tries that are not in order
 
-abbrev tried_backwards : Threads
-tried_backwards = did (first ∷ second ∷ []) (pushed second ∷ pushed first ∷ []) (11 ∷ []) (taken second ∷ taken first ∷ ticked ∷ ends) (pulled 0 second ∷ handed_over ∷ pulled 0 first ∷ handed_over ∷ [])
-
-tried_backwards_meets : MeetsBut tries_in_order config 1 1 tried_backwards (made ((second ∷ []) ∷ (first ∷ []) ∷ []))
+pub tried_backwards : BreaksAlone tries_in_order (second_first (pushed second ∷ pushed first ∷ []) (taken second ∷ taken first ∷ ticked ∷ ends))
 unfolding notes
-tried_backwards_meets = meets_but tries_in_order config tried_backwards (made ((second ∷ []) ∷ (first ∷ []) ∷ [])) two_numbered tt refl refl (omega arith, (omega arith, (omega arith, (omega arith, (omega arith, tt))))) (refl, (refl, (refl, (refl, (refl, tt))))) (refl, (refl, (refl, (refl, (refl, tt))))) refl (omega arith, (omega arith, tt)) refl refl
-
-pub tried_backwards_is_no_run : Woven config 1 1 tried_backwards (made ((second ∷ []) ∷ (first ∷ []) ∷ [])) → ⊥
-tried_backwards_is_no_run = backwards tried_backwards
+tried_backwards = (meets_but tries_in_order config _ turned two_numbered tt refl refl (omega arith, (omega arith, (omega arith, (omega arith, (omega arith, tt))))) (refl, (refl, (refl, (refl, (refl, tt))))) (refl, (refl, (refl, (refl, (refl, tt))))) refl (omega arith, (omega arith, tt)) refl refl, backwards _)
 
 -- ---- items that are not popped in order
 
-abbrev popped_backwards : Threads
-popped_backwards = did (first ∷ second ∷ []) (pushed first ∷ pushed second ∷ []) (11 ∷ []) (taken second ∷ taken first ∷ ticked ∷ ends) (pulled 0 second ∷ handed_over ∷ pulled 0 first ∷ handed_over ∷ [])
-
-popped_backwards_meets : MeetsBut popped_in_order config 1 1 popped_backwards (made ((second ∷ []) ∷ (first ∷ []) ∷ []))
+pub popped_backwards : BreaksAlone popped_in_order (second_first (pushed first ∷ pushed second ∷ []) (taken second ∷ taken first ∷ ticked ∷ ends))
 unfolding notes
-popped_backwards_meets = meets_but popped_in_order config popped_backwards (made ((second ∷ []) ∷ (first ∷ []) ∷ [])) two_numbered refl tt refl (omega arith, (omega arith, (omega arith, (omega arith, (omega arith, tt))))) (refl, (refl, (refl, (refl, (refl, tt))))) (refl, (refl, (refl, (refl, (refl, tt))))) refl (omega arith, (omega arith, tt)) refl refl
-
-pub popped_backwards_is_no_run : Woven config 1 1 popped_backwards (made ((second ∷ []) ∷ (first ∷ []) ∷ [])) → ⊥
-popped_backwards_is_no_run = backwards popped_backwards
+popped_backwards = (meets_but popped_in_order config _ turned two_numbered refl tt refl (omega arith, (omega arith, (omega arith, (omega arith, (omega arith, tt))))) (refl, (refl, (refl, (refl, (refl, tt))))) (refl, (refl, (refl, (refl, (refl, tt))))) refl (omega arith, (omega arith, tt)) refl refl, backwards _)
 
 -- ---- spans that are not shipped in order
 
-abbrev shipped_backwards : Threads
-shipped_backwards = did (first ∷ second ∷ []) (pushed first ∷ pushed second ∷ []) (11 ∷ []) (taken first ∷ taken second ∷ ticked ∷ ends) (pulled 0 second ∷ handed_over ∷ pulled 0 first ∷ handed_over ∷ [])
-
-shipped_backwards_meets : MeetsBut shipped_is_output config 1 1 shipped_backwards (made ((second ∷ []) ∷ (first ∷ []) ∷ []))
+pub shipped_backwards : BreaksAlone shipped_is_output (second_first (pushed first ∷ pushed second ∷ []) (taken first ∷ taken second ∷ ticked ∷ ends))
 unfolding notes
-shipped_backwards_meets = meets_but shipped_is_output config shipped_backwards (made ((second ∷ []) ∷ (first ∷ []) ∷ [])) two_numbered refl refl refl (omega arith, (omega arith, (omega arith, (omega arith, (omega arith, tt))))) (refl, (refl, (refl, (refl, (refl, tt))))) (refl, (refl, (refl, (refl, (refl, tt))))) tt (omega arith, (omega arith, tt)) refl refl
-
-pub shipped_backwards_is_no_run : Woven config 1 1 shipped_backwards (made ((second ∷ []) ∷ (first ∷ []) ∷ [])) → ⊥
-shipped_backwards_is_no_run = backwards shipped_backwards
+shipped_backwards = (meets_but shipped_is_output config _ turned two_numbered refl refl refl (omega arith, (omega arith, (omega arith, (omega arith, (omega arith, tt))))) (refl, (refl, (refl, (refl, (refl, tt))))) (refl, (refl, (refl, (refl, (refl, tt))))) tt (omega arith, (omega arith, tt)) refl refl, backwards _)
 
 -- ---- a lane's End that is not its last item
 

@@ -1,7 +1,7 @@
 -- The keys of each kind of table, and the texts that `type` and `status_codes` take.
-use Rattle.std.specs.Prelude.{ℕ, ℤ, pos, Bool, true, false, not, ◌&&◌, ◌||◌, List, codes, Option, Some, None, if◌then◌else◌}
+use Rattle.std.specs.Prelude.{ℕ, ℤ, pos, Bool, true, false, not, ◌&&◌, ◌||◌, List, codes, Option, Some, None, option_and_then, if◌then◌else◌}
 use Rattle.std.specs.Str.{bytes_eq}
-use Rattle.toml.specs.Data.{Data, string, Members, no_members, member, get_member}
+use Rattle.toml.specs.Data.{Data, as_str, Members, no_members, member, get_member}
 use Rattle.tsc_config.specs.declared.kinds.PolicyType.{PolicyType}
 use Rattle.tsc_config.specs.declared.kinds.PolicyType.TheVariants as type_is
 use Rattle.tsc_config.specs.declared.kinds.TableKind.{TableKind}
@@ -70,8 +70,7 @@ type_named text =
 
 -- the type of policy that a value names
 abbrev pub type_of : Data → Option PolicyType
-type_of (string text) = type_named text
-type_of _ = None
+type_of value = option_and_then type_named (as_str value)
 
 -- the type of policy that the value at a key names
 abbrev pub type_found : Option Data → Option PolicyType
@@ -92,5 +91,4 @@ code_named text =
 
 -- the status code that a value names
 abbrev pub code_of : Data → Option ℤ
-code_of (string text) = code_named text
-code_of _ = None
+code_of value = option_and_then code_named (as_str value)

@@ -1,7 +1,7 @@
 -- What the table of a configuration gives. Of a table with a fault this says nothing that counts.
 use Rattle.std.specs.Prelude.{suc, ℕ, ℤ, pos, negsuc, Bool, false, List, [], ◌∷◌, codes, Option, Some, None, if◌then◌else◌, nat_lt, ◌<◌, ◌≤◌}
 use Rattle.std.specs.Str.{bytes_eq}
-use Rattle.toml.specs.Data.{Data, string, integer, boolean, array, table, Items, no_items, item, Members, no_members, member, get_member}
+use Rattle.toml.specs.Data.{Data, as_str, string, integer, boolean, array, table, Items, no_items, item, Members, no_members, member, get_member}
 use Rattle.policy_tree.specs.declared.policy.Policy.{Policy}
 use Rattle.policy_tree.specs.declared.policy.PolicyKind.{PolicyKind}
 use Rattle.policy_tree.specs.declared.policy.PolicyKind.TheVariants as kind_is
@@ -97,15 +97,10 @@ abbrev pub truth_of : Option Data → Bool
 truth_of None = false
 truth_of (Some value) = truth_value value
 
--- a text, if it is one
-abbrev pub text_found : Data → Option (List ℕ)
-text_found (string text) = Some text
-text_found _ = None
-
 -- the texts among items, in order
 abbrev pub item_texts : Items → List (List ℕ)
 item_texts no_items = []
-item_texts (item value rest) = found_before (text_found value) (item_texts rest)
+item_texts (item value rest) = found_before (as_str value) (item_texts rest)
 
 -- the texts of an array
 abbrev pub texts_value : Data → List (List ℕ)

@@ -121,10 +121,7 @@ fn type_named(text: &str) -> Option<PolicyType>
 pub fn type_of(value: &Value) -> Option<PolicyType>
     ensures { result ≡ spec.type_of (view value.now) }
 {
-    match value {
-        Value::String(text) => type_named(text.as_str()),
-        _ => None,
-    }
+    type_named(value.as_str()?)
 }
 
 /// The type of policy that a policy table names.
@@ -151,8 +148,5 @@ fn code_named(text: &str) -> Option<i32>
 pub fn code_of(value: &Value) -> Option<i32>
     ensures { result ≡ spec.code_of (view value.now) }
 {
-    match value {
-        Value::String(text) => code_named(text.as_str()),
-        _ => None,
-    }
+    code_named(value.as_str()?)
 }

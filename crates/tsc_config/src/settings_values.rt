@@ -145,18 +145,9 @@ fn item_texts(alloc: Global, items: &Array) -> Result<List<Text>, AllocError>
 {
     let mut list = List::new(alloc);
     for item in items {
-        if let Some(text) = text_found(alloc, item)? {
-            list.push(text)?;
+        if let Some(text) = item.as_str() {
+            list.push(Text::from_str(alloc, text)?)?;
         }
     }
     Ok(list)
-}
-
-fn text_found(alloc: Global, value: &Value) -> Result<Option<Text>, AllocError>
-    ensures { IfOk result (λ found. found ≡ spec.text_found (view value.now)) }
-{
-    match value {
-        Value::String(text) => Ok(Some(Text::from_str(alloc, text.as_str())?)),
-        _ => Ok(None),
-    }
 }

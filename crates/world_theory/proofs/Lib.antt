@@ -36,3 +36,4 @@ pub mod Routing
 pub mod Finishing
 pub mod WaitingPlaces
 pub mod Running
+pub mod DecidingInTurn

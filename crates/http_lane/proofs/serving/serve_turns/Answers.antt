@@ -1,7 +1,7 @@
-use Rattle.std.proofs.Common.{◌∙◌, ◌<◌, ◌≤◌, ◌+◌, ap, refl, sym, [], false, arith, take, length, Some, cond}
+use Rattle.std.proofs.Common.{◌<◌, ◌≤◌, ◌+◌, ap, refl, [], false, arith, take, length, Some}
 use Rattle.std.proofs.lemmas.List.{length-take}
 use Rattle.http_lane.specs.Intake.{Submits, intake}
-use Rattle.http_lane.specs.declared.answer.ServeEnd.TheVariants.{ReadFault, Closed, Cut}
+use Rattle.http_lane.specs.declared.answer.ServeEnd.TheVariants.{ReadFault}
 use Rattle.http_lane.specs.Connection.{gave, quiet, interrupted, failed, ended, grown, standing}
 use Rattle.http_lane.proofs.EventLemmas.{serving_first, serving_more, serving_end, does_none, does_still, settled_rests}
 use Rattle.http_lane.proofs.serving.serve_turns.Goals as goal
@@ -51,20 +51,9 @@ returns-in-Ended g c =
     let known = g.W.Write.contents in
     let given = g.R.Source.given in
     let s = c.loop.invariant.1 in
-    let between = sym (c.is_between.ensures s.last.reading s.stood) ∙ c.if-is_between.true in
     serving_end g.E.Engine.awaits (Submits g.P.Port.takes g.P.Port.refuses) (known c.args.writer.now) (known c.loop.writer) (known c.loop.writer) (intake c.args.lane.now c.args.conn.now (g.C.Counter.counted c.args.counts.now)) (intake c.loop.lane c.loop.conn (g.C.Counter.counted c.loop.counts)) (intake c.loop.lane c.loop.conn (g.C.Counter.counted c.loop.counts))
-    (given c.args.reader.now) (given c.loop.reader) (given c.turn.new.self) c.loop.engine c.loop.row 0 c.loop.counter ended false [] s.last.reading Closed
-    s (refl, ap (λ b. standing s.last.reading 0 (Some (cond b Closed Cut))) (sym between)) c.loop-test.true c.in-Ended.ensures.tells (does_none (Submits g.P.Port.takes g.P.Port.refuses) (known c.loop.writer) (intake c.loop.lane c.loop.conn (g.C.Counter.counted c.loop.counts)))
-
-pub returns-in-Ended-2 : goal.returns-in-Ended-2
-returns-in-Ended-2 g c =
-    let known = g.W.Write.contents in
-    let given = g.R.Source.given in
-    let s = c.loop.invariant.1 in
-    let within = sym (c.is_between.ensures s.last.reading s.stood) ∙ c.if-is_between.false in
-    serving_end g.E.Engine.awaits (Submits g.P.Port.takes g.P.Port.refuses) (known c.args.writer.now) (known c.loop.writer) (known c.loop.writer) (intake c.args.lane.now c.args.conn.now (g.C.Counter.counted c.args.counts.now)) (intake c.loop.lane c.loop.conn (g.C.Counter.counted c.loop.counts)) (intake c.loop.lane c.loop.conn (g.C.Counter.counted c.loop.counts))
-    (given c.args.reader.now) (given c.loop.reader) (given c.turn.new.self) c.loop.engine c.loop.row 0 c.loop.counter ended false [] s.last.reading Cut
-    s (refl, ap (λ b. standing s.last.reading 0 (Some (cond b Closed Cut))) (sym within)) c.loop-test.true c.in-Ended-2.ensures.tells (does_none (Submits g.P.Port.takes g.P.Port.refuses) (known c.loop.writer) (intake c.loop.lane c.loop.conn (g.C.Counter.counted c.loop.counts)))
+    (given c.args.reader.now) (given c.loop.reader) (given c.turn.new.self) c.loop.engine c.loop.row 0 c.loop.counter ended false [] s.last.reading c.ended.result
+    s (refl, ap (λ why. standing s.last.reading 0 (Some why)) (c.ended.ensures s.last.reading s.stood)) c.loop-test.true c.in-Ended.ensures.tells (does_none (Submits g.P.Port.takes g.P.Port.refuses) (known c.loop.writer) (intake c.loop.lane c.loop.conn (g.C.Counter.counted c.loop.counts)))
 
 pub loop-preserved : goal.loop-preserved
 loop-preserved g c =

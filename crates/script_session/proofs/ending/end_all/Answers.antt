@@ -7,6 +7,7 @@ use Rattle.shard_core.specs.Held.{Held}
 use Rattle.script_run.specs.World.{ends_from, to_each}
 use Rattle.script_session.specs.Pulling.{Export, Counts, AreQuiet, HaveSettings, AreOpen, RoundsTaken, EachTakes}
 use Rattle.script_session.proofs.Several.{RoundsTaken-none, RoundsTaken-push, ends_from-next, to_each-same, ended, ended-next, ended-open, ended-all}
+use Rattle.script_session.proofs.Pulls.{goes-on, goes-on-then}
 use Rattle.script_session.proofs.ending.end_all.Goals as goal
 
 opened : (shards : List Held) (n m k : ℕ) → k ≡ suc m → AreQuiet (ended n k) shards → AreOpen shards
@@ -33,14 +34,12 @@ round-more first mid new start lent last n before between after e keeps r t =
 pub loop-lane-init : goal.loop-lane-init
 loop-lane-init g c = record {
   nodes = c.requires.nodes;
-  took = RoundsTaken-none c.args.shards.now c.args.limiter.now (c.args.exporter.now, c.args.report.now);
+  took = RoundsTaken-none c.args.shards.now c.args.limiter.now c.args.output.now;
   quiet = let P = λ (n : ℕ). AreQuiet (replicate n false) c.args.shards.now in subst P (let e : c.args.lanes + 1 ≡ c.args.lanes - 0 + 1 = omega arith in e) c.requires.quiet;
   keeps = λ s alike. alike;
   within = omega arith;
   length_same = refl;
-  room = c.requires.room;
-  size_same = refl;
-  down = λ down. down;
+  goes_on = goes-on c.args.output.now;
 }
 
 pub tell_each-requires-clause-open : goal.tell_each-requires-clause-open
@@ -55,14 +54,12 @@ loop-lane-preserved g c =
     let less : lane < c.args.lanes = c.loop-lane-test.true in
     record {
       nodes = c.tell_each.ensures.nodes;
-      took = round-more c.args.shards.now c.loop-lane.shards c.tell_each.new.shards c.args.limiter.now c.loop-lane.limiter c.tell_each.new.limiter lane (c.args.exporter.now, c.args.report.now) (c.loop-lane.exporter, c.loop-lane.report) (c.tell_each.new.exporter, c.tell_each.new.report) inv.length_same inv.keeps inv.took c.tell_each.ensures.takes;
+      took = round-more c.args.shards.now c.loop-lane.shards c.tell_each.new.shards c.args.limiter.now c.loop-lane.limiter c.tell_each.new.limiter lane c.args.output.now c.loop-lane.output c.tell_each.new.output inv.length_same inv.keeps inv.took c.tell_each.ensures.takes;
       quiet = ends-more c.tell_each.new.shards lane (c.args.lanes - lane) (c.args.lanes - lane + 1) (c.args.lanes - (lane + 1) + 1) (omega arith) (omega (arith, less)) (c.tell_each.ensures.quiet _ inv.quiet);
       keeps = λ s alike. c.tell_each.ensures.settings s (inv.keeps s alike);
       within = omega (arith, less);
       length_same = c.tell_each.ensures.length ∙ inv.length_same;
-      room = c.tell_each.ensures.room;
-      size_same = c.tell_each.ensures.size ∙ inv.size_same;
-      down = λ down. c.tell_each.ensures.stays_down (inv.down down);
+      goes_on = goes-on-then c.args.output.now c.loop-lane.output c.tell_each.new.output inv.goes_on c.tell_each.ensures.goes_on;
     }
 
 pub tell_each-requires-2-clause-open : goal.tell_each-requires-2-clause-open
@@ -74,8 +71,8 @@ pub returns-clause-takes : goal.returns-clause-takes
 returns-clause-takes g c =
     let inv = c.loop-lane.invariant in
     let last : c.loop-lane.lane ≡ c.args.lanes = omega (arith, inv.within, c.loop-lane-test.false) in
-    let P = λ (n : ℕ). RoundsTaken c.args.shards.now c.args.limiter.now (c.args.exporter.now, c.args.report.now) (ends_from 0 n c.args.shards.now) c.loop-lane.shards c.loop-lane.limiter (c.loop-lane.exporter, c.loop-lane.report) in
-    round-more c.args.shards.now c.loop-lane.shards c.tell_each-2.new.shards c.args.limiter.now c.loop-lane.limiter c.tell_each-2.new.limiter c.args.lanes (c.args.exporter.now, c.args.report.now) (c.loop-lane.exporter, c.loop-lane.report) (c.tell_each-2.new.exporter, c.tell_each-2.new.report) inv.length_same inv.keeps (subst P last inv.took) c.tell_each-2.ensures.takes
+    let P = λ (n : ℕ). RoundsTaken c.args.shards.now c.args.limiter.now c.args.output.now (ends_from 0 n c.args.shards.now) c.loop-lane.shards c.loop-lane.limiter c.loop-lane.output in
+    round-more c.args.shards.now c.loop-lane.shards c.tell_each-2.new.shards c.args.limiter.now c.loop-lane.limiter c.tell_each-2.new.limiter c.args.lanes c.args.output.now c.loop-lane.output c.tell_each-2.new.output inv.length_same inv.keeps (subst P last inv.took) c.tell_each-2.ensures.takes
 
 pub returns-clause-quiet : goal.returns-clause-quiet
 returns-clause-quiet g c =

@@ -20,39 +20,39 @@ returns g c = λ config can unused new limiter.
     let s = settings_by config in
     let run : Run = record {
       settings = s;
-      sizes = record { batch = session.exporter.size; queue = session.queue_capacity };
+      sizes = record { batch = session.output.0.size; queue = session.queue_capacity };
       lanes = config.lanes;
       shards = config.shards;
-      taken = session.exporter.sink.taken;
-      failures = session.exporter.sink.failures;
+      taken = session.output.0.sink.taken;
+      failures = session.output.0.sink.failures;
       taken_after = g.S.Sink.taken c.end.result.0;
       failures_after = g.S.Sink.failures c.end.result.0;
       unread = g.R.Read.remaining c.args.reader.now;
       unread_after = g.R.Read.remaining c.play_script-played.new.reader;
     } in
-    let first : LineSinkState = up_state session.exporter.sink.taken session.exporter.sink.failures in
+    let first : LineSinkState = up_state session.output.0.sink.taken session.output.0.sink.failures in
     let start = new_world config.lanes config.shards first in
     let R = λ (report : Option (List ℕ)). Reports s start report in
-    let starts : AreOf s start session.connections session.shards.items session.limiter session.exporter session.report session.closed = record {
+    let starts : AreOf s start session.connections session.shards.items session.limiter session.output session.closed = record {
       contacts_are = unused;
       settings_are = new.1;
       released_all = new.3;
       limiter_is = limiter;
-      sink_is = ap (λ (b : Bool). let k : LineSinkState = record session.exporter.sink { is_down = b } in k) c.requires.up;
+      sink_is = ap (λ (b : Bool). let k : LineSinkState = record session.output.0.sink { is_down = b } in k) c.requires.up;
       reports = subst R (sym c.requires.nothing_counted) (Reports-new s config.lanes config.shards first);
       closed_is = c.requires.open;
     } in
-    run-ends run c.play_script-played.result (not now.exporter.sink.is_down) now.closed now.exporter.sink now.report _ _ script.whole script.stopped script.refused script.up script.closed script.down_closed
+    run-ends run c.play_script-played.result (not now.output.0.sink.is_down) now.closed now.output.0.sink now.output.1 _ _ script.whole script.stopped script.refused script.up script.closed script.down_closed
     (λ e. let same = (script.no_memory e).0 in
-    (c.end.ensures.taken ∙ ap (λ (m : Session g.row.S.Denot g.S.Sink). m.exporter.sink.taken) same, c.end.ensures.failures ∙ ap (λ (m : Session g.row.S.Denot g.S.Sink). m.exporter.sink.failures) same, ap g.R.Read.remaining (script.no_memory e).1))
-    (is_up_state now.exporter.sink run.taken_after run.failures_after c.end.ensures.taken c.end.ensures.failures)
-    (is_down_state now.exporter.sink run.taken_after run.failures_after c.end.ensures.taken c.end.ensures.failures)
-    (λ done leads. let r = leads.2 s start starts in leads_to s run.sizes run.lanes run.shards first done now.exporter.sink now.report can refl r.0 r.1 (sym r.2.sink_is) r.2.reports now.closed (sym r.2.closed_is))
+    (c.end.ensures.taken ∙ ap (λ (m : Session g.row.S.Denot g.S.Sink). m.output.0.sink.taken) same, c.end.ensures.failures ∙ ap (λ (m : Session g.row.S.Denot g.S.Sink). m.output.0.sink.failures) same, ap g.R.Read.remaining (script.no_memory e).1))
+    (is_up_state now.output.0.sink run.taken_after run.failures_after c.end.ensures.taken c.end.ensures.failures)
+    (is_down_state now.output.0.sink run.taken_after run.failures_after c.end.ensures.taken c.end.ensures.failures)
+    (λ done leads. let r = leads.2 s start starts in leads_to s run.sizes run.lanes run.shards first done now.output.0.sink now.output.1 can refl r.0 r.1 (sym r.2.sink_is) r.2.reports now.closed (sym r.2.closed_is))
     (λ done fell.
     let r = fell.1.2 s start starts in
     let ends = fell.3.2 s r.0 r.2 in
     let B = λ (n : ℕ). PlaysAll s (record { batch = n; queue = fell.0.queue_capacity }) r.0 (close ∷ []) ends.0 in
-    let Q = λ (n : ℕ). PlaysAll s (record { batch = session.exporter.size; queue = n }) r.0 (close ∷ []) ends.0 in
+    let Q = λ (n : ℕ). PlaysAll s (record { batch = session.output.0.size; queue = n }) r.0 (close ∷ []) ends.0 in
     let closes : PlaysAll s run.sizes r.0 (close ∷ []) ends.0 = subst Q fell.1.1 (subst B fell.1.0 ends.1) in
-    fell_before run done now.exporter.sink now.report can r.0 r.1 (sym (ap (λ (k : LineSinkState). k.is_down) r.2.sink_is) ∙ not-false fell.0.exporter.sink.is_down fell.2) ends.0 closes (sym ends.2.sink_is) ends.2.reports)
+    fell_before run done now.output.0.sink now.output.1 can r.0 r.1 (sym (ap (λ (k : LineSinkState). k.is_down) r.2.sink_is) ∙ not-false fell.0.output.0.sink.is_down fell.2) ends.0 closes (sym ends.2.sink_is) ends.2.reports)
     c.end.result.1 c.end.ensures.answer

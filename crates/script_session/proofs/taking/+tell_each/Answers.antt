@@ -1,4 +1,4 @@
-use Rattle.std.proofs.Common.{◌≡◌, true, List, [], ◌∷◌, ap, sym, subst, ◌∙◌}
+use Rattle.std.proofs.Common.{List, [], ◌∷◌, ap, sym, subst, ◌∙◌}
 use Rattle.std.proofs.lemmas.List.{length-map}
 use Rattle.otlp_types.specs.declared.arrival.Item.{Item}
 use Rattle.shard_core.specs.Held.{Held}
@@ -12,17 +12,17 @@ use Rattle.script_session.proofs.taking.+tell_each.Goals as goal
 pub returns-clause-takes : goal.returns-clause-takes
 returns-clause-takes g t c =
     let item = item_of c.args.signal in
-    let before : Export = (c.args.exporter.now, c.args.report.now) in
-    let after : Export = (c.tell_each.new.exporter, c.tell_each.new.report) in
+    let before : Export = c.args.output.now in
+    let after : Export = c.tell_each.new.output in
     let P = λ (old : List Held). EachTakes old c.args.limiter.now before (to_each item old) (c.take_item.new.shard ∷ c.tell_each.new.shards) c.tell_each.new.limiter after in
-    let Q = λ (one : Item). TakesItems c.in-Some.shard.now c.args.limiter.now before (one ∷ []) c.take_item.new.shard c.take_item.new.limiter (c.take_item.new.exporter, c.take_item.new.report) in
+    let Q = λ (one : Item). TakesItems c.in-Some.shard.now c.args.limiter.now before (one ∷ []) c.take_item.new.shard c.take_item.new.limiter c.take_item.new.output in
     subst P (sym c.in-Some.ensures.cases.0) (EachTakes-cons c.in-Some.shard.now c.take_item.new.shard c.in-Some.others.now c.tell_each.new.shards c.args.limiter.now c.take_item.new.limiter c.tell_each.new.limiter (item ∷ []) (to_each item c.in-Some.others.now)
-    before (c.take_item.new.exporter, c.take_item.new.report) after c.take_item.ensures.settings (subst Q c.item.ensures.item c.take_item.ensures.takes) c.tell_each.ensures.takes)
+    before c.take_item.new.output after c.take_item.ensures.settings (subst Q c.item.ensures.item c.take_item.ensures.takes) c.tell_each.ensures.takes)
 
 pub returns-in_default-clause-takes : goal.returns-in_default-clause-takes
 returns-in_default-clause-takes g t c =
     let item = item_of c.args.signal in
-    EachTakes-empty c.args.shards.now (to_each item c.args.shards.now) c.args.limiter.now (c.args.exporter.now, c.args.report.now) c.in_default.ensures.cases (length-map c.args.shards.now _)
+    EachTakes-empty c.args.shards.now (to_each item c.args.shards.now) c.args.limiter.now c.args.output.now c.in_default.ensures.cases (length-map c.args.shards.now _)
 
 pub returns-clause-quiet : goal.returns-clause-quiet
 returns-clause-quiet g t c = λ ends quiet.

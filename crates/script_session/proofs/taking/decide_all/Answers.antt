@@ -6,8 +6,8 @@ use Rattle.script_session.proofs.taking.decide_all.Goals as goal
 
 pub deciding-init : goal.deciding-init
 deciding-init g c = record {
-  decided = λ e past none stands is. DecidesSome-none _ e past c.args.shard.now c.args.limiter.now (c.args.exporter.now, c.args.report.now) none stands is;
-  kept = kept-first c.args.shard.now c.args.limiter.now c.args.exporter.now c.requires.nodes c.requires.room;
+  decided = λ e past none stands is. DecidesSome-none _ e past c.args.shard.now c.args.limiter.now c.args.output.now none stands is;
+  kept = kept-first c.args.shard.now c.args.limiter.now c.args.output.now c.requires.nodes;
 }
 
 pub deciding-preserved : goal.deciding-preserved
@@ -16,10 +16,10 @@ deciding-preserved g c =
     let step = c.decide-decided.ensures in
     record {
       decided = λ e past none stands is.
-          DecidesSome-push _ e past c.deciding.shard c.decide-decided.new.self c.deciding.limiter c.decide-decided.new.limiter (c.args.exporter.now, c.args.report.now) (c.deciding.exporter, c.deciding.report) (c.pull_decided.new.exporter, c.pull_decided.new.report)
+          DecidesSome-push _ e past c.deciding.shard c.decide-decided.new.self c.deciding.limiter c.decide-decided.new.limiter c.args.output.now c.deciding.output c.pull_decided.new.output
           c.decide-decided.result c.in_default.not-Nothing before.kept.settings_same (before.decided e past none stands is) step.decides c.pull_decided.ensures.pulls;
-      kept = kept-then c.args.shard.now c.deciding.shard c.decide-decided.new.self c.args.limiter.now c.deciding.limiter c.decide-decided.new.limiter c.args.exporter.now c.deciding.exporter c.pull_decided.new.exporter
-          before.kept step.keeps step.settings step.ends c.pull_decided.ensures.room c.pull_decided.ensures.pulls.size c.pull_decided.ensures.stays_down;
+      kept = kept-then c.args.shard.now c.deciding.shard c.decide-decided.new.self c.args.limiter.now c.deciding.limiter c.decide-decided.new.limiter c.args.output.now c.deciding.output c.pull_decided.new.output
+          before.kept step.keeps step.settings step.ends c.pull_decided.ensures.goes_on;
     }
 
 pub deciding-smaller : goal.deciding-smaller
@@ -29,7 +29,7 @@ pub returns-in-Nothing-clause-decides : goal.returns-in-Nothing-clause-decides
 returns-in-Nothing-clause-decides g c = λ e past none stands is.
     let before = c.deciding.invariant in
     let last = c.in-Nothing.ensures in
-    DecidesSome-end _ e past c.deciding.shard c.decide-decided.new.self c.deciding.limiter c.decide-decided.new.limiter (c.args.exporter.now, c.args.report.now) (c.deciding.exporter, c.deciding.report)
+    DecidesSome-end _ e past c.deciding.shard c.decide-decided.new.self c.deciding.limiter c.decide-decided.new.limiter c.args.output.now c.deciding.output
     before.kept.settings_same (before.decided e past none stands is) last.decides (last.unchanged refl) (last.all_dealt refl)
 
 pub returns-in-Nothing-clause-nodes : goal.returns-in-Nothing-clause-nodes

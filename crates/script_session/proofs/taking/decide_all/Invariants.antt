@@ -11,8 +11,8 @@ use Rattle.script_session.proofs.taking.decide_all.Given as goal
 abbrev pub invariant-deciding : goal.invariant-deciding
 invariant-deciding g l = record {
   decided : (e : Entry) (past : Turn) → e.answers ≡ [] → StandsFor l.fn.shard (e ∷ past.journal) 0 → l.fn.limiter ≡ limiter_counts (settings l.fn.shard).policies past.askings
-      → DecidesSome (settings l.fn.shard) e past (l.fn.exporter, l.fn.report) l.shard l.limiter (l.exporter, l.report);
-  kept : Kept l.fn.shard l.shard l.fn.limiter l.limiter l.fn.exporter l.exporter;
+      → DecidesSome (settings l.fn.shard) e past l.fn.output l.shard l.limiter l.output;
+  kept : Kept l.fn.shard l.shard l.fn.limiter l.limiter l.fn.output l.output;
 }
 
 abbrev pub decreases-deciding : goal.decreases-deciding

@@ -9,12 +9,12 @@ pub draining-init : goal.draining-init
 draining-init g c = record {
   popped = [];
   split = refl;
-  took = TakesItems-none c.args.shard.now c.args.limiter.now (c.args.exporter.now, c.args.report.now);
+  took = TakesItems-none c.args.shard.now c.args.limiter.now c.args.output.now;
   queued = c.requires.queued;
   capacity = refl;
   nothing_due = c.requires.nothing_due;
   running = c.requires.running;
-  kept = kept-first c.args.shard.now c.args.limiter.now c.args.exporter.now c.requires.nodes c.requires.room;
+  kept = kept-first c.args.shard.now c.args.limiter.now c.args.output.now c.requires.nodes;
 }
 
 pub draining-preserved : goal.draining-preserved
@@ -29,11 +29,11 @@ draining-preserved g c =
       popped = before.popped ++ item ∷ [];
       split = before.split ∙ ap (λ xs. before.popped ++ xs) first ∙ sym (append_assoc before.popped (item ∷ []) c.pop.new.self.items);
       took = TakesItems-append c.args.shard.now c.draining.shard c.take_item.new.shard c.args.limiter.now c.draining.limiter c.take_item.new.limiter before.popped (item ∷ [])
-          (c.args.exporter.now, c.args.report.now) (c.draining.exporter, c.draining.report) (c.take_item.new.exporter, c.take_item.new.report) before.kept.settings_same before.took step.takes;
+          c.args.output.now c.draining.output c.take_item.new.output before.kept.settings_same before.took step.takes;
       queued = rest-queued item c.pop.new.self.items c.draining.queue.items first before.queued;
       capacity = c.in-Some.ensures.capacity ∙ before.capacity;
       nothing_due = step.nothing_due;
       running = ap (λ (ends : List Bool). list_all (λ b. b) ends) ends ∙ before.running;
-      kept = kept-then c.args.shard.now c.draining.shard c.take_item.new.shard c.args.limiter.now c.draining.limiter c.take_item.new.limiter c.args.exporter.now c.draining.exporter c.take_item.new.exporter
-          before.kept step.nodes step.settings ends step.room step.size step.stays_down;
+      kept = kept-then c.args.shard.now c.draining.shard c.take_item.new.shard c.args.limiter.now c.draining.limiter c.take_item.new.limiter c.args.output.now c.draining.output c.take_item.new.output
+          before.kept step.nodes step.settings ends step.goes_on;
     }

@@ -10,12 +10,12 @@ abbrev pub invariant-draining : goal.invariant-draining
 invariant-draining g l = record {
   popped : List Item;
   split : l.fn.queue.items ≡ popped ++ l.queue.items;
-  took : TakesItems l.fn.shard l.fn.limiter (l.fn.exporter, l.fn.report) popped l.shard l.limiter (l.exporter, l.report);
+  took : TakesItems l.fn.shard l.fn.limiter l.fn.output popped l.shard l.limiter l.output;
   queued : list_all is_queued l.queue.items ≡ true;
   capacity : l.queue.capacity ≡ l.fn.queue.capacity;
   nothing_due : has_due l.shard ≡ false;
   running : is_finished l.shard ≡ false;
-  kept : Kept l.fn.shard l.shard l.fn.limiter l.limiter l.fn.exporter l.exporter;
+  kept : Kept l.fn.shard l.shard l.fn.limiter l.limiter l.fn.output l.output;
 }
 
 abbrev pub decreases-draining : goal.decreases-draining

@@ -8,6 +8,5 @@ use Rattle.script_session.proofs.taking.pull_decided.Goals as goal
 
 pub returns-in-Dropped-clause-pulls : goal.returns-in-Dropped-clause-pulls
 returns-in-Dropped-clause-pulls g c =
-    let e = c.args.exporter.now in
-    let P = λ (d : Decided). PullsAll (e, c.args.report.now) (released_in d) (λ reason. dropped_in reason d) (e, c.count.new.report) in
-    subst P (sym c.in-Dropped.is) (pulled-dropped e c.args.report.now c.count.new.report NotSampled c.in-Dropped.spans c.count.ensures)
+    let P = λ (d : Decided). PullsAll c.args.output.now (released_in d) (λ reason. dropped_in reason d) c.count.new.self in
+    subst P (sym c.in-Dropped.is) (pulled-dropped c.args.output.now c.count.new.self NotSampled c.in-Dropped.spans c.count.ensures.same c.count.ensures.counted)

@@ -7,8 +7,8 @@ use Rattle.script_session.proofs.Nodes.{nodes-kept}
 use Rattle.script_session.proofs.Runs.{takes-one}
 use Rattle.script_session.proofs.taking.take_item.Goals as goal
 
-pub decide_all-requires-clause-nodes : goal.decide_all-requires-clause-nodes
-decide_all-requires-clause-nodes g c = nodes-kept c.args.limiter.now c.args.limiter.now c.args.shard.now c.take-taken.new.self (λ node. refl) c.take-taken.ensures.settings c.requires.nodes
+pub decide_all-requires : goal.decide_all-requires
+decide_all-requires g c = record { nodes = nodes-kept c.args.limiter.now c.args.limiter.now c.args.shard.now c.take-taken.new.self (λ node. refl) c.take-taken.ensures.settings c.requires.nodes }
 
 pub returns-clause-takes : goal.returns-clause-takes
 returns-clause-takes g c = record {
@@ -17,11 +17,11 @@ returns-clause-takes g c = record {
       let taken = c.take-taken.result in
       let told = c.take-taken.ensures in
       let e = entry c.args.item taken in
-      let between : Export = (c.pull_taken.new.exporter, c.pull_taken.new.report) in
-      let after : Export = (c.decide_all.new.exporter, c.decide_all.new.report) in
+      let between : Export = c.pull_taken.new.output in
+      let after : Export = c.decide_all.new.output in
       let L = λ (s : Settings). c.args.limiter.now ≡ limiter_counts s.policies past.askings in
       let P = λ (s : Settings). DecidesAll s e past between c.decide_all.new.shard c.decide_all.new.limiter after in
-      takes-one c.args.shard.now c.take-taken.new.self c.decide_all.new.shard c.args.limiter.now c.decide_all.new.limiter past c.args.item taken (c.args.exporter.now, c.args.report.now) between after
+      takes-one c.args.shard.now c.take-taken.new.self c.decide_all.new.shard c.args.limiter.now c.decide_all.new.limiter past c.args.item taken c.args.output.now between after
       (told.marks past.journal all.dealt all.stands) told.settings c.decide_all.ensures.settings has
       (told.released past.journal all.dealt all.stands) (λ reason. told.dropped past.journal all.dealt reason all.stands) c.pull_taken.ensures.pulls
       (subst P told.settings (c.decide_all.ensures.decides e past refl (told.stands past.journal all.dealt all.stands) (subst L (sym told.settings) has.limiter_is)));

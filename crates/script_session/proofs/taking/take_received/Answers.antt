@@ -21,8 +21,8 @@ pub returns-then-received-clause-takes : goal.returns-then-received-clause-takes
 returns-then-received-clause-takes g c =
     let old = c.args.shards.now in
     let new = c.take_queued.new.shards in
-    let e0 : Export = (c.args.exporter.now, c.args.report.now) in
-    let e1 : Export = (c.take_queued.new.exporter, c.take_queued.new.report) in
+    let e0 : Export = c.args.output.now in
+    let e1 : Export = c.take_queued.new.output in
     let l0 = c.args.limiter.now in
     let l1 = c.take_queued.new.limiter in
     let P = λ (hs : List Held). EachTakes hs l0 e0 (items_in c.deref_mut-then-received.result.now) new l1 e1 in
@@ -34,7 +34,7 @@ returns-then-received-clause-takes g c =
 
 pub returns-else-received-clause-takes : goal.returns-else-received-clause-takes
 returns-else-received-clause-takes g c =
-    let e : Export = (c.args.exporter.now, c.args.report.now) in
+    let e : Export = c.args.output.now in
     let old = c.args.shards.now.items in
     let l = c.args.limiter.now in
     let R = λ (b : Bool). RoundsTaken old l e (rounds_of b c.args.queues.now.items) old l e in

@@ -1,4 +1,4 @@
-use Rattle.std.proofs.Common.{◌≡◌, ℕ, ◌+◌, List, length, refl, sym, ap, subst, ◌∙◌, arith, rules, true, false}
+use Rattle.std.proofs.Common.{◌≡◌, ℕ, ◌+◌, List, length, refl, sym, ap, subst, ◌∙◌, rules, true, false}
 use Rattle.otlp_types.specs.declared.arrival.Item.{Item}
 use Rattle.shard_core.specs.Held.{Held}
 use Rattle.script_run.specs.Connections.{Contacts}
@@ -21,15 +21,15 @@ end_all-requires-clause-nodes g c = let self = c.args.self.now in lent-nodes sel
 pub returns-clause-plays : goal.returns-clause-plays
 returns-clause-plays g c = λ s w are.
     let self = c.args.self.now in
-    let before : Export = (self.exporter, self.report) in
-    let after : Export = (c.end_all.new.exporter, c.end_all.new.report) in
+    let before : Export = self.output in
+    let after : Export = c.end_all.new.output in
     let lanes : c.lanes.result ≡ length w.contacts.connected = c.lanes.ensures.lanes ∙ ap (λ (k : Contacts). length k.connected) are.contacts_are in
     let same = ends_from-same 0 (c.lanes.result + 1) c.deref_mut.result.now w.journals (ap length c.deref_mut.ensures.value ∙ released-length self.shards.items w.journals are.released_all) ∙ ap (λ (n : ℕ). ends_from 0 (n + 1) w.journals) lanes in
     let P = λ (rounds : List (List (List Item))). RoundsTaken c.deref_mut.result.now self.limiter before rounds c.end_all.new.shards c.end_all.new.limiter after in
     let t = told s self.shards c.deref_mut.result.now c.end_all.new.shards self.limiter c.end_all.new.limiter (ends_from 0 (length w.contacts.connected + 1) w.journals) before after c.deref_mut.ensures.value
     (c.end_all.ensures.length ∙ c.deref_mut.ensures.len) (subst P same c.end_all.ensures.takes) (c.end_all.ensures.settings s) are.settings_are in
-    let q = quiets s _ (record w { closed = true }) self.connections self.shards.items _ self.limiter c.end_all.new.limiter before after (c.send.new.exporter, c.send.new.report) true _
-    (closes s w self.connections self.shards.items self.limiter self.exporter self.report self.closed are) refl self.sent t.0 t.1 c.end_all.ensures.room c.send.ensures.sent in
+    let q = quiets s _ (record w { closed = true }) self.connections self.shards.items _ self.limiter c.end_all.new.limiter before after c.send.new.self true _
+    (closes s w self.connections self.shards.items self.limiter self.output self.closed are) refl self.sent t.0 t.1 c.send.ensures.had_room c.send.ensures.sent in
     (q.0, (sym are.closed_is ∙ c.requires, q.1), q.2)
 
 pub invariant_of-self : goal.invariant_of-self

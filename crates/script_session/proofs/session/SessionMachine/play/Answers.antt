@@ -6,15 +6,15 @@ use Rattle.script_session.proofs.session.SessionMachine.play.Goals as goal
 
 pub returns-clause-played : goal.returns-clause-played
 returns-clause-played g c = λ start done before. (
-  c.obey.ensures.size ∙ before.0,
+  c.obey.ensures.goes_on.0 ∙ before.0,
   c.obey.ensures.queue ∙ before.1,
   λ s w are.
       let so_far = before.2 s w are in
       let step = c.obey.ensures.plays s so_far.0 so_far.2 in
       let P = λ (n : ℕ). Plays s (record { batch = n; queue = c.args.self.now.queue_capacity }) so_far.0 (instruction_of_command c.args.command) step.0 in
-      let Q = λ (n : ℕ). Plays s (record { batch = start.exporter.size; queue = n }) so_far.0 (instruction_of_command c.args.command) step.0 in (
+      let Q = λ (n : ℕ). Plays s (record { batch = start.output.0.size; queue = n }) so_far.0 (instruction_of_command c.args.command) step.0 in (
         step.0,
-        PlaysAll-push s (record { batch = start.exporter.size; queue = start.queue_capacity }) w so_far.0 step.0 done (instruction_of_command c.args.command) so_far.1 (subst Q before.1 (subst P before.0 step.1)),
+        PlaysAll-push s (record { batch = start.output.0.size; queue = start.queue_capacity }) w so_far.0 step.0 done (instruction_of_command c.args.command) so_far.1 (subst Q before.1 (subst P before.0 step.1)),
         step.2,
       ),
 )

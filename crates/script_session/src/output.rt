@@ -1,0 +1,141 @@
+//! The exporter, and the counts of what became of each span.
+ghost use Rattle.std.specs.Prelude.{◌≡◌, ◌<◌, [], ◌∷◌, Some, length, replicate};
+ghost use Rattle.span_exporter.specs.Exports.{ExporterState, Sends, WritesLine};
+ghost use Rattle.script_run.specs.Counts.{counted_for};
+ghost use Rattle.script_session.specs.Adding.{Adds, at_count};
+ghost use Rattle.script_session.specs.Pulling.{PullsAll, GoesOn};
+
+use drop_ledger::{Count, Report};
+use otlp_types::{Arrival, Shipment};
+use span_exporter::{Exporter, Flushed, Pulled};
+use span_sink::Sink;
+use std::marker::Model;
+
+/// The exporter, whose open batch has room, and the counts, or `None` once a count would have passed 2^64-1. Contracts see
+/// both.
+#[derive(Drop)]
+pub struct Output<S: Sink> {
+    exporter: Exporter<S>,
+    report: Option<Report>,
+}
+
+impl<S: Sink> Model for Output<S> {
+    ghost use Rattle.std.specs.Prelude.{◌<◌, length};
+    ghost use Rattle.std.specs.Coded.{codes};
+    ghost use Rattle.otlp_types.specs.contracts.value.AnyValue as any_value;
+    ghost use Rattle.script_session.specs.Pulling.{Export};
+
+    ghost Value = { Export };
+
+    ghost coded = { Prim.hlevel (codes, any_value.the_row.coded) };
+
+    ghost view = { λ o. (o.exporter, o.report) };
+
+    ghost invariant = { λ o. length o.exporter.batch < o.exporter.size };
+}
+
+impl<S: Sink> Output<S> {
+    /// Nothing is counted yet.
+    pub fn new(exporter: Exporter<S>) -> Self
+        requires { length exporter.batch < exporter.size }
+        ensures { result ≡ (exporter, Some (replicate 9 0)) }
+    {
+        Output {
+            exporter,
+            report: Some(Report::new()),
+        }
+    }
+
+    /// Gives the sink back, and the counts.
+    pub fn end(self) -> (S, Option<Report>)
+        ensures taken { S.taken result.0 ≡ self.0.sink.taken }
+        ensures failures { S.failures result.0 ≡ self.0.sink.failures }
+        ensures report { result.1 ≡ self.1 }
+    {
+        (self.exporter.end().end(), self.report)
+    }
+
+    /// Whether a write failed.
+    pub fn is_down(&self) -> bool
+        ensures { result ≡ self.now.0.sink.is_down }
+    {
+        self.exporter.is_down()
+    }
+
+    /// Counts spans, until a count would pass 2^64-1: from then on nothing is counted.
+    pub fn count(&mut self, what: Count, spans: u64)
+        ensures counted { Adds self.old.1 (at_count what spans) self.new.1 }
+        ensures same { self.new.0 ≡ self.old.0 }
+    {
+        count(&mut self.report, what, spans);
+    }
+
+    /// Hands a line to the sink that is no batch.
+    pub fn note(&mut self, line: &[u8])
+        ensures written { WritesLine self.old.0.sink line.now self.new.0.sink }
+        ensures batch { self.new.0.batch ≡ self.old.0.batch }
+        ensures counted { self.new.1 ≡ self.old.1 }
+        ensures goes_on { GoesOn self.old self.new }
+    {
+        let _ = self.exporter.note(line);
+    }
+
+    /// Sends the batch, and counts what became of its spans.
+    pub fn send(&mut self)
+        ensures had_room { length self.old.0.batch < self.old.0.size }
+        ensures emptied { self.new.0.batch ≡ [] }
+        ensures sent { (flushed : Flushed) × Sends self.old.0.sink self.old.0.batch flushed self.new.0.sink
+            × Adds self.old.1 (λ count. counted_for count flushed) self.new.1 }
+        ensures goes_on { GoesOn self.old self.new }
+    {
+        send(&mut self.exporter, &mut self.report);
+    }
+
+    /// Puts a span into the batch, and sends the batch when that fills it.
+    pub fn pull(&mut self, arrival: Arrival)
+        ensures pulls { PullsAll self.old (arrival ∷ []) (λ reason. 0) self.new }
+        ensures goes_on { GoesOn self.old self.new }
+    {
+        if let Pulled::AddedFull = self.exporter.pull(Shipment::Span(arrival)) {
+            send(&mut self.exporter, &mut self.report);
+        }
+    }
+
+    /// Puts spans into the batch in turn.
+    pub fn pull_all(&mut self, spans: Vec<Arrival>)
+        ensures pulls { PullsAll self.old spans.items (λ reason. 0) self.new }
+        ensures goes_on { GoesOn self.old self.new }
+    {
+        for arrival in spans {
+            self.pull(arrival);
+        }
+    }
+}
+
+/// Counts spans, until a count would pass 2^64-1: from then on nothing is counted.
+fn count(report: &mut Option<Report>, what: Count, spans: u64)
+    ensures { Adds report.old (at_count what spans) report.new }
+{
+    if let Some(numbers) = report {
+        if numbers.add(what, spans).is_err() {
+            *report = None;
+        }
+    }
+}
+
+/// Sends the batch, and counts what became of its spans.
+fn send<S: Sink>(exporter: &mut Exporter<S>, report: &mut Option<Report>)
+    ensures emptied { exporter.new.batch ≡ [] }
+    ensures size { exporter.new.size ≡ exporter.old.size }
+    ensures ends { exporter.new.ends ≡ exporter.old.ends }
+    ensures sent { (flushed : Flushed) × Sends exporter.old.sink exporter.old.batch flushed exporter.new.sink
+        × Adds report.old (λ count. counted_for count flushed) report.new }
+    ensures room { length exporter.new.batch < exporter.new.size }
+    ensures goes_on { GoesOn (exporter.old, report.old) (exporter.new, report.new) }
+{
+    match exporter.flush() {
+        Flushed::Handed(spans) => count(report, Count::Handed, spans),
+        Flushed::Spoiled(spans, reason) => count(report, Count::Dropped(reason), spans),
+        Flushed::Empty => {}
+    }
+}
