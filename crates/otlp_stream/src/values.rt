@@ -1,7 +1,6 @@
 //! Values of attributes, read from tokens. What isn't plain is declined: a pair whose members are others than `key` and then
 //! `value`, a value with another member than its one value key, and a list within one that has another than `values`.
 ghost use Rattle.std.specs.Prelude.{◌≡◌, [], Some, IfOk, option_map};
-ghost use Rattle.otlp_stream.specs.SoFar.{kept_attributes};
 ghost use Rattle.otlp_types.specs.declared.value.AnyValue.{Array, KvList};
 ghost use Rattle.otlp_reading.specs.Kinds.{message};
 ghost use Rattle.otlp_reading.specs.Reading.{values, pairs, key_value, value_by, value_to};
@@ -15,9 +14,6 @@ use json::Reader;
 use otlp_reading::ValueKey;
 use otlp_types::{AnyValue, KeyValue, List};
 use std::alloc::Global;
-
-/// `serde_json` reads no text that nests deeper.
-const LEVELS: usize = 127;
 
 /// A value that nests at most so many levels deep.
 #[cycle(value)]
@@ -207,43 +203,4 @@ fn pair(
         Some(value) => Ok(Some(KeyValue { key, value })),
         None => Ok(None),
     }
-}
-
-/// The attributes of a field: those that are kept, and how many are discarded.
-#[derive(Drop)]
-pub struct Kept {
-    pub kept: List<KeyValue>,
-    pub discarded: usize,
-}
-
-impl Kept {
-    /// Where there are none.
-    pub fn none(alloc: Global) -> Kept
-        ensures { result ≡ record { kept = []; discarded = 0 } }
-    {
-        Kept {
-            kept: List::new(alloc),
-            discarded: 0,
-        }
-    }
-}
-
-/// The attributes in a field.
-pub fn attributes(alloc: Global, reader: &mut Reader<'_>, depth: usize) -> Result<Kept, Stop>
-    ensures { IfOk result (λ x. TakesAs (present kept_attributes) depth reader.old reader.new x) }
-{
-    let (kept, discarded) = key_values(alloc, reader, depth, LEVELS)?;
-    Ok(Kept {
-        kept: fitted(kept),
-        discarded,
-    })
-}
-
-/// The list, which gives up the room that it has no use for: spans wait with their attributes.
-fn fitted<T>(list: List<T>) -> List<T>
-    ensures { result ≡ list }
-{
-    let mut items = list.into_vec();
-    items.shrink_to_fit();
-    List::from_vec(items)
 }

@@ -1,6 +1,5 @@
 use Rattle.std.proofs.Common.{◌≡◌, ◌-◌, [], ◌∷◌, ◌++◌, Some, None, refl, ap, ◌∙◌, arith, rules, w64, subst, option_map}
 use mir.Val.{to_z, of_z}
-use Rattle.json.specs.Json.{after_end_array}
 use Rattle.serde_json.specs.Find.{as_str, as_bool}
 use Rattle.otlp_types.specs.declared.value.AnyValue.{Str, Bool as Truth, Int, Array, KvList, Bytes}
 use Rattle.otlp_reading.specs.Kinds.{message, i64_value}
