@@ -5,9 +5,9 @@ use Rattle.span_ids.specs.Id.{id_of}
 use Rattle.otlp_types.specs.declared.span.Ids.{Ids}
 use Rattle.otlp_types.specs.declared.value.KeyValue.{KeyValue}
 use Rattle.otlp_types.specs.declared.request.Resource.{Resource}
-use Rattle.otlp_stream.specs.declared.attributes.Kept.{Kept}
+use Rattle.otlp_stream.specs.declared.values.Kept.{Kept}
 use Rattle.otlp_reading.specs.Kinds.{field, text, u32, list_of, message}
-use Rattle.otlp_reading.specs.Reading.{OrDiscarded, kept, discarded, sieved, any_value, key_value, attributes, resource, parent_of, valid_ids, ids}
+use Rattle.otlp_reading.specs.Reading.{OrDiscarded, kept, discarded, any_value, key_value, attributes, resource, parent_of, valid_ids, ids}
 use Rattle.otlp_stream.specs.SoFar.{kept_attributes, trace_field, id_field, parent_field}
 
 abbrev unsome : {A : Type 0} → A → Option A → A
@@ -38,18 +38,15 @@ ids_built ms tr id pa r e0 e1 e2 is =
 abbrev counted_with : Option (List (OrDiscarded KeyValue)) → Option ℕ → Option (List KeyValue × ℕ)
 counted_with all d = option_and_then (λ a. option_and_then (λ n. Some (kept a, min (n + discarded a) (2 ^ 32 - 1))) d) all
 
-pub attributes_built : (ms : Members) (k : Kept) (n r : ℕ) → kept_attributes (field (codes "attributes") ms) ≡ Some k → u32 (field (codes "droppedAttributesCount") ms) ≡ Some n
+pub attributes_built : (ms : Members) (k : Kept KeyValue) (n r : ℕ) → kept_attributes (field (codes "attributes") ms) ≡ Some k → u32 (field (codes "droppedAttributesCount") ms) ≡ Some n
     → r ≡ min (n + k.discarded) (2 ^ 32 - 1) → attributes ms ≡ Some (k.kept, r)
 attributes_built ms k n r e0 e1 is =
     let read = message (key_value any_value) in
     let all = list_of read (field (codes "attributes") ms) in
-    let a = mapped (λ p. record { kept = p.0; discarded = p.1 }) (option_map sieved all) k e0 in
-    let b = mapped sieved all a.0 a.1 in
-    let some : kept b.0 ≡ k.kept = ap (λ p. p.0) b.2 ∙ ap (λ x. x.kept) a.2 in
-    let none : discarded b.0 ≡ k.discarded = ap (λ p. p.1) b.2 ∙ ap (λ x. x.discarded) a.2 in
+    let b = mapped (λ xs. record { kept = kept xs; discarded = discarded xs }) all k e0 in
     ap (λ all. counted_with all (u32 (field (codes "droppedAttributesCount") ms))) b.1
     ∙ ap (counted_with (Some b.0)) e1
-    ∙ ap (λ x. Some (x, min (n + discarded b.0) (2 ^ 32 - 1))) some ∙ ap (λ x. Some (k.kept, min (n + x) (2 ^ 32 - 1))) none ∙ ap (λ x. Some (k.kept, x)) (sym is)
+    ∙ ap (λ x. Some (x.kept, min (n + x.discarded) (2 ^ 32 - 1))) b.2 ∙ ap (λ x. Some (k.kept, x)) (sym is)
 
 -- a resource has nothing but its attributes
 pub attributes_of : (ms : Members) (r : Resource) → resource ms ≡ Some r → attributes ms ≡ Some (r.attributes, r.dropped_attributes_count)

@@ -6,7 +6,8 @@ use Rattle.otlp_types.specs.declared.span.Status.{Status}
 use Rattle.otlp_types.specs.declared.request.ScopeSpans.{ScopeSpans}
 use Rattle.otlp_types.specs.declared.request.ResourceSpans.{ResourceSpans}
 use Rattle.otlp_types.specs.declared.request.Request.{Request}
-use Rattle.otlp_stream.specs.declared.attributes.Kept.{Kept}
+use Rattle.otlp_types.specs.declared.value.KeyValue.{KeyValue}
+use Rattle.otlp_stream.specs.declared.values.Kept.{Kept}
 use Rattle.otlp_stream.specs.declared.attributes.AttributesPart.{AttributesPart}
 use Rattle.otlp_stream.specs.declared.spans.EventParts.{EventParts}
 use Rattle.otlp_stream.specs.declared.spans.LinkParts.{LinkParts}
@@ -17,8 +18,8 @@ use Rattle.otlp_reading.specs.Reading.{any_value, key_value, parent_of, status, 
 use Rattle.otlp_stream.specs.Taking.{sieved_list}
 
 -- the attributes of a field: those that are kept, and how many are discarded
-abbrev pub kept_attributes : Option Data → Option Kept
-kept_attributes o = option_map (λ p. record { kept = p.0; discarded = p.1 }) (sieved_list (message (key_value any_value)) o)
+abbrev pub kept_attributes : Option Data → Option (Kept KeyValue)
+kept_attributes = sieved_list (message (key_value any_value))
 
 abbrev pub trace_field : Option Data → Option (Option (List ℕ))
 trace_field o = option_map (id_of 16) (text o)

@@ -8,7 +8,8 @@ use Rattle.serde_json.specs.Read.{of_json, of_items, of_members, converted}
 use Rattle.otlp_reading.specs.Kinds.{◌>>=◌, unless_null, field, each, list_of}
 use Rattle.serde_json.specs.View.{items_of}
 use Rattle.std.specs.Prelude.{option_map}
-use Rattle.otlp_reading.specs.Reading.{OrDiscarded, kept, discarded, sieved}
+use Rattle.otlp_reading.specs.Reading.{OrDiscarded, kept, discarded}
+use Rattle.otlp_stream.specs.declared.values.Kept.{Kept}
 
 -- of the tokens `old` the first are the value d, and `new` are the rest
 pub record Takes (depth : ℕ) (old new : List Token) (d : Data) : Type 0 where
@@ -77,12 +78,12 @@ pub record TakesField {S : Type 0} (so_far : (List ℕ → Option Data) → S �
   pub keeps : (seen : List ℕ → Option Data) → so_far seen before → so_far (updated name (unless_null found) seen) after
 
 -- what was read of the items of a list, of which some are kept and the others are discarded
-pub record Sieved {A : Type 0} (read : Data → Option (OrDiscarded A)) (done : List Data) (some : List A) (none : ℕ) : Type 0 where
+pub record Sieved {A : Type 0} (read : Data → Option (OrDiscarded A)) (done : List Data) (found : Kept A) : Type 0 where
   pub all : List (OrDiscarded A)
   pub reads : each read (items_of done) ≡ Some all
-  pub some_is : some ≡ kept all
-  pub none_is : none ≡ discarded all
+  pub kept_is : found.kept ≡ kept all
+  pub discarded_is : found.discarded ≡ discarded all
 
 -- a list in a field: what is kept, and how many are discarded
-abbrev pub sieved_list : {A : Type 0} → (Data → Option (OrDiscarded A)) → Option Data → Option (List A × ℕ)
-sieved_list read o = option_map sieved (list_of read o)
+abbrev pub sieved_list : {A : Type 0} → (Data → Option (OrDiscarded A)) → Option Data → Option (Kept A)
+sieved_list read o = option_map (λ xs. record { kept = kept xs; discarded = discarded xs }) (list_of read o)

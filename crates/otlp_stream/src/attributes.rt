@@ -1,12 +1,12 @@
 //! The attributes of a message, with the count of those that were dropped.
-ghost use Rattle.std.specs.Prelude.{◌≡◌, [], IfOk};
+ghost use Rattle.std.specs.Prelude.{◌≡◌, IfOk};
 ghost use Rattle.otlp_reading.specs.Reading.{resource};
 ghost use Rattle.otlp_stream.specs.SoFar.{kept_attributes, AttributesSoFar};
 ghost use Rattle.otlp_stream.specs.Taking.{TakesAs, present};
 
 use crate::stream::Building;
 use crate::take::{Stop, number_u32, put, skip};
-use crate::values::key_values;
+use crate::values::{Kept, key_values};
 use json::Reader;
 use otlp_reading::dropped;
 use otlp_types::{KeyValue, List, Resource};
@@ -15,33 +15,14 @@ use std::alloc::Global;
 /// `serde_json` reads no text that nests deeper.
 const LEVELS: usize = 127;
 
-/// The attributes of a field: those that are kept, and how many are discarded.
-#[derive(Drop)]
-pub struct Kept {
-    kept: List<KeyValue>,
-    discarded: usize,
-}
-
-impl Kept {
-    /// Where there are none.
-    fn none(alloc: Global) -> Kept
-        ensures { result ≡ record { kept = []; discarded = 0 } }
-    {
-        Kept {
-            kept: List::new(alloc),
-            discarded: 0,
-        }
-    }
-}
-
 /// The attributes in a field.
-fn attributes(alloc: Global, reader: &mut Reader<'_>, depth: usize) -> Result<Kept, Stop>
+fn attributes(alloc: Global, reader: &mut Reader<'_>, depth: usize) -> Result<Kept<KeyValue>, Stop>
     ensures { IfOk result (λ x. TakesAs (present kept_attributes) depth reader.old reader.new x) }
 {
-    let (kept, discarded) = key_values(alloc, reader, depth, LEVELS)?;
+    let found = key_values(alloc, reader, depth, LEVELS)?;
     Ok(Kept {
-        kept: fitted(kept),
-        discarded,
+        kept: fitted(found.kept),
+        discarded: found.discarded,
     })
 }
 
@@ -57,7 +38,7 @@ fn fitted<T>(list: List<T>) -> List<T>
 /// What is read of a message's attributes. A `Resource` has nothing else.
 #[derive(Drop)]
 pub struct AttributesPart {
-    attributes: Kept,
+    attributes: Kept<KeyValue>,
     counted: u32,
 }
 

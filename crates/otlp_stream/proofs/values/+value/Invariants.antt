@@ -27,7 +27,7 @@ abbrev pub decreases-value_by : goal.decreases-value_by
 decreases-value_by l = 6 * l.levels + 4
 
 abbrev pub invariant-all_values-items : goal.invariant-all_values-items
-invariant-all_values-items l = (done : List Data) × WithinItems (l.depth - 1) l.initial.reader l.reader done × Sieved (value_to l.levels) done l.kept l.discarded
+invariant-all_values-items l = (done : List Data) × WithinItems (l.depth - 1) l.initial.reader l.reader done × Sieved (value_to l.levels) done l.found
 
 abbrev pub invariant-key_values-items : goal.invariant-key_values-items
-invariant-key_values-items l = (done : List Data) × WithinItems (l.depth - 1) l.initial.reader l.reader done × Sieved (message (key_value (value_to l.levels))) done l.kept l.discarded
+invariant-key_values-items l = (done : List Data) × WithinItems (l.depth - 1) l.initial.reader l.reader done × Sieved (message (key_value (value_to l.levels))) done l.found
