@@ -1,5 +1,6 @@
 -- Values of attributes among the tokens, and lists of which some items are discarded.
-use Rattle.std.proofs.Common.{◌≡◌, ℕ, zero, suc, ◌+◌, ◌-◌, List, [], ◌∷◌, ◌++◌, codes, Option, Some, None, option_map, option_and_then, refl, sym, ap, ◌∙◌, arith, append-nil, eq-eqb, ne_eqb, subst}
+use Rattle.std.proofs.Common.{◌≡◌, ℕ, zero, suc, ◌+◌, ◌-◌, List, [], ◌∷◌, ◌++◌, codes, Option, Some, None, option_map, option_and_then, refl, sym, ap, ◌∙◌, arith, subst}
+use Rattle.std.specs.Prelude.{if◌then◌else◌, ◌==◌}
 use Rattle.json.specs.Token.{Token}
 use Rattle.json.specs.Json.{read_key, after_end_array}
 use Rattle.serde_json.specs.Data.{Data, null, boolean, number, string, array, object, no_items, Members, no_members, put}
@@ -7,43 +8,55 @@ use Rattle.otlp_types.specs.declared.value.AnyValue.{AnyValue, Empty}
 use Rattle.otlp_types.specs.declared.value.KeyValue.{KeyValue}
 use Rattle.otlp_reading.specs.declared.value.ValueKey.{ValueKey}
 use Rattle.otlp_reading.specs.Kinds.{field, unless_null, each, list_of, message, text, read_or}
-use Rattle.otlp_reading.specs.Reading.{OrDiscarded, kept, discarded, sieved, all_kept, value_key, at_most_one, value_of_member, value_in, value_by, value_to, key_value}
+use Rattle.otlp_reading.specs.Reading.{OrDiscarded, kept, discarded, all_kept, value_key, at_most_one, value_of_member, value_in, value_by, value_to, key_value}
 use Rattle.std.specs.Option.{option_to_list}
+use Rattle.otlp_stream.specs.declared.values.Kept.{Kept}
 use Rattle.otlp_stream.specs.Taking.{Takes, TakesAs, TakesMembers, WithinItems, Sieved, sieved_list, present, held, items_then}
 use Rattle.otlp_reading.proofs.Each.{kept-append, discarded-append}
 use Rattle.otlp_reading.proofs.Levels.{value_to-step}
-use Rattle.otlp_stream.proofs.Streaming.{Within-start, Within-member, Within-end, takes_object, takes_array, WithinItems-end, items_then-all, each-push, field_put, field_put_other}
+use Rattle.otlp_stream.proofs.Streaming.{Within-start, Within-member, Within-end, takes_object, takes_array, WithinItems-start, WithinItems-next, WithinItems-end, items_then-all, each-push, field_put, field_put_other}
 
-pub Sieved-start : {A : Type 0} (read : Data → Option (OrDiscarded A)) (xs : List A) → xs ≡ [] → Sieved read [] xs 0
-Sieved-start read xs e = record { all = []; reads = refl; some_is = e; none_is = refl }
-
-pub Sieved-kept : {A : Type 0} (read : Data → Option (OrDiscarded A)) (done : List Data) (some : List A) (none : ℕ) (d : Data) (x : A)
-    → Sieved read done some none → read d ≡ Some (Some x) → Sieved read (done ++ d ∷ []) (some ++ x ∷ []) none
-Sieved-kept read done some none d x s r = record {
-  all = s.all ++ Some x ∷ [];
-  reads = each-push read done d s.all (Some x) s.reads r;
-  some_is = ap (λ xs. xs ++ x ∷ []) s.some_is ∙ sym (kept-append s.all (Some x ∷ []));
-  none_is = let e = discarded-append s.all (Some x ∷ []) in let n = s.none_is in omega arith;
+Sieved-next : {A : Type 0} (read : Data → Option (OrDiscarded A)) (done : List Data) (before after : Kept A) (d : Data) (x : OrDiscarded A)
+    → Sieved read done before → read d ≡ Some x → after.kept ≡ before.kept ++ kept (x ∷ []) → after.discarded ≡ before.discarded + discarded (x ∷ []) → Sieved read (done ++ d ∷ []) after
+Sieved-next read done before after d x s r more count = record {
+  all = s.all ++ x ∷ [];
+  reads = each-push read done d s.all x s.reads r;
+  kept_is = more ∙ ap (λ xs. xs ++ kept (x ∷ [])) s.kept_is ∙ sym (kept-append s.all (x ∷ []));
+  discarded_is = let e = discarded-append s.all (x ∷ []) in let n = s.discarded_is in omega arith;
 }
 
-pub Sieved-discarded : {A : Type 0} (read : Data → Option (OrDiscarded A)) (done : List Data) (some : List A) (none : ℕ) (d : Data)
-    → Sieved read done some none → read d ≡ Some None → Sieved read (done ++ d ∷ []) some (none + 1)
-Sieved-discarded read done some none d s r = record {
-  all = s.all ++ None ∷ [];
-  reads = each-push read done d s.all None s.reads r;
-  some_is = s.some_is ∙ sym (kept-append s.all (None ∷ []) ∙ append-nil (kept s.all));
-  none_is = let e = discarded-append s.all (None ∷ []) in let n = s.none_is in omega arith;
-}
+-- the list that began at `start` has had items of which these are kept and so many discarded, and `now` is left
+pub record WithinSieved {A : Type 0} (read : Data → Option (OrDiscarded A)) (depth : ℕ) (start now : List Token) (found : Kept A) : Type 0 where
+  pub done : List Data
+  pub within : WithinItems depth start now done
+  pub sieved : Sieved read done found
 
-pub sieved_array : {A : Type 0} (read : Data → Option (OrDiscarded A)) (some : List A) (none : ℕ) (depth : ℕ) (old s now new : List Token) (done : List Data)
-    → (depth ≡ 0 → ⊥) → old ≡ Token.begin_array ∷ s → WithinItems (depth - 1) s now done → after_end_array now ≡ Some new → Sieved read done some none
-    → TakesAs (present (sieved_list read)) depth old new (some, none)
-sieved_array read some none depth old s now new done h e w over m =
-    let all : each read (items_then done no_items) ≡ Some m.all = ap (each read) (items_then-all done) ∙ m.reads in
+module _ {A : Type 0} (read : Data → Option (OrDiscarded A)) (depth : ℕ) (start : List Token) where
+  pub WithinSieved-start : (none : Kept A) → none ≡ record { kept = []; discarded = 0 } → WithinSieved read depth start start none
+  WithinSieved-start none e = record {
+    done = [];
+    within = WithinItems-start depth start;
+    sieved = record { all = []; reads = refl; kept_is = ap (λ k. k.kept) e; discarded_is = ap (λ k. k.discarded) e };
+  }
+
+  -- one more item, where the test for the end of the array took nothing
+  pub WithinSieved-next : (now moved new : List Token) (before after : Kept A) (x : OrDiscarded A) → WithinSieved read depth start now before → after_end_array now ≡ None → moved ≡ now → TakesAs read depth moved new x
+      → after.kept ≡ before.kept ++ kept (x ∷ []) → after.discarded ≡ before.discarded + discarded (x ∷ []) → WithinSieved read depth start new after
+  WithinSieved-next now moved new before after x w going stays t more count = record {
+    done = w.done ++ t.found ∷ [];
+    within = WithinItems-next depth start now w.done moved new t.found w.within going stays t.takes;
+    sieved = Sieved-next read w.done before after t.found x w.sieved t.is more count;
+  }
+
+pub sieved_array : {A : Type 0} (read : Data → Option (OrDiscarded A)) (found : Kept A) (depth : ℕ) (old s now new : List Token)
+    → (depth ≡ 0 → ⊥) → old ≡ Token.begin_array ∷ s → WithinSieved read (depth - 1) s now found → after_end_array now ≡ Some new → TakesAs (present (sieved_list read)) depth old new found
+sieved_array read found depth old s now new h e w over =
+    let m = w.sieved in
+    let all : each read (items_then w.done no_items) ≡ Some m.all = ap (each read) (items_then-all w.done) ∙ m.reads in
     record {
-      found = array (items_then done no_items);
-      takes = takes_array depth old s new (items_then done no_items) h e (WithinItems-end (depth - 1) s now done new w over);
-      is = rw (all, m.some_is, m.none_is) refl;
+      found = array (items_then w.done no_items);
+      takes = takes_array depth old s new (items_then w.done no_items) h e (WithinItems-end (depth - 1) s now w.done new w.within over);
+      is = ap (option_map (λ xs. record { kept = kept xs; discarded = discarded xs })) all ∙ ap (λ k. Some (record { kept = k; discarded = discarded m.all })) (sym m.kept_is) ∙ ap (λ n. Some (record { kept = found.kept; discarded = n })) (sym m.discarded_is);
     }
 
 abbrev unsome : {A : Type 0} → A → Option A → A
@@ -76,40 +89,24 @@ module _ (depth : ℕ) (old s new : List Token) (h : depth ≡ 0 → ⊥) (e : o
 abbrev all_in : {A : Type 0} → (List A → AnyValue) → (Data → Option (OrDiscarded A)) → Data → Option (OrDiscarded AnyValue)
 all_in C read d = option_map (option_map C) (message (λ ms. option_map all_kept (list_of read (field (codes "values") ms))) d)
 
-all_of : {A : Type 0} (C : List A → AnyValue) (l : Option (List (OrDiscarded A))) (some : List A) (none : ℕ) → option_map sieved l ≡ Some (some, none) → none ≡ 0
-    → option_map (option_map C) (option_map all_kept l) ≡ Some (Some (C some))
-all_of C None some none e z = absurd (cc)
-all_of C (Some xs) some none e z =
-    let same = ap (unsome (some, none)) e in
-    let no : discarded xs ≡ 0 = ap (λ p. p.1) same ∙ z in
-    let yes : kept xs ≡ some = ap (λ p. p.0) same in
-    rw (eq-eqb (discarded xs) 0 no, yes) refl
+abbrev whole : {A : Type 0} → Kept A → OrDiscarded (List A)
+whole found = if found.discarded == 0 then Some found.kept else None
 
-not_all_of : {A : Type 0} (C : List A → AnyValue) (l : Option (List (OrDiscarded A))) (some : List A) (none : ℕ) → option_map sieved l ≡ Some (some, none) → (none ≡ 0 → ⊥)
-    → option_map (option_map C) (option_map all_kept l) ≡ Some None
-not_all_of C None some none e z = absurd (cc)
-not_all_of C (Some xs) some none e z =
-    let same = ap (unsome (some, none)) e in
-    rw (ne_eqb (discarded xs) 0 (λ no. z (sym (ap (λ p. p.1) same) ∙ no))) refl
+all_of : {A : Type 0} (C : List A → AnyValue) (l : Option (List (OrDiscarded A))) (found : Kept A) → option_map (λ xs. record { kept = kept xs; discarded = discarded xs }) l ≡ Some found
+    → option_map (option_map C) (option_map all_kept l) ≡ Some (option_map C (whole found))
+all_of C None found e = absurd (cc)
+all_of C (Some xs) found e = ap (λ k. Some (option_map C (whole k))) (ap (unsome found) e)
 
 module _ {A : Type 0} (C : List A → AnyValue) (read : Data → Option (OrDiscarded A)) (depth : ℕ) (old s new : List Token) (h : depth ≡ 0 → ⊥) (e : old ≡ Token.begin_object ∷ s) where
   pub all_none : (xs : List A) → xs ≡ [] → read_key s ≡ Some (None, new) → TakesAs (held (all_in C read)) depth old new (Some (C xs))
   all_none xs none over = record { found = object no_members; takes = takes_empty depth old s new h e over; is = ap (λ ys. Some (Some (C ys))) (sym none) }
 
-  pub all_some : (t u : List Token) (some : List A) (none : ℕ) → read_key s ≡ Some (Some (codes "values"), t) → TakesAs (present (sieved_list read)) (depth - 1) t u (some, none) → read_key u ≡ Some (None, new)
-      → none ≡ 0 → TakesAs (held (all_in C read)) depth old new (Some (C some))
-  all_some t u some none key m over z = record {
+  pub all_read : (t u : List Token) (found : Kept A) (all : OrDiscarded (List A)) → read_key s ≡ Some (Some (codes "values"), t) → TakesAs (present (sieved_list read)) (depth - 1) t u found → read_key u ≡ Some (None, new)
+      → all ≡ whole found → TakesAs (held (all_in C read)) depth old new (option_map C all)
+  all_read t u found all key m over is = record {
     found = object (put (codes "values") m.found no_members);
     takes = takes_one depth old s new h e (codes "values") t u m.found key m.takes over;
-    is = ap (λ o. option_map (option_map C) (option_map all_kept (list_of read o))) (field_put (codes "values") m.found no_members) ∙ all_of C (list_of read (unless_null m.found)) some none m.is z;
-  }
-
-  pub all_not : (t u : List Token) (some : List A) (none : ℕ) → read_key s ≡ Some (Some (codes "values"), t) → TakesAs (present (sieved_list read)) (depth - 1) t u (some, none) → read_key u ≡ Some (None, new)
-      → (none ≡ 0 → ⊥) → TakesAs (held (all_in C read)) depth old new None
-  all_not t u some none key m over z = record {
-    found = object (put (codes "values") m.found no_members);
-    takes = takes_one depth old s new h e (codes "values") t u m.found key m.takes over;
-    is = ap (λ o. option_map (option_map C) (option_map all_kept (list_of read o))) (field_put (codes "values") m.found no_members) ∙ not_all_of C (list_of read (unless_null m.found)) some none m.is z;
+    is = ap (λ o. option_map (option_map C) (option_map all_kept (list_of read o))) (field_put (codes "values") m.found no_members) ∙ all_of C (list_of read (unless_null m.found)) found m.is ∙ ap (λ a. Some (option_map C a)) (sym is);
   }
 
 -- ---- under a value key

@@ -1,15 +1,15 @@
 -- What a reader of tokens takes. For private clauses.
-use Rattle.std.specs.Prelude.{◌≡◌, ◌<◌, ◌≤◌, ◌==◌, ◌&&◌, not, if◌then◌else◌, ℕ, suc, List, [], ◌∷◌, length, codes, Bool, true, Option, Some}
+use Rattle.std.specs.Prelude.{◌≡◌, ◌<◌, ◌≤◌, if◌then◌else◌, ℕ, List, [], ◌∷◌, length, Option, Some}
 use Rattle.std.specs.Str.{bytes_eq}
 use Rattle.json.specs.Token.{Token}
 use Rattle.json.specs.Json.{parse_map, value, items, members}
 use Rattle.serde_json.specs.Data.{Data, Items, item, Members, no_members}
 use Rattle.serde_json.specs.Read.{of_json, of_items, of_members, converted}
-use Rattle.otlp_types.specs.declared.span.Status.{Status}
-use Rattle.otlp_reading.specs.Kinds.{◌>>=◌, unless_null, field, text, enum, each, list_of}
+use Rattle.otlp_reading.specs.Kinds.{◌>>=◌, unless_null, field, each, list_of}
 use Rattle.serde_json.specs.View.{items_of}
 use Rattle.std.specs.Prelude.{option_map}
-use Rattle.otlp_reading.specs.Reading.{OrDiscarded, kept, discarded, sieved}
+use Rattle.otlp_reading.specs.Reading.{OrDiscarded, kept, discarded}
+use Rattle.otlp_stream.specs.declared.values.Kept.{Kept}
 
 -- of the tokens `old` the first are the value d, and `new` are the rest
 pub record Takes (depth : ℕ) (old new : List Token) (d : Data) : Type 0 where
@@ -63,52 +63,27 @@ pub record WithinItems (depth : ℕ) (start now : List Token) (done : List Data)
 
 -- ---- the fields of an object that is being read
 
--- the fields of these names, from the nth on
-abbrev pub AreFields : List (List ℕ) → ℕ → (ℕ → Option Data) → Members → Type 0
-AreFields [] n seen ms = Unit {0}
-AreFields (q ∷ qs) n seen ms = (field q ms ≡ seen n) × AreFields qs (suc n) seen ms
+-- what stands under each name among these members
+abbrev pub fields_of : Members → List ℕ → Option Data
+fields_of ms name = field name ms
 
--- the ith name, and no other, is k
-abbrev pub IsAt : List (List ℕ) → ℕ → List ℕ → ℕ → Type 0
-IsAt [] n k i = Unit {0}
-IsAt (q ∷ qs) n k i = ((n == i) ≡ bytes_eq k q) × IsAt qs (suc n) k i
+-- the same, where this stands under a name
+abbrev pub updated : List ℕ → Option Data → (List ℕ → Option Data) → List ℕ → Option Data
+updated name o seen other = if bytes_eq name other then o else seen other
 
--- the same as a test
-abbrev pub is_at : List (List ℕ) → ℕ → List ℕ → ℕ → Bool
-is_at [] n k i = true
-is_at (q ∷ qs) n k i = (if n == i then bytes_eq k q else not (bytes_eq k q)) && is_at qs (suc n) k i
-
--- with this at the ith place
-abbrev pub placed : ℕ → Option Data → (ℕ → Option Data) → ℕ → Option Data
-placed i o seen n = if n == i then o else seen n
-
--- the object that began at `start` has had members of which these are the fields, and `now` is left
-pub record Sees (names : List (List ℕ)) (depth : ℕ) (start now : List Token) (seen : ℕ → Option Data) : Type 0 where
-  pub found : Members
-  pub within : Within depth start now found
-  pub fields : AreFields names 0 seen found
-
--- one field, or a member of another name, was taken from the tokens `old`: whatever fields were seen before
-pub record TakesField {S : Type 0} (names : List (List ℕ)) (so_far : (ℕ → Option Data) → S → Type 0) (depth : ℕ) (name : List ℕ) (before : S) (old : List Token) (after : S) (new : List Token) : Type 0 where
+-- the value of a field, or of a member that is none, was taken from the tokens `old`: whatever stood under each name before
+pub record TakesField {S : Type 0} (so_far : (List ℕ → Option Data) → S → Type 0) (depth : ℕ) (name : List ℕ) (before : S) (old : List Token) (after : S) (new : List Token) : Type 0 where
   pub found : Data
-  pub place : ℕ
   pub takes : Takes depth old new found
-  pub at : IsAt names 0 name place
-  pub keeps : (seen : ℕ → Option Data) → so_far seen before → so_far (placed place (unless_null found) seen) after
-
-abbrev pub status_names : List (List ℕ)
-status_names = codes "message" ∷ codes "code" ∷ []
-
-abbrev pub StatusSoFar : (ℕ → Option Data) → Status → Type 0
-StatusSoFar seen s = (text (seen 0) ≡ Some s.message) × (enum (seen 1) ≡ Some s.code)
+  pub keeps : (seen : List ℕ → Option Data) → so_far seen before → so_far (updated name (unless_null found) seen) after
 
 -- what was read of the items of a list, of which some are kept and the others are discarded
-pub record Sieved {A : Type 0} (read : Data → Option (OrDiscarded A)) (done : List Data) (some : List A) (none : ℕ) : Type 0 where
+pub record Sieved {A : Type 0} (read : Data → Option (OrDiscarded A)) (done : List Data) (found : Kept A) : Type 0 where
   pub all : List (OrDiscarded A)
   pub reads : each read (items_of done) ≡ Some all
-  pub some_is : some ≡ kept all
-  pub none_is : none ≡ discarded all
+  pub kept_is : found.kept ≡ kept all
+  pub discarded_is : found.discarded ≡ discarded all
 
 -- a list in a field: what is kept, and how many are discarded
-abbrev pub sieved_list : {A : Type 0} → (Data → Option (OrDiscarded A)) → Option Data → Option (List A × ℕ)
-sieved_list read o = option_map sieved (list_of read o)
+abbrev pub sieved_list : {A : Type 0} → (Data → Option (OrDiscarded A)) → Option Data → Option (Kept A)
+sieved_list read o = option_map (λ xs. record { kept = kept xs; discarded = discarded xs }) (list_of read o)

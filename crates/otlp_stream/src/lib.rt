@@ -6,6 +6,7 @@
 //! answer changes. How much is declined `tests/readings/compare.sh` prints.
 #![tactic(auto)]
 
+mod attributes;
 mod requests;
 mod spans;
 mod stream;

@@ -1,77 +1,25 @@
 //! Requests, read from tokens.
 ghost use Rattle.std.specs.Prelude.{◌≡◌, Some, IfOk, IfErr, IfSome};
 ghost use Rattle.serde_json.specs.Data.{Data};
-ghost use Rattle.otlp_reading.specs.Reading.{resource, scope, scope_spans, resource_spans, request, request_of};
+ghost use Rattle.otlp_reading.specs.Reading.{scope, scope_spans, resource_spans, request, request_of};
 ghost use Rattle.otlp_reading.specs.Decoding.{IsJson};
-ghost use Rattle.otlp_stream.specs.SoFar.{resource_parts_names, ResourcePartsSoFar, scope_parts_names, ScopePartsSoFar, scope_spans_parts_names, ScopeSpansPartsSoFar, resource_spans_parts_names, ResourceSpansPartsSoFar, request_parts_names, RequestPartsSoFar};
+ghost use Rattle.otlp_stream.specs.SoFar.{ScopeSoFar, ScopeSpansSoFar, ResourceSpansSoFar, RequestSoFar};
 
+use crate::attributes::AttributesPart;
 use crate::spans::SpanParts;
 use crate::stream::{Building, list_of, message, message_of};
-use crate::take::{Stop, number_u32, skip, text};
-use crate::values::{Kept, attributes};
+use crate::take::{Stop, put, skip, text};
 use json::Reader;
-use otlp_reading::{Bad, dropped};
-use otlp_types::{List, Request, Resource, ResourceSpans, Scope, ScopeSpans, Span, Text};
+use otlp_reading::Bad;
+use otlp_types::{List, Request, Resource, ResourceSpans, Scope, ScopeSpans, Text};
 use std::alloc::Global;
-
-/// `Resource`, as far as it is read.
-#[derive(Drop)]
-pub struct ResourceParts {
-    attributes: Kept,
-    counted: u32,
-}
-
-impl Building for ResourceParts {
-    type Message = Resource;
-
-    ghost meaning = { resource };
-
-    ghost names = { resource_parts_names };
-
-    ghost so_far = { ResourcePartsSoFar };
-
-    fn start(alloc: Global) -> ResourceParts {
-        ResourceParts {
-            attributes: Kept::none(alloc),
-            counted: 0,
-        }
-    }
-
-    #[inline(always)]
-    fn field(
-        &mut self,
-        alloc: Global,
-        reader: &mut Reader<'_>,
-        depth: usize,
-        name: &str,
-    ) -> Result<(), Stop> {
-        if name == "attributes" {
-            self.attributes = attributes(alloc, reader, depth)?;
-            Ok(())
-        } else if name == "droppedAttributesCount" {
-            self.counted = number_u32(reader)?;
-            Ok(())
-        } else {
-            skip(reader, depth)
-        }
-    }
-
-    fn build(self) -> Resource {
-        let dropped = dropped(self.counted, self.attributes.discarded);
-        Resource {
-            attributes: self.attributes.kept,
-            dropped_attributes_count: dropped,
-        }
-    }
-}
 
 /// `Scope`, as far as it is read.
 #[derive(Drop)]
 pub struct ScopeParts {
     name: Text,
     version: Text,
-    attributes: Kept,
-    counted: u32,
+    rest: AttributesPart,
 }
 
 impl Building for ScopeParts {
@@ -79,16 +27,13 @@ impl Building for ScopeParts {
 
     ghost meaning = { scope };
 
-    ghost names = { scope_parts_names };
-
-    ghost so_far = { ScopePartsSoFar };
+    ghost so_far = { ScopeSoFar };
 
     fn start(alloc: Global) -> ScopeParts {
         ScopeParts {
             name: Text::new(alloc),
             version: Text::new(alloc),
-            attributes: Kept::none(alloc),
-            counted: 0,
+            rest: AttributesPart::start(alloc),
         }
     }
 
@@ -100,59 +45,34 @@ impl Building for ScopeParts {
         depth: usize,
         name: &str,
     ) -> Result<(), Stop> {
-        if name == "name" {
-            self.name = text(alloc, reader)?;
-            Ok(())
-        } else if name == "version" {
-            self.version = text(alloc, reader)?;
-            Ok(())
-        } else if name == "attributes" {
-            self.attributes = attributes(alloc, reader, depth)?;
-            Ok(())
-        } else if name == "droppedAttributesCount" {
-            self.counted = number_u32(reader)?;
-            Ok(())
-        } else {
-            skip(reader, depth)
+        match name {
+            "name" => put(&mut self.name, text(alloc, reader)),
+            "version" => put(&mut self.version, text(alloc, reader)),
+            _ => self.rest.field(alloc, reader, depth, name),
         }
     }
 
     fn build(self) -> Scope {
-        let dropped = dropped(self.counted, self.attributes.discarded);
+        let rest = self.rest.build();
         Scope {
             name: self.name,
             version: self.version,
-            attributes: self.attributes.kept,
-            dropped_attributes_count: dropped,
+            attributes: rest.attributes,
+            dropped_attributes_count: rest.dropped_attributes_count,
         }
     }
 }
 
-/// `ScopeSpans`, as far as it is read.
-#[derive(Drop)]
-pub struct ScopeSpansParts {
-    scope: Scope,
-    spans: List<Span>,
-    schema_url: Text,
-}
-
-impl Building for ScopeSpansParts {
+impl Building for ScopeSpans {
     type Message = ScopeSpans;
 
     ghost meaning = { scope_spans };
 
-    ghost names = { scope_spans_parts_names };
+    ghost so_far = { ScopeSpansSoFar };
 
-    ghost so_far = { ScopeSpansPartsSoFar };
-
-    fn start(alloc: Global) -> ScopeSpansParts {
-        ScopeSpansParts {
-            scope: Scope {
-                name: Text::new(alloc),
-                version: Text::new(alloc),
-                attributes: List::new(alloc),
-                dropped_attributes_count: 0,
-            },
+    fn start(alloc: Global) -> ScopeSpans {
+        ScopeSpans {
+            scope: Scope::empty(alloc),
             spans: List::new(alloc),
             schema_url: Text::new(alloc),
         }
@@ -166,52 +86,29 @@ impl Building for ScopeSpansParts {
         depth: usize,
         name: &str,
     ) -> Result<(), Stop> {
-        if name == "scope" {
-            self.scope = message::<ScopeParts>(alloc, reader, depth)?;
-            Ok(())
-        } else if name == "spans" {
-            self.spans = list_of::<SpanParts>(alloc, reader, depth)?;
-            Ok(())
-        } else if name == "schemaUrl" {
-            self.schema_url = text(alloc, reader)?;
-            Ok(())
-        } else {
-            skip(reader, depth)
+        match name {
+            "scope" => put(&mut self.scope, message::<ScopeParts>(alloc, reader, depth)),
+            "spans" => put(&mut self.spans, list_of::<SpanParts>(alloc, reader, depth)),
+            "schemaUrl" => put(&mut self.schema_url, text(alloc, reader)),
+            _ => skip(reader, depth),
         }
     }
 
     fn build(self) -> ScopeSpans {
-        ScopeSpans {
-            scope: self.scope,
-            spans: self.spans,
-            schema_url: self.schema_url,
-        }
+        self
     }
 }
 
-/// `ResourceSpans`, as far as it is read.
-#[derive(Drop)]
-pub struct ResourceSpansParts {
-    resource: Resource,
-    scope_spans: List<ScopeSpans>,
-    schema_url: Text,
-}
-
-impl Building for ResourceSpansParts {
+impl Building for ResourceSpans {
     type Message = ResourceSpans;
 
     ghost meaning = { resource_spans };
 
-    ghost names = { resource_spans_parts_names };
+    ghost so_far = { ResourceSpansSoFar };
 
-    ghost so_far = { ResourceSpansPartsSoFar };
-
-    fn start(alloc: Global) -> ResourceSpansParts {
-        ResourceSpansParts {
-            resource: Resource {
-                attributes: List::new(alloc),
-                dropped_attributes_count: 0,
-            },
+    fn start(alloc: Global) -> ResourceSpans {
+        ResourceSpans {
+            resource: Resource::empty(alloc),
             scope_spans: List::new(alloc),
             schema_url: Text::new(alloc),
         }
@@ -225,46 +122,34 @@ impl Building for ResourceSpansParts {
         depth: usize,
         name: &str,
     ) -> Result<(), Stop> {
-        if name == "resource" {
-            self.resource = message::<ResourceParts>(alloc, reader, depth)?;
-            Ok(())
-        } else if name == "scopeSpans" {
-            self.scope_spans = list_of::<ScopeSpansParts>(alloc, reader, depth)?;
-            Ok(())
-        } else if name == "schemaUrl" {
-            self.schema_url = text(alloc, reader)?;
-            Ok(())
-        } else {
-            skip(reader, depth)
+        match name {
+            "resource" => put(
+                &mut self.resource,
+                message::<AttributesPart>(alloc, reader, depth),
+            ),
+            "scopeSpans" => put(
+                &mut self.scope_spans,
+                list_of::<ScopeSpans>(alloc, reader, depth),
+            ),
+            "schemaUrl" => put(&mut self.schema_url, text(alloc, reader)),
+            _ => skip(reader, depth),
         }
     }
 
     fn build(self) -> ResourceSpans {
-        ResourceSpans {
-            resource: self.resource,
-            scope_spans: self.scope_spans,
-            schema_url: self.schema_url,
-        }
+        self
     }
 }
 
-/// `Request`, as far as it is read.
-#[derive(Drop)]
-pub struct RequestParts {
-    resource_spans: List<ResourceSpans>,
-}
-
-impl Building for RequestParts {
+impl Building for Request {
     type Message = Request;
 
     ghost meaning = { request };
 
-    ghost names = { request_parts_names };
+    ghost so_far = { RequestSoFar };
 
-    ghost so_far = { RequestPartsSoFar };
-
-    fn start(alloc: Global) -> RequestParts {
-        RequestParts {
+    fn start(alloc: Global) -> Request {
+        Request {
             resource_spans: List::new(alloc),
         }
     }
@@ -277,18 +162,17 @@ impl Building for RequestParts {
         depth: usize,
         name: &str,
     ) -> Result<(), Stop> {
-        if name == "resourceSpans" {
-            self.resource_spans = list_of::<ResourceSpansParts>(alloc, reader, depth)?;
-            Ok(())
-        } else {
-            skip(reader, depth)
+        match name {
+            "resourceSpans" => put(
+                &mut self.resource_spans,
+                list_of::<ResourceSpans>(alloc, reader, depth),
+            ),
+            _ => skip(reader, depth),
         }
     }
 
     fn build(self) -> Request {
-        Request {
-            resource_spans: self.resource_spans,
-        }
+        self
     }
 }
 
@@ -298,7 +182,7 @@ pub fn plain_request(alloc: Global, bytes: &[u8]) -> Result<Option<Request>, Bad
         (λ x. (d : Data) × IsJson bytes.now d × (request_of d ≡ Some x))) }
     ensures memory { IfErr result (λ e. e ≡ Bad.NoMemory) }
 {
-    match message_of::<RequestParts>(alloc, bytes) {
+    match message_of::<Request>(alloc, bytes) {
         Ok(request) => Ok(Some(request)),
         Err(Stop::Declined) => Ok(None),
         Err(Stop::NoMemory) => Err(Bad::NoMemory),

@@ -2,15 +2,15 @@
 ghost use Rattle.std.specs.Prelude.{◌≡◌, ℕ, Some, IfOk, option_and_then};
 ghost use Rattle.otlp_types.specs.declared.span.Ids.{Ids};
 ghost use Rattle.otlp_reading.specs.Reading.{status, event, link, span};
-ghost use Rattle.otlp_stream.specs.Taking.{TakesAs, present, status_names, StatusSoFar};
-ghost use Rattle.otlp_stream.specs.SoFar.{trace_field, id_field, parent_field, event_parts_names, EventPartsSoFar, link_parts_names, LinkPartsSoFar, span_parts_names, SpanPartsSoFar};
+ghost use Rattle.otlp_stream.specs.Taking.{TakesAs, present};
+ghost use Rattle.otlp_stream.specs.SoFar.{trace_field, id_field, parent_field, StatusSoFar, EventSoFar, LinkSoFar, SpanSoFar};
 
+use crate::attributes::AttributesPart;
 use crate::stream::{Building, list_of, message};
-use crate::take::{Stop, enumeration, number_u32, number_u64, piece, skip, text};
-use crate::values::{Kept, attributes};
+use crate::take::{Stop, enumeration, number_u32, number_u64, piece, put, skip, text};
 use json::Reader;
-use otlp_reading::{dropped, parent_of};
-use otlp_types::{Event, Ids, Link, List, Span, Status, Text};
+use otlp_reading::parent_of;
+use otlp_types::{Event, Ids, Link, Span, Status, Text};
 use span_ids::{SpanId, TraceId};
 use std::alloc::Global;
 
@@ -65,8 +65,6 @@ impl Building for Status {
 
     ghost meaning = { status };
 
-    ghost names = { status_names };
-
     ghost so_far = { StatusSoFar };
 
     fn start(alloc: Global) -> Status {
@@ -83,14 +81,10 @@ impl Building for Status {
         depth: usize,
         name: &str,
     ) -> Result<(), Stop> {
-        if name == "message" {
-            self.message = text(alloc, reader)?;
-            Ok(())
-        } else if name == "code" {
-            self.code = enumeration(reader)?;
-            Ok(())
-        } else {
-            skip(reader, depth)
+        match name {
+            "message" => put(&mut self.message, text(alloc, reader)),
+            "code" => put(&mut self.code, enumeration(reader)),
+            _ => skip(reader, depth),
         }
     }
 
@@ -104,8 +98,7 @@ impl Building for Status {
 pub struct EventParts {
     time: u64,
     name: Text,
-    attributes: Kept,
-    counted: u32,
+    rest: AttributesPart,
 }
 
 impl Building for EventParts {
@@ -113,16 +106,13 @@ impl Building for EventParts {
 
     ghost meaning = { event };
 
-    ghost names = { event_parts_names };
-
-    ghost so_far = { EventPartsSoFar };
+    ghost so_far = { EventSoFar };
 
     fn start(alloc: Global) -> EventParts {
         EventParts {
             time: 0,
             name: Text::new(alloc),
-            attributes: Kept::none(alloc),
-            counted: 0,
+            rest: AttributesPart::start(alloc),
         }
     }
 
@@ -134,30 +124,20 @@ impl Building for EventParts {
         depth: usize,
         name: &str,
     ) -> Result<(), Stop> {
-        if name == "timeUnixNano" {
-            self.time = number_u64(reader)?;
-            Ok(())
-        } else if name == "name" {
-            self.name = text(alloc, reader)?;
-            Ok(())
-        } else if name == "attributes" {
-            self.attributes = attributes(alloc, reader, depth)?;
-            Ok(())
-        } else if name == "droppedAttributesCount" {
-            self.counted = number_u32(reader)?;
-            Ok(())
-        } else {
-            skip(reader, depth)
+        match name {
+            "timeUnixNano" => put(&mut self.time, number_u64(reader)),
+            "name" => put(&mut self.name, text(alloc, reader)),
+            _ => self.rest.field(alloc, reader, depth, name),
         }
     }
 
     fn build(self) -> Event {
-        let dropped = dropped(self.counted, self.attributes.discarded);
+        let rest = self.rest.build();
         Event {
             time_unix_nano: self.time,
             name: self.name,
-            attributes: self.attributes.kept,
-            dropped_attributes_count: dropped,
+            attributes: rest.attributes,
+            dropped_attributes_count: rest.dropped_attributes_count,
         }
     }
 }
@@ -168,9 +148,8 @@ pub struct LinkParts {
     trace_id: Text,
     span_id: Text,
     trace_state: Text,
-    attributes: Kept,
-    counted: u32,
     flags: u32,
+    rest: AttributesPart,
 }
 
 impl Building for LinkParts {
@@ -178,18 +157,15 @@ impl Building for LinkParts {
 
     ghost meaning = { link };
 
-    ghost names = { link_parts_names };
-
-    ghost so_far = { LinkPartsSoFar };
+    ghost so_far = { LinkSoFar };
 
     fn start(alloc: Global) -> LinkParts {
         LinkParts {
             trace_id: Text::new(alloc),
             span_id: Text::new(alloc),
             trace_state: Text::new(alloc),
-            attributes: Kept::none(alloc),
-            counted: 0,
             flags: 0,
+            rest: AttributesPart::start(alloc),
         }
     }
 
@@ -201,61 +177,36 @@ impl Building for LinkParts {
         depth: usize,
         name: &str,
     ) -> Result<(), Stop> {
-        if name == "traceId" {
-            self.trace_id = text(alloc, reader)?;
-            Ok(())
-        } else if name == "spanId" {
-            self.span_id = text(alloc, reader)?;
-            Ok(())
-        } else if name == "traceState" {
-            self.trace_state = text(alloc, reader)?;
-            Ok(())
-        } else if name == "attributes" {
-            self.attributes = attributes(alloc, reader, depth)?;
-            Ok(())
-        } else if name == "droppedAttributesCount" {
-            self.counted = number_u32(reader)?;
-            Ok(())
-        } else if name == "flags" {
-            self.flags = number_u32(reader)?;
-            Ok(())
-        } else {
-            skip(reader, depth)
+        match name {
+            "traceId" => put(&mut self.trace_id, text(alloc, reader)),
+            "spanId" => put(&mut self.span_id, text(alloc, reader)),
+            "traceState" => put(&mut self.trace_state, text(alloc, reader)),
+            "flags" => put(&mut self.flags, number_u32(reader)),
+            _ => self.rest.field(alloc, reader, depth, name),
         }
     }
 
     fn build(self) -> Link {
-        let dropped = dropped(self.counted, self.attributes.discarded);
+        let rest = self.rest.build();
         Link {
             trace_id: self.trace_id,
             span_id: self.span_id,
             trace_state: self.trace_state,
             flags: self.flags,
-            attributes: self.attributes.kept,
-            dropped_attributes_count: dropped,
+            attributes: rest.attributes,
+            dropped_attributes_count: rest.dropped_attributes_count,
         }
     }
 }
 
-/// `Span`, as far as it is read.
+/// `Span`, as far as it is read: its ids and attributes, and all else of it.
 #[derive(Drop)]
 pub struct SpanParts {
     trace: Option<TraceId>,
     id: Option<SpanId>,
     parent: Option<Option<SpanId>>,
-    trace_state: Text,
-    flags: u32,
-    name: Text,
-    kind: i32,
-    start: u64,
-    end: u64,
-    attributes: Kept,
-    counted: u32,
-    events: List<Event>,
-    dropped_events: u32,
-    links: List<Link>,
-    dropped_links: u32,
-    status: Status,
+    rest: AttributesPart,
+    span: Span,
 }
 
 impl Building for SpanParts {
@@ -263,31 +214,15 @@ impl Building for SpanParts {
 
     ghost meaning = { span };
 
-    ghost names = { span_parts_names };
-
-    ghost so_far = { SpanPartsSoFar };
+    ghost so_far = { SpanSoFar };
 
     fn start(alloc: Global) -> SpanParts {
         SpanParts {
             trace: None,
             id: None,
             parent: Some(None),
-            trace_state: Text::new(alloc),
-            flags: 0,
-            name: Text::new(alloc),
-            kind: 0,
-            start: 0,
-            end: 0,
-            attributes: Kept::none(alloc),
-            counted: 0,
-            events: List::new(alloc),
-            dropped_events: 0,
-            links: List::new(alloc),
-            dropped_links: 0,
-            status: Status {
-                message: Text::new(alloc),
-                code: 0,
-            },
+            rest: AttributesPart::start(alloc),
+            span: Span::empty(alloc),
         }
     }
 
@@ -299,77 +234,40 @@ impl Building for SpanParts {
         depth: usize,
         name: &str,
     ) -> Result<(), Stop> {
-        if name == "traceId" {
-            self.trace = trace_id(reader)?;
-            Ok(())
-        } else if name == "spanId" {
-            self.id = span_id(reader)?;
-            Ok(())
-        } else if name == "parentSpanId" {
-            self.parent = parent_id(reader)?;
-            Ok(())
-        } else if name == "traceState" {
-            self.trace_state = text(alloc, reader)?;
-            Ok(())
-        } else if name == "flags" {
-            self.flags = number_u32(reader)?;
-            Ok(())
-        } else if name == "name" {
-            self.name = text(alloc, reader)?;
-            Ok(())
-        } else if name == "kind" {
-            self.kind = enumeration(reader)?;
-            Ok(())
-        } else if name == "startTimeUnixNano" {
-            self.start = number_u64(reader)?;
-            Ok(())
-        } else if name == "endTimeUnixNano" {
-            self.end = number_u64(reader)?;
-            Ok(())
-        } else if name == "attributes" {
-            self.attributes = attributes(alloc, reader, depth)?;
-            Ok(())
-        } else if name == "droppedAttributesCount" {
-            self.counted = number_u32(reader)?;
-            Ok(())
-        } else if name == "events" {
-            self.events = list_of::<EventParts>(alloc, reader, depth)?;
-            Ok(())
-        } else if name == "droppedEventsCount" {
-            self.dropped_events = number_u32(reader)?;
-            Ok(())
-        } else if name == "links" {
-            self.links = list_of::<LinkParts>(alloc, reader, depth)?;
-            Ok(())
-        } else if name == "droppedLinksCount" {
-            self.dropped_links = number_u32(reader)?;
-            Ok(())
-        } else if name == "status" {
-            self.status = message::<Status>(alloc, reader, depth)?;
-            Ok(())
-        } else {
-            skip(reader, depth)
+        match name {
+            "traceId" => put(&mut self.trace, trace_id(reader)),
+            "spanId" => put(&mut self.id, span_id(reader)),
+            "parentSpanId" => put(&mut self.parent, parent_id(reader)),
+            "traceState" => put(&mut self.span.trace_state, text(alloc, reader)),
+            "flags" => put(&mut self.span.flags, number_u32(reader)),
+            "name" => put(&mut self.span.name, text(alloc, reader)),
+            "kind" => put(&mut self.span.kind, enumeration(reader)),
+            "startTimeUnixNano" => put(&mut self.span.start_time_unix_nano, number_u64(reader)),
+            "endTimeUnixNano" => put(&mut self.span.end_time_unix_nano, number_u64(reader)),
+            "events" => put(
+                &mut self.span.events,
+                list_of::<EventParts>(alloc, reader, depth),
+            ),
+            "droppedEventsCount" => put(&mut self.span.dropped_events_count, number_u32(reader)),
+            "links" => put(
+                &mut self.span.links,
+                list_of::<LinkParts>(alloc, reader, depth),
+            ),
+            "droppedLinksCount" => put(&mut self.span.dropped_links_count, number_u32(reader)),
+            "status" => put(
+                &mut self.span.status,
+                message::<Status>(alloc, reader, depth),
+            ),
+            _ => self.rest.field(alloc, reader, depth, name),
         }
     }
 
     fn build(self) -> Span {
-        let ids = valid_ids(self.trace, self.id, self.parent);
-        let dropped = dropped(self.counted, self.attributes.discarded);
-        Span {
-            ids,
-            trace_state: self.trace_state,
-            flags: self.flags,
-            name: self.name,
-            kind: self.kind,
-            start_time_unix_nano: self.start,
-            end_time_unix_nano: self.end,
-            events: self.events,
-            dropped_events_count: self.dropped_events,
-            links: self.links,
-            dropped_links_count: self.dropped_links,
-            status: self.status,
-            attributes: self.attributes.kept,
-            dropped_attributes_count: dropped,
-        }
+        let rest = self.rest.build();
+        let mut span = self.span;
+        span.ids = valid_ids(self.trace, self.id, self.parent);
+        span.attributes = rest.attributes;
+        span.dropped_attributes_count = rest.dropped_attributes_count;
+        span
     }
 }

@@ -4,7 +4,7 @@ ghost use Rattle.serde_json.specs.Data.{Data, Members};
 ghost use Rattle.serde_json.specs.Read.{read};
 ghost use Rattle.otlp_reading.specs.Decoding.{IsJson};
 ghost use Rattle.otlp_reading.specs.Kinds.{message, inner, list_of};
-ghost use Rattle.otlp_stream.specs.Taking.{TakesAs, TakesMembers, TakesField, AreFields, present};
+ghost use Rattle.otlp_stream.specs.Taking.{TakesAs, TakesMembers, TakesField, fields_of, present};
 
 use crate::take::{Stop, begin_array, begin_object};
 use json::{Reader, Scratch};
@@ -22,11 +22,8 @@ pub trait Building: Sized {
     /// The message that an object's members are, if they are one.
     ghost meaning: { Members → Option Self.Message };
 
-    /// The names of its fields.
-    ghost names: { List (List ℕ) };
-
-    /// What was read of the fields that were seen.
-    ghost so_far: { (ℕ → Option Data) → Self → Type 0 };
+    /// What was read of the fields, by what stands under each name.
+    ghost so_far: { (List ℕ → Option Data) → Self → Type 0 };
 
     /// Before the first field.
     fn start(alloc: Global) -> Self
@@ -41,12 +38,11 @@ pub trait Building: Sized {
         name: &str,
     ) -> Result<(), Stop>
         ensures { OnOk result
-            (TakesField names so_far depth name.now self.old reader.old self.new reader.new) };
+            (TakesField so_far depth name.now self.old reader.old self.new reader.new) };
 
     /// After the last field.
     fn build(self) -> Self::Message
-        ensures { (ms : Members) → (seen : ℕ → Option Data) → AreFields names 0 seen ms → so_far seen self
-            → meaning ms ≡ Some result };
+        ensures { (ms : Members) → so_far (fields_of ms) self → meaning ms ≡ Some result };
 }
 
 /// The message, of the members from here to the end of the object.

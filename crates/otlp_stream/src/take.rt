@@ -1,5 +1,5 @@
 //! Single tokens. `Declined` where the token is of another kind than is taken here: it says nothing of the text.
-ghost use Rattle.std.specs.Prelude.{◌≡◌, ℕ, ◌<◌, ◌^◌, ◌∷◌, length, Some, None, IfOk, IfSome, IsTrue, OnOk};
+ghost use Rattle.std.specs.Prelude.{◌≡◌, ℕ, ◌<◌, ◌^◌, ◌∷◌, length, Some, None, Ok, IfOk, IfSome, IsTrue, OnOk};
 ghost use Rattle.std.specs.Bool.{MatchBool};
 ghost use Rattle.json.specs.Json.{read_key};
 ghost use Rattle.json.specs.Token as token;
@@ -39,6 +39,15 @@ impl From<Invalid> for Stop {
     fn from(_invalid: Invalid) -> Stop {
         Stop::Declined
     }
+}
+
+/// Puts what was found in its place.
+#[inline(always)]
+pub fn put<T: Drop>(place: &mut T, found: Result<T, Stop>) -> Result<(), Stop>
+    ensures { OnOk result (found ≡ Ok place.new) }
+{
+    *place = found?;
+    Ok(())
 }
 
 /// Whether the next member has this name. False at the end of the object; another name is declined.

@@ -1,10 +1,9 @@
 //! Values of attributes, read from tokens. What isn't plain is declined: a pair whose members are others than `key` and then
 //! `value`, a value with another member than its one value key, and a list within one that has another than `values`.
-ghost use Rattle.std.specs.Prelude.{◌≡◌, [], Some, IfOk, option_map};
-ghost use Rattle.otlp_stream.specs.SoFar.{kept_attributes};
+ghost use Rattle.std.specs.Prelude.{◌≡◌, ◌+◌, ◌==◌, if◌then◌else◌, [], ◌∷◌, ◌++◌, Some, None, IfOk, OnOk, option_map};
 ghost use Rattle.otlp_types.specs.declared.value.AnyValue.{Array, KvList};
 ghost use Rattle.otlp_reading.specs.Kinds.{message};
-ghost use Rattle.otlp_reading.specs.Reading.{values, pairs, key_value, value_by, value_to};
+ghost use Rattle.otlp_reading.specs.Reading.{values, pairs, key_value, value_by, value_to, kept, discarded};
 ghost use Rattle.otlp_stream.specs.Taking.{TakesAs, present, held, sieved_list};
 
 use crate::take::{
@@ -16,8 +15,54 @@ use otlp_reading::ValueKey;
 use otlp_types::{AnyValue, KeyValue, List};
 use std::alloc::Global;
 
-/// `serde_json` reads no text that nests deeper.
-const LEVELS: usize = 127;
+/// Items of a list: those that are kept, and how many are discarded.
+#[derive(Drop)]
+pub struct Kept<T> {
+    pub kept: List<T>,
+    pub discarded: usize,
+}
+
+impl<T: Drop> Kept<T> {
+    /// Of no items.
+    pub fn none(alloc: Global) -> Kept<T>
+        ensures { result ≡ record { kept = []; discarded = 0 } }
+    {
+        Kept {
+            kept: List::new(alloc),
+            discarded: 0,
+        }
+    }
+
+    /// Takes one more item.
+    #[inline(always)]
+    fn take(&mut self, found: Option<T>) -> Result<(), Stop>
+        ensures kept { OnOk result (self.new.kept ≡ self.old.kept ++ kept (found ∷ [])) }
+        ensures discarded { OnOk result (self.new.discarded ≡ self.old.discarded + discarded (found ∷ [])) }
+    {
+        match found {
+            Some(item) => self.kept.push(item)?,
+            None => {
+                if self.discarded == usize::MAX {
+                    return Err(Stop::Declined);
+                }
+                self.discarded += 1;
+            }
+        }
+        Ok(())
+    }
+
+    /// All of them, if none is discarded.
+    #[inline(always)]
+    fn whole(self) -> Option<List<T>>
+        ensures { result ≡ (if self.discarded == 0 then Some self.kept else None) }
+    {
+        if self.discarded == 0 {
+            Some(self.kept)
+        } else {
+            None
+        }
+    }
+}
 
 /// A value that nests at most so many levels deep.
 #[cycle(value)]
@@ -85,12 +130,11 @@ fn array(
     if !has_next(reader, "values")? {
         return Ok(Some(AnyValue::Array(List::new(alloc))));
     }
-    let (kept, discarded) = all_values(alloc, reader, depth - 1, levels)?;
+    let found = all_values(alloc, reader, depth - 1, levels)?;
     end_object(reader)?;
-    if discarded == 0 {
-        Ok(Some(AnyValue::Array(kept)))
-    } else {
-        Ok(None)
+    match found.whole() {
+        Some(all) => Ok(Some(AnyValue::Array(all))),
+        None => Ok(None),
     }
 }
 
@@ -110,12 +154,11 @@ fn kv_list(
     if !has_next(reader, "values")? {
         return Ok(Some(AnyValue::KvList(List::new(alloc))));
     }
-    let (kept, discarded) = key_values(alloc, reader, depth - 1, levels)?;
+    let found = key_values(alloc, reader, depth - 1, levels)?;
     end_object(reader)?;
-    if discarded == 0 {
-        Ok(Some(AnyValue::KvList(kept)))
-    } else {
-        Ok(None)
+    match found.whole() {
+        Some(all) => Ok(Some(AnyValue::KvList(all))),
+        None => Ok(None),
     }
 }
 
@@ -126,25 +169,16 @@ fn all_values(
     reader: &mut Reader<'_>,
     depth: usize,
     levels: usize,
-) -> Result<(List<AnyValue>, usize), Stop>
+) -> Result<Kept<AnyValue>, Stop>
     ensures { IfOk result (λ x. TakesAs (present (sieved_list (value_to levels))) depth reader.old reader.new x) }
 {
     begin_array(reader, depth)?;
-    let mut kept = List::new(alloc);
-    let mut discarded = 0usize;
+    let mut found = Kept::none(alloc);
     'items: for _ in 0..u64::MAX {
         if reader.take_end_array() {
-            return Ok((kept, discarded));
+            return Ok(found);
         }
-        match value_to(alloc, reader, depth - 1, levels)? {
-            Some(value) => kept.push(value)?,
-            None => {
-                if discarded == usize::MAX {
-                    return Err(Stop::Declined);
-                }
-                discarded += 1;
-            }
-        }
+        found.take(value_to(alloc, reader, depth - 1, levels)?)?;
     }
     Err(Stop::Declined)
 }
@@ -156,26 +190,17 @@ pub fn key_values(
     reader: &mut Reader<'_>,
     depth: usize,
     levels: usize,
-) -> Result<(List<KeyValue>, usize), Stop>
+) -> Result<Kept<KeyValue>, Stop>
     ensures { IfOk result (λ x. TakesAs (present (sieved_list (message (key_value (value_to levels)))))
         depth reader.old reader.new x) }
 {
     begin_array(reader, depth)?;
-    let mut kept = List::new(alloc);
-    let mut discarded = 0usize;
+    let mut found = Kept::none(alloc);
     'items: for _ in 0..u64::MAX {
         if reader.take_end_array() {
-            return Ok((kept, discarded));
+            return Ok(found);
         }
-        match pair(alloc, reader, depth - 1, levels)? {
-            Some(pair) => kept.push(pair)?,
-            None => {
-                if discarded == usize::MAX {
-                    return Err(Stop::Declined);
-                }
-                discarded += 1;
-            }
-        }
+        found.take(pair(alloc, reader, depth - 1, levels)?)?;
     }
     Err(Stop::Declined)
 }
@@ -207,43 +232,4 @@ fn pair(
         Some(value) => Ok(Some(KeyValue { key, value })),
         None => Ok(None),
     }
-}
-
-/// The attributes of a field: those that are kept, and how many are discarded.
-#[derive(Drop)]
-pub struct Kept {
-    pub kept: List<KeyValue>,
-    pub discarded: usize,
-}
-
-impl Kept {
-    /// Where there are none.
-    pub fn none(alloc: Global) -> Kept
-        ensures { result ≡ record { kept = []; discarded = 0 } }
-    {
-        Kept {
-            kept: List::new(alloc),
-            discarded: 0,
-        }
-    }
-}
-
-/// The attributes in a field.
-pub fn attributes(alloc: Global, reader: &mut Reader<'_>, depth: usize) -> Result<Kept, Stop>
-    ensures { IfOk result (λ x. TakesAs (present kept_attributes) depth reader.old reader.new x) }
-{
-    let (kept, discarded) = key_values(alloc, reader, depth, LEVELS)?;
-    Ok(Kept {
-        kept: fitted(kept),
-        discarded,
-    })
-}
-
-/// The list, which gives up the room that it has no use for: spans wait with their attributes.
-fn fitted<T>(list: List<T>) -> List<T>
-    ensures { result ≡ list }
-{
-    let mut items = list.into_vec();
-    items.shrink_to_fit();
-    List::from_vec(items)
 }

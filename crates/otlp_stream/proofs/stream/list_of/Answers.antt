@@ -1,4 +1,4 @@
-use Rattle.std.proofs.Common.{◌≡◌, ◌-◌, [], ◌∷◌, ◌++◌, Some, sym, ap, ◌∙◌, arith}
+use Rattle.std.proofs.Common.{◌-◌, [], ◌∷◌, ◌++◌, Some, sym, ap, ◌∙◌, arith}
 use Rattle.otlp_reading.specs.Kinds.{message}
 use Rattle.otlp_stream.proofs.Streaming.{WithinItems-start, WithinItems-next, each-push, list_array}
 use Rattle.otlp_stream.proofs.stream.list_of.Goals as goal

@@ -1,7 +1,6 @@
-use Rattle.std.proofs.Common.{ℕ, Option}
-use Rattle.serde_json.specs.Data.{Data}
-use Rattle.otlp_stream.specs.Taking.{Sees}
+use Rattle.serde_json.specs.Data.{Members}
+use Rattle.otlp_stream.specs.Taking.{Within, fields_of}
 use Rattle.otlp_stream.proofs.stream.members.Given as goal
 
 abbrev pub invariant-members : goal.invariant-members
-invariant-members g l = (seen : ℕ → Option Data) × Sees g.B.Building.names l.depth l.fn.reader l.reader seen × g.B.Building.so_far seen l.built
+invariant-members g l = (found : Members) × Within l.depth l.fn.reader l.reader found × g.B.Building.so_far (fields_of found) l.built

@@ -1,6 +1,6 @@
-use Rattle.std.proofs.Common.{◌≡◌, [], ◌∷◌, ◌++◌, Some, None, refl, arith}
+use Rattle.std.proofs.Common.{◌≡◌, [], ◌∷◌, ◌++◌, Some, refl, arith}
 use Rattle.std.proofs.lemmas.Result.{on_ok_weaker}
-use Rattle.json.specs.Json.{after_end_array, read_key}
+use Rattle.json.specs.Json.{read_key}
 use Rattle.serde_json.specs.Data.{array, object, no_items, no_members, put}
 use Rattle.otlp_stream.specs.Taking.{items_then}
 use Rattle.otlp_stream.proofs.Takes.{takes_string, takes_null, takes_boolean, takes_number}

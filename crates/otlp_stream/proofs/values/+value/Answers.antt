@@ -1,85 +1,58 @@
-use Rattle.std.proofs.Common.{◌≡◌, ◌-◌, [], ◌∷◌, ◌++◌, Some, None, refl, ap, ◌∙◌, arith, rules, w64, subst, option_map}
+use Rattle.std.proofs.Common.{◌≡◌, ◌-◌, Some, None, refl, sym, ◌∙◌, arith, rules, w64, subst, option_map}
 use mir.Val.{to_z, of_z}
-use Rattle.json.specs.Json.{after_end_array}
 use Rattle.serde_json.specs.Find.{as_str, as_bool}
 use Rattle.otlp_types.specs.declared.value.AnyValue.{Str, Bool as Truth, Int, Array, KvList, Bytes}
 use Rattle.otlp_reading.specs.Kinds.{message, i64_value}
 use Rattle.otlp_reading.specs.Reading.{value_to, key_value}
 use Rattle.otlp_stream.specs.Taking.{TakesAs, held}
-use Rattle.otlp_stream.proofs.Streaming.{WithinItems-start, WithinItems-next}
-use Rattle.otlp_stream.proofs.Sieving.{Sieved-start, Sieved-kept, Sieved-discarded, sieved_array, all_none, all_some, all_not, held_map, held_any, value_empty, value_one, pair_key, pair_both}
+use Rattle.otlp_stream.proofs.Sieving.{WithinSieved-start, WithinSieved-next, sieved_array, all_none, all_read, held_map, held_any, value_empty, value_one, pair_key, pair_both}
 use Rattle.otlp_stream.proofs.values.+value.Goals as goal
-use Rattle.otlp_stream.proofs.values.+value.Goals.{all_values-in-Some+in_ok-push-in-Some, all_values-in-None+else-discarded, key_values-in-Some+in_ok-push-in-Some, key_values-in-None+else-discarded}
 
 pub all_values-items-init : goal.all_values-items-init
-all_values-items-init t c = ([], WithinItems-start (c.args.depth - 1) c.begin_array.new.reader, Sieved-start (value_to c.args.levels) c.new-kept.result c.new-kept.ensures)
+all_values-items-init t c = WithinSieved-start (value_to c.args.levels) (c.args.depth - 1) c.begin_array.new.reader c.none-found.result c.none-found.ensures
 
 pub all_values-returns-then-take_end_array : goal.all_values-returns-then-take_end_array
 all_values-returns-then-take_end_array t c =
-    let l = c.items in
-    let w = l.invariant in
-    sieved_array (value_to c.args.levels) l.kept l.discarded c.args.depth c.args.reader.now c.begin_array.new.reader l.reader c.take_end_array.new.self w.0 c.in_ok-begin_array.ensures.deep
-    c.in_ok-begin_array.ensures.begins w.1 (grind arith) w.2
+    sieved_array (value_to c.args.levels) _ c.args.depth c.args.reader.now c.begin_array.new.reader c.items.reader c.take_end_array.new.self c.in_ok-begin_array.ensures.deep c.in_ok-begin_array.ensures.begins c.items.invariant (grind arith)
 
 pub all_values-items-preserved : goal.all_values-items-preserved
 all_values-items-preserved t c =
-    let l = c.items in
-    let w = l.invariant in
-    let m = c.in_ok-value.ensures in
-    let more = WithinItems-next (c.args.depth - 1) c.begin_array.new.reader l.reader w.0 c.take_end_array.new.self c.value_to.new.reader m.found w.1 (grind arith) (grind arith) m.takes in
-    elim c.match-branch-3.branch [
-      | all_values-in-Some+in_ok-push-in-Some b ↦
-          (w.0 ++ m.found ∷ [], more, rw (b.kept-is, b.in_ok-push-in-Some.ensures.ok, b.discarded-is) (Sieved-kept (value_to c.args.levels) w.0 l.kept l.discarded m.found b.in-Some.value w.2 (m.is ∙ ap Some b.in-Some.is)))
-      | all_values-in-None+else-discarded b ↦
-          (w.0 ++ m.found ∷ [], more, rw (b.kept-is, b.discarded-is) (Sieved-discarded (value_to c.args.levels) w.0 l.kept l.discarded m.found w.2 (m.is ∙ ap Some b.in-None.is)))
-    ]
+    WithinSieved-next (value_to c.args.levels) (c.args.depth - 1) _ c.items.reader c.take_end_array.new.self c.value_to.new.reader _ _ _ c.items.invariant (grind arith) (grind arith) c.in_ok-value_to.ensures c.in_ok-take.ensures.kept c.in_ok-take.ensures.discarded
 
 pub key_values-items-init : goal.key_values-items-init
-key_values-items-init t c = ([], WithinItems-start (c.args.depth - 1) c.begin_array.new.reader, Sieved-start (message (key_value (value_to c.args.levels))) c.new-kept.result c.new-kept.ensures)
+key_values-items-init t c = WithinSieved-start (message (key_value (value_to c.args.levels))) (c.args.depth - 1) c.begin_array.new.reader c.none-found.result c.none-found.ensures
 
 pub key_values-returns-then-take_end_array : goal.key_values-returns-then-take_end_array
 key_values-returns-then-take_end_array t c =
-    let l = c.items in
-    let w = l.invariant in
-    sieved_array (message (key_value (value_to c.args.levels))) l.kept l.discarded c.args.depth c.args.reader.now c.begin_array.new.reader l.reader c.take_end_array.new.self w.0 c.in_ok-begin_array.ensures.deep
-    c.in_ok-begin_array.ensures.begins w.1 (grind arith) w.2
+    sieved_array (message (key_value (value_to c.args.levels))) _ c.args.depth c.args.reader.now c.begin_array.new.reader c.items.reader c.take_end_array.new.self c.in_ok-begin_array.ensures.deep c.in_ok-begin_array.ensures.begins c.items.invariant (grind arith)
 
 pub key_values-items-preserved : goal.key_values-items-preserved
 key_values-items-preserved t c =
-    let l = c.items in
-    let w = l.invariant in
-    let m = c.in_ok-pair.ensures in
-    let more = WithinItems-next (c.args.depth - 1) c.begin_array.new.reader l.reader w.0 c.take_end_array.new.self c.pair.new.reader m.found w.1 (grind arith) (grind arith) m.takes in
-    elim c.match-branch-3.branch [
-      | key_values-in-Some+in_ok-push-in-Some b ↦
-          (w.0 ++ m.found ∷ [], more, rw (b.kept-is, b.in_ok-push-in-Some.ensures.ok, b.discarded-is) (Sieved-kept (message (key_value (value_to c.args.levels))) w.0 l.kept l.discarded m.found b.in-Some.pair w.2 (m.is ∙ ap Some b.in-Some.is)))
-      | key_values-in-None+else-discarded b ↦
-          (w.0 ++ m.found ∷ [], more, rw (b.kept-is, b.discarded-is) (Sieved-discarded (message (key_value (value_to c.args.levels))) w.0 l.kept l.discarded m.found w.2 (m.is ∙ ap Some b.in-None.is)))
-    ]
+    WithinSieved-next (message (key_value (value_to c.args.levels))) (c.args.depth - 1) _ c.items.reader c.take_end_array.new.self c.pair.new.reader _ _ _ c.items.invariant (grind arith) (grind arith) c.in_ok-pair.ensures c.in_ok-take.ensures.kept c.in_ok-take.ensures.discarded
 
 pub array-returns-then-not-branch : goal.array-returns-then-not-branch
 array-returns-then-not-branch t c =
     all_none Array (value_to c.args.levels) c.args.depth _ _ _ c.in_ok-begin_object.ensures.deep c.in_ok-begin_object.ensures.begins c.new.result c.new.ensures (grind arith)
 
-pub array-returns-then-discarded-eq0 : goal.array-returns-then-discarded-eq0
-array-returns-then-discarded-eq0 t c =
-    all_some Array (value_to c.args.levels) c.args.depth _ _ _ c.in_ok-begin_object.ensures.deep c.in_ok-begin_object.ensures.begins _ _ c.in_ok-kept.kept c.in_ok-kept.discarded (grind arith) c.in_ok-kept.ensures c.in_ok-end_object.ensures c.if-discarded-eq0.true
+pub array-returns-in-Some : goal.array-returns-in-Some
+array-returns-in-Some t c =
+    all_read Array (value_to c.args.levels) c.args.depth _ _ _ c.in_ok-begin_object.ensures.deep c.in_ok-begin_object.ensures.begins _ _ c.in_ok-found.found _ (grind arith) c.in_ok-found.ensures c.in_ok-end_object.ensures (sym c.in-Some.is ∙ c.whole.ensures)
 
-pub array-returns-else-discarded-eq0 : goal.array-returns-else-discarded-eq0
-array-returns-else-discarded-eq0 t c =
-    all_not Array (value_to c.args.levels) c.args.depth _ _ _ c.in_ok-begin_object.ensures.deep c.in_ok-begin_object.ensures.begins _ _ c.in_ok-kept.kept c.in_ok-kept.discarded (grind arith) c.in_ok-kept.ensures c.in_ok-end_object.ensures c.if-discarded-eq0.false
+pub array-returns-in-None : goal.array-returns-in-None
+array-returns-in-None t c =
+    all_read Array (value_to c.args.levels) c.args.depth _ _ _ c.in_ok-begin_object.ensures.deep c.in_ok-begin_object.ensures.begins _ _ c.in_ok-found.found _ (grind arith) c.in_ok-found.ensures c.in_ok-end_object.ensures (sym c.in-None.is ∙ c.whole.ensures)
 
 pub kv_list-returns-then-not-branch : goal.kv_list-returns-then-not-branch
 kv_list-returns-then-not-branch t c =
     all_none KvList (message (key_value (value_to c.args.levels))) c.args.depth _ _ _ c.in_ok-begin_object.ensures.deep c.in_ok-begin_object.ensures.begins c.new.result c.new.ensures (grind arith)
 
-pub kv_list-returns-then-discarded-eq0 : goal.kv_list-returns-then-discarded-eq0
-kv_list-returns-then-discarded-eq0 t c =
-    all_some KvList (message (key_value (value_to c.args.levels))) c.args.depth _ _ _ c.in_ok-begin_object.ensures.deep c.in_ok-begin_object.ensures.begins _ _ c.in_ok-kept.kept c.in_ok-kept.discarded (grind arith) c.in_ok-kept.ensures c.in_ok-end_object.ensures c.if-discarded-eq0.true
+pub kv_list-returns-in-Some : goal.kv_list-returns-in-Some
+kv_list-returns-in-Some t c =
+    all_read KvList (message (key_value (value_to c.args.levels))) c.args.depth _ _ _ c.in_ok-begin_object.ensures.deep c.in_ok-begin_object.ensures.begins _ _ c.in_ok-found.found _ (grind arith) c.in_ok-found.ensures c.in_ok-end_object.ensures (sym c.in-Some.is ∙ c.whole.ensures)
 
-pub kv_list-returns-else-discarded-eq0 : goal.kv_list-returns-else-discarded-eq0
-kv_list-returns-else-discarded-eq0 t c =
-    all_not KvList (message (key_value (value_to c.args.levels))) c.args.depth _ _ _ c.in_ok-begin_object.ensures.deep c.in_ok-begin_object.ensures.begins _ _ c.in_ok-kept.kept c.in_ok-kept.discarded (grind arith) c.in_ok-kept.ensures c.in_ok-end_object.ensures c.if-discarded-eq0.false
+pub kv_list-returns-in-None : goal.kv_list-returns-in-None
+kv_list-returns-in-None t c =
+    all_read KvList (message (key_value (value_to c.args.levels))) c.args.depth _ _ _ c.in_ok-begin_object.ensures.deep c.in_ok-begin_object.ensures.begins _ _ c.in_ok-found.found _ (grind arith) c.in_ok-found.ensures c.in_ok-end_object.ensures (sym c.in-None.is ∙ c.whole.ensures)
 
 pub value_by-returns-in_ok-held_text-in-Str : goal.value_by-returns-in_ok-held_text-in-Str
 value_by-returns-in_ok-held_text-in-Str t c =

@@ -1,34 +1,14 @@
-use Rattle.std.proofs.Common.{refl, codes}
-use Rattle.std.proofs.lemmas.Result.{on_ok_weaker}
-use Rattle.otlp_reading.specs.Kinds.{text, u32}
-use Rattle.otlp_stream.specs.SoFar.{kept_attributes, link_parts_names, LinkPartsSoFar}
-use Rattle.otlp_stream.proofs.Named.{field_at, no_field}
+use Rattle.otlp_stream.proofs.Named.{put_token_at}
 use Rattle.otlp_stream.proofs.spans.LinkPartsBuilding.field.Goals as goal
 
-pub returns-in_ok-self : goal.returns-in_ok-self
-returns-in_ok-self c =
-    field_at text link_parts_names LinkPartsSoFar 0 (codes "traceId") c.args.depth c.args.name.now _ _ _ _ _ c.if-eq.ensures refl (c.in_ok-self.ensures c.args.depth) (λ seen o e s. (e, s.1, s.2, s.3, s.4, s.5))
+pub returns-in-traceId : goal.returns-in-traceId
+returns-in-traceId c = put_token_at _ _ _ _ _ _ _ _ _ _ c.put.ensures c.in-traceId.is c.text.ensures (λ seen o e s. (e, s.1, s.2, s.3, s.4))
 
-pub returns-in_ok-self-2 : goal.returns-in_ok-self-2
-returns-in_ok-self-2 c =
-    field_at text link_parts_names LinkPartsSoFar 1 (codes "spanId") c.args.depth c.args.name.now _ _ _ _ _ c.if-eq-2.ensures refl (c.in_ok-self-2.ensures c.args.depth) (λ seen o e s. (s.0, e, s.2, s.3, s.4, s.5))
+pub returns-in-spanId : goal.returns-in-spanId
+returns-in-spanId c = put_token_at _ _ _ _ _ _ _ _ _ _ c.put-in-spanId.ensures c.in-spanId.is c.text-in-spanId.ensures (λ seen o e s. (s.0, e, s.2, s.3, s.4))
 
-pub returns-in_ok-self-3 : goal.returns-in_ok-self-3
-returns-in_ok-self-3 c =
-    field_at text link_parts_names LinkPartsSoFar 2 (codes "traceState") c.args.depth c.args.name.now _ _ _ _ _ c.if-eq-3.ensures refl (c.in_ok-self-3.ensures c.args.depth) (λ seen o e s. (s.0, s.1, e, s.3, s.4, s.5))
+pub returns-in-traceState : goal.returns-in-traceState
+returns-in-traceState c = put_token_at _ _ _ _ _ _ _ _ _ _ c.put-in-traceState.ensures c.in-traceState.is c.text-in-traceState.ensures (λ seen o e s. (s.0, s.1, e, s.3, s.4))
 
-pub returns-in_ok-self-4 : goal.returns-in_ok-self-4
-returns-in_ok-self-4 c =
-    field_at kept_attributes link_parts_names LinkPartsSoFar 3 (codes "attributes") c.args.depth c.args.name.now _ _ _ _ _ c.if-eq-4.ensures refl (c.in_ok-self-4.ensures) (λ seen o e s. (s.0, s.1, s.2, e, s.4, s.5))
-
-pub returns-in_ok-self-5 : goal.returns-in_ok-self-5
-returns-in_ok-self-5 c =
-    field_at u32 link_parts_names LinkPartsSoFar 4 (codes "droppedAttributesCount") c.args.depth c.args.name.now _ _ _ _ _ c.if-eq-5.ensures refl (c.in_ok-self-5.ensures c.args.depth) (λ seen o e s. (s.0, s.1, s.2, s.3, e, s.5))
-
-pub returns-in_ok-self-6 : goal.returns-in_ok-self-6
-returns-in_ok-self-6 c =
-    field_at u32 link_parts_names LinkPartsSoFar 5 (codes "flags") c.args.depth c.args.name.now _ _ _ _ _ c.if-eq-6.ensures refl (c.in_ok-self-6.ensures c.args.depth) (λ seen o e s. (s.0, s.1, s.2, s.3, s.4, e))
-
-pub returns-else-eq-6 : goal.returns-else-eq-6
-returns-else-eq-6 c =
-    on_ok_weaker c.skip.result (λ d. no_field link_parts_names LinkPartsSoFar 6 c.args.depth c.args.name.now c.args.self.now _ _ d.0 (c.if-eq.ensures, (c.if-eq-2.ensures, (c.if-eq-3.ensures, (c.if-eq-4.ensures, (c.if-eq-5.ensures, (c.if-eq-6.ensures, tt)))))) d.1 (λ seen o s. s)) c.skip.ensures
+pub returns-in-flags : goal.returns-in-flags
+returns-in-flags c = put_token_at _ _ _ _ _ _ _ _ _ _ c.put-in-flags.ensures c.in-flags.is c.number_u32.ensures (λ seen o e s. (s.0, s.1, s.2, e, s.4))

@@ -1,77 +1,74 @@
-use Rattle.std.proofs.Common.{◌≡◌, Some, refl, ap, ◌∙◌, codes, rules, w32}
 use Rattle.std.proofs.lemmas.Result.{on_ok_weaker}
-use mir.Val.{to_z, of_z}
-use Rattle.otlp_reading.specs.Kinds.{text, enum, u32, u64, list_of, message, inner}
+use Rattle.otlp_reading.specs.Kinds.{unless_null, text, enum, u32, u64, list_of, message, inner}
 use Rattle.otlp_reading.specs.Reading.{status, event, link}
-use Rattle.otlp_stream.specs.SoFar.{kept_attributes, trace_field, id_field, parent_field, span_parts_names, SpanPartsSoFar}
-use Rattle.otlp_stream.proofs.Named.{field_at, no_field}
+use Rattle.otlp_stream.specs.SoFar.{trace_field, id_field, parent_field}
+use Rattle.otlp_stream.proofs.Named.{other, put_at, put_token_at}
 use Rattle.otlp_stream.proofs.spans.SpanPartsBuilding.field.Goals as goal
 
-pub returns-in_ok-self : goal.returns-in_ok-self
-returns-in_ok-self c =
-    field_at trace_field span_parts_names SpanPartsSoFar 0 (codes "traceId") c.args.depth c.args.name.now _ _ _ _ _ c.if-eq.ensures refl (c.in_ok-self.ensures c.args.depth) (λ seen o e s. (e, s.1, s.2, s.3, s.4, s.5, s.6, s.7, s.8, s.9, s.10, s.11, s.12, s.13, s.14, s.15))
+pub returns-in-traceId : goal.returns-in-traceId
+returns-in-traceId c = put_token_at _ _ _ _ _ _ _ _ _ _ c.put.ensures c.in-traceId.is c.trace_id.ensures (λ seen o e s. (e, s.1, s.2, s.3, s.4, s.5, s.6, s.7, s.8, s.9, s.10, s.11, s.12, s.13, s.14))
 
-pub returns-in_ok-self-2 : goal.returns-in_ok-self-2
-returns-in_ok-self-2 c =
-    field_at id_field span_parts_names SpanPartsSoFar 1 (codes "spanId") c.args.depth c.args.name.now _ _ _ _ _ c.if-eq-2.ensures refl (c.in_ok-self-2.ensures c.args.depth) (λ seen o e s. (s.0, e, s.2, s.3, s.4, s.5, s.6, s.7, s.8, s.9, s.10, s.11, s.12, s.13, s.14, s.15))
+pub returns-in-spanId : goal.returns-in-spanId
+returns-in-spanId c = put_token_at _ _ _ _ _ _ _ _ _ _ c.put-in-spanId.ensures c.in-spanId.is c.span_id.ensures (λ seen o e s. (s.0, e, s.2, s.3, s.4, s.5, s.6, s.7, s.8, s.9, s.10, s.11, s.12, s.13, s.14))
 
-pub returns-in_ok-self-3 : goal.returns-in_ok-self-3
-returns-in_ok-self-3 c =
-    field_at parent_field span_parts_names SpanPartsSoFar 2 (codes "parentSpanId") c.args.depth c.args.name.now _ _ _ _ _ c.if-eq-3.ensures refl (c.in_ok-self-3.ensures c.args.depth) (λ seen o e s. (s.0, s.1, e, s.3, s.4, s.5, s.6, s.7, s.8, s.9, s.10, s.11, s.12, s.13, s.14, s.15))
+pub returns-in-parentSpanId : goal.returns-in-parentSpanId
+returns-in-parentSpanId c = put_token_at _ _ _ _ _ _ _ _ _ _ c.put-in-parentSpanId.ensures c.in-parentSpanId.is c.parent_id.ensures (λ seen o e s. (s.0, s.1, e, s.3, s.4, s.5, s.6, s.7, s.8, s.9, s.10, s.11, s.12, s.13, s.14))
 
-pub returns-in_ok-self-4 : goal.returns-in_ok-self-4
-returns-in_ok-self-4 c =
-    field_at text span_parts_names SpanPartsSoFar 3 (codes "traceState") c.args.depth c.args.name.now _ _ _ _ _ c.if-eq-4.ensures refl (c.in_ok-self-4.ensures c.args.depth) (λ seen o e s. (s.0, s.1, s.2, e, s.4, s.5, s.6, s.7, s.8, s.9, s.10, s.11, s.12, s.13, s.14, s.15))
+pub returns-in-traceState : goal.returns-in-traceState
+returns-in-traceState c = put_token_at _ _ _ _ _ _ _ _ _ _ c.put-in-traceState.ensures c.in-traceState.is c.text.ensures (λ seen o e s. (s.0, s.1, s.2, e, s.4, s.5, s.6, s.7, s.8, s.9, s.10, s.11, s.12, s.13, s.14))
 
-pub returns-in_ok-self-5 : goal.returns-in_ok-self-5
-returns-in_ok-self-5 c =
-    field_at u32 span_parts_names SpanPartsSoFar 4 (codes "flags") c.args.depth c.args.name.now _ _ _ _ _ c.if-eq-5.ensures refl (c.in_ok-self-5.ensures c.args.depth) (λ seen o e s. (s.0, s.1, s.2, s.3, e, s.5, s.6, s.7, s.8, s.9, s.10, s.11, s.12, s.13, s.14, s.15))
+pub returns-in-flags : goal.returns-in-flags
+returns-in-flags c = put_token_at _ _ _ _ _ _ _ _ _ _ c.put-in-flags.ensures c.in-flags.is c.number_u32.ensures (λ seen o e s. (s.0, s.1, s.2, s.3, e, s.5, s.6, s.7, s.8, s.9, s.10, s.11, s.12, s.13, s.14))
 
-pub returns-in_ok-self-6 : goal.returns-in_ok-self-6
-returns-in_ok-self-6 c =
-    field_at text span_parts_names SpanPartsSoFar 5 (codes "name") c.args.depth c.args.name.now _ _ _ _ _ c.if-eq-6.ensures refl (c.in_ok-self-6.ensures c.args.depth) (λ seen o e s. (s.0, s.1, s.2, s.3, s.4, e, s.6, s.7, s.8, s.9, s.10, s.11, s.12, s.13, s.14, s.15))
+pub returns-in-name : goal.returns-in-name
+returns-in-name c = put_token_at _ _ _ _ _ _ _ _ _ _ c.put-in-name.ensures c.in-name.is c.text-in-name.ensures (λ seen o e s. (s.0, s.1, s.2, s.3, s.4, e, s.6, s.7, s.8, s.9, s.10, s.11, s.12, s.13, s.14))
 
-pub returns-in_ok-self-7 : goal.returns-in_ok-self-7
-returns-in_ok-self-7 c =
-    let z : c.in_ok-self-7.field-0 ≡ to_z w32 (of_z w32 c.in_ok-self-7.field-0) = search rules in
-    field_at enum span_parts_names SpanPartsSoFar 6 (codes "kind") c.args.depth c.args.name.now _ _ _ _ _ c.if-eq-7.ensures refl (c.in_ok-self-7.ensures c.args.depth) (λ seen o e s. (s.0, s.1, s.2, s.3, s.4, s.5, e ∙ ap Some z, s.7, s.8, s.9, s.10, s.11, s.12, s.13, s.14, s.15))
+pub returns-in-kind : goal.returns-in-kind
+returns-in-kind c = put_token_at _ _ _ _ _ _ _ _ _ _ c.put-in-kind.ensures c.in-kind.is c.enumeration.ensures (λ seen o e s. (s.0, s.1, s.2, s.3, s.4, s.5, e, s.7, s.8, s.9, s.10, s.11, s.12, s.13, s.14))
 
-pub returns-in_ok-self-8 : goal.returns-in_ok-self-8
-returns-in_ok-self-8 c =
-    field_at u64 span_parts_names SpanPartsSoFar 7 (codes "startTimeUnixNano") c.args.depth c.args.name.now _ _ _ _ _ c.if-eq-8.ensures refl (c.in_ok-self-8.ensures c.args.depth) (λ seen o e s. (s.0, s.1, s.2, s.3, s.4, s.5, s.6, e, s.8, s.9, s.10, s.11, s.12, s.13, s.14, s.15))
+pub returns-in-startTimeUnixNano : goal.returns-in-startTimeUnixNano
+returns-in-startTimeUnixNano c = put_token_at _ _ _ _ _ _ _ _ _ _ c.put-in-startTimeUnixNano.ensures c.in-startTimeUnixNano.is c.number_u64.ensures (λ seen o e s. (s.0, s.1, s.2, s.3, s.4, s.5, s.6, e, s.8, s.9, s.10, s.11, s.12, s.13, s.14))
 
-pub returns-in_ok-self-9 : goal.returns-in_ok-self-9
-returns-in_ok-self-9 c =
-    field_at u64 span_parts_names SpanPartsSoFar 8 (codes "endTimeUnixNano") c.args.depth c.args.name.now _ _ _ _ _ c.if-eq-9.ensures refl (c.in_ok-self-9.ensures c.args.depth) (λ seen o e s. (s.0, s.1, s.2, s.3, s.4, s.5, s.6, s.7, e, s.9, s.10, s.11, s.12, s.13, s.14, s.15))
+pub returns-in-endTimeUnixNano : goal.returns-in-endTimeUnixNano
+returns-in-endTimeUnixNano c = put_token_at _ _ _ _ _ _ _ _ _ _ c.put-in-endTimeUnixNano.ensures c.in-endTimeUnixNano.is c.number_u64-in-endTimeUnixNano.ensures (λ seen o e s. (s.0, s.1, s.2, s.3, s.4, s.5, s.6, s.7, e, s.9, s.10, s.11, s.12, s.13, s.14))
 
-pub returns-in_ok-self-10 : goal.returns-in_ok-self-10
-returns-in_ok-self-10 c =
-    field_at kept_attributes span_parts_names SpanPartsSoFar 9 (codes "attributes") c.args.depth c.args.name.now _ _ _ _ _ c.if-eq-10.ensures refl (c.in_ok-self-10.ensures) (λ seen o e s. (s.0, s.1, s.2, s.3, s.4, s.5, s.6, s.7, s.8, e, s.10, s.11, s.12, s.13, s.14, s.15))
+pub returns-in-events : goal.returns-in-events
+returns-in-events c = put_at _ _ _ _ _ _ _ _ _ _ c.put-in-events.ensures c.in-events.is c.list_of.ensures (λ seen o e s. (s.0, s.1, s.2, s.3, s.4, s.5, s.6, s.7, s.8, e, s.10, s.11, s.12, s.13, s.14))
 
-pub returns-in_ok-self-11 : goal.returns-in_ok-self-11
-returns-in_ok-self-11 c =
-    field_at u32 span_parts_names SpanPartsSoFar 10 (codes "droppedAttributesCount") c.args.depth c.args.name.now _ _ _ _ _ c.if-eq-11.ensures refl (c.in_ok-self-11.ensures c.args.depth) (λ seen o e s. (s.0, s.1, s.2, s.3, s.4, s.5, s.6, s.7, s.8, s.9, e, s.11, s.12, s.13, s.14, s.15))
+pub returns-in-droppedEventsCount : goal.returns-in-droppedEventsCount
+returns-in-droppedEventsCount c = put_token_at _ _ _ _ _ _ _ _ _ _ c.put-in-droppedEventsCount.ensures c.in-droppedEventsCount.is c.number_u32-in-droppedEventsCount.ensures (λ seen o e s. (s.0, s.1, s.2, s.3, s.4, s.5, s.6, s.7, s.8, s.9, e, s.11, s.12, s.13, s.14))
 
-pub returns-in_ok-self-12 : goal.returns-in_ok-self-12
-returns-in_ok-self-12 c =
-    field_at (list_of (message event)) span_parts_names SpanPartsSoFar 11 (codes "events") c.args.depth c.args.name.now _ _ _ _ _ c.if-eq-12.ensures refl (c.in_ok-self-12.ensures) (λ seen o e s. (s.0, s.1, s.2, s.3, s.4, s.5, s.6, s.7, s.8, s.9, s.10, e, s.12, s.13, s.14, s.15))
+pub returns-in-links : goal.returns-in-links
+returns-in-links c = put_at _ _ _ _ _ _ _ _ _ _ c.put-in-links.ensures c.in-links.is c.list_of-in-links.ensures (λ seen o e s. (s.0, s.1, s.2, s.3, s.4, s.5, s.6, s.7, s.8, s.9, s.10, e, s.12, s.13, s.14))
 
-pub returns-in_ok-self-13 : goal.returns-in_ok-self-13
-returns-in_ok-self-13 c =
-    field_at u32 span_parts_names SpanPartsSoFar 12 (codes "droppedEventsCount") c.args.depth c.args.name.now _ _ _ _ _ c.if-eq-13.ensures refl (c.in_ok-self-13.ensures c.args.depth) (λ seen o e s. (s.0, s.1, s.2, s.3, s.4, s.5, s.6, s.7, s.8, s.9, s.10, s.11, e, s.13, s.14, s.15))
+pub returns-in-droppedLinksCount : goal.returns-in-droppedLinksCount
+returns-in-droppedLinksCount c = put_token_at _ _ _ _ _ _ _ _ _ _ c.put-in-droppedLinksCount.ensures c.in-droppedLinksCount.is c.number_u32-in-droppedLinksCount.ensures (λ seen o e s. (s.0, s.1, s.2, s.3, s.4, s.5, s.6, s.7, s.8, s.9, s.10, s.11, e, s.13, s.14))
 
-pub returns-in_ok-self-14 : goal.returns-in_ok-self-14
-returns-in_ok-self-14 c =
-    field_at (list_of (message link)) span_parts_names SpanPartsSoFar 13 (codes "links") c.args.depth c.args.name.now _ _ _ _ _ c.if-eq-14.ensures refl (c.in_ok-self-14.ensures) (λ seen o e s. (s.0, s.1, s.2, s.3, s.4, s.5, s.6, s.7, s.8, s.9, s.10, s.11, s.12, e, s.14, s.15))
+pub returns-in-status : goal.returns-in-status
+returns-in-status c = put_at _ _ _ _ _ _ _ _ _ _ c.put-in-status.ensures c.in-status.is c.message.ensures.field (λ seen o e s. (s.0, s.1, s.2, s.3, s.4, s.5, s.6, s.7, s.8, s.9, s.10, s.11, s.12, e, s.14))
 
-pub returns-in_ok-self-15 : goal.returns-in_ok-self-15
-returns-in_ok-self-15 c =
-    field_at u32 span_parts_names SpanPartsSoFar 14 (codes "droppedLinksCount") c.args.depth c.args.name.now _ _ _ _ _ c.if-eq-15.ensures refl (c.in_ok-self-15.ensures c.args.depth) (λ seen o e s. (s.0, s.1, s.2, s.3, s.4, s.5, s.6, s.7, s.8, s.9, s.10, s.11, s.12, s.13, e, s.15))
-
-pub returns-in_ok-self-16 : goal.returns-in_ok-self-16
-returns-in_ok-self-16 c =
-    field_at (inner status) span_parts_names SpanPartsSoFar 15 (codes "status") c.args.depth c.args.name.now _ _ _ _ _ c.if-eq-16.ensures refl c.in_ok-self-16.ensures.field (λ seen o e s. (s.0, s.1, s.2, s.3, s.4, s.5, s.6, s.7, s.8, s.9, s.10, s.11, s.12, s.13, s.14, e))
-
-pub returns-else-eq-16 : goal.returns-else-eq-16
-returns-else-eq-16 c =
-    on_ok_weaker c.skip.result (λ d. no_field span_parts_names SpanPartsSoFar 16 c.args.depth c.args.name.now c.args.self.now _ _ d.0 (c.if-eq.ensures, (c.if-eq-2.ensures, (c.if-eq-3.ensures, (c.if-eq-4.ensures, (c.if-eq-5.ensures, (c.if-eq-6.ensures, (c.if-eq-7.ensures, (c.if-eq-8.ensures, (c.if-eq-9.ensures, (c.if-eq-10.ensures, (c.if-eq-11.ensures, (c.if-eq-12.ensures, (c.if-eq-13.ensures, (c.if-eq-14.ensures, (c.if-eq-15.ensures, (c.if-eq-16.ensures, tt)))))))))))))))) d.1 (λ seen o s. s)) c.skip.ensures
+pub returns-in_default : goal.returns-in_default
+returns-in_default c =
+    on_ok_weaker c.field.result (λ t. record {
+      found = t.found;
+      takes = t.takes;
+      keeps = λ seen s.
+          let d = c.in_default in
+          let o = unless_null t.found in (
+            other trace_field o seen _ d.not-traceId s.0,
+            other id_field o seen _ d.not-spanId s.1,
+            other parent_field o seen _ d.not-parentSpanId s.2,
+            other text o seen _ d.not-traceState s.3,
+            other u32 o seen _ d.not-flags s.4,
+            other text o seen _ d.not-name s.5,
+            other enum o seen _ d.not-kind s.6,
+            other u64 o seen _ d.not-startTimeUnixNano s.7,
+            other u64 o seen _ d.not-endTimeUnixNano s.8,
+            other (list_of (message event)) o seen _ d.not-events s.9,
+            other u32 o seen _ d.not-droppedEventsCount s.10,
+            other (list_of (message link)) o seen _ d.not-links s.11,
+            other u32 o seen _ d.not-droppedLinksCount s.12,
+            other (inner status) o seen _ d.not-status s.13,
+            t.keeps seen s.14,
+          );
+    }) c.field.ensures
