@@ -1,6 +1,7 @@
 mod HeldSpans
 mod Forgetting
 mod Codes
+mod Opening
 mod Stands
 mod Deciding
 mod Effects

@@ -1,5 +1,5 @@
 -- What the code of a shard does to what it holds: words of its private functions, beside the definitions.
-use Rattle.std.specs.Prelude.{ℕ, ◌≡◌, max, Bool, true, false, not, ◌&&◌, ◌||◌, is_none, if◌then◌else◌, List, slice_set, find, Option, Some, None}
+use Rattle.std.specs.Prelude.{ℕ, ◌≡◌, max, Bool, true, false, not, ◌&&◌, ◌||◌, is_none, if◌then◌else◌, List, slice_set, find, Option, Some, None, Result, Ok, Err}
 use Rattle.journal_theory.specs.Standing.{Standing}
 use Rattle.trace_buffer.specs.Buffer.{Episode, leaves, settle_first, is_due_at}
 use Rattle.trace_buffer.specs.declared.episode.Evicted.{Evicted}
@@ -86,6 +86,16 @@ Puts (Some e) old r new = PutsDecided e.trace e.verdict old r new
 abbrev pub KeepsAs : Option Evicted → (old : CacheLists) → Taken → (new : CacheLists) → Type 0
 KeepsAs left old (Kept evicted r) new = (evicted ≡ left) × Puts left old r new
 KeepsAs left old _ new = ⊥
+
+-- what is answered to a span that was appended to its trace's episode, or found no memory
+abbrev pub answer_to_append : {E : Type 0} → Result (Unit {0}) E → Taken
+answer_to_append (Ok u) = Kept None None
+answer_to_append (Err e) = Dropped NoMemory
+
+-- what is answered to a span that opened an episode, or found no memory
+abbrev pub OpensAs : {E : Type 0} → Result (Option Evicted) E → (old : CacheLists) → Taken → (new : CacheLists) → Type 0
+OpensAs (Ok left) old answer new = KeepsAs left old answer new
+OpensAs (Err e) old answer new = (answer ≡ Dropped NoMemory) × (new ≡ old)
 
 -- the trace of a decided episode that left is in no cache
 abbrev pub leaves_forgotten : Option Evicted → CacheLists → Bool

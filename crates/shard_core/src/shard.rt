@@ -8,7 +8,7 @@ ghost use Rattle.policy_tree.specs.Meaning.{meaning};
 ghost use Rattle.policy_eval.specs.Meaning.{knows};
 ghost use Rattle.journal_theory.specs.Fate.{effect, effect_dealt, released_dealt, dropped_dealt};
 ghost use Rattle.shard_core.specs.Taking.{Releases, answer_to_late};
-ghost use Rattle.shard_core.specs.Holding.{KeepsAs, leaves_forgotten};
+ghost use Rattle.shard_core.specs.Holding.{KeepsAs, OpensAs, answer_to_append, leaves_forgotten};
 
 use crate::answer::{Decided, Taken};
 use decision_cache::DecisionCache;
@@ -161,25 +161,13 @@ impl Shard {
         self.clock = arrival.moment.max(self.clock);
         let trace = ids_of(&arrival).unwrap().trace;
         match self.buffer.find(trace) {
-            Some(State::Undecided) => {
-                return match self.buffer.append(arrival, self.clock) {
-                    Ok(()) => Taken::Kept {
-                        evicted: None,
-                        cache: None,
-                    },
-                    Err(_) => Taken::Dropped(Reason::NoMemory),
-                };
-            }
-            Some(State::Decided(verdict)) => return late(arrival, verdict),
-            None => {}
+            Some(State::Undecided) => appended(self.buffer.append(arrival, self.clock)),
+            Some(State::Decided(verdict)) => late(arrival, verdict),
+            None => match self.cache.ask(trace) {
+                Some(verdict) => late(arrival, verdict),
+                None => opened(&mut self.cache, self.buffer.open(arrival, self.clock)),
+            },
         }
-        if let Some(verdict) = self.cache.ask(trace) {
-            return late(arrival, verdict);
-        }
-        let Ok(evicted) = self.buffer.open(arrival, self.clock) else {
-            return Taken::Dropped(Reason::NoMemory);
-        };
-        keep(&mut self.cache, evicted)
     }
 
     fn take_tick(&mut self, moment: Moment) -> Taken
@@ -251,6 +239,30 @@ fn late(arrival: Arrival, verdict: Verdict) -> Taken
     match verdict {
         Verdict::Sampled => Taken::Late(arrival),
         Verdict::NotSampled => Taken::Dropped(Reason::LateNotSampled),
+    }
+}
+
+/// What is answered to a span that was appended to its trace's episode, or found no memory.
+fn appended(done: Result<(), (Arrival, AllocError)>) -> Taken
+    ensures { result ≡ answer_to_append done }
+{
+    match done {
+        Ok(()) => Taken::Kept {
+            evicted: None,
+            cache: None,
+        },
+        Err(_) => Taken::Dropped(Reason::NoMemory),
+    }
+}
+
+/// What is answered to a span that opened an episode, or found no memory.
+fn opened(cache: &mut DecisionCache, done: Result<Option<Evicted>, (Arrival, AllocError)>) -> Taken
+    requires { IfOk done (λ evicted. leaves_forgotten evicted cache.old ≡ true) }
+    ensures { OpensAs done cache.old result cache.new }
+{
+    match done {
+        Ok(evicted) => keep(cache, evicted),
+        Err(_back) => Taken::Dropped(Reason::NoMemory),
     }
 }
 

@@ -1,6 +1,6 @@
 //! What is noted of a journal, entry by entry.
-ghost use Rattle.std.specs.Prelude.{◌≡◌, ◌∷◌, reverse, IfOk, OnOk, option_to_list};
-ghost use Rattle.journal_theory.specs.Journal.{opens, finding, leaving, touch_of_leaving, after_finding, after_item, notes};
+ghost use Rattle.std.specs.Prelude.{◌≡◌, ◌∷◌, reverse, length, IfOk, OnOk, option_to_list};
+ghost use Rattle.journal_theory.specs.Journal.{Journal, clock, opens, finding, leaving, touch_of_leaving, after_finding, after_item, notes};
 ghost use Rattle.shard_journal.specs.Settings.{settings_of};
 ghost use Rattle.shard_journal.specs.Short.{short_notes};
 
@@ -43,7 +43,7 @@ fn note_entry(
     ensures { OnOk result (noted.new ≡ short_notes (notes (settings_of settings.now) (reverse past.now))) }
 {
     let due = due_at(alloc, settings, past, entry, before, noted)?;
-    note_item(settings, past, entry, before, noted)?;
+    note_item(settings, entry, before.len(), clock(past), noted)?;
     decide_each(
         alloc,
         settings,
@@ -54,16 +54,15 @@ fn note_entry(
     )
 }
 
-/// Notes an entry, before any decision.
+/// Notes an entry at its position and the clock after it, before any decision.
 fn note_item(
     settings: &Settings,
-    past: &[Entry],
     entry: &Entry,
-    before: &[Entry],
+    at: usize,
+    now: Moment,
     noted: &mut Notes,
 ) -> Result<(), AllocError>
-    requires { reverse past.now ≡ entry.now ∷ reverse before.now }
-    ensures { OnOk result (noted.new ≡ after_item (settings_of settings.now) entry.now (reverse before.now) entry.now.item noted.old) }
+    ensures { (before : Journal) → at ≡ length before → now ≡ clock (entry.now ∷ before) → OnOk result (noted.new ≡ after_item (settings_of settings.now) entry.now before entry.now.item noted.old) }
 {
     match &entry.item {
         Item::Span(arrival) => match arrival.rec.span.ids {
@@ -72,8 +71,7 @@ fn note_item(
                 if entry.refused {
                     Ok(())
                 } else {
-                    let at = before.len();
-                    note_span(settings, ids.trace, entry.lost, at, clock(past), noted)
+                    note_span(settings, ids.trace, entry.lost, at, now, noted)
                 }
             }
         },

@@ -1,8 +1,7 @@
 -- What a shard takes and decides, by the shard read at its place.
 use Rattle.std.proofs.Common.{◌≡◌, ℕ, zero, suc, ◌+◌, ◌≤◌, Bool, true, false, not, ◌&&◌, cond, List, [], ◌∷◌, ◌++◌, length, drop, slice_get, slice_set, Option, Some, None, option_map, is_some, refl, ap, sym, ◌∙◌, arith}
-use Rattle.std.specs.Prelude.{Result, Ok, Err}
+use Rattle.std.specs.Prelude.{Result, Ok, Err, IsErr, IsErrAnd}
 use Rattle.otlp_types.specs.declared.arrival.Arrival.{Arrival}
-use Rattle.otlp_types.specs.declared.arrival.Item.{Item}
 use Rattle.otlp_types.specs.declared.arrival.Item.TheVariants.{Span, Tick, End}
 use Rattle.journal_theory.specs.Journal.{Entry, Settings, Journal, answered, due_now}
 use Rattle.journal_theory.specs.Fate.{DroppedSpan, Effect, effect_of_taking}
@@ -11,7 +10,7 @@ use Rattle.std.specs.Option.{option_and_then}
 use Rattle.journal_theory.specs.Marked.{marks_apply_to_ids}
 use Rattle.world_theory.specs.World.{Config, Shard, World, settings, ticker, has_due}
 use Rattle.world_theory.specs.Step.{Step, take_on, take, tick, end, decide, ship, step, after_taking, after_decision, sender_is_done}
-use Rattle.span_world.specs.Answers.{next_of, may_take, entry_of_first, next_decision, KeepsItem, StepsTo}
+use Rattle.span_world.specs.Answers.{next_of, may_take, entry_of_first, next_decision, is_span, queue_after, KeepsItem, KeepsEntry, StepsTo}
 use Rattle.span_world.specs.Core.{config_of, Core}
 use Rattle.span_world.specs.declared.step.Refusal.{Refusal}
 use Rattle.span_world.specs.declared.step.Refusal.TheVariants.{NotEnabled, NoMemory}
@@ -98,19 +97,47 @@ pub decided_is : (w : World) (shard : ℕ) (sh : Shard) (answers : List Bool) (d
     → record w { shards = slice_set w.shards shard new; counted = counted } ≡ after_decision w shard sh answers did
 decided_is w shard sh answers did new counted f h = rw (f, h) refl
 
+-- a step that found no memory, where it is enabled and all is as before
+pub refused_step : (before after : Core) (s : Step) (r : Result (Unit {0}) Refusal) → IsErr r × IsErrAnd r (λ (e : Refusal). e ≡ NoMemory) → after ≡ before → is_some (next_of before s) ≡ true → StepsTo before s r after
+refused_step before after s (Ok u) h a e = absurd h.1
+refused_step before after s (Err NotEnabled) h a e = absurd (cc h.1)
+refused_step before after s (Err NoMemory) h a e = (a, e)
+
+-- an entry for which memory was refused, where all is as before
+pub refused_entry : (before after : Core) (shard : ℕ) (e : Entry) (r : Result (Unit {0}) Refusal) → IsErr r × IsErrAnd r (λ (e : Refusal). e ≡ NoMemory) → after ≡ before → KeepsEntry before shard e r after
+refused_entry before after shard e (Ok u) h a = absurd h.1
+refused_entry before after shard e (Err r) h a = (a, h.1)
+
+-- the entry of the first queued span is one of a span
+first_is_span : (s : Settings) (sh : Shard) (refused lost : Bool) (q : List Arrival) (e : Entry) → entry_of_first s sh refused lost q ≡ Some e → is_span e.item ≡ true
+first_is_span s sh refused lost [] e f = absurd (cc f)
+first_is_span s sh refused lost (a ∷ rest) e f = go (not (has_due s sh) && marks_apply_to_ids s sh.journal refused lost a.rec.span.ids) f
+  where
+    first : Entry
+    first = record { item = Span a; refused = refused; lost = lost; answers = [] }
+
+    go : (b : Bool) → cond b (Some first) None ≡ Some e → is_span e.item ≡ true
+    go true f = let same : first ≡ e = cc f in ap (λ (z : Entry). is_span z.item) (sym same)
+    go false f = absurd (cc f)
+
 module _ (before : Core) (shard : ℕ) (sh : Shard) (g : slice_get before.world.shards shard ≡ Some sh) where
-  -- an unmarked item that the shard may take, and what the step says
-  keeps : (s : Step) (item : Item)
-      → next_of before s ≡ Some (after_taking (config_of before.config) before.world shard sh (record { item = item; refused = false; lost = false; answers = [] }) sh.queue)
-      → (r : Result (Unit {0}) Refusal) (after : Core) → KeepsItem before shard item r after → StepsTo before s r after
-  keeps s item e (Ok u) after h = (h.0, e ∙ ap (λ (z : World). Some z) (sym (h.1 sh g)))
-  keeps s item e (Err NotEnabled) after h = absurd (cc h.1)
-  keeps s item e (Err NoMemory) after h = (h.0, ap is_some e)
+  -- an entry that the shard may take, and what the step says
+  keeps : (s : Step) (e : Entry) → next_of before s ≡ Some (after_taking (config_of before.config) before.world shard sh e (queue_after e.item sh.queue))
+      → (r : Result (Unit {0}) Refusal) (after : Core) → KeepsEntry before shard e r after → StepsTo before s r after
+  keeps s e f (Ok u) after h = (h.0, f ∙ ap (λ (z : World). Some z) (sym (h.1 sh g)))
+  keeps s e f (Err NotEnabled) after h = absurd (cc h.1)
+  keeps s e f (Err NoMemory) after h = (h.0, ap is_some f)
+
+  pub take_steps : (refused lost : Bool) (e : Entry) → entry_of_first (settings (config_of before.config) before.world) sh refused lost sh.queue ≡ Some e
+      → (r : Result (Unit {0}) Refusal) (after : Core) → KeepsEntry before shard e r after → StepsTo before (take shard refused lost) r after
+  take_steps refused lost e f = keeps (take shard refused lost) e
+      (takes (config_of before.config) before.world shard sh g refused lost e f
+      ∙ ap (λ (b : Bool). Some (after_taking (config_of before.config) before.world shard sh e (cond b (drop 1 sh.queue) sh.queue))) (sym (first_is_span (settings (config_of before.config) before.world) sh refused lost sh.queue e f)))
 
   pub tick_steps : (moment : ℕ) → may_take (settings (config_of before.config) before.world) sh (ticker before.world) ≡ true
       → (r : Result (Unit {0}) Refusal) (after : Core) → KeepsItem before shard (Tick moment) r after → StepsTo before (tick shard moment) r after
-  tick_steps moment e = keeps (tick shard moment) (Tick moment) (ticks (config_of before.config) before.world shard sh g moment e)
+  tick_steps moment e = keeps (tick shard moment) (record { item = Tick moment; refused = false; lost = false; answers = [] }) (ticks (config_of before.config) before.world shard sh g moment e)
 
   pub end_steps : (sender : ℕ) → may_take (settings (config_of before.config) before.world) sh sender ≡ true → sender_is_done before.world shard sh sender (slice_get before.world.lanes sender) ≡ true
       → (r : Result (Unit {0}) Refusal) (after : Core) → KeepsItem before shard (End sender) r after → StepsTo before (end shard sender) r after
-  end_steps sender e f = keeps (end shard sender) (End sender) (ends (config_of before.config) before.world shard sh g sender e f)
+  end_steps sender e f = keeps (end shard sender) (record { item = End sender; refused = false; lost = false; answers = [] }) (ends (config_of before.config) before.world shard sh g sender e f)

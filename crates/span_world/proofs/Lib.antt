@@ -1,4 +1,5 @@
 pub mod Items
 pub mod Replaying
 pub mod Looking
+pub mod Routes
 pub mod Giving

@@ -1,13 +1,13 @@
 -- What the program answers to a step, and to a list of steps.
-use Rattle.std.specs.Prelude.{◌≡◌, ℕ, ◌+◌, ◌<◌, Bool, true, false, not, ◌&&◌, if◌then◌else◌, is_some, List, [], ◌∷◌, length, take, slice_get, Option, Some, None, Result, Ok, Err}
+use Rattle.std.specs.Prelude.{◌≡◌, ℕ, ◌+◌, ◌<◌, Bool, true, false, not, ◌&&◌, if◌then◌else◌, is_some, List, [], ◌∷◌, length, take, drop, slice_get, position, Option, Some, None, option_and_then, Result, Ok, Err}
 use Rattle.journal_theory.specs.Journal.{Entry, Settings, has_ended}
 use Rattle.journal_theory.specs.Fate.{Effect}
 use Rattle.journal_theory.specs.Answered.{effect_answered_at}
 use Rattle.journal_theory.specs.Marked.{marks_apply_to_ids}
 use Rattle.otlp_types.specs.declared.arrival.Arrival.{Arrival}
 use Rattle.otlp_types.specs.declared.arrival.Item.{Item}
-use Rattle.otlp_types.specs.declared.arrival.Item.TheVariants.{Span}
-use Rattle.world_theory.specs.World.{Config, Shard, World, has_due}
+use Rattle.otlp_types.specs.declared.arrival.Item.TheVariants.{Span, Tick as TickItem, End as EndItem}
+use Rattle.world_theory.specs.World.{Config, Lane, Shard, World, has_due, goes_to}
 use Rattle.world_theory.specs.Step.{Step, receive, route, refuse, take as take_step, tick, close, end, decide, ship, pull, hand, fail, spoil, step, run, after_taking}
 use Rattle.span_world.specs.Core.{config_of, Core}
 use Rattle.span_world.specs.declared.step.Step.{Step as Asked}
@@ -65,8 +65,28 @@ entry_of_first s sh refused lost (a ∷ rest) = if not (has_due s sh) && marks_a
 abbrev pub next_decision : Settings → Shard → (answers : List Bool) → Option Effect
 next_decision s sh answers = effect_answered_at s sh.journal sh.dealt answers
 
+-- the item is a span
+abbrev pub is_span : Item → Bool
+is_span (Span a) = true
+is_span (TickItem moment) = false
+is_span (EndItem sender) = false
+
+-- the shard's queue after it took an item: a span leaves it, the first that it is
+abbrev pub queue_after : Item → (queue : List Arrival) → List Arrival
+queue_after item queue = if is_span item then drop 1 queue else queue
+
+-- the entry goes to the shard's journal, and its span leaves the queue; or memory was refused, and nothing changed
+abbrev pub KeepsEntry : Core → (shard : ℕ) → Entry → Result (Unit {0}) Refusal → Core → Type 0
+KeepsEntry before shard e (Ok u) after = (after.config ≡ before.config)
+    × ((sh : Shard) → slice_get before.world.shards shard ≡ Some sh → after.world ≡ after_taking (config_of before.config) before.world shard sh e (queue_after e.item sh.queue))
+KeepsEntry before shard e (Err r) after = (after ≡ before) × (r ≡ NoMemory)
+
 -- the item goes to the shard's journal, unmarked; or memory was refused, and nothing changed
 abbrev pub KeepsItem : Core → (shard : ℕ) → Item → Result (Unit {0}) Refusal → Core → Type 0
-KeepsItem before shard item (Ok u) after = (after.config ≡ before.config)
-    × ((sh : Shard) → slice_get before.world.shards shard ≡ Some sh → after.world ≡ after_taking (config_of before.config) before.world shard sh (record { item = item; refused = false; lost = false; answers = [] }) sh.queue)
-KeepsItem before shard item (Err r) after = (after ≡ before) × (r ≡ NoMemory)
+KeepsItem before shard item r after = KeepsEntry before shard (record { item = item; refused = false; lost = false; answers = [] }) r after
+
+-- ---- what is routed
+
+-- the place, among the lane's unrouted spans, of the first for the shard
+abbrev pub next_place : World → (lane shard : ℕ) → Option ℕ
+next_place w lane shard = option_and_then (λ (l : Lane). option_and_then (λ (sh : Shard). position (goes_to (length w.shards) shard) l.unrouted) (slice_get w.shards shard)) (slice_get w.lanes lane)

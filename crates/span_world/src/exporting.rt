@@ -21,9 +21,7 @@ impl World {
         if shard >= self.shards.len() || !self.shards[shard].has_unshipped() {
             return Err(Refusal::NotEnabled);
         }
-        if self.exported.try_reserve(1).is_err() {
-            return Err(Refusal::NoMemory);
-        }
+        self.exported.try_reserve(1)?;
         self.exported.push_back_reserved(self.shards[shard].ship());
         Ok(())
     }
@@ -35,9 +33,7 @@ impl World {
         if self.exported.is_empty() || self.batch.len() >= self.batch_size {
             return Err(Refusal::NotEnabled);
         }
-        if self.batch.try_reserve(1).is_err() {
-            return Err(Refusal::NoMemory);
-        }
+        self.batch.try_reserve(1)?;
         if let Some(span) = self.exported.pop_front() {
             self.batch.push_reserved(span);
         }
@@ -51,9 +47,7 @@ impl World {
         if self.batch.is_empty() || self.down {
             return Err(Refusal::NotEnabled);
         }
-        if self.handed.try_reserve(1).is_err() {
-            return Err(Refusal::NoMemory);
-        }
+        self.handed.try_reserve(1)?;
         let batch = mem::replace(&mut self.batch, Vec::new(self.alloc));
         self.handed.push_reserved(List::from_vec(batch));
         Ok(())

@@ -1,7 +1,7 @@
 //! The steps of the lanes.
 ghost use Rattle.std.specs.Prelude.{◌≡◌};
 ghost use Rattle.world_theory.specs.Step.{receive, route, refuse, close};
-ghost use Rattle.span_world.specs.Answers.{StepsTo};
+ghost use Rattle.span_world.specs.Answers.{StepsTo, next_place};
 
 use crate::lane::dropped;
 use crate::step::Refusal;
@@ -25,18 +25,10 @@ impl World {
     pub(crate) fn route(&mut self, lane: usize, shard: usize) -> Result<(), Refusal>
         ensures { StepsTo self.old (route lane shard) result self.new }
     {
-        if lane >= self.lanes.len() || shard >= self.shards.len() {
-            return Err(Refusal::NotEnabled);
-        }
-        let Some(place) = self.lanes[lane].next_for(shard, self.shards.len()) else {
+        let Some(place) = self.next_for(lane, shard) else {
             return Err(Refusal::NotEnabled);
         };
-        if self.shards[shard]
-            .queue_from(&mut self.lanes[lane], place)
-            .is_err()
-        {
-            return Err(Refusal::NoMemory);
-        }
+        self.shards[shard].queue_from(&mut self.lanes[lane], place)?;
         Ok(())
     }
 
@@ -44,19 +36,24 @@ impl World {
     pub(crate) fn refuse(&mut self, lane: usize, shard: usize) -> Result<(), Refusal>
         ensures { StepsTo self.old (refuse lane shard) result self.new }
     {
-        if lane >= self.lanes.len() || shard >= self.shards.len() {
-            return Err(Refusal::NotEnabled);
-        }
-        let Some(place) = self.lanes[lane].next_for(shard, self.shards.len()) else {
+        let Some(place) = self.next_for(lane, shard) else {
             return Err(Refusal::NotEnabled);
         };
-        if self.counted.try_reserve(1).is_err() {
-            return Err(Refusal::NoMemory);
-        }
+        self.counted.try_reserve(1)?;
         let span = self.lanes[lane].take_out(place);
         self.counted
             .push_reserved(dropped(Reason::QueueFull, &span));
         Ok(())
+    }
+
+    /// The place, among the lane's unrouted spans, of the first for the shard.
+    fn next_for(&self, lane: usize, shard: usize) -> Option<usize>
+        ensures { result ≡ next_place self.now.world lane shard }
+    {
+        if lane >= self.lanes.len() || shard >= self.shards.len() {
+            return None;
+        }
+        self.lanes[lane].next_for(shard, self.shards.len())
     }
 
     /// The lane's connection of this ordinal receives the spans of a request.
@@ -74,12 +71,7 @@ impl World {
             return Err(Refusal::NotEnabled);
         }
         let conn = ConnKey { lane, ordinal };
-        if self.lanes[place]
-            .receive(self.alloc, conn, moment, records, &mut self.counted)
-            .is_err()
-        {
-            return Err(Refusal::NoMemory);
-        }
+        self.lanes[place].receive(self.alloc, conn, moment, records, &mut self.counted)?;
         Ok(())
     }
 }

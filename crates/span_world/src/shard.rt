@@ -1,5 +1,5 @@
 //! A shard of the world.
-ghost use Rattle.std.specs.Prelude.{◌≡◌, ◌++◌, ◌∷◌, [], Some, ◌+◌, ◌<◌, ◌≤◌, ◌==◌, ◌^◌, length, vec_capacity, drop, not, slice_index_or, IfOk, IfSome, OnOk, OnErr, is_some, reverse, IsTrue, true, false};
+ghost use Rattle.std.specs.Prelude.{◌≡◌, ◌++◌, ◌∷◌, [], Some, ◌+◌, ◌<◌, ◌≤◌, ◌==◌, ◌^◌, length, vec_capacity, drop, not, slice_index_or, IfOk, IfSome, OnOk, OnErr, is_some, reverse, IsTrue, true, false, if◌then◌else◌};
 ghost use Rattle.std.specs.List.{remove, list_any};
 ghost use Rattle.otlp_types.specs.declared.arrival.Arrival.{Arrival};
 ghost use Rattle.journal_theory.specs.Journal.{has_ended, answered};
@@ -8,7 +8,7 @@ ghost use Rattle.shard_journal.specs.Settings.{settings_of};
 ghost use Rattle.shard_journal.specs.Look.{look_of};
 ghost use Rattle.world_theory.specs.World.{new_shard};
 ghost use Rattle.world_theory.specs.Step.{is_empty};
-ghost use Rattle.span_world.specs.Answers.{may_take, entry_of_first, next_decision};
+ghost use Rattle.span_world.specs.Answers.{may_take, entry_of_first, next_decision, is_span, queue_after};
 
 use crate::lane::Lane;
 use otlp_types::{Arrival, Item, List, TryClone};
@@ -112,30 +112,8 @@ impl Shard {
         }))
     }
 
-    /// The entry goes to the journal: what that releases is to be shipped, and what it counts is counted. Where memory is
-    /// refused nothing changes.
-    pub fn keep_entry(
-        &mut self,
-        alloc: Global,
-        settings: &Settings,
-        entry: Entry,
-        look: &mut LookBack,
-        counted: &mut Vec<DroppedSpan>,
-    ) -> Result<(), AllocError>
-        ensures shard { OnOk result (self.new ≡ record self.old { journal = entry ∷ self.old.journal; dealt = 0; unshipped = self.old.unshipped ++ (effect_of_taking (settings_of settings.now) entry self.old.journal).released }) }
-        ensures counted { OnOk result (counted.new.items ≡ counted.old.items ++ (effect_of_taking (settings_of settings.now) entry self.old.journal).counted) }
-        ensures look { OnOk result (look.new ≡ look_of (settings_of settings.now) self.new.journal) }
-        ensures err { OnErr result ((self.new ≡ self.old) × (look.new ≡ look.old) × (counted.new.items ≡ counted.old.items)) }
-    {
-        let effect = effect_of_taking(alloc, settings, &self.journal, &entry)?;
-        make_room(&effect, &mut self.unshipped, counted)?;
-        *look = lengthen(alloc, settings, &mut self.journal, entry)?;
-        put(effect, &mut self.unshipped, counted);
-        self.dealt = 0;
-        Ok(())
-    }
-
-    /// The entry of the first queued span goes to the journal, and that span leaves the queue.
+    /// The entry goes to the journal, and its span leaves the queue: what that releases is to be shipped, and what it
+    /// counts is counted. Where memory is refused nothing changes.
     pub fn take(
         &mut self,
         alloc: Global,
@@ -144,13 +122,18 @@ impl Shard {
         look: &mut LookBack,
         counted: &mut Vec<DroppedSpan>,
     ) -> Result<(), AllocError>
-        ensures shard { OnOk result (self.new ≡ record { queue = drop 1 self.old.queue; journal = entry ∷ self.old.journal; dealt = 0; unshipped = self.old.unshipped ++ (effect_of_taking (settings_of settings.now) entry self.old.journal).released }) }
+        ensures shard { OnOk result (self.new ≡ record { queue = queue_after entry.item self.old.queue; journal = entry ∷ self.old.journal; dealt = 0; unshipped = self.old.unshipped ++ (effect_of_taking (settings_of settings.now) entry self.old.journal).released }) }
         ensures counted { OnOk result (counted.new.items ≡ counted.old.items ++ (effect_of_taking (settings_of settings.now) entry self.old.journal).counted) }
         ensures look { OnOk result (look.new ≡ look_of (settings_of settings.now) self.new.journal) }
         ensures err { OnErr result ((self.new ≡ self.old) × (look.new ≡ look.old) × (counted.new.items ≡ counted.old.items)) }
     {
-        self.keep_entry(alloc, settings, entry, look, counted)?;
-        let _ = self.queue.pop_front();
+        let queued = is_span(&entry.item);
+        let effect = effect_of_taking(alloc, settings, &self.journal, &entry)?;
+        make_room(&effect, &mut self.unshipped, counted)?;
+        *look = lengthen(alloc, settings, &mut self.journal, entry)?;
+        put(effect, &mut self.unshipped, counted);
+        leave(&mut self.queue, queued);
+        self.dealt = 0;
         Ok(())
     }
 
@@ -280,4 +263,23 @@ fn put(effect: Effect, released: &mut Vec<Arrival>, counted: &mut Vec<DroppedSpa
     let mut effect = effect;
     let _ = released.append(&mut effect.released);
     let _ = counted.append(&mut effect.counted);
+}
+
+/// Whether the item is a span.
+fn is_span(item: &Item) -> bool
+    ensures { result ≡ is_span item.now }
+{
+    match item {
+        Item::Span(_) => true,
+        Item::Tick(_) | Item::End(_) => false,
+    }
+}
+
+/// Where a span was taken, it leaves the queue, whose first it is.
+fn leave(queue: &mut VecDeque<Arrival>, taken: bool)
+    ensures { queue.new.items ≡ (if taken then drop 1 queue.old.items else queue.old.items) }
+{
+    if taken {
+        let _ = queue.pop_front();
+    }
 }

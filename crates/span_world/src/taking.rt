@@ -3,7 +3,7 @@ ghost use Rattle.std.specs.Prelude.{◌≡◌, ◌<◌, length, slice_get, Some,
 ghost use Rattle.world_theory.specs.World.{Shard, settings};
 ghost use Rattle.world_theory.specs.Step.{take as take_step, tick, end, decide, sender_is_done};
 ghost use Rattle.span_world.specs.Core.{config_of};
-ghost use Rattle.span_world.specs.Answers.{StepsTo, KeepsItem};
+ghost use Rattle.span_world.specs.Answers.{StepsTo, KeepsItem, KeepsEntry};
 
 use crate::step::Refusal;
 use crate::world::World;
@@ -20,25 +20,11 @@ impl World {
             return Err(Refusal::NotEnabled);
         }
         let look = &self.looks[shard];
-        let next = self.shards[shard].next_entry(self.alloc, &self.settings, look, refused, lost);
-        let entry = match next {
-            Err(_) => return Err(Refusal::NoMemory),
-            Ok(None) => return Err(Refusal::NotEnabled),
-            Ok(Some(entry)) => entry,
+        let next = self.shards[shard].next_entry(self.alloc, &self.settings, look, refused, lost)?;
+        let Some(entry) = next else {
+            return Err(Refusal::NotEnabled);
         };
-        if self.shards[shard]
-            .take(
-                self.alloc,
-                &self.settings,
-                entry,
-                &mut self.looks[shard],
-                &mut self.counted,
-            )
-            .is_err()
-        {
-            return Err(Refusal::NoMemory);
-        }
-        Ok(())
+        self.keep_entry(shard, entry)
     }
 
     /// The shard takes a tick, where nothing is due and the ticker's End was not taken.
@@ -82,18 +68,13 @@ impl World {
             return Err(Refusal::NotEnabled);
         }
         let answers = List::from_vec(answers);
-        if self.shards[shard]
-            .decide(
-                self.alloc,
-                &self.settings,
-                answers,
-                &mut self.looks[shard],
-                &mut self.counted,
-            )
-            .is_err()
-        {
-            return Err(Refusal::NoMemory);
-        }
+        self.shards[shard].decide(
+            self.alloc,
+            &self.settings,
+            answers,
+            &mut self.looks[shard],
+            &mut self.counted,
+        )?;
         Ok(())
     }
 
@@ -108,18 +89,21 @@ impl World {
             lost: false,
             answers: Vec::new(self.alloc),
         };
-        if self.shards[shard]
-            .keep_entry(
-                self.alloc,
-                &self.settings,
-                entry,
-                &mut self.looks[shard],
-                &mut self.counted,
-            )
-            .is_err()
-        {
-            return Err(Refusal::NoMemory);
-        }
+        self.keep_entry(shard, entry)
+    }
+
+    /// The entry goes to the shard's journal, and its span leaves the shard's queue.
+    fn keep_entry(&mut self, shard: usize, entry: Entry) -> Result<(), Refusal>
+        requires { shard < length self.old.world.shards }
+        ensures { KeepsEntry self.old shard entry result self.new }
+    {
+        self.shards[shard].take(
+            self.alloc,
+            &self.settings,
+            entry,
+            &mut self.looks[shard],
+            &mut self.counted,
+        )?;
         Ok(())
     }
 

@@ -1,6 +1,7 @@
 -- Worked runs of the core: where each step is enabled and what it counts, and one span from its receipt to the closed world.
 use Rattle.std.specs.Prelude.{◌≡◌, ℕ, true, false, List, [], ◌∷◌, ◌++◌, map, Some, None, option_map, refl}
 use Rattle.journal_theory.specs.Journal.{notes}
+use Rattle.otlp_types.specs.declared.arrival.Record.{Record}
 use Rattle.span_ids.specs.declared.ids.TraceId.{TraceId}
 use Rattle.span_ids.specs.declared.outcome.Reason.TheVariants.{InvalidId, QueueFull, NoMemory, ExporterDown, Evicted}
 use Rattle.span_ids.specs.Route.{shard_of}
@@ -99,40 +100,25 @@ no_such_shard = refl
 
 -- ---- taking, and its marks
 
--- a sampled episode in the buffer, then a late span of its trace in the queue
-abbrev late_queued : List Step
-late_queued = send (error 1) ++ take 0 false false ∷ tick 0 10 ∷ decide 0 [] ∷ send (plain 1)
+-- a sampled episode in the buffer of one, then this span in the queue
+abbrev sampled_then : Record → List Step
+sampled_then span = send (error 1) ++ take 0 false false ∷ tick 0 10 ∷ decide 0 [] ∷ send span
 
 -- no memory is taken for a late span
-pub late_refused : is_enabled_after of_one late_queued (take 0 true false) ≡ Some false
+pub late_span : map (is_enabled_after of_one (sampled_then (plain 1))) (take 0 true false ∷ take 0 false true ∷ take 0 false false ∷ []) ≡ Some false ∷ Some false ∷ Some true ∷ []
 unfolding notes
-late_refused = refl
+late_span = refl
 
-pub late_lost : is_enabled_after of_one late_queued (take 0 false true) ≡ Some false
+-- a span of another trace evicts the episode: its put may be lost, but not where the span is refused too
+pub evicting_span : map (is_enabled_after of_one (sampled_then (plain 2))) (take 0 false true ∷ take 0 true true ∷ []) ≡ Some true ∷ Some false ∷ []
 unfolding notes
-late_lost = refl
+evicting_span = refl
 
-pub late_taken : is_enabled_after of_one late_queued (take 0 false false) ≡ Some true
-unfolding notes
-late_taken = refl
-
--- a sampled episode in the buffer of one, then a span of another trace in the queue
-abbrev evicting : List Step
-evicting = send (error 1) ++ take 0 false false ∷ tick 0 10 ∷ decide 0 [] ∷ send (plain 2)
-
-pub lost_put : is_enabled_after of_one evicting (take 0 false true) ≡ Some true
-unfolding notes
-lost_put = refl
-
-pub lost_with_cache_off : is_enabled_after (configured errors (Some 1) 0 1) evicting (take 0 false true) ≡ Some false
+pub lost_with_cache_off : is_enabled_after (configured errors (Some 1) 0 1) (sampled_then (plain 2)) (take 0 false true) ≡ Some false
 unfolding notes
 lost_with_cache_off = refl
 
-pub both_marks : is_enabled_after of_one evicting (take 0 true true) ≡ Some false
-unfolding notes
-both_marks = refl
-
-pub lost_with_room : is_enabled_after (configured errors (Some 2) 1 1) evicting (take 0 false true) ≡ Some false
+pub lost_with_room : is_enabled_after (configured errors (Some 2) 1 1) (sampled_then (plain 2)) (take 0 false true) ≡ Some false
 unfolding notes
 lost_with_room = refl
 

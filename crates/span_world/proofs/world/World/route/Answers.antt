@@ -1,48 +1,48 @@
-use Rattle.std.proofs.Common.{◌≡◌, ◌+◌, length, slice_set, refl, sym, subst, arith, ◌∙◌}
+use Rattle.std.proofs.Common.{◌≡◌, ◌+◌, Some, length, slice_set, refl, sym, subst, ◌∙◌}
 use Rattle.std.specs.List.{position}
 use Rattle.world_theory.specs.World.{Lane, goes_to}
 use Rattle.span_world.specs.Core.{config_of}
 use Rattle.span_world.specs.contracts.world.World.{the_view}
-use Rattle.world_theory.proofs.Routing.{read_is, some_read, reads_same, put_back, on_ok, on_err, no_route, can_route, routes}
+use Rattle.world_theory.proofs.Routing.{read_is, reads_same, put_back, can_route, routes}
 use Rattle.std.proofs.lemmas.List.{length-set}
 use Rattle.shard_journal.specs.Settings.{settings_of}
+use Rattle.world_theory.specs.Step.{route}
+use Rattle.span_world.proofs.Items.{refused_step}
 use Rattle.span_world.proofs.Looking.{looks_stay}
+use Rattle.span_world.proofs.Routes.{placed, none_placed}
 use Rattle.span_world.proofs.world.World.route.Goals as goal
 
 pub returns-in_default : goal.returns-in_default
-returns-in_default c =
-    let g = read_is c.self.inside.lanes.items c.args.lane c.index.result.now (omega arith) c.index.ensures in
-    let h = some_read c.self.inside.shards.items c.args.shard (omega arith) in
-    let n = c.len-2.ensures ∙ c.self.inside.shards.ok.0 in
-    (refl, rw (← c.self.view_is) (no_route (config_of c.args.self.now.config) (the_view c.self.inside).world c.args.lane c.args.shard c.index.result.now h.0 g h.1 c.len-2.result n c.next_for.result c.next_for.ensures c.in_default.is))
+returns-in_default c = (refl, (none_placed c.args.self.now.world c.args.lane c.args.shard (config_of c.args.self.now.config) (sym c.next_for.ensures ∙ c.in_default.is)).0)
 
-pub returns-then-is_err : goal.returns-then-is_err
-returns-then-is_err c =
-    let g = read_is c.self.inside.lanes.items c.args.lane c.index.result.now (omega arith) c.index.ensures in
-    let h = some_read c.self.inside.shards.items c.args.shard (omega arith) in
-    let n = c.len-2.ensures ∙ c.self.inside.shards.ok.0 in
-    let m = read_is c.self.inside.lanes.items c.args.lane c.index_mut-2.result.now (omega arith) c.index_mut-2.ensures.value in
-    let k = read_is c.self.inside.shards.items c.args.shard c.index_mut.result.now (omega arith) c.index_mut.ensures.value in
-    let back = on_err c.queue_from.result (sym c.is_err.ensures.value ∙ c.if-is_err.true) c.queue_from.ensures.err in
-    (rw (← c.self.view_is, back.0, back.1, put_back c.self.inside.lanes.items c.args.lane c.index_mut-2.result.now m, put_back c.self.inside.shards.items c.args.shard c.index_mut.result.now k) refl, rw (← c.self.view_is) (can_route (config_of c.args.self.now.config) (the_view c.self.inside).world c.args.lane c.args.shard c.index.result.now h.0 g h.1 c.len-2.result n c.next_for.result c.next_for.ensures c.in-Some.place c.in-Some.is))
+pub returns-in_err-queue_from : goal.returns-in_err-queue_from
+returns-in_err-queue_from c =
+    let p = placed (the_view c.self.inside) c.args.self.now c.self.view_is c.args.lane c.args.shard c.in-Some.place (sym c.next_for.ensures ∙ c.in-Some.is) in
+    let n = length c.self.inside.shards.items in
+    let m = read_is c.self.inside.lanes.items c.args.lane c.index_mut-2.result.now p.has_lane c.index_mut-2.ensures.value in
+    let k = read_is c.self.inside.shards.items c.args.shard c.index_mut.result.now p.has_shard c.index_mut.ensures.value in
+    let back = c.in_err-queue_from.ensures.err in
+    refused_step c.args.self.now _ (route c.args.lane c.args.shard) c.from_residual.result c.from_residual.ensures
+    (rw (← c.self.view_is, back.0, back.1, put_back c.self.inside.lanes.items c.args.lane c.index_mut-2.result.now m, put_back c.self.inside.shards.items c.args.shard c.index_mut.result.now k) refl)
+    (rw (← c.self.view_is) (can_route (config_of (the_view c.self.inside).config) (the_view c.self.inside).world c.args.lane c.args.shard p.from p.to p.lane_is p.shard_is n refl (position (goes_to n c.args.shard) p.from.unrouted) refl c.in-Some.place p.place))
 
 pub invariant_of-self-2 : goal.invariant_of-self-2
 invariant_of-self-2 c =
-    let k = read_is c.self.inside.shards.items c.args.shard c.index_mut.result.now (omega arith) c.index_mut.ensures.value in
+    let p = placed (the_view c.self.inside) c.args.self.now c.self.view_is c.args.lane c.args.shard c.in-Some.place (sym c.next_for.ensures ∙ c.in-Some.is) in
+    let k = read_is c.self.inside.shards.items c.args.shard c.index_mut.result.now p.has_shard c.index_mut.ensures.value in
     let lanes : c.self.inside.settings.senders ≡ length (slice_set c.self.inside.lanes.items c.args.lane c.queue_from.new.lane) + 1 = rw (length-set c.self.inside.lanes.items c.args.lane c.queue_from.new.lane) c.self.invariant.0 in
     (lanes, looks_stay (settings_of c.self.inside.settings) c.self.inside.shards.items c.self.inside.looks.items c.args.shard c.index_mut.result.now c.queue_from.new.self c.self.invariant.1 k c.queue_from.ensures.journal)
 
 pub returns : goal.returns
 returns c =
-    let g = read_is c.self.inside.lanes.items c.args.lane c.index.result.now (omega arith) c.index.ensures in
-    let h = some_read c.self.inside.shards.items c.args.shard (omega arith) in
-    let n = c.len-2.ensures ∙ c.self.inside.shards.ok.0 in
-    let m = read_is c.self.inside.lanes.items c.args.lane c.index_mut-2.result.now (omega arith) c.index_mut-2.ensures.value in
-    let k = read_is c.self.inside.shards.items c.args.shard c.index_mut.result.now (omega arith) c.index_mut.ensures.value in
-    let is = subst (λ (x : Lane). c.next_for.result ≡ position (goes_to c.len-2.result c.args.shard) x.unrouted) (reads_same c.self.inside.lanes.items c.args.lane c.index.result.now c.index_mut-2.result.now g m) c.next_for.ensures in
-    let done = sym c.is_err.ensures.value ∙ c.if-is_err.false in
+    let p = placed (the_view c.self.inside) c.args.self.now c.self.view_is c.args.lane c.args.shard c.in-Some.place (sym c.next_for.ensures ∙ c.in-Some.is) in
+    let n = length c.self.inside.shards.items in
+    let l = c.index_mut-2.result.now in
+    let m = read_is c.self.inside.lanes.items c.args.lane l p.has_lane c.index_mut-2.ensures.value in
+    let k = read_is c.self.inside.shards.items c.args.shard c.index_mut.result.now p.has_shard c.index_mut.ensures.value in
+    let is = subst (λ (x : Lane). position (goes_to n c.args.shard) x.unrouted ≡ Some c.in-Some.place) (reads_same c.self.inside.lanes.items c.args.lane p.from l p.lane_is m) p.place in
     rw (← c.self.view_is) (
       refl,
-      routes (config_of (the_view c.self.inside).config) (the_view c.self.inside).world c.args.lane c.args.shard c.index_mut-2.result.now c.index_mut.result.now m k c.len-2.result n c.next_for.result is
-          c.in-Some.place c.queue_from.new.lane c.queue_from.new.self c.in-Some.is (on_ok c.queue_from.result done c.queue_from.ensures.lane) (on_ok c.queue_from.result done c.queue_from.ensures.queue),
+      routes (config_of (the_view c.self.inside).config) (the_view c.self.inside).world c.args.lane c.args.shard l c.index_mut.result.now m k n refl (position (goes_to n c.args.shard) l.unrouted) refl
+          c.in-Some.place c.queue_from.new.lane c.queue_from.new.self is c.in_ok-queue_from.ensures.lane c.in_ok-queue_from.ensures.queue,
     )
