@@ -1,4 +1,5 @@
 -- Texts that are handed to a sink, one after the other, and what they are for some outcomes.
+-- For the contract of `say_report`.
 use Rattle.std.proofs.Common.{◌≡◌, ◌<◌, ℕ, Bool, true, false, List, [], ◌++◌, length, ◌∷◌, refl, sym, ap, subst, ◌∙◌, append_assoc, append-nil, arith, replicate}
 use Rattle.std.specs.Prelude.{suc, ◌+◌, map, take, get_or, slice_index, codes, decimal, Option}
 use Rattle.std.specs.List.{concat}

@@ -1,4 +1,5 @@
 -- The entries of the kit's cache as a list of traces.
+-- For the contracts of `put` and `renew`.
 use Rattle.std.proofs.Common.{◌≡◌, ℕ, zero, suc, ◌-◌, Bool, true, false, cond, ◌||◌, List, [], ◌∷◌, map, take, Some, None, refl, sym, ap}
 use Rattle.std.specs.Option.{is_some}
 use Rattle.std.specs.Map.{lookup, lookup_entry, remove_entry}

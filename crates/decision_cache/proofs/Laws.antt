@@ -1,4 +1,5 @@
 -- A cache that holds the last touched traces answers what is remembered, and its calls keep it so.
+-- For the contracts of `ask` and `remember`.
 use Rattle.std.proofs.Common.{◌≡◌, ℕ, zero, suc, ◌+◌, nat_lt, Bool, true, false, not, ◌||◌, cond, List, [], ◌∷◌, ◌++◌, map, length, take, Some, refl, sym, ap, subst, ◌∙◌, arith}
 use Rattle.std.specs.List.{filter, find, prefix_len}
 use Rattle.std.proofs.lemmas.List.Elements.{filter-append}

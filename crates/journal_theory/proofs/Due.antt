@@ -1,4 +1,5 @@
 -- What is due in every journal, and how it is decided in turn.
+-- For the contracts of `decides_standing` and `keeps_standing`.
 use Rattle.std.proofs.Common.{◌≡◌, ℕ, zero, suc, ◌+◌, ◌<◌, ◌≤◌, ◌==◌, nat_lt, nat_le, Bool, true, false, ◌&&◌, ◌||◌, cond, List, [], ◌∷◌, ◌++◌, map, reverse, length, take, drop, Option, Some, None, option_to_list, refl, sym, ap, subst, ◌∙◌, arith, append_assoc, add-one}
 use Rattle.std.specs.List.{list_any, list_all, filter, find, slice_set}
 use Rattle.std.specs.Option.{option_map, is_none}

@@ -1,4 +1,5 @@
 -- The first that passes, and fronts of lists.
+-- For the contracts of `decides_standing`, `due_by_first_root`, `found_as_held`, `keeps_standing` and others.
 use Rattle.std.proofs.Common.{◌≡◌, ℕ, zero, suc, Bool, true, false, cond, ◌||◌, List, [], ◌∷◌, ◌++◌, take, find, slice_get, Some, None, option_to_list, refl, ap}
 use Rattle.std.specs.List.{list_any}
 use Rattle.journal_theory.proofs.ListFacts.{Each}

@@ -1,4 +1,5 @@
 -- Lists whose members are all so, or all different.
+-- For the contracts of `decides_standing` and `keeps_standing`.
 use Rattle.std.proofs.Common.{◌≡◌, ℕ, zero, suc, ◌+◌, ◌<◌, ◌≤◌, nat_lt, Bool, true, false, not, ◌&&◌, ◌||◌, cond, List, [], ◌∷◌, ◌++◌, reverse, length, drop, Option, Some, None, refl, sym, ap, subst, ◌∙◌, arith, append-nil}
 use Rattle.journal_theory.proofs.ListFacts.{Each, Pairs as Apart}
 use Rattle.std.specs.List.{list_any, filter, find, position, position_or_len, slice_get, slice_set}

@@ -1,4 +1,5 @@
 -- What holds of the notes of every journal.
+-- For the contracts of `decides_standing`, `due_by_first_root`, `found_as_held`, `keeps_standing` and others.
 use Rattle.std.proofs.lemmas.Bool.{lt-leb}
 use Rattle.std.specs.Prelude.{nat_le, if◌then◌else◌}
 use Rattle.std.proofs.Common.{le-leb, ◌≡◌, ◌≢◌, ℕ, ◌<◌, ◌≤◌, Bool, true, false, cond, not, ◌&&◌, ◌==◌, List, [], ◌∷◌, ◌++◌, length, drop, find, Option, Some, None, is_none, refl, ap, sym, ◌∙◌, arith, ne_eqb, eq-eqb}

@@ -1,4 +1,5 @@
 -- Worked rows of a shard, by computation: what each journal releases, counts and leaves.
+-- No contract rests on it: it shows the definitions on worked cases.
 use Rattle.std.specs.Prelude.{ℕ, Bool, true, false, pos, List, [], ◌∷◌, ◌++◌, map, reverse, length, take, Option, Some, None, ◌≡◌, refl}
 use Rattle.otlp_types.proofs.Samples.{plain_record}
 use Rattle.policy_tree.specs.Tree.{Policies, no_more, one_more, leaf, and_policy, rate_limiting, always_sample, status_code, latency}

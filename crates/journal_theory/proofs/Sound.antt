@@ -1,4 +1,5 @@
 -- The notes of every journal are sound.
+-- For the contracts of `decides_standing`, `found_as_held` and `keeps_standing`.
 use Rattle.std.proofs.Common.{◌≡◌, ℕ, zero, suc, ◌<◌, Bool, true, false, cond, ◌==◌, List, [], ◌∷◌, ◌++◌, length, filter, reverse, take, find, slice_get, Option, Some, None, is_none, option_map, option_to_list, refl, ap, sym, ◌∙◌, arith}
 use Rattle.std.proofs.lemmas.List.{append-nil}
 use Rattle.std.proofs.Math.Numerals.{sub-one}

@@ -1,4 +1,5 @@
 -- What pushes to queues in one thread do, by induction over the arrivals.
+-- For the contract of `list_pushes_are_determined`.
 use Rattle.std.proofs.Common.{◌≡◌, ℕ, ◌+◌, nat_lt, cond, List, [], ◌∷◌, length, Option, Some, None, sym, ap, subst, ◌∙◌, arith, inl, inr}
 use Rattle.std.specs.Prelude.{slice_get, slice_set, unwrap_or}
 use Rattle.std.proofs.lemmas.Bool.{lt-ltb, cond-true}

@@ -1,4 +1,5 @@
 -- Worked cases of the route, computed.
+-- No contract rests on it: it shows the definitions on worked cases.
 use Rattle.std.specs.Prelude.{◌≡◌, ℕ, List, [], ◌∷◌, ◌++◌, refl}
 use Rattle.span_ids.specs.Route.{shard_of}
 

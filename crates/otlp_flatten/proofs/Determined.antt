@@ -1,4 +1,5 @@
 -- Records determine their groups.
+-- For the contract of `grouping_is_unique`.
 use Rattle.std.proofs.Common.{◌≡◌, ℕ, List, [], ◌∷◌, ◌++◌, map, refl, sym, ap, ◌∙◌}
 use Rattle.std.specs.List.{AllByRecursion, flat_map}
 use Rattle.otlp_types.specs.declared.span.Span.{Span}

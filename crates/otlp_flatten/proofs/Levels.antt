@@ -1,4 +1,5 @@
 -- The two levels of groups: by scope inside a resource, and by resource.
+-- For the contracts of `group`, `grouping_is_unique`, `resource_group` and `scope_group`.
 use Rattle.std.proofs.Common.{◌≡◌, ◌≢◌, ℕ, List, [], ◌∷◌, ◌++◌, map, refl, sym, ap, ◌∙◌}
 use Rattle.std.specs.List.{AllByRecursion, flat_map}
 use Rattle.otlp_types.specs.declared.span.Span.{Span}

@@ -1,4 +1,5 @@
 -- One more group, and the last one, at each level.
+-- For the contracts of `group`, `resource_group` and `scope_group`.
 use Rattle.std.proofs.lemmas.Bool.Decides.{nat_tests}
 use Rattle.std.proofs.Common.{◌≡◌, ◌≢◌, ℕ, zero, suc, true, ◌==◌, get_or, ◌<◌, ◌≤◌, ◌+◌, List, [], ◌∷◌, ◌++◌, map, length, take, drop, Some, option_map, refl, sym, ap, subst, ◌∙◌, arith, set, add-one}
 use Rattle.std.specs.List.{AllByRecursion, flat_map, slice_get}

@@ -1,4 +1,5 @@
--- Tokens that are written one after the other. For the clauses `fields` and `field` of what is written.
+-- Tokens that are written one after the other.
+-- For the clauses `fields` and `field` of what is written.
 use Rattle.std.proofs.Common.{◌≡◌, ℕ, ◌+◌, ◌<◌, ◌≤◌, ◌==◌, true, false, get_or, take, length, List, [], ◌∷◌, ◌++◌, map, codes, Option, Some, refl, sym, ap, subst, ◌∙◌, append_assoc, append-nil}
 use Rattle.std.proofs.lemmas.List.{take_all, take_more, map-append}
 use Rattle.json.specs.Token.{Token, key, begin_object, end_object, begin_array, end_array}

@@ -1,4 +1,5 @@
--- A canonical value's outline reads as the value. For the clause `back` of `encode`.
+-- A canonical value's outline reads as the value.
+-- For the clause `back` of `encode`.
 use Rattle.std.proofs.Common.{◌≡◌, ℕ, List, Some, refl, sym, ap}
 use Rattle.std.specs.Cmp.Lexicographic.{slice_cmp}
 use Rattle.std.specs.Ordering.{nat_cmp}

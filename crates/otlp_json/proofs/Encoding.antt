@@ -1,4 +1,5 @@
--- The text of what was written, and that it reads again. For the clauses `text` and `back` of `encode`.
+-- The text of what was written, and that it reads again.
+-- For the clauses `text` and `back` of `encode`.
 use Rattle.std.proofs.Common.{◌≡◌, ℕ, ◌≤◌, List, [], ◌++◌, Some, sym, ap, subst, ◌∙◌, append-nil, arith}
 use Rattle.std.specs.Str.{IsUtf8}
 use Rattle.json.specs.Lex.{tokens}

@@ -1,4 +1,5 @@
 -- A message that is written reads as itself.
+-- For the contract of `write`.
 use Rattle.std.proofs.Common.{◌≡◌, ℕ, ◌+◌, ◌-◌, ◌<◌, ◌≤◌, ◌^◌, List, [], ◌∷◌, map, codes, Bool, true, false, Option, Some, None, option_map, ℤ, pos, negsuc, refl, ap, ◌∙◌, arith}
 use Rattle.std.specs.Prelude.{FitsSigned, min, ◌==◌, ◌||◌, cond, length}
 use Rattle.std.specs.Int.{w32}

@@ -1,4 +1,5 @@
 -- Reading each item, one after another.
+-- For the contracts of `each` and `value`.
 use Rattle.std.proofs.Common.{◌≡◌, ℕ, zero, suc, ◌+◌, ◌<◌, ◌≤◌, List, [], ◌∷◌, ◌++◌, length, drop, get_or, Option, Some, None, option_map, option_and_then, refl, sym, ap, ◌∙◌, append_assoc, append-nil, arith, add-one}
 use Rattle.std.specs.Prelude.{cond, is_none}
 use Rattle.std.proofs.lemmas.List.{drop_all}

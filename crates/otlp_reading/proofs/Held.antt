@@ -1,4 +1,5 @@
 -- The value keys among the members of an object, one member after another.
+-- For the contract of `only_value_member`.
 use Rattle.std.proofs.Common.{◌≡◌, ℕ, List, [], ◌∷◌, ◌++◌, Option, Some, None, option_map, true, false, is_some, string_bytes, refl, sym, ap, ◌∙◌, append_assoc, append-nil}
 use Rattle.std.specs.Option.{option_to_list}
 use Rattle.serde_json.specs.Data.{Data}

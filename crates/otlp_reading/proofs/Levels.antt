@@ -1,4 +1,5 @@
 -- Values, one level at a time.
+-- For the contract of `value`.
 use Rattle.std.proofs.Common.{◌≡◌, ℕ, zero, suc, ◌-◌, None, refl, sub-one}
 use Rattle.serde_json.specs.Data.{Data}
 use Rattle.otlp_reading.specs.Kinds.{message}

@@ -1,4 +1,5 @@
 -- Decimal text, as std reads it.
+-- For the contracts of `i64_text` and `u64_text`.
 use Rattle.std.proofs.Common.{◌≡◌, ◌≢◌, ℕ, zero, suc, ◌<◌, ◌≤◌, ◌^◌, List, length, drop, Bool, true, false, cond, ◌&&◌, Some, None, option_map, Result, Ok, Err, ℤ, pos, negsuc, neg_ℤ, refl, sym, inl, inr, ◌∙◌, arith, option_and_then}
 use Rattle.std.specs.Prelude.{nat_lt, slice_index}
 use Rattle.std.specs.Int.{w64}

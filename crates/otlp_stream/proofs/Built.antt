@@ -1,4 +1,5 @@
 -- What is built of the fields of a span.
+-- For the contract of `build`.
 use Rattle.std.proofs.Common.{◌≡◌, ℕ, ◌+◌, ◌-◌, ◌^◌, min, List, Option, Some, None, option_map, option_and_then, codes, refl, sym, ap, ◌∙◌}
 use Rattle.serde_json.specs.Data.{Members}
 use Rattle.span_ids.specs.Id.{id_of}

@@ -1,4 +1,5 @@
 -- The fields of an object, as one more member goes in.
+-- For the contracts of `field` and `members`.
 use Rattle.std.proofs.Common.{◌≡◌, ℕ, List, Bool, true, false, cond, Option, Some, Result, Ok, OnOk, IfOk, refl, sym, ap, subst, ◌∙◌, bytes_eq}
 use Rattle.std.proofs.lemmas.Slice.Eq.{bytes_eq-Decides}
 use Rattle.std.proofs.lemmas.Result.{on_ok_weaker, IfOk-weaker}

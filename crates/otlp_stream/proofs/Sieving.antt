@@ -1,4 +1,5 @@
 -- Values of attributes among the tokens, and lists of which some items are discarded.
+-- For the contract of `value`.
 use Rattle.std.proofs.Common.{◌≡◌, ℕ, zero, suc, ◌+◌, ◌-◌, List, [], ◌∷◌, ◌++◌, codes, Option, Some, None, option_map, option_and_then, refl, sym, ap, ◌∙◌, arith, subst}
 use Rattle.std.specs.Prelude.{if◌then◌else◌, ◌==◌}
 use Rattle.json.specs.Token.{Token}

@@ -1,4 +1,5 @@
 -- Objects and lists among the tokens, one member or item after another.
+-- For the contracts of `list_of`, `members`, `message`, `skip` and `whole`.
 use Rattle.std.proofs.Common.{◌≡◌, ℕ, ◌-◌, ◌<◌, List, [], ◌∷◌, ◌++◌, length, false, Option, Some, None, option_map, option_and_then, refl, sym, ap, subst, ◌∙◌, arith, bytes_eq, true≢false}
 use Rattle.std.proofs.lemmas.Slice.Eq.{bytes_eq-Decides}
 use Rattle.json.specs.Token.{Token}

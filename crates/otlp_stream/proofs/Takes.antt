@@ -1,4 +1,5 @@
 -- Single values among the tokens.
+-- For the contracts of `enumeration`, `held_bool`, `held_double`, `held_i64` and others.
 use Rattle.std.proofs.Common.{◌≡◌, ℕ, ◌<◌, List, ◌∷◌, drop, length, Bool, Option, Some, None, option_and_then, refl, sym, ap, ◌∙◌, arith}
 use Rattle.json.specs.Token.{Token}
 use Rattle.json.specs.Json.{value}

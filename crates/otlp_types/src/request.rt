@@ -90,31 +90,3 @@ impl TryClone for Scope {
         })
     }
 }
-
-impl TryClone for ScopeSpans {
-    fn try_clone(&self, alloc: Global) -> Result<ScopeSpans, AllocError> {
-        Ok(ScopeSpans {
-            scope: self.scope.try_clone(alloc)?,
-            spans: self.spans.try_clone(alloc)?,
-            schema_url: self.schema_url.try_clone(alloc)?,
-        })
-    }
-}
-
-impl TryClone for ResourceSpans {
-    fn try_clone(&self, alloc: Global) -> Result<ResourceSpans, AllocError> {
-        Ok(ResourceSpans {
-            resource: self.resource.try_clone(alloc)?,
-            scope_spans: self.scope_spans.try_clone(alloc)?,
-            schema_url: self.schema_url.try_clone(alloc)?,
-        })
-    }
-}
-
-impl TryClone for Request {
-    fn try_clone(&self, alloc: Global) -> Result<Request, AllocError> {
-        Ok(Request {
-            resource_spans: self.resource_spans.try_clone(alloc)?,
-        })
-    }
-}

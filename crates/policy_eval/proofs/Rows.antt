@@ -1,4 +1,5 @@
 -- Worked rows of the policies' meaning, by computation.
+-- No contract rests on it: it shows the definitions on worked cases.
 use Rattle.std.specs.Prelude.{ℕ, Bool, true, false, pos, List, [], ◌∷◌, ◌++◌, map, None, ◌≡◌, refl}
 use Rattle.otlp_types.proofs.Samples.{plain_record, plain_span}
 use Rattle.policy_tree.specs.Tree.{Policy, Policies, no_more, one_more, Leaf, leaf, and_policy, rate_limiting, always_sample, latency, status_code, attribute, span_count, text_among, whole_within, truth_of}

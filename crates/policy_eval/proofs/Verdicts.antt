@@ -1,4 +1,5 @@
 -- The verdict by which answers the top policies gave.
+-- For the contract of `earliest_start`.
 use Rattle.std.proofs.Common.{◌≡◌, ℕ, suc, ◌+◌, ◌<◌, min, max, Bool, true, false, ◌||◌, List, [], ◌∷◌, length, drop, get_or, refl, sym, ap, ◌∙◌, arith, drop-cons, add-one}
 use Rattle.policy_eval.specs.Policies as spec
 use Rattle.policy_eval.specs.Meaning.{answer_of, seen_with, verdict_of_seen}

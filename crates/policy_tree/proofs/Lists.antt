@@ -1,4 +1,5 @@
 -- Lists of policies, with and without their names.
+-- For the contract of `has_empty_list`.
 use Rattle.std.proofs.Common.{◌≡◌, suc, false, ◌==◌, List, [], ◌∷◌, length, refl, sym, arith}
 use Rattle.std.proofs.lemmas.Bool.Decides.{nat_tests}
 use Rattle.policy_tree.specs.Tree.{is_empty}

@@ -1,4 +1,5 @@
 -- Worked rows of the faults of a policy's settings, by computation.
+-- No contract rests on it: it shows the definitions on worked cases.
 use Rattle.std.specs.Prelude.{true, false, pos, [], ◌∷◌, map, ◌≡◌, refl}
 use Rattle.policy_tree.specs.Tree.{always_sample, latency, status_code, attribute, span_count, text_among, whole_within, truth_of}
 use Rattle.policy_tree.specs.Faults.{has_crossed_bounds, has_no_values}

@@ -1,4 +1,5 @@
 -- What the code of an asking does to the list of counts, beside the definitions.
+-- For the contract of `ask_in`.
 use Rattle.std.proofs.Common.{◌≡◌, ℕ, zero, suc, ◌<◌, ◌==◌, true, List, [], ◌∷◌, ◌++◌, length, take, drop, get_or, slice_set, refl, sym, ap, ◌∙◌, arith, drop-cons}
 use Rattle.std.proofs.lemmas.Bool.Decides.{nat_tests}
 use Rattle.rate_budget.specs.declared.count.LimiterCount.{LimiterCount}

@@ -1,4 +1,5 @@
 -- Worked rows of a limiter's grants, by computation.
+-- No contract rests on it: it shows the definitions on worked cases.
 use Rattle.std.specs.Prelude.{ℕ, Bool, true, false, List, [], ◌∷◌, ◌≡◌, refl}
 use Rattle.policy_tree.specs.Tree.{Policies, no_more, one_more, leaf, and_policy, rate_limiting, span_count, limiters}
 use Rattle.rate_budget.specs.Grant.{Asking, grants, granted_after}

@@ -1,4 +1,5 @@
 -- Two calm runs of one script agree, by induction over its instructions.
+-- For the contracts of `calm_runs_agree` and `calm_scripts_agree`.
 use Rattle.std.proofs.Common.{◌≡◌, ℕ, true, false, List, [], ◌∷◌, ◌++◌, length, map, Option, Some, None, refl, ap, sym, subst, ◌∙◌, inl, inr}
 use Rattle.std.specs.List.{AllByRecursion}
 use Rattle.std.specs.Io.KnownBytes.{Appends}

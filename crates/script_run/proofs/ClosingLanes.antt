@@ -1,4 +1,5 @@
 -- The lanes of the core end, one after the other.
+-- For the contract of `scripts_are_runs_of_the_core`.
 use Rattle.std.proofs.Common.{◌≡◌, ℕ, zero, suc, ◌+◌, true, false, cond, List, [], ◌∷◌, ◌++◌, length, slice_get, Some, None, option_and_then, refl, ap, sym, ◌∙◌, arith, append_assoc, length-append}
 use Rattle.world_theory.specs.World.{Config, Lane, World as Core}
 use Rattle.world_theory.specs.Step.{close, with_lane}

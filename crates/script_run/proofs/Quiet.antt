@@ -1,4 +1,5 @@
 -- What a script's instructions do once the queues are filled: the core takes, decides, ships and sends until all is quiet.
+-- For the contract of `scripts_are_runs_of_the_core`.
 use Rattle.std.proofs.Common.{◌≡◌, ℕ, ◌+◌, ◌<◌, Bool, true, false, cond, List, [], ◌∷◌, ◌++◌, map, length, Some, None, option_and_then, inl, inr, refl, ap, sym, subst, ◌∙◌, arith, append-nil}
 use Rattle.std.specs.List.{AllByRecursion}
 use Rattle.std.proofs.lemmas.List.Sums.{sum_by_push}

@@ -1,4 +1,5 @@
 -- Runs of the core's steps, one after the other.
+-- For the contract of `scripts_are_runs_of_the_core`.
 use Rattle.std.proofs.Common.{◌≡◌, List, [], ◌∷◌, ◌++◌, Some, option_and_then, ap, ◌∙◌}
 use Rattle.world_theory.proofs.Running.{run_append}
 use Rattle.world_theory.specs.World.{Config, World as Core}

@@ -1,4 +1,5 @@
 -- A request's spans reach their queues by steps of the core.
+-- For the contract of `scripts_are_runs_of_the_core`.
 use Rattle.std.proofs.Common.{◌≡◌, ℕ, ◌+◌, ◌<◌, false, cond, not, is_some, is_none, List, [], ◌∷◌, ◌++◌, length, filter, count_by, slice_get, slice_set, Option, Some, None, refl, ap, sym, ◌∙◌, arith}
 use Rattle.std.proofs.lemmas.List.{length-append, append-nil, set-set}
 use Rattle.std.proofs.lemmas.List.Elements.{filter-append}

@@ -1,4 +1,5 @@
 -- The pushes of a request's spans are steps of the core, by induction over the spans.
+-- For the contract of `scripts_are_runs_of_the_core`.
 use Rattle.std.proofs.Common.{◌≡◌, ℕ, ◌+◌, Bool, true, cond, is_some, List, [], ◌∷◌, ◌++◌, length, map, filter, slice_get, slice_set, Option, Some, None, option_map, refl, ap, sym, subst, ◌∙◌, arith, inl, inr, eq-eqb, append_assoc}
 use Rattle.std.proofs.lemmas.List.{append-nil, map-append, length-map, map-set, set-set}
 use Rattle.journal_theory.proofs.Counted.{under_append, under_counts}

@@ -1,4 +1,5 @@
 -- Each script that is played is a run of the core.
+-- For the contract of `scripts_are_runs_of_the_core`.
 use Rattle.script_run.specs.Laws.{EachIsARunOfCore}
 use Rattle.script_run.proofs.Quiet.{writes_reply, takes_queued, takes_nothing, takes_tick, closes}
 use Rattle.script_run.proofs.Whole.{each_is_a_run}

@@ -1,4 +1,5 @@
 -- How the core stands between two lines of a script.
+-- For the contract of `scripts_are_runs_of_the_core`.
 use Rattle.std.specs.Prelude.{◌≡◌, ℕ, zero, suc, ◌+◌, true, false, List, [], ◌∷◌, length, map, filter, Some}
 use Rattle.std.specs.List.{AllByRecursion}
 use Rattle.otlp_types.specs.declared.arrival.Arrival.{Arrival}

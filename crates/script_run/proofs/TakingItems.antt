@@ -1,4 +1,5 @@
 -- Which items the shards may take, and that only Ends end a sender.
+-- For the contract of `scripts_are_runs_of_the_core`.
 use Rattle.std.proofs.Common.{◌≡◌, ℕ, Bool, true, false, ◌||◌, List, [], ◌∷◌, map, length, refl, subst, sym}
 use Rattle.std.specs.List.{AllByRecursion}
 use Rattle.otlp_types.specs.declared.arrival.Arrival.{Arrival}

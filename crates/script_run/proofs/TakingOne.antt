@@ -1,4 +1,5 @@
 -- One shard of the core takes an item, decides all that is due and ships all that it released.
+-- For the contract of `scripts_are_runs_of_the_core`.
 use Rattle.std.proofs.Common.{◌≡◌, ℕ, ◌+◌, Bool, true, false, cond, not, ◌&&◌, nat_lt, List, [], ◌∷◌, ◌++◌, length, slice_get, slice_set, Option, Some, None, option_map, option_and_then, refl, ap, sym, ◌∙◌, arith, append_assoc, append-nil}
 use Rattle.std.proofs.lemmas.Bool.Decides.{nat_tests}
 use Rattle.otlp_types.specs.declared.arrival.Arrival.{Arrival}

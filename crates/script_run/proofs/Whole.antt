@@ -1,4 +1,5 @@
 -- What makes a played script a run of the core, from how the core stands.
+-- For the contract of `scripts_are_runs_of_the_core`.
 use Rattle.std.proofs.Common.{◌≡◌, ℕ, zero, suc, ◌+◌, ◌<◌, ◌≤◌, Bool, true, false, cond, not, ◌&&◌, ◌==◌, List, [], ◌∷◌, length, map, filter, flat_map, replicate, slice_get, Some, refl, ap, sym, ◌∙◌, arith, eqb-true, le-ltb}
 use Rattle.std.specs.List.{list_all, sum_by, AllByRecursion}
 use Rattle.std.proofs.lemmas.List.{length-append, length-replicate}

@@ -1,4 +1,5 @@
 -- The sink has the lines of the events, by induction over a script.
+-- For the contract of `writes_its_events`.
 use Rattle.std.proofs.Common.{◌≡◌, ℕ, ◌+◌, Bool, false, cond, List, [], ◌∷◌, ◌++◌, map, refl, ap, sym, subst, ◌∙◌, arith, ◌⊎◌, inl, inr, ⊎_elim}
 use Rattle.otlp_types.specs.declared.arrival.Arrival.{Arrival}
 use Rattle.journal_theory.specs.Journal.{Settings}

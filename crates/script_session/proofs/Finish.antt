@@ -1,4 +1,5 @@
 -- What a run leaves of its sink and of its report follows from how its script was played.
+-- For the contract of `run_session`.
 use Rattle.std.proofs.Common.{◌≡◌, ℕ, Bool, true, false, List, Option, Result, Ok, Err, refl, ap, subst, ◌∙◌, inl, inr}
 use Rattle.std.specs.Prelude.{not, IfSome}
 use Rattle.std.specs.Result.{OnOk, IfErr, IsErrOf}

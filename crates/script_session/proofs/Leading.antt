@@ -1,4 +1,5 @@
 -- What a played script leads to.
+-- For the contract of `run_session`.
 use Rattle.std.proofs.Common.{◌≡◌, ℕ, Bool, true, false, List, [], ◌∷◌, ◌++◌, Option, refl, sym, subst}
 use Rattle.journal_theory.specs.Journal.{Settings}
 use Rattle.span_sink.specs.LineSinks.{LineSinkState}

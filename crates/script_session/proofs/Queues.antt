@@ -1,4 +1,5 @@
 -- What pushes leave in the queues.
+-- For the contract of `receive`.
 use Rattle.std.proofs.Common.{◌≡◌, ℕ, zero, suc, Bool, true, false, cond, ◌&&◌, List, [], ◌∷◌, ◌++◌, map, Option, Some, None, refl, sym, ap, subst, ◌∙◌, inl, inr}
 use Rattle.std.specs.List.{AllByRecursion, list_all, slice_get, slice_set}
 use Rattle.std.specs.Prelude.{is_some}

@@ -1,4 +1,5 @@
 -- A line of a script leaves all quiet.
+-- For the contracts of `close`, `play`, `receive`, `replay_run` and others.
 use Rattle.std.proofs.Common.{add-one, suc, replicate, ◌≡◌, ℕ, ◌+◌, ◌<◌, Bool, true, false, Option, Some, None, List, [], ◌∷◌, ◌++◌, map, length, refl, sym, ap, subst, ◌∙◌, arith}
 use Rattle.std.proofs.lemmas.List.{with_items_is}
 use Rattle.std.specs.Prelude.{not, ◌&&◌, Vec}

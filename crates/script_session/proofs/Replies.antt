@@ -1,4 +1,5 @@
 -- A reply line fits its room.
+-- For the contract of `write_reply_line`.
 use Rattle.std.proofs.Common.{◌≡◌, ◌≤◌, true, false, Result, Ok, Err, length, lit<}
 use Rattle.std.specs.Result.{OnOk, OnErr, is_err}
 use Rattle.std.specs.Prelude.{decimal}

@@ -1,4 +1,5 @@
 -- Several shards take items in turn, and what that releases is pulled.
+-- For the contracts of `close`, `drain`, `end_all`, `take_queued` and others.
 use Rattle.std.proofs.Common.{add-one, ◌≡◌, ℕ, zero, suc, ◌+◌, Bool, true, false, List, [], ◌∷◌, ◌++◌, length, replicate, refl, sym, ap, subst, ◌∙◌, append_assoc, append-nil, arith}
 use Rattle.std.specs.List.{list_all, slice_set}
 use Rattle.std.proofs.lemmas.List.Sums.{sum_by-cons}

@@ -1,4 +1,5 @@
 -- One more shard before the first line.
+-- For the contract of `new_shards`.
 use Rattle.std.proofs.Common.{ℕ, zero, suc, ◌+◌, List, [], ◌∷◌, ◌++◌, replicate, sym, ap, subst, ◌∙◌, add-one, length-append}
 use Rattle.std.specs.List.{AllByRecursion}
 use Rattle.tsc_config.specs.declared.config.Config.{Config}

@@ -1,4 +1,5 @@
 -- What the code of `take` does to what a shard holds, beside the definitions.
+-- For the contract of `take_span`.
 use Rattle.std.proofs.Common.{◌≡◌, ℕ, ◌<◌, max, Bool, true, false, not, ◌||◌, cond, ◌==◌, nat_lt, List, Option, Some, None, option_map, refl, sym, ap, subst, ◌∙◌, arith, ne_eqb, eq-eqb}
 use Rattle.std.proofs.lemmas.Bool.Decides.{nat_tests}
 use Rattle.span_ids.specs.declared.ids.TraceId.{TraceId}

@@ -1,4 +1,5 @@
 -- The fate of a span, right after it was taken.
+-- For the contract of `take`.
 use Rattle.std.proofs.Common.{[], ◌≡◌, ℕ, ◌<◌, Bool, true, false, cond, ◌||◌, ◌==◌, ◌∷◌, length, Option, Some, None, option_map, refl, sym, ap, ◌∙◌, arith, ne_eqb, eq-eqb}
 use Rattle.std.specs.List.{list_any}
 use Rattle.journal_theory.specs.Journal.{Entry, Settings, Journal, Opening, Decision, Notes, Finding, joins, meets, opens, notes, finding, finding_of, finding_at, is_in_buffer, is_remembered, latest_episode, decided_as, after_span, after_finding, clock}

@@ -1,4 +1,5 @@
 -- A filter of a list, one element further.
+-- For the contracts of `due_at_tick` and `undecided`.
 use Rattle.std.proofs.Common.{◌≡◌, ℕ, ◌+◌, ◌<◌, Bool, true, false, cond, List, [], ◌∷◌, ◌++◌, length, take, filter, reverse, get_or, refl, ap, sym, ◌∙◌}
 use Rattle.std.proofs.lemmas.List.{append-nil, take_more, reverse-append}
 use Rattle.std.proofs.lemmas.List.Elements.{filter-append}

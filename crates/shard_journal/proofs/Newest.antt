@@ -1,4 +1,5 @@
 -- A journal seen from its end, one entry further.
+-- For the contracts of `clock`, `has_ended`, `have_ended`, `is_root_past` and others.
 use Rattle.std.proofs.Common.{◌≡◌, ℕ, ◌+◌, ◌<◌, ◌≤◌, ◌&&◌, ◌||◌, nat_le, List, [], ◌∷◌, ◌++◌, length, get_or, take, reverse, ap, sym, ◌∙◌, add-one, refl, arith}
 use Rattle.std.proofs.lemmas.List.{reverse-append, take_more, length-reverse, length-take-le}
 use Rattle.std.specs.List.{list_any}

@@ -1,4 +1,5 @@
 -- What the definitions read off notes, they read off shortened notes too.
+-- For the contract of `marks_apply`.
 use Rattle.std.proofs.Common.{◌≡◌, ℕ, ◌==◌, Bool, true, false, cond, not, ◌&&◌, ◌||◌, List, [], ◌∷◌, ◌++◌, map, reverse, filter, find, length, Option, Some, None, option_map, is_none, refl, ap, ◌∙◌}
 use Rattle.std.specs.Option.{option_and_then}
 use mathlib.Core.Path.{fun_ext}

@@ -1,4 +1,5 @@
 -- Sameness of traces: it is equality of their bytes, and goes both ways.
+-- For proofs of `collector_serve`, `decision_cache`, `journal_theory`, `pipeline`, `run_weave`, `script_run`, `script_session`, `shard_core`, `shard_worker`, `span_weave`, `span_world`, `trace_buffer` and `world_theory`.
 use Rattle.std.proofs.Common.{◌≡◌, Bool, true, false, refl, sym, ap}
 use Rattle.std.proofs.lemmas.Slice.Eq.{bytes_eq-Decides}
 use Rattle.span_ids.specs.Same.{same_trace}

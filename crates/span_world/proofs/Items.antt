@@ -1,4 +1,5 @@
 -- What a shard takes and decides, by the shard read at its place.
+-- For the contracts of `decide`, `end`, `keep_entry`, `may_decide` and others.
 use Rattle.std.proofs.Common.{◌≡◌, ℕ, zero, suc, ◌+◌, ◌≤◌, Bool, true, false, not, ◌&&◌, cond, List, [], ◌∷◌, ◌++◌, length, drop, slice_get, slice_set, Option, Some, None, option_map, is_some, refl, ap, sym, ◌∙◌, arith}
 use Rattle.std.specs.Prelude.{Result, Ok, Err, IsErr, IsErrAnd}
 use Rattle.otlp_types.specs.declared.arrival.Arrival.{Arrival}

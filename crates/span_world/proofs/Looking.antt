@@ -1,4 +1,5 @@
 -- What was found looking back, where one shard of the list changes.
+-- For the contracts of `decide`, `keep_entry`, `new`, `route` and `ship`.
 use Rattle.std.proofs.Common.{◌≡◌, ℕ, zero, suc, List, [], ◌∷◌, length, map, replicate, slice_get, slice_set, Some, refl, ap, sym, ◌∙◌}
 use Rattle.std.proofs.lemmas.List.{length-map}
 use Rattle.journal_theory.specs.Journal.{Settings}

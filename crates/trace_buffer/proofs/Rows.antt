@@ -1,4 +1,5 @@
 -- Worked rows of commands, by computation. No clause needs them: they show what `moment_of` says, which code and contracts follow.
+-- No contract rests on it: it shows the definitions on worked cases.
 use Rattle.std.specs.Prelude.{[], ◌∷◌, map, ◌≡◌, refl}
 use Rattle.span_ids.specs.declared.ids.TraceId.{TraceId}
 use Rattle.span_ids.specs.declared.outcome.Verdict.{Verdict}

@@ -1,4 +1,5 @@
 -- A text of blanks and comments has no key.
+-- For the contract of `read`.
 use Rattle.std.proofs.Common.{◌≡◌, ℕ, Some, List, refl, sym, ◌∙◌}
 use Rattle.toml.specs.Data.{Members, no_members}
 use Rattle.toml.specs.Errors.{IsBlank}

@@ -1,4 +1,5 @@
 -- The faults that the walk over a table finds have a number below that of too few traces.
+-- For the contract of `answers_least_fault`.
 use Rattle.std.proofs.Common.{◌≡◌, ◌<◌, ℤ, pos, Bool, true, false, ◌⊎◌, inl, inr, arith, codes, int_le, ◌&&◌, Option, None, Some, if◌then◌else◌}
 use Rattle.std.specs.Str.{bytes_eq}
 use Rattle.toml.specs.Data.{Data, string, integer, boolean, array, table, Items, no_items, item, Members, no_members, member, get_member}

@@ -1,4 +1,5 @@
 -- The walk answers the least of the faults that the table has.
+-- For the contract of `answers_least_fault`.
 use Rattle.std.proofs.Common.{◌≡◌, ℕ, ◌≤◌, pos, Bool, true, false, ◌⊎◌, inl, inr, refl, ap, arith, codes, Option, None, Some, if◌then◌else◌, nat_lt}
 use Rattle.std.proofs.lemmas.Bool.Decides.{nat_tests}
 use Rattle.std.specs.Str.{bytes_eq}

@@ -1,4 +1,5 @@
 -- The least of faults, however they are grouped.
+-- For the contracts of `items_fault` and `policies`.
 use Rattle.std.proofs.Common.{◌≡◌, ℕ, ◌+◌, ◌<◌, Option, Some, None, List, drop, length, get_or, refl, ap, ◌∙◌, arith}
 use Rattle.std.proofs.lemmas.Bool.Decides.{nat_tests}
 use Rattle.toml.proofs.Views.{items_view-drop}

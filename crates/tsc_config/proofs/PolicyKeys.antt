@@ -1,4 +1,5 @@
--- Each policy has what stands at the keys of its table. For `policies_are_of_their_keys`.
+-- Each policy has what stands at the keys of its table.
+-- For `policies_are_of_their_keys`.
 use Rattle.std.proofs.Common.{◌≡◌, ℕ, ◌+◌, ◌≤◌, ℤ, pos, negsuc, zero, suc, Bool, true, false, ◌⊎◌, inl, inr, refl, ap, sym, subst, ◌∙◌, arith, codes, List, [], ◌∷◌, length, slice_get, Option, None, Some, if◌then◌else◌, int_le, ◌&&◌, Ordering, Less, Equal, Greater}
 use Rattle.std.proofs.lemmas.Bool.Decides.{nat_tests}
 use Rattle.std.proofs.lemmas.Slice.Eq.{bytes_eq-Decides}

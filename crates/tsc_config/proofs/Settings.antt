@@ -1,4 +1,5 @@
--- Each setting is what stands at its key, or the key's default. For `settings_are_of_their_keys`.
+-- Each setting is what stands at its key, or the key's default.
+-- For `settings_are_of_their_keys`.
 use Rattle.std.proofs.Common.{◌≡◌, ℕ, ◌<◌, ◌≤◌, pos, negsuc, zero, suc, Bool, true, false, ◌⊎◌, inl, inr, refl, arith, codes, List, Option, None, Some, Ok, Err, subst, if◌then◌else◌, nat_lt, int_le, ◌&&◌}
 use Rattle.std.proofs.lemmas.Bool.Decides.{nat_tests}
 use Rattle.toml.specs.Data.{Data, string, integer, table, Members, get_member}

@@ -1,4 +1,5 @@
 -- What a text is read as has the least of the faults that the text has.
+-- For the contract of `answers_least_fault`.
 use Rattle.std.proofs.Common.{◌≡◌, ℕ, ◌<◌, ◌≤◌, Bool, true, false, ◌⊎◌, inl, inr, refl, arith, List, Option, None, Some, Err, if◌then◌else◌, nat_lt}
 use Rattle.std.proofs.lemmas.Bool.Decides.{nat_tests}
 use Rattle.std.specs.Result.{result_err}

@@ -1,4 +1,5 @@
 -- How the reading and playing of a script ends.
+-- For the contract of `play_script`.
 use Rattle.std.proofs.Common.{◌≡◌, ◌≢◌, ℕ, ◌+◌, List, [], ◌∷◌, ◌++◌, None, Some, Option, Ok, Err, Result, OnOk, IfErr, IfSome, refl, sym, ap, ◌∙◌, append-nil, append_assoc, length, arith, inl, inr}
 use Rattle.std.proofs.KnownBytes.{Consumes-trans}
 use Rattle.std.specs.Io.KnownBytes.{Consumes, IsAtEnd, prepend_known}

@@ -1,4 +1,5 @@
 -- How the text behind the last line feed is played.
+-- For the contracts of `play_last` and `play_script`.
 use Rattle.std.proofs.Common.{◌≡◌, ◌≢◌, ℕ, Ok, Err, Result, OnOk, IfErr, false, refl}
 use Rattle.tsc_script.specs.declared.stop.Stop.{Stop}
 use Rattle.tsc_script.specs.declared.stop.Stop.TheVariants.{Down}

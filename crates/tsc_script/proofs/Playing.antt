@@ -1,4 +1,5 @@
 -- Laws of what a script says.
+-- For the contracts of `play_last` and `play_script`.
 use Rattle.std.proofs.Common.{◌≡◌, ◌≢◌, ℕ, ◌+◌, ◌<◌, List, [], ◌∷◌, ◌++◌, None, Some, Option, Ok, Err, Result, length, refl, sym, ap, ◌∙◌, append-nil, append_assoc, arith, IfSome, cond, length-append, true, false}
 use Rattle.std.specs.Prelude.{nat_lt, ◌==◌}
 use Rattle.std.proofs.KnownBytes.{Consumes-trans}

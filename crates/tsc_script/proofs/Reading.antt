@@ -1,4 +1,5 @@
 -- Laws of lines and of what is left to read.
+-- For the contracts of `length_of_line`, `play_script` and `read_line`.
 use Rattle.memchr.specs.Find.{Nowhere, Passes, is_byte}
 use Rattle.std.proofs.Common.{◌≡◌, ℕ, List, [], ◌∷◌, ◌++◌, None, Some, Option, sym, ap, ◌∙◌, append_assoc, length, length-append, ◌<◌, ◌≢◌, IfSome, take, zero, suc, arith}
 use Rattle.std.proofs.KnownBytes.{Consumes-trans, Consumes-kept}

@@ -1,4 +1,5 @@
 -- A weaker word for what was played.
+-- For proofs of `script_session`.
 use Rattle.std.proofs.Common.{ℕ, ◌++◌, ◌∷◌, [], List, Option, inl, inr}
 use Rattle.tsc_script.specs.declared.stop.Stop.{Stop}
 use Rattle.tsc_script.specs.declared.stop.Stop.TheVariants.{NoMemory, Refused, Fault, Down}

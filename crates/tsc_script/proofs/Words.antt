@@ -1,4 +1,5 @@
--- A line says an instruction exactly where it is its words. For the law `lines_are_their_words`.
+-- A line says an instruction exactly where it is its words.
+-- For the law `lines_are_their_words`.
 use Rattle.std.proofs.Common.{◌≡◌, ℕ, suc, ◌+◌, ◌<◌, ◌≤◌, ◌^◌, ◌==◌, ◌&&◌, nat_lt, nat_le, Bool, true, false, not, cond, List, [], ◌∷◌, ◌++◌, length, take, drop, Option, None, Some, option_map, option_and_then, codes, refl, sym, ap, ◌∙◌, true≢false, bytes_eq, arith}
 use Rattle.std.proofs.lemmas.Bool.Decides.{nat_tests}
 use Rattle.std.proofs.lemmas.Slice.Eq.{bytes_eq-Decides}

@@ -1,4 +1,5 @@
 -- From a closed world nothing but a failure of the sink is enabled.
+-- For the contract of `nothing_after_close`.
 use Rattle.std.proofs.Common.{◌≡◌, ℕ, zero, suc, ◌+◌, ◌<◌, Bool, true, false, cond, not, ◌&&◌, ◌||◌, ◌==◌, List, [], ◌∷◌, ◌++◌, length, filter, flat_map, slice_get, Option, Some, None, refl, ap, sym, subst, ◌∙◌, arith, length-append, eqb-true}
 use Rattle.std.specs.List.{list_all}
 use Rattle.std.proofs.lemmas.Bool.{and_parts, not-true, eqb-false}

@@ -1,4 +1,5 @@
 -- In every run each decision that was dealt with was given one answer for each asking; and a decision is taken in two steps.
+-- For the laws of the headline, `headline` and each of its parts.
 use Rattle.std.proofs.Common.{◌≡◌, ℕ, zero, suc, ◌+◌, Bool, true, false, List, [], ◌∷◌, ◌++◌, length, drop, nat_lt, replicate, slice_get, slice_set, Some, refl, ap, sym, subst, ◌∙◌, add-one}
 use Rattle.policy_eval.specs.Given.{are_answered}
 use Rattle.journal_theory.specs.Journal.{Settings, Journal, Opening, decision, due_now, answered, spans_since, are_each_answered, IsAnswered, IsAnsweredUpTo}

@@ -1,4 +1,5 @@
 -- A decision's answers, put into a journal: what was decided, handed over and counted so far stays, and one more decision is there to be dealt with.
+-- For the laws of the headline, `headline` and each of its parts.
 use Rattle.std.proofs.Common.{◌≡◌, ℕ, zero, suc, Bool, true, false, cond, ◌==◌, List, [], ◌∷◌, ◌++◌, length, reverse, take, find, slice_get, Option, Some, None, is_none, option_map, ◌⊎◌, inl, inr, refl, ap, sym, subst, ◌∙◌, ne_eqb, eqb-true, eq-eqb}
 use Rattle.std.specs.List.{list_any}
 use Rattle.std.proofs.lemmas.List.{reverse-append}

@@ -1,4 +1,5 @@
 -- The arrivals of records, one more at the end, and what a lane does with them.
+-- For proofs of `span_world`.
 use Rattle.std.proofs.Common.{◌≡◌, ℕ, ◌+◌, true, false, not, is_some, List, [], ◌∷◌, ◌++◌, length, filter, count_by, slice_get, slice_set, Some, refl, ap, ◌∙◌, arith}
 use Rattle.otlp_types.specs.declared.arrival.Arrival.{Arrival}
 use Rattle.otlp_types.specs.declared.arrival.Record.{Record}

@@ -1,4 +1,5 @@
 -- Each step keeps, for each key, how often it stands somewhere beside how often it was received.
+-- For the laws of the headline, `headline` and each of its parts.
 use Rattle.std.proofs.Common.{◌≡◌, ℕ, suc, ◌+◌, Bool, true, false, not, List, [], ◌∷◌, ◌++◌, length, map, filter, flat_map, count_by, Option, Some, None, refl, ap, ◌∙◌, arith}
 use Rattle.std.proofs.Math.Numerals.{add-one}
 use Rattle.journal_theory.specs.Journal.{Settings, Journal, Decision, notes, notes_dealt, Entry, answered}

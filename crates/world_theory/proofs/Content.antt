@@ -1,4 +1,5 @@
 -- What the buffer holds, before and after an item or a decision.
+-- For the laws of the headline, `headline` and each of its parts.
 use Rattle.std.proofs.Common.{◌≡◌, ℕ, zero, suc, ◌<◌, ◌≤◌, Bool, true, false, cond, not, ◌&&◌, ◌==◌, nat_lt, List, [], ◌∷◌, ◌++◌, length, flat_map, take, Option, Some, None, is_none, option_map, option_to_list, refl, ap, sym, subst, ◌∙◌, arith, append_assoc, ne_eqb, ltb-false}
 use Rattle.std.proofs.lemmas.List.{append-nil}
 use Rattle.span_ids.proofs.SameTraces.{same_trace-refl}

@@ -1,4 +1,5 @@
 -- What a decision takes out of the buffer.
+-- For the laws of the headline, `headline` and each of its parts.
 use Rattle.std.proofs.Common.{◌≡◌, ℕ, zero, suc, ◌<◌, Bool, true, false, cond, ◌==◌, List, [], ◌∷◌, ◌++◌, filter, reverse, take, find, slice_get, Some, is_none, option_map, refl, ap, sym, ◌∙◌, arith, append_assoc, ne_eqb, eq-eqb}
 use Rattle.std.proofs.lemmas.List.{append-nil, reverse-append}
 use Rattle.journal_theory.specs.Journal.{Settings, Journal, is_of_trace, Opening, Decision, Notes, in_buffer, undecided, spans_since, due_at, is_due, has_finished, decision, decisions_in_turn, after_item, after_decisions, decisions_at, notes, decisions_now, notes_dealt, Entry}

@@ -1,4 +1,5 @@
 -- A decision stands: the episode that it decided keeps its verdict.
+-- For the laws of the headline, `headline` and each of its parts.
 use Rattle.std.proofs.Common.{◌≡◌, ℕ, zero, suc, Bool, true, false, cond, ◌==◌, List, [], ◌∷◌, ◌++◌, length, reverse, find, slice_get, Option, Some, None, is_none, option_map, refl, ap, sym, subst, ◌∙◌, arith, append_assoc, eq-eqb, ne_eqb}
 use Rattle.std.proofs.lemmas.List.{reverse-append}
 use Rattle.journal_theory.specs.Journal.{Settings, Journal, Opening, Decision, Notes, in_buffer, decided_as, undecided, Finding, joins, meets, opens, finding, due_at, decision, decisions_in_turn, after_finding, after_span, after_item, decisions_at, notes, decisions_now, Entry}

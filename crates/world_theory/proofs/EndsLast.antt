@@ -1,4 +1,5 @@
 -- A shard that took a lane's End has nothing of that lane to come.
+-- For the laws of the headline, `headline` and each of its parts.
 use Rattle.std.proofs.Common.{◌≡◌, ℕ, Bool, true, false, not, ◌&&◌, ◌||◌, ◌==◌, List, [], ◌∷◌, ◌++◌, length, slice_get, slice_set, Option, Some, refl, ap, sym, subst, ◌∙◌, eqb-true}
 use Rattle.std.specs.List.{list_any}
 use Rattle.std.proofs.lemmas.Bool.{and_parts, not-true}

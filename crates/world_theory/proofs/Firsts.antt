@@ -1,4 +1,5 @@
 -- The first of a list that passes a test, taken out at its place.
+-- For proofs of `collector_serve`, `pipeline`, `run_weave`, `script_run`, `script_session` and `span_world`.
 use Rattle.std.proofs.Common.{◌≡◌, ℕ, suc, ◌<◌, ◌≤◌, Bool, true, false, cond, nat_lt, List, [], ◌∷◌, length, get_or, Some, None, option_map, ap, ◌∙◌, sym, refl, arith, subst, ltb-true, ltb-false}
 use Rattle.std.specs.List.{position, position_or_len, remove}
 use Rattle.otlp_types.specs.declared.arrival.Arrival.{Arrival}

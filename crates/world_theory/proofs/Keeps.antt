@@ -1,4 +1,5 @@
 -- A list that keeps the order of another: some elements removed, and some moved past such as they may pass.
+-- For the laws of the headline, `headline` and each of its parts.
 use Rattle.std.proofs.Common.{◌≡◌, List, [], ◌++◌, subst}
 use Rattle.journal_theory.proofs.ListFacts.{Each, Each-append, Each-left, Each-right, Each-weaker, Pairs, Across, Pairs-append, Pairs-left, Pairs-right, Pairs-across}
 

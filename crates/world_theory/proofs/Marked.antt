@@ -1,4 +1,5 @@
 -- Each span of a journal had valid ids and marks that could apply where it was taken.
+-- For the laws of the headline, `headline` and each of its parts.
 use Rattle.std.proofs.Common.{◌≡◌, ℕ, Bool, true, List, [], ◌∷◌, ◌++◌, slice_get, slice_set, Some, sym, subst}
 use Rattle.journal_theory.specs.Journal.{Entry, Settings, Journal, answered}
 use Rattle.otlp_types.specs.declared.arrival.Item.{Item}

@@ -1,4 +1,5 @@
 -- Each span of an undecided episode in the buffer joined that episode, or opened it; and a decision stands.
+-- For the laws of the headline, `headline` and each of its parts.
 use Rattle.std.proofs.Common.{◌≡◌, ℕ, ◌<◌, Bool, true, false, cond, not, ◌&&◌, List, [], ◌∷◌, ◌++◌, length, take, Option, Some, None, option_to_list, ◌⊎◌, inl, inr, refl, ap, sym, subst, ◌∙◌, arith}
 use Rattle.std.proofs.lemmas.List.{append-nil}
 use Rattle.span_ids.proofs.SameTraces.{same_trace-refl}

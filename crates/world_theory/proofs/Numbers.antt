@@ -1,4 +1,5 @@
 -- A received span's number is how many spans its connection received before it.
+-- For the laws of the headline, `headline` and each of its parts.
 use Rattle.std.proofs.Common.{◌≡◌, ℕ, ◌+◌, Bool, cond, ◌==◌, ◌&&◌, List, [], ◌∷◌, ◌++◌, count_by, replicate, refl, ap, sym, subst, ◌∙◌, arith, append_assoc, eq-eqb}
 use Rattle.std.proofs.lemmas.List.{append-nil}
 use Rattle.otlp_types.specs.declared.arrival.Arrival.{Arrival}

@@ -1,4 +1,5 @@
 -- Every received key is in one place.
+-- For the contract of `in_one_place`.
 use Rattle.std.proofs.Common.{◌≡◌, ℕ, zero, suc, List, [], ◌∷◌, length, replicate, Some, refl, ap, subst, arith}
 use Rattle.journal_theory.specs.Journal.{Settings, notes_dealt}
 use Rattle.span_ids.specs.declared.keys.ArrivalKey.{ArrivalKey}

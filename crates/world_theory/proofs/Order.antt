@@ -1,4 +1,5 @@
 -- Spans of one connection and trace are handed over in received order.
+-- For the contract of `in_received_order`.
 use Rattle.std.proofs.Common.{◌≡◌, ℕ, zero, suc, ◌+◌, ◌<◌, ◌≤◌, Bool, true, false, cond, ◌&&◌, ◌==◌, nat_lt, List, [], ◌∷◌, ◌++◌, length, filter, flat_map, replicate, slice_get, count_by, Some, refl, ap, sym, subst, ◌∙◌, arith, append_assoc, eqb-true, ltb-true}
 use Rattle.std.proofs.lemmas.List.{append-nil}
 use Rattle.std.proofs.lemmas.Bool.{and_parts}

@@ -1,4 +1,5 @@
 -- The parts of the headline that follow of what every step keeps.
+-- For the laws of the headline, `headline` and each of its parts.
 use Rattle.std.proofs.Common.{◌≡◌, ℕ, ◌+◌, ◌<◌, ◌≤◌, Bool, true, false, ◌&&◌, ◌||◌, List, [], ◌∷◌, ◌++◌, slice_get, Option, Some, inl, inr, refl, ap, sym, subst, ◌∙◌, arith, eq-eqb}
 use Rattle.std.specs.List.{list_any}
 use Rattle.journal_theory.proofs.Counted.{same_reason}

@@ -1,4 +1,5 @@
 -- Only spans that their shard's journal releases are handed over.
+-- For the laws of the headline, `headline` and each of its parts.
 use Rattle.std.proofs.Common.{◌≡◌, ℕ, zero, suc, ◌+◌, Bool, true, false, List, [], ◌∷◌, ◌++◌, length, flat_map, slice_get, slice_set, Option, Some, None, ◌⊎◌, inl, inr, refl, ap, sym, subst, ◌∙◌, append_assoc}
 use Rattle.std.proofs.lemmas.Bool.{cases_eq}
 use Rattle.journal_theory.specs.Journal.{Settings, Journal, Opening, Decision, in_buffer, leaving, decided_as, Finding, joins, meets, opens, finding, due_at, decisions_at, notes, decisions_now, Entry}

@@ -1,4 +1,5 @@
 -- A received span is routed once: it waits to be routed or taken, its lane counted it, or one journal has it.
+-- For the laws of the headline, `headline` and each of its parts.
 use Rattle.std.proofs.Common.{◌≡◌, ℕ, zero, suc, ◌+◌, Bool, true, false, cond, not, ◌&&◌, List, [], ◌∷◌, ◌++◌, filter, count_by, replicate, Option, Some, None, refl, ap, ◌∙◌, arith}
 use Rattle.journal_theory.specs.Journal.{answered, Entry, Settings, Journal, Opening, Decision, Finding, joins, meets, opens, decided_as, spans_since, leaving, notes, finding}
 use Rattle.journal_theory.specs.Fate.{DroppedSpan, counts, effect_of_verdict, effect_of_leaving, effect_of_leaving_decided, effect_of_finding, effect_of_span, effect_of_decision}

@@ -1,4 +1,5 @@
 -- Worked runs of the core: where each step is enabled and what it counts, and one span from its receipt to the closed world.
+-- No contract rests on it: it shows the definitions on worked cases.
 use Rattle.std.specs.Prelude.{◌≡◌, ℕ, true, false, List, [], ◌∷◌, ◌++◌, map, Some, None, option_map, refl}
 use Rattle.journal_theory.specs.Journal.{notes}
 use Rattle.otlp_types.specs.declared.arrival.Record.{Record}

@@ -1,4 +1,5 @@
 -- Configurations, records and questions that the worked rows share.
+-- For `Rows`, and for rows and wrong definitions in the crates above.
 use Rattle.std.specs.Prelude.{ℕ, Bool, pos, List, [], ◌∷◌, map, length, Option, Some, None, option_map, is_some, ◌&&◌, ◌==◌}
 use Rattle.std.specs.List.{list_all}
 use Rattle.otlp_types.proofs.Samples.{plain_record}

@@ -1,4 +1,5 @@
 -- A fate that is a count stays.
+-- For the laws of the headline, `headline` and each of its parts.
 use Rattle.std.proofs.Common.{◌≡◌, ℕ, ◌<◌, Bool, true, false, cond, ◌||◌, ◌==◌, List, [], ◌∷◌, ◌++◌, length, reverse, find, slice_get, Option, Some, None, is_none, option_map, option_to_list, ◌⊎◌, inl, inr, refl, ap, sym, subst, ◌∙◌, arith, length-append, ne_eqb}
 use Rattle.std.specs.List.{list_any}
 use Rattle.span_ids.specs.Same.{same_trace}

@@ -1,4 +1,5 @@
 -- What is known of a key by its place, and where a span stands that a shard took.
+-- For the laws of the headline, `headline` and each of its parts.
 use Rattle.std.proofs.Common.{◌≡◌, ℕ, suc, ◌+◌, ◌<◌, Bool, true, false, ◌==◌, List, [], ◌∷◌, ◌++◌, length, map, filter, flat_map, slice_get, Option, Some, None, is_none, ◌⊎◌, inl, inr, refl, ap, sym, subst, ◌∙◌, arith, eq-eqb}
 use Rattle.std.specs.List.{list_any}
 use Rattle.journal_theory.specs.Journal.{Settings, Journal, Opening, is_in_buffer, in_buffer, decided_as, joins, opens, finding, spans_since, notes, notes_dealt}

@@ -1,4 +1,5 @@
 -- What is known where a step was enabled.
+-- For proofs of `pipeline`.
 use Rattle.std.proofs.Common.{◌≡◌, ◌∙◌, ◌+◌, ℕ, Bool, true, false, cond, not, ◌&&◌, ◌||◌, nat_lt, List, [], ◌∷◌, ◌++◌, length, slice_get, slice_set, count_by, Option, Some, None, option_map, option_and_then, refl, ap}
 use Rattle.std.proofs.lemmas.Bool.{and_parts, not-true}
 use Rattle.otlp_types.specs.declared.arrival.Record.{Record}

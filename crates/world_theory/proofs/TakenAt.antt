@@ -1,4 +1,5 @@
 -- Where a span stands that a shard took, by its fate.
+-- For the laws of the headline, `headline` and each of its parts.
 use Rattle.std.proofs.Common.{List, ◌≡◌, ℕ, ◌<◌, ◌≤◌, Bool, true, false, ◌&&◌, [], ◌∷◌, ◌++◌, length, slice_get, Some, ◌⊎◌, inl, inr, refl, ap, sym, subst, ◌∙◌, arith}
 use Rattle.journal_theory.specs.Journal.{Entry, Settings, Journal, Opening, joins, opens, finding, notes}
 use Rattle.journal_theory.specs.Fate.{Fate, waits, is_released, is_counted, fate, DroppedSpan}

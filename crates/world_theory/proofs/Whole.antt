@@ -1,4 +1,5 @@
 -- What every step keeps.
+-- For the laws of the headline, `headline` and each of its parts.
 use Rattle.std.proofs.Common.{ℕ, length}
 use Rattle.world_theory.specs.World.{Config, World, new_world, settings}
 use Rattle.world_theory.specs.Headline.{OfEachRun}

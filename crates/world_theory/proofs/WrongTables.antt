@@ -1,4 +1,5 @@
 -- Wrong step tables, each with a run that breaks a part of the headline.
+-- No contract rests on it: each shows what the table of steps says.
 use Rattle.std.proofs.Common.{◌≡◌, ℕ, zero, suc, ◌<◌, Bool, true, false, not, List, [], ◌∷◌, ◌++◌, if◌then◌else◌, length, map, reverse, take, drop, slice_get, get_or, Option, Some, None, option_map, option_and_then, Contains, refl, ap, sym, subst, ◌∙◌, arith, IsTrue, length-append}
 use Rattle.journal_theory.specs.Journal.{notes}
 use Rattle.journal_theory.specs.Fate.{DroppedSpan, is_counted}
