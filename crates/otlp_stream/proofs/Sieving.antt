@@ -14,12 +14,9 @@ use Rattle.otlp_stream.specs.declared.values.Kept.{Kept}
 use Rattle.otlp_stream.specs.Taking.{Takes, TakesAs, TakesMembers, WithinItems, Sieved, sieved_list, present, held, items_then}
 use Rattle.otlp_reading.proofs.Each.{kept-append, discarded-append}
 use Rattle.otlp_reading.proofs.Levels.{value_to-step}
-use Rattle.otlp_stream.proofs.Streaming.{Within-start, Within-member, Within-end, takes_object, takes_array, WithinItems-end, items_then-all, each-push, field_put, field_put_other}
+use Rattle.otlp_stream.proofs.Streaming.{Within-start, Within-member, Within-end, takes_object, takes_array, WithinItems-start, WithinItems-next, WithinItems-end, items_then-all, each-push, field_put, field_put_other}
 
-pub Sieved-start : {A : Type 0} (read : Data → Option (OrDiscarded A)) (none : Kept A) → none ≡ record { kept = []; discarded = 0 } → Sieved read [] none
-Sieved-start read none e = record { all = []; reads = refl; kept_is = ap (λ k. k.kept) e; discarded_is = ap (λ k. k.discarded) e }
-
-pub Sieved-next : {A : Type 0} (read : Data → Option (OrDiscarded A)) (done : List Data) (before after : Kept A) (d : Data) (x : OrDiscarded A)
+Sieved-next : {A : Type 0} (read : Data → Option (OrDiscarded A)) (done : List Data) (before after : Kept A) (d : Data) (x : OrDiscarded A)
     → Sieved read done before → read d ≡ Some x → after.kept ≡ before.kept ++ kept (x ∷ []) → after.discarded ≡ before.discarded + discarded (x ∷ []) → Sieved read (done ++ d ∷ []) after
 Sieved-next read done before after d x s r more count = record {
   all = s.all ++ x ∷ [];
@@ -28,14 +25,37 @@ Sieved-next read done before after d x s r more count = record {
   discarded_is = let e = discarded-append s.all (x ∷ []) in let n = s.discarded_is in omega arith;
 }
 
-pub sieved_array : {A : Type 0} (read : Data → Option (OrDiscarded A)) (found : Kept A) (depth : ℕ) (old s now new : List Token) (done : List Data)
-    → (depth ≡ 0 → ⊥) → old ≡ Token.begin_array ∷ s → WithinItems (depth - 1) s now done → after_end_array now ≡ Some new → Sieved read done found
-    → TakesAs (present (sieved_list read)) depth old new found
-sieved_array read found depth old s now new done h e w over m =
-    let all : each read (items_then done no_items) ≡ Some m.all = ap (each read) (items_then-all done) ∙ m.reads in
+-- the list that began at `start` has had items of which these are kept and so many discarded, and `now` is left
+pub record WithinSieved {A : Type 0} (read : Data → Option (OrDiscarded A)) (depth : ℕ) (start now : List Token) (found : Kept A) : Type 0 where
+  pub done : List Data
+  pub within : WithinItems depth start now done
+  pub sieved : Sieved read done found
+
+module _ {A : Type 0} (read : Data → Option (OrDiscarded A)) (depth : ℕ) (start : List Token) where
+  pub WithinSieved-start : (none : Kept A) → none ≡ record { kept = []; discarded = 0 } → WithinSieved read depth start start none
+  WithinSieved-start none e = record {
+    done = [];
+    within = WithinItems-start depth start;
+    sieved = record { all = []; reads = refl; kept_is = ap (λ k. k.kept) e; discarded_is = ap (λ k. k.discarded) e };
+  }
+
+  -- one more item, where the test for the end of the array took nothing
+  pub WithinSieved-next : (now moved new : List Token) (before after : Kept A) (x : OrDiscarded A) → WithinSieved read depth start now before → after_end_array now ≡ None → moved ≡ now → TakesAs read depth moved new x
+      → after.kept ≡ before.kept ++ kept (x ∷ []) → after.discarded ≡ before.discarded + discarded (x ∷ []) → WithinSieved read depth start new after
+  WithinSieved-next now moved new before after x w going stays t more count = record {
+    done = w.done ++ t.found ∷ [];
+    within = WithinItems-next depth start now w.done moved new t.found w.within going stays t.takes;
+    sieved = Sieved-next read w.done before after t.found x w.sieved t.is more count;
+  }
+
+pub sieved_array : {A : Type 0} (read : Data → Option (OrDiscarded A)) (found : Kept A) (depth : ℕ) (old s now new : List Token)
+    → (depth ≡ 0 → ⊥) → old ≡ Token.begin_array ∷ s → WithinSieved read (depth - 1) s now found → after_end_array now ≡ Some new → TakesAs (present (sieved_list read)) depth old new found
+sieved_array read found depth old s now new h e w over =
+    let m = w.sieved in
+    let all : each read (items_then w.done no_items) ≡ Some m.all = ap (each read) (items_then-all w.done) ∙ m.reads in
     record {
-      found = array (items_then done no_items);
-      takes = takes_array depth old s new (items_then done no_items) h e (WithinItems-end (depth - 1) s now done new w over);
+      found = array (items_then w.done no_items);
+      takes = takes_array depth old s new (items_then w.done no_items) h e (WithinItems-end (depth - 1) s now w.done new w.within over);
       is = ap (option_map (λ xs. record { kept = kept xs; discarded = discarded xs })) all ∙ ap (λ k. Some (record { kept = k; discarded = discarded m.all })) (sym m.kept_is) ∙ ap (λ n. Some (record { kept = found.kept; discarded = n })) (sym m.discarded_is);
     }
 

@@ -30,67 +30,51 @@ id_field o = option_map (id_of 8) (text o)
 abbrev pub parent_field : Option Data → Option (Option (Option (List ℕ)))
 parent_field o = option_map parent_of (text o)
 
--- what was read of the attributes of a message
-abbrev pub AttributesSoFar : (List ℕ → Option Data) → AttributesPart → Type 0
-AttributesSoFar seen p =
-    (kept_attributes (seen (codes "attributes")) ≡ Some p.attributes)
-    × (u32 (seen (codes "droppedAttributesCount")) ≡ Some p.counted)
+-- `seen` says what stands under each name
+module _ (seen : List ℕ → Option Data) where
+  abbrev pub AttributesSoFar : AttributesPart → Type 0
+  AttributesSoFar p = (kept_attributes (seen (codes "attributes")) ≡ Some p.attributes) × (u32 (seen (codes "droppedAttributesCount")) ≡ Some p.counted)
 
-abbrev pub StatusSoFar : (List ℕ → Option Data) → Status → Type 0
-StatusSoFar seen p =
-    (text (seen (codes "message")) ≡ Some p.message)
-    × (enum (seen (codes "code")) ≡ Some p.code)
+  abbrev pub StatusSoFar : Status → Type 0
+  StatusSoFar p = (text (seen (codes "message")) ≡ Some p.message) × (enum (seen (codes "code")) ≡ Some p.code)
 
-abbrev pub EventSoFar : (List ℕ → Option Data) → EventParts → Type 0
-EventSoFar seen p =
-    (u64 (seen (codes "timeUnixNano")) ≡ Some p.time)
-    × (text (seen (codes "name")) ≡ Some p.name)
-    × AttributesSoFar seen p.rest
+  abbrev pub EventSoFar : EventParts → Type 0
+  EventSoFar p = (u64 (seen (codes "timeUnixNano")) ≡ Some p.time) × (text (seen (codes "name")) ≡ Some p.name) × AttributesSoFar p.rest
 
-abbrev pub LinkSoFar : (List ℕ → Option Data) → LinkParts → Type 0
-LinkSoFar seen p =
-    (text (seen (codes "traceId")) ≡ Some p.trace_id)
-    × (text (seen (codes "spanId")) ≡ Some p.span_id)
-    × (text (seen (codes "traceState")) ≡ Some p.trace_state)
-    × (u32 (seen (codes "flags")) ≡ Some p.flags)
-    × AttributesSoFar seen p.rest
+  abbrev pub LinkSoFar : LinkParts → Type 0
+  LinkSoFar p =
+      (text (seen (codes "traceId")) ≡ Some p.trace_id)
+      × (text (seen (codes "spanId")) ≡ Some p.span_id)
+      × (text (seen (codes "traceState")) ≡ Some p.trace_state)
+      × (u32 (seen (codes "flags")) ≡ Some p.flags)
+      × AttributesSoFar p.rest
 
-abbrev pub SpanSoFar : (List ℕ → Option Data) → SpanParts → Type 0
-SpanSoFar seen p =
-    (trace_field (seen (codes "traceId")) ≡ Some p.trace)
-    × (id_field (seen (codes "spanId")) ≡ Some p.id)
-    × (parent_field (seen (codes "parentSpanId")) ≡ Some p.parent)
-    × (text (seen (codes "traceState")) ≡ Some p.span.trace_state)
-    × (u32 (seen (codes "flags")) ≡ Some p.span.flags)
-    × (text (seen (codes "name")) ≡ Some p.span.name)
-    × (enum (seen (codes "kind")) ≡ Some p.span.kind)
-    × (u64 (seen (codes "startTimeUnixNano")) ≡ Some p.span.start_time_unix_nano)
-    × (u64 (seen (codes "endTimeUnixNano")) ≡ Some p.span.end_time_unix_nano)
-    × (list_of (message event) (seen (codes "events")) ≡ Some p.span.events)
-    × (u32 (seen (codes "droppedEventsCount")) ≡ Some p.span.dropped_events_count)
-    × (list_of (message link) (seen (codes "links")) ≡ Some p.span.links)
-    × (u32 (seen (codes "droppedLinksCount")) ≡ Some p.span.dropped_links_count)
-    × (inner status (seen (codes "status")) ≡ Some p.span.status)
-    × AttributesSoFar seen p.rest
+  abbrev pub SpanSoFar : SpanParts → Type 0
+  SpanSoFar p =
+      (trace_field (seen (codes "traceId")) ≡ Some p.trace)
+      × (id_field (seen (codes "spanId")) ≡ Some p.id)
+      × (parent_field (seen (codes "parentSpanId")) ≡ Some p.parent)
+      × (text (seen (codes "traceState")) ≡ Some p.span.trace_state)
+      × (u32 (seen (codes "flags")) ≡ Some p.span.flags)
+      × (text (seen (codes "name")) ≡ Some p.span.name)
+      × (enum (seen (codes "kind")) ≡ Some p.span.kind)
+      × (u64 (seen (codes "startTimeUnixNano")) ≡ Some p.span.start_time_unix_nano)
+      × (u64 (seen (codes "endTimeUnixNano")) ≡ Some p.span.end_time_unix_nano)
+      × (list_of (message event) (seen (codes "events")) ≡ Some p.span.events)
+      × (u32 (seen (codes "droppedEventsCount")) ≡ Some p.span.dropped_events_count)
+      × (list_of (message link) (seen (codes "links")) ≡ Some p.span.links)
+      × (u32 (seen (codes "droppedLinksCount")) ≡ Some p.span.dropped_links_count)
+      × (inner status (seen (codes "status")) ≡ Some p.span.status)
+      × AttributesSoFar p.rest
 
-abbrev pub ScopeSoFar : (List ℕ → Option Data) → ScopeParts → Type 0
-ScopeSoFar seen p =
-    (text (seen (codes "name")) ≡ Some p.name)
-    × (text (seen (codes "version")) ≡ Some p.version)
-    × AttributesSoFar seen p.rest
+  abbrev pub ScopeSoFar : ScopeParts → Type 0
+  ScopeSoFar p = (text (seen (codes "name")) ≡ Some p.name) × (text (seen (codes "version")) ≡ Some p.version) × AttributesSoFar p.rest
 
-abbrev pub ScopeSpansSoFar : (List ℕ → Option Data) → ScopeSpans → Type 0
-ScopeSpansSoFar seen p =
-    (inner scope (seen (codes "scope")) ≡ Some p.scope)
-    × (list_of (message span) (seen (codes "spans")) ≡ Some p.spans)
-    × (text (seen (codes "schemaUrl")) ≡ Some p.schema_url)
+  abbrev pub ScopeSpansSoFar : ScopeSpans → Type 0
+  ScopeSpansSoFar p = (inner scope (seen (codes "scope")) ≡ Some p.scope) × (list_of (message span) (seen (codes "spans")) ≡ Some p.spans) × (text (seen (codes "schemaUrl")) ≡ Some p.schema_url)
 
-abbrev pub ResourceSpansSoFar : (List ℕ → Option Data) → ResourceSpans → Type 0
-ResourceSpansSoFar seen p =
-    (inner resource (seen (codes "resource")) ≡ Some p.resource)
-    × (list_of (message scope_spans) (seen (codes "scopeSpans")) ≡ Some p.scope_spans)
-    × (text (seen (codes "schemaUrl")) ≡ Some p.schema_url)
+  abbrev pub ResourceSpansSoFar : ResourceSpans → Type 0
+  ResourceSpansSoFar p = (inner resource (seen (codes "resource")) ≡ Some p.resource) × (list_of (message scope_spans) (seen (codes "scopeSpans")) ≡ Some p.scope_spans) × (text (seen (codes "schemaUrl")) ≡ Some p.schema_url)
 
-abbrev pub RequestSoFar : (List ℕ → Option Data) → Request → Type 0
-RequestSoFar seen p =
-    (list_of (message resource_spans) (seen (codes "resourceSpans")) ≡ Some p.resource_spans)
+  abbrev pub RequestSoFar : Request → Type 0
+  RequestSoFar p = (list_of (message resource_spans) (seen (codes "resourceSpans")) ≡ Some p.resource_spans)

@@ -1,53 +1,34 @@
-use Rattle.std.proofs.Common.{◌≡◌, ◌-◌, [], ◌∷◌, ◌++◌, Some, None, refl, sym, ◌∙◌, arith, rules, w64, subst, option_map}
+use Rattle.std.proofs.Common.{◌≡◌, ◌-◌, Some, None, refl, sym, ◌∙◌, arith, rules, w64, subst, option_map}
 use mir.Val.{to_z, of_z}
 use Rattle.serde_json.specs.Find.{as_str, as_bool}
 use Rattle.otlp_types.specs.declared.value.AnyValue.{Str, Bool as Truth, Int, Array, KvList, Bytes}
 use Rattle.otlp_reading.specs.Kinds.{message, i64_value}
 use Rattle.otlp_reading.specs.Reading.{value_to, key_value}
 use Rattle.otlp_stream.specs.Taking.{TakesAs, held}
-use Rattle.otlp_stream.proofs.Streaming.{WithinItems-start, WithinItems-next}
-use Rattle.otlp_stream.proofs.Sieving.{Sieved-start, Sieved-next, sieved_array, all_none, all_read, held_map, held_any, value_empty, value_one, pair_key, pair_both}
+use Rattle.otlp_stream.proofs.Sieving.{WithinSieved-start, WithinSieved-next, sieved_array, all_none, all_read, held_map, held_any, value_empty, value_one, pair_key, pair_both}
 use Rattle.otlp_stream.proofs.values.+value.Goals as goal
 
 pub all_values-items-init : goal.all_values-items-init
-all_values-items-init t c = ([], WithinItems-start (c.args.depth - 1) c.begin_array.new.reader, Sieved-start (value_to c.args.levels) c.none-found.result c.none-found.ensures)
+all_values-items-init t c = WithinSieved-start (value_to c.args.levels) (c.args.depth - 1) c.begin_array.new.reader c.none-found.result c.none-found.ensures
 
 pub all_values-returns-then-take_end_array : goal.all_values-returns-then-take_end_array
 all_values-returns-then-take_end_array t c =
-    let l = c.items in
-    let w = l.invariant in
-    sieved_array (value_to c.args.levels) l.found c.args.depth c.args.reader.now c.begin_array.new.reader l.reader c.take_end_array.new.self w.0 c.in_ok-begin_array.ensures.deep
-    c.in_ok-begin_array.ensures.begins w.1 (grind arith) w.2
+    sieved_array (value_to c.args.levels) _ c.args.depth c.args.reader.now c.begin_array.new.reader c.items.reader c.take_end_array.new.self c.in_ok-begin_array.ensures.deep c.in_ok-begin_array.ensures.begins c.items.invariant (grind arith)
 
 pub all_values-items-preserved : goal.all_values-items-preserved
 all_values-items-preserved t c =
-    let l = c.items in
-    let w = l.invariant in
-    let m = c.in_ok-value_to.ensures in (
-      w.0 ++ m.found ∷ [],
-      WithinItems-next (c.args.depth - 1) c.begin_array.new.reader l.reader w.0 c.take_end_array.new.self c.value_to.new.reader m.found w.1 (grind arith) (grind arith) m.takes,
-      Sieved-next (value_to c.args.levels) w.0 l.found c.take.new.self m.found c.in_ok-value_to.field-0 w.2 m.is c.in_ok-take.ensures.kept c.in_ok-take.ensures.discarded,
-    )
+    WithinSieved-next (value_to c.args.levels) (c.args.depth - 1) _ c.items.reader c.take_end_array.new.self c.value_to.new.reader _ _ _ c.items.invariant (grind arith) (grind arith) c.in_ok-value_to.ensures c.in_ok-take.ensures.kept c.in_ok-take.ensures.discarded
 
 pub key_values-items-init : goal.key_values-items-init
-key_values-items-init t c = ([], WithinItems-start (c.args.depth - 1) c.begin_array.new.reader, Sieved-start (message (key_value (value_to c.args.levels))) c.none-found.result c.none-found.ensures)
+key_values-items-init t c = WithinSieved-start (message (key_value (value_to c.args.levels))) (c.args.depth - 1) c.begin_array.new.reader c.none-found.result c.none-found.ensures
 
 pub key_values-returns-then-take_end_array : goal.key_values-returns-then-take_end_array
 key_values-returns-then-take_end_array t c =
-    let l = c.items in
-    let w = l.invariant in
-    sieved_array (message (key_value (value_to c.args.levels))) l.found c.args.depth c.args.reader.now c.begin_array.new.reader l.reader c.take_end_array.new.self w.0 c.in_ok-begin_array.ensures.deep
-    c.in_ok-begin_array.ensures.begins w.1 (grind arith) w.2
+    sieved_array (message (key_value (value_to c.args.levels))) _ c.args.depth c.args.reader.now c.begin_array.new.reader c.items.reader c.take_end_array.new.self c.in_ok-begin_array.ensures.deep c.in_ok-begin_array.ensures.begins c.items.invariant (grind arith)
 
 pub key_values-items-preserved : goal.key_values-items-preserved
 key_values-items-preserved t c =
-    let l = c.items in
-    let w = l.invariant in
-    let m = c.in_ok-pair.ensures in (
-      w.0 ++ m.found ∷ [],
-      WithinItems-next (c.args.depth - 1) c.begin_array.new.reader l.reader w.0 c.take_end_array.new.self c.pair.new.reader m.found w.1 (grind arith) (grind arith) m.takes,
-      Sieved-next (message (key_value (value_to c.args.levels))) w.0 l.found c.take.new.self m.found c.in_ok-pair.field-0 w.2 m.is c.in_ok-take.ensures.kept c.in_ok-take.ensures.discarded,
-    )
+    WithinSieved-next (message (key_value (value_to c.args.levels))) (c.args.depth - 1) _ c.items.reader c.take_end_array.new.self c.pair.new.reader _ _ _ c.items.invariant (grind arith) (grind arith) c.in_ok-pair.ensures c.in_ok-take.ensures.kept c.in_ok-take.ensures.discarded
 
 pub array-returns-then-not-branch : goal.array-returns-then-not-branch
 array-returns-then-not-branch t c =

@@ -1,8 +1,7 @@
-use Rattle.std.proofs.Common.{◌+◌, ◌*◌, ◌-◌, List}
-use Rattle.serde_json.specs.Data.{Data}
+use Rattle.std.proofs.Common.{◌+◌, ◌*◌, ◌-◌}
 use Rattle.otlp_reading.specs.Kinds.{message}
 use Rattle.otlp_reading.specs.Reading.{value_to, key_value}
-use Rattle.otlp_stream.specs.Taking.{WithinItems, Sieved}
+use Rattle.otlp_stream.proofs.Sieving.{WithinSieved}
 use Rattle.otlp_stream.proofs.values.+value.Given as goal
 
 abbrev pub decreases-value_to : goal.decreases-value_to
@@ -27,7 +26,7 @@ abbrev pub decreases-value_by : goal.decreases-value_by
 decreases-value_by l = 6 * l.levels + 4
 
 abbrev pub invariant-all_values-items : goal.invariant-all_values-items
-invariant-all_values-items l = (done : List Data) × WithinItems (l.depth - 1) l.initial.reader l.reader done × Sieved (value_to l.levels) done l.found
+invariant-all_values-items l = WithinSieved (value_to l.levels) (l.depth - 1) l.initial.reader l.reader l.found
 
 abbrev pub invariant-key_values-items : goal.invariant-key_values-items
-invariant-key_values-items l = (done : List Data) × WithinItems (l.depth - 1) l.initial.reader l.reader done × Sieved (message (key_value (value_to l.levels))) done l.found
+invariant-key_values-items l = WithinSieved (message (key_value (value_to l.levels))) (l.depth - 1) l.initial.reader l.reader l.found
