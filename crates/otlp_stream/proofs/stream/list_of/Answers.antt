@@ -13,7 +13,7 @@ items-preserved g c =
     let t = c.in_ok-message.ensures.item in (
       w.0 ++ t.found ∷ [],
       WithinItems-next (c.args.depth - 1) c.begin_array.new.reader l.reader w.0 c.take_end_array.new.self c.message.new.reader t.found w.1 (grind arith) (grind arith) t.takes,
-      each-push (message g.B.Building.meaning) w.0 t.found l.all c.in_ok-message.field-0 w.2 t.is ∙ ap Some (sym c.in_ok-push.ensures.ok),
+      each-push (message g.B.Building.meaning) w.0 t.found l.all c.in_ok-message.field-0 w.2 t.is ∙ ap Some {x = l.all ++ c.in_ok-message.field-0 ∷ []} (sym c.in_ok-push.ensures.ok),
     )
 
 pub returns-then-take_end_array : goal.returns-then-take_end_array
