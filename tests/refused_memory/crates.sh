@@ -2,7 +2,7 @@
 # Runs each test of the crates that are named once for each allocation that it makes, and refuses that allocation. Each
 # run must answer as ever or end by the refusal: a test that fails at an assertion has met another answer in its place.
 # Build the tests of each crate first, and then name the crates, or CRATE/WORD for the tests with that word in their name:
-#     (cd crates/core_tests && rt test); tests/refused_memory/crates.sh buffer_tests core_tests/random_items
+#     (cd crates/shard_tests && rt test); tests/refused_memory/crates.sh buffer_tests shard_tests/random_items
 # It needs a C compiler and is no part of the gate. It ends with status 0 where each run was as it must be.
 top=$(cd "$(dirname "$0")/../.." && pwd)
 work=$(mktemp -d) || exit 2

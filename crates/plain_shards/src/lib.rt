@@ -1,11 +1,15 @@
-//! Shards of one policy, each with a limiter of its own: for tests, and for programs that measure.
+//! Shards of one policy, each with a limiter of its own, and what they take: for tests, and for programs that measure.
 #![tactic(auto)]
 
 ghost use Rattle.std.specs.Prelude.{◌<◌, IfOk};
 ghost use Rattle.plain_shards.specs.Plain.{HasTakenNothing};
 
-use otlp_types::Text;
-use policy_tree::{Policies, Policy, PolicyKind};
+mod items;
+mod lists;
+
+pub use items::{Event, event_item, span_item};
+pub use lists::{one_policy, policy_on};
+use policy_tree::PolicyKind;
 use rate_budget::Budgets;
 use shard_core::Shard;
 use std::alloc::{AllocError, Global};
@@ -24,13 +28,7 @@ pub fn plain_shard(
     requires has_senders { 0 < senders }
     ensures { IfOk result (λ made. HasTakenNothing made.0 made.1) }
 {
-    let policy = Policy {
-        name: Text::from_str(alloc, "one")?,
-        kind,
-    };
-    let Ok(policies) = Policies::new(alloc, vec![in alloc; policy]?) else {
-        return Err(AllocError);
-    };
+    let policies = one_policy(alloc, kind)?;
     let limiter = Budgets::new(alloc, &policies)?;
     let shard = Shard::new(alloc, policies, wait, 0, traces, 0, 0, senders)?;
     Ok((shard, limiter))

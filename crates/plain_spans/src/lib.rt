@@ -1,11 +1,43 @@
 //! Spans of which nothing is told but ids, status code and times: for tests, and for programs that measure.
 #![tactic(auto)]
 
-ghost use Rattle.std.specs.Prelude.{◌≡◌, IfOk};
+ghost use Rattle.std.specs.Prelude.{◌≡◌, Some, is_none, IfOk, IfSome};
+ghost use Rattle.span_ids.specs.Id.{id_of};
 
 use otlp_types::{Arrival, Ids, Record, Resource, Scope, Shared, Span, Text};
-use span_ids::{ArrivalKey, ConnKey};
+use span_ids::{ArrivalKey, ConnKey, SpanId, TraceId};
 use std::alloc::{AllocError, Global};
+
+/// The ids of a span of this trace, whose parent, if it has one, is itself. None where the text is no trace's id.
+pub fn plain_ids(trace: &str, is_root: bool) -> Option<Ids>
+    ensures trace { IfSome result (λ ids. Some ids.trace ≡ id_of 16 trace.now) }
+    ensures root { IfSome result (λ ids. is_none ids.parent ≡ is_root) }
+{
+    let trace = TraceId::parse(trace)?;
+    let span = SpanId::parse("eee19b7ec3c1b174")?;
+    let parent = if is_root { None } else { Some(span) };
+    Some(Ids {
+        trace,
+        span,
+        parent,
+    })
+}
+
+/// The same for the trace of this number, from 1 to 6, which is the last digit of its id.
+pub fn numbered_ids(trace: u8, is_root: bool) -> Option<Ids>
+    ensures root { IfSome result (λ ids. is_none ids.parent ≡ is_root) }
+{
+    let text = match trace {
+        1 => "00000000000000000000000000000001",
+        2 => "00000000000000000000000000000002",
+        3 => "00000000000000000000000000000003",
+        4 => "00000000000000000000000000000004",
+        5 => "00000000000000000000000000000005",
+        6 => "00000000000000000000000000000006",
+        _ => return None,
+    };
+    plain_ids(text, is_root)
+}
 
 /// A span with these ids and this status code, its start and its end in nanoseconds, of an empty resource and scope.
 pub fn plain_record(

@@ -14,7 +14,7 @@ use Rattle.plain_shards.proofs.plain_shard.Goals as goal
 
 pub returns : goal.returns
 returns c =
-    let policies = c.in-Ok.policies in
+    let policies = c.in_ok-policies.policies in
     let tree = meaning policies in
     let own : knows (has_node (limiter_counts tree [])) (limiters tree) ≡ true = counts_know tree (limiter_counts tree []) (limits-of-counts (limiters tree) []) in
     let L = λ (limiter : List LimiterCount). HasNodes limiter policies in

@@ -1,0 +1,8 @@
+//! The tests, and what they share.
+mod limited_shard;
+mod limiter_over_shards;
+mod looking_back;
+mod policies;
+mod random_items;
+mod shards;
+mod telling;

@@ -1,0 +1,79 @@
+//! A shard with a limiter of its own.
+ghost use Rattle.std.specs.Prelude.{◌≡◌, ◌<◌, true, false};
+ghost use Rattle.plain_shards.specs.Plain.{HasNodes};
+ghost use Rattle.shard_core.specs.Held.{has_due, is_finished};
+ghost use Rattle.journal_theory.specs.Journal.{has_ids};
+
+use otlp_types::Item;
+use policy_tree::Policies;
+use rate_budget::Budgets;
+use shard_core::{Decided, Shard, Taken};
+use std::alloc::{AllocError, Global};
+
+/// The numbers that a shard is made with: times in milliseconds, sizes in traces.
+#[derive(Clone, Copy)]
+pub struct Numbers {
+    pub wait: u64,
+    pub root_wait: u64,
+    pub limit: usize,
+    pub sampled: usize,
+    pub non_sampled: usize,
+    pub senders: usize,
+    ghost waits: { 0 < wait },
+    ghost keeps_a_trace: { 0 < limit },
+    ghost has_senders: { 0 < senders },
+}
+
+/// A shard, and the limiter that it asks, which is one of its policies.
+#[derive(Drop)]
+pub struct LimitedShard {
+    shard: Shard,
+    limiter: Budgets,
+    ghost nodes: { HasNodes limiter shard.policies },
+}
+
+impl LimitedShard {
+    /// A shard that has taken nothing, and a limiter that has not been asked.
+    pub fn new(
+        alloc: Global,
+        policies: Policies,
+        numbers: Numbers,
+    ) -> Result<LimitedShard, AllocError> {
+        let limiter = Budgets::new(alloc, &policies)?;
+        let shard = Shard::new(
+            alloc,
+            policies,
+            numbers.wait,
+            numbers.root_wait,
+            numbers.limit,
+            numbers.sampled,
+            numbers.non_sampled,
+            numbers.senders,
+        )?;
+        Ok(LimitedShard { shard, limiter })
+    }
+
+    pub fn has_due(&self) -> bool
+        ensures { result ≡ has_due self.now.shard }
+    {
+        self.shard.has_due()
+    }
+
+    pub fn finished(&self) -> bool
+        ensures { result ≡ is_finished self.now.shard }
+    {
+        self.shard.finished()
+    }
+
+    pub fn take(&mut self, item: Item) -> Taken
+        requires nothing_due { has_due self.old.shard ≡ false }
+        requires running { is_finished self.old.shard ≡ false }
+        requires ids { has_ids item ≡ true }
+    {
+        self.shard.take(item)
+    }
+
+    pub fn decide(&mut self) -> Decided {
+        self.shard.decide(&mut self.limiter)
+    }
+}
