@@ -1,12 +1,12 @@
 -- The lane and the shard of the first unrouted span, where there is one.
 -- Serves `route` and `refuse` of `World`.
-use Rattle.std.proofs.Common.{◌≡◌, ℕ, ◌<◌, length, slice_get, Option, Some, None, refl, sym, subst}
+use Rattle.std.proofs.Common.{◌≡◌, ℕ, ◌<◌, length, slice_get, is_some, true, Option, Some, None, refl, sym, subst}
 use Rattle.std.specs.List.{position}
 use Rattle.std.specs.Option.{option_and_then}
 use Rattle.std.proofs.lemmas.Option.{slice_get_within}
 use Rattle.world_theory.specs.World.{Config, Lane, Shard, World, goes_to}
 use Rattle.world_theory.specs.Step.{route, refuse, step}
-use Rattle.world_theory.proofs.Routing.{no_route, no_refuse}
+use Rattle.world_theory.proofs.Routing.{no_route, no_refuse, can_route, can_refuse}
 use Rattle.span_world.specs.Core.{Core}
 use Rattle.span_world.specs.Answers.{next_place}
 
@@ -46,6 +46,14 @@ module _ (w : World) (lane shard : ℕ) where
           let n = length w.shards in
           let found = position (goes_to n shard) l.unrouted in
           (no_route c w lane shard l sh g h n refl found refl e, no_refuse c w lane shard l sh g h n refl found refl e)
+
+-- where there is one, both steps are enabled
+pub enabled : (c : Config) (w : World) (lane shard i : ℕ) → next_place w lane shard ≡ Some i → (is_some (step c w (route lane shard)) ≡ true) × (is_some (step c w (refuse lane shard)) ≡ true)
+enabled c w lane shard i e =
+    let p = placed_there w lane shard i e in
+    let n = length w.shards in
+    let found = position (goes_to n shard) p.from.unrouted in
+    (can_route c w lane shard p.from p.to p.lane_is p.shard_is n refl found refl i p.place, can_refuse c w lane shard p.from p.to p.lane_is p.shard_is n refl found refl i p.place)
 
 -- where there is one, in a world that is this one
 pub placed : (here before : Core) → here ≡ before → (lane shard i : ℕ) → next_place before.world lane shard ≡ Some i → Placed here.world lane shard i

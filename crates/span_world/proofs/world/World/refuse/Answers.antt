@@ -3,10 +3,10 @@ use Rattle.std.specs.List.{position}
 use Rattle.world_theory.specs.World.{Lane, goes_to}
 use Rattle.span_world.specs.Core.{config_of}
 use Rattle.span_world.specs.contracts.world.World.{the_view}
-use Rattle.world_theory.proofs.Routing.{read_is, reads_same, can_refuse, refuses}
+use Rattle.world_theory.proofs.Routing.{read_is, reads_same, refuses}
 use Rattle.world_theory.specs.Step.{refuse}
 use Rattle.span_world.proofs.Items.{refused_step}
-use Rattle.span_world.proofs.Routes.{placed, none_placed}
+use Rattle.span_world.proofs.Routes.{placed, none_placed, enabled}
 use Rattle.span_world.proofs.world.World.refuse.Goals as goal
 
 pub returns-in_default : goal.returns-in_default
@@ -14,11 +14,9 @@ returns-in_default c = (refl, (none_placed c.args.self.now.world c.args.lane c.a
 
 pub returns-in_err-try_reserve : goal.returns-in_err-try_reserve
 returns-in_err-try_reserve c =
-    let p = placed (the_view c.self.inside) c.args.self.now c.self.view_is c.args.lane c.args.shard c.in-Some.place (sym c.next_for.ensures ∙ c.in-Some.is) in
-    let n = length c.self.inside.shards.items in
     refused_step c.args.self.now _ (refuse c.args.lane c.args.shard) c.from_residual.result c.from_residual.ensures
     (rw (← c.self.view_is, c.try_reserve.ensures.items) refl)
-    (rw (← c.self.view_is) (can_refuse (config_of (the_view c.self.inside).config) (the_view c.self.inside).world c.args.lane c.args.shard p.from p.to p.lane_is p.shard_is n refl (position (goes_to n c.args.shard) p.from.unrouted) refl c.in-Some.place p.place))
+    (enabled (config_of c.args.self.now.config) c.args.self.now.world c.args.lane c.args.shard c.in-Some.place (sym c.next_for.ensures ∙ c.in-Some.is)).1
 
 pub returns : goal.returns
 returns c =

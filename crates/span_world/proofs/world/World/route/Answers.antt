@@ -3,13 +3,13 @@ use Rattle.std.specs.List.{position}
 use Rattle.world_theory.specs.World.{Lane, goes_to}
 use Rattle.span_world.specs.Core.{config_of}
 use Rattle.span_world.specs.contracts.world.World.{the_view}
-use Rattle.world_theory.proofs.Routing.{read_is, reads_same, put_back, can_route, routes}
+use Rattle.world_theory.proofs.Routing.{read_is, reads_same, put_back, routes}
 use Rattle.std.proofs.lemmas.List.{length-set}
 use Rattle.shard_journal.specs.Settings.{settings_of}
 use Rattle.world_theory.specs.Step.{route}
 use Rattle.span_world.proofs.Items.{refused_step}
 use Rattle.span_world.proofs.Looking.{looks_stay}
-use Rattle.span_world.proofs.Routes.{placed, none_placed}
+use Rattle.span_world.proofs.Routes.{placed, none_placed, enabled}
 use Rattle.span_world.proofs.world.World.route.Goals as goal
 
 pub returns-in_default : goal.returns-in_default
@@ -18,13 +18,12 @@ returns-in_default c = (refl, (none_placed c.args.self.now.world c.args.lane c.a
 pub returns-in_err-queue_from : goal.returns-in_err-queue_from
 returns-in_err-queue_from c =
     let p = placed (the_view c.self.inside) c.args.self.now c.self.view_is c.args.lane c.args.shard c.in-Some.place (sym c.next_for.ensures ∙ c.in-Some.is) in
-    let n = length c.self.inside.shards.items in
     let m = read_is c.self.inside.lanes.items c.args.lane c.index_mut-2.result.now p.has_lane c.index_mut-2.ensures.value in
     let k = read_is c.self.inside.shards.items c.args.shard c.index_mut.result.now p.has_shard c.index_mut.ensures.value in
     let back = c.in_err-queue_from.ensures.err in
     refused_step c.args.self.now _ (route c.args.lane c.args.shard) c.from_residual.result c.from_residual.ensures
     (rw (← c.self.view_is, back.0, back.1, put_back c.self.inside.lanes.items c.args.lane c.index_mut-2.result.now m, put_back c.self.inside.shards.items c.args.shard c.index_mut.result.now k) refl)
-    (rw (← c.self.view_is) (can_route (config_of (the_view c.self.inside).config) (the_view c.self.inside).world c.args.lane c.args.shard p.from p.to p.lane_is p.shard_is n refl (position (goes_to n c.args.shard) p.from.unrouted) refl c.in-Some.place p.place))
+    (enabled (config_of c.args.self.now.config) c.args.self.now.world c.args.lane c.args.shard c.in-Some.place (sym c.next_for.ensures ∙ c.in-Some.is)).0
 
 pub invariant_of-self-2 : goal.invariant_of-self-2
 invariant_of-self-2 c =
