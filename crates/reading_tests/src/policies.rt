@@ -20,6 +20,17 @@ fn list_of(alloc: Global, count: u32, named: u32, codes: usize) -> Result<Vec<Po
     Ok(list)
 }
 
+/// The number of the fault of such policies.
+fn limit_fault(
+    alloc: Global,
+    count: u32,
+    named: u32,
+    codes: usize,
+) -> Result<Option<u8>, AllocError> {
+    let made = Policies::new(alloc, list_of(alloc, count, named, codes)?);
+    Ok(made.err().map(PolicyFault::number))
+}
+
 #[test]
 fn policy_limits(rt: HostRuntime) -> Result<(), Fail> {
     let alloc = rt.alloc();
@@ -33,20 +44,21 @@ fn policy_limits(rt: HostRuntime) -> Result<(), Fail> {
         (2, 2, 0, Some(6)),
     ];
     for (count, named, codes, number) in cases {
-        let made = Policies::new(alloc, list_of(alloc, count, named, codes)?);
-        assert_eq!(rt;
-            made.err().map(PolicyFault::number),
-            number,
-            "{count} policies"
-        );
+        let found = limit_fault(alloc, count, named, codes)?;
+        assert_eq!(rt; found, number, "{count} policies");
     }
     Ok(())
 }
 
+/// The length of a copy of three policies.
+fn copied(alloc: Global) -> Result<usize, Fail> {
+    let policies = Policies::new(alloc, list_of(alloc, 3, 3, 2)?)?;
+    Ok(policies.try_clone(alloc)?.as_slice().len())
+}
+
 #[test]
 fn copies_are_made(rt: HostRuntime) -> Result<(), Fail> {
-    let policies = Policies::new(rt.alloc(), list_of(rt.alloc(), 3, 3, 2)?)?;
-    assert_eq!(rt; policies.try_clone(rt.alloc())?.as_slice().len(), 3);
+    assert_eq!(rt; copied(rt.alloc())?, 3);
     Ok(())
 }
 
@@ -181,15 +193,16 @@ fn lists_in_lists(rt: HostRuntime) -> Result<(), Fail> {
 #[test]
 fn faults_deep_inside(rt: HostRuntime) -> Result<(), Fail> {
     let alloc = rt.alloc();
+    let no_codes = PolicyKind::StatusCode {
+        codes: List::new(alloc),
+    };
+    let of_no_codes = nested_fault(alloc, 3, no_codes)?;
     let crossed = PolicyKind::SpanCount {
         min_spans: 2,
         max_spans: 1,
     };
-    let no_codes = PolicyKind::StatusCode {
-        codes: List::new(alloc),
-    };
-    assert_eq!(rt; nested_fault(alloc, 3, no_codes)?, Some(6));
-    assert_eq!(rt; nested_fault(alloc, 3, crossed)?, Some(5));
+    let of_crossed = nested_fault(alloc, 3, crossed)?;
+    assert_eq!(rt; [of_no_codes, of_crossed], [Some(6), Some(5)]);
     Ok(())
 }
 
@@ -213,16 +226,29 @@ fn limited(alloc: Global) -> Result<Vec<Policy>, AllocError> {
     Ok(list)
 }
 
+/// Whether these are the limiter nodes of policies.
+fn has_limiters(
+    alloc: Global,
+    policies: &Policies,
+    nodes: &[LimiterNode],
+) -> Result<bool, AllocError> {
+    Ok(policies.limiters(alloc)?.as_slice() == nodes)
+}
+
+/// Whether these are the limiter nodes of those policies, and of a copy of them.
+fn have_limiters(alloc: Global, nodes: &[LimiterNode]) -> Result<[bool; 2], Fail> {
+    let policies = Policies::new(alloc, limited(alloc)?)?;
+    let of_own = has_limiters(alloc, &policies, nodes)?;
+    let copy = policies.try_clone(alloc)?;
+    Ok([of_own, has_limiters(alloc, &copy, nodes)?])
+}
+
 #[test]
 fn limiter_nodes_by_the_walk(rt: HostRuntime) -> Result<(), Fail> {
-    let alloc = rt.alloc();
-    let policies = Policies::new(alloc, limited(alloc)?)?;
-    let expected = [(2, 3), (3, 4), (6, 5)].map(|(node, spans_per_second)| LimiterNode {
+    let nodes = [(2, 3), (3, 4), (6, 5)].map(|(node, spans_per_second)| LimiterNode {
         node,
         spans_per_second,
     });
-    assert_eq!(rt; policies.limiters(alloc)?.as_slice(), expected.as_slice());
-    let copy = policies.try_clone(alloc)?;
-    assert_eq!(rt; copy.limiters(alloc)?.as_slice(), expected.as_slice());
+    assert_eq!(rt; have_limiters(rt.alloc(), &nodes)?, [true, true]);
     Ok(())
 }

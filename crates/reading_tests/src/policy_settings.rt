@@ -1,280 +1,187 @@
 //! Policies in a configuration: the settings of each type at their bounds, and how deep and how many.
 use crate::configurations::compare_text;
 use policy_tree::PolicyFault;
-use std::alloc::Global;
+use std::alloc::{AllocError, Global};
+use std::process::Abort;
 use std::test::Fail;
 use tsc_config::ConfigFault;
 
-/// The settings of a policy, and the fault of a text of that policy alone.
-const SETTINGS: [(&str, &str, Option<ConfigFault>); 65] = [
-    ("latency", "threshold_ms = 0", None),
-    ("latency", "threshold_ms = 9223372036854775807", None),
+/// Settings of a policy, and the fault of a text of that policy alone.
+type Row = (&'static str, Option<ConfigFault>);
+
+const NOT_TOML: Option<ConfigFault> = Some(ConfigFault::NotToml);
+
+const OUT_OF_RANGE: Option<ConfigFault> = Some(ConfigFault::OutOfRange);
+
+const WRONG_TYPE: Option<ConfigFault> = Some(ConfigFault::WrongType);
+
+const MISSING_KEY: Option<ConfigFault> = Some(ConfigFault::MissingKey);
+
+const UNKNOWN_KEY: Option<ConfigFault> = Some(ConfigFault::UnknownKey);
+
+const CROSSED_BOUNDS: Option<ConfigFault> = Some(ConfigFault::Policy(PolicyFault::CrossedBounds));
+
+const NO_VALUES: Option<ConfigFault> = Some(ConfigFault::Policy(PolicyFault::NoValues));
+
+const EMPTY_LIST: Option<ConfigFault> = Some(ConfigFault::Policy(PolicyFault::EmptyList));
+
+const SAME_NAME: Option<ConfigFault> = Some(ConfigFault::Policy(PolicyFault::SameName));
+
+const LATENCY: [Row; 16] = [
+    ("threshold_ms = 0", None),
+    ("threshold_ms = 9223372036854775807", None),
+    ("threshold_ms = 9223372036854775808", NOT_TOML),
+    ("threshold_ms = -1", OUT_OF_RANGE),
+    ("threshold_ms = 1.0", WRONG_TYPE),
+    ("threshold_ms = \"1\"", WRONG_TYPE),
+    ("", MISSING_KEY),
+    ("upper_threshold_ms = 1", MISSING_KEY),
+    ("threshold_ms = 1, threshold_ms = 2", NOT_TOML),
     (
-        "latency",
-        "threshold_ms = 9223372036854775808",
-        Some(ConfigFault::NotToml),
-    ),
-    (
-        "latency",
-        "threshold_ms = -1",
-        Some(ConfigFault::OutOfRange),
-    ),
-    (
-        "latency",
-        "threshold_ms = 1.0",
-        Some(ConfigFault::WrongType),
-    ),
-    (
-        "latency",
-        "threshold_ms = \"1\"",
-        Some(ConfigFault::WrongType),
-    ),
-    ("latency", "", Some(ConfigFault::MissingKey)),
-    (
-        "latency",
-        "upper_threshold_ms = 1",
-        Some(ConfigFault::MissingKey),
-    ),
-    (
-        "latency",
-        "threshold_ms = 1, threshold_ms = 2",
-        Some(ConfigFault::NotToml),
-    ),
-    (
-        "latency",
         "threshold_ms = 1, upper_threshold_ms = 9223372036854775807",
         None,
     ),
+    ("threshold_ms = 1, upper_threshold_ms = -1", OUT_OF_RANGE),
+    ("threshold_ms = 1, upper_threshold_ms = true", WRONG_TYPE),
+    ("threshold_ms = 2, upper_threshold_ms = 1", CROSSED_BOUNDS),
+    ("threshold_ms = 1, upper_threshold_ms = 1", CROSSED_BOUNDS),
+    ("threshold_ms = 1, upper_threshold_ms = 2", None),
+    ("threshold = 1", UNKNOWN_KEY),
+];
+
+const STATUS_CODE: [Row; 6] = [
+    ("status_codes = [\"OK\", \"ERROR\", \"UNSET\"]", None),
+    ("status_codes = []", NO_VALUES),
+    ("status_codes = \"OK\"", WRONG_TYPE),
+    ("status_codes = [2]", WRONG_TYPE),
+    ("status_codes = [\"Ok\"]", OUT_OF_RANGE),
+    ("", MISSING_KEY),
+];
+
+const STRING_ATTRIBUTE: [Row; 9] = [
+    ("key = \"k\", values = [\"v\"]", None),
+    ("key = \"k\", values = [\"v\"], invert_match = true", None),
+    ("key = \"k\", values = []", NO_VALUES),
+    ("key = \"k\", values = [1]", WRONG_TYPE),
+    ("key = 1, values = [\"v\"]", WRONG_TYPE),
+    ("values = [\"v\"]", MISSING_KEY),
+    ("key = \"k\"", MISSING_KEY),
     (
-        "latency",
-        "threshold_ms = 1, upper_threshold_ms = -1",
-        Some(ConfigFault::OutOfRange),
-    ),
-    (
-        "latency",
-        "threshold_ms = 1, upper_threshold_ms = true",
-        Some(ConfigFault::WrongType),
-    ),
-    (
-        "latency",
-        "threshold_ms = 2, upper_threshold_ms = 1",
-        Some(ConfigFault::Policy(PolicyFault::CrossedBounds)),
-    ),
-    (
-        "latency",
-        "threshold_ms = 1, upper_threshold_ms = 1",
-        Some(ConfigFault::Policy(PolicyFault::CrossedBounds)),
-    ),
-    ("latency", "threshold_ms = 1, upper_threshold_ms = 2", None),
-    ("latency", "threshold = 1", Some(ConfigFault::UnknownKey)),
-    (
-        "status_code",
-        "status_codes = [\"OK\", \"ERROR\", \"UNSET\"]",
-        None,
-    ),
-    (
-        "status_code",
-        "status_codes = []",
-        Some(ConfigFault::Policy(PolicyFault::NoValues)),
-    ),
-    (
-        "status_code",
-        "status_codes = \"OK\"",
-        Some(ConfigFault::WrongType),
-    ),
-    (
-        "status_code",
-        "status_codes = [2]",
-        Some(ConfigFault::WrongType),
-    ),
-    (
-        "status_code",
-        "status_codes = [\"Ok\"]",
-        Some(ConfigFault::OutOfRange),
-    ),
-    ("status_code", "", Some(ConfigFault::MissingKey)),
-    ("string_attribute", "key = \"k\", values = [\"v\"]", None),
-    (
-        "string_attribute",
-        "key = \"k\", values = [\"v\"], invert_match = true",
-        None,
-    ),
-    (
-        "string_attribute",
-        "key = \"k\", values = []",
-        Some(ConfigFault::Policy(PolicyFault::NoValues)),
-    ),
-    (
-        "string_attribute",
-        "key = \"k\", values = [1]",
-        Some(ConfigFault::WrongType),
-    ),
-    (
-        "string_attribute",
-        "key = 1, values = [\"v\"]",
-        Some(ConfigFault::WrongType),
-    ),
-    (
-        "string_attribute",
-        "values = [\"v\"]",
-        Some(ConfigFault::MissingKey),
-    ),
-    (
-        "string_attribute",
-        "key = \"k\"",
-        Some(ConfigFault::MissingKey),
-    ),
-    (
-        "string_attribute",
         "key = \"k\", values = [\"v\"], invert_match = 1",
-        Some(ConfigFault::WrongType),
+        WRONG_TYPE,
     ),
     (
-        "string_attribute",
         "key = \"k\", values = [\"v\"], enabled_regex_matching = true",
-        Some(ConfigFault::UnknownKey),
+        UNKNOWN_KEY,
     ),
-    ("numeric_attribute", "key = \"k\"", None),
+];
+
+const NUMERIC_ATTRIBUTE: [Row; 7] = [
+    ("key = \"k\"", None),
     (
-        "numeric_attribute",
         "key = \"k\", min_value = -9223372036854775808, max_value = 9223372036854775807",
         None,
     ),
+    ("key = \"k\", min_value = 2, max_value = 1", CROSSED_BOUNDS),
     (
-        "numeric_attribute",
-        "key = \"k\", min_value = 2, max_value = 1",
-        Some(ConfigFault::Policy(PolicyFault::CrossedBounds)),
-    ),
-    (
-        "numeric_attribute",
         "key = \"k\", min_value = 1, max_value = 1, invert_match = false",
         None,
     ),
+    ("key = \"k\", min_value = 0.5", WRONG_TYPE),
+    ("key = \"k\", max_value = \"1\"", WRONG_TYPE),
+    ("min_value = 1", MISSING_KEY),
+];
+
+const BOOLEAN_ATTRIBUTE: [Row; 5] = [
+    ("key = \"k\", value = true", None),
+    ("key = \"k\", value = false, invert_match = true", None),
+    ("key = \"k\", value = 1", WRONG_TYPE),
+    ("key = \"k\"", MISSING_KEY),
+    ("value = true", MISSING_KEY),
+];
+
+const SPAN_COUNT: [Row; 6] = [
+    ("min_spans = 0", None),
+    ("min_spans = 3, max_spans = 3", None),
+    ("min_spans = 3, max_spans = 2", CROSSED_BOUNDS),
+    ("min_spans = -1", OUT_OF_RANGE),
+    ("max_spans = 2", MISSING_KEY),
+    ("min_spans = 1, max_spans = []", WRONG_TYPE),
+];
+
+const RATE_LIMITING: [Row; 5] = [
+    ("spans_per_second = 0", None),
+    ("spans_per_second = 9223372036854775807", None),
+    ("spans_per_second = -1", OUT_OF_RANGE),
+    ("", MISSING_KEY),
+    ("spans_per_second = 1, burst = 2", UNKNOWN_KEY),
+];
+
+const AND: [Row; 11] = [
+    ("and_sub_policy = []", EMPTY_LIST),
+    ("", MISSING_KEY),
+    ("and_sub_policy = {}", WRONG_TYPE),
+    ("and_sub_policy = [1]", WRONG_TYPE),
     (
-        "numeric_attribute",
-        "key = \"k\", min_value = 0.5",
-        Some(ConfigFault::WrongType),
-    ),
-    (
-        "numeric_attribute",
-        "key = \"k\", max_value = \"1\"",
-        Some(ConfigFault::WrongType),
-    ),
-    (
-        "numeric_attribute",
-        "min_value = 1",
-        Some(ConfigFault::MissingKey),
-    ),
-    ("boolean_attribute", "key = \"k\", value = true", None),
-    (
-        "boolean_attribute",
-        "key = \"k\", value = false, invert_match = true",
-        None,
-    ),
-    (
-        "boolean_attribute",
-        "key = \"k\", value = 1",
-        Some(ConfigFault::WrongType),
-    ),
-    (
-        "boolean_attribute",
-        "key = \"k\"",
-        Some(ConfigFault::MissingKey),
-    ),
-    (
-        "boolean_attribute",
-        "value = true",
-        Some(ConfigFault::MissingKey),
-    ),
-    ("span_count", "min_spans = 0", None),
-    ("span_count", "min_spans = 3, max_spans = 3", None),
-    (
-        "span_count",
-        "min_spans = 3, max_spans = 2",
-        Some(ConfigFault::Policy(PolicyFault::CrossedBounds)),
-    ),
-    (
-        "span_count",
-        "min_spans = -1",
-        Some(ConfigFault::OutOfRange),
-    ),
-    ("span_count", "max_spans = 2", Some(ConfigFault::MissingKey)),
-    (
-        "span_count",
-        "min_spans = 1, max_spans = []",
-        Some(ConfigFault::WrongType),
-    ),
-    ("rate_limiting", "spans_per_second = 0", None),
-    (
-        "rate_limiting",
-        "spans_per_second = 9223372036854775807",
-        None,
-    ),
-    (
-        "rate_limiting",
-        "spans_per_second = -1",
-        Some(ConfigFault::OutOfRange),
-    ),
-    ("rate_limiting", "", Some(ConfigFault::MissingKey)),
-    (
-        "rate_limiting",
-        "spans_per_second = 1, burst = 2",
-        Some(ConfigFault::UnknownKey),
-    ),
-    (
-        "and",
-        "and_sub_policy = []",
-        Some(ConfigFault::Policy(PolicyFault::EmptyList)),
-    ),
-    ("and", "", Some(ConfigFault::MissingKey)),
-    ("and", "and_sub_policy = {}", Some(ConfigFault::WrongType)),
-    ("and", "and_sub_policy = [1]", Some(ConfigFault::WrongType)),
-    (
-        "and",
         "and_sub_policy = [{ name = \"b\", type = \"always_sample\" }]",
         None,
     ),
     (
-        "and",
         "and_sub_policy = [{ name = \"b\", type = \"always_sample\" }, { name = \"b\", type = \"always_sample\" }]",
-        Some(ConfigFault::Policy(PolicyFault::SameName)),
+        SAME_NAME,
     ),
     (
-        "and",
         "and_sub_policy = [{ name = \"b\", type = \"latency\", latency = { threshold = 1 } }]",
-        Some(ConfigFault::UnknownKey),
+        UNKNOWN_KEY,
     ),
+    ("and_sub_policy = [{ name = \"b\" }]", MISSING_KEY),
     (
-        "and",
-        "and_sub_policy = [{ name = \"b\" }]",
-        Some(ConfigFault::MissingKey),
-    ),
-    (
-        "and",
         "and_sub_policy = [{ type = \"nothing\", nothing = 1 }]",
-        Some(ConfigFault::MissingKey),
+        MISSING_KEY,
     ),
     (
-        "and",
         "and_sub_policy = [{ name = \"b\", type = \"nothing\", nothing = 1 }]",
-        Some(ConfigFault::OutOfRange),
+        OUT_OF_RANGE,
     ),
-    ("and", "sub_policies = []", Some(ConfigFault::UnknownKey)),
+    ("sub_policies = []", UNKNOWN_KEY),
 ];
+
+/// Compares the fault of each of these settings of a policy of this type.
+fn compare_settings(
+    rt: &impl Abort,
+    alloc: Global,
+    kind: &str,
+    rows: &[Row],
+) -> Result<(), AllocError> {
+    for (settings, fault) in rows {
+        let text = format!(in alloc;
+            "policies = [{{ name = \"a\", type = \"{kind}\", {kind} = {{ {settings} }} }}]"
+        )?;
+        compare_text(rt, alloc, text.as_str(), *fault);
+    }
+    Ok(())
+}
 
 #[test]
 fn settings_of_each_type(rt: HostRuntime) -> Result<(), Fail> {
-    for (kind, settings, fault) in SETTINGS {
-        let text = format!(in rt.alloc();
-            "policies = [{{ name = \"a\", type = \"{kind}\", {kind} = {{ {settings} }} }}]"
-        )?;
-        compare_text(&rt, rt.alloc(), text.as_str(), fault);
+    let types: [(&str, &[Row]); 8] = [
+        ("latency", &LATENCY),
+        ("status_code", &STATUS_CODE),
+        ("string_attribute", &STRING_ATTRIBUTE),
+        ("numeric_attribute", &NUMERIC_ATTRIBUTE),
+        ("boolean_attribute", &BOOLEAN_ATTRIBUTE),
+        ("span_count", &SPAN_COUNT),
+        ("rate_limiting", &RATE_LIMITING),
+        ("and", &AND),
+    ];
+    for (kind, rows) in types {
+        compare_settings(&rt, rt.alloc(), kind, rows)?;
     }
     Ok(())
 }
 
 /// A text with an `and` inside an `and`, and so on, down to a policy that samples each trace.
-fn nested(alloc: Global, depth: usize) -> Result<String, Fail> {
+fn nested(alloc: Global, depth: usize) -> Result<String, AllocError> {
     let mut text = String::from_str(alloc, "policies = ")?;
     for _ in 1..depth {
         text.push_str("[{ name = \"a\", type = \"and\", and = { and_sub_policy = ")?;
@@ -287,7 +194,7 @@ fn nested(alloc: Global, depth: usize) -> Result<String, Fail> {
 }
 
 /// A text of so many policies, one after the other.
-fn many(alloc: Global, number: u64) -> Result<String, Fail> {
+fn many(alloc: Global, number: u64) -> Result<String, AllocError> {
     let mut text = String::new(alloc);
     for place in 0..number {
         let policy = format!(in alloc;

@@ -1,6 +1,14 @@
 //! Texts of requests: what they are written as again, and those that are refused.
 use otlp_json::{Bad, decode, encode};
+use std::alloc::Global;
 use std::test::Fail;
+
+/// Whether a text is a request that is written again as this line.
+fn is_written_as(alloc: Global, text: &str, line: &str) -> Result<bool, Fail> {
+    let request = decode(alloc, text.as_bytes())?;
+    let written = encode(alloc, &request)?;
+    Ok(written.as_slice() == line.as_bytes())
+}
 
 #[test]
 fn requests_are_written_again(rt: HostRuntime) -> Result<(), Fail> {
@@ -17,11 +25,14 @@ fn requests_are_written_again(rt: HostRuntime) -> Result<(), Fail> {
         ),
     ];
     for (text, line) in cases {
-        let request = decode(rt.alloc(), text.as_bytes())?;
-        let written = encode(rt.alloc(), &request)?;
-        assert_eq!(rt; written.as_slice(), line.as_bytes(), "{text}");
+        assert!(rt; is_written_as(rt.alloc(), text, line)?, "{text}");
     }
     Ok(())
+}
+
+/// Why a text is refused.
+fn refusal(alloc: Global, text: &str) -> Option<Bad> {
+    decode(alloc, text.as_bytes()).err()
 }
 
 #[test]
@@ -33,7 +44,6 @@ fn other_texts_are_refused(rt: HostRuntime) {
         (r#"{"resourceSpans":[null]}"#, Bad::Shape),
     ];
     for (text, fault) in cases {
-        let refused = decode(rt.alloc(), text.as_bytes()).err();
-        assert_eq!(rt; refused, Some(fault), "{text}");
+        assert_eq!(rt; refusal(rt.alloc(), text), Some(fault), "{text}");
     }
 }
