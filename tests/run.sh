@@ -126,11 +126,28 @@ spaces() {
     head -c "$1" /dev/zero | tr '\0' ' '
 }
 
-# A script that can't be read is refused at its first line.
+# A script that can't be read is refused at its first line, and one that fails later at the line in which it does.
 unreadable_script() {
     printf 'tsc: script refused: line 1\n' > "$work/expected"
     check "a folder as script" 4 "$work/expected" "$work" "$program" replay "$top/examples/errors.toml"
+    printf '%s\n' 'reply 200 {}' 'tsc: script refused: line 2' > "$work/expected"
+    check "a script that fails in its second line" 4 "$work/expected" /dev/null python3 -c "$failing_script" "$program" replay "$top/examples/errors.toml"
 }
+
+# Runs its arguments on a connection whose other end sends a line and a part of one, and is then reset.
+failing_script='
+import os, socket, struct, sys, time
+listener = socket.create_server(("127.0.0.1", 0))
+sender = socket.create_connection(listener.getsockname())
+script = listener.accept()[0]
+sender.sendall(b"recv 1 0 {}\ntick 1")
+script.recv(1, socket.MSG_PEEK)
+sender.setsockopt(socket.SOL_SOCKET, socket.SO_LINGER, struct.pack("ii", 1, 0))
+sender.close()
+time.sleep(0.1)
+os.dup2(script.fileno(), 0)
+os.execv(sys.argv[1], sys.argv[1:])
+'
 
 # A line of a script at its greatest length, with and without a line feed, and one byte beyond.
 long_lines() {
@@ -147,6 +164,48 @@ long_lines() {
     done
 }
 
+# Lines at the limits of the script's grammar: a script as printf takes it, what it is replied, and the number of the line that is refused, if one is.
+script_lines() {
+    local script replies refused status
+    while IFS='|' read -r script replies refused; do
+        printf "$script" > "$work/script"
+        status=0
+        printf "$replies" > "$work/expected"
+        if [ -z "$refused" ]; then
+            report_of_nothing >> "$work/expected"
+        else
+            status=4
+            echo "tsc: script refused: line $refused" >> "$work/expected"
+        fi
+        check "the script '$script'" "$status" "$work/expected" "$work/script" "$program" replay "$top/examples/errors.toml"
+    done <<'LINES'
+||
+close||
+tick 5\nclose\n||
+tick 18446744073709551615||
+tick 00000000000000000007\n||
+recv 1 0 |reply 400 {"message":"not JSON"}\n|
+recv 1 0 {} {}\nclose|reply 400 {"message":"not JSON"}\n|
+\n||1
+tick 5\n\n||2
+tick 18446744073709551616||1
+tick 000000000000000000007||1
+tick +5||1
+tick -5||1
+tick ||1
+tick  5||1
+tick 5 ||1
+tick 5\r\n||1
+Tick 5||1
+tick 1\nrecv 1 0||2
+recv 1  0 {}||1
+tick 1\ntick 2\nclose ||3
+tick 5\nclose\ntick 6||3
+close\nclose||2
+close\n\n||2
+LINES
+}
+
 # Wrong arguments.
 usage() {
     printf 'tsc: usage: tsc replay CONFIG or tsc serve CONFIG\n' > "$work/expected"
@@ -158,6 +217,15 @@ usage() {
     check "an empty command" 2 "$work/expected" /dev/null "$program" "" "$top/examples/errors.toml"
     check "a command that isn't UTF-8" 2 "$work/expected" /dev/null "$program" $'\377' "$top/examples/errors.toml"
     check "a configuration's name that isn't UTF-8" 2 "$work/expected" /dev/null "$program" replay $'\377'
+}
+
+# A collector whose configuration is refused, and one whose address is none.
+refused_before_it_listens() {
+    printf 'tsc: configuration refused: 7.1\n' > "$work/expected"
+    check "a refused configuration of a collector" 3 "$work/expected" /dev/null "$program" serve "$top/tests/rows/refused_no_policies/config.toml"
+    printf 'tsc: cannot listen\n' > "$work/expected"
+    printf '%s\n' 'listen = "x"' 'policies = [{ name = "all", type = "always_sample" }]' > "$work/config.toml"
+    check "an address that is none" 6 "$work/expected" /dev/null "$program" serve "$work/config.toml"
 }
 
 # A configuration that can't be read, isn't UTF-8, or is a byte too long; and one of the greatest length.
@@ -221,19 +289,24 @@ no_memory() {
     check "the same with memory" 3 "$work/expected" /dev/null "$program" replay "$work/config.toml"
 }
 
-# Runs at the limits of the collector, with ample memory: tests/limits.py makes them, with what must come out.
-limits() {
-    local name
+# Runs at the limits of the collector, with ample memory, of each policy at its bounds, and of configurations that are taken and refused:
+# tests/limits.py, tests/policies.py and tests/configurations.py make them, with what must come out.
+made_runs() {
+    local name status
     while read -r name; do
-        check "$name" 0 "$work/$name.expected" "$work/$name.script" "$program" replay "$work/$name.toml"
-    done < "$work/limits"
+        status=0
+        [ ! -e "$work/$name.status" ] || status=$(cat "$work/$name.status")
+        check "$name" "$status" "$work/$name.expected" "$work/$name.script" "$program" replay "$work/$name.toml"
+    done < "$work/names"
 }
 
 if [ $# -eq 0 ]; then
     (cd "$top/crates/collector_main" && rt run -- replay ../../examples/errors.toml < /dev/null > /dev/null) || give_up "the program isn't built"
     set -- "$top/crates/collector_main/out/collector_main"
 fi
-"$top/tests/limits.py" "$work" > "$work/limits" || give_up "no runs at the limits"
+for runs in limits policies configurations; do
+    PYTHONDONTWRITEBYTECODE=1 "$top/tests/$runs.py" "$work" >> "$work/names" || give_up "no $runs"
+done
 for program in "$@"; do
     [ -x "$program" ] || give_up "$program is no program"
     program=$(realpath "$program")
@@ -243,11 +316,13 @@ for program in "$@"; do
     cut_bodies
     unreadable_script
     long_lines
+    script_lines
     usage
+    refused_before_it_listens
     unreadable
     no_room
     no_memory
-    limits
+    made_runs
 done
 echo "$passed passed, $failed failed"
 [ "$failed" -eq 0 ]

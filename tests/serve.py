@@ -333,6 +333,55 @@ def many_clients(start):
         last[trace] = number
 
 
+def sends_to_four_traces(collector, client_number, requests, rejected, problems):
+    """One client of several: each request has a span of each of four traces, of which the first two have errors."""
+    try:
+        client = collector.client()
+        for number in range(requests):
+            spans = [
+                {
+                    "traceId": f"{trace:032x}",
+                    "spanId": f"{(client_number + 1) * 1000000 + number:016x}",
+                    "name": f"{client_number} {number}",
+                    "status": {"code": 2 if trace < 3 else 0},
+                }
+                for trace in range(1, 5)
+            ]
+            client.send(post(body_of(spans)))
+            status, _, text = client.answer()
+            want(f"the status of request {number}", status, 200)
+            rejected.append(int(json.loads(text).get("partialSuccess", {}).get("rejectedSpans", "0")))
+        client.close()
+    except (Failure, OSError, ValueError) as error:
+        problems.append(str(error))
+
+
+def queues_of_four(start):
+    """Three lanes send 10,000 spans of four traces to two shards over queues of four items, on both sides of the decisions: those of the
+    two kept traces are in the output, each client's in order and each once, but for what the clients were told to be rejected."""
+    collector = start("lanes = 3\nshards = 2\nqueue_capacity = 4\ndecision_wait_ms = 50\ntick_ms = 20\n" + ERRORS)
+    rejected, problems, threads = [], [], []
+    for client_number, requests in enumerate((834, 833, 833)):
+        arguments = (collector, client_number, requests, rejected, problems)
+        threads.append(threading.Thread(target=sends_to_four_traces, args=arguments))
+    for thread in threads:
+        thread.start()
+    for thread in threads:
+        thread.join()
+    want("what went wrong", problems, [])
+    lines, numbers = collector.close()
+    spans = [(span["traceId"], *map(int, span["name"].split(" "))) for span in spans_of(lines)]
+    want("the spans received, handed over and rejected", numbers[:4], [10000, len(spans), 0, sum(rejected)])
+    want("other reasons than the decisions", (numbers[4], numbers[5], numbers[8]), (0, 0, 0))
+    if len(spans) > 5000 or numbers[6] + numbers[7] > 5000:
+        raise Failure(f"of 5000 kept and 5000 other spans {numbers} were counted")
+    last = {}
+    for trace, client, number in spans:
+        if int(trace, 16) > 2 or number <= last.get((trace, client), -1):
+            raise Failure(f"span {number} of client {client} and trace {trace} came behind {last.get((trace, client))}")
+        last[trace, client] = number
+
+
 def closes_under_way(start):
     """`POST /close` while clients send: what was answered 200 is in the output or counted."""
     collector = start("lanes = 8\nshards = 2\nnum_traces = 100000\nqueue_capacity = 65536\n" + ALL)
@@ -425,7 +474,7 @@ def has_curl():
 def main():
     """Runs each check on each program."""
     checks = [one_error, is_kept_while_it_runs, keep_alive, chunked, expect, refusals, broken_clients, many_clients]
-    checks += [closes_under_way, refused_address, reader_is_gone] + ([under_curl] if has_curl() else [])
+    checks += [queues_of_four, closes_under_way, refused_address, reader_is_gone] + ([under_curl] if has_curl() else [])
     passed = failed = 0
     signal.signal(signal.SIGPIPE, signal.SIG_DFL)
     for program in sys.argv[1:]:

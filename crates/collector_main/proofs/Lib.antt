@@ -2,3 +2,4 @@ pub mod Texts
 pub mod Courses
 pub mod Replaying
 pub mod Serving
+pub mod Rows

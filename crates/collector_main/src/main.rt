@@ -5,8 +5,6 @@
 
 mod configuration;
 mod program;
-#[cfg(test)]
-mod tests;
 
 use crate::program::{program, without_memory};
 use std::alloc::{Alloc, Global};

@@ -1,7 +1,7 @@
--- Worked rows of the faults of a policy's settings, by computation.
+-- Worked rows of the faults of a policy's settings, and of limiter nodes, by computation.
 -- No contract rests on it: it shows the definitions on worked cases.
 use Rattle.std.specs.Prelude.{true, false, pos, [], ◌∷◌, map, ◌≡◌, refl}
-use Rattle.policy_tree.specs.Tree.{always_sample, latency, status_code, attribute, span_count, text_among, whole_within, truth_of}
+use Rattle.policy_tree.specs.Tree.{Policies, no_more, one_more, leaf, rate_limiting, and_policy, limiters, always_sample, latency, status_code, attribute, span_count, text_among, whole_within, truth_of}
 use Rattle.policy_tree.specs.Faults.{has_crossed_bounds, has_no_values}
 
 -- latencies above 500 ms and up to 500, up to 499, from 500 on, and above 0 up to 1
@@ -18,3 +18,13 @@ numbers = refl
 
 pub values : map has_no_values (status_code [] ∷ status_code (pos 2 ∷ []) ∷ attribute [] (text_among []) false ∷ attribute [] (text_among ([] ∷ [])) false ∷ attribute [] (truth_of false) false ∷ always_sample ∷ []) ≡ true ∷ false ∷ true ∷ false ∷ false ∷ false ∷ []
 values = refl
+
+-- an `and` of a policy that always samples and a limit of 3; a limit of 4; and an `and` of an `and` of a limit of 5
+abbrev limited : Policies
+limited =
+    one_more (and_policy (one_more (leaf always_sample) (one_more (rate_limiting 3) no_more)))
+    (one_more (rate_limiting 4)
+    (one_more (and_policy (one_more (and_policy (one_more (rate_limiting 5) no_more)) no_more)) no_more))
+
+pub limiter_nodes : limiters limited ≡ record { node = 2; spans_per_second = 3 } ∷ record { node = 3; spans_per_second = 4 } ∷ record { node = 6; spans_per_second = 5 } ∷ []
+limiter_nodes = refl

@@ -1,4 +1,4 @@
-//! Tests of policies and shards, by their public calls alone. They stand beside the crates that they test, so that those
+//! Tests of shards, by their public calls alone. They stand beside the crates that they test, so that those
 //! are proved once less.
 #![tactic(auto)]
 

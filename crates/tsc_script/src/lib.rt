@@ -7,8 +7,8 @@
 //!
 //! A read is tried again after an interruption alone, while fewer than 2^32 were made; any other error ends the script at
 //! that line. No contract can say when a reader fails, so a body that always answers `Fault` at the right line meets
-//! `play_script`'s contract, as does one that always answers `NoMemory`. `parts_tests` shows that a good reader
-//! gets neither.
+//! `play_script`'s contract, as does one that always answers `NoMemory`. Each run of `tests/run.sh` that is done
+//! shows that a good reader gets neither.
 #![tactic(auto)]
 
 mod buffer;

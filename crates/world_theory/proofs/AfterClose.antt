@@ -13,7 +13,7 @@ use Rattle.world_theory.specs.World.{Config, Lane, Shard, World, settings, ticke
 use Rattle.world_theory.specs.Step.{Step, receive, route, refuse, take as take_step, tick, close, end, decide, ship, pull, hand, fail, spoil, next_for, take_on, sender_is_done, ship_on, pull_from, spoil_applies, is_empty, step}
 use Rattle.world_theory.specs.Places.{Place, HeldKey, unrouted, queued, buffered, unshipped, exported, in_batch, handed, is_waiting, held_at, buffered_spans, held_by_lanes, held_by_shard, held_by_shards, held, IsClosed}
 use Rattle.journal_theory.proofs.Notes.{HasRoom, own_spans, spans_more, Sound, Meeting, it_joins, it_meets, it_opens, meeting}
-use Rattle.world_theory.specs.Headline.{NothingAfterClose, EachNothingAfterClose}
+use Rattle.world_theory.specs.Headline.{NothingAfterClose, OfEachRun}
 use Rattle.journal_theory.specs.Answered.{effect_answered, effect_answered_at}
 use Rattle.world_theory.proofs.Answered.{next_there, content_same}
 use Rattle.world_theory.proofs.AllAnswered.{AllAnswered}
@@ -254,5 +254,5 @@ module _ (c : Config) (room : HasRoom c.limit) (w : World) (given : AllAnswered 
       let m = some_unless (is_empty w.batch || not (spoil_applies w reason)) _ next e in
       absurd (both (is_empty w.batch) (ap is_empty no_batch) (or_both (is_empty w.batch) (not (spoil_applies w reason)) m.0).0)
 
-pub nothing_after_close : EachNothingAfterClose
+pub nothing_after_close : OfEachRun NothingAfterClose
 nothing_after_close = of_each_answered (λ c w. Unit {0}) NothingAfterClose (λ c room lanes shards. tt) (λ c room w next st h. tt) (λ c room w h given closed s next f. not_enabled c room w given closed s next f)

@@ -6,7 +6,7 @@ use Rattle.span_ids.specs.declared.keys.ArrivalKey.{ArrivalKey}
 use Rattle.world_theory.specs.World.{Config, Lane, World, new_world, new_lane, new_shard, settings}
 use Rattle.world_theory.specs.Step.{Step, step, run_from}
 use Rattle.world_theory.specs.Places.{places}
-use Rattle.world_theory.specs.Headline.{InOnePlace, OfEachRun, EachInOnePlace}
+use Rattle.world_theory.specs.Headline.{InOnePlace, OfEachRun}
 use Rattle.journal_theory.proofs.Notes.{HasRoom}
 use Rattle.journal_theory.proofs.ListFacts.{total}
 use Rattle.journal_theory.proofs.Sound.{last_of_nil}
@@ -83,7 +83,7 @@ no_places c w k e = go (places c w k) e
     go [] e = refl
     go (x ∷ xs) e = absurd (omega arith)
 
-pub in_one_place : EachInOnePlace
+pub in_one_place : OfEachRun InOnePlace
 in_one_place = of_each_run Accounted InOnePlace accounted_new accounted_step gives
   where
     gives : (c : Config) → HasRoom c.limit → (w : World) → Accounted c w → InOnePlace c w

@@ -14,7 +14,7 @@ use Rattle.otlp_types.specs.declared.arrival.Arrival.{Arrival}
 use Rattle.otlp_types.specs.declared.arrival.Item.TheVariants.{Span, Tick, End}
 use Rattle.world_theory.specs.World.{Config, Lane, Shard, World, new_world, new_lane, new_shard, settings, has_due, same_key, is_same_conn}
 use Rattle.world_theory.specs.Step.{is_of_conn, arrivals, has_ids}
-use Rattle.world_theory.specs.Headline.{ComesFirst, have_same_trace, handed_spans, InReceivedOrder, EachInReceivedOrder}
+use Rattle.world_theory.specs.Headline.{ComesFirst, have_same_trace, handed_spans, InReceivedOrder, OfEachRun}
 use Rattle.journal_theory.proofs.Notes.{HasRoom}
 use Rattle.journal_theory.proofs.ListFacts.{Each, Each-weaker, Each-filter, Pairs, Pairs-left, Pairs-filter, AllPairs-from, total, length-slice_set, flat_map-append'}
 use Rattle.journal_theory.proofs.Sound.{last_of_nil}
@@ -236,7 +236,7 @@ ordered_new c room lanes shards = record {
     no_lane : (j : ℕ) (l : Lane) → slice_get (replicate lanes new_lane) j ≡ Some l → l.unrouted ≡ []
     no_lane j l e = let k : new_lane ≡ l = replicated lanes j new_lane l e in subst (λ (l : Lane). l.unrouted ≡ []) k refl
 
-pub in_received_order : EachInReceivedOrder
+pub in_received_order : OfEachRun (λ c w. InReceivedOrder w)
 in_received_order = of_each_run Ordered (λ c w. InReceivedOrder w) ordered_new ordered_step gives
   where
     gives : (c : Config) → HasRoom c.limit → (w : World) → Ordered c w → InReceivedOrder w

@@ -16,7 +16,7 @@ use Rattle.span_ids.specs.declared.outcome.Reason.TheVariants.{InvalidId, QueueF
 use Rattle.world_theory.specs.World.{Config, Lane, Shard, World, settings, has_due, same_key}
 use Rattle.journal_theory.specs.Marked.{marks_apply_to_ids, marks_apply_to}
 use Rattle.world_theory.specs.Places.{Place, buffered, counted_under}
-use Rattle.world_theory.specs.Headline.{Taken, fate_of, HasFate, HasCause, WasReceived, is_past_release, is_where, is_where_late, is_buffered, is_span_with, was_taken, handed_spans, PlaceFitsFate, CountedWithCause, MeetsRemembered, OnlyReleased, ShipsOutput, EndsLast, EachPlaceFitsFate, EachCountedWithCause, EachMeetsRemembered, EachOnlyReleased, EachShipsOutput, EachEndsLast, Headline}
+use Rattle.world_theory.specs.Headline.{Taken, fate_of, HasFate, HasCause, WasReceived, is_past_release, is_where, is_where_late, is_buffered, is_span_with, was_taken, handed_spans, PlaceFitsFate, CountedWithCause, MeetsRemembered, OnlyReleased, ShipsOutput, EndsLast, OfEachRun, Headline}
 use Rattle.world_theory.proofs.OnePlace.{in_one_place}
 use Rattle.world_theory.proofs.Order.{in_received_order}
 use Rattle.world_theory.proofs.AfterClose.{nothing_after_close}
@@ -57,7 +57,7 @@ place_fits c w t place (waits_there p r f g) = ap (is_where t.shard (has_due (se
 place_fits c w t place (sent_there p f) = ap (λ (f : Fate). is_where t.shard (has_due (settings c w) t.of) f place) f ∙ or_left (is_past_release t.shard place) (has_due (settings c w) t.of && is_buffered t.shard place) p
 place_fits c w t place (counted_there r p f) = ap (λ (f : Fate). is_where t.shard (has_due (settings c w) t.of) f place) f ∙ ap (is_where t.shard (has_due (settings c w) t.of) (is_counted r)) p ∙ or_left (is_same_reason r r) (has_due (settings c w) t.of && false) (same_reason r)
 
-pub place_fits_fate : EachPlaceFitsFate
+pub place_fits_fate : OfEachRun PlaceFitsFate
 place_fits_fate = of_whole PlaceFitsFate (λ c room w h t. let k = known_at c room w h t in (k.0, k.1, place_fits c w t k.0 k.2))
 
 -- ---- remembered decisions
@@ -103,7 +103,7 @@ answered_behind s J dealt (x ∷ later) before e is h = further later (subst (λ
     further [] k = k.1
     further (y ∷ later) k = further later k.1
 
-pub meets_remembered : EachMeetsRemembered
+pub meets_remembered : OfEachRun MeetsRemembered
 meets_remembered = of_whole_answered MeetsRemembered gives
   where
     gives : (c : Config) → HasRoom c.limit → (w : World) → Whole c w → AllAnswered (settings c w) w.shards → MeetsRemembered c w
@@ -182,16 +182,16 @@ module _ (c : Config) (room : HasRoom c.limit) (w : World) (h : Whole c w) where
       let g = Each-split (IsReceived w.lanes) a (handed_spans w) place (Each-left (IsReceived w.lanes) (handed_spans w) (w.batch ++ w.exported) h.sourced.gone) in
       (record { lane = g.lane; of = g.l; in_world = g.at; has = split_contains a g.l.received g.within }, taken_of c w r.shard r.sh a is_released r.at (has_fate_of (settings c w) r.sh.journal a r.released))
 
-pub counted_with_cause : EachCountedWithCause
+pub counted_with_cause : OfEachRun CountedWithCause
 counted_with_cause = of_whole CountedWithCause with_cause
 
-pub only_released : EachOnlyReleased
+pub only_released : OfEachRun OnlyReleased
 only_released = of_whole OnlyReleased released_only
 
-pub ships_output : EachShipsOutput
+pub ships_output : OfEachRun ShipsOutput
 ships_output = of_whole ShipsOutput (λ c room w h. h.shipped)
 
-pub ends_last : EachEndsLast
+pub ends_last : OfEachRun (λ c w. EndsLast w)
 ends_last = of_whole (λ c w. EndsLast w) (λ c room w h. lanes_end_last w h.ended)
 
 -- all parts

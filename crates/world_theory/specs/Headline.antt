@@ -210,45 +210,9 @@ pub record HoldsOf (c : Config) (w : World) : Type 0 where
   pub ends_last : EndsLast w
   pub after_close : NothingAfterClose c w
 
--- of every run, for every configuration that keeps a trace and every number of lanes and shards
+-- in every run, for every configuration that keeps a trace and every number of lanes and shards
 abbrev pub OfEachRun : (Config → World → Type 0) → Type 0
 OfEachRun P = (c : Config) (lanes shards : ℕ) (steps : List Step) (w : World) → KeepsATrace c → run c lanes shards steps ≡ Some w → P c w
-
--- in every run each received span is in one place
-abbrev pub EachInOnePlace : Type 0
-EachInOnePlace = OfEachRun InOnePlace
-
--- in every run each span that a shard took is in the place that fits its fate
-abbrev pub EachPlaceFitsFate : Type 0
-EachPlaceFitsFate = OfEachRun PlaceFitsFate
-
--- in every run what is counted is counted with its cause
-abbrev pub EachCountedWithCause : Type 0
-EachCountedWithCause = OfEachRun CountedWithCause
-
--- in every run spans of one connection and trace are handed over in received order
-abbrev pub EachInReceivedOrder : Type 0
-EachInReceivedOrder = OfEachRun (λ c w. InReceivedOrder w)
-
--- in every run later spans meet the remembered decision of their trace
-abbrev pub EachMeetsRemembered : Type 0
-EachMeetsRemembered = OfEachRun MeetsRemembered
-
--- in every run only what was received and released is handed over
-abbrev pub EachOnlyReleased : Type 0
-EachOnlyReleased = OfEachRun OnlyReleased
-
--- in every run each shard ships what its journal released
-abbrev pub EachShipsOutput : Type 0
-EachShipsOutput = OfEachRun ShipsOutput
-
--- in every run a lane's End is the last that a shard takes of it
-abbrev pub EachEndsLast : Type 0
-EachEndsLast = OfEachRun (λ c w. EndsLast w)
-
--- in every run nothing is handed over or counted after close
-abbrev pub EachNothingAfterClose : Type 0
-EachNothingAfterClose = OfEachRun NothingAfterClose
 
 -- the headline: in every run all of it holds
 abbrev pub Headline : Type 0

@@ -2,8 +2,8 @@
 ghost use Rattle.std.specs.Prelude.{◌≡◌, ◌≤◌, ◌*◌, map};
 ghost use Rattle.shared_budget.specs.Budget.{cell_of, AreOfOneBudget};
 
-use super::limiters::rate;
-use policy_tree::Policies;
+use otlp_types::Text;
+use policy_tree::{Policies, Policy, PolicyKind};
 use rate_budget::Limiter;
 use shared_budget::{BudgetSeat, SharedBudget};
 use std::alloc::{AllocError, Global};
@@ -11,6 +11,14 @@ use std::sync::Wait;
 use std::test::Fail;
 use std::thread;
 use std::thread::Threads;
+
+/// A policy with a limit of so many spans per second.
+fn rate(alloc: Global, name: &str, spans_per_second: u64) -> Result<Policy, AllocError> {
+    Ok(Policy {
+        name: Text::from_str(alloc, name)?,
+        kind: PolicyKind::RateLimiting { spans_per_second },
+    })
+}
 
 /// What a seat is answered. A node that it isn't at is answered no.
 fn ask<'r, R: Wait>(seat: &mut BudgetSeat<'r, R>, node: u16, second: u64, spans: u64) -> bool
@@ -59,28 +67,6 @@ fn ask_both<'a, 'b, R: Threads + Wait + Sync>(
     (ones + others, one, other)
 }
 
-/// The last two seats ask on threads of their own. None where there aren't two.
-fn ask_by_two<'r, R: Threads + Wait + Sync>(
-    rt: &'r R,
-    seats: &mut Vec<BudgetSeat<'r, R>>,
-    second: u64,
-    times: u32,
-) -> Result<Option<u64>, AllocError>
-    requires { AreOfOneBudget seats.old.items }
-    ensures { AreOfOneBudget seats.new.items }
-{
-    let Some(one) = seats.pop() else {
-        return Ok(None);
-    };
-    let Some(other) = seats.pop() else {
-        return Ok(None);
-    };
-    let (granted, one, other) = ask_both(rt, one, other, second, times);
-    seats.push(other)?;
-    seats.push(one)?;
-    Ok(Some(granted))
-}
-
 /// The last four seats ask on threads of their own. None where there aren't four.
 fn ask_by_four<'r, R: Threads + Wait + Sync>(
     rt: &'r R,
@@ -115,18 +101,6 @@ fn ask_by_four<'r, R: Threads + Wait + Sync>(
     Ok(Some(first_half + second_half))
 }
 
-/// What two seats are granted on threads of their own, each at five askings in second 7.
-fn granted_to_two<R: Threads + Wait + Sync>(
-    rt: &R,
-    alloc: Global,
-    policies: &Policies,
-) -> Result<Option<u64>, AllocError> {
-    let mut seats = SharedBudget::new(rt, alloc, policies, 2)?;
-    let granted = ask_by_two(rt, &mut seats, 7, 5)?;
-    SharedBudget::reunite(seats);
-    Ok(granted)
-}
-
 /// Whether four seats on threads of their own, each at 400 askings in each of 25 seconds, are granted just so many in each.
 fn each_second_grants<R: Threads + Wait + Sync>(
     rt: &R,
@@ -141,14 +115,6 @@ fn each_second_grants<R: Threads + Wait + Sync>(
     }
     SharedBudget::reunite(seats);
     Ok(within)
-}
-
-#[test]
-fn two_seats_on_threads(rt: HostRuntime) -> Result<(), Fail> {
-    let alloc = rt.alloc();
-    let policies = Policies::new(alloc, vec![in alloc; rate(alloc, "a", 3)?]?)?;
-    assert_eq!(rt; granted_to_two(&rt, alloc, &policies)?, Some(3));
-    Ok(())
 }
 
 #[test]

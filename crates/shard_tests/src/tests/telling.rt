@@ -1,4 +1,4 @@
-//! Assertions as calls: beside values that must be let go, a call costs a proof less than an assertion.
+//! An assertion as a call: beside values that must be let go, a call costs a proof less than an assertion.
 ghost use Rattle.std.specs.Prelude.{◌≡◌, true};
 
 use std::fmt::Debug;
@@ -9,14 +9,4 @@ pub fn holds<S: Debug>(rt: &impl Abort, is: bool, seen: &S)
     ensures { is ≡ true }
 {
     assert!(rt; is, "{seen:?}");
-}
-
-/// Ends the test, and tells the case, where what was found isn't what was wanted.
-pub fn equal<T: Copy + PartialEq + Debug, C: Debug>(
-    rt: &impl Abort,
-    found: T,
-    wanted: T,
-    case: &C,
-) {
-    assert_eq!(rt; found, wanted, "{case:?}");
 }

@@ -1,0 +1,237 @@
+#!/usr/bin/env python3
+"""Writes configurations to a folder, taken and refused, each with an empty script: NAME.toml, NAME.script and NAME.expected, and NAME.status where
+it isn't 0; one name a line on standard output.
+
+    tests/configurations.py FOLDER
+
+The fault of each stands in the tables, by its number in OPERATING.md; none of it is the program's answer. Of two faults the one with the
+lower number is told.
+"""
+import sys
+
+NOT_TOML, UNKNOWN_KEY, MISSING_KEY, WRONG_TYPE, OUT_OF_RANGE, TOO_FEW_TRACES = "123456"
+EMPTY_LIST, TOO_DEEP, TOO_MANY, SAME_NAME, CROSSED_BOUNDS, NO_VALUES = (f"7.{number}" for number in range(1, 7))
+TAKEN = None
+ALL = '{ name = "all", type = "always_sample" }'
+WHOLE_TOP = 2**63 - 1
+REPORT = "received 0\nhanded 0\n" + "".join(f"dropped {reason} 0\n" for reason in range(1, 8))
+
+FAULTS = [
+    ("", MISSING_KEY),
+    ("lanes =", NOT_TOML),
+    ("polices = []", UNKNOWN_KEY),
+    ("policies = []", EMPTY_LIST),
+    ("policies = [1]", WRONG_TYPE),
+    ("num_traces = 0", MISSING_KEY),
+    ("num_traces = 1\nshards = 2\npolicies = []", TOO_FEW_TRACES),
+    ("lanes = 65\npolicies = []", OUT_OF_RANGE),
+    ("decision_cache = 1\npolicies = []", WRONG_TYPE),
+    ("decision_cache = { sampled = 1 }\npolicies = []", UNKNOWN_KEY),
+    ("decision_cache = { sampled_cache_size = 1000001 }\npolicies = []", OUT_OF_RANGE),
+    ("decision_cache = { non_sampled_cache_size = -1 }\npolicies = []", OUT_OF_RANGE),
+    ('policies = [{ name = "a", type = "always_sample", status_code = 1 }]', UNKNOWN_KEY),
+    ('policies = [{ name = "a", type = "none", status_code = 1 }]', OUT_OF_RANGE),
+    ('policies = [{ name = "a", type = "status_code", status_code = { status_codes = ["error"] } }]', OUT_OF_RANGE),
+]
+
+# The keys of whole numbers from 1 on, each with the greatest that it takes.
+NUMBERS = {
+    "decision_wait_ms": 3_600_000,
+    "num_traces": 1_000_000,
+    "lanes": 64,
+    "shards": 64,
+    "queue_capacity": 65_536,
+    "export_capacity": 65_536,
+    "send_batch_size": 8192,
+    "tick_ms": 60_000,
+}
+
+# Lines before one policy.
+LINES = [
+    ("root_wait_ms = 0", TAKEN),
+    ("root_wait_ms = 3600000", TAKEN),
+    ("root_wait_ms = 3600001", OUT_OF_RANGE),
+    ("root_wait_ms = -1", OUT_OF_RANGE),
+    ("root_wait_ms = 0.5", WRONG_TYPE),
+    ("root_wait = 0", UNKNOWN_KEY),
+    ('listen = ""', TAKEN),
+    ('listen = "[::1]:0"', TAKEN),
+    ("listen = 4318", WRONG_TYPE),
+    ('listen = ["127.0.0.1:4318"]', WRONG_TYPE),
+    ('listen = "a"\nlisten = "a"', NOT_TOML),
+]
+
+# For each fault a line and the beginning of a list of policies that has it, by rising numbers.
+FAULTY = [
+    ("lanes =\n", "", NOT_TOML),
+    ("polices = []\n", "", UNKNOWN_KEY),
+    ("", '{ type = "always_sample" }, ', MISSING_KEY),
+    ("tick_ms = true\n", "", WRONG_TYPE),
+    ("queue_capacity = 0\n", "", OUT_OF_RANGE),
+    ("num_traces = 1\nshards = 2\n", "", TOO_FEW_TRACES),
+    ("", f"{ALL}, ", SAME_NAME),
+]
+
+# Settings of a policy of each type.
+SETTINGS = {
+    "latency": [
+        ("threshold_ms = 0", TAKEN),
+        (f"threshold_ms = {WHOLE_TOP}", TAKEN),
+        (f"threshold_ms = {WHOLE_TOP + 1}", NOT_TOML),
+        ("threshold_ms = -1", OUT_OF_RANGE),
+        ("threshold_ms = 1.0", WRONG_TYPE),
+        ('threshold_ms = "1"', WRONG_TYPE),
+        ("", MISSING_KEY),
+        ("upper_threshold_ms = 1", MISSING_KEY),
+        ("threshold_ms = 1, threshold_ms = 2", NOT_TOML),
+        (f"threshold_ms = 1, upper_threshold_ms = {WHOLE_TOP}", TAKEN),
+        ("threshold_ms = 1, upper_threshold_ms = -1", OUT_OF_RANGE),
+        ("threshold_ms = 1, upper_threshold_ms = true", WRONG_TYPE),
+        ("threshold_ms = 2, upper_threshold_ms = 1", CROSSED_BOUNDS),
+        ("threshold_ms = 1, upper_threshold_ms = 1", CROSSED_BOUNDS),
+        ("threshold_ms = 1, upper_threshold_ms = 2", TAKEN),
+        ("threshold_ms = 500, upper_threshold_ms = 0", TAKEN),
+        ("threshold_ms = 0, upper_threshold_ms = 1", TAKEN),
+        ("threshold = 1", UNKNOWN_KEY),
+    ],
+    "status_code": [
+        ('status_codes = ["OK", "ERROR", "UNSET"]', TAKEN),
+        ("status_codes = []", NO_VALUES),
+        ('status_codes = "OK"', WRONG_TYPE),
+        ("status_codes = [2]", WRONG_TYPE),
+        ('status_codes = ["Ok"]', OUT_OF_RANGE),
+        ("", MISSING_KEY),
+    ],
+    "string_attribute": [
+        ('key = "k", values = ["v"]', TAKEN),
+        ('key = "k", values = ["v"], invert_match = true', TAKEN),
+        ('key = "k", values = []', NO_VALUES),
+        ('key = "k", values = [1]', WRONG_TYPE),
+        ('key = 1, values = ["v"]', WRONG_TYPE),
+        ('values = ["v"]', MISSING_KEY),
+        ('key = "k"', MISSING_KEY),
+        ('key = "k", values = ["v"], invert_match = 1', WRONG_TYPE),
+        ('key = "k", values = ["v"], enabled_regex_matching = true', UNKNOWN_KEY),
+    ],
+    "numeric_attribute": [
+        ('key = "k"', TAKEN),
+        (f'key = "k", min_value = {-WHOLE_TOP - 1}, max_value = {WHOLE_TOP}', TAKEN),
+        ('key = "k", min_value = 2, max_value = 1', CROSSED_BOUNDS),
+        ('key = "k", min_value = 1, max_value = 1, invert_match = false', TAKEN),
+        ('key = "k", min_value = -1, max_value = -1', TAKEN),
+        ('key = "k", min_value = 0.5', WRONG_TYPE),
+        ('key = "k", max_value = "1"', WRONG_TYPE),
+        ("min_value = 1", MISSING_KEY),
+    ],
+    "boolean_attribute": [
+        ('key = "k", value = true', TAKEN),
+        ('key = "k", value = false, invert_match = true', TAKEN),
+        ('key = "k", value = 1', WRONG_TYPE),
+        ('key = "k"', MISSING_KEY),
+        ("value = true", MISSING_KEY),
+    ],
+    "span_count": [
+        ("min_spans = 0", TAKEN),
+        ("min_spans = 3, max_spans = 3", TAKEN),
+        ("min_spans = 3, max_spans = 2", CROSSED_BOUNDS),
+        ("min_spans = 3, max_spans = 0", TAKEN),
+        ("min_spans = -1", OUT_OF_RANGE),
+        ("max_spans = 2", MISSING_KEY),
+        ("min_spans = 1, max_spans = []", WRONG_TYPE),
+    ],
+    "rate_limiting": [
+        ("spans_per_second = 0", TAKEN),
+        (f"spans_per_second = {WHOLE_TOP}", TAKEN),
+        ("spans_per_second = -1", OUT_OF_RANGE),
+        ("", MISSING_KEY),
+        ("spans_per_second = 1, burst = 2", UNKNOWN_KEY),
+    ],
+    "and": [
+        ("and_sub_policy = []", EMPTY_LIST),
+        ("", MISSING_KEY),
+        ("and_sub_policy = {}", WRONG_TYPE),
+        ("and_sub_policy = [1]", WRONG_TYPE),
+        ('and_sub_policy = [{ name = "b", type = "always_sample" }]', TAKEN),
+        (f"and_sub_policy = [{ALL}, {ALL}]", SAME_NAME),
+        ('and_sub_policy = [{ name = "b", type = "latency", latency = { threshold = 1 } }]', UNKNOWN_KEY),
+        ('and_sub_policy = [{ name = "b" }]', MISSING_KEY),
+        ('and_sub_policy = [{ type = "nothing", nothing = 1 }]', MISSING_KEY),
+        ('and_sub_policy = [{ name = "b", type = "nothing", nothing = 1 }]', OUT_OF_RANGE),
+        ("sub_policies = []", UNKNOWN_KEY),
+    ],
+}
+
+
+def write(folder, name, text, fault):
+    """A configuration, and the number of its fault, if it has one."""
+    print(name)
+    with open(f"{folder}/{name}.toml", "w") as file:
+        file.write(text)
+    open(f"{folder}/{name}.script", "w").close()
+    with open(f"{folder}/{name}.expected", "w") as file:
+        file.write(f"tsc: configuration refused: {fault}\n" if fault else REPORT)
+    if fault:
+        with open(f"{folder}/{name}.status", "w") as file:
+            file.write("3\n")
+
+
+def numbered(folder, what, rows):
+    """Configurations by their numbers."""
+    for number, (text, fault) in enumerate(rows, 1):
+        write(folder, f"{what} {number}", text, fault)
+
+
+def at_the_bounds():
+    """Lines with each key of whole numbers at its bounds and beyond, of another type, and twice."""
+    for key, greatest in NUMBERS.items():
+        values = [("1", TAKEN), (greatest, TAKEN), ("0", OUT_OF_RANGE), (greatest + 1, OUT_OF_RANGE), ("-1", OUT_OF_RANGE)]
+        yield from ((f"{key} = {value}", fault) for value, fault in values + [("1.0", WRONG_TYPE), ('"1"', WRONG_TYPE)])
+        yield f"{key} = 1\n{key} = 1", NOT_TOML
+
+
+def of_two_faults():
+    """Each two of the faults together: the one of lower number is told."""
+    for place, (line, policy, fault) in enumerate(FAULTY):
+        yield f"{line}policies = [{policy}{ALL}]", fault
+        for other_line, other_policy, _ in FAULTY[place + 1 :]:
+            yield f"{line}{other_line}policies = [{policy}{other_policy}{ALL}]", fault
+
+
+def nested(levels, inner):
+    """A policy within so many `and`s."""
+    for _ in range(levels):
+        inner = f'{{ name = "a", type = "and", and = {{ and_sub_policy = [{inner}] }} }}'
+    return inner
+
+
+def status_policies(count, named, codes):
+    """Policies on so many status codes; those after the first `named` have one name."""
+    settings = "status_codes = [" + ", ".join(['"ERROR"'] * codes) + "]"
+    return ", ".join(f'{{ name = "{min(n, named)}", type = "status_code", status_code = {{ {settings} }} }}' for n in range(count))
+
+
+def lists():
+    """Lists of policies at their limits, at the top and within `and`s, and faults deep inside."""
+    rows = [(0, 0, 1, EMPTY_LIST), (1, 1, 1, TAKEN), (64, 64, 2, TAKEN), (65, 64, 1, TOO_MANY), (65, 0, 0, TOO_MANY), (2, 0, 0, SAME_NAME), (2, 2, 0, NO_VALUES)]
+    yield from ((status_policies(count, named, codes), fault) for count, named, codes, fault in rows)
+    rows = [(63, 63, 1, TAKEN), (64, 64, 1, TOO_MANY), (2, 0, 0, SAME_NAME)]
+    yield from ((nested(1, status_policies(count, named, codes)), fault) for count, named, codes, fault in rows)
+    yield from ((nested(levels, ALL), fault) for levels, fault in ((0, TAKEN), (7, TAKEN), (8, TOO_DEEP)))
+    yield from ((nested(levels + 1, ""), EMPTY_LIST) for levels in (0, 1, 8, 20))
+    yield nested(3, status_policies(1, 1, 0)), NO_VALUES
+    yield nested(3, '{ name = "a", type = "span_count", span_count = { min_spans = 2, max_spans = 1 } }'), CROSSED_BOUNDS
+
+
+def main(folder):
+    """Writes all."""
+    numbered(folder, "configuration", FAULTS)
+    numbered(folder, "line of a configuration", [(f"{line}\npolicies = [{ALL}]", fault) for line, fault in [*at_the_bounds(), *LINES]])
+    numbered(folder, "two faults", of_two_faults())
+    for kind, rows in SETTINGS.items():
+        texts = [(f'policies = [{{ name = "a", type = "{kind}", {kind} = {{ {settings} }} }}]', fault) for settings, fault in rows]
+        numbered(folder, f"settings of {kind}", texts)
+    numbered(folder, "list of policies", [(f"policies = [{inner}]", fault) for inner, fault in lists()])
+
+
+if __name__ == "__main__":
+    main(sys.argv[1])

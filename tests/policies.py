@@ -1,0 +1,141 @@
+#!/usr/bin/env python3
+"""Writes runs of one trace to a folder, each under policies at, below or above a bound: NAME.toml, NAME.script and NAME.expected, one name a
+line on standard output.
+
+    tests/policies.py FOLDER
+
+Whether the trace is kept stands in the tables, by the tailsamplingprocessor's rules for each policy; none of it is the program's answer.
+"""
+import sys
+
+from limits import Run, attribute, plain_span
+
+TOP = 2**64 - 1
+WHOLE_TOP = 2**63 - 1
+ALWAYS = ("always_sample", None)
+
+
+def policy(name, kind, settings):
+    """A policy in TOML."""
+    own = f", {kind} = {{ {settings} }}" if settings is not None else ""
+    return f'{{ name = "{name}", type = "{kind}"{own} }}'
+
+
+def policies(*kinds):
+    """Policies of these types with these settings, each with a name of its own."""
+    return "policies = [" + ", ".join(policy(n, kind, settings) for n, (kind, settings) in enumerate(kinds)) + "]\n"
+
+
+def span(number, start=0, end=0, code=0, **fields):
+    """A span of the trace: defaults are left out, as the canonical text has it."""
+    times = {name: str(time) for name, time in (("startTimeUnixNano", start), ("endTimeUnixNano", end)) if time}
+    status = {"status": {"code": code}} if code else {}
+    return plain_span(1, number, **times, **status, **fields)
+
+
+def resource_spans(spans):
+    """A request of spans, each given with the attributes of its resource."""
+    return [dict({"resource": {"attributes": of}} if of else {}, scopeSpans=[{"spans": [one]}]) for one, of in spans]
+
+
+def one_run(folder, name, kinds, spans, is_kept):
+    """A trace of these spans, each with the attributes of its resource, and whether it is kept."""
+    run = Run(folder, name, {}, policies(*kinds), lambda _: is_kept)
+    run.receive(1, resource_spans(spans))
+    run.finish()
+
+
+def latencies(folder):
+    """A span of so many nanoseconds, from each of three starts."""
+    rows = [
+        (500, 0, 499_999_999, False), (500, 0, 500_000_000, True), (500, 0, 501_000_000, True),
+        (499, 500, 499_000_000, False), (499, 500, 499_999_999, False), (499, 500, 500_999_999, True), (499, 500, 501_000_000, False),
+        (0, 0, 0, True), (0, 1, 999_999, False), (0, 1, 1_000_000, True),
+    ]  # fmt: skip
+    for threshold, upper, nanoseconds, is_kept in rows:
+        settings = f"threshold_ms = {threshold}, upper_threshold_ms = {upper}"
+        for start in (0, 7, TOP - 501_000_000):
+            name = f"latency above {threshold} up to {upper} of {nanoseconds} from {start}"
+            one_run(folder, name, [("latency", settings)], [(span(1, start, start + nanoseconds), None)], is_kept)
+    settings = "threshold_ms = 3, upper_threshold_ms = 4"
+    spans = [(span(1, 5_000_000, 6_000_000), None), (span(2, 7_000_000, 9_999_999), None)]
+    one_run(folder, "latency of two spans", [("latency", settings)], spans, True)
+
+
+def times_at_the_top(folder):
+    """Starts and ends at the greatest moment and in the wrong order."""
+    rows = [
+        (0, 0, TOP, 0, True), (0, 1, TOP, 0, False), (1, 0, TOP, 0, False), (0, 0, 1, 0, True),
+        (18_446_744_073_709, 0, 0, TOP, True), (18_446_744_073_710, 0, 0, TOP, False),
+        (WHOLE_TOP, 0, 0, TOP, False), (0, 0, TOP, TOP, True),
+    ]  # fmt: skip
+    for threshold, upper, start, end, is_kept in rows:
+        settings = f"threshold_ms = {threshold}, upper_threshold_ms = {upper}"
+        one_run(folder, f"latency above {threshold} up to {upper} from {start} to {end}", [("latency", settings)], [(span(1, start, end), None)], is_kept)
+
+
+def status_codes(folder):
+    """The second of two spans has a code; codes beyond the three that have names aren't matched."""
+    rows = [("ERROR", 2, True), ("ERROR", 1, False), ("ERROR", 3, False), ("OK", 1, True), ("OK", 2, False), ("OK", -1, False), ("UNSET", 0, True)]
+    for wanted, code, is_kept in rows:
+        one_run(folder, f"status {wanted} of {code}", [("status_code", f'status_codes = ["{wanted}"]')], [(span(1, code=3), None), (span(2, code=code), None)], is_kept)
+    one_run(folder, "one of two statuses", [("status_code", 'status_codes = ["OK", "ERROR"]')], [(span(1), None), (span(2, code=2), None)], True)
+
+
+def span_counts(folder):
+    """Traces of one to four spans."""
+    rows = [(2, 3, 1, False), (2, 3, 2, True), (2, 3, 3, True), (2, 3, 4, False), (2, 0, 1, False), (2, 0, 4, True), (0, 1, 1, True), (0, 1, 2, False)]
+    for least, most, count, is_kept in rows:
+        settings = f"min_spans = {least}, max_spans = {most}"
+        one_run(folder, f"{count} spans where {least} to {most} are wanted", [("span_count", settings)], [(span(n), None) for n in range(1, count + 1)], is_kept)
+
+
+def rates(folder):
+    """Two spans under a limit a second."""
+    for limit, is_kept in ((2, True), (1, False), (0, False), (WHOLE_TOP, True)):
+        one_run(folder, f"two spans where {limit} are granted", [("rate_limiting", f"spans_per_second = {limit}")], [(span(1), None), (span(2), None)], is_kept)
+
+
+def attributes(folder):
+    """The last of two spans has an attribute, or its resource has it, or both; an inverted match alone samples just where the plain one doesn't."""
+    dev = ("string_attribute", 'values = ["dev"]')
+    digit = ("string_attribute", 'values = ["1"]')
+    rows = [
+        (dev, {"stringValue": "dev"}, True), (dev, {"stringValue": "Dev"}, False), (dev, {"stringValue": ""}, False),
+        (dev, {"stringValue": "dev2"}, False), (digit, {"intValue": "1"}, False),
+        (("numeric_attribute", "min_value = 0, max_value = 9"), {"stringValue": "1"}, False),
+    ]  # fmt: skip
+    bounds = [(-1, 1, -2, False), (-1, 1, -1, True), (-1, 1, 1, True), (-1, 1, 2, False), (7, 7, 7, True)]
+    bounds += [(-WHOLE_TOP - 1, WHOLE_TOP, -WHOLE_TOP - 1, True), (0, WHOLE_TOP, -WHOLE_TOP - 1, False)]
+    rows += [(("numeric_attribute", f"min_value = {least}, max_value = {most}"), {"intValue": str(value)}, is_in) for least, most, value, is_in in bounds]
+    truths = [("true", {"boolValue": True}, True), ("true", {"boolValue": False}, False), ("false", {"boolValue": False}, True)]
+    truths += [("false", None, False), ("true", {"intValue": "1"}, False)]
+    rows += [(("boolean_attribute", f"value = {wanted}"), value, is_in) for wanted, value, is_in in truths]
+    other = attribute("other", stringValue="dev")
+    for row, ((kind, settings), value, is_in) in enumerate(rows):
+        having = [other, attribute("env", **value) if value else {"key": "env"}]
+        for place, own, of_resource in (("span", having, [other]), ("resource", [other], having), ("both", having, having)):
+            spans = [(span(1, attributes=[other]), [other]), (span(2, attributes=own), of_resource)]
+            one_run(folder, f"attribute {row} of the {place}", [(kind, f'key = "env", {settings}')], spans, is_in)
+            one_run(folder, f"inverted attribute {row} of the {place}", [(kind, f'key = "env", {settings}, invert_match = true')], spans, not is_in)
+
+
+def policies_together(folder):
+    """An inverted match against a trace wins over policies that sample it, but not from within an `and`; one for it samples only where no policy is against it."""
+    inverted = ("string_attribute", 'key = "env", values = ["prod2", "dev"], invert_match = true')
+    in_and = ("and", f"and_sub_policy = [{policy('a', *ALWAYS)}, {policy('b', *inverted)}]")
+    errors = ("status_code", 'status_codes = ["ERROR"]')
+    rows = [
+        ("an inverted match against it beside always", [inverted, ALWAYS], "dev", False),
+        ("an inverted match for it beside always", [inverted, ALWAYS], "prod", True),
+        ("an inverted match within an and", [in_and, ALWAYS], "dev", True),
+        ("an inverted match alone", [inverted], "prod", True),
+        ("an inverted match beside no error", [inverted, errors], "prod", False),
+    ]
+    for name, kinds, value, is_kept in rows:
+        one_run(folder, name, kinds, [(span(1, attributes=[attribute("env", stringValue=value)]), None)], is_kept)
+
+
+if __name__ == "__main__":
+    for write in (latencies, times_at_the_top, status_codes, span_counts, rates, attributes, policies_together):
+        write(sys.argv[1])
