@@ -83,9 +83,11 @@ class Client:
         body, self.left = self.left[:length], self.left[length:]
         return status, fields, body.decode()
 
-    def ends(self):
-        """Whether the collector closes the connection, with no byte more."""
-        return self.left == b"" and self.socket.recv(1) == b""
+    def rest(self):
+        """All bytes up to the end of the connection."""
+        while more := self.socket.recv(65536):
+            self.left += more
+        return self.left
 
     def close(self):
         """Ends the connection."""
@@ -187,6 +189,38 @@ def one_error(start):
     with open(collector.printed, encoding="utf-8") as file:
         want("the output before a tick", file.read(), "")
     lines, numbers = collector.close()
+    want("the lines", lines, [ERROR_LINE])
+    want("the report", numbers, [1, 1, 0, 0, 0, 0, 0, 0, 0])
+
+
+def serve_on_loopback(start):
+    """A span with an error and `POST /close` in two requests on one connection: all that is answered, byte for byte, the output and the report."""
+    collector = start(ERRORS)
+    body = body_of([ERROR_SPAN])
+    client = collector.client()
+    client.send(post(body) + post(b"", "/close"))
+    head = b"HTTP/1.1 200 OK\r\nContent-Type: application/json\r\nContent-Length: 2\r\n"
+    want("the answers", client.rest(), head + b"\r\n{}" + head + b"Connection: close\r\n\r\n{}")
+    lines, numbers = collector.end()
+    want("the lines", lines, [ERROR_LINE])
+    want("the report", numbers, [1, 1, 0, 0, 0, 0, 0, 0, 0])
+
+
+def waits_at_the_close(start):
+    """A request on a connection that waits for a lane when the close comes is refused, and not counted."""
+    collector = start("lanes = 2\n" + ALL)
+    silent = collector.client()
+    closing = collector.client()
+    closing.send(post(body_of([ERROR_SPAN])))
+    want("the answer before the close", closing.answer()[::2], (200, "{}"))
+    waiting = collector.client()
+    waiting.send(post(body_of([ERROR_SPAN])))
+    closing.send(post(b"", "/close"))
+    want("the answer to /close", closing.answer()[::2], (200, "{}"))
+    refused = b'HTTP/1.1 503 Service Unavailable\r\nContent-Type: application/json\r\nContent-Length: 21\r\nRetry-After: 1\r\nConnection: close\r\n\r\n{"message":"closing"}'
+    want("the answer behind the close", waiting.rest(), refused)
+    lines, numbers = collector.end()
+    silent.close()
     want("the lines", lines, [ERROR_LINE])
     want("the report", numbers, [1, 1, 0, 0, 0, 0, 0, 0, 0])
 
@@ -473,7 +507,7 @@ def has_curl():
 
 def main():
     """Runs each check on each program."""
-    checks = [one_error, is_kept_while_it_runs, keep_alive, chunked, expect, refusals, broken_clients, many_clients]
+    checks = [one_error, serve_on_loopback, waits_at_the_close, is_kept_while_it_runs, keep_alive, chunked, expect, refusals, broken_clients, many_clients]
     checks += [queues_of_four, closes_under_way, refused_address, reader_is_gone] + ([under_curl] if has_curl() else [])
     passed = failed = 0
     signal.signal(signal.SIGPIPE, signal.SIG_DFL)

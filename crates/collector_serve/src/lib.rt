@@ -5,8 +5,6 @@
 mod connections;
 mod serving;
 mod stop_mark;
-#[cfg(test)]
-mod tests;
 mod ticker;
 mod wall_clock;
 

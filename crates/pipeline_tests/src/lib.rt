@@ -1,9 +1,11 @@
-//! Tests of the whole pipeline over readers in memory, by public calls alone: they stand above the crate that they call,
-//! which is then proved without them.
+//! Tests of the whole pipeline over readers in memory, and of the connections and ticks of a listener, by public calls
+//! alone: they stand above the crates that they call, which are then proved without them.
 #![tactic(auto)]
 
 #[cfg(test)]
 mod gates;
+#[cfg(test)]
+mod listeners;
 #[cfg(test)]
 mod memory;
 #[cfg(test)]
