@@ -1,8 +1,7 @@
 //! A lane: the one place at which the spans of its connections are numbered, routed and pushed.
-ghost use Rattle.std.specs.Prelude.{◌≡◌, ℕ, ◌+◌, ◌-◌, ◌^◌, ◌<◌, ◌≤◌, Some, None, length, slice_get, IsTrue};
-ghost use Rattle.std.specs.Result.{IsErrOf};
+ghost use Rattle.std.specs.Prelude.{◌≡◌, ℕ, ◌+◌, ◌-◌, ◌^◌, ◌<◌, ◌≤◌, Some, length, slice_get, IsTrue};
 ghost use Rattle.serde_json.specs.Data.{Data};
-ghost use Rattle.otlp_reading.specs.Decoding.{IsJson};
+ghost use Rattle.otlp_reading.specs.Decoding.{IsJson, IsNoJson, IsNoRequest};
 ghost use Rattle.otlp_reading.specs.Reading.{request_of};
 ghost use Rattle.otlp_flatten.specs.Flat.{records_of};
 ghost use Rattle.otlp_types.specs.declared.request.Request.{Request};
@@ -128,9 +127,8 @@ impl<P: Port<Item>> Lane<P> {
             })) }
         ensures lane { self.new ≡ record self.old { ports = self.new.ports } }
         ensures ports { length self.new.ports ≡ length self.old.ports }
-        ensures json { result ≡ Reply.BadData BadData.Json → (d : Data) → IsJson body.now d → ⊥ }
-        ensures shape { result ≡ Reply.BadData BadData.Shape
-            → (d : Data) × IsJson body.now d × (request_of d ≡ None) }
+        ensures json { result ≡ Reply.BadData BadData.Json → IsNoJson body.now }
+        ensures shape { result ≡ Reply.BadData BadData.Shape → IsNoRequest body.now }
         ensures refused { IsRefusal result → (self.new ≡ self.old) × (conn.new ≡ conn.old) }
     {
         match prepare(alloc, conn, body, moment) {

@@ -1,8 +1,8 @@
 //! A request becomes arrivals with the next numbers of its connection.
-ghost use Rattle.std.specs.Prelude.{◌≡◌, ◌+◌, ◌^◌, ◌<◌, ◌≤◌, Some, None, length, filter, IfOk, IfErr};
+ghost use Rattle.std.specs.Prelude.{◌≡◌, ◌+◌, ◌^◌, ◌<◌, ◌≤◌, Some, length, filter, IfOk, IfErr};
 ghost use Rattle.std.specs.Result.{IsErrOf};
 ghost use Rattle.serde_json.specs.Data.{Data};
-ghost use Rattle.otlp_reading.specs.Decoding.{IsJson};
+ghost use Rattle.otlp_reading.specs.Decoding.{IsJson, IsNoJson, IsNoRequest};
 ghost use Rattle.otlp_reading.specs.Reading.{request_of};
 ghost use Rattle.otlp_flatten.specs.Flat.{records_of};
 ghost use Rattle.otlp_types.specs.declared.request.Request.{Request};
@@ -41,8 +41,8 @@ pub fn prepare(alloc: Global, conn: &Conn, body: &[u8], moment: Moment) -> Resul
     ensures read { IfOk result (λ prepared. (d : Data) × (request : Request) × IsJson body.now d × (request_of d ≡ Some request)
         × (prepared.arrivals.items ≡ arrivals_from conn.now.key conn.now.next moment (records_of request))) }
     ensures numbers { IfOk result (λ prepared. conn.now.next + length prepared.arrivals.items < 2 ^ 64) }
-    ensures json { IsErrOf result (Reply.BadData BadData.Json) → (d : Data) → IsJson body.now d → ⊥ }
-    ensures shape { IsErrOf result (Reply.BadData BadData.Shape) → (d : Data) × IsJson body.now d × (request_of d ≡ None) }
+    ensures json { IsErrOf result (Reply.BadData BadData.Json) → IsNoJson body.now }
+    ensures shape { IsErrOf result (Reply.BadData BadData.Shape) → IsNoRequest body.now }
     ensures refusal { IfErr result IsRefusal }
 {
     let request = match decode(alloc, body) {

@@ -5,7 +5,7 @@ use Rattle.std.proofs.lemmas.List.{take_all, take_more, map-append}
 use Rattle.json.specs.Token.{Token, key, begin_object, end_object, begin_array, end_array}
 use Rattle.json.specs.Tree.{items_tokens}
 use Rattle.json.specs.Written.{Written}
-use Rattle.serde_json.specs.Data.{Data, Members, object, array, Items, no_items, item}
+use Rattle.serde_json.specs.Data.{Data, Members, object}
 use Rattle.serde_json.specs.View.{items_of}
 use Rattle.serde_json.specs.Written.{items_outline}
 use Rattle.otlp_types.specs.declared.span.Span.{Span}

@@ -1,39 +1,23 @@
 -- The fields of a message that is written read as what they were written for: numbers, texts, messages, lists, attributes.
 -- For the clauses `back` of what is written.
-use Rattle.std.proofs.Common.{◌≡◌, ℕ, ◌+◌, ◌-◌, ◌<◌, ◌≤◌, ◌^◌, List, [], ◌∷◌, map, codes, Bool, true, false, Option, Some, None, option_map, ℤ, pos, negsuc, refl, ap, ◌∙◌, arith}
-use Rattle.std.specs.Prelude.{FitsSigned, min, ◌==◌, ◌||◌, cond, length}
+use Rattle.std.proofs.Common.{◌≡◌, ℕ, ◌+◌, ◌-◌, ◌<◌, ◌≤◌, ◌^◌, List, [], ◌∷◌, map, codes, Bool, true, false, Option, Some, None, ℤ, pos, negsuc, refl, ap, ◌∙◌, arith}
+use Rattle.std.specs.Prelude.{FitsSigned, min, ◌==◌, cond}
 use Rattle.std.specs.Int.{w32}
 use Rattle.std.specs.List.{AllByRecursion}
-use Rattle.std.specs.Str.{bytes_eq}
-use Rattle.std.proofs.lemmas.Bool.Decides.{nat_tests}
 use Rattle.std.proofs.lemmas.List.{map-id}
-use Rattle.std.proofs.lemmas.Slice.Eq.{bytes_eq-Decides}
-use Rattle.hex.proofs.OnLiterals.{hex_on_literals}
-use Rattle.serde_json.specs.Data.{Data, number, unsigned, string, object, Members, no_members, member, depth}
+use Rattle.serde_json.specs.Data.{Data, number, unsigned, object, Members, no_members, member, depth}
 use Rattle.serde_json.specs.Find.{of_integer}
 use Rattle.serde_json.specs.View.{items_of}
 use Rattle.otlp_json.specs.Canonical.{MembersCanonical}
 use Rattle.serde_json.proofs.Numbers.{number_of-decimal, number_of-negative}
 use Rattle.otlp_types.specs.declared.value.KeyValue.{KeyValue}
-use Rattle.otlp_types.specs.declared.span.Ids.{Ids}
-use Rattle.otlp_types.specs.declared.span.Status.{Status}
-use Rattle.otlp_types.specs.declared.span.Event.{Event}
-use Rattle.otlp_types.specs.declared.span.Link.{Link}
-use Rattle.otlp_types.specs.declared.span.Span.{Span}
-use Rattle.otlp_types.specs.declared.request.Resource.{Resource}
-use Rattle.otlp_types.specs.declared.request.Scope.{Scope}
-use Rattle.otlp_types.specs.declared.request.ScopeSpans.{ScopeSpans}
-use Rattle.otlp_types.specs.declared.request.ResourceSpans.{ResourceSpans}
-use Rattle.otlp_types.specs.declared.request.Request.{Request}
-use Rattle.span_ids.specs.Id.{id_of, id_text}
-use Rattle.otlp_reading.specs.Kinds.{field, text, u32, u64, enum, list_of, message, inner}
-use Rattle.otlp_reading.specs.Reading.{discarded, any_value, key_value, attributes, parent_of, valid_ids, ids, status, event, link, span, resource, scope, scope_spans, resource_spans, request}
-use Rattle.otlp_json.specs.Writing.{Table, fields, text_field, u32_field, u64_field, enum_field, message_field, list_field, attributes_field, pair_fields, trace_field, span_field, parent_field, status_fields, event_fields, link_fields, span_fields, resource_fields, scope_fields, scope_spans_fields, resource_spans_fields, request_fields}
-use Rattle.otlp_json.specs.ReadsBack.{PairReadsBack, ReadsBack, StatusReadsBack, EventReadsBack, LinkReadsBack, TraceReadsBack, IdReadsBack, OptionalIdReadsBack, ParentReadsBack, CountsReadBack, HeadReadsBack, TailReadsBack}
-use Rattle.otlp_reading.proofs.Spans.{SpanFields, span_of}
-use Rattle.otlp_json.proofs.NumbersBack.{u32-back, u64-back, enum-back}
-use Rattle.otlp_json.proofs.Table.{found, IsField, IsTable, field-fields, table-canonical, found-depth}
-use Rattle.otlp_json.proofs.ValuesBack.{text_field-present, text-back, message_field-present, message-within, items_field-present, objects-canonical, AllRead, Within, list-back, kept-all, none-discarded, pair_again, pairs_field-is}
+use Rattle.otlp_reading.specs.Kinds.{field, u32, list_of, message, inner}
+use Rattle.otlp_reading.specs.Reading.{discarded, any_value, key_value, attributes}
+use Rattle.otlp_json.specs.Writing.{Table, fields, u32_field, u64_field, enum_field, message_field, list_field, attributes_field, pair_fields}
+use Rattle.otlp_json.specs.ReadsBack.{PairReadsBack, ReadsBack}
+use Rattle.otlp_json.proofs.NumbersBack.{u32-back}
+use Rattle.otlp_json.proofs.Table.{found, IsField, IsTable, field-fields, found-depth}
+use Rattle.otlp_json.proofs.ValuesBack.{message_field-present, message-within, items_field-present, objects-canonical, AllRead, Within, list-back, kept-all, none-discarded, pair_again}
 
 -- ---- fields
 

@@ -1,6 +1,6 @@
 -- The tokens that a writer is given for fields and objects. For private clauses.
 use Rattle.std.specs.Prelude.{◌≡◌, ℕ, List, [], ◌∷◌, ◌++◌, map, codes, Option, Some, None}
-use Rattle.json.specs.Token.{Token, key, begin_array, end_array}
+use Rattle.json.specs.Token.{Token, key}
 use Rattle.json.specs.Tree.{json_tokens}
 use Rattle.json.specs.Written.{Written}
 use Rattle.serde_json.specs.Data.{Data, object, Members}

@@ -6,10 +6,10 @@
 //! call both so.
 #![tactic(auto)]
 
-ghost use Rattle.std.specs.Prelude.{◌≡◌, ◌≤◌, IfOk, IsErrOf, Some, None};
-ghost use Rattle.serde_json.specs.Data.{Data, depth};
+ghost use Rattle.std.specs.Prelude.{◌≡◌, ◌≤◌, IfOk, IsErrOf, Some};
+ghost use Rattle.serde_json.specs.Data.{depth};
 ghost use Rattle.otlp_reading.specs.Reading.{request_of};
-ghost use Rattle.otlp_reading.specs.Decoding.{IsJson};
+ghost use Rattle.otlp_reading.specs.Decoding.{IsJson, IsRequest, IsNoJson, IsNoRequest};
 ghost use Rattle.otlp_json.specs.Writing.{data_of, canonical_text};
 
 mod laws;
@@ -33,11 +33,9 @@ const ROOM: usize = 4096;
 ///
 /// `Json` where the bytes are no such text, `Shape` where some field of the value has another shape than its kind.
 pub fn decode(alloc: Global, bytes: &[u8]) -> Result<Request, Bad>
-    ensures ok { IfOk result
-        (λ request. (d : Data) × IsJson bytes.now d × (request_of d ≡ Some request)) }
-    ensures json { IsErrOf result Bad.Json → (d : Data) → IsJson bytes.now d → ⊥ }
-    ensures shape { IsErrOf result Bad.Shape
-        → (d : Data) × IsJson bytes.now d × (request_of d ≡ None) }
+    ensures ok { IfOk result (IsRequest bytes.now) }
+    ensures json { IsErrOf result Bad.Json → IsNoJson bytes.now }
+    ensures shape { IsErrOf result Bad.Shape → IsNoRequest bytes.now }
 {
     match plain_request(alloc, bytes)? {
         Some(request) => Ok(request),

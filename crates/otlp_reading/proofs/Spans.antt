@@ -1,10 +1,11 @@
 -- A span is read field by field.
--- For the clauses of `span_parts`-like readers above: what its fields read as makes the span.
-use Rattle.std.proofs.Common.{◌≡◌, codes, Some}
+-- For the contracts of readers: what its fields read as makes the span, and so do its parts.
+use Rattle.std.proofs.Common.{◌≡◌, codes, Option, None, Some, option_and_then, refl}
 use Rattle.serde_json.specs.Data.{Members}
 use Rattle.otlp_types.specs.declared.span.Span.{Span}
-use Rattle.otlp_reading.specs.Kinds.{field, text, u32, u64, enum, list_of, message, inner}
+use Rattle.otlp_reading.specs.Kinds.{◌>>=◌, field, text, u32, u64, enum, list_of, message, inner}
 use Rattle.otlp_reading.specs.Reading.{attributes, ids, status, event, link, span}
+use Rattle.otlp_reading.specs.SpanParts.{context, kind_and_times, held_fields}
 
 -- what each field reads as
 pub record SpanFields (s : Span) (ms : Members) : Type 0 where
@@ -24,3 +25,26 @@ pub record SpanFields (s : Span) (ms : Members) : Type 0 where
 
 pub span_of : (s : Span) (ms : Members) → SpanFields s ms → span ms ≡ Some s
 span_of s ms f = rw (f.ids, f.state, f.flags, f.name, f.kind, f.start, f.end, f.all, f.events, f.dropped_events, f.links, f.dropped_links, f.status)
+
+-- what is read of what is read
+in_turn : {A B C : Type 0} (f : A → Option B) (g : B → Option C) (o : Option A) → option_and_then g (option_and_then f o) ≡ option_and_then (λ x. option_and_then g (f x)) o
+in_turn f g None = refl
+in_turn f g (Some x) = refl
+
+pub span_in_parts : (ms : Members) → span ms ≡ (context ms >>= λ c. text (field (codes "name") ms) >>= λ name. kind_and_times ms >>= λ t. attributes ms >>= λ a. held_fields ms >>= λ held. Some (record {
+  ids = c.ids;
+  trace_state = c.trace_state;
+  flags = c.flags;
+  name = name;
+  kind = t.0;
+  start_time_unix_nano = t.1;
+  end_time_unix_nano = t.2;
+  attributes = a.0;
+  dropped_attributes_count = a.1;
+  events = held.events;
+  dropped_events_count = held.dropped_events;
+  links = held.links;
+  dropped_links_count = held.dropped_links;
+  status = held.status;
+}))
+span_in_parts ms = simp in_turn

@@ -223,21 +223,21 @@ scope ms = do
   a ← attributes ms
   Some (record { name = name; version = version; attributes = a.0; dropped_attributes_count = a.1 })
 
+-- a message that all of a group share, the messages of the group, and the URL of their schema
+abbrev pub grouped : {A B : Type 0} → (Members → Option A) → (Members → Option B) → List ℕ → List ℕ → Members → Option (A × List B × List ℕ)
+grouped read_shared read_one shared list ms = do
+  s ← inner read_shared (field shared ms)
+  all ← list_of (message read_one) (field list ms)
+  url ← text (field (codes "schemaUrl") ms)
+  Some (s, all, url)
+
 -- a `ScopeSpans`
 abbrev pub scope_spans : Members → Option ScopeSpans
-scope_spans ms = do
-  s ← inner scope (field (codes "scope") ms)
-  spans ← list_of (message span) (field (codes "spans") ms)
-  url ← text (field (codes "schemaUrl") ms)
-  Some (record { scope = s; spans = spans; schema_url = url })
+scope_spans ms = option_map (λ g. record { scope = g.0; spans = g.1; schema_url = g.2 }) (grouped scope span (codes "scope") (codes "spans") ms)
 
 -- a `ResourceSpans`
 abbrev pub resource_spans : Members → Option ResourceSpans
-resource_spans ms = do
-  r ← inner resource (field (codes "resource") ms)
-  all ← list_of (message scope_spans) (field (codes "scopeSpans") ms)
-  url ← text (field (codes "schemaUrl") ms)
-  Some (record { resource = r; scope_spans = all; schema_url = url })
+resource_spans ms = option_map (λ g. record { resource = g.0; scope_spans = g.1; schema_url = g.2 }) (grouped resource scope_spans (codes "resource") (codes "scopeSpans") ms)
 
 -- an `ExportTraceServiceRequest`
 abbrev pub request : Members → Option Request

@@ -1,13 +1,12 @@
 //! What the JSON encoding of OTLP 1.x says a text reads as, and reading with care: over the tree that `serde_json` makes of it.
 //!
-//! The definition stands in `specs/`: `Kinds` (fields and their kinds), `Reading` (the messages), `Decoding` (the value that bytes write).
+//! The definition stands in `specs/`: `Kinds` (fields and their kinds), `Reading` (the messages), `Decoding` (the value that bytes write, and
+//! the request).
 //! [`decode`] answers it in full; `otlp_json` puts a faster way before it.
 #![tactic(auto)]
 
-ghost use Rattle.std.specs.Prelude.{◌≡◌, IfOk, IsErrOf, Some, None};
-ghost use Rattle.serde_json.specs.Data.{Data};
-ghost use Rattle.otlp_reading.specs.Reading.{request_of};
-ghost use Rattle.otlp_reading.specs.Decoding.{IsJson};
+ghost use Rattle.std.specs.Prelude.{IfOk, IsErrOf};
+ghost use Rattle.otlp_reading.specs.Decoding.{IsRequest, IsNoJson, IsNoRequest};
 
 mod bad;
 mod kinds;
@@ -30,11 +29,9 @@ pub use value::ValueKey;
 ///
 /// `Json` where the bytes are no such text, `Shape` where some field of the value has another shape than its kind.
 pub fn decode(alloc: Global, bytes: &[u8]) -> Result<Request, Bad>
-    ensures ok { IfOk result
-        (λ request. (d : Data) × IsJson bytes.now d × (request_of d ≡ Some request)) }
-    ensures json { IsErrOf result Bad.Json → (d : Data) → IsJson bytes.now d → ⊥ }
-    ensures shape { IsErrOf result Bad.Shape
-        → (d : Data) × IsJson bytes.now d × (request_of d ≡ None) }
+    ensures ok { IfOk result (IsRequest bytes.now) }
+    ensures json { IsErrOf result Bad.Json → IsNoJson bytes.now }
+    ensures shape { IsErrOf result Bad.Shape → IsNoRequest bytes.now }
 {
     match Value::from_slice(alloc, bytes) {
         Ok(value) => Request::read(alloc, kinds::object(&value)?),

@@ -2,13 +2,13 @@
 ghost use Rattle.std.specs.Prelude.{◌≡◌, Some};
 ghost use Rattle.serde_json.specs.View.{members_view};
 ghost use Rattle.otlp_reading.specs.Gives.{Gives};
-ghost use Rattle.otlp_reading.specs.Reading.{resource, scope, scope_spans, resource_spans, request};
+ghost use Rattle.otlp_reading.specs.Reading.{resource, scope, grouped, scope_spans, resource_spans, request};
 
 use crate::bad::Bad;
 use crate::kinds;
 use crate::message::{Message, inner, list_of};
 use crate::span::attributes;
-use otlp_types::{Request, Resource, ResourceSpans, Scope, ScopeSpans};
+use otlp_types::{List, Request, Resource, ResourceSpans, Scope, ScopeSpans, Text};
 use serde_json::{Map, Value};
 use std::alloc::Global;
 
@@ -40,13 +40,27 @@ impl Message for Scope {
     }
 }
 
+/// A message that all of a group share, the messages of the group, and the URL of their schema.
+fn grouped<S: Message + Drop, T: Message + Drop>(
+    alloc: Global,
+    members: &Map<String, Value>,
+    shared: &str,
+    list: &str,
+) -> Result<(S, List<T>, Text), Bad>
+    ensures { Gives result
+        (grouped S.meaning T.meaning shared.now list.now (members_view members.now.entries)) }
+{
+    let shared = inner(alloc, members, shared)?;
+    let all = list_of(alloc, members, list)?;
+    let schema_url = kinds::text(alloc, members, "schemaUrl")?;
+    Ok((shared, all, schema_url))
+}
+
 impl Message for ScopeSpans {
     ghost meaning = { scope_spans };
 
     fn read(alloc: Global, members: &Map<String, Value>) -> Result<ScopeSpans, Bad> {
-        let scope = inner(alloc, members, "scope")?;
-        let spans = list_of(alloc, members, "spans")?;
-        let schema_url = kinds::text(alloc, members, "schemaUrl")?;
+        let (scope, spans, schema_url) = grouped(alloc, members, "scope", "spans")?;
         Ok(ScopeSpans {
             scope,
             spans,
@@ -59,9 +73,12 @@ impl Message for ResourceSpans {
     ghost meaning = { resource_spans };
 
     fn read(alloc: Global, members: &Map<String, Value>) -> Result<ResourceSpans, Bad> {
-        let resource = inner(alloc, members, "resource")?;
-        let scope_spans = list_of(alloc, members, "scopeSpans")?;
-        let schema_url = kinds::text(alloc, members, "schemaUrl")?;
+        let (resource, scope_spans, schema_url) = grouped(
+            alloc,
+            members,
+            "resource",
+            "scopeSpans",
+        )?;
         Ok(ResourceSpans {
             resource,
             scope_spans,

@@ -3,12 +3,13 @@ ghost use Rattle.std.specs.Prelude.{◌≡◌, ◌+◌, ◌-◌, ◌^◌, min, S
 ghost use Rattle.serde_json.specs.View.{view, members_view};
 ghost use Rattle.otlp_reading.specs.Gives.{Gives};
 ghost use Rattle.otlp_reading.specs.Reading.{attributes, parent_of, valid_ids, ids, status, event, link, span};
+ghost use Rattle.otlp_reading.specs.SpanParts.{context, kind_and_times, held_fields};
 
 use crate::bad::Bad;
 use crate::kinds;
 use crate::message::{Message, inner, list_of};
 use crate::value::key_values;
-use otlp_types::{Event, Ids, KeyValue, Link, List, Span, Status};
+use otlp_types::{Event, Ids, KeyValue, Link, List, Span, Status, Text};
 use serde_json::{Map, Value};
 use span_ids::{SpanId, TraceId};
 use std::alloc::Global;
@@ -120,38 +121,88 @@ impl Message for Link {
     }
 }
 
+/// The ids of a span, its trace state and its flags.
+#[derive(Drop)]
+struct SpanContext {
+    ids: Option<Ids>,
+    trace_state: Text,
+    flags: u32,
+}
+
+fn context(alloc: Global, members: &Map<String, Value>) -> Result<SpanContext, Bad>
+    ensures { Gives result (context (members_view members.now.entries)) }
+{
+    let ids = ids(members)?;
+    let trace_state = kinds::text(alloc, members, "traceState")?;
+    let flags = kinds::u32(members, "flags")?;
+    Ok(SpanContext {
+        ids,
+        trace_state,
+        flags,
+    })
+}
+
+/// The kind of a span, and when it started and ended.
+fn kind_and_times(members: &Map<String, Value>) -> Result<(i32, u64, u64), Bad>
+    ensures { Gives result (kind_and_times (members_view members.now.entries)) }
+{
+    let kind = kinds::enumeration(members, "kind")?;
+    let start = kinds::u64(members, "startTimeUnixNano")?;
+    let end = kinds::u64(members, "endTimeUnixNano")?;
+    Ok((kind, start, end))
+}
+
+/// What a span holds, but for its attributes.
+#[derive(Drop)]
+struct HeldFields {
+    events: List<Event>,
+    dropped_events: u32,
+    links: List<Link>,
+    dropped_links: u32,
+    status: Status,
+}
+
+fn held_fields(alloc: Global, members: &Map<String, Value>) -> Result<HeldFields, Bad>
+    ensures { Gives result (held_fields (members_view members.now.entries)) }
+{
+    let events = list_of(alloc, members, "events")?;
+    let dropped_events = kinds::u32(members, "droppedEventsCount")?;
+    let links = list_of(alloc, members, "links")?;
+    let dropped_links = kinds::u32(members, "droppedLinksCount")?;
+    let status = inner(alloc, members, "status")?;
+    Ok(HeldFields {
+        events,
+        dropped_events,
+        links,
+        dropped_links,
+        status,
+    })
+}
+
 impl Message for Span {
     ghost meaning = { span };
 
     fn read(alloc: Global, members: &Map<String, Value>) -> Result<Span, Bad> {
-        let ids = ids(members)?;
-        let trace_state = kinds::text(alloc, members, "traceState")?;
-        let flags = kinds::u32(members, "flags")?;
+        let context = context(alloc, members)?;
         let name = kinds::text(alloc, members, "name")?;
-        let kind = kinds::enumeration(members, "kind")?;
-        let start_time_unix_nano = kinds::u64(members, "startTimeUnixNano")?;
-        let end_time_unix_nano = kinds::u64(members, "endTimeUnixNano")?;
+        let (kind, start_time_unix_nano, end_time_unix_nano) = kind_and_times(members)?;
         let (attributes, dropped_attributes_count) = attributes(alloc, members)?;
-        let events = list_of(alloc, members, "events")?;
-        let dropped_events_count = kinds::u32(members, "droppedEventsCount")?;
-        let links = list_of(alloc, members, "links")?;
-        let dropped_links_count = kinds::u32(members, "droppedLinksCount")?;
-        let status = inner(alloc, members, "status")?;
+        let held = held_fields(alloc, members)?;
         Ok(Span {
-            ids,
-            trace_state,
-            flags,
+            ids: context.ids,
+            trace_state: context.trace_state,
+            flags: context.flags,
             name,
             kind,
             start_time_unix_nano,
             end_time_unix_nano,
             attributes,
             dropped_attributes_count,
-            events,
-            dropped_events_count,
-            links,
-            dropped_links_count,
-            status,
+            events: held.events,
+            dropped_events_count: held.dropped_events,
+            links: held.links,
+            dropped_links_count: held.dropped_links,
+            status: held.status,
         })
     }
 }

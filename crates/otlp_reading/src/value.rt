@@ -30,22 +30,15 @@ impl ValueKey {
     pub fn named(name: &str) -> Option<ValueKey>
         ensures { result ≡ value_key name.now }
     {
-        if name == "stringValue" {
-            Some(ValueKey::Str)
-        } else if name == "boolValue" {
-            Some(ValueKey::Bool)
-        } else if name == "intValue" {
-            Some(ValueKey::Int)
-        } else if name == "doubleValue" {
-            Some(ValueKey::Double)
-        } else if name == "arrayValue" {
-            Some(ValueKey::Array)
-        } else if name == "kvlistValue" {
-            Some(ValueKey::KvList)
-        } else if name == "bytesValue" {
-            Some(ValueKey::Bytes)
-        } else {
-            None
+        match name {
+            "stringValue" => Some(ValueKey::Str),
+            "boolValue" => Some(ValueKey::Bool),
+            "intValue" => Some(ValueKey::Int),
+            "doubleValue" => Some(ValueKey::Double),
+            "arrayValue" => Some(ValueKey::Array),
+            "kvlistValue" => Some(ValueKey::KvList),
+            "bytesValue" => Some(ValueKey::Bytes),
+            _ => None,
         }
     }
 }

@@ -1,8 +1,7 @@
 //! Requests, read from tokens.
-ghost use Rattle.std.specs.Prelude.{◌≡◌, Some, IfOk, IfErr, IfSome};
-ghost use Rattle.serde_json.specs.Data.{Data};
-ghost use Rattle.otlp_reading.specs.Reading.{scope, scope_spans, resource_spans, request, request_of};
-ghost use Rattle.otlp_reading.specs.Decoding.{IsJson};
+ghost use Rattle.std.specs.Prelude.{◌≡◌, IfOk, IfErr, IfSome};
+ghost use Rattle.otlp_reading.specs.Reading.{scope, scope_spans, resource_spans, request};
+ghost use Rattle.otlp_reading.specs.Decoding.{IsRequest};
 ghost use Rattle.otlp_stream.specs.SoFar.{ScopeSoFar, ScopeSpansSoFar, ResourceSpansSoFar, RequestSoFar};
 
 use crate::attributes::AttributesPart;
@@ -178,8 +177,7 @@ impl Building for Request {
 
 /// The request that the bytes write, where they are plain. `Err` only where memory was refused.
 pub fn plain_request(alloc: Global, bytes: &[u8]) -> Result<Option<Request>, Bad>
-    ensures plain { IfOk result (λ found. IfSome found
-        (λ x. (d : Data) × IsJson bytes.now d × (request_of d ≡ Some x))) }
+    ensures plain { IfOk result (λ found. IfSome found (IsRequest bytes.now)) }
     ensures memory { IfErr result (λ e. e ≡ Bad.NoMemory) }
 {
     match message_of::<Request>(alloc, bytes) {

@@ -12,6 +12,19 @@ pub trait TryClone: Sized {
         ensures { IfOk result (λ copy. copy ≡ self.now) };
 }
 
+/// Copies of two values. `Err` only where memory was refused.
+pub fn both<A: TryClone + Drop, B: TryClone>(
+    alloc: Global,
+    a: &A,
+    b: &B,
+) -> Result<(A, B), AllocError>
+    ensures { IfOk result (λ copies. copies ≡ (a.now, b.now)) }
+{
+    let a = a.try_clone(alloc)?;
+    let b = b.try_clone(alloc)?;
+    Ok((a, b))
+}
+
 /// A `Vec` that contracts see as the list of its elements.
 #[derive(Drop)]
 pub struct List<T> {

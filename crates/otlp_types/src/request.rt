@@ -2,7 +2,7 @@
 ghost use Rattle.std.specs.Prelude.{◌≡◌, IfOk};
 ghost use Rattle.otlp_types.specs.Empty.{no_resource, no_scope};
 
-use crate::list::{List, Text, TryClone};
+use crate::list::{List, Text, TryClone, both};
 use crate::span::Span;
 use crate::value::KeyValue;
 use std::alloc::{AllocError, Global};
@@ -82,9 +82,10 @@ impl TryClone for Resource {
 
 impl TryClone for Scope {
     fn try_clone(&self, alloc: Global) -> Result<Scope, AllocError> {
+        let (name, version) = both(alloc, &self.name, &self.version)?;
         Ok(Scope {
-            name: self.name.try_clone(alloc)?,
-            version: self.version.try_clone(alloc)?,
+            name,
+            version,
             attributes: self.attributes.try_clone(alloc)?,
             dropped_attributes_count: self.dropped_attributes_count,
         })

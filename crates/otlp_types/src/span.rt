@@ -2,7 +2,7 @@
 ghost use Rattle.std.specs.Prelude.{◌≡◌, None, IfOk};
 ghost use Rattle.otlp_types.specs.Empty.{plain_span};
 
-use crate::list::{List, Text, TryClone};
+use crate::list::{List, Text, TryClone, both};
 use crate::value::KeyValue;
 use span_ids::{SpanId, TraceId};
 use std::alloc::{AllocError, Global};
@@ -103,10 +103,11 @@ impl TryClone for Ids {
 
 impl TryClone for Event {
     fn try_clone(&self, alloc: Global) -> Result<Event, AllocError> {
+        let (name, attributes) = both(alloc, &self.name, &self.attributes)?;
         Ok(Event {
             time_unix_nano: self.time_unix_nano,
-            name: self.name.try_clone(alloc)?,
-            attributes: self.attributes.try_clone(alloc)?,
+            name,
+            attributes,
             dropped_attributes_count: self.dropped_attributes_count,
         })
     }
@@ -114,11 +115,13 @@ impl TryClone for Event {
 
 impl TryClone for Link {
     fn try_clone(&self, alloc: Global) -> Result<Link, AllocError> {
+        let (trace_id, span_id) = both(alloc, &self.trace_id, &self.span_id)?;
+        let (trace_state, attributes) = both(alloc, &self.trace_state, &self.attributes)?;
         Ok(Link {
-            trace_id: self.trace_id.try_clone(alloc)?,
-            span_id: self.span_id.try_clone(alloc)?,
-            trace_state: self.trace_state.try_clone(alloc)?,
-            attributes: self.attributes.try_clone(alloc)?,
+            trace_id,
+            span_id,
+            trace_state,
+            attributes,
             dropped_attributes_count: self.dropped_attributes_count,
             flags: self.flags,
         })
@@ -136,21 +139,24 @@ impl TryClone for Status {
 
 impl TryClone for Span {
     fn try_clone(&self, alloc: Global) -> Result<Span, AllocError> {
+        let (trace_state, name) = both(alloc, &self.trace_state, &self.name)?;
+        let (attributes, events) = both(alloc, &self.attributes, &self.events)?;
+        let (links, status) = both(alloc, &self.links, &self.status)?;
         Ok(Span {
             ids: self.ids,
-            trace_state: self.trace_state.try_clone(alloc)?,
+            trace_state,
             flags: self.flags,
-            name: self.name.try_clone(alloc)?,
+            name,
             kind: self.kind,
             start_time_unix_nano: self.start_time_unix_nano,
             end_time_unix_nano: self.end_time_unix_nano,
-            attributes: self.attributes.try_clone(alloc)?,
+            attributes,
             dropped_attributes_count: self.dropped_attributes_count,
-            events: self.events.try_clone(alloc)?,
+            events,
             dropped_events_count: self.dropped_events_count,
-            links: self.links.try_clone(alloc)?,
+            links,
             dropped_links_count: self.dropped_links_count,
-            status: self.status.try_clone(alloc)?,
+            status,
         })
     }
 }
