@@ -1,12 +1,12 @@
 //! Jobs of three kinds on threads of their own, beside one on the caller's.
-ghost use Rattle.std.specs.Prelude.{◌≡◌, ◌≤◌, [], All, IfErr, IfOk, IfSome, map, reverse, vec_capacity, vec_len};
-ghost use Rattle.job_threads.specs.Jobs.{HaveDone};
+ghost use Rattle.std.specs.Prelude.{◌≡◌, ◌≤◌, [], All, IfErr, IfOk, IfSome, Some, map, reverse, true, vec_capacity, vec_len};
+ghost use Rattle.job_threads.specs.Jobs.{HaveDone, TeamDid};
 
 use crate::job::Job;
 use crate::joining::{join, join_all};
 use crate::starting::{Handle, start, start_all};
 use std::alloc::{AllocError, Global};
-use std::sync::{OnceLock, Wait};
+use std::sync::{OnceLock, OnceToken, Wait};
 use std::thread;
 use std::thread::{Scope, Threads};
 
@@ -74,13 +74,16 @@ where
             requires ready { All J.ready team.first.items × K.ready team.second × All L.ready team.third.items × M.ready main }
             requires first_room { (rooms.first.items ≡ []) × (vec_len team.first ≤ vec_capacity rooms.first) }
             requires third_room { (rooms.third.items ≡ []) × (vec_len team.third ≤ vec_capacity rooms.third) }
-            ensures first { IfOk result (λ left. HaveDone J.did team.first.items left.0.first.items) }
-            ensures second { IfOk result (λ left. K.did team.second left.0.second) }
-            ensures third { IfOk result (λ left. HaveDone L.did team.third.items left.0.third.items) }
-            ensures main { IfOk result (λ left. M.did main left.1) }
+            ensures did { IfOk result (λ left. TeamDid J.did K.did L.did team left.0 × M.did main left.1) }
             ensures counts { IfOk result (λ left. (vec_len left.0.first ≡ vec_len team.first) × (vec_len left.0.third ≡ vec_len team.third)) }
             ensures back { IfErr result (λ back. back ≡ main) }
-        { in_scope(scope, rt, alloc, begin, team, rooms, main) },
+        {
+            let started = start_team(scope, rt, alloc, begin, team);
+            match tell(rt, begin, started) {
+                Some((handles, token)) => { Ok(work_and_join(rt, &token, handles, rooms, main)) }
+                None => Err(main),
+            }
+        },
     )
 }
 
@@ -99,54 +102,47 @@ fn rooms_for<A: Drop, B: Drop>(
     })
 }
 
-/// Starts the threads, says whether they are to work, works, and joins them.
-fn in_scope<
-    's,
-    E,
-    J: Job + Send + Drop + 's,
-    K: Job + Send + Drop + 's,
-    L: Job + Send + Drop + 's,
-    M: Job + Drop,
-    R: Threads + Wait + Sync + 's,
->(
-    scope: &Scope<'s, E>,
-    rt: &'s R,
-    alloc: Global,
+/// Says by the start word whether all were started. `None` where they weren't, or where the word was said before.
+fn tell<'s, H: Drop, R: Wait>(
+    rt: &R,
     word: &'s OnceLock<bool>,
-    team: Team<J, K, L>,
+    started: Option<H>,
+) -> Option<(H, OnceToken<'s, bool>)>
+    ensures handles { IfSome result (λ told. started ≡ Some told.0) }
+    ensures word { IfSome result (λ told. (told.1.value ≡ true) × (told.1.of ≡ word.now.id)) }
+{
+    let said = word.set(rt, started.is_some());
+    match (started, said) {
+        (Some(handles), Ok(token)) => Some((handles, token)),
+        _ => None,
+    }
+}
+
+/// Works, and joins threads that have been told to work.
+fn work_and_join<'s, J: Job, K: Job, L: Job, M: Job, R: Threads>(
+    rt: &R,
+    token: &OnceToken<'s, bool>,
+    handles: Handles<'s, J, K, L>,
     rooms: Rooms<J::Left, L::Left>,
     main: M,
-) -> Result<(Team<J::Left, K::Left, L::Left>, M::Left), M>
-where
-    J::Left: Send,
-    K::Left: Send,
-    L::Left: Send,
-    requires team { All J.ready team.first.items × K.ready team.second × All L.ready team.third.items }
-    requires first_room { (rooms.first.items ≡ []) × (vec_len team.first ≤ vec_capacity rooms.first) }
-    requires third_room { (rooms.third.items ≡ []) × (vec_len team.third ≤ vec_capacity rooms.third) }
+) -> (Team<J::Left, K::Left, L::Left>, M::Left)
+    requires yes { token.now.value ≡ true }
+    requires words { All (λ h. h.promise.word.now.id ≡ token.now.of) handles.first.items × (handles.second.promise.word.now.id ≡ token.now.of) × All (λ h. h.promise.word.now.id ≡ token.now.of) handles.third.items }
+    requires first_room { (rooms.first.items ≡ []) × (vec_len handles.first ≤ vec_capacity rooms.first) }
+    requires third_room { (rooms.third.items ≡ []) × (vec_len handles.third ≤ vec_capacity rooms.third) }
     requires main { M.ready main }
-    ensures first { IfOk result (λ left. HaveDone J.did team.first.items left.0.first.items) }
-    ensures second { IfOk result (λ left. K.did team.second left.0.second) }
-    ensures third { IfOk result (λ left. HaveDone L.did team.third.items left.0.third.items) }
-    ensures main { IfOk result (λ left. M.did main left.1) }
-    ensures counts { IfOk result (λ left. (vec_len left.0.first ≡ vec_len team.first) × (vec_len left.0.third ≡ vec_len team.third)) }
-    ensures back { IfErr result (λ back. back ≡ main) }
+    ensures first { HaveDone J.did (reverse (map (λ h. h.promise.job.value) handles.entry.first.items)) result.0.first.items }
+    ensures second { K.did handles.entry.second.promise.job.value result.0.second }
+    ensures third { HaveDone L.did (reverse (map (λ h. h.promise.job.value) handles.entry.third.items)) result.0.third.items }
+    ensures main { M.did main result.1 }
 {
-    let started = start_team(scope, rt, alloc, word, team);
-    let said = word.set(rt, started.is_some());
-    let (Some(handles), Ok(token)) = (started, said) else {
-        return Err(main);
-    };
     let main_left = main.work();
-    let first = join_all(rt, &token, handles.first, rooms.first);
-    let second = join(rt, &token, handles.second);
-    let third = join_all(rt, &token, handles.third, rooms.third);
     let left = Team {
-        first,
-        second,
-        third,
+        first: join_all(rt, token, handles.first, rooms.first),
+        second: join(rt, token, handles.second),
+        third: join_all(rt, token, handles.third, rooms.third),
     };
-    Ok((left, main_left))
+    (left, main_left)
 }
 
 /// Starts a thread for each job. `None` where there is no memory for the handles, or one couldn't be started.

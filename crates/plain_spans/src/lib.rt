@@ -52,16 +52,20 @@ pub fn plain_record(
     ensures start { IfOk result (λ rec. rec.span.start_time_unix_nano ≡ start) }
     ensures end { IfOk result (λ rec. rec.span.end_time_unix_nano ≡ end) }
 {
+    let resource = Shared::new(alloc, Resource::empty(alloc))?;
+    let resource_schema_url = Shared::new(alloc, Text::new(alloc))?;
+    let scope = Shared::new(alloc, Scope::empty(alloc))?;
+    let scope_schema_url = Shared::new(alloc, Text::new(alloc))?;
     let mut span = Span::empty(alloc);
     span.ids = ids;
     span.status.code = code;
     span.start_time_unix_nano = start;
     span.end_time_unix_nano = end;
     Ok(Record {
-        resource: Shared::new(alloc, Resource::empty(alloc))?,
-        resource_schema_url: Shared::new(alloc, Text::new(alloc))?,
-        scope: Shared::new(alloc, Scope::empty(alloc))?,
-        scope_schema_url: Shared::new(alloc, Text::new(alloc))?,
+        resource,
+        resource_schema_url,
+        scope,
+        scope_schema_url,
         span,
     })
 }

@@ -1,3 +1,4 @@
+pub mod Leaves
 pub mod Verdicts
 pub mod Turns
 pub mod GivenTurns

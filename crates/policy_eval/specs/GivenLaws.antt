@@ -102,6 +102,15 @@ drop-map granted (n ∷ ns) left = drop-map granted ns left
 map-split : (granted : ℕ → Bool) (ns more : List ℕ) (left : List Bool) → map granted (ns ++ more) ++ left ≡ map granted ns ++ (map granted more ++ left)
 map-split granted ns more left = ap (λ bs. bs ++ left) (map-append granted ns more) ∙ append_assoc (map granted ns) (map granted more) left
 
+-- behind the limiter's answers to the askings of a policy stands what is left by it
+rest-left : (p : Policy) (node : ℕ) (granted : ℕ → Bool) (bs : List Bool) (spans : List Arrival) (tail : List Bool) → bs ≡ map granted (nodes_asked p node bs spans) ++ tail → left_by p bs spans ≡ tail
+rest-left p node granted bs spans tail split =
+    let ns = nodes_asked p node bs spans in
+    left-drops p node bs spans ∙ ap (drop (length ns)) split ∙ drop-map granted ns tail
+
+gives-mine : (p : Policy) (node : ℕ) (granted : ℕ → Bool) (bs : List Bool) (spans : List Arrival) (tail : List Bool) → bs ≡ map granted (nodes_asked p node bs spans) ++ tail → Gives granted bs (nodes_asked p node bs spans) (left_by p bs spans)
+gives-mine p node granted bs spans tail split = split ∙ ap (λ xs. map granted (nodes_asked p node bs spans) ++ xs) (sym (rest-left p node granted bs spans tail split))
+
 mutual
   -- the policy answers as with that limiter, and asks the same nodes
   pub answers-as : (p : Policy) (node : ℕ) (granted : ℕ → Bool) (bs : List Bool) (spans : List Arrival) → Gives granted bs (nodes_asked p node bs spans) (left_by p bs spans) →
@@ -121,8 +130,8 @@ mutual
       let mine = spec.samples (answer_given p bs spans) in
       let tail = map granted (cond mine more []) ++ cond mine last left in
       let split : bs ≡ map granted ns ++ tail = h ∙ map-split granted ns (cond mine more []) (cond mine last left) in
-      let is : left ≡ tail = left-drops p node bs spans ∙ ap (drop (length ns)) split ∙ drop-map granted ns tail in
-      let first = answers-as p node granted bs spans (split ∙ ap (λ xs. map granted ns ++ xs) (sym is)) in
+      let is : left ≡ tail = rest-left p node granted bs spans tail split in
+      let first = answers-as p node granted bs spans (gives-mine p node granted bs spans tail split) in
       let same : mine ≡ spec.samples (spec.answer p node granted spans) = ap spec.samples first.0 in
       (elim mine as (λ b. mine ≡ b → ((b && each_samples_given rest left spans) ≡ (spec.samples (spec.answer p node granted spans) && spec.each_samples rest (node + nodes p) granted spans))
       × (ns ++ cond b more [] ≡ spec.asked p node granted spans ++ cond (spec.samples (spec.answer p node granted spans)) (spec.asked_in_turn rest (node + nodes p) granted spans) [])) [
@@ -141,13 +150,10 @@ pub top-as : (ps : Policies) (node : ℕ) (granted : ℕ → Bool) (bs : List Bo
     (answers_given ps bs spans ≡ spec.answers ps node granted spans) × (nodes_asked_at_top ps node bs spans ≡ spec.asked_at_top ps node granted spans)
 top-as no_more node granted bs spans h = (refl, refl)
 top-as (one_more p rest) node granted bs spans h =
-    let ns = nodes_asked p node bs spans in
-    let left = left_by p bs spans in
-    let more = nodes_asked_at_top rest (node + nodes p) left spans in
-    let split : bs ≡ map granted ns ++ map granted more = h ∙ map-append granted ns more in
-    let is : left ≡ map granted more = left-drops p node bs spans ∙ ap (drop (length ns)) split ∙ drop-map granted ns (map granted more) in
-    let first = answers-as p node granted bs spans (split ∙ ap (λ xs. map granted ns ++ xs) (sym is)) in
-    let others = top-as rest (node + nodes p) granted left spans is in
+    let tail = map granted (nodes_asked_at_top rest (node + nodes p) (left_by p bs spans) spans) in
+    let split : bs ≡ map granted (nodes_asked p node bs spans) ++ tail = h ∙ map-append granted (nodes_asked p node bs spans) (nodes_asked_at_top rest (node + nodes p) (left_by p bs spans) spans) in
+    let first = answers-as p node granted bs spans (gives-mine p node granted bs spans tail split) in
+    let others = top-as rest (node + nodes p) granted (left_by p bs spans) spans (rest-left p node granted bs spans tail split) in
     (rw (first.0, others.0), rw (first.1, others.1))
 
 -- a list with a limiter's answers to just its askings decides as the limiter does

@@ -10,7 +10,7 @@ impl Policy {
     pub fn count(&self) -> usize
         ensures { result ≡ min (nodes (policy_meaning self.now)) usize.MAX }
     {
-        count(self)
+        measure(self).number
     }
 }
 
@@ -42,48 +42,60 @@ pub fn has_empty_list(list: &[Policy]) -> bool
     false
 }
 
-/// How many levels of policies there are in this one, itself too.
-#[cycle(depth)]
-fn depth(policy: &Policy) -> usize
-    ensures { result ≡ min (depth (policy_meaning policy.now)) usize.MAX }
+/// How deep and how many policies are, each number at most 2^64 - 1.
+#[derive(Clone, Copy)]
+struct Size {
+    levels: usize,
+    number: usize,
+}
+
+/// The size of this policy, itself too.
+#[cycle(measure)]
+fn measure(policy: &Policy) -> Size
+    ensures levels { result.levels ≡ min (depth (policy_meaning policy.now)) usize.MAX }
+    ensures number { result.number ≡ min (nodes (policy_meaning policy.now)) usize.MAX }
 {
     match &policy.kind {
-        PolicyKind::And { policies } => depth_in(policies.as_slice()).saturating_add(1),
-        _ => 1,
+        PolicyKind::And { policies } => {
+            let inside = measure_in(policies.as_slice());
+            Size {
+                levels: inside.levels.saturating_add(1),
+                number: inside.number.saturating_add(1),
+            }
+        }
+        _ => Size {
+            levels: 1,
+            number: 1,
+        },
     }
+}
+
+/// The size of all of these together.
+#[cycle(measure)]
+fn measure_in(list: &[Policy]) -> Size
+    ensures levels { result.levels ≡ min (depth_in (meaning list.now)) usize.MAX }
+    ensures number { result.number ≡ min (nodes_in (meaning list.now)) usize.MAX }
+{
+    let mut levels = 0usize;
+    let mut number = 0usize;
+    for policy in list {
+        let one = measure(policy);
+        levels = levels.max(one.levels);
+        number = number.saturating_add(one.number);
+    }
+    Size { levels, number }
 }
 
 /// How many levels of policies there are in these.
-#[cycle(depth)]
 pub fn depth_in(list: &[Policy]) -> usize
     ensures { result ≡ min (depth_in (meaning list.now)) usize.MAX }
 {
-    let mut levels = 0usize;
-    for policy in list {
-        levels = levels.max(depth(policy));
-    }
-    levels
-}
-
-/// How many policies there are in this one, itself too.
-#[cycle(count)]
-fn count(policy: &Policy) -> usize
-    ensures { result ≡ min (nodes (policy_meaning policy.now)) usize.MAX }
-{
-    match &policy.kind {
-        PolicyKind::And { policies } => count_in(policies.as_slice()).saturating_add(1),
-        _ => 1,
-    }
+    measure_in(list).levels
 }
 
 /// How many policies there are in all of these.
-#[cycle(count)]
 pub fn count_in(list: &[Policy]) -> usize
     ensures { result ≡ min (nodes_in (meaning list.now)) usize.MAX }
 {
-    let mut all = 0usize;
-    for policy in list {
-        all = all.saturating_add(count(policy));
-    }
-    all
+    measure_in(list).number
 }

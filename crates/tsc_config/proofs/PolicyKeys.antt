@@ -17,7 +17,7 @@ use Rattle.policy_tree.specs.declared.policy.PolicyKind.TheViews.{out-PolicyKind
 use Rattle.policy_tree.specs.declared.policy.Wanted.{Wanted}
 use Rattle.tsc_config.proofs.Settings.{neither, natural, table_parts, read_as}
 use Rattle.tsc_config.specs.Keys.{type_name, type_named, type_found, type_at, code_named, code_of}
-use Rattle.tsc_config.specs.Faults.{optional, required, unknown_fault, natural_fault, text_fault, named_fault, items_fault, array_fault, type_fault, code_fault, truth_fault, whole_fault, attribute_fault, rows_fault, settings_fault, settings_at_fault, typed_fault_where, policy_table_fault, policy_fault, policy_items_fault, policies_fault, and_fault, and_settings_fault, sub_policies_fault, numbers_fault, sizes_fault, cache_fault, table_fault, least}
+use Rattle.tsc_config.specs.Faults.{optional, required, unknown_fault, natural_fault, text_fault, named_fault, items_fault, array_fault, type_fault, code_fault, truth_fault, whole_fault, attribute_fault, rows_fault, settings_fault, settings_at_fault, typed_fault_where, policy_table_fault, policy_fault, policy_items_fault, policies_fault, and_fault, and_settings_fault, sub_policies_fault, table_fault, least}
 use Rattle.tsc_config.specs.Values.{found_before, natural_of, codes_of, item_codes, texts_of, item_texts, text_of, truth_of, whole_of, attribute, kind_in, kind_by, kind_typed, policy_of, item_policies, policies_of, and_policies, and_settings, sub_policies, policies_value, policy_value, config_of}
 use Rattle.tsc_config.specs.PolicyKeys.{IsText, AreTexts, IsCode, AreCodes, count_items, IsNatural, IsNaturalOrZero, IsTyped, IsWanted, IsLayer, IsKind, IsPolicy, items_of, settings_items, nested_items, value_at, parts_in, parts_of, parts_at, policy_at, HasPolicies, ReadsPolicies}
 use Rattle.tsc_config.specs.declared.fault.ConfigFault.{ConfigFault}

@@ -1,7 +1,8 @@
 -- What the table of a configuration gives. Of a table with a fault this says nothing that counts.
-use Rattle.std.specs.Prelude.{suc, ℕ, ℤ, pos, negsuc, Bool, false, List, [], ◌∷◌, codes, Option, Some, None, if◌then◌else◌, nat_lt, ◌<◌, ◌≤◌}
+use Rattle.std.specs.Prelude.{suc, ℕ, ℤ, pos, negsuc, Bool, false, List, [], ◌∷◌, codes, Option, Some, None, option_and_then, if◌then◌else◌, nat_lt, ◌<◌, ◌≤◌}
+use Rattle.std.specs.Option.{unwrap_or}
 use Rattle.std.specs.Str.{bytes_eq}
-use Rattle.toml.specs.Data.{Data, as_str, string, integer, boolean, array, table, Items, no_items, item, Members, no_members, member, get_member}
+use Rattle.toml.specs.Data.{Data, as_str, as_array, string, integer, boolean, array, table, Items, no_items, item, Members, no_members, member, get_member}
 use Rattle.policy_tree.specs.declared.policy.Policy.{Policy}
 use Rattle.policy_tree.specs.declared.policy.PolicyKind.{PolicyKind}
 use Rattle.policy_tree.specs.declared.policy.PolicyKind.TheVariants as kind_is
@@ -62,20 +63,18 @@ abbrev pub found_before : {A : Type 0} → Option A → List A → List A
 found_before None rest = rest
 found_before (Some found) rest = found ∷ rest
 
+-- the items of the array at a key, none where there is no array
+abbrev pub items_at : Option Data → Items
+items_at at = unwrap_or (option_and_then as_array at) no_items
+
 -- the status codes that items name, in order
 abbrev pub item_codes : Items → List ℤ
 item_codes no_items = []
 item_codes (item value rest) = found_before (code_of value) (item_codes rest)
 
--- the status codes of an array
-abbrev pub codes_value : Data → List ℤ
-codes_value (array items) = item_codes items
-codes_value _ = []
-
 -- the status codes of the array at a key
 abbrev pub codes_of : Option Data → List ℤ
-codes_of None = []
-codes_of (Some value) = codes_value value
+codes_of at = item_codes (items_at at)
 
 -- a whole number
 abbrev pub whole_value : (default : ℤ) → Data → ℤ
@@ -102,15 +101,9 @@ abbrev pub item_texts : Items → List (List ℕ)
 item_texts no_items = []
 item_texts (item value rest) = found_before (as_str value) (item_texts rest)
 
--- the texts of an array
-abbrev pub texts_value : Data → List (List ℕ)
-texts_value (array items) = item_texts items
-texts_value _ = []
-
 -- the texts of the array at a key
 abbrev pub texts_of : Option Data → List (List ℕ)
-texts_of None = []
-texts_of (Some value) = texts_value value
+texts_of at = item_texts (items_at at)
 
 -- the attribute policy of settings, with what is wanted of the value
 abbrev pub attribute : Members → Wanted → PolicyKind

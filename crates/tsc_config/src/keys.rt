@@ -23,15 +23,14 @@ fn is_setting(kind: PolicyType, key: &str) -> bool
 {
     match kind {
         PolicyType::AlwaysSample => false,
-        PolicyType::Latency => key == "threshold_ms" || key == "upper_threshold_ms",
+        PolicyType::Latency => matches!(key, "threshold_ms" | "upper_threshold_ms"),
         PolicyType::StatusCode => key == "status_codes",
-        PolicyType::StringAttribute => key == "key" || key == "values" || key == "invert_match",
-        PolicyType::NumericAttribute => key == "key"
-            || key == "min_value"
-            || key == "max_value"
-            || key == "invert_match",
-        PolicyType::BooleanAttribute => key == "key" || key == "value" || key == "invert_match",
-        PolicyType::SpanCount => key == "min_spans" || key == "max_spans",
+        PolicyType::StringAttribute => matches!(key, "key" | "values" | "invert_match"),
+        PolicyType::NumericAttribute => {
+            matches!(key, "key" | "min_value" | "max_value" | "invert_match")
+        }
+        PolicyType::BooleanAttribute => matches!(key, "key" | "value" | "invert_match"),
+        PolicyType::SpanCount => matches!(key, "min_spans" | "max_spans"),
         PolicyType::RateLimiting => key == "spans_per_second",
         PolicyType::And => key == "and_sub_policy",
     }
@@ -43,23 +42,26 @@ fn is_key(kind: TableKind, key: &str) -> bool
     ensures { result ≡ spec.is_key kind key.now }
 {
     match kind {
-        TableKind::Config => key == "decision_wait_ms"
-            || key == "root_wait_ms"
-            || key == "num_traces"
-            || key == "decision_cache"
-            || key == "policies"
-            || key == "lanes"
-            || key == "shards"
-            || key == "queue_capacity"
-            || key == "export_capacity"
-            || key == "send_batch_size"
-            || key == "tick_ms"
-            || key == "listen",
+        TableKind::Config => matches!(
+            key,
+            "decision_wait_ms"
+                | "root_wait_ms"
+                | "num_traces"
+                | "decision_cache"
+                | "policies"
+                | "lanes"
+                | "shards"
+                | "queue_capacity"
+                | "export_capacity"
+                | "send_batch_size"
+                | "tick_ms"
+                | "listen"
+        ),
         TableKind::DecisionCache => {
-            key == "sampled_cache_size" || key == "non_sampled_cache_size"
+            matches!(key, "sampled_cache_size" | "non_sampled_cache_size")
         }
         TableKind::Policy(kind) => {
-            key == "name" || key == "type" || has_settings(kind) && key == kind.name()
+            matches!(key, "name" | "type") || has_settings(kind) && key == kind.name()
         }
         TableKind::Settings(kind) => is_setting(kind, key),
     }

@@ -1,7 +1,7 @@
 //! What the settings of a policy give.
-ghost use Rattle.std.specs.Prelude.{◌≡◌, IfOk, codes};
+ghost use Rattle.std.specs.Prelude.{◌≡◌, IfOk};
 ghost use Rattle.toml.specs.Data.{get_member};
-ghost use Rattle.toml.specs.View.{view, table_view, array_view};
+ghost use Rattle.toml.specs.View.{view, table_view, items_view};
 ghost use Rattle.tsc_config.specs.Values as spec;
 
 use crate::keys::{code_of, member};
@@ -9,7 +9,6 @@ use crate::kinds::PolicyType;
 use otlp_types::{List, Text};
 use policy_tree::{PolicyKind, Wanted};
 use std::alloc::{AllocError, Global};
-use toml::value::Array;
 use toml::{Table, Value};
 
 /// What a policy of this type samples by its settings.
@@ -23,10 +22,10 @@ pub fn kind_in(alloc: Global, kind: PolicyType, settings: &Table) -> Result<Poli
             upper_threshold_ms: natural_at(settings, "upper_threshold_ms"),
         }),
         PolicyType::StatusCode => Ok(PolicyKind::StatusCode {
-            codes: codes_at(alloc, settings)?,
+            codes: item_codes(alloc, items_at(settings, "status_codes"))?,
         }),
         PolicyType::StringAttribute => {
-            let values = texts_at(alloc, settings)?;
+            let values = item_texts(alloc, items_at(settings, "values"))?;
             attribute(alloc, settings, Wanted::StringAmong(values))
         }
         PolicyType::NumericAttribute => {
@@ -110,17 +109,19 @@ pub fn text_of(alloc: Global, value: &Value) -> Result<Text, AllocError>
     }
 }
 
-fn codes_at(alloc: Global, settings: &Table) -> Result<List<i32>, AllocError>
-    ensures { IfOk result (λ list. list ≡ spec.codes_of (get_member (codes "status_codes") (table_view settings.now))) }
+/// The items of the array at a key, none where there is no array.
+fn items_at<'a>(settings: &'a Table, key: &str) -> &'a [Value]
+    ensures { items_view result.now ≡ spec.items_at (get_member key.now (table_view settings.now)) }
 {
-    match member(settings, "status_codes") {
-        Some(Value::Array(items)) => item_codes(alloc, items),
-        _ => Ok(List::new(alloc)),
+    match member(settings, key) {
+        Some(Value::Array(items)) => items.as_slice(),
+        _ => &[],
     }
 }
 
-fn item_codes(alloc: Global, items: &Array) -> Result<List<i32>, AllocError>
-    ensures { IfOk result (λ list. list ≡ spec.item_codes (array_view items.now)) }
+/// The status codes that items name.
+fn item_codes(alloc: Global, items: &[Value]) -> Result<List<i32>, AllocError>
+    ensures { IfOk result (λ list. list ≡ spec.item_codes (items_view items.now)) }
 {
     let mut list = List::new(alloc);
     for item in items {
@@ -131,17 +132,9 @@ fn item_codes(alloc: Global, items: &Array) -> Result<List<i32>, AllocError>
     Ok(list)
 }
 
-fn texts_at(alloc: Global, settings: &Table) -> Result<List<Text>, AllocError>
-    ensures { IfOk result (λ list. list ≡ spec.texts_of (get_member (codes "values") (table_view settings.now))) }
-{
-    match member(settings, "values") {
-        Some(Value::Array(items)) => item_texts(alloc, items),
-        _ => Ok(List::new(alloc)),
-    }
-}
-
-fn item_texts(alloc: Global, items: &Array) -> Result<List<Text>, AllocError>
-    ensures { IfOk result (λ list. list ≡ spec.item_texts (array_view items.now)) }
+/// The texts among items.
+fn item_texts(alloc: Global, items: &[Value]) -> Result<List<Text>, AllocError>
+    ensures { IfOk result (λ list. list ≡ spec.item_texts (items_view items.now)) }
 {
     let mut list = List::new(alloc);
     for item in items {

@@ -91,29 +91,17 @@ fn take_part<A: Allocator, B: Allocator>(buffer: &mut Buffer<A>, line: &mut Vec<
     let bytes = buffer.bytes();
     let count = bytes.len();
     let length = length_of_line(bytes);
-    if length > MAX_LINE_BYTES - line.len() {
+    // A line has room for all that it may have.
+    if length > MAX_LINE_BYTES - line.len() || line.extend_from_slice(&bytes[..length]).is_err() {
         buffer.consume(length);
         return Part::TooLong;
     }
-    append(line, &bytes[..length]);
     if length < count {
         buffer.consume(length + 1);
         Part::Ended
     } else {
         buffer.consume(length);
         Part::Open
-    }
-}
-
-/// Appends bytes for which there is room.
-fn append<B: Allocator>(line: &mut Vec<u8, B>, part: &[u8])
-    requires { vec_len line.old + length part.now ≤ vec_capacity line.old }
-    ensures items { line.new.items ≡ line.old.items ++ part.now }
-    ensures len { vec_len line.new ≡ vec_len line.old + length part.now }
-    ensures capacity { vec_capacity line.old ≤ vec_capacity line.new }
-{
-    if line.extend_from_slice(part).is_err() {
-        unreachable!();
     }
 }
 

@@ -1,4 +1,4 @@
-use Rattle.std.proofs.Common.{◌≡◌, ◌+◌, [], ap, sym, subst, length, arith, Some, ◌∙◌}
+use Rattle.std.proofs.Common.{◌≡◌, ap, sym, length, arith, Some, ◌∙◌}
 use Rattle.std.proofs.lemmas.List.Elements.{All-pop}
 use Rattle.job_threads.proofs.Joined.{joins_none, joins_one, joins_all, is_empty}
 use Rattle.job_threads.proofs.joining.join_all.Goals as goal

@@ -1,4 +1,4 @@
-use Rattle.std.proofs.Common.{◌≡◌, ◌+◌, ◌∙◌, sym, subst, arith, All, Some}
+use Rattle.std.proofs.Common.{◌≡◌, ◌∙◌, sym, subst, arith, All, Some}
 use Rattle.std.proofs.lemmas.List.Elements.{All-push, All-pop}
 use Rattle.job_threads.proofs.Joined.{starts_one}
 use Rattle.job_threads.proofs.starting.start_all.Goals as goal

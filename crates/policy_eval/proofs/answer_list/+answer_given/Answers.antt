@@ -1,15 +1,16 @@
 -- The answer of a policy where a list of answers is given.
 -- For the clauses `answer` and `asked` of `answer_given`.
-use Rattle.std.proofs.Common.{◌≡◌, ℕ, zero, suc, ◌+◌, Bool, false, List, [], ◌∷◌, drop, get_or, Option, Some, None, Bor, rules, inl, inr, refl, sym, ap, subst, ◌∙◌, arith}
+use Rattle.std.proofs.Common.{◌≡◌, ℕ, zero, suc, ◌+◌, Bool, false, List, [], ◌∷◌, drop, get_or, Option, Some, None, Bor, rules, refl, sym, ap, subst, ◌∙◌, arith}
 use Rattle.std.specs.Option.{unwrap_or, option_map, option_copied}
 use Rattle.std.proofs.lemmas.Grind.{common_steps}
 use Rattle.policy_tree.specs.declared.policy.Policy.{Policy}
-use Rattle.policy_tree.specs.Tree.{Leaf, always_sample, latency, status_code, attribute, span_count, leaf, rate_limiting, and_policy, Policies}
-use Rattle.policy_tree.specs.Meaning.{meaning, policy_meaning, kind_meaning, wanted_of}
+use Rattle.policy_tree.specs.Tree.{rate_limiting, and_policy, Policies}
+use Rattle.policy_tree.specs.Meaning.{meaning, policy_meaning}
 use Rattle.policy_tree.specs.declared.policy.PolicyKind.TheFolds.{the_lemmas}
 use Rattle.policy_eval.specs.Policies.{plain}
 use Rattle.policy_eval.specs.Given.{answer_given, next_answer}
 use Rattle.policy_eval.specs.Meaning.{answer_of}
+use Rattle.policy_eval.proofs.Leaves.{leaf_meant}
 use Rattle.policy_eval.proofs.Turns.{part_at}
 use Rattle.policy_eval.proofs.GivenTurns.{Part, part-first, part-more, part-stop, part-last}
 use Rattle.policy_eval.proofs.answer_list.+answer_given.Goals as goal
@@ -69,18 +70,5 @@ returns-in-AlwaysSample-clause-answer t c =
     let policy = c.args.policy.now in
     let left = drop c.args.asked c.args.answers.now in
     let spans = c.args.spans.now in
-    let leaf_of : (l : Leaf) → kind_meaning policy.kind ≡ leaf l → policy_meaning policy ≡ leaf l → c.leaf_answer.result ≡ answer_of (answer_given (policy_meaning policy) left spans)
-    = λ l kind whole. c.leaf_answer.ensures l kind ∙ ap (λ p. answer_of (answer_given p left spans)) (sym whole) in
-    elim c.in-AlwaysSample.is [
-      | inl h ↦ leaf_of always_sample (search (rules, the_lemmas)) (search (rules, the_lemmas))
-      | inr others ↦ elim others [
-        | inl h ↦ let is = h.2 in leaf_of (latency h.0 h.1) (search (rules, the_lemmas)) (search (rules, the_lemmas))
-        | inr more ↦ elim more [
-          | inl h ↦ let is = h.1 in leaf_of (status_code h.0) (search (rules, the_lemmas)) (search (rules, the_lemmas))
-          | inr rest ↦ elim rest [
-            | inl h ↦ let is = h.3 in leaf_of (attribute h.0 (wanted_of h.1) h.2) (search (rules, the_lemmas)) (search (rules, the_lemmas))
-            | inr h ↦ let is = h.2 in leaf_of (span_count h.0 h.1) (search (rules, the_lemmas)) (search (rules, the_lemmas))
-          ]
-        ]
-      ]
-    ]
+    let meant = leaf_meant policy c.in-AlwaysSample.is in
+    c.leaf_answer.ensures meant.0 meant.1 ∙ ap (λ p. answer_of (answer_given p left spans)) (sym meant.2)

@@ -1,10 +1,11 @@
 -- The answer of a policy.
 -- For the clause `answers` of `answer`.
-use Rattle.std.proofs.Common.{◌≡◌, ℕ, ◌+◌, ◌≤◌, drop, inl, inr, rules, sym, subst, ◌∙◌, arith}
-use Rattle.policy_tree.specs.Tree.{Leaf, always_sample, latency, status_code, attribute, span_count, Policy as Meant, leaf, rate_limiting, and_policy, Policies, nodes}
-use Rattle.policy_tree.specs.Meaning.{meaning, policy_meaning, kind_meaning, wanted_of}
+use Rattle.std.proofs.Common.{◌≡◌, ℕ, ◌+◌, ◌≤◌, drop, rules, sym, subst, ◌∙◌, arith}
+use Rattle.policy_tree.specs.Tree.{Policy as Meant, rate_limiting, and_policy, Policies, nodes}
+use Rattle.policy_tree.specs.Meaning.{meaning, policy_meaning}
 use Rattle.policy_tree.specs.declared.policy.PolicyKind.TheFolds.{the_lemmas}
 use Rattle.policy_eval.specs.Walks.{Answers}
+use Rattle.policy_eval.proofs.Leaves.{leaf_meant}
 use Rattle.policy_eval.proofs.Turns.{Turn, turn-first, turn-more, turn-stop, answers-leaf, answers-rate, part_at, counted_nodes}
 use Rattle.policy_eval.proofs.verdict.+answer.Goals as goal
 
@@ -48,18 +49,5 @@ returns-in-AlwaysSample-clause-answers g t c =
     let A = g.L.Limiter.asks in
     let policy = c.args.policy.now in
     let P = λ (p : Meant). Answers A p c.args.node c.args.second c.args.spans.now c.leaf_answer.result c.args.limiter.now c.args.limiter.now in
-    let leaf_of : (l : Leaf) → kind_meaning policy.kind ≡ leaf l → policy_meaning policy ≡ leaf l → P (policy_meaning policy)
-    = λ l kind whole. subst P (sym whole) (answers-leaf S A c.args.second c.args.spans.now c.args.limiter.now l c.args.node c.leaf_answer.result (c.leaf_answer.ensures l kind)) in
-    elim c.in-AlwaysSample.is [
-      | inl h ↦ leaf_of always_sample (search (rules, the_lemmas)) (search (rules, the_lemmas))
-      | inr others ↦ elim others [
-        | inl h ↦ let is = h.2 in leaf_of (latency h.0 h.1) (search (rules, the_lemmas)) (search (rules, the_lemmas))
-        | inr more ↦ elim more [
-          | inl h ↦ let is = h.1 in leaf_of (status_code h.0) (search (rules, the_lemmas)) (search (rules, the_lemmas))
-          | inr rest ↦ elim rest [
-            | inl h ↦ let is = h.3 in leaf_of (attribute h.0 (wanted_of h.1) h.2) (search (rules, the_lemmas)) (search (rules, the_lemmas))
-            | inr h ↦ let is = h.2 in leaf_of (span_count h.0 h.1) (search (rules, the_lemmas)) (search (rules, the_lemmas))
-          ]
-        ]
-      ]
-    ]
+    let meant = leaf_meant policy c.in-AlwaysSample.is in
+    subst P (sym meant.2) (answers-leaf S A c.args.second c.args.spans.now c.args.limiter.now meant.0 c.args.node c.leaf_answer.result (c.leaf_answer.ensures meant.0 meant.1))

@@ -1,8 +1,8 @@
 use Rattle.std.proofs.Common.{◌≡◌, ◌++◌, drop}
-use Rattle.toml.specs.View.{items_view, array_view}
+use Rattle.toml.specs.View.{items_view}
 use Rattle.tsc_config.specs.Values.{item_texts}
 use Rattle.tsc_config.proofs.settings_values.item_texts.Given as goal
 
 -- those so far, and those of the items that are left
 abbrev pub invariant-loop-item : goal.invariant-loop-item
-invariant-loop-item l = l.list ++ item_texts (items_view (drop l.item-index l.item-items)) ≡ item_texts (array_view l.items)
+invariant-loop-item l = l.list ++ item_texts (items_view (drop l.item-index l.items)) ≡ item_texts (items_view l.items)
