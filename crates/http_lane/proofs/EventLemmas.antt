@@ -1,6 +1,6 @@
 -- What events do, one after another.
 -- They serve the clauses of `write_text`, `respond`, `act`, `settle`, `wait` and `serve_turns`.
-use Rattle.std.proofs.Common.{◌≡◌, ℕ, List, [], ◌∷◌, ◌++◌, Option, Some, None, sym, ap, ◌∙◌, refl, subst, append_assoc, append-nil, true, take, drop, ◌+◌, Bool, length, ◌<◌, arith, length-append, inl, inr, ◌⊎◌}
+use Rattle.std.proofs.Common.{false, ◌≡◌, ℕ, List, [], ◌∷◌, ◌++◌, Option, Some, None, sym, ap, ◌∙◌, refl, subst, append_assoc, append-nil, true, take, drop, ◌+◌, Bool, length, ◌<◌, arith, length-append, inl, inr, ◌⊎◌}
 use Rattle.std.specs.Prelude.{MatchOption}
 use Rattle.std.proofs.Math.Seq.{take-add}
 use Rattle.std.specs.Io.KnownBytes.{Appends, Consumes}
@@ -202,38 +202,45 @@ done_more submits t u v a b c rounds round d p =
     subst (λ es. Does submits t v a c es) (sym (events-append rounds (round ∷ []) ∙ ap (λ es. events_of rounds ++ es) (append-nil round.events)))
     (does_then submits t u v a b c (events_of rounds) round.events d p)
 
--- the connection goes on after one more round
-pub serving_more : {E L : Type 0} (stands : E → Reading → Type 0) (submits : L → Submission → L → Type 0) (t u v : Option (List ℕ)) (a b c : L) (old cur new : KnownReader) (e e' : E) (row row' count : ℕ) (turn : Turn) (is_stopped : Bool) (events : List Event) (reading : Reading)
-    → (s : Serving stands submits t u a b old cur e row count) → IsRoundBy turn s.last is_stopped events (standing reading row' None) → stands e' reading → Rests reading
-    → Gives cur new (turn ∷ []) → Does submits u v b c events → Serving stands submits t v a c old new e' row' (count + 1)
-serving_more stands submits t u v a b c old cur new e e' row row' count turn is_stopped events reading s r stood rests told did = record {
-  rounds = s.rounds ++ round_of turn is_stopped events ∷ [];
-  last = standing reading row' None;
-  run = rounds_more at_first s.last (standing reading row' None) s.rounds (round_of turn is_stopped events) s.run s.goes_on r;
-  goes_on = refl;
-  stood = stood;
-  rests = rests;
-  row_is = refl;
-  count_is = omega (arith, length-append s.rounds (round_of turn is_stopped events ∷ []), s.count_is);
-  turns = turns_told old cur new s.rounds (round_of turn is_stopped events) s.turns told;
-  done = done_more submits t u v a b c s.rounds (round_of turn is_stopped events) s.done did;
-}
+-- one more round of a connection that is being served
+module _ {E L : Type 0} {stands : E → Reading → Type 0} {submits : L → Submission → L → Type 0} {t u : Option (List ℕ)} {a b : L} {old cur : KnownReader} {e : E} {row count : ℕ} where
+  -- the connection goes on after it
+  pub serving_more : (v : Option (List ℕ)) (c : L) (new : KnownReader) (e' : E) (row' : ℕ) (turn : Turn) (is_stopped : Bool) (events : List Event) (reading : Reading)
+      → (s : Serving stands submits t u a b old cur e row count) → IsRoundBy turn s.last is_stopped events (standing reading row' None) → stands e' reading → Rests reading
+      → Gives cur new (turn ∷ []) → Does submits u v b c events → Serving stands submits t v a c old new e' row' (count + 1)
+  serving_more v c new e' row' turn is_stopped events reading s r stood rests told did = record {
+    rounds = s.rounds ++ round_of turn is_stopped events ∷ [];
+    last = standing reading row' None;
+    run = rounds_more at_first s.last (standing reading row' None) s.rounds (round_of turn is_stopped events) s.run s.goes_on r;
+    goes_on = refl;
+    stood = stood;
+    rests = rests;
+    row_is = refl;
+    count_is = omega (arith, length-append s.rounds (round_of turn is_stopped events ∷ []), s.count_is);
+    turns = turns_told old cur new s.rounds (round_of turn is_stopped events) s.turns told;
+    done = done_more submits t u v a b c s.rounds (round_of turn is_stopped events) s.done did;
+  }
 
--- or ends with it
-pub serving_end : {E L : Type 0} (stands : E → Reading → Type 0) (submits : L → Submission → L → Type 0) (t u v : Option (List ℕ)) (a b c : L) (old cur new : KnownReader) (e : E) (row row' count : ℕ) (turn : Turn) (is_stopped : Bool) (events : List Event) (reading : Reading) (why : ServeEnd)
-    → (s : Serving stands submits t u a b old cur e row count) → IsRoundBy turn s.last is_stopped events (standing reading row' (Some why)) → count < READ_LIMIT
-    → Gives cur new (turn ∷ []) → Does submits u v b c events → Served submits t v a c old new why
-serving_end stands submits t u v a b c old cur new e row row' count turn is_stopped events reading why s r few told did = (
-  s.rounds ++ round_of turn is_stopped events ∷ [],
-  record {
-    last = standing reading row' (Some why);
-    run = rounds_more at_first s.last (standing reading row' (Some why)) s.rounds (round_of turn is_stopped events) s.run s.goes_on r;
-    few = omega (arith, length-append s.rounds (round_of turn is_stopped events ∷ []), s.count_is);
-    ends = refl;
-  },
-  turns_told old cur new s.rounds (round_of turn is_stopped events) s.turns told,
-  done_more submits t u v a b c s.rounds (round_of turn is_stopped events) s.done did,
-)
+  -- or ends with it
+  pub serving_end : (v : Option (List ℕ)) (c : L) (new : KnownReader) (row' : ℕ) (turn : Turn) (is_stopped : Bool) (events : List Event) (reading : Reading) (why : ServeEnd)
+      → (s : Serving stands submits t u a b old cur e row count) → IsRoundBy turn s.last is_stopped events (standing reading row' (Some why)) → count < READ_LIMIT
+      → Gives cur new (turn ∷ []) → Does submits u v b c events → Served submits t v a c old new why
+  serving_end v c new row' turn is_stopped events reading why s r few told did = (
+    s.rounds ++ round_of turn is_stopped events ∷ [],
+    record {
+      last = standing reading row' (Some why);
+      run = rounds_more at_first s.last (standing reading row' (Some why)) s.rounds (round_of turn is_stopped events) s.run s.goes_on r;
+      few = omega (arith, length-append s.rounds (round_of turn is_stopped events ∷ []), s.count_is);
+      ends = refl;
+    },
+    turns_told old cur new s.rounds (round_of turn is_stopped events) s.turns told,
+    done_more submits t u v a b c s.rounds (round_of turn is_stopped events) s.done did,
+  )
+
+  -- or ends with it where the reader gives no more
+  pub serving_stop : (new : KnownReader) (turn : Turn) (why : ServeEnd) → (s : Serving stands submits t u a b old cur e row count) → IsRoundBy turn s.last false [] (standing s.last.reading 0 (Some why)) → count < READ_LIMIT
+      → Gives cur new (turn ∷ []) → Served submits t u a b old new why
+  serving_stop new turn why s r few told = serving_end u b new 0 turn false [] s.last.reading why s r few told (does_none submits u b)
 
 -- events that submit nothing leave the lane
 pub does_still : {L : Type 0} (submits : L → Submission → L → Type 0) (u v : Option (List ℕ)) (lane : L) (events : List Event) (bytes : List ℕ)

@@ -1,5 +1,5 @@
 //! Each arrival with valid ids goes to the queue of its trace's shard.
-ghost use Rattle.std.specs.Prelude.{◌≡◌, ◌+◌, ◌^◌, ◌<◌, ◌≤◌, length, filter, option_map};
+ghost use Rattle.std.specs.Prelude.{◌≡◌, ◌⊎◌, ◌+◌, ◌^◌, ◌<◌, ◌≤◌, length, filter, option_map};
 ghost use Rattle.lane_seq.specs.Numbers.{is_invalid};
 ghost use Rattle.lane_seq.specs.Replies.{IsReplyTo};
 ghost use Rattle.lane_seq.specs.Pushes.{PushesOne, PushesAll};
@@ -32,11 +32,20 @@ fn push_one<P: Port<Item>>(ports: &mut [P], arrival: Arrival) -> u64
     ensures pushed { PushesOne P.takes P.refuses arrival.rec.span.ids (Span arrival) ports.old result ports.new }
     ensures few { result ≤ 1 }
 {
-    let Some(trace) = trace_of(&arrival) else {
-        return 0;
-    };
-    let shard = route(trace, ports.len());
-    match ports[shard].try_push(Item::Span(arrival)) {
+    match trace_of(&arrival) {
+        Some(trace) => {
+            let shard = route(trace, ports.len());
+            push_to(&mut ports[shard], arrival)
+        }
+        None => 0,
+    }
+}
+
+/// Pushes the span of an arrival to a port, and answers how many pushes were refused.
+fn push_to<P: Port<Item>>(port: &mut P, arrival: Arrival) -> u64
+    ensures { ((result ≡ 0) × P.takes port.old (Span arrival) port.new) ⊎ ((result ≡ 1) × P.refuses port.old port.new) }
+{
+    match port.try_push(Item::Span(arrival)) {
         Ok(()) => 0,
         Err(_) => 1,
     }

@@ -1,12 +1,12 @@
 -- What a run of the pipeline promises: what its threads did is a run of the core.
-use Rattle.std.specs.Prelude.{◌≡◌, ℕ, ◌+◌, ◌/◌, Bool, false, List, map, Option, Some, Result, Ok, Err}
+use Rattle.std.specs.Prelude.{◌≡◌, ℕ, ◌+◌, ◌/◌, Bool, false, List, [], map, Option, Some, Result, Ok, Err}
 use Rattle.drop_ledger.specs.Parts.{PartState}
 use Rattle.drop_ledger.specs.declared.report.Report.{Report}
 use Rattle.lane_worker.specs.Serving.{Connection}
 use Rattle.policy_tree.specs.declared.limiter_node.LimiterNode.{LimiterNode}
 use Rattle.policy_tree.specs.Meaning.{meaning}
 use Rattle.policy_tree.specs.Tree.{limiters}
-use Rattle.shard_core.specs.Held.{Held, settings}
+use Rattle.shard_core.specs.Held.{Held, StandsFor, has_due, is_finished, settings}
 use Rattle.span_exporter.specs.Exports.{ExporterState}
 use Rattle.span_sink.specs.LineSinks.{LineSinkState, up_state, down_state}
 use Rattle.world_theory.specs.World.{Config as CoreConfig, settings_for}
@@ -33,6 +33,10 @@ core_of config = record {
 -- a shard of the core by this configuration, whose senders are the lanes and the ticker
 abbrev pub HasSettings : Config → Held → Type 0
 HasSettings config shard = settings shard ≡ settings_for (core_of config) (config.lanes + 1)
+
+-- a shard of this configuration that has taken nothing
+abbrev pub IsNewShard : Config → Held → Type 0
+IsNewShard config shard = StandsFor shard [] 0 × (has_due shard ≡ false) × (is_finished shard ≡ false) × HasSettings config shard × (shard.policies ≡ config.policies)
 
 -- the limiter nodes of the policies
 abbrev pub nodes_of : Config → List LimiterNode

@@ -10,7 +10,7 @@ use drop_ledger::{Accounts, BookShare, Part};
 use lane_queue::{Room, Sender, SenderPort};
 use lane_seq::Lane;
 use otlp_types::Item;
-use std::alloc::AllocError;
+use std::alloc::{AllocError, Global};
 use std::sync::Wait;
 
 /// What the lanes' threads are given: for each feed, in their order, a lane of its number over its ends, and a part to count
@@ -39,7 +39,7 @@ pub fn lane_jobs<'s, F: Drop, C: Room, B: Accounts, G, P, M, R: Wait>(
         let number = feeds.len() as u16;
         let senders = columns.take_last();
         let part = parts.take_last();
-        jobs.push(lane_job(lent, number, feed, senders, part)?)?;
+        jobs.push_reserved(lane_job(lent, number, feed, senders, part)?);
     }
     jobs.reverse();
     Ok(jobs)
@@ -61,9 +61,7 @@ fn lane_job<'s, F: Drop, C: Room, B: Accounts, G, P, M, R: Wait>(
     ensures share { IfOk result (λ job. job.share ≡ part) }
     ensures feed { IfOk result (λ job. job.feed ≡ feed) }
 {
-    let count = senders.len();
-    let ports = Vec::with_capacity(lent.alloc, count)?;
-    let room = Vec::with_capacity(lent.alloc, count)?;
+    let (ports, room) = lane_lists(lent.alloc, senders.len())?;
     Ok(LaneJob {
         rt: lent.rt,
         alloc: lent.alloc,
@@ -76,6 +74,19 @@ fn lane_job<'s, F: Drop, C: Room, B: Accounts, G, P, M, R: Wait>(
         stop: lent.stop,
         clock: lent.clock,
     })
+}
+
+/// Room for so many ports of a lane, and for their ends once it has ended.
+fn lane_lists<'s, C: Room, R: Wait>(
+    alloc: Global,
+    count: usize,
+) -> Result<(Vec<SenderPort<'s, Item, C, R>>, Vec<Sender<Item, C>>), AllocError>
+    ensures ports { IfOk result (λ lists. (lists.0.items ≡ []) × (count ≤ vec_capacity lists.0)) }
+    ensures room { IfOk result (λ lists. (lists.1.items ≡ []) × (count ≤ vec_capacity lists.1)) }
+{
+    let ports = Vec::with_capacity(alloc, count)?;
+    let room = Vec::with_capacity(alloc, count)?;
+    Ok((ports, room))
 }
 
 /// A lane over these ends; `ports` has room for them.

@@ -1,8 +1,9 @@
 //! All that a run needs is made before a thread is started.
-ghost use Rattle.std.specs.Prelude.{◌≡◌, ◌+◌, ◌<◌, ◌≤◌, [], All, length, map, replicate, vec_len, vec_capacity, IfOk};
+ghost use Rattle.std.specs.Prelude.{◌≡◌, ◌+◌, ◌++◌, ◌∷◌, ◌<◌, ◌≤◌, [], All, length, map, replicate, vec_len, vec_capacity, IfOk};
 ghost use Rattle.drop_ledger.specs.Parts.{PartState};
-ghost use Rattle.lane_queue.specs.Ends.{IsNew};
-ghost use Rattle.queue_grid.specs.Grid.{HasRoom};
+ghost use Rattle.lane_queue.specs.Ends.{AreTied, IsNew};
+ghost use Rattle.queue_grid.specs.Grid.{AreNewColumns, HasRoom, IsTiedGrid, ends_of};
+ghost use Rattle.shared_budget.specs.Budget.{AreNewSeats};
 ghost use Rattle.tsc_config.specs.declared.config.Config.{Config};
 ghost use Rattle.pipeline.specs.Made.{NumberedFrom, CanRun, IsReady, HasEnds};
 ghost use Rattle.pipeline.specs.Promise.{HasSettings, nodes_of};
@@ -85,44 +86,124 @@ pub fn make<'s, F: Drop, T: Drop, C: Room, D: Room, B: Accounts, G, P, M, R: Wai
     ensures rows { IfOk result (λ made. (vec_len made.rooms.rows ≡ config.now.shards) × All (HasRoom (config.now.lanes + 1)) made.rooms.rows.items) }
 {
     let lanes = config.lanes as usize;
-    let mut parts = parts;
-    let grid = new_grid::<Item, C>(lent.alloc, config.queue_capacity, lanes + 1, config.shards)?;
-    let QueueGrid {
-        mut columns,
-        receivers,
+    let made = run_ends::<C, D, R>(lent.rt, lent.alloc, config)?;
+    let RunEnds {
+        columns,
+        ends,
+        shipments,
         rows,
-    } = grid;
-    let (exports, shipments) = LaneQueue::new::<Shipment, D>(
-        lent.alloc,
-        config.export_capacity,
-        config.shards,
-    )?;
-    let seats = SharedBudget::new(lent.rt, lent.alloc, &config.policies, config.shards as u64)?;
-    new_seats_have_nodes();
-    let rooms = rooms_for(lent.alloc, lanes, config.shards, rows)?;
+    } = made;
+    let mut parts = parts;
     let share = BookShare::new(lent.rt, lent.book, parts.take_last());
-    let ticker = TickerJob {
-        rt: lent.rt,
-        number: config.lanes,
-        ticks,
-        senders: columns.take_last(),
-    };
-    let ends = ShardEnds {
-        seats,
-        receivers,
-        exports,
-    };
-    let third = shard_jobs(lent, config, ends, &mut parts)?;
-    let first = lane_jobs(lent, feeds, columns, &mut parts)?;
+    let team = team_of(lent, config, feeds, ticks, columns, ends, parts)?;
+    let rooms = rooms_for(lent.alloc, lanes, config.shards, rows)?;
     Ok(Made {
-        team: Team {
-            first,
-            second: ticker,
-            third,
-        },
+        team,
         shipments,
         share,
         rooms,
+    })
+}
+
+/// What the threads of a run are given: the lanes, the ticker and the shards.
+fn team_of<'s, F: Drop, T: Drop, C: Room, D: Room, B: Accounts, G, P, M, R: Wait>(
+    lent: &Lent<'s, B, G, P, M, R>,
+    config: &Config,
+    feeds: Vec<F>,
+    ticks: T,
+    columns: Vec<Vec<Sender<Item, C>>>,
+    ends: ShardEnds<'s, C, D, R>,
+    parts: Vec<Part<B>>,
+) -> Result<
+    Team<LaneJob<'s, F, C, B, G, P, M, R>, TickerJob<'s, T, C, R>, ShardJob<'s, C, D, B, G, R>>,
+    AllocError,
+>
+    requires runs { CanRun config.now C.capacity D.capacity }
+    requires feeds { (vec_len feeds ≡ config.now.lanes) × (vec_len feeds < 65536) }
+    requires columns { (vec_len columns ≡ config.now.lanes + 1) × All (λ c. 0 < length c.items) columns.items }
+    requires seats { AreNewSeats (nodes_of config.now) config.now.shards ends.seats.items }
+    requires receivers { (vec_len ends.receivers ≡ config.now.shards) × All (λ r. All IsNew r.ends) ends.receivers.items }
+    requires exports { (vec_len ends.exports ≡ config.now.shards) × All IsNew ends.exports.items }
+    requires parts { (vec_len parts ≡ config.now.lanes + config.now.shards) × All (λ p. p ≡ record { parts = 1; numbers = replicate 9 0 }) parts.items }
+    ensures lanes { IfOk result (λ team. (vec_len team.first ≡ config.now.lanes)
+        × All (λ job. (job.lane.number ≡ job.number) × (job.room.items ≡ []) × (length job.lane.ports ≤ vec_capacity job.room)) team.first.items) }
+    ensures shards { IfOk result (λ team. (vec_len team.third ≡ config.now.shards)
+        × All (λ job. IsReady job.shard job.receiver job.sender job.seat) team.third.items) }
+    ensures feeds { IfOk result (λ team. map (λ job. job.feed) team.first.items ≡ feeds.items) }
+    ensures ticker { IfOk result (λ team. (team.second.number ≡ config.now.lanes) × (team.second.ticks ≡ ticks)) }
+    ensures numbers { IfOk result (λ team. NumberedFrom 0 (map (λ job. job.number) team.first.items) × NumberedFrom 0 (map (λ job. job.number) team.third.items)) }
+    ensures new_lanes { IfOk result (λ team. All (λ job. (job.lane.connected ≡ 0) × (job.share.numbers ≡ replicate 9 0)) team.first.items) }
+    ensures new_shards { IfOk result (λ team. All (λ job. HasSettings config.now job.shard × (job.share.numbers ≡ replicate 9 0)) team.third.items) }
+    ensures ports { IfOk result (λ team. ends_of columns.items ≡ map (λ job. job.lane.ports) team.first.items ++ team.second.senders.items ∷ []) }
+    ensures ends { IfOk result (λ team. (map (λ job. job.seat) team.third.items ≡ ends.entry.seats.items) × (map (λ job. job.receiver) team.third.items ≡ ends.entry.receivers.items) × (map (λ job. job.sender) team.third.items ≡ ends.entry.exports.items)) }
+{
+    new_seats_have_nodes();
+    let mut columns = columns;
+    let mut parts = parts;
+    let senders = columns.take_last();
+    let third = shard_jobs(lent, config, ends, &mut parts)?;
+    let first = lane_jobs(lent, feeds, columns, &mut parts)?;
+    Ok(Team {
+        first,
+        second: TickerJob {
+            rt: lent.rt,
+            number: config.lanes,
+            ticks,
+            senders,
+        },
+        third,
+    })
+}
+
+/// The new queues and seats of a run.
+#[derive(Drop)]
+struct RunEnds<'s, C: Room, D: Room, R: Wait> {
+    /// The ends at which items are pushed, for each lane and then for the ticker, by shard.
+    columns: Vec<Vec<Sender<Item, C>>>,
+    ends: ShardEnds<'s, C, D, R>,
+    /// The ends at which the exporter pops, by shard.
+    shipments: Receiver<Shipment, D>,
+    /// An empty list for each shard.
+    rows: Vec<Vec<Sender<Item, C>>>,
+}
+
+/// Makes all queues and seats of a run.
+fn run_ends<'s, C: Room, D: Room, R: Wait>(
+    rt: &'s R,
+    alloc: Global,
+    config: &Config,
+) -> Result<RunEnds<'s, C, D, R>, AllocError>
+    requires { CanRun config.now C.capacity D.capacity }
+    ensures columns { IfOk result (λ made. (vec_len made.columns ≡ config.now.lanes + 1) × All (λ c. 0 < length c.items) made.columns.items) }
+    ensures grid { IfOk result (λ made. IsTiedGrid (ends_of made.columns.items) made.ends.receivers.items × AreNewColumns (ends_of made.columns.items)) }
+    ensures seats { IfOk result (λ made. AreNewSeats (nodes_of config.now) config.now.shards made.ends.seats.items) }
+    ensures receivers { IfOk result (λ made. (vec_len made.ends.receivers ≡ config.now.shards) × All (λ r. All IsNew r.ends) made.ends.receivers.items) }
+    ensures exports { IfOk result (λ made. (vec_len made.ends.exports ≡ config.now.shards) × All IsNew made.ends.exports.items) }
+    ensures shipped { IfOk result (λ made. AreTied made.ends.exports.items made.shipments.ends × All IsNew made.shipments.ends) }
+    ensures rows { IfOk result (λ made. (vec_len made.rows ≡ config.now.shards) × All (HasRoom (config.now.lanes + 1)) made.rows.items) }
+{
+    let (shards, senders) = (config.shards, config.lanes as usize + 1);
+    let seats = SharedBudget::new(rt, alloc, &config.policies, shards as u64)?;
+    let (exports, shipments) = LaneQueue::new::<Shipment, D>(
+        alloc,
+        config.export_capacity,
+        shards,
+    )?;
+    let grid = new_grid::<Item, C>(alloc, config.queue_capacity, senders, shards)?;
+    let QueueGrid {
+        columns,
+        receivers,
+        rows,
+    } = grid;
+    Ok(RunEnds {
+        columns,
+        ends: ShardEnds {
+            seats,
+            receivers,
+            exports,
+        },
+        shipments,
+        rows,
     })
 }
 
@@ -141,15 +222,29 @@ fn rooms_for<'s, C: Room, D: Room, B: Accounts, R: Wait>(
     ensures parts { IfOk result (λ rooms. (rooms.parts.items ≡ []) × (lanes + shards + 1 ≤ vec_capacity rooms.parts)) }
     ensures rows { IfOk result (λ rooms. rooms.rows ≡ rows) }
 {
-    let ends = ShardEnds {
+    let columns = Vec::with_capacity(alloc, lanes + 1)?;
+    let parts = Vec::with_capacity(alloc, lanes + shards + 1)?;
+    let ends = ends_room(alloc, shards)?;
+    Ok(Rooms {
+        columns,
+        ends,
+        parts,
+        rows,
+    })
+}
+
+/// Room for the seats and ends of so many shards.
+fn ends_room<'s, C: Room, D: Room, R: Wait>(
+    alloc: Global,
+    shards: usize,
+) -> Result<ShardEnds<'s, C, D, R>, AllocError>
+    ensures seats { IfOk result (λ ends. (ends.seats.items ≡ []) × (shards ≤ vec_capacity ends.seats)) }
+    ensures receivers { IfOk result (λ ends. (ends.receivers.items ≡ []) × (shards ≤ vec_capacity ends.receivers)) }
+    ensures exports { IfOk result (λ ends. (ends.exports.items ≡ []) × (shards ≤ vec_capacity ends.exports)) }
+{
+    Ok(ShardEnds {
         seats: Vec::with_capacity(alloc, shards)?,
         receivers: Vec::with_capacity(alloc, shards)?,
         exports: Vec::with_capacity(alloc, shards)?,
-    };
-    Ok(Rooms {
-        columns: Vec::with_capacity(alloc, lanes + 1)?,
-        ends,
-        parts: Vec::with_capacity(alloc, lanes + shards + 1)?,
-        rows,
     })
 }

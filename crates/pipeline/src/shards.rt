@@ -1,11 +1,10 @@
 //! What the shards' threads are given.
-ghost use Rattle.std.specs.Prelude.{◌≡◌, ◌+◌, ◌<◌, ◌≤◌, [], All, true, false, length, map, replicate, vec_len, IfOk, OnOk};
+ghost use Rattle.std.specs.Prelude.{◌≡◌, ◌+◌, ◌<◌, ◌≤◌, [], All, true, false, length, map, replicate, vec_len, vec_capacity, IfOk, OnOk};
 ghost use Rattle.drop_ledger.specs.Parts.{PartState};
 ghost use Rattle.lane_queue.specs.Ends.{IsNew};
-ghost use Rattle.shard_core.specs.Held.{StandsFor, has_due, is_finished};
 ghost use Rattle.tsc_config.specs.declared.config.Config.{Config};
 ghost use Rattle.pipeline.specs.Made.{NumberedFrom, HasNodes, IsReady};
-ghost use Rattle.pipeline.specs.Promise.{HasSettings};
+ghost use Rattle.pipeline.specs.Promise.{HasSettings, IsNewShard};
 
 use crate::lent::Lent;
 use crate::shard_job::ShardJob;
@@ -14,7 +13,7 @@ use lane_queue::{Receiver, Room, Sender};
 use otlp_types::{Item, Shipment, TryClone};
 use shard_core::Shard;
 use shared_budget::BudgetSeat;
-use std::alloc::AllocError;
+use std::alloc::{AllocError, Global};
 use std::sync::Wait;
 use tsc_config::Config;
 
@@ -48,64 +47,88 @@ pub fn shard_jobs<'s, C: Room, D: Room, B: Accounts, G, P, M, R: Wait>(
     ensures new { IfOk result (λ jobs. All (λ job. HasSettings config.now job.shard × (job.share.numbers ≡ replicate 9 0)) jobs.items) }
     ensures parts { OnOk result ((vec_len parts.new + config.now.shards ≡ vec_len parts.old) × All (λ p. p ≡ record { parts = 1; numbers = replicate 9 0 }) parts.new.items) }
 {
-    let ShardEnds {
-        mut seats,
-        mut receivers,
-        mut exports,
-    } = ends;
-    let mut jobs = Vec::with_capacity(lent.alloc, config.shards)?;
-    while let Some(receiver) = receivers.pop() {
-        let number = receivers.len() as u16;
-        let sender = exports.take_last();
-        let seat = seats.take_last();
-        let part = parts.take_last();
-        jobs.push(shard_job(lent, config, number, seat, receiver, sender, part)?)?;
-    }
-    jobs.reverse();
-    Ok(jobs)
+    let shards = new_shards(lent.alloc, config)?;
+    let jobs = Vec::with_capacity(lent.alloc, config.shards)?;
+    Ok(jobs_of(lent, config, shards, ends, parts, jobs))
 }
 
-/// What a shard's thread is given: a shard with its share of the traces and of the caches, whose senders are the lanes and
-/// the ticker.
-fn shard_job<'s, C: Room, D: Room, B: Accounts, G, P, M, R: Wait>(
-    lent: &Lent<'s, B, G, P, M, R>,
-    config: &Config,
-    number: u16,
-    seat: BudgetSeat<'s, R>,
-    receiver: Receiver<Item, C>,
-    sender: Sender<Shipment, D>,
-    part: Part<B>,
-) -> Result<ShardJob<'s, C, D, B, G, R>, AllocError>
+/// The shards of a configuration, which have taken nothing.
+fn new_shards(alloc: Global, config: &Config) -> Result<Vec<Shard>, AllocError>
     requires waits { 0 < config.now.decision_wait }
     requires shards { 0 < config.now.shards }
     requires traces { config.now.shards ≤ config.now.num_traces }
-    requires seat { HasNodes seat config.now.policies }
-    requires part { part.parts ≡ 1 }
-    ensures shard { IfOk result (λ job. StandsFor job.shard [] 0 × (has_due job.shard ≡ false) × (is_finished job.shard ≡ false)) }
-    ensures settings { IfOk result (λ job. HasSettings config.now job.shard) }
-    ensures nodes { IfOk result (λ job. HasNodes job.seat job.shard.policies) }
-    ensures ends { IfOk result (λ job. (job.receiver ≡ receiver) × (job.sender ≡ sender) × (job.seat ≡ seat.entry)) }
-    ensures share { IfOk result (λ job. job.share ≡ part) }
-    ensures number { IfOk result (λ job. job.number ≡ number) }
+    ensures count { IfOk result (λ made. vec_len made ≡ config.now.shards) }
+    ensures new { IfOk result (λ made. All (IsNewShard config.now) made.items) }
 {
-    let shard = Shard::new(
-        lent.alloc,
-        config.policies.try_clone(lent.alloc)?,
+    let mut made = Vec::with_capacity(alloc, config.shards)?;
+    for _shard in 0..config.shards {
+        made.push_reserved(new_shard(alloc, config)?);
+    }
+    Ok(made)
+}
+
+/// A shard with its share of the traces and of the caches, whose senders are the lanes and the ticker.
+fn new_shard(alloc: Global, config: &Config) -> Result<Shard, AllocError>
+    requires waits { 0 < config.now.decision_wait }
+    requires shards { 0 < config.now.shards }
+    requires traces { config.now.shards ≤ config.now.num_traces }
+    ensures { IfOk result (IsNewShard config.now) }
+{
+    Shard::new(
+        alloc,
+        config.policies.try_clone(alloc)?,
         config.decision_wait,
         config.root_wait,
         config.traces_per_shard(),
         config.sampled_cache_per_shard(),
         config.non_sampled_cache_per_shard(),
         config.lanes as usize + 1,
-    )?;
-    Ok(ShardJob {
-        rt: lent.rt,
-        number,
-        shard,
-        seat,
-        receiver,
-        sender,
-        share: BookShare::new(lent.rt, lent.book, part),
-        gate: lent.gate,
-    })
+    )
+}
+
+/// What the threads of these shards are given; `jobs` has room for it.
+fn jobs_of<'s, C: Room, D: Room, B: Accounts, G, P, M, R: Wait>(
+    lent: &Lent<'s, B, G, P, M, R>,
+    config: &Config,
+    shards: Vec<Shard>,
+    ends: ShardEnds<'s, C, D, R>,
+    parts: &mut Vec<Part<B>>,
+    jobs: Vec<ShardJob<'s, C, D, B, G, R>>,
+) -> Vec<ShardJob<'s, C, D, B, G, R>>
+    requires few { vec_len shards < 65536 }
+    requires shards { All (IsNewShard config.now) shards.items }
+    requires room { (jobs.items ≡ []) × (vec_len shards ≤ vec_capacity jobs) }
+    requires seats { (vec_len ends.seats ≡ vec_len shards) × All (λ seat. HasNodes seat config.now.policies) ends.seats.items }
+    requires receivers { (vec_len ends.receivers ≡ vec_len shards) × All (λ r. All IsNew r.ends) ends.receivers.items }
+    requires exports { (vec_len ends.exports ≡ vec_len shards) × All IsNew ends.exports.items }
+    requires parts { (vec_len shards ≤ vec_len parts.old) × All (λ p. p ≡ record { parts = 1; numbers = replicate 9 0 }) parts.old.items }
+    ensures count { vec_len result ≡ vec_len shards }
+    ensures ready { All (λ job. IsReady job.shard job.receiver job.sender job.seat) result.items }
+    ensures ends { (map (λ job. job.seat) result.items ≡ ends.entry.seats.items) × (map (λ job. job.receiver) result.items ≡ ends.entry.receivers.items) × (map (λ job. job.sender) result.items ≡ ends.entry.exports.items) }
+    ensures numbers { NumberedFrom 0 (map (λ job. job.number) result.items) }
+    ensures new { All (λ job. HasSettings config.now job.shard × (job.share.numbers ≡ replicate 9 0)) result.items }
+    ensures parts { (vec_len parts.new + vec_len shards ≡ vec_len parts.old) × All (λ p. p ≡ record { parts = 1; numbers = replicate 9 0 }) parts.new.items }
+{
+    let mut shards = shards;
+    let mut jobs = jobs;
+    let ShardEnds {
+        mut seats,
+        mut receivers,
+        mut exports,
+    } = ends;
+    while let Some(shard) = shards.pop() {
+        let share = BookShare::new(lent.rt, lent.book, parts.take_last());
+        jobs.push_reserved(ShardJob {
+            rt: lent.rt,
+            number: shards.len() as u16,
+            shard,
+            seat: seats.take_last(),
+            receiver: receivers.take_last(),
+            sender: exports.take_last(),
+            share,
+            gate: lent.gate,
+        });
+    }
+    jobs.reverse();
+    jobs
 }

@@ -7,6 +7,7 @@ ghost use Rattle.policy_tree.specs.Tree.{limiters};
 ghost use Rattle.policy_tree.specs.Meaning.{meaning};
 ghost use Rattle.policy_eval.specs.Meaning.{knows};
 ghost use Rattle.journal_theory.specs.Fate.{effect, effect_dealt, released_dealt, dropped_dealt};
+ghost use Rattle.decision_cache.specs.Lists.{empty_lists};
 ghost use Rattle.shard_core.specs.Taking.{Releases, answer_to_late};
 ghost use Rattle.shard_core.specs.Holding.{KeepsAs, OpensAs, answer_to_append, leaves_forgotten};
 
@@ -87,16 +88,19 @@ impl Shard {
         ensures running { IfOk result (λ shard. is_finished shard ≡ false) }
         ensures ends { IfOk result (λ shard. shard.standing.ends ≡ replicate senders false) }
     {
-        Ok(Shard {
-            policies,
-            wait,
-            root_wait,
-            buffer: TraceBuffer::new(alloc, limit)?,
-            cache: DecisionCache::new(alloc, sampled, non_sampled)?,
-            clock: 0,
-            mark: 0,
-            ends: vec![in alloc; false; senders]?,
-        })
+        match nothing_held(alloc, limit, sampled, non_sampled, senders) {
+            Ok((buffer, cache, ends)) => Ok(Shard {
+                policies,
+                wait,
+                root_wait,
+                buffer,
+                cache,
+                clock: 0,
+                mark: 0,
+                ends,
+            }),
+            Err(error) => Err(error),
+        }
     }
 
     /// Whether a trace is to be decided before the next item.
@@ -230,6 +234,24 @@ impl Shard {
         let spans = self.buffer.settle(mark, wait, root_wait, verdict);
         decided(verdict, spans)
     }
+}
+
+/// The buffer and the cache of a shard that has taken nothing, and which of its senders have ended: none.
+fn nothing_held(
+    alloc: Global,
+    limit: usize,
+    sampled: usize,
+    non_sampled: usize,
+    senders: usize,
+) -> Result<(TraceBuffer, DecisionCache, Vec<bool>), AllocError>
+    requires { 0 < limit }
+    ensures buffer { IfOk result (λ held. held.0 ≡ record { episodes = []; limit = limit }) }
+    ensures cache { IfOk result (λ held. held.1 ≡ empty_lists sampled non_sampled) }
+    ensures ends { IfOk result (λ held. held.2.items ≡ replicate senders false) }
+{
+    let ends = vec![in alloc; false; senders]?;
+    let cache = DecisionCache::new(alloc, sampled, non_sampled)?;
+    Ok((TraceBuffer::new(alloc, limit)?, cache, ends))
 }
 
 /// What is answered to a late span, by the verdict of its trace.

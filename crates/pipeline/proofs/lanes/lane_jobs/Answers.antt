@@ -13,7 +13,7 @@ loop-feed-preserved g c =
     let p = c.in-Some.ensures in
     let s = c.take_last-senders.ensures in
     let q = c.take_last-part.ensures in
-    let pushed = c.in_ok-push.ensures in
+    let pushed = c.push_reserved.ensures in
     let made = c.in_ok-lane_job.ensures in (
       omega (arith, p.len, pushed.len, h.0),
       omega (arith, p.len, s.len, h.1),
@@ -26,6 +26,7 @@ loop-feed-preserved g c =
           (ap ends_of s.items ∙ map-append (λ v. v.items) c.take_last-senders.new.self.items (c.take_last-senders.result ∷ [])) pushed.items (ap (λ l. l.ports) made.lane) h.7,
       numbered (λ job. job.number) (vec_len c.loop-feed.feeds) (vec_len c.pop.new.self) c.loop-feed.jobs.items _ c.in_ok-lane_job.field-0 (sym p.len) (made.number ∙ c.len-number.ensures) pushed.items h.8,
       subst (All (λ job. (job.lane.connected ≡ 0) × (job.share.numbers ≡ replicate 9 0))) (sym pushed.items) (All-push (λ job. (job.lane.connected ≡ 0) × (job.share.numbers ≡ replicate 9 0)) c.loop-feed.jobs.items c.in_ok-lane_job.field-0 h.9 (ap (λ l. l.connected) made.lane, ap (λ p. p.numbers) (made.share ∙ (All-pop (λ p. p ≡ record { parts = 1; numbers = replicate 9 0 }) c.loop-feed.parts.items c.take_last-part.new.self.items (Some c.take_last-part.result) q.items h.3).1))),
+      omega (arith, pushed.capacity, h.10),
     )
 
 pub returns-clause-feeds : goal.returns-clause-feeds

@@ -1,41 +1,14 @@
-use Rattle.std.proofs.Common.{refl, ◌∙◌, sym, [], ◌++◌, ◌∷◌}
-use Rattle.lane_queue.proofs.Merging.{merge_none}
 use Rattle.shard_core.specs.Held.{settings}
-use Rattle.shard_worker.proofs.Journals.{kept_none, kept_skipping, kept_taking, works_ended, unmarked}
+use Rattle.shard_worker.proofs.Journals.{works_ended}
 use Rattle.shard_worker.proofs.worker.work.Goals as goal
 
-pub loop-init : goal.loop-init
-loop-init g c =
-    let none = kept_none g.L.Limiter.asks c.args.limiter (settings c.args.shard) c.args.receiver.ends c.args.shard c.args.sender.items c.args.tally (merge_none c.args.receiver.ends c.requires.new_queues.0) c.requires.new_shard c.requires.new_queues.1 in
-    (c.requires.nothing_due, c.requires.running, refl, refl, refl, refl, c.requires.nodes, λ node. refl, ([], none.0, none.1, none.2))
-
-pub loop-preserved-then-not-is_taken : goal.loop-preserved-then-not-is_taken
-loop-preserved-then-not-is_taken g c =
-    let h = c.loop.invariant.8 in
-    let popped = c.in-Some-pop.ensures.first in
-    let kept = kept_skipping g.L.Limiter.asks c.args.limiter _ popped.0 c.in-Some-pop.item (settings c.args.shard) c.loop.receiver.ends c.pop.new.self.ends c.args.tally c.loop.turns.shard c.loop.turns.sender.items c.loop.turns.tally c.loop.turns.limiter h.0
-    (sym c.is_taken.ensures ∙ c.if-not-is_taken.true) popped.1.takes (h.1, h.2, h.3) in
-    (c.loop.invariant.0, c.loop.invariant.1, c.loop.invariant.2, c.loop.invariant.3, c.loop.invariant.4, c.pop.ensures.same_queues ∙ c.loop.invariant.5, c.loop.invariant.6, c.loop.invariant.7, (h.0 ++ (popped.0, unmarked c.in-Some-pop.item) ∷ [], kept.0, kept.1, kept.2))
-
-pub returns-then-turn-clause-works : goal.returns-then-turn-clause-works
-returns-then-turn-clause-works g c =
-    let h = c.loop.invariant.8 in
-    let popped = c.in-Some-pop.ensures.first in
-    let t = c.turn.ensures.takes c.args.limiter c.args.tally _ h.3 in
-    let is = c.turn.ensures.settings ∙ c.loop.invariant.2 in
-    let kept = kept_taking g.L.Limiter.asks c.args.limiter _ popped.0 c.in-Some-pop.item (settings c.args.shard) c.loop.receiver.ends c.pop.new.self.ends c.args.tally c.turn.new.self.shard c.turn.new.self.sender.items c.turn.new.self.tally c.turn.new.self.limiter h.0
-    is (sym c.is_taken.ensures ∙ c.if-not-is_taken.false) popped.1.takes h.1 h.2 t in
+pub returns-clause-works : goal.returns-clause-works
+returns-clause-works g c =
+    let did = c.take_all.ensures in
+    let turns = c.take_all.new.turns in
+    let receiver = c.take_all.new.receiver in
     let same = c.ended.ensures.same in (
-      h.0 ++ (popped.0, t.taken) ∷ [],
-      works_ended g.L.Limiter.asks c.args.limiter c.args.number c.turn.new.self.number (settings c.args.shard) c.turn.new.self.shard c.ended.result.shard c.pop.new.self c.ended.result.receiver c.turn.new.self.sender c.ended.result.sender c.args.tally c.turn.new.self.tally c.ended.result.tally c.turn.new.self.limiter c.ended.result.limiter _
-          is (sym c.turn.ensures.finished ∙ c.if-turn.true) (c.turn.ensures.same.0 ∙ c.loop.invariant.3) c.ended.ensures.shipped same.0 same.1 same.2 same.3 kept,
+      did.takes.0,
+      works_ended g.L.Limiter.asks c.args.limiter c.args.number turns.number (settings c.args.shard) turns.shard c.ended.result.shard receiver c.ended.result.receiver turns.sender c.ended.result.sender c.args.tally turns.tally c.ended.result.tally turns.limiter c.ended.result.limiter _
+          did.settings did.finished did.number c.ended.ensures.shipped same.0 same.1 same.2 same.3 (did.takes.1, did.takes.2, did.takes.3),
     )
-
-pub loop-preserved : goal.loop-preserved
-loop-preserved g c =
-    let h = c.loop.invariant.8 in
-    let popped = c.in-Some-pop.ensures.first in
-    let t = c.turn.ensures.takes c.args.limiter c.args.tally _ h.3 in
-    let kept = kept_taking g.L.Limiter.asks c.args.limiter _ popped.0 c.in-Some-pop.item (settings c.args.shard) c.loop.receiver.ends c.pop.new.self.ends c.args.tally c.turn.new.self.shard c.turn.new.self.sender.items c.turn.new.self.tally c.turn.new.self.limiter h.0
-    (c.turn.ensures.settings ∙ c.loop.invariant.2) (sym c.is_taken.ensures ∙ c.if-not-is_taken.false) popped.1.takes h.1 h.2 t in
-    (c.turn.ensures.nothing_due, sym c.turn.ensures.finished ∙ c.if-turn.false, c.turn.ensures.settings ∙ c.loop.invariant.2, c.turn.ensures.same.0 ∙ c.loop.invariant.3, c.turn.ensures.same.1 ∙ c.loop.invariant.4, c.pop.ensures.same_queues ∙ c.loop.invariant.5, c.turn.ensures.nodes, λ node. c.turn.ensures.keeps node ∙ c.loop.invariant.7 node, (h.0 ++ (popped.0, t.taken) ∷ [], kept.0, kept.1, kept.2))
