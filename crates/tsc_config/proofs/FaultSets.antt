@@ -5,7 +5,7 @@ use Rattle.std.proofs.lemmas.Bool.Decides.{nat_tests}
 use Rattle.std.specs.Str.{bytes_eq}
 use Rattle.toml.specs.Data.{Data, array, table, Items, no_items, item, Members, no_members, member, get_member}
 use Rattle.tsc_config.specs.Keys.{type_name, type_at}
-use Rattle.tsc_config.specs.Faults.{number_of, least, optional, required, unknown_fault, integer_fault, natural_fault, whole_fault, truth_fault, text_fault, type_fault, code_fault, items_fault, array_fault}
+use Rattle.tsc_config.specs.Faults.{number_of, least, optional, required, unknown_fault, integer_fault, whole_fault, truth_fault, text_fault, type_fault, code_fault, items_fault, array_fault}
 use Rattle.tsc_config.specs.Faults as spec
 use Rattle.tsc_config.specs.FaultSets.{IsLeastOf, OptionalHas, RequiredHas, SomeItemHas, ArrayHas, AttributeHas, RowsHave, SettingsHave, SettingsAtHave, TypedHas, PolicyTableHas, PoliciesHave, SomePolicyHas, PolicyHas, AndHas, AndSettingsHave, SubPoliciesHave, CacheHas, NumbersHave, SizesHave, HasFault}
 use Rattle.tsc_config.specs.declared.fault.ConfigFault.{ConfigFault}
