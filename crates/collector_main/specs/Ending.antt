@@ -9,8 +9,8 @@ use Rattle.drop_ledger.specs.Places.{place_of}
 use Rattle.drop_ledger.specs.declared.count.Count.{Count}
 use Rattle.drop_ledger.specs.declared.count.Count.TheVariants.{Received, Handed, Dropped}
 use Rattle.drop_ledger.specs.declared.report.Report.{Report}
-use Rattle.policy_tree.specs.Faults.{number_of as number_of_policy_fault}
-use Rattle.tsc_config.specs.Faults.{number_of}
+use Rattle.policy_tree.specs.Faults.{policy_fault_number}
+use Rattle.tsc_config.specs.Faults.{config_fault_number}
 use Rattle.tsc_config.specs.declared.config.Config.{Config}
 use Rattle.tsc_config.specs.declared.fault.ConfigFault.{ConfigFault}
 use Rattle.tsc_config.specs.declared.fault.ConfigFault.TheVariants.{Policy}
@@ -65,8 +65,8 @@ report_text report = concat (map (count_line report) counts)
 
 -- a fault of the configuration by its number, and a fault of its policies as `7.P`
 abbrev pub fault_number : ConfigFault → List ℕ
-fault_number (Policy fault) = codes "7." ++ decimal (number_of_policy_fault fault)
-fault_number fault = decimal (number_of fault)
+fault_number (Policy fault) = codes "7." ++ decimal (policy_fault_number fault)
+fault_number fault = decimal (config_fault_number fault)
 
 -- the last text of each outcome: nothing once a write of the run failed
 abbrev pub text_of : Outcome → List ℕ

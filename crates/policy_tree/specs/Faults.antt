@@ -11,14 +11,14 @@ use Rattle.policy_tree.specs.declared.fault.PolicyFault.{PolicyFault}
 use Rattle.policy_tree.specs.declared.fault.PolicyFault.TheVariants.{EmptyList, TooDeep, TooMany, SameName, CrossedBounds, NoValues, NoMemory}
 
 -- the number of a fault
-abbrev pub number_of : PolicyFault → ℕ
-number_of EmptyList = 1
-number_of TooDeep = 2
-number_of TooMany = 3
-number_of SameName = 4
-number_of CrossedBounds = 5
-number_of NoValues = 6
-number_of NoMemory = 7
+abbrev pub policy_fault_number : PolicyFault → ℕ
+policy_fault_number EmptyList = 1
+policy_fault_number TooDeep = 2
+policy_fault_number TooMany = 3
+policy_fault_number SameName = 4
+policy_fault_number CrossedBounds = 5
+policy_fault_number NoValues = 6
+policy_fault_number NoMemory = 7
 
 -- ---- names
 

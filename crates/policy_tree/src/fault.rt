@@ -1,6 +1,6 @@
 //! What is wrong with some policies.
 ghost use Rattle.std.specs.Prelude.{◌≡◌};
-ghost use Rattle.policy_tree.specs.Faults.{number_of};
+ghost use Rattle.policy_tree.specs.Faults.{policy_fault_number};
 
 /// Why a list of policies is refused. Its number, from 1 to 7, orders the faults: the least that holds is answered.
 #[derive(Clone, Copy, Debug, PartialEq, Eq)]
@@ -25,7 +25,7 @@ pub enum PolicyFault {
 impl PolicyFault {
     /// The number of the fault, from 1 to 7.
     pub fn number(self) -> u8
-        ensures { result ≡ number_of self }
+        ensures { result ≡ policy_fault_number self }
     {
         match self {
             PolicyFault::EmptyList => 1,

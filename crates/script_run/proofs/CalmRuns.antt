@@ -19,7 +19,7 @@ use Rattle.span_exporter.specs.declared.answer.Flushed.TheVariants.{Handed, Spoi
 use Rattle.tsc_script.specs.Instructions.{Instruction, receive, tick, close}
 use Rattle.script_run.specs.Connections.{connection_of}
 use Rattle.script_run.specs.Requests.{Reading, reads, refuses, arrivals_of, reply_line}
-use Rattle.script_run.specs.Counts.{number_of}
+use Rattle.script_run.specs.Counts.{number_reported}
 use Rattle.script_run.specs.World.{World, Sizes, Event, replied, was_sent, RunsToQuiet, RepliesAndRuns, Answers, Receives, Plays, PlaysAll, new_world, after_reply, after_receiving, empty_queues}
 use Rattle.script_run.specs.Writing.{Writes, WritesAll}
 use Rattle.script_run.specs.Calm.{is_refusal, Calm}
@@ -181,7 +181,7 @@ calm_runs_agree unique s sizes lanes shards first played a b h g c d =
       askings = ap (λ (z : World). z.askings) (sym same);
       events = sym events;
       closed = ap (λ (z : World). z.closed) (sym same);
-      counts = λ count. ap (λ (z : World). number_of s z count) (sym same);
+      counts = λ count. ap (λ (z : World). number_reported s z count) (sym same);
       sink = λ bytes known. all_writes_same unique a.events bytes first a.sink b.sink known c.up d.up (has_written s sizes first played lanes shards a was_up h).0
           (subst (λ (z : List Event). WritesAll first z b.sink) events (has_written s sizes first played lanes shards b was_up g).0);
     }

@@ -15,7 +15,7 @@ use Rattle.drop_ledger.specs.declared.count.Count.TheVariants.{Handed, Dropped}
 use Rattle.world_theory.specs.World.{Config, World as Core}
 use Rattle.world_theory.specs.Step.{fail, run_from}
 use Rattle.script_run.specs.World.{World, Sizes, TakesEach, RunsToQuiet, was_sent, replied, after_reply, to_each, ends_from}
-use Rattle.script_run.specs.Counts.{number_of, counted_at}
+use Rattle.script_run.specs.Counts.{number_reported, counted_at}
 use Rattle.script_run.specs.Writing.{handed_in}
 use Rattle.script_run.specs.CoreRun.{core_config}
 use Rattle.script_run.proofs.Stands.{Stands, Reaches, no_queues, HasNoEnd, lanes_from}
@@ -50,7 +50,7 @@ replied_stands s sizes old queues k reply sink down h e = record {
     new : World
     new = after_reply reply sink old
 
-    same_number : (count : Count) → number_of s (after_reply reply sink old) count ≡ number_of s old count
+    same_number : (count : Count) → number_reported s (after_reply reply sink old) count ≡ number_reported s old count
     same_number count = omega (arith, lanes_count (after_reply reply sink old) old refl refl count, sum_by_push (counted_at count) old.events (replied reply))
 
 -- a reply that is written changes nothing but the sink

@@ -20,7 +20,7 @@ use Rattle.world_theory.specs.Places.{HeldKey, handed, counted_under, held_at, h
 use Rattle.world_theory.specs.Headline.{handed_spans}
 use Rattle.script_run.specs.Sending.{Sent, spans_of, SendsInBatches}
 use Rattle.script_run.specs.World.{World, Sizes, was_sent, TakesEach}
-use Rattle.script_run.specs.Counts.{counted_at_lanes, counted_at, dropped_by_journal, number_of}
+use Rattle.script_run.specs.Counts.{counted_at_lanes, counted_at, dropped_by_journal, number_reported}
 use Rattle.script_run.specs.Writing.{handed_in}
 use Rattle.script_run.specs.CoreRun.{core_config}
 use Rattle.script_run.proofs.Stands.{shards_with, lanes_from, no_queues, HasNoEnd, Stands, Reaches}
@@ -100,8 +100,8 @@ pub record Shipped (s : Settings) (w : World) (queues : List (List Arrival)) (pa
   pub batch : k.batch ≡ []
   pub handed : k.handed ≡ handed_in w.events
   pub down : k.down ≡ w.sink.is_down
-  pub dropped : (reason : Reason) → length (under reason k.counted) ≡ number_of s (record w { journals = pasts }) (Dropped reason)
-  pub handed_over : length (handed_spans k) ≡ number_of s w Handed
+  pub dropped : (reason : Reason) → length (under reason k.counted) ≡ number_reported s (record w { journals = pasts }) (Dropped reason)
+  pub handed_over : length (handed_spans k) ≡ number_reported s w Handed
 
 -- so it is before anything is taken
 pub shipped_nothing : (s : Settings) (sizes : Sizes) (w : World) (queues : List (List Arrival)) (k : Core) → Stands s sizes w queues k → Shipped s w queues w.journals [] k

@@ -12,7 +12,7 @@ use Rattle.world_theory.specs.Places.{IsClosed}
 use Rattle.world_theory.specs.Headline.{handed_spans}
 use Rattle.drop_ledger.specs.declared.count.Count.TheVariants.{Handed, Dropped}
 use Rattle.script_run.specs.World.{World, Sizes}
-use Rattle.script_run.specs.Counts.{number_of}
+use Rattle.script_run.specs.Counts.{number_reported}
 use Rattle.script_run.specs.Writing.{handed_in}
 use Rattle.script_run.specs.CoreRun.{core_config, is_of_lane}
 
@@ -52,8 +52,8 @@ pub record Stands (s : Settings) (sizes : Sizes) (w : World) (queues : List (Lis
   pub batch : k.batch ≡ []
   pub handed : k.handed ≡ handed_in w.events
   pub down : k.down ≡ w.sink.is_down
-  pub dropped : (reason : Reason) → length (under reason k.counted) ≡ number_of s w (Dropped reason)
-  pub handed_over : length (handed_spans k) ≡ number_of s w Handed
+  pub dropped : (reason : Reason) → length (under reason k.counted) ≡ number_reported s w (Dropped reason)
+  pub handed_over : length (handed_spans k) ≡ number_reported s w Handed
   pub «open» : w.closed ≡ false → AllByRecursion HasNoEnd w.journals
   pub closed : w.closed ≡ true → IsClosed (core_config s sizes) k
 

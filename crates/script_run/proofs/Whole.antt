@@ -19,7 +19,7 @@ use Rattle.world_theory.proofs.Parts.{headline}
 use Rattle.drop_ledger.specs.declared.count.Count.{Count}
 use Rattle.drop_ledger.specs.declared.count.Count.TheVariants.{Received, Handed, Dropped}
 use Rattle.script_run.specs.World.{World, Sizes, Event, replied, was_sent, new_world}
-use Rattle.script_run.specs.Counts.{counted_at, counted_for, dropped_by_journal, number_of}
+use Rattle.script_run.specs.Counts.{counted_at, counted_for, dropped_by_journal, number_reported}
 use Rattle.script_run.specs.CoreRun.{core_config, count_in, is_of_lane, is_quiet, WaitsInBuffers, IsRunOfCore}
 use Rattle.script_run.specs.Laws.{CanPlay, EachIsARunOfCore}
 use Rattle.script_run.proofs.Stands.{quiet_shard, shards_with, routed_lane, lanes_from, no_queues, HasNoEnd, Stands}
@@ -73,7 +73,7 @@ stands_new s sizes lanes shards first can up =
       closed = λ e. absurd (cc e);
     }
   where
-    dropped : (reason : Reason) → ◌≡◌ {A = ℕ} 0 (number_of s (new_world lanes shards first) (Dropped reason))
+    dropped : (reason : Reason) → ◌≡◌ {A = ℕ} 0 (number_reported s (new_world lanes shards first) (Dropped reason))
     dropped InvalidId = omega (arith, nothing_dropped s InvalidId shards)
     dropped QueueFull = omega (arith, nothing_dropped s QueueFull shards)
     dropped NoMemory = omega (arith, nothing_dropped s NoMemory shards)
@@ -190,7 +190,7 @@ module _ (s : Settings) (sizes : Sizes) (w : World) (k : Core) (st : Stands s si
       λ i. record s { senders = senders i }
 
   -- the core's counts are the script's
-  counts : (count : Count) → count_in k count ≡ number_of s w count
+  counts : (count : Count) → count_in k count ≡ number_reported s w count
   counts Received =
       let all : length (flat_map (λ (l : Lane). l.received) k.lanes) ≡ length w.received
       = ap (λ (z : List Lane). length (flat_map (λ (l : Lane). l.received) z)) st.lanes ∙ (lanes_came w 0 (length w.contacts.connected) ∙ all_came w.contacts.connected w.received known.came) in

@@ -28,7 +28,7 @@ use Rattle.tsc_script.specs.Instructions.{Instruction, receive, tick}
 use Rattle.script_run.specs.Connections.{Contacts, connection_of, with_connection, with_received}
 use Rattle.script_run.specs.Requests.{reads, refuses, IsTakenFor, arrivals_of, reply_line}
 use Rattle.script_run.specs.World.{World, Event, replied, was_sent, Sizes, new_world, Plays, PlaysAll, TakesRounds, RunsToQuiet, empty_queues, entry_of, ends_from}
-use Rattle.script_run.specs.Counts.{number_of}
+use Rattle.script_run.specs.Counts.{number_reported}
 use Rattle.script_run.specs.Calm.{is_for_memory, IsUnmarked, Calm}
 use Rattle.script_run.specs.Writing.{handed_in}
 use Rattle.script_run.specs.CoreRun.{core_config, IsRunBy}
@@ -222,7 +222,7 @@ spoiled_played body taken = (
   ),
 )
 
-given_up_batch_as_handed : IsRunBy number_of handed_or_given_up own (with_queue 1) 1 1 spoiled → ⊥
+given_up_batch_as_handed : IsRunBy number_reported handed_or_given_up own (with_queue 1) 1 1 spoiled → ⊥
 unfolding notes
 given_up_batch_as_handed law =
     let one : length (handed_spans law.core) ≡ 1 = ap (λ (batches : List (List Arrival)). length (flat_map (λ batch. batch) batches)) law.handed in
@@ -268,7 +268,7 @@ unfolding notes
 never_ended_played = silent (with_queue 1) (record start { closed = true }) never_ended.journals (ends_from 0 (length start.contacts.connected) start.journals)
     (never_ended.journals, [], [], [], ([], [], [], ((false, false, refl, refl), refl), (refl, refl), refl), (refl, refl, refl), refl)
 
-ticker_never_ends : IsRunBy number_of handed_in own (with_queue 1) 1 1 never_ended → ⊥
+ticker_never_ends : IsRunBy number_reported handed_in own (with_queue 1) 1 1 never_ended → ⊥
 ticker_never_ends law =
     let is = one_shard law.core.shards (entry_of (End 0) false false ∷ []) law.journals in
     let ended : IsTrue (list_all (λ (sh : Shard). have_ended sh.journal (settings (core_config own (with_queue 1)) law.core).senders) law.core.shards) = (law.closed refl).ends_taken in

@@ -26,7 +26,7 @@ use Rattle.tsc_script.specs.Instructions.{receive, close}
 use Rattle.script_run.specs.Connections.{connection_of, with_received}
 use Rattle.script_run.specs.Requests.{reads, IsTakenFor, arrivals_of, reply_line}
 use Rattle.script_run.specs.World.{World, replied, Plays, PlaysAll, Receives, RepliesAndRuns, TakesRounds, empty_queues, entry_of}
-use Rattle.script_run.specs.Counts.{counted_at_lanes, counted_at_shards, counted_at, number_of}
+use Rattle.script_run.specs.Counts.{counted_at_lanes, counted_at_shards, counted_at, number_reported}
 use Rattle.script_run.specs.Writing.{handed_in}
 use Rattle.script_run.specs.CoreRun.{core_config, is_quiet, IsRunBy}
 use Rattle.script_run.proofs.WrongDefinitions.{own, with_queue, start, writes, silent, span, of_one_span, done_line, queued_span, span_pushed, some_lane, one_shard, own_settings}
@@ -73,7 +73,7 @@ used_again_played : RepliesAndRuns own (with_queue 0) (received_again used_once)
 unfolding notes
 used_again_played = (used_again.sink, writes full_line full_line, silent (with_queue 0) used_again ([] ∷ []) _ idle_round)
 
-numbers_used_again : IsRunBy number_of handed_in own (with_queue 0) 1 1 used_again → ⊥
+numbers_used_again : IsRunBy number_reported handed_in own (with_queue 0) 1 1 used_again → ⊥
 numbers_used_again law =
     let at = some_lane law.core.lanes 1 (law.counts Received) in
     let there : slice_get law.core.lanes 0 ≡ Some at.first = ap (λ (lanes : List Lane). slice_get lanes 0) at.are in
@@ -205,7 +205,7 @@ late_played body taken = inr (reads of_one_span, taken, (Done 1, queued_span ∷
 abbrev fate_by : Settings → Journal → Fate
 fate_by s past = fate s past ends false (ids_of 1)
 
-played_after_a_close : IsRunBy number_of handed_in own (with_queue 1) 1 1 late_world → ⊥
+played_after_a_close : IsRunBy number_reported handed_in own (with_queue 1) 1 1 late_world → ⊥
 unfolding notes
 played_after_a_close law =
     let c = core_config own (with_queue 1) in

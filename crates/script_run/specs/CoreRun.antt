@@ -11,7 +11,7 @@ use Rattle.world_theory.specs.Headline.{HoldsOf, handed_spans}
 use Rattle.drop_ledger.specs.declared.count.Count.{Count}
 use Rattle.drop_ledger.specs.declared.count.Count.TheVariants.{Received, Handed, Dropped}
 use Rattle.script_run.specs.World.{World, Sizes, Event}
-use Rattle.script_run.specs.Counts.{number_of}
+use Rattle.script_run.specs.Counts.{number_reported}
 use Rattle.script_run.specs.Writing.{handed_in}
 
 -- the core's configuration, by the settings of each shard and the size of a batch
@@ -64,4 +64,4 @@ pub record IsRunBy (number : Settings → World → Count → ℕ) (handed_by : 
 
 -- the same by the script's own counts and batches
 abbrev pub IsRunOfCore : Settings → Sizes → (lanes shards : ℕ) → World → Type 0
-IsRunOfCore s sizes lanes shards w = IsRunBy number_of handed_in s sizes lanes shards w
+IsRunOfCore s sizes lanes shards w = IsRunBy number_reported handed_in s sizes lanes shards w

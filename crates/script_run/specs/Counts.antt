@@ -47,10 +47,10 @@ counted_at count (replied reply) = 0
 counted_at count (was_sent sent) = counted_for count sent.flushed
 
 -- how many spans a report counts so: received, or with this end
-abbrev pub number_of : Settings → World → Count → ℕ
-number_of s w count = counted_at_lanes w count + (counted_at_shards s w.journals count + sum_by (counted_at count) w.events)
+abbrev pub number_reported : Settings → World → Count → ℕ
+number_reported s w count = counted_at_lanes w count + (counted_at_shards s w.journals count + sum_by (counted_at count) w.events)
 
 -- a report's numbers are those of the world, each below 2^64; there is none where some number passed 2^64-1
 abbrev pub Reports : Settings → World → Option (List ℕ) → Type 0
-Reports s w (Some numbers) = (length numbers ≡ 9) × ((count : Count) → (slice_index numbers (place_of count) ≡ number_of s w count) × (number_of s w count < 2 ^ 64))
-Reports s w None = (count : Count) × (2 ^ 64 ≤ number_of s w count)
+Reports s w (Some numbers) = (length numbers ≡ 9) × ((count : Count) → (slice_index numbers (place_of count) ≡ number_reported s w count) × (number_reported s w count < 2 ^ 64))
+Reports s w None = (count : Count) × (2 ^ 64 ≤ number_reported s w count)

@@ -10,7 +10,7 @@ use Rattle.script_run.specs.World.{World, Sizes, new_world, PlaysAll}
 use Rattle.script_run.specs.Writing.{WritesAll, FailedOnce}
 use Rattle.script_run.specs.CoreRun.{core_config, IsRunOfCore}
 use Rattle.script_run.specs.Calm.{Calm}
-use Rattle.script_run.specs.Counts.{number_of}
+use Rattle.script_run.specs.Counts.{number_reported}
 use Rattle.drop_ledger.specs.declared.count.Count.{Count}
 
 -- settings and sizes with which a script can be played over so many lanes: the senders are the lanes and the ticker, and a batch and a limit hold something
@@ -42,7 +42,7 @@ pub record Agrees (s : Settings) (first : LineSinkState) (a b : World) : Type 0 
   pub askings : a.askings ≡ b.askings
   pub events : a.events ≡ b.events
   pub closed : a.closed ≡ b.closed
-  pub counts : (count : Count) → number_of s a count ≡ number_of s b count
+  pub counts : (count : Count) → number_reported s a count ≡ number_reported s b count
   pub sink : (bytes : List ℕ) → first.taken ≡ Some bytes → a.sink ≡ b.sink
 
 -- two runs of one script do the same, where in neither memory was refused or a write failed

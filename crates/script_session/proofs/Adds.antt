@@ -11,7 +11,7 @@ use Rattle.drop_ledger.specs.declared.count.Count.{Count}
 use Rattle.drop_ledger.specs.declared.count.Count.TheVariants.{Received, Handed, Dropped}
 use Rattle.script_run.specs.Sending.{Sent}
 use Rattle.script_run.specs.World.{World}
-use Rattle.script_run.specs.Counts.{number_of, Reports, counted_for}
+use Rattle.script_run.specs.Counts.{number_reported, Reports, counted_for}
 use Rattle.script_session.specs.Adding.{Adds, at_reasons, counted_in}
 
 -- ---- numbers
@@ -61,9 +61,9 @@ Adds-same (Some r) None f g e p = let P = λ (n : ℕ). 2 ^ 64 ≤ slice_index r
 Adds-same (Some r) (Some n) f g e p = (p.0, λ k. ((p.1 k).0 ∙ ap (λ x. slice_index r (place_of k) + x) (sym (e k)), (p.1 k).1))
 
 -- a report that tells a world's numbers, and what these grow by is added
-pub Reports-grow : (s : Settings) (w v : World) (a b : Option (List ℕ)) (f : Count → ℕ) → ((k : Count) → number_of s v k ≡ number_of s w k + f k) → Reports s w a → Adds a f b → Reports s v b
+pub Reports-grow : (s : Settings) (w v : World) (a b : Option (List ℕ)) (f : Count → ℕ) → ((k : Count) → number_reported s v k ≡ number_reported s w k + f k) → Reports s w a → Adds a f b → Reports s v b
 Reports-grow s w v None b f e p q = let P = λ (x : Option (List ℕ)). Reports s v x in
-    subst P (sym q) (p.0, passes-too _ (number_of s w p.0) (number_of s v p.0) (f p.0) p.1 (e p.0))
+    subst P (sym q) (p.0, passes-too _ (number_reported s w p.0) (number_reported s v p.0) (f p.0) p.1 (e p.0))
 Reports-grow s w v (Some r) None f e p q = let P = λ (n : ℕ). 2 ^ 64 ≤ n in (q.0, subst P (ap (λ n. n + f q.0) (p.1 q.0).0 ∙ sym (e q.0)) q.1)
 Reports-grow s w v (Some r) (Some n) f e p q = (
   q.0 ∙ p.0,

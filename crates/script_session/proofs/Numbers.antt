@@ -20,7 +20,7 @@ use Rattle.drop_ledger.specs.declared.count.Count.{Count}
 use Rattle.drop_ledger.specs.declared.count.Count.TheVariants.{Received, Handed, Dropped}
 use Rattle.script_run.specs.Sending.{Sent}
 use Rattle.script_run.specs.World.{World, replied, was_sent, new_world, after_reply, after_receiving}
-use Rattle.script_run.specs.Counts.{counted_at_lanes, dropped_by_journal, counted_at_shards, counted_for, counted_at, number_of, Reports}
+use Rattle.script_run.specs.Counts.{counted_at_lanes, dropped_by_journal, counted_at_shards, counted_for, counted_at, number_reported, Reports}
 use Rattle.script_session.specs.Adding.{at_reasons, counted_in}
 use Rattle.script_session.specs.Submitting.{received_by, is_received}
 use Rattle.script_session.specs.Pulling.{dropped_by_all}
@@ -45,14 +45,14 @@ grow l t d b u v w p q = omega arith
 -- the shards took journals further, and batches were sent
 pub number-quiet : (s : Settings) (w : World) (nows : List Journal) (asked : List Asking) (batches : List Sent) (sink : LineSinkState) (dropped : Reason → ℕ)
     → ((reason : Reason) → dropped_by_all s reason nows ≡ dropped_by_all s reason w.journals + dropped reason)
-    → (k : Count) → number_of s (record w { journals = nows; askings = asked; events = w.events ++ map was_sent batches; sink = sink }) k ≡ number_of s w k + (at_reasons dropped k + counted_in batches k)
+    → (k : Count) → number_reported s (record w { journals = nows; askings = asked; events = w.events ++ map was_sent batches; sink = sink }) k ≡ number_reported s w k + (at_reasons dropped k + counted_in batches k)
 number-quiet s w nows asked batches sink dropped e k =
     let lanes = counted_at_lanes w k in
     grow lanes (counted_at_shards s w.journals k) (at_reasons dropped k) (counted_in batches k) (counted_at_shards s nows k) (sum_by (counted_at k) (w.events ++ map was_sent batches)) (sum_by (counted_at k) w.events)
     (shards-grow s w.journals nows dropped e k) (sum_by-append (counted_at k) w.events (map was_sent batches) ∙ ap (λ n. sum_by (counted_at k) w.events + n) (sent-counts batches k))
 
 -- a reply was written, for which nothing is counted
-pub number-replied : (s : Settings) (w : World) (reply : Reply) (sink : LineSinkState) (k : Count) → number_of s (after_reply reply sink w) k ≡ number_of s w k
+pub number-replied : (s : Settings) (w : World) (reply : Reply) (sink : LineSinkState) (k : Count) → number_reported s (after_reply reply sink w) k ≡ number_reported s w k
 number-replied s w reply sink k =
     ap (λ n. counted_at_lanes w k + (counted_at_shards s w.journals k + n)) (sum_by-append (counted_at k) w.events (replied reply ∷ []) ∙ same (sum_by-cons (counted_at k) (replied reply) []))
   where
@@ -89,7 +89,7 @@ lanes-grow w number arrivals full Busy is k = absurd is
 
 -- the spans of a request were received
 pub number-received : (s : Settings) (w : World) (number : ℕ) (arrivals : List Arrival) (full : ℕ) (reply : Reply) → IsReplyTo (length arrivals) (length (filter is_invalid arrivals)) full reply
-    → (k : Count) → number_of s (after_receiving number arrivals full w) k ≡ number_of s w k + received_by reply k
+    → (k : Count) → number_reported s (after_receiving number arrivals full w) k ≡ number_reported s w k + received_by reply k
 number-received s w number arrivals full reply is k =
     ap (λ n. n + (counted_at_shards s w.journals k + sum_by (counted_at k) w.events)) (lanes-grow w number arrivals full reply is k)
     ∙ swap (counted_at_lanes w k) (received_by reply k) (counted_at_shards s w.journals k + sum_by (counted_at k) w.events)
@@ -110,7 +110,7 @@ none-yet : (s : Settings) (reason : Reason) (shards : ℕ) → sum_by (dropped_b
 none-yet s reason zero = refl
 none-yet s reason (suc n) = sum_by-cons (dropped_by_journal s reason) [] (replicate n []) ∙ ap (λ m. 0 + m) (none-yet s reason n)
 
-number-new : (s : Settings) (lanes shards : ℕ) (first : LineSinkState) (k : Count) → number_of s (new_world lanes shards first) k ≡ 0
+number-new : (s : Settings) (lanes shards : ℕ) (first : LineSinkState) (k : Count) → number_reported s (new_world lanes shards first) k ≡ 0
 number-new s lanes shards first Received = refl
 number-new s lanes shards first Handed = refl
 number-new s lanes shards first (Dropped reason) = at_lanes reason (none-yet s reason shards)

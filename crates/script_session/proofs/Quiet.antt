@@ -16,7 +16,7 @@ use Rattle.tsc_script.specs.Instructions.{Instruction}
 use Rattle.script_run.specs.Connections.{Contacts}
 use Rattle.script_run.specs.Sending.{SendsInBatches}
 use Rattle.script_run.specs.World.{World, Sizes, was_sent, RunsToQuiet, Plays, PlaysAll, empty_queues}
-use Rattle.script_run.specs.Counts.{number_of, counted_for, Reports}
+use Rattle.script_run.specs.Counts.{number_reported, counted_for, Reports}
 use Rattle.script_session.specs.Adding.{Adds, at_reasons, counted_in}
 use Rattle.script_session.specs.Pulling.{Export, Counts, HaveReleased, HaveSettings, AreQuiet, AreOpen, ends_of, has_all_nodes, has_none_due, ends_in, EachTakes, RoundsTaken, AreOf}
 use Rattle.script_session.proofs.Adds.{Adds-then, Reports-grow}
@@ -82,7 +82,7 @@ quiets s sizes w contacts old new first last before between final closed rounds 
         limiter_is = t.limiter_is;
         sink_is = refl;
         reports = Reports-grow s w after before.1 final.1 (λ k. (at_reasons t.dropped k + counted_in t.pulls.batches k) + counted_for k sent.0)
-            (λ k. regroup (number_of s after k) (number_of s w k) (at_reasons t.dropped k) (counted_in went.batches k) (counted_in t.pulls.batches k) (counted_for k sent.0)
+            (λ k. regroup (number_reported s after k) (number_reported s w k) (at_reasons t.dropped k) (counted_in went.batches k) (counted_in t.pulls.batches k) (counted_for k sent.0)
             (number-quiet s w t.nows t.asked_now went.batches final.0.sink t.dropped t.drops k) (went.counts k))
             are.reports (Adds-then before.1 between.1 final.1 _ _ _ (λ k. refl) t.pulls.adds sent.2);
         closed_is = are.closed_is;

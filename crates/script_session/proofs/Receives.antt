@@ -18,7 +18,7 @@ use Rattle.drop_ledger.specs.declared.count.Count.{Count}
 use Rattle.script_run.specs.Connections.{Contacts, connection_of, with_connection, with_received}
 use Rattle.script_run.specs.Requests.{IsTakenFor, reply_line, reads, refuses, arrivals_of}
 use Rattle.script_run.specs.World.{World, Sizes, RunsToQuiet, RepliesAndRuns, Receives, after_reply, empty_queues}
-use Rattle.script_run.specs.Counts.{number_of, counted_for}
+use Rattle.script_run.specs.Counts.{number_reported, counted_for}
 use Rattle.script_session.specs.Adding.{Adds}
 use Rattle.script_session.specs.Submitting.{Submits, is_received, received_by}
 use Rattle.script_session.specs.Pulling.{Export, Counts, HaveSettings, HaveReleased, RoundsTaken, AreOf, items_in}
@@ -31,7 +31,7 @@ pub record Answered (s : Settings) (sizes : Sizes) (w : World) (number moment : 
   pub mid : World
   pub contacts : later ≡ mid.contacts
   pub same : (mid.journals ≡ w.journals) × (mid.askings ≡ w.askings) × (mid.closed ≡ w.closed)
-  pub numbers : (k : Count) → number_of s mid k ≡ number_of s w k + received_by reply k
+  pub numbers : (k : Count) → number_reported s mid k ≡ number_reported s w k + received_by reply k
   pub leads : (sink : LineSinkState) (end : World) → WritesLine w.sink (reply_line reply) sink → RunsToQuiet s sizes (after_reply reply sink mid) rounds end → Receives s sizes w number moment body end
 
 was-read : (spans invalid full : ℕ) (r : Reply) → IsReplyTo spans invalid full r → is_received r ≡ true
@@ -48,15 +48,15 @@ not-read body Busy t = refl
 
 module _ (s : Settings) (sizes : Sizes) (w : World) (number moment : ℕ) (body : List ℕ) (later : Contacts) (after : List (QueueState Item)) (reply : Reply) (rounds : List (List (List Item)))
     (on_read : is_received reply ≡ true → rounds ≡ items_in after ∷ []) (on_refused : is_received reply ≡ false → rounds ≡ []) where
-  none-counted : (v : World) → is_received reply ≡ false → ((k : Count) → number_of s v k ≡ number_of s w k) → (k : Count) → number_of s v k ≡ number_of s w k + received_by reply k
-  none-counted v refuses_it same k = same k ∙ plus (number_of s w k) (received_by reply k) (refusal-counts reply refuses_it k)
+  none-counted : (v : World) → is_received reply ≡ false → ((k : Count) → number_reported s v k ≡ number_reported s w k) → (k : Count) → number_reported s v k ≡ number_reported s w k + received_by reply k
+  none-counted v refuses_it same k = same k ∙ plus (number_reported s w k) (received_by reply k) (refusal-counts reply refuses_it k)
     where
       plus : (n m : ℕ) → m ≡ 0 → n ≡ n + m
       plus n m e = omega arith
 
   -- from the world that has these connections, spans and refusals on
   from : (contacts : Contacts) (received : List Arrival) (full : ℕ) → (let mid : World = record w { contacts = contacts; received = received; full = full } in
-      later ≡ contacts → ((k : Count) → number_of s mid k ≡ number_of s w k + received_by reply k) → (played : List (List (List Item))) → rounds ≡ played
+      later ≡ contacts → ((k : Count) → number_reported s mid k ≡ number_reported s w k + received_by reply k) → (played : List (List (List Item))) → rounds ≡ played
       → ((sink : LineSinkState) (end : World) → WritesLine w.sink (reply_line reply) sink → RunsToQuiet s sizes (after_reply reply sink mid) played end → Receives s sizes w number moment body end)
       → Answered s sizes w number moment body reply rounds later)
   from contacts received full is numbers played same leads =

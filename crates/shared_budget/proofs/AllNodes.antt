@@ -9,7 +9,7 @@ use Rattle.policy_tree.specs.declared.limiter_node.LimiterNode.{LimiterNode}
 use Rattle.shared_budget.specs.declared.known.View.{View}
 use Rattle.shared_budget.specs.Rule.{seated, IsSeat, with_parts}
 use Rattle.shared_budget.specs.Seats.{Stand, AreNewFrom, AreNew, IsOf, HaveOneHistory}
-use Rattle.shared_budget.specs.Budget.{new_seat, AreNewSeatsFrom, AreNewSeats, NodeCell, cell_of, number_of, AreOfOneBudget, NewSeatsAreOfOne, AskingKeepsCells, SameCellsSuffice, column, HaveOneHistoryEach, EachStaysWithin}
+use Rattle.shared_budget.specs.Budget.{new_seat, AreNewSeatsFrom, AreNewSeats, NodeCell, cell_of, seat_number, AreOfOneBudget, NewSeatsAreOfOne, AskingKeepsCells, SameCellsSuffice, column, HaveOneHistoryEach, EachStaysWithin}
 use Rattle.shared_budget.specs.Columns.{with_column, united, IsCompared}
 use Rattle.shared_budget.proofs.Reunion.{Uniting, uniting_init, uniting_step, uniting_end, all_front, all_last, within}
 
@@ -320,8 +320,8 @@ asking_keeps seat new node second spans answer h =
     let t : Stand = h.2 in
     let view = h.6.1 in
     let cells : cell_of t ≡ cell_of s = λ i. (h.5 i, (view i).node, (view i).limit, (view i).seats) in
-    let number : number_of t ≡ number_of s = ap (λ (v : View). v.seat) view in
-    (ap (map cell_of) h.7 ∙ set_keeps_all cell_of seat h.0 s t h.3 cells, ap (map number_of) h.7 ∙ set_keeps_all number_of seat h.0 s t h.3 number)
+    let number : seat_number t ≡ seat_number s = ap (λ (v : View). v.seat) view in
+    (ap (map cell_of) h.7 ∙ set_keeps_all cell_of seat h.0 s t h.3 cells, ap (map seat_number) h.7 ∙ set_keeps_all seat_number seat h.0 s t h.3 number)
 
 abbrev other_seats : List (List NodeCell) → List (List NodeCell)
 other_seats [] = []

@@ -37,8 +37,8 @@ abbrev pub cell_of : Stand → NodeCell
 cell_of s = (s.0, s.1.node, s.1.limit, s.1.seats)
 
 -- the seat's number at the node
-abbrev pub number_of : Stand → ℕ
-number_of s = s.1.seat
+abbrev pub seat_number : Stand → ℕ
+seat_number s = s.1.seat
 
 -- the seats have the same cells, in the same order
 abbrev pub AreOfOneBudget : List (List Stand) → Type 0
@@ -54,7 +54,7 @@ NewSeatsHaveNodes = (nodes : List LimiterNode) (seats : ℕ) (all : List (List S
 
 -- an asking leaves a seat's cells, and its numbers
 abbrev pub AskingKeepsCells : Type 0
-AskingKeepsCells = (seat new : List Stand) (node second spans : ℕ) (answer : Bool) → AsksAt seat node second spans answer new → (map cell_of new ≡ map cell_of seat) × (map number_of new ≡ map number_of seat)
+AskingKeepsCells = (seat new : List Stand) (node second spans : ℕ) (answer : Bool) → AsksAt seat node second spans answer new → (map cell_of new ≡ map cell_of seat) × (map seat_number new ≡ map seat_number seat)
 
 -- seats with the cells of seats that may be compared may be compared
 abbrev pub SameCellsSuffice : Type 0

@@ -5,7 +5,7 @@ use Rattle.std.specs.Str.{bytes_eq}
 use Rattle.toml.specs.Data.{Data, string, integer, boolean, array, table, Items, no_items, item, Members, no_members, member, get_member}
 use Rattle.tsc_config.proofs.FaultSets.{least_is_one}
 use Rattle.tsc_config.specs.Keys.{has_unknown_key, type_name, type_at, type_of, code_of}
-use Rattle.tsc_config.specs.Faults.{number_of, least, optional, required, unknown_fault, integer_fault, natural_fault, whole_fault, truth_fault, text_fault, type_fault, code_fault, named_fault, items_fault, array_fault}
+use Rattle.tsc_config.specs.Faults.{config_fault_number, least, optional, required, unknown_fault, integer_fault, natural_fault, whole_fault, truth_fault, text_fault, type_fault, code_fault, named_fault, items_fault, array_fault}
 use Rattle.tsc_config.specs.Faults as spec
 use Rattle.tsc_config.specs.declared.fault.ConfigFault.{ConfigFault}
 use Rattle.tsc_config.specs.declared.fault.ConfigFault.TheVariants.{UnknownKey, MissingKey, WrongType, OutOfRange}
@@ -15,12 +15,12 @@ use Rattle.tsc_config.specs.declared.kinds.TableKind.{TableKind}
 use Rattle.tsc_config.specs.declared.kinds.TableKind.TheVariants as table_is
 
 abbrev pub IsSmall : Option ConfigFault → Type 0
-IsSmall found = (fault : ConfigFault) → found ≡ Some fault → number_of fault < 6
+IsSmall found = (fault : ConfigFault) → found ≡ Some fault → config_fault_number fault < 6
 
 none : IsSmall None
 none fault e = cc
 
-only : (found : ConfigFault) → number_of found < 6 → IsSmall (Some found)
+only : (found : ConfigFault) → config_fault_number found < 6 → IsSmall (Some found)
 only found h fault e = let same : found ≡ fault = cc in rw (← same) h
 
 wrong : IsSmall (Some WrongType)
@@ -32,7 +32,7 @@ missing = only MissingKey (omega arith)
 both : (a b : Option ConfigFault) → IsSmall a → IsSmall b → IsSmall (least a b)
 both a b p q fault e = of (least_is_one a b fault e)
   where
-    of : (a ≡ Some fault) ⊎ (b ≡ Some fault) → number_of fault < 6
+    of : (a ≡ Some fault) ⊎ (b ≡ Some fault) → config_fault_number fault < 6
     of (inl x) = p fault x
     of (inr x) = q fault x
 

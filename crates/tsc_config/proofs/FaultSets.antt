@@ -5,7 +5,7 @@ use Rattle.std.proofs.lemmas.Bool.Decides.{nat_tests}
 use Rattle.std.specs.Str.{bytes_eq}
 use Rattle.toml.specs.Data.{Data, array, table, Items, no_items, item, Members, no_members, member, get_member}
 use Rattle.tsc_config.specs.Keys.{type_name, type_at}
-use Rattle.tsc_config.specs.Faults.{number_of, least, optional, required, unknown_fault, integer_fault, whole_fault, truth_fault, text_fault, type_fault, code_fault, items_fault, array_fault}
+use Rattle.tsc_config.specs.Faults.{config_fault_number, least, optional, required, unknown_fault, integer_fault, whole_fault, truth_fault, text_fault, type_fault, code_fault, items_fault, array_fault}
 use Rattle.tsc_config.specs.Faults as spec
 use Rattle.tsc_config.specs.FaultSets.{IsLeastOf, OptionalHas, RequiredHas, SomeItemHas, ArrayHas, AttributeHas, RowsHave, SettingsHave, SettingsAtHave, TypedHas, PolicyTableHas, PoliciesHave, SomePolicyHas, PolicyHas, AndHas, AndSettingsHave, SubPoliciesHave, CacheHas, NumbersHave, SizesHave, HasFault}
 use Rattle.tsc_config.specs.declared.fault.ConfigFault.{ConfigFault}
@@ -20,32 +20,32 @@ least_is_one None b fault e = inr e
 least_is_one (Some x) None fault e = inl e
 least_is_one (Some x) (Some y) fault e = grind (arith, nat_tests)
 
-pick_first : (a b : ConfigFault) (r : Bool) → nat_lt (number_of b) (number_of a) ≡ r → (found : ConfigFault) × ((if r then Some b else Some a) ≡ Some found) × (number_of found ≤ number_of a)
+pick_first : (a b : ConfigFault) (r : Bool) → nat_lt (config_fault_number b) (config_fault_number a) ≡ r → (found : ConfigFault) × ((if r then Some b else Some a) ≡ Some found) × (config_fault_number found ≤ config_fault_number a)
 pick_first a b true e = (b, refl, grind (arith, nat_tests))
 pick_first a b false e = (a, refl, omega arith)
 
-pick_second : (a b : ConfigFault) (r : Bool) → nat_lt (number_of b) (number_of a) ≡ r → (found : ConfigFault) × ((if r then Some b else Some a) ≡ Some found) × (number_of found ≤ number_of b)
+pick_second : (a b : ConfigFault) (r : Bool) → nat_lt (config_fault_number b) (config_fault_number a) ≡ r → (found : ConfigFault) × ((if r then Some b else Some a) ≡ Some found) × (config_fault_number found ≤ config_fault_number b)
 pick_second a b true e = (b, refl, omega arith)
 pick_second a b false e = (a, refl, grind (arith, nat_tests))
 
 -- no greater than the first
-least_first : (a : ConfigFault) (b : Option ConfigFault) → (found : ConfigFault) × (least (Some a) b ≡ Some found) × (number_of found ≤ number_of a)
+least_first : (a : ConfigFault) (b : Option ConfigFault) → (found : ConfigFault) × (least (Some a) b ≡ Some found) × (config_fault_number found ≤ config_fault_number a)
 least_first a None = (a, refl, omega arith)
-least_first a (Some b) = pick_first a b (nat_lt (number_of b) (number_of a)) refl
+least_first a (Some b) = pick_first a b (nat_lt (config_fault_number b) (config_fault_number a)) refl
 
 -- no greater than the second
-least_second : (a : Option ConfigFault) (b : ConfigFault) → (found : ConfigFault) × (least a (Some b) ≡ Some found) × (number_of found ≤ number_of b)
+least_second : (a : Option ConfigFault) (b : ConfigFault) → (found : ConfigFault) × (least a (Some b) ≡ Some found) × (config_fault_number found ≤ config_fault_number b)
 least_second None b = (b, refl, omega arith)
-least_second (Some a) b = pick_second a b (nat_lt (number_of b) (number_of a)) refl
+least_second (Some a) b = pick_second a b (nat_lt (config_fault_number b) (config_fault_number a)) refl
 
-below_first : (a b : Option ConfigFault) (n : ℕ) → (found : ConfigFault) × (a ≡ Some found) × (number_of found ≤ n) → (found : ConfigFault) × (least a b ≡ Some found) × (number_of found ≤ n)
+below_first : (a b : Option ConfigFault) (n : ℕ) → (found : ConfigFault) × (a ≡ Some found) × (config_fault_number found ≤ n) → (found : ConfigFault) × (least a b ≡ Some found) × (config_fault_number found ≤ n)
 below_first a b n (x, e, h) =
-    let f : (found : ConfigFault) × (least (Some x) b ≡ Some found) × (number_of found ≤ number_of x) = least_first x b in
+    let f : (found : ConfigFault) × (least (Some x) b ≡ Some found) × (config_fault_number found ≤ config_fault_number x) = least_first x b in
     rw e (f.0, f.1, omega (arith, f.2, h))
 
-below_second : (a b : Option ConfigFault) (n : ℕ) → (found : ConfigFault) × (b ≡ Some found) × (number_of found ≤ n) → (found : ConfigFault) × (least a b ≡ Some found) × (number_of found ≤ n)
+below_second : (a b : Option ConfigFault) (n : ℕ) → (found : ConfigFault) × (b ≡ Some found) × (config_fault_number found ≤ n) → (found : ConfigFault) × (least a b ≡ Some found) × (config_fault_number found ≤ n)
 below_second a b n (y, e, h) =
-    let f : (found : ConfigFault) × (least a (Some y) ≡ Some found) × (number_of found ≤ number_of y) = least_second a y in
+    let f : (found : ConfigFault) × (least a (Some y) ≡ Some found) × (config_fault_number found ≤ config_fault_number y) = least_second a y in
     rw e (f.0, f.1, omega (arith, f.2, h))
 
 -- the least of two sets is the least of both
@@ -56,9 +56,9 @@ both P Q a b p q = record { is_one = λ fault e. one fault (least_is_one a b fau
     one fault (inl e) = inl (p.is_one fault e)
     one fault (inr e) = inr (q.is_one fault e)
 
-    no_lesser : (fault : ConfigFault) → P fault ⊎ Q fault → (found : ConfigFault) × (least a b ≡ Some found) × (number_of found ≤ number_of fault)
-    no_lesser fault (inl h) = below_first a b (number_of fault) (p.is_least fault h)
-    no_lesser fault (inr h) = below_second a b (number_of fault) (q.is_least fault h)
+    no_lesser : (fault : ConfigFault) → P fault ⊎ Q fault → (found : ConfigFault) × (least a b ≡ Some found) × (config_fault_number found ≤ config_fault_number fault)
+    no_lesser fault (inl h) = below_first a b (config_fault_number fault) (p.is_least fault h)
+    no_lesser fault (inr h) = below_second a b (config_fault_number fault) (q.is_least fault h)
 
 -- a row with one fault at most
 row : (a : Option ConfigFault) → IsLeastOf (λ fault. a ≡ Some fault) a
@@ -66,7 +66,7 @@ row a = record { is_one = λ fault e. e; is_least = λ fault e. (fault, e, omega
 
 -- one fault alone
 pub alone : (found : ConfigFault) → IsLeastOf (λ fault. fault ≡ found) (Some found)
-alone found = record { is_one = λ fault e. cc; is_least = λ fault e. (found, refl, omega (arith, ap number_of e)) }
+alone found = record { is_one = λ fault e. cc; is_least = λ fault e. (found, refl, omega (arith, ap config_fault_number e)) }
 
 -- no fault
 none : IsLeastOf (λ fault. ⊥) None

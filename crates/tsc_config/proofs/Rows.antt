@@ -3,7 +3,7 @@
 use Rattle.std.specs.Prelude.{◌≡◌, ℕ, ℤ, pos, negsuc, true, false, List, [], ◌∷◌, map, codes, Option, Some, None, refl}
 use Rattle.toml.specs.Data.{integer, table, Members, no_members, member}
 use Rattle.tsc_config.specs.Keys.{is_key, is_setting}
-use Rattle.tsc_config.specs.Faults.{least, number_of, numbers_fault, sizes_fault, cache_fault}
+use Rattle.tsc_config.specs.Faults.{least, config_fault_number, numbers_fault, sizes_fault, cache_fault}
 use Rattle.tsc_config.specs.declared.kinds.PolicyType.{PolicyType}
 use Rattle.tsc_config.specs.declared.kinds.PolicyType.TheVariants as type_is
 use Rattle.tsc_config.specs.Values.{config_of}
@@ -157,5 +157,5 @@ other_keys = refl
 
 -- ---- the numbers of the faults
 
-fault_numbers : map number_of (NotToml ∷ UnknownKey ∷ MissingKey ∷ WrongType ∷ OutOfRange ∷ TooFewTraces ∷ NoMemory ∷ []) ≡ 1 ∷ 2 ∷ 3 ∷ 4 ∷ 5 ∷ 6 ∷ 8 ∷ []
+fault_numbers : map config_fault_number (NotToml ∷ UnknownKey ∷ MissingKey ∷ WrongType ∷ OutOfRange ∷ TooFewTraces ∷ NoMemory ∷ []) ≡ 1 ∷ 2 ∷ 3 ∷ 4 ∷ 5 ∷ 6 ∷ 8 ∷ []
 fault_numbers = refl

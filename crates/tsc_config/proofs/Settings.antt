@@ -6,7 +6,7 @@ use Rattle.toml.specs.Data.{Data, string, integer, table, Members, get_member}
 use Rattle.toml.specs.Parse.{parse_document}
 use Rattle.policy_tree.specs.Faults.{fault_of_policies}
 use Rattle.policy_tree.specs.declared.fault.PolicyFault.{PolicyFault}
-use Rattle.tsc_config.specs.Faults.{number_of, least, optional, required, unknown_fault, integer_fault, text_fault, cache_fault, numbers_fault, sizes_fault, policies_fault, table_fault}
+use Rattle.tsc_config.specs.Faults.{config_fault_number, least, optional, required, unknown_fault, integer_fault, text_fault, cache_fault, numbers_fault, sizes_fault, policies_fault, table_fault}
 use Rattle.tsc_config.specs.Reading.{reading, reading_of, reading_unless, reading_where}
 use Rattle.tsc_config.specs.Settings.{IsTextAt, IsCacheSize, HasSettings, ReadsSettings}
 use Rattle.tsc_config.specs.Values.{config_of, positive_of, natural_of, cache_size, listen_of}
@@ -19,7 +19,7 @@ use Rattle.tsc_config.specs.declared.kinds.TableKind.TheVariants as table_is
 pub neither : (a b : Option ConfigFault) → least a b ≡ None → (a ≡ None) × (b ≡ None)
 neither None b e = (refl, e)
 neither (Some x) None e = cc
-neither (Some x) (Some y) e = absurd (some (nat_lt (number_of y) (number_of x)) e)
+neither (Some x) (Some y) e = absurd (some (nat_lt (config_fault_number y) (config_fault_number x)) e)
   where
     some : (r : Bool) → (if r then Some y else Some x) ≡ None → ⊥
     some true e = cc

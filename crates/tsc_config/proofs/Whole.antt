@@ -7,7 +7,7 @@ use Rattle.toml.specs.Data.{Members}
 use Rattle.toml.specs.Parse.{parse_document}
 use Rattle.policy_tree.specs.Faults.{fault_of_policies}
 use Rattle.policy_tree.specs.declared.fault.PolicyFault.{PolicyFault}
-use Rattle.tsc_config.specs.Faults.{number_of, table_fault}
+use Rattle.tsc_config.specs.Faults.{config_fault_number, table_fault}
 use Rattle.tsc_config.specs.FaultSets.{IsLeastOf, HasFault, DocumentHas, TextHas}
 use Rattle.tsc_config.specs.Reading.{reading, reading_of, reading_unless, reading_with, reading_where}
 use Rattle.tsc_config.specs.Values.{config_of}
@@ -21,7 +21,7 @@ use Rattle.tsc_config.specs.declared.fault.ConfigFault.TheVariants.{NotToml, Too
 abbrev Beside : (few : Type 0) → Option PolicyFault → ConfigFault → Type 0
 Beside few found fault = ((fault ≡ TooFewTraces) × few) ⊎ ((of_policies : PolicyFault) × (found ≡ Some of_policies) × (fault ≡ Policy of_policies))
 
-beside_number : (few : Type 0) (found : Option PolicyFault) (fault : ConfigFault) → Beside few found fault → 6 ≤ number_of fault
+beside_number : (few : Type 0) (found : Option PolicyFault) (fault : ConfigFault) → Beside few found fault → 6 ≤ config_fault_number fault
 beside_number few found fault (inl (e, h)) = rw e (omega arith)
 beside_number few found fault (inr (p, g, e)) = rw e (omega arith)
 
@@ -33,12 +33,12 @@ beside_least few true found config to from = record {
 }
 beside_least few false None config to from = record { is_one = λ fault e. cc; is_least = no_lesser }
   where
-    no_lesser : (fault : ConfigFault) → Beside few None fault → (one : ConfigFault) × (None ≡ Some one) × (number_of one ≤ number_of fault)
+    no_lesser : (fault : ConfigFault) → Beside few None fault → (one : ConfigFault) × (None ≡ Some one) × (config_fault_number one ≤ config_fault_number fault)
     no_lesser fault (inl (e, h)) = let wrong : false ≡ true = from h in cc
     no_lesser fault (inr (p, g, e)) = cc
 beside_least few false (Some of_policies) config to from = record { is_one = λ fault e. inr (of_policies, refl, cc); is_least = no_lesser }
   where
-    no_lesser : (fault : ConfigFault) → Beside few (Some of_policies) fault → (one : ConfigFault) × (Some (Policy of_policies) ≡ Some one) × (number_of one ≤ number_of fault)
+    no_lesser : (fault : ConfigFault) → Beside few (Some of_policies) fault → (one : ConfigFault) × (Some (Policy of_policies) ≡ Some one) × (config_fault_number one ≤ config_fault_number fault)
     no_lesser fault (inl (e, h)) = let wrong : false ≡ true = from h in cc
     no_lesser fault (inr (p, g, e)) = (Policy of_policies, refl, rw e (omega arith))
 
@@ -50,17 +50,17 @@ table_first Has None config h small = record { is_one = λ fault e. inr (rest.is
     rest = beside_least (config.num_traces < config.shards) (nat_lt config.num_traces config.shards) (fault_of_policies config.policies) config (λ e. grind (arith, nat_tests)) (λ e. grind (arith, nat_tests))
 
     no_lesser : (fault : ConfigFault) → Has fault ⊎ Beside (config.num_traces < config.shards) (fault_of_policies config.policies) fault
-        → (one : ConfigFault) × (result_err (reading_with config) ≡ Some one) × (number_of one ≤ number_of fault)
-    no_lesser fault (inl x) = let f : (one : ConfigFault) × (None ≡ Some one) × (number_of one ≤ number_of fault) = h.is_least fault x in let wrong : None ≡ Some f.0 = f.1 in cc
+        → (one : ConfigFault) × (result_err (reading_with config) ≡ Some one) × (config_fault_number one ≤ config_fault_number fault)
+    no_lesser fault (inl x) = let f : (one : ConfigFault) × (None ≡ Some one) × (config_fault_number one ≤ config_fault_number fault) = h.is_least fault x in let wrong : None ≡ Some f.0 = f.1 in cc
     no_lesser fault (inr x) = rest.is_least fault x
 table_first Has (Some found) config h small = record { is_one = λ fault e. inl (h.is_one fault e); is_least = no_lesser }
   where
     no_lesser : (fault : ConfigFault) → Has fault ⊎ Beside (config.num_traces < config.shards) (fault_of_policies config.policies) fault
-        → (one : ConfigFault) × (Some found ≡ Some one) × (number_of one ≤ number_of fault)
+        → (one : ConfigFault) × (Some found ≡ Some one) × (config_fault_number one ≤ config_fault_number fault)
     no_lesser fault (inl x) = h.is_least fault x
     no_lesser fault (inr x) =
-        let low : number_of found < 6 = small found refl in
-        let high : 6 ≤ number_of fault = beside_number (config.num_traces < config.shards) (fault_of_policies config.policies) fault x in
+        let low : config_fault_number found < 6 = small found refl in
+        let high : 6 ≤ config_fault_number fault = beside_number (config.num_traces < config.shards) (fault_of_policies config.policies) fault x in
         (found, refl, omega (arith, low, high))
 
 document_least : (document : Option Members) → IsLeastOf (DocumentHas document) (result_err (reading_of document))

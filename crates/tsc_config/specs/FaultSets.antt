@@ -6,7 +6,7 @@ use Rattle.toml.specs.Parse.{parse_document}
 use Rattle.policy_tree.specs.Faults.{fault_of_policies}
 use Rattle.policy_tree.specs.declared.fault.PolicyFault.{PolicyFault}
 use Rattle.tsc_config.specs.Keys.{type_name, type_at}
-use Rattle.tsc_config.specs.Faults.{number_of, optional, required, unknown_fault, integer_fault, natural_fault, whole_fault, truth_fault, text_fault, type_fault, code_fault}
+use Rattle.tsc_config.specs.Faults.{config_fault_number, optional, required, unknown_fault, integer_fault, natural_fault, whole_fault, truth_fault, text_fault, type_fault, code_fault}
 use Rattle.tsc_config.specs.Values.{config_of}
 use Rattle.tsc_config.specs.declared.fault.ConfigFault.{ConfigFault}
 use Rattle.tsc_config.specs.declared.fault.ConfigFault.TheVariants.{NotToml, MissingKey, WrongType, TooFewTraces, Policy}
@@ -18,7 +18,7 @@ use Rattle.tsc_config.specs.declared.kinds.TableKind.TheVariants as table_is
 abbrev pub IsLeastOf : (Has : ConfigFault → Type 0) → (answer : Option ConfigFault) → Type 0
 IsLeastOf Has answer = record {
   is_one : (fault : ConfigFault) → answer ≡ Some fault → Has fault;
-  is_least : (fault : ConfigFault) → Has fault → (found : ConfigFault) × (answer ≡ Some found) × (number_of found ≤ number_of fault);
+  is_least : (fault : ConfigFault) → Has fault → (found : ConfigFault) × (answer ≡ Some found) × (config_fault_number found ≤ config_fault_number fault);
 }
 
 -- what stands at a key that may be missing has this fault

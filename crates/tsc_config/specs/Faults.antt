@@ -13,21 +13,21 @@ use Rattle.tsc_config.specs.declared.settings_faults.Wanted.{Wanted}
 use Rattle.tsc_config.specs.declared.settings_faults.Wanted.TheVariants as wants
 
 -- the number of a fault
-abbrev pub number_of : ConfigFault → ℕ
-number_of NotToml = 1
-number_of UnknownKey = 2
-number_of MissingKey = 3
-number_of WrongType = 4
-number_of OutOfRange = 5
-number_of TooFewTraces = 6
-number_of (Policy fault) = 7
-number_of NoMemory = 8
+abbrev pub config_fault_number : ConfigFault → ℕ
+config_fault_number NotToml = 1
+config_fault_number UnknownKey = 2
+config_fault_number MissingKey = 3
+config_fault_number WrongType = 4
+config_fault_number OutOfRange = 5
+config_fault_number TooFewTraces = 6
+config_fault_number (Policy fault) = 7
+config_fault_number NoMemory = 8
 
 -- the fault of less number, where there is one
 abbrev pub least : Option ConfigFault → Option ConfigFault → Option ConfigFault
 least None other = other
 least (Some fault) None = Some fault
-least (Some fault) (Some other) = if nat_lt (number_of other) (number_of fault) then Some other else Some fault
+least (Some fault) (Some other) = if nat_lt (config_fault_number other) (config_fault_number fault) then Some other else Some fault
 
 -- the fault of what stands at a key that may be missing
 abbrev pub optional : (Data → Option ConfigFault) → Option Data → Option ConfigFault

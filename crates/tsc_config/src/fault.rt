@@ -29,7 +29,7 @@ pub enum ConfigFault {
 impl ConfigFault {
     /// The number of the fault, from 1 to 8. A program prints a policy fault as `7.P`, P being its own number.
     pub fn number(self) -> u8
-        ensures { result ≡ spec.number_of self }
+        ensures { result ≡ spec.config_fault_number self }
     {
         match self {
             ConfigFault::NotToml => 1,

@@ -6,7 +6,7 @@ use Rattle.std.proofs.lemmas.Slice.Eq.{bytes_eq-Decides}
 use Rattle.std.specs.Char.{is_ascii_digit}
 use Rattle.std.specs.List.{list_all, position_or_len}
 use Rattle.std.specs.Str.Parse.{digits_value}
-use Rattle.tsc_script.specs.Instructions.{Instruction, receive, tick, close, is_close, split_word, number_of, tick_of, receive_of, words_of, instruction_of}
+use Rattle.tsc_script.specs.Instructions.{Instruction, receive, tick, close, is_close, split_word, decimal_number, tick_of, receive_of, words_of, instruction_of}
 use Rattle.tsc_script.specs.LineLaws.{Says, IsReceive, IsTick, LinesAreTheirWords}
 
 abbrev is_space : ℕ → Bool
@@ -109,7 +109,7 @@ is-number : (b : Bool) (n m : ℕ) → cond b (Some n) None ≡ Some m → (b �
 is-number true n m h = (refl, some-is n m h)
 is-number false n m h = cc h
 
-says-of : (text : List ℕ) (n : ℕ) → number_of text ≡ Some n → Says text n
+says-of : (text : List ℕ) (n : ℕ) → decimal_number text ≡ Some n → Says text n
 says-of text n h =
     let some = nat_lt 0 (length text) in
     let few = nat_le (length text) 20 in
@@ -127,7 +127,7 @@ says-of text n h =
       fits = grind (arith, nat_tests, one.1, is.1);
     }
 
-number-back : (text : List ℕ) (n : ℕ) → Says text n → number_of text ≡ Some n
+number-back : (text : List ℕ) (n : ℕ) → Says text n → decimal_number text ≡ Some n
 number-back text n h =
     let some : nat_lt 0 (length text) ≡ true = grind (arith, nat_tests, h.some) in
     let few : nat_le (length text) 20 ≡ true = grind (arith, nat_tests, h.few) in
@@ -183,7 +183,7 @@ abbrev by_word : Word → Option Instruction
 by_word p = cond (bytes_eq p.0 (codes "tick")) (tick_of p.1) (cond (bytes_eq p.0 (codes "recv")) (receive_of p.1) None)
 
 abbrev with_numbers : Word → Word → Option Instruction
-with_numbers first second = option_and_then (λ connection. option_map (λ moment. receive connection moment second.1) (number_of second.0)) (number_of first.0)
+with_numbers first second = option_and_then (λ connection. option_map (λ moment. receive connection moment second.1) (decimal_number second.0)) (decimal_number first.0)
 
 abbrev received : Word → Option Instruction
 received first = option_and_then (with_numbers first) (split_word first.1)
@@ -196,20 +196,20 @@ record Request (text : List ℕ) (i : Instruction) : Type 0 where
   moment : ℕ
   front : split_word text ≡ Some first
   behind : split_word first.1 ≡ Some second
-  of_connection : number_of first.0 ≡ Some connection
-  of_moment : number_of second.0 ≡ Some moment
+  of_connection : decimal_number first.0 ≡ Some connection
+  of_moment : decimal_number second.0 ≡ Some moment
   is : receive connection moment second.1 ≡ i
 
 request-of : (text : List ℕ) (i : Instruction) → receive_of text ≡ Some i → Request text i
 request-of text i h =
     let one = and-then-some received (split_word text) i h in
     let two = and-then-some (with_numbers one.0) (split_word one.0.1) i one.2 in
-    let three = and-then-some (λ connection. option_map (λ moment. receive connection moment two.0.1) (number_of two.0.0)) (number_of one.0.0) i two.2 in
-    let four = map-some (λ moment. receive three.0 moment two.0.1) (number_of two.0.0) i three.2 in
+    let three = and-then-some (λ connection. option_map (λ moment. receive connection moment two.0.1) (decimal_number two.0.0)) (decimal_number one.0.0) i two.2 in
+    let four = map-some (λ moment. receive three.0 moment two.0.1) (decimal_number two.0.0) i three.2 in
     record { first = one.0; second = two.0; connection = three.0; moment = four.0; front = one.1; behind = two.1; of_connection = three.1; of_moment = four.1; is = four.2 }
 
 ticks-at : (text : List ℕ) (i : Instruction) → tick_of text ≡ Some i → is_tick i ≡ true
-ticks-at text i h = let it = map-some tick (number_of text) i h in ap is_tick (sym it.2)
+ticks-at text i h = let it = map-some tick (decimal_number text) i h in ap is_tick (sym it.2)
 
 -- which word it was
 receive-word : (a b : Bool) (text : List ℕ) (i : Instruction) → is_tick i ≡ false → cond a (tick_of text) (cond b (receive_of text) None) ≡ Some i → (b ≡ true) × (receive_of text ≡ Some i)
@@ -280,7 +280,7 @@ tick-of line m short h =
     let words = not-close (bytes_eq line (codes "close")) (words_of line) (tick m) refl (sym (short-line line short) ∙ h) in
     let p = and-then-some by_word (split_word line) (tick m) words in
     let word = tick-word (bytes_eq p.0.0 (codes "tick")) (bytes_eq p.0.0 (codes "recv")) p.0.1 (tick m) refl p.2 in
-    let moment = map-some tick (number_of p.0.1) (tick m) word.1 in
+    let moment = map-some tick (decimal_number p.0.1) (tick m) word.1 in
     let named : p.0.0 ≡ codes "tick" = same-text p.0.0 (codes "tick") word.0 in
     (p.0.1, says-of p.0.1 m (moment.1 ∙ ap Some (ap moment_in moment.2)), (words-of line p.0 p.1).0 ∙ ap (λ (ys : List ℕ). ys ++ 32 ∷ p.0.1) named)
 

@@ -32,21 +32,21 @@ abbrev pub split_word : List ℕ → Option (List ℕ × List ℕ)
 split_word text = option_map (λ at. (take at text, drop (at + 1) text)) (position (λ byte. byte == 32) text)
 
 -- the number that one to twenty decimal digits say, where it is below 2^64
-abbrev pub number_of : List ℕ → Option ℕ
-number_of text =
+abbrev pub decimal_number : List ℕ → Option ℕ
+decimal_number text =
     if nat_lt 0 (length text) && nat_le (length text) 20 && list_all is_ascii_digit text && nat_lt (digits_value 10 text) (2 ^ 64)
     then Some (digits_value 10 text) else None
 
 -- a moment alone
 abbrev pub tick_of : List ℕ → Option Instruction
-tick_of text = option_map tick (number_of text)
+tick_of text = option_map tick (decimal_number text)
 
 -- a connection, a moment, and the rest of the line
 abbrev pub receive_of : List ℕ → Option Instruction
 receive_of text =
     option_and_then (λ first. option_and_then (λ second.
-    option_and_then (λ connection. option_map (λ moment. receive connection moment second.1) (number_of second.0))
-    (number_of first.0)) (split_word first.1)) (split_word text)
+    option_and_then (λ connection. option_map (λ moment. receive connection moment second.1) (decimal_number second.0))
+    (decimal_number first.0)) (split_word first.1)) (split_word text)
 
 -- what the words of a line say
 abbrev pub words_of : List ℕ → Option Instruction

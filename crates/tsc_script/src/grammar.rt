@@ -2,7 +2,7 @@
 ghost use Rattle.std.specs.Prelude.{◌≡◌, ◌≤◌, ◌<◌, ◌==◌, length, true, position, IfSome};
 ghost use Rattle.std.specs.Option.{option_map};
 ghost use Rattle.tsc_script.specs.declared.limits.TheConstants.{MAX_LINE_BYTES};
-ghost use Rattle.tsc_script.specs.Instructions.{instruction_of_command, instruction_of, split_word, number_of, words_of, tick_of, receive_of};
+ghost use Rattle.tsc_script.specs.Instructions.{instruction_of_command, instruction_of, split_word, decimal_number, words_of, tick_of, receive_of};
 ghost use Rattle.std.specs.Char.{is_ascii_digit};
 ghost use Rattle.std.specs.List.{list_all};
 ghost use Rattle.std.specs.Str.Parse.{digits_value};
@@ -77,7 +77,7 @@ fn find_space(text: &[u8]) -> Option<usize>
 
 /// The number that one to twenty decimal digits say, where it fits.
 fn number(text: &[u8]) -> Option<u64>
-    ensures { result ≡ number_of text.now }
+    ensures { result ≡ decimal_number text.now }
 {
     if text.is_empty() || text.len() > 20 || !are_digits(text) {
         return None;
