@@ -77,7 +77,7 @@ impl<B: Accounts> Book<B> {
         let mut given = Vec::with_capacity(alloc, parts)?;
         let (books, mut own) = blanks.open::<B>();
         for _ in 0..parts {
-            given.push(own.split())?;
+            given.push_reserved(own.split());
         }
         let totals = Totals {
             report: Report::new(),

@@ -34,18 +34,17 @@ pub fn new_grid<T: Drop, C: Room>(
     ensures rows { IfOk result (λ grid. (vec_len grid.rows ≡ receivers) × All (HasRoom senders) grid.rows.items) }
     ensures new { IfOk result (λ grid. AreNewColumns (ends_of grid.columns.items) × All (λ r. All IsNew r.ends) grid.receivers.items) }
 {
-    let rows = empty_lists(alloc, receivers, senders)?;
     let mut columns = empty_lists(alloc, senders, receivers)?;
     let mut all = Vec::with_capacity(alloc, receivers)?;
     for _ in 0..receivers {
         let (row, receiver) = LaneQueue::new::<T, C>(alloc, capacity, senders)?;
         deal(&mut columns, row)?;
-        all.push(receiver)?;
+        all.push_reserved(receiver);
     }
     Ok(QueueGrid {
         columns,
         receivers: all,
-        rows,
+        rows: empty_lists(alloc, receivers, senders)?,
     })
 }
 
@@ -61,7 +60,7 @@ fn empty_lists<T: Drop, C: Room>(
 {
     let mut lists = Vec::with_capacity(alloc, count)?;
     for _ in 0..count {
-        lists.push(Vec::with_capacity(alloc, room)?)?;
+        lists.push_reserved(Vec::with_capacity(alloc, room)?);
     }
     Ok(lists)
 }
