@@ -1,4 +1,4 @@
--- To be read in this order: Replay, Answers, CalmReplays (what a run leaves and answers); Starting, Submitting, Signals, Pulling, Adding (for provers).
+-- To be read in this order: Replay, Answers, CalmReplays (what a run leaves and answers); Starting, Submitting, Signals, Pulling, Adding, Playing (for provers).
 pub mod Adding
 pub mod Pulling
 pub mod Replay
@@ -7,3 +7,4 @@ pub mod CalmReplays
 pub mod Signals
 pub mod Submitting
 pub mod Starting
+pub mod Playing

@@ -112,12 +112,16 @@ fn parts_of(alloc: Global, config: &Config) -> Result<Parts, AllocError>
     ensures limiter { IfOk result (λ parts. parts.limiter ≡ limiter_counts (meaning config.now.policies) []) }
     ensures text { IfOk result (λ parts. MAX_REPLY_LINE ≤ vec_capacity parts.text) }
 {
+    let text = Vec::with_capacity(alloc, MAX_REPLY_LINE)?;
+    let connections = Connections::new(alloc, config.lanes)?;
+    let queues = new_queues(alloc, config.queue_capacity, config.shards)?;
+    let limiter = Budgets::new(alloc, &config.policies)?;
     Ok(Parts {
-        connections: Connections::new(alloc, config.lanes)?,
-        queues: new_queues(alloc, config.queue_capacity, config.shards)?,
+        connections,
+        queues,
         shards: new_shards(alloc, config, config.shards)?,
-        limiter: Budgets::new(alloc, &config.policies)?,
-        text: Vec::with_capacity(alloc, MAX_REPLY_LINE)?,
+        limiter,
+        text,
     })
 }
 

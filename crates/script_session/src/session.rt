@@ -1,11 +1,11 @@
 //! The parts of the collector, driven by a script.
 ghost use Rattle.std.specs.Prelude.{◌≡◌, ◌<◌, ◌≤◌, [], ◌++◌, true, false, not, map, length, vec_capacity};
 ghost use Rattle.journal_theory.specs.Journal.{Settings};
-ghost use Rattle.tsc_script.specs.Instructions.{instruction_of_command, is_close, receive, tick, close};
+ghost use Rattle.tsc_script.specs.Instructions.{instruction_of_command, receive, tick, close};
 ghost use Rattle.span_exporter.specs.Exports.{WritesLine};
 ghost use Rattle.script_session.specs.declared.replying.TheConstants.{MAX_REPLY_LINE};
 ghost use Rattle.script_run.specs.Requests.{reply_line};
-ghost use Rattle.script_run.specs.World.{World, Plays, PlaysAll, empty_queues};
+ghost use Rattle.script_run.specs.World.{World, PlaysAll, empty_queues};
 ghost use Rattle.script_session.specs.Pulling.{AreOf, GoesOn, has_all_nodes, has_none_due, ends_in, ends_of};
 ghost use Rattle.script_session.specs.Answers.{AnswersStop};
 
@@ -58,6 +58,8 @@ pub struct Session<S: Sink> {
 }
 
 impl<S: Sink> Session<S> {
+    ghost use Rattle.script_session.specs.Playing.{PlaysOne, Leaves};
+
     /// Gives the sink back, with the report or what kept the script from its end.
     pub fn end(self, played: Result<(), Stop>) -> (S, Result<Report, RunFault>)
         ensures taken { S.taken result.0 ≡ self.output.0.sink.taken }
@@ -83,12 +85,8 @@ impl<S: Sink> Session<S> {
     fn receive(&mut self, number: u64, moment: Moment, body: &[u8])
         requires open { self.old.closed ≡ false }
         requires up { self.old.output.0.sink.is_down ≡ false }
-        ensures plays { (s : Settings) (w : World) → AreOf s w self.old.connections self.old.shards.items self.old.limiter self.old.output self.old.closed
-            → (after : World) × Plays s (record { batch = self.old.output.0.size; queue = self.old.queue_capacity }) w (receive number moment body.now) after
-            × AreOf s after self.new.connections self.new.shards.items self.new.limiter self.new.output self.new.closed }
-        ensures queue { self.new.queue_capacity ≡ self.old.queue_capacity }
-        ensures stays_open { self.new.closed ≡ false }
-        ensures goes_on { GoesOn self.old.output self.new.output }
+        ensures plays { PlaysOne self.old (receive number moment body.now) self.new }
+        ensures leaves { Leaves self.old (receive number moment body.now) self.new }
     {
         let queues = mem::replace(&mut self.queues, Vec::new(self.alloc));
         let (reply, queues) = submit(
@@ -116,12 +114,8 @@ impl<S: Sink> Session<S> {
     fn tick(&mut self, moment: Moment)
         requires open { self.old.closed ≡ false }
         requires up { self.old.output.0.sink.is_down ≡ false }
-        ensures plays { (s : Settings) (w : World) → AreOf s w self.old.connections self.old.shards.items self.old.limiter self.old.output self.old.closed
-            → (after : World) × Plays s (record { batch = self.old.output.0.size; queue = self.old.queue_capacity }) w (tick moment) after
-            × AreOf s after self.new.connections self.new.shards.items self.new.limiter self.new.output self.new.closed }
-        ensures queue { self.new.queue_capacity ≡ self.old.queue_capacity }
-        ensures stays_open { self.new.closed ≡ false }
-        ensures goes_on { GoesOn self.old.output self.new.output }
+        ensures plays { PlaysOne self.old (tick moment) self.new }
+        ensures leaves { Leaves self.old (tick moment) self.new }
     {
         tell_each(
             &mut self.shards,
@@ -135,12 +129,8 @@ impl<S: Sink> Session<S> {
     /// Ends the lanes, and then the ticker.
     fn close(&mut self)
         requires { self.old.closed ≡ false }
-        ensures plays { (s : Settings) (w : World) → AreOf s w self.old.connections self.old.shards.items self.old.limiter self.old.output self.old.closed
-            → (after : World) × Plays s (record { batch = self.old.output.0.size; queue = self.old.queue_capacity }) w close after
-            × AreOf s after self.new.connections self.new.shards.items self.new.limiter self.new.output self.new.closed }
-        ensures queue { self.new.queue_capacity ≡ self.old.queue_capacity }
-        ensures closes { self.new.closed ≡ true }
-        ensures goes_on { GoesOn self.old.output self.new.output }
+        ensures plays { PlaysOne self.old close self.new }
+        ensures leaves { Leaves self.old close self.new }
     {
         end_all(
             &mut self.shards,
@@ -156,12 +146,8 @@ impl<S: Sink> Session<S> {
     fn obey(&mut self, command: Command<'_>)
         requires open { self.old.closed ≡ false }
         requires up { self.old.output.0.sink.is_down ≡ true → instruction_of_command command ≡ close }
-        ensures plays { (s : Settings) (w : World) → AreOf s w self.old.connections self.old.shards.items self.old.limiter self.old.output self.old.closed
-            → (after : World) × Plays s (record { batch = self.old.output.0.size; queue = self.old.queue_capacity }) w (instruction_of_command command.entry) after
-            × AreOf s after self.new.connections self.new.shards.items self.new.limiter self.new.output self.new.closed }
-        ensures queue { self.new.queue_capacity ≡ self.old.queue_capacity }
-        ensures closed { self.new.closed ≡ is_close (instruction_of_command command.entry) }
-        ensures goes_on { GoesOn self.old.output self.new.output }
+        ensures plays { PlaysOne self.old (instruction_of_command command.entry) self.new }
+        ensures leaves { Leaves self.old (instruction_of_command command.entry) self.new }
     {
         match command {
             Command::Receive {

@@ -74,13 +74,13 @@ impl World {
             non_sampled_size: config.non_sampled_size,
             senders: lanes as usize + 1,
         };
-        let looks = new_looks(alloc, &settings, shards)?;
+        let (shards, looks) = new_shards(alloc, &settings, shards)?;
         Ok(World {
             alloc,
             settings,
             batch_size: config.batch_size,
             lanes: new_lanes(alloc, lanes as usize)?,
-            shards: new_shards(alloc, shards)?,
+            shards,
             looks,
             exported: VecDeque::new(alloc),
             batch: Vec::new(alloc),
@@ -137,24 +137,20 @@ fn new_lanes(alloc: Global, number: usize) -> Result<Vec<Lane>, AllocError>
     Ok(lanes)
 }
 
-/// So many shards that have taken nothing.
-fn new_shards(alloc: Global, number: usize) -> Result<Vec<Shard>, AllocError>
-    ensures { IfOk result (λ shards. shards.items ≡ replicate number new_shard) }
+/// So many shards that have taken nothing, and what looking back over the journal of each finds.
+fn new_shards(
+    alloc: Global,
+    settings: &Settings,
+    number: usize,
+) -> Result<(Vec<Shard>, Vec<LookBack>), AllocError>
+    ensures shards { IfOk result (λ made. made.0.items ≡ replicate number new_shard) }
+    ensures looks { IfOk result (λ made. made.1.items ≡ replicate number (look_of (settings_of settings.now) [])) }
 {
     let mut shards = Vec::with_capacity(alloc, number)?;
-    for _i in 0..number {
-        shards.push(Shard::new(alloc))?;
-    }
-    Ok(shards)
-}
-
-/// What looking back over so many journals that have nothing finds.
-fn new_looks(alloc: Global, settings: &Settings, number: usize) -> Result<Vec<LookBack>, AllocError>
-    ensures { IfOk result (λ looks. looks.items ≡ replicate number (look_of (settings_of settings.now) [])) }
-{
     let mut looks = Vec::with_capacity(alloc, number)?;
     for _i in 0..number {
         looks.push(LookBack::new(alloc, settings, &[])?)?;
+        shards.push(Shard::new(alloc))?;
     }
-    Ok(looks)
+    Ok((shards, looks))
 }

@@ -6,8 +6,8 @@ use Rattle.script_session.proofs.session.SessionMachine.play.Goals as goal
 
 pub returns-clause-played : goal.returns-clause-played
 returns-clause-played g c = λ start done before. (
-  c.obey.ensures.goes_on.0 ∙ before.0,
-  c.obey.ensures.queue ∙ before.1,
+  c.obey.ensures.leaves.1.0 ∙ before.0,
+  c.obey.ensures.leaves.0 ∙ before.1,
   λ s w are.
       let so_far = before.2 s w are in
       let step = c.obey.ensures.plays s so_far.0 so_far.2 in
