@@ -1,6 +1,6 @@
 -- What a lane serves, from its last connection back to its first.
 -- For the clause `served` of `serve_all`.
-use Rattle.std.proofs.Common.{◌≡◌, ℕ, ◌-◌, ◌^◌, Bool, true, false, [], ◌∷◌, Option, Some, None, inl, inr, MatchBool, refl}
+use Rattle.std.proofs.Common.{◌≡◌, ℕ, ◌-◌, ◌^◌, Bool, true, false, List, [], ◌∷◌, Option, Some, None, inl, inr, MatchBool, refl, sym, subst}
 use Rattle.http_lane.specs.declared.answer.ServeEnd.{ServeEnd}
 use Rattle.lane_worker.specs.Serving.{Connection, LaneAt, ServedOne, ServesAll, HasServed, is_book_full}
 

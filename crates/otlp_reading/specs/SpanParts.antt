@@ -3,7 +3,7 @@ use Rattle.std.specs.Prelude.{ℕ, ℤ, codes, Option, Some}
 use Rattle.serde_json.specs.Data.{Members}
 use Rattle.otlp_reading.specs.declared.span.SpanContext.{SpanContext}
 use Rattle.otlp_reading.specs.declared.span.HeldFields.{HeldFields}
-use Rattle.otlp_reading.specs.Kinds.{field, text, u32, u64, enum, list_of, message, inner}
+use Rattle.otlp_reading.specs.Kinds.{◌>>=◌, field, text, u32, u64, enum, list_of, message, inner}
 use Rattle.otlp_reading.specs.Reading.{ids, status, event, link}
 
 -- its ids, trace state and flags

@@ -1,6 +1,6 @@
 -- What a lane received, its tries and its counts go on with each request and each connection.
 -- For the law of `Worked`.
-use Rattle.std.proofs.Common.{◌≡◌, ℕ, ◌+◌, ◌<◌, ◌≤◌, ◌==◌, ◌&&◌, Bool, true, false, not, cond, List, [], ◌∷◌, ◌++◌, length, filter, count_by, is_none, is_some, Option, Some, None, MatchBool, refl, sym, ap, subst, ◌∙◌, arith, append-nil, length-append, eq-eqb, ne_eqb}
+use Rattle.std.proofs.Common.{◌≡◌, ℕ, ◌+◌, ◌<◌, ◌≤◌, ◌==◌, ◌&&◌, Bool, true, false, not, cond, List, [], ◌∷◌, ◌++◌, length, filter, count_by, replicate, is_none, is_some, Option, Some, None, MatchBool, refl, sym, ap, subst, ◌∙◌, arith, append-nil, append_assoc, length-append, eq-eqb, ne_eqb, inl, inr}
 use Rattle.std.proofs.lemmas.List.Elements.{filter-append}
 use Rattle.std.proofs.lemmas.List.Sums.{sum_by-cons}
 use Rattle.std.specs.Prelude.{if◌then◌else◌}
@@ -18,7 +18,7 @@ use Rattle.span_ids.specs.declared.outcome.Reason.TheVariants.{InvalidId, QueueF
 use Rattle.drop_ledger.specs.declared.count.Count.{Count}
 use Rattle.drop_ledger.specs.declared.count.Count.TheVariants.{Received, Handed, Dropped}
 use Rattle.drop_ledger.specs.Places.{place_of, Addition, added_to, Gains}
-use Rattle.drop_ledger.proofs.Gains.{gains_both, gains_one}
+use Rattle.drop_ledger.proofs.Gains.{gains_none, gains_both, gains_one}
 use Rattle.drop_ledger.proofs.EachCount.{each_count}
 use Rattle.lane_queue.specs.Ends.{EndState, TakesItem, IsRefused}
 use Rattle.lane_queue.specs.Histories.{pushes, pops}
@@ -31,15 +31,16 @@ use Rattle.lane_seq.specs.Pushes.{LaneState, Receives}
 use Rattle.lane_seq.specs.Replies.{IsRefusal, OnReceived, IsReplyTo}
 use Rattle.http_lane.specs.Connection.{Submission, SubmitsAll, submissions, events_of}
 use Rattle.http_lane.specs.declared.answer.ServeEnd.{ServeEnd}
+use Rattle.http_lane.specs.Engine.{KnownReader, Served}
 use Rattle.http_lane.specs.Intake.{Intake, Submits, Counts, additions_of, intake, first_conn, connected}
-use Rattle.lane_worker.specs.Serving.{Connection, LaneAt, ServedOne, ServesAll, is_book_full}
+use Rattle.lane_worker.specs.Serving.{Connection, LaneAt, lane_at, ServedOne, ServesAll, is_book_full}
 use Rattle.journal_theory.proofs.ListFacts.{Each, Each-append, Each-weaker, tally-append}
 use Rattle.world_theory.specs.Step.{has_ids, is_of_conn, arrivals}
 use Rattle.world_theory.proofs.Received.{on_conn, count_is}
 use Rattle.span_weave.specs.Threads.{AreNumbered}
 use Rattle.span_weave.specs.Pushes.{TriesOf}
 use Rattle.span_weave.proofs.Numbering.{numbers_go_on}
-use Rattle.span_weave.proofs.Tries.{pushes_are_tries, tries_then}
+use Rattle.span_weave.proofs.Tries.{pushes_are_tries, no_tries, tries_then}
 use Rattle.run_weave.specs.Lanes.{Log, log, Came, Logs, ReceivesOne, ReceivesAll}
 use Rattle.run_weave.specs.Workers.{zeros}
 use Rattle.run_weave.proofs.Counted.{served_counted}

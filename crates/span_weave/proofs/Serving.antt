@@ -1,14 +1,15 @@
 -- The steps by which a shard takes one item that it popped: the refused tries before it, its route, its taking, and the decisions on all that is due.
 -- For the contract of `weave`.
-use Rattle.std.proofs.Common.{◌≡◌, ◌≢◌, ℕ, ◌+◌, ◌<◌, ◌==◌, ◌&&◌, Bool, true, false, cond, List, [], ◌∷◌, ◌++◌, length, map, filter, sym, refl, ap, ◌∙◌, subst, arith}
+use Rattle.std.proofs.Common.{◌≡◌, ◌≢◌, ℕ, ◌+◌, ◌<◌, ◌==◌, ◌&&◌, Bool, true, false, cond, List, [], ◌∷◌, ◌++◌, length, map, filter, slice_get, Some, sym, refl, ap, ◌∙◌, subst, append_assoc, append-nil, length-append, arith}
+use Rattle.std.proofs.lemmas.Bool.{and_parts}
 use Rattle.journal_theory.proofs.Counted.{under_append, under_counts}
 use native.Mathlib.Decide.{ℕ_discrete}
 use Rattle.otlp_types.specs.declared.arrival.Arrival.{Arrival}
 use Rattle.otlp_types.specs.declared.arrival.Item.TheVariants.{Span, Tick, End}
 use Rattle.span_ids.specs.declared.outcome.Reason.{Reason}
 use Rattle.span_ids.specs.declared.outcome.Reason.TheVariants.{QueueFull}
-use Rattle.journal_theory.specs.Journal.{Settings, Entry, Journal, due_now, decisions_now, has_ended}
-use Rattle.journal_theory.specs.Fate.{DroppedSpan, counts, effect, effect_of_decisions}
+use Rattle.journal_theory.specs.Journal.{Settings, Entry, Journal, Opening, due_now, decision, decisions_in_turn, decisions_now, are_each_answered, has_ended}
+use Rattle.journal_theory.specs.Fate.{DroppedSpan, Effect, counts, effect, effect_of_decision, effect_of_decisions}
 use Rattle.journal_theory.specs.Marked.{marks_apply_to_ids}
 use Rattle.world_theory.specs.World.{Config, Shard, World, goes_to}
 use Rattle.world_theory.specs.Step.{route, refuse, take as take_step, tick, end, decide}

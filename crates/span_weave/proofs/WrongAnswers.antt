@@ -3,6 +3,7 @@
 use Rattle.std.proofs.Common.{◌≡◌, ℕ, Bool, true, false, List, [], ◌∷◌, Some, refl, ap, subst, ◌∙◌, arith}
 use Rattle.policy_tree.specs.Tree.{no_more, one_more, rate_limiting}
 use Rattle.otlp_types.specs.declared.arrival.Item.TheVariants.{Tick}
+use Rattle.lane_queue.specs.Merges.{of}
 use Rattle.journal_theory.specs.Journal.{IsAnswered, IsAnsweredUpTo, Settings, Entry, Journal, notes}
 use Rattle.world_theory.specs.World.{Config, World, new_world, settings_for, settings}
 use Rattle.world_theory.proofs.Samples.{configured}

@@ -1,4 +1,4 @@
-use Rattle.std.proofs.Common.{◌≡◌, ◌++◌, ◌≤◌, length, vec_capacity}
+use Rattle.std.proofs.Common.{◌≡◌, ◌++◌, ◌≤◌, length, vec_capacity, vec_len}
 use Rattle.std.specs.Prelude.{map}
 use Rattle.lane_worker.specs.Serving.{with_end}
 use Rattle.lane_worker.proofs.lane_worker.end_all.Given as goal

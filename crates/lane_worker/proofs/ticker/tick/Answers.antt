@@ -1,4 +1,4 @@
-use Rattle.std.proofs.Common.{◌∙◌, refl, ap, [], ◌∷◌}
+use Rattle.std.proofs.Common.{◌∙◌, refl, sym, ap, [], ◌∷◌}
 use Rattle.std.specs.Prelude.{map}
 use Rattle.lane_worker.specs.Ticking.{with_ticks}
 use Rattle.lane_worker.proofs.Ends.{ticks_more}
