@@ -106,10 +106,13 @@ fn compare(rt: &HostRuntime, with_shares: bool) -> io::Result<ExitCode> {
 }
 
 fn main(rt: HostRuntime) -> io::Result<ExitCode> {
-    let mut words = env::args(&rt)?.skip(1);
-    match (words.next(), words.next()) {
-        (None, _) => compare(&rt, false),
-        (Some(word), None) if word.as_str() == "shares" => compare(&rt, true),
+    let mut arguments = Vec::new(rt.alloc());
+    for argument in env::args(&rt)?.skip(1) {
+        arguments.push(argument)?;
+    }
+    match arguments.as_slice() {
+        [] => compare(&rt, false),
+        [word] if word.as_str() == "shares" => compare(&rt, true),
         _ => Ok(ExitCode::from(2)),
     }
 }
