@@ -15,7 +15,7 @@ use tsc_config::{Config, read};
 const MAX_CONFIG_LEN: usize = 1_048_576;
 
 /// Why the configuration's file was not read.
-#[derive(Clone, Copy, Debug, PartialEq, Eq)]
+#[derive(Clone, Copy, PartialEq, Eq)]
 pub enum FileFault {
     /// There was no memory for what it holds.
     NoMemory,

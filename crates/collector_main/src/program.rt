@@ -27,7 +27,7 @@ use tsc_config::ConfigFault;
 pub const TEXT_ROOM: usize = 128;
 
 /// What the program is asked to do.
-#[derive(Clone, Copy, Debug, PartialEq, Eq)]
+#[derive(Clone, Copy, PartialEq, Eq)]
 pub enum Command {
     /// To run a script.
     Replay,
@@ -36,7 +36,7 @@ pub enum Command {
 }
 
 /// How the program ended.
-#[derive(Clone, Copy, Debug, PartialEq, Eq)]
+#[derive(Clone, Copy, PartialEq, Eq)]
 pub enum Outcome {
     /// The script was run to its end, or the collector was closed.
     Done(Report),

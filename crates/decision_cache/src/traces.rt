@@ -9,7 +9,7 @@ use std::marker::Model;
 use std::num::NonZeroUsize;
 
 /// What became of a put.
-#[derive(Clone, Copy, Debug, PartialEq, Eq)]
+#[derive(Clone, Copy, PartialEq, Eq)]
 pub enum Remembered {
     /// The verdict is remembered.
     Kept,

@@ -15,7 +15,7 @@ use httparse::is_space_or_tab;
 use httparse::spans::HeaderSpan;
 
 /// The value of the fields with one name.
-#[derive(Clone, Copy, Debug)]
+#[derive(Clone, Copy)]
 pub enum Named<'b> {
     /// No field has the name.
     Absent,

@@ -7,7 +7,7 @@ pub const BODY_LIMIT: usize = 4_194_304;
 pub const FIELD_LIMIT: usize = 64;
 
 /// Why a request is refused. Each refusal closes the connection.
-#[derive(Clone, Copy, Debug, PartialEq, Eq)]
+#[derive(Clone, Copy, PartialEq, Eq)]
 pub enum Refusal {
     /// 431: no end of the head within its limit, or too many fields.
     HeadTooLarge,
@@ -24,7 +24,7 @@ pub enum Refusal {
 }
 
 /// How long the body is.
-#[derive(Clone, Copy, Debug, PartialEq, Eq)]
+#[derive(Clone, Copy, PartialEq, Eq)]
 pub enum Framing {
     /// So many bytes, by `Content-Length`; 0 where no field says it.
     Length(usize),
@@ -33,7 +33,7 @@ pub enum Framing {
 }
 
 /// A request whose body is to be read.
-#[derive(Clone, Copy, Debug, PartialEq, Eq)]
+#[derive(Clone, Copy, PartialEq, Eq)]
 pub struct Post {
     /// How long the body is.
     pub framing: Framing,
@@ -44,7 +44,7 @@ pub struct Post {
 }
 
 /// What the head of a request comes to.
-#[derive(Clone, Copy, Debug, PartialEq, Eq)]
+#[derive(Clone, Copy, PartialEq, Eq)]
 pub enum Verdict {
     /// It is refused. `is_head`: the answer to `HEAD` has no body.
     Refused { refusal: Refusal, is_head: bool },

@@ -6,7 +6,7 @@ ghost use Rattle.http_text.specs.Search.{step_blank, step_start, step_middle, st
 use crate::lines::{PART_LIMIT, front};
 
 /// Where a search stands among the lines of a part.
-#[derive(Clone, Copy, Debug, PartialEq, Eq)]
+#[derive(Clone, Copy, PartialEq, Eq)]
 pub enum Place {
     /// Among the empty lines in front of a head.
     Blank,
@@ -19,7 +19,7 @@ pub enum Place {
 }
 
 /// A search that has looked at so many bytes.
-#[derive(Clone, Copy, Debug, PartialEq, Eq)]
+#[derive(Clone, Copy, PartialEq, Eq)]
 pub struct Search {
     /// How many bytes it has looked at.
     pub at: usize,
@@ -28,7 +28,7 @@ pub struct Search {
 }
 
 /// What the next byte, or the next two, say.
-#[derive(Clone, Copy, Debug, PartialEq, Eq)]
+#[derive(Clone, Copy, PartialEq, Eq)]
 pub enum Step {
     /// The part ends behind so many bytes.
     Found(usize),
@@ -39,7 +39,7 @@ pub enum Step {
 }
 
 /// What a search came to.
-#[derive(Clone, Copy, Debug, PartialEq, Eq)]
+#[derive(Clone, Copy, PartialEq, Eq)]
 pub enum Ending {
     /// The part has so many bytes.
     At(usize),
@@ -48,7 +48,7 @@ pub enum Ending {
 }
 
 /// What stands at the front of a stream, by a search that is under way.
-#[derive(Clone, Copy, Debug, PartialEq, Eq)]
+#[derive(Clone, Copy, PartialEq, Eq)]
 pub enum Cutting {
     /// A part of so many bytes.
     Whole(usize),

@@ -17,7 +17,7 @@ use span_ids::{ArrivalKey, ConnKey, Moment};
 use std::alloc::{AllocError, Global};
 
 /// A connection of a lane.
-#[derive(Clone, Copy, Debug, PartialEq, Eq)]
+#[derive(Clone, Copy, PartialEq, Eq)]
 pub struct Conn {
     /// Its lane and ordinal.
     pub key: ConnKey,

@@ -9,7 +9,7 @@ use std::alloc::AllocError;
 pub const MAX_BODY_LEN: usize = 143;
 
 /// Why a body is no request.
-#[derive(Clone, Copy, Debug, PartialEq, Eq)]
+#[derive(Clone, Copy, PartialEq, Eq)]
 pub enum BadData {
     /// It is no JSON.
     Json,
@@ -18,7 +18,7 @@ pub enum BadData {
 }
 
 /// The answer to a request (OTLP 1.x, OTLP/HTTP response).
-#[derive(Clone, Copy, Debug, PartialEq, Eq)]
+#[derive(Clone, Copy, PartialEq, Eq)]
 pub enum Reply {
     /// All spans were taken.
     Done {

@@ -12,7 +12,7 @@ use serde_json::{Map, Value};
 use std::alloc::{AllocError, Global};
 
 /// A member of an `AnyValue` that says which kind of value it is.
-#[derive(Clone, Copy, Debug, PartialEq, Eq)]
+#[derive(Clone, Copy, PartialEq, Eq)]
 pub enum ValueKey {
     Str,
     Bool,

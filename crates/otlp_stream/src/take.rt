@@ -17,7 +17,7 @@ use otlp_types::Text;
 use std::alloc::{AllocError, Global};
 
 /// Why the fast way gave up.
-#[derive(Clone, Copy, Debug, PartialEq, Eq, Drop)]
+#[derive(Clone, Copy, PartialEq, Eq, Drop)]
 pub enum Stop {
     /// The text isn't plain: it has to be read with all care.
     Declined,

@@ -8,7 +8,7 @@ use span_ids::{SpanId, TraceId};
 use std::alloc::{AllocError, Global};
 
 /// The ids of a span, where all of them are valid. A root has no parent.
-#[derive(Clone, Copy, Debug, PartialEq, Eq)]
+#[derive(Clone, Copy, PartialEq, Eq)]
 pub struct Ids {
     pub trace: TraceId,
     pub span: SpanId,

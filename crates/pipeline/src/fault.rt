@@ -2,7 +2,7 @@
 use drop_ledger::Report;
 
 /// Why a run did not end as `Ok`.
-#[derive(Clone, Copy, Debug, PartialEq, Eq)]
+#[derive(Clone, Copy, PartialEq, Eq)]
 pub enum RunFault {
     /// There was no memory at the start, or a thread could not be started: nothing was asked of a feed, and nothing was
     /// handed over.

@@ -8,7 +8,7 @@ use std::alloc::{AllocError, Global};
 
 /// What a shard takes, in a row of a test: a span by the number of its trace (from 1 to 6), its own number, its moment and
 /// its status code; a tick by its moment; the End of a sender.
-#[derive(Clone, Copy, Debug)]
+#[derive(Clone, Copy)]
 pub enum Event {
     Span(u8, u64, u64, i32),
     Tick(u64),

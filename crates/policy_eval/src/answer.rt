@@ -6,7 +6,7 @@ ghost use Rattle.policy_eval.specs.Meaning.{answer_of, is_for, none_seen, seen_w
 use span_ids::Verdict;
 
 /// What a policy answers for the spans of a trace.
-#[derive(Clone, Copy, Debug, PartialEq, Eq)]
+#[derive(Clone, Copy, PartialEq, Eq)]
 pub enum Answer {
     Sample,
     NotSample,

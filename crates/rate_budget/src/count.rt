@@ -3,7 +3,7 @@ ghost use Rattle.std.specs.Prelude.{◌≡◌};
 ghost use Rattle.rate_budget.specs.Budget.{grants_of, asked_count};
 
 /// A limiter node with its limit in spans per second, its greatest second asked, and the spans granted in that second.
-#[derive(Clone, Copy, Debug, PartialEq, Eq)]
+#[derive(Clone, Copy, PartialEq, Eq)]
 pub struct LimiterCount {
     pub node: u16,
     pub limit: u64,

@@ -6,7 +6,7 @@ use otlp_types::Request;
 use std::alloc::{AllocError, Global};
 
 /// What a body is read as.
-#[derive(Debug, PartialEq, Eq, Drop)]
+#[derive(PartialEq, Eq, Drop)]
 pub enum Answer {
     /// A request: its canonical text.
     Request(Vec<u8>),
@@ -35,7 +35,7 @@ fn is_plain(alloc: Global, body: &[u8]) -> Result<bool, AllocError> {
 }
 
 /// Both readings of a body.
-#[derive(Debug, Drop)]
+#[derive(Drop)]
 pub struct Readings {
     /// Whether `plain_request` takes it.
     pub is_plain: bool,

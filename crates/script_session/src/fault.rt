@@ -2,7 +2,7 @@
 use drop_ledger::Report;
 
 /// Why a run did not end as `Ok`.
-#[derive(Clone, Copy, Debug, PartialEq, Eq)]
+#[derive(Clone, Copy, PartialEq, Eq)]
 pub enum RunFault {
     /// There was no memory at the start: nothing was handed over.
     NoMemory,

@@ -7,7 +7,7 @@ use otlp_types::Item;
 use span_ids::Moment;
 
 /// What every shard is told.
-#[derive(Clone, Copy, Debug, PartialEq, Eq)]
+#[derive(Clone, Copy, PartialEq, Eq)]
 pub enum Signal {
     /// A moment of the ticker.
     Tick(Moment),

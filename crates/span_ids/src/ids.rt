@@ -7,7 +7,7 @@ use std::alloc::{AllocError, Global};
 use std::marker::Model;
 
 /// The id of a trace: sixteen bytes, not all of them zero (`trace.proto` v1, `Span.trace_id`).
-#[derive(Clone, Copy, Debug, PartialEq, Eq, PartialOrd, Ord, Hash)]
+#[derive(Clone, Copy, PartialEq, Eq, PartialOrd, Ord, Hash)]
 pub struct TraceId {
     bytes: [u8; 16],
 }
@@ -55,7 +55,7 @@ impl TraceId {
 }
 
 /// The id of a span: eight bytes, not all of them zero (`trace.proto` v1, `Span.span_id`).
-#[derive(Clone, Copy, Debug, PartialEq, Eq, PartialOrd, Ord, Hash)]
+#[derive(Clone, Copy, PartialEq, Eq, PartialOrd, Ord, Hash)]
 pub struct SpanId {
     bytes: [u8; 8],
 }

@@ -6,7 +6,7 @@ use policy_tree::PolicyFault;
 
 /// Why a configuration is refused. Its number, from 1 to 8, orders the faults: the least that the text has is
 /// answered.
-#[derive(Clone, Copy, Debug, PartialEq, Eq)]
+#[derive(Clone, Copy, PartialEq, Eq)]
 pub enum ConfigFault {
     /// 1: the text is no TOML.
     NotToml,

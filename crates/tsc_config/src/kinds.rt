@@ -3,7 +3,7 @@ ghost use Rattle.std.specs.Prelude.{◌≡◌};
 ghost use Rattle.tsc_config.specs.Keys as spec;
 
 /// The types of policy (tailsamplingprocessor README, `type`).
-#[derive(Clone, Copy, Debug, PartialEq, Eq)]
+#[derive(Clone, Copy, PartialEq, Eq)]
 pub enum PolicyType {
     AlwaysSample,
     Latency,
@@ -36,7 +36,7 @@ impl PolicyType {
 }
 
 /// The kinds of table in a configuration, each with keys of its own.
-#[derive(Clone, Copy, Debug, PartialEq, Eq)]
+#[derive(Clone, Copy, PartialEq, Eq)]
 pub enum TableKind {
     /// The whole text.
     Config,

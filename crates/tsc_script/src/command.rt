@@ -1,7 +1,7 @@
 //! What a line of a script says.
 
 /// An instruction of a script, as it is read from a line.
-#[derive(Clone, Copy, Debug, PartialEq, Eq, Drop)]
+#[derive(Clone, Copy, PartialEq, Eq, Drop)]
 pub enum Command<'a> {
     /// A request came on a connection at a moment.
     Receive {

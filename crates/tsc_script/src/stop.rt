@@ -2,7 +2,7 @@
 
 /// Why a script was not played to its end. The program reports `Refused` and `Fault` alike, as a script that is
 /// refused at that line. Lines count from 1.
-#[derive(Clone, Copy, Debug, PartialEq, Eq, Drop)]
+#[derive(Clone, Copy, PartialEq, Eq, Drop)]
 pub enum Stop {
     /// There is no memory for a line and a read: nothing was read or played.
     NoMemory,

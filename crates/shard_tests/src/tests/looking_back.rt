@@ -37,7 +37,7 @@ pub enum Kind {
 }
 
 /// An item that was taken, with its marks.
-#[derive(Clone, Copy, Debug, PartialEq, Eq)]
+#[derive(Clone, Copy, PartialEq, Eq)]
 pub struct Entry {
     pub kind: Kind,
     pub moment: u64,
