@@ -2,7 +2,7 @@
 # Times numbers through one sender and one receiver, beside upstream's `crossbeam-queue` in plain Rust (bench/queue), each three times in turn:
 # bench/queue.sh [ITEMS [CAPACITY]]. It prints items in a second, the instructions of one push and one pop in one thread by valgrind, and what a
 # thread that waits ten seconds at an empty queue takes of a processor; then spans in a second through a shard's worker. It is no part of the gate.
-# The programs must be built: cd to crates/queue_speed, and to crates/worker_speed, and rt run. Upstream's sources are Debian's: apt-get install
+# The programs must be built: bench/program.sh queue_speed, and worker_speed. Upstream's sources are Debian's: apt-get install
 # librust-crossbeam-queue-dev librust-crossbeam-utils-dev.
 set -eu
 cd "$(dirname "$0")"
@@ -11,7 +11,7 @@ capacity=${2:-1024}
 work=$(mktemp -d)
 trap 'rm -rf "$work"' EXIT
 (cd queue && cargo build --quiet --release --offline --target-dir "$work/target")
-program=$PWD/../crates/queue_speed/out/queue_speed
+program=$PWD/out/queue_speed
 upstream=$work/target/release/queue
 echo "load of the machine, over 1, 5 and 15 minutes: $(cut -d' ' -f1-3 /proc/loadavg), on $(nproc) processors"
 python3 - "$program" "$upstream" "$items" "$capacity" <<'PYTHON'
@@ -50,7 +50,7 @@ instructions_each() {
 }
 instructions_each queue_speed "$program"
 instructions_each crossbeam-queue "$upstream"
-python3 - "$PWD/../crates/worker_speed/out/worker_speed" <<'PYTHON'
+python3 - "$PWD/out/worker_speed" <<'PYTHON'
 import subprocess, sys, time
 speeds = []
 for _ in range(3):

@@ -1,0 +1,96 @@
+#!/usr/bin/env python3
+"""Runs a program or a test once for each request for memory that it makes, and refuses that request (refuse.c; it needs a C compiler).
+
+usage: refused.py [--crates FOLDER] [--sample N] exchanges | readings | CRATE[/WORD] ..
+
+- exchanges: those of `http_table` that say `starves`. Each run must find that whole answers were written and that the counts are those of the answered
+  requests, or end with status 1 and print nothing, where the table itself was refused its memory.
+- readings: the table of `reading_table`. A body for which memory is refused is read again, so each run must print that no body is read otherwise, with
+  status 1, or 0 where a list that gives up its spare room was refused that; or end with status 1 and print nothing.
+- CRATE: its tests, or those with WORD in their name. Each must answer as ever or end by the refusal.
+
+--sample N refuses N requests, spread evenly, in place of each. The programs must be built: rt run in http_table and reading_table, rt test in CRATE;
+--crates says where (the repository's crates). The last line is 'N passed, M failed': of refusals."""
+import argparse
+import os
+import re
+import subprocess
+import tempfile
+from pathlib import Path
+
+HERE = Path(__file__).resolve().parent
+
+
+class Runs:
+    """Runs a command with one request for memory refused, and counts what passed and what failed."""
+
+    def __init__(self, library, sample):
+        self.library, self.sample, self.passed, self.failed = library, sample, 0, 0
+
+    def run(self, words, folder, **more):
+        """Returns the status, what was printed, and what was said on standard error."""
+        done = subprocess.run(words, cwd=folder, env={**os.environ, "LD_PRELOAD": self.library, **more}, capture_output=True, text=True, errors="replace", timeout=120)
+        return done.returncode, done.stdout, done.stderr
+
+    def numbers(self, words, folder):
+        """Returns the numbers of the requests that are refused, of a command that makes so many."""
+        said = self.run(words, folder, COUNT_ALLOCATIONS="1")[2]
+        count = int(re.findall(r"(?m)^allocations (\d+)$", said)[-1])
+        return range(1, count + 1) if not self.sample else sorted({1 + count * at // self.sample for at in range(self.sample)})
+
+    def each(self, name, words, folder, is_well):
+        """Refuses each request in turn. `is_well` takes the status, what was printed and what was said."""
+        refused = 0
+        for number in self.numbers(words, folder):
+            found = self.run(words, folder, REFUSED_ALLOCATION=str(number))
+            was_refused = "allocation refused\n" in found[2]
+            refused += was_refused
+            good = is_well(*found) if was_refused else found[0] == 0
+            self.passed, self.failed = self.passed + good, self.failed + (not good)
+            if not good:
+                print(f"{name}, request {number}: status {found[0]}: {(found[1] + found[2])[-200:]!r}")
+        if not refused:
+            self.failed += 1
+            print(f"{name}: no request was refused")
+
+
+def exchanges(runs, crates):
+    words, folder = [f"{crates}/http_table/out/http_table", "refused"], f"{crates}/http_table/data"
+    expected = runs.run(words, folder)[1]
+    runs.each("exchanges", words, folder, lambda status, printed, _: (status, printed) in ((0, expected), (1, "")))
+
+
+def readings(runs, crates):
+    words, folder = [f"{crates}/reading_table/out/reading_table"], f"{crates}/reading_table/data"
+    expected = Path(f"{crates}/reading_table/stdout").read_text("utf-8")
+    runs.each("readings", words, folder, lambda status, printed, _: (status, printed) in ((0, expected), (1, expected), (1, "")))
+
+
+def tests(runs, crates, named):
+    crate, _, word = named.partition("/")
+    program = f"{crates}/{crate}/out/{crate}_tests"
+    listed = subprocess.run([program, "--list"], capture_output=True, text=True).stdout
+    names = [it for it in re.findall(r"(?m)^(\S+): test$", listed) if word in it]
+    for name in names:
+        runs.each(f"{crate} {name}", [program, name], crates, lambda status, printed, said: status == 0 or re.search(r"(?m)^error: Alloc(Error|Failed)", printed + said))
+    runs.failed += not names
+
+
+def main():
+    words = argparse.ArgumentParser(usage=__doc__.split("\n\n")[1].replace("usage: ", ""))
+    words.add_argument("--crates", default=f"{HERE.parent.parent}/crates")
+    words.add_argument("--sample", type=int, default=0)
+    words.add_argument("names", nargs="+")
+    words = words.parse_args()
+    crates = os.path.abspath(words.crates)
+    with tempfile.TemporaryDirectory() as work:
+        subprocess.run(["cc", "-shared", "-fPIC", "-O1", "-o", f"{work}/refuse.so", HERE / "refuse.c", "-ldl"], check=True)
+        runs = Runs(f"{work}/refuse.so", words.sample)
+        for name in words.names:
+            {"exchanges": exchanges, "readings": readings}.get(name, lambda *given: tests(*given, name))(runs, crates)
+    print(f"{runs.passed} passed, {runs.failed} failed")
+    return 1 if runs.failed or not runs.passed else 0
+
+
+if __name__ == "__main__":
+    raise SystemExit(main())

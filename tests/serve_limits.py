@@ -1,0 +1,172 @@
+"""Checks of `tsc serve` at the edges of what it has: open files, lanes, connections in a row, traces, and how soon it accepts, hands over and ends."""
+
+import fcntl
+import os
+import resource
+import threading
+import time
+
+from collector import ALL, ERROR_SPAN, Failure, body_of, post, spans_of, want
+
+
+def at_most(what, seconds, began):
+    """Says where something took longer than it may. The bounds are ten times what it takes, or more."""
+    took = time.monotonic() - began
+    if took > seconds:
+        raise Failure(f"{what}: {took:.1f} s and not at most {seconds}")
+
+
+def spans_by_number(first, count):
+    """Spans of so many traces, one each, whose ids and numbers go up from the first."""
+    return [{"traceId": f"{at + 1:032x}", "spanId": f"{at + 1:016x}"} for at in range(first, first + count)]
+
+
+def side_by_side(work, arguments):
+    """Runs the work on a thread for each argument, and tells what went wrong."""
+    problems = []
+
+    def guarded(argument):
+        try:
+            work(argument)
+        except (Failure, OSError) as problem:
+            problems.append(str(problem))
+
+    threads = [threading.Thread(target=guarded, args=(it,)) for it in arguments]
+    for it in threads:
+        it.start()
+    for it in threads:
+        it.join()
+    want("what went wrong", problems, [])
+
+
+def too_many_open_files(start):
+    """With 24 open files thirty clients are more than it can have; once they are gone it serves as before."""
+    collector = start("lanes = 16\n" + ALL, limits=[(resource.RLIMIT_NOFILE, 24)])
+    clients = [collector.client() for _ in range(30)]
+    time.sleep(0.5)
+    for client in clients:
+        client.close()
+    for _ in range(5):
+        want("the answer", collector.ask(post(body_of([ERROR_SPAN])))[::2], (200, "{}"))
+    want("the report", collector.close()[1], [5, 5, 0, 0, 0, 0, 0, 0, 0])
+
+
+def few_traces(start):
+    """Two hundred traces where each of two shards keeps two: all but the last two of each are evicted, and counted so."""
+    collector = start("lanes = 4\nshards = 2\nnum_traces = 4\ndecision_wait_ms = 3600000\n" + ALL)
+    side_by_side(lambda at: want("the answer", collector.ask(post(body_of(spans_by_number(50 * at, 50))))[::2], (200, "{}")), range(4))
+    lines, numbers = collector.close()
+    want("the spans handed over", len(spans_of(lines)), 4)
+    want("the report", numbers, [200, 4, 0, 0, 0, 196, 0, 0, 0])
+
+
+def most_lanes_and_shards(start):
+    """Sixty-four lanes, each with a client at work, and as many shards."""
+    collector = start("lanes = 64\nshards = 64\nqueue_capacity = 64\nexport_capacity = 64\n" + ALL)
+    clients = [collector.client() for _ in range(64)]
+
+    def asks(at):
+        clients[at].send(post(body_of(spans_by_number(10 * at, 10))))
+        want("the answer", clients[at].answer()[::2], (200, "{}"))
+
+    side_by_side(asks, range(64))
+    for client in clients:
+        client.close()
+    lines, numbers = collector.close()
+    want("the traces handed over", {it["traceId"] for it in spans_of(lines)}, {f"{at + 1:032x}" for at in range(640)})
+    want("the report", numbers, [640, 640, 0, 0, 0, 0, 0, 0, 0])
+
+
+def five_thousand_connections(start):
+    """Five thousand connections of one request each, all by one lane."""
+    collector = start("queue_capacity = 65536\nnum_traces = 10000\n" + ALL)
+
+    def asks(at):
+        for number in range(1250):
+            answer = collector.ask(post(body_of(spans_by_number(1250 * at + number, 1))))
+            want(f"the answer to request {number}", answer[::2], (200, "{}"))
+
+    side_by_side(asks, range(4))
+    want("the report", collector.close()[1], [5000, 5000, 0, 0, 0, 0, 0, 0, 0])
+
+
+def two_closes(start):
+    """A second `POST /close` changes nothing: it ends."""
+    collector = start("lanes = 2\n" + ALL)
+    first, second = collector.client(), collector.client()
+    for client in (first, second):
+        client.send(post(body_of([ERROR_SPAN])))
+        want("the answer", client.answer()[::2], (200, "{}"))
+    first.send(post(b"", "/close"))
+    second.send(post(b"", "/close"))
+    want("the answer to the first close", first.answer()[::2], (200, "{}"))
+    second.rest()
+    began = time.monotonic()
+    want("the report", collector.end()[1], [2, 2, 0, 0, 0, 0, 0, 0, 0])
+    at_most("the end", 5, began)
+
+
+def ends_before_a_tick(start):
+    """With a tick a minute it ends at the close, and not at the next tick."""
+    collector = start("tick_ms = 60000\n" + ALL)
+    want("the answer", collector.ask(post(body_of([ERROR_SPAN])))[::2], (200, "{}"))
+    began = time.monotonic()
+    want("the report", collector.close()[1], [1, 1, 0, 0, 0, 0, 0, 0, 0])
+    at_most("the close", 5, began)
+
+
+def accepts_soon(start):
+    """A hundred connections, each made once the one before it is done, don't wait long for their lane."""
+    collector = start(ALL)
+    began = time.monotonic()
+    for _ in range(100):
+        want("the answer", collector.ask(post(body_of([ERROR_SPAN])))[::2], (200, "{}"))
+    at_most("a hundred connections", 5, began)
+    collector.close()
+
+
+def lines_in(path):
+    with open(path, encoding="utf-8") as file:
+        return file.read().count("\n")
+
+
+def hands_over_soon(start):
+    """Thirty traces, each sent once the one before it is in the output: queues don't let an item lie."""
+    collector = start("decision_wait_ms = 1\ntick_ms = 1\n" + ALL)
+    client = collector.client()
+    began = time.monotonic()
+    for number in range(30):
+        client.send(post(body_of(spans_by_number(number, 1))))
+        want("the answer", client.answer()[::2], (200, "{}"))
+        while lines_in(collector.printed) <= number:
+            at_most(f"trace {number}", 30, began)
+            time.sleep(0.001)
+    at_most("thirty traces", 6, began)
+    client.close()
+    collector.close()
+
+
+def first_write_fails(start):
+    """An output that takes nothing at its first write: what is kept is counted under the sink's failures, and the report is still told."""
+    read, write = os.pipe()
+    fcntl.fcntl(write, fcntl.F_SETFL, os.O_NONBLOCK)
+    filled = 0
+    try:
+        while True:
+            filled += os.write(write, b"x" * 4096)
+    except BlockingIOError:
+        pass
+    collector = start("decision_wait_ms = 1\ntick_ms = 1\n" + ALL, write)
+    want("the answer", collector.ask(post(body_of([ERROR_SPAN])))[::2], (200, "{}"))
+    time.sleep(0.5)
+    while filled:
+        filled -= len(os.read(read, filled))
+    want("the answer to /close", collector.ask(post(b"", "/close"))[::2], (200, "{}"))
+    collector.end(1)
+    os.close(write)
+    with os.fdopen(read, encoding="utf-8") as file:
+        want("the report", [int(line.split()[-1]) for line in file.read().splitlines()], [1, 0, 0, 0, 0, 0, 0, 0, 1])
+
+
+CHECKS = [too_many_open_files, few_traces, most_lanes_and_shards, five_thousand_connections, two_closes, ends_before_a_tick]
+CHECKS += [accepts_soon, hands_over_soon, first_write_fails]

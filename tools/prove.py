@@ -1,0 +1,66 @@
+#!/usr/bin/env python3
+"""Proves crates side by side, each once those that it stands on are proved, first those on which the most others stand.
+
+usage: prove.py [--jobs N] [NAME ..]      (at the top of the repository; no name: every crate)
+
+The named crates and those below them are checked as `rt check` does it, over the work that earlier checks kept, which this keeps too. It prints a line
+a crate; what the prover said of it is in crates/NAME/out/check.log. The last line is 'N crates proved, M not'."""
+import argparse
+import os
+import sys
+import time
+from concurrent.futures import FIRST_COMPLETED, ThreadPoolExecutor, wait
+from pathlib import Path
+
+from kept import crates_below, keep, room_of, run
+
+
+def prove(name, below, is_used):
+    """Checks a crate, makes its library where others use it, and returns its name, whether it is proved, and its processor seconds."""
+    room = room_of(name, below)
+    with room:
+        status, said, seconds, _ = run(room, name, ["rt", "check", "--jobs", "1"])
+        if status == 0 and is_used:
+            status, more, also, _ = run(room, name, ["rt", "lib", "--jobs", "1"])
+            said, seconds = said + more, seconds + also
+        keep(room, name)
+    Path(f"crates/{name}/out/check.log").write_text(said, "utf-8")
+    return name, status == 0, seconds
+
+
+def prove_all(uses, wanted, jobs):
+    """Proves the wanted crates, and returns those that are proved and those that aren't."""
+    above = {it: sum(it in uses[other] for other in wanted) for it in wanted}
+    left, running, proved, failed, began = set(wanted), set(), set(), set(), time.time()
+    with ThreadPoolExecutor(jobs) as pool:
+        while left or running:
+            ready = sorted((it for it in left if proved.issuperset(uses[it])), key=lambda it: (-above[it], it))
+            for name in ready[: jobs - len(running)]:
+                left.remove(name)
+                running.add(pool.submit(prove, name, uses[name], above[name] > 0))
+            if not running:
+                break
+            ended, running = wait(running, return_when=FIRST_COMPLETED)
+            for name, is_proved, seconds in (it.result() for it in ended):
+                (proved if is_proved else failed).add(name)
+                print(f"{time.time() - began:5.0f} s: {name} {'proved' if is_proved else 'NOT PROVED'} ({seconds:.0f} s of a processor)", flush=True)
+    return proved, failed
+
+
+def main():
+    words = argparse.ArgumentParser(usage=__doc__.split("\n\n")[1].replace("usage: ", ""))
+    words.add_argument("--jobs", type=int, default=os.cpu_count())
+    words.add_argument("names", nargs="*")
+    words = words.parse_args()
+    os.chdir(Path(__file__).resolve().parent.parent)
+    uses = crates_below()
+    wanted = {it for name in words.names or uses for it in [name, *uses[name]]}
+    proved, failed = prove_all(uses, wanted, words.jobs)
+    for name in sorted(failed):
+        sys.stdout.write(Path(f"crates/{name}/out/check.log").read_text("utf-8", "replace")[-4000:])
+    print(f"{len(proved)} crates proved, {len(wanted - proved)} not")
+    return 1 if wanted - proved else 0
+
+
+if __name__ == "__main__":
+    raise SystemExit(main())
