@@ -146,6 +146,17 @@ def hands_over_soon(start):
     collector.close()
 
 
+def few_lines(start):
+    """Five thousand spans that are handed over at the close come in batches, and not each in a line of its own."""
+    collector = start("send_batch_size = 512\nqueue_capacity = 8192\n" + ALL)
+    for at in range(5):
+        want("the answer", collector.ask(post(body_of(spans_by_number(1000 * at, 1000))))[::2], (200, "{}"))
+    lines, numbers = collector.close()
+    want("the report", numbers, [5000, 5000, 0, 0, 0, 0, 0, 0, 0])
+    if not 10 <= len(lines) <= 2500:
+        raise Failure(f"5000 spans in {len(lines)} lines")
+
+
 def first_write_fails(start):
     """An output that takes nothing at its first write: what is kept is counted under the sink's failures, and the report is still told."""
     read, write = os.pipe()
@@ -169,4 +180,4 @@ def first_write_fails(start):
 
 
 CHECKS = [too_many_open_files, few_traces, most_lanes_and_shards, five_thousand_connections, two_closes, ends_before_a_tick]
-CHECKS += [accepts_soon, hands_over_soon, first_write_fails]
+CHECKS += [accepts_soon, hands_over_soon, few_lines, first_write_fails]

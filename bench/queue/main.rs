@@ -1,4 +1,4 @@
-//! What `crates/queue_speed` does with numbers, over upstream's `crossbeam-queue` in plain Rust: the same arguments, the same
+//! What `bench/programs/queue_speed` does with numbers, over upstream's `crossbeam-queue` in plain Rust: the same arguments, the same
 //! waits (`Backoff`, then sleeps of a millisecond; or `Backoff` alone), the same line printed.
 use crossbeam_queue::ArrayQueue;
 use crossbeam_utils::Backoff;
