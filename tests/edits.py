@@ -18,18 +18,17 @@ below it and the kit's line, the number of its edits, and the processor seconds 
 are there. The last line is 'N passed, M failed': of edits, or of crates."""
 import argparse
 import collections
-import hashlib
 import os
 import re
-import subprocess
 import sys
 from concurrent.futures import ThreadPoolExecutor
 from pathlib import Path
 
 sys.path.insert(0, str(Path(__file__).resolve().parent.parent / "tools"))
-from kept import crates_below, room_of, run  # noqa: E402
+from kept import crates_below, proof_of, room_of, run, sum_of  # noqa: E402
 
 RECORD = "tests/edits.passed"
+PARTS = ("src", "specs", "proofs", "must-fail")
 Function = collections.namedtuple("Function", "file name first last")
 Edit = collections.namedtuple("Edit", "name pairs functions")
 HEAD = re.compile(r"( *)(?:pub(?:\([^)]*\))? )?(?:const |unsafe )*fn (\w+)")
@@ -51,19 +50,6 @@ def write_record(record):
     Path(RECORD).write_text(head + "".join(f"{name} {' '.join(record[name])}\n" for name in sorted(record)), "utf-8")
 
 
-def sum_of(crate, below):
-    """Returns the sum over all that the verdicts on a crate's edits rest on."""
-    kit = subprocess.run(["rt", "version"], capture_output=True, text=True, check=True).stdout
-    rows = [it for it in Path("crates.txt").read_text("utf-8").split("\n") if re.split("[: ]", it)[0] in {*below, crate}]
-    found = hashlib.sha256("\n".join([kit, *sorted(rows)]).encode())
-    for name in [*sorted(below), crate]:
-        parts = ("src", "specs", "proofs", *["must-fail"] * (name == crate))
-        files = sorted(it for part in parts for it in Path(f"crates/{name}/{part}").rglob("*") if it.is_file())
-        for file in files:
-            found.update(f"{file} {hashlib.sha256(file.read_bytes()).hexdigest()}\n".encode())
-    return found.hexdigest()[:32]
-
-
 def edits_in(crate):
     folder = f"crates/{crate}/must-fail"
     return sorted(it for it in os.listdir(folder) if not it.endswith(".md")) if os.path.isdir(folder) else []
@@ -71,7 +57,7 @@ def edits_in(crate):
 
 def stale_crates(below):
     """Returns the crates with edits whose line of the record isn't that of the files, and the record's crates that have no edits."""
-    wanted = {it: [sum_of(it, below[it]), str(len(edits_in(it)))] for it in below if edits_in(it)}
+    wanted = {it: [sum_of(it, below[it], PARTS), str(len(edits_in(it)))] for it in below if edits_in(it)}
     record = read_record()
     return [it for it in {**wanted, **record} if record.get(it, [])[:2] != wanted.get(it)]
 
@@ -200,8 +186,10 @@ def try_crate(crate, below, is_alone):
     """Tries a crate's edits, and returns its name, what is said of each edit, and the processor seconds."""
     found = {it: read_edit(f"crates/{crate}", it) for it in edits_in(crate)}
     tried = [(name, (False, f"BAD EDIT: {why}")) for name, why in found.items() if isinstance(why, str)]
-    status, said, seconds = check(crate, below, [])
-    if status or not re.search(r"(?m)^logic=proved", said):
+    said, seconds = proof_of(crate, below), 0
+    if not said:
+        _, said, seconds = check(crate, below, [])
+    if not re.search(r"(?m)^logic=proved", said):
         return crate, [(it, (False, "BAD CRATE: it is not proved as it stands")) for it in found], seconds
     names = re.findall(r"(?m)^fn (\S+): proved$", said)
     for left in rounds_of([it for it in found.values() if isinstance(it, Edit)], is_alone):
@@ -224,7 +212,7 @@ def try_all(crates, below, jobs, is_alone):
             record = read_record()
             record.pop(crate, None)
             if all(it[0] for _, it in tried):
-                record[crate] = [sum_of(crate, below[crate]), str(len(tried)), f"{seconds:.0f}"]
+                record[crate] = [sum_of(crate, below[crate], PARTS), str(len(tried)), f"{seconds:.0f}"]
             write_record(record)
     return passed, failed
 

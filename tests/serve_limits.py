@@ -1,6 +1,5 @@
 """Checks of `tsc serve` at the edges of what it has: open files, lanes, connections in a row, traces, and how soon it accepts, hands over and ends."""
 
-import fcntl
 import os
 import resource
 import threading
@@ -157,27 +156,5 @@ def few_lines(start):
         raise Failure(f"5000 spans in {len(lines)} lines")
 
 
-def first_write_fails(start):
-    """An output that takes nothing at its first write: what is kept is counted under the sink's failures, and the report is still told."""
-    read, write = os.pipe()
-    fcntl.fcntl(write, fcntl.F_SETFL, os.O_NONBLOCK)
-    filled = 0
-    try:
-        while True:
-            filled += os.write(write, b"x" * 4096)
-    except BlockingIOError:
-        pass
-    collector = start("decision_wait_ms = 1\ntick_ms = 1\n" + ALL, write)
-    want("the answer", collector.ask(post(body_of([ERROR_SPAN])))[::2], (200, "{}"))
-    time.sleep(0.5)
-    while filled:
-        filled -= len(os.read(read, filled))
-    want("the answer to /close", collector.ask(post(b"", "/close"))[::2], (200, "{}"))
-    collector.end(1)
-    os.close(write)
-    with os.fdopen(read, encoding="utf-8") as file:
-        want("the report", [int(line.split()[-1]) for line in file.read().splitlines()], [1, 0, 0, 0, 0, 0, 0, 0, 1])
-
-
 CHECKS = [too_many_open_files, few_traces, most_lanes_and_shards, five_thousand_connections, two_closes, ends_before_a_tick]
-CHECKS += [accepts_soon, hands_over_soon, few_lines, first_write_fails]
+CHECKS += [accepts_soon, hands_over_soon, few_lines]

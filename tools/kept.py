@@ -2,6 +2,7 @@
 
 `rt` locks the folder of a crate and those of the crates below it for as long as it runs. A room is a folder below the crate's out/ that holds the crate
 and those below it by hard links, with folders of its own, so that nothing waits: the prover replaces its files and never writes into one."""
+import hashlib
 import os
 import re
 import shutil
@@ -18,12 +19,31 @@ def crates_below():
     return {it: below(it) for it in uses}
 
 
+def sum_of(crate, below, parts=("src", "specs", "proofs")):
+    """Returns a sum over the kit's line, the lines of crates.txt, the crate's files in these parts, and those of the crates below it that are proved."""
+    kit = subprocess.run(["rt", "version"], capture_output=True, text=True, check=True).stdout
+    rows = [it for it in Path("crates.txt").read_text("utf-8").split("\n") if re.split("[: ]", it)[0] in {*below, crate}]
+    found = hashlib.sha256("\n".join([kit, *sorted(rows)]).encode())
+    for name in [*sorted(below), crate]:
+        of = parts if name == crate else ("src", "specs", "proofs")
+        for file in sorted(it for part in of for it in Path(f"crates/{name}/{part}").rglob("*") if it.is_file()):
+            found.update(f"{file} {hashlib.sha256(file.read_bytes()).hexdigest()}\n".encode())
+    return found.hexdigest()[:32]
+
+
+def proof_of(crate, below):
+    """Returns what the prover said when the crate was proved as it stands now, or None where it wasn't."""
+    stamp, log = Path(f"crates/{crate}/out/proved"), Path(f"crates/{crate}/out/check.log")
+    is_there = stamp.is_file() and log.is_file() and stamp.read_text("utf-8") == sum_of(crate, below)
+    return log.read_text("utf-8", "replace") if is_there else None
+
+
 def room_of(crate, below):
     """Makes a room for the crate, and returns it as a folder that goes with its context."""
     os.makedirs(f"crates/{crate}/out", exist_ok=True)
     room = tempfile.TemporaryDirectory(prefix="room-", dir=f"crates/{crate}/out", ignore_cleanup_errors=True)
     for name in [*below, crate]:
-        left_out = shutil.ignore_patterns("must-fail", "room-*", "check.log", *["incremental"] * (name != crate))
+        left_out = shutil.ignore_patterns("must-fail", "room-*", "check.log", "proved", *["incremental"] * (name != crate))
         shutil.copytree(f"crates/{name}", f"{room.name}/crates/{name}", copy_function=os.link, ignore=left_out)
     rows = Path("crates.txt").read_text("utf-8").split("\n")
     Path(f"{room.name}/crates.txt").write_text("".join(f"{it}\n" for it in rows if re.split("[: ]", it)[0] in {*below, crate}), "utf-8")
@@ -41,10 +61,14 @@ def run(room, crate, words):
         return ran.returncode, out.read(), took.ru_utime + took.ru_stime, took.ru_maxrss >> 10
 
 
-def keep(room, crate):
-    """Puts what a check in the room kept in place of what the crate had."""
+def keep(room, crate, proved, said):
+    """Puts what a check in the room kept in place of what the crate had, with what it said, and the sum of what was proved, if it was."""
+    Path(f"crates/{crate}/out/proved").unlink(missing_ok=True)
     for part in ("incremental", "rlib"):
         made, to = f"{room.name}/crates/{crate}/out/{part}", f"crates/{crate}/out/{part}"
         if os.path.isdir(made):
             shutil.rmtree(to, ignore_errors=True)
             os.rename(made, to)
+    Path(f"crates/{crate}/out/check.log").write_text(said, "utf-8")
+    if proved:
+        Path(f"crates/{crate}/out/proved").write_text(proved, "utf-8")

@@ -3,8 +3,8 @@
 
 usage: prove.py [--jobs N] [NAME ..]      (at the top of the repository; no name: every crate)
 
-The named crates and those below them are checked as `rt check` does it, over the work that earlier checks kept, which this keeps too. It prints a line
-a crate; what the prover said of it is in crates/NAME/out/check.log. The last line is 'N crates proved, M not'."""
+The named crates and those below them are checked as `rt check` does it, over the work that earlier checks kept, which this keeps too; what was proved and
+hasn't changed isn't checked again. It prints a line a crate; what the prover said of it is in crates/NAME/out/check.log. The last line is 'N crates proved, M not'."""
 import argparse
 import os
 import sys
@@ -12,19 +12,20 @@ import time
 from concurrent.futures import FIRST_COMPLETED, ThreadPoolExecutor, wait
 from pathlib import Path
 
-from kept import crates_below, keep, room_of, run
+from kept import crates_below, keep, proof_of, room_of, run, sum_of
 
 
 def prove(name, below, is_used):
     """Checks a crate, makes its library where others use it, and returns its name, whether it is proved, and its processor seconds."""
-    room = room_of(name, below)
+    if proof_of(name, below) and (not is_used or os.path.isdir(f"crates/{name}/out/rlib")):
+        return name, True, 0
+    before, room = sum_of(name, below), room_of(name, below)
     with room:
         status, said, seconds, _ = run(room, name, ["rt", "check", "--jobs", "1"])
         if status == 0 and is_used:
             status, more, also, _ = run(room, name, ["rt", "lib", "--jobs", "1"])
             said, seconds = said + more, seconds + also
-        keep(room, name)
-    Path(f"crates/{name}/out/check.log").write_text(said, "utf-8")
+        keep(room, name, before if status == 0 else None, said)
     return name, status == 0, seconds
 
 

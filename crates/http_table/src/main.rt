@@ -5,7 +5,7 @@
 //! runs it and compares what it prints.
 //!
 //! With the argument `refused` it runs the rows that say `starves` once each, and lets an exchange be short of memory at
-//! one place. So a run for each allocation that is refused in turn (`tests/refused_memory/exchanges.sh`) shows that
+//! one place. So a run for each allocation that is refused in turn (`tests/refused_memory/refused.py exchanges`) shows that
 //! nothing but whole answers is written, and that the counts are those of the answered requests.
 //!
 //! With `serve FILE` it serves the bytes of a file as one connection, and with `decode FILE N` it reads those of a file
