@@ -2,5 +2,6 @@ pub mod RequestLemmas
 pub mod PieceLemmas
 pub mod Rows
 pub mod EventLemmas
+pub mod ReplyLemmas
 pub mod AnswerLemmas
 pub mod StepLemmas

@@ -1,8 +1,10 @@
 -- Reading order: Answer (the bytes of an answer), Connection (the transcript of a connection), Intake (what a request does
--- to a lane and the counts), Engine (what each part of the loop owes), Requests and Input (the state of the engine).
+-- to a lane and the counts), Agreement (when two connections do the same), Engine (what each part of the loop owes),
+-- Requests and Input (the state of the engine).
 pub mod Answer
 pub mod Connection
 pub mod Intake
+pub mod Agreement
 pub mod Engine
 pub mod Input
 pub mod Requests

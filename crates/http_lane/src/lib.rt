@@ -17,7 +17,7 @@ mod stage;
 mod texts;
 
 pub use answer::{QUIET_LIMIT, READ_LIMIT, ReadTurn, SLOW_LIMIT, ServeEnd};
-pub use laws::{in_any_pieces, pieces_do_not_matter, whole_connections};
+pub use laws::{in_any_pieces, pieces_do_not_matter, replies_are_determined, whole_connections};
 pub use lent::{Clock, Stop};
 pub use reads::{PIECE_LIMIT, Reads, Source};
 pub use serving::serve;

@@ -1,13 +1,16 @@
--- Worked rows, computed: the head of `GET /v1/traces`, and what the fields of a post come to.
+-- Worked rows, computed: where a head ends and how many fields it has, what its parts come to, and the limits.
 -- They serve the definitions that `judge` and `cut_on` promise.
-use Rattle.std.proofs.Common.{◌≡◌, ◌++◌, true, false, refl, List, ℕ, Some, [], ◌∷◌}
+use Rattle.std.proofs.Common.{◌≡◌, ◌++◌, true, false, refl, List, ℕ, Some, None, [], ◌∷◌}
 use Rattle.std.specs.Prelude.{codes}
 use Rattle.http_text.specs.declared.lines.TheConstants.{PART_LIMIT}
 use Rattle.http_text.specs.declared.request.TheConstants.{BODY_LIMIT, FIELD_LIMIT}
-use Rattle.http_text.specs.declared.request.Verdict.TheVariants.{Post as Posted}
-use Rattle.http_text.specs.declared.request.Framing.TheVariants.{Length}
-use Rattle.http_text.specs.Lines.{head_len}
-use Rattle.http_text.specs.Head.{fits, verdict_by, field_lines}
+use Rattle.http_text.specs.declared.request.Verdict.{Verdict}
+use Rattle.http_text.specs.declared.request.Verdict.TheVariants.{Refused, Close, Post as Posted}
+use Rattle.http_text.specs.declared.request.Refusal.TheVariants.{BadRequest, NotFound, MethodNotAllowed, UnsupportedMediaType, BodyTooLarge}
+use Rattle.http_text.specs.declared.request.Framing.TheVariants.{Length, Chunked}
+use Rattle.http_text.specs.Lines.{head_len, trailer_len, line_len, blank_len}
+use Rattle.http_text.specs.Fields.{Header, framing, is_plain}
+use Rattle.http_text.specs.Head.{fits, posted, routed, verdict_by, field_lines}
 use Rattle.httparse.specs.Grammar.{trim_ows}
 use Rattle.httparse.specs.Ascii.{crlf_bytes}
 
@@ -39,3 +42,157 @@ most_fields = refl
 -- a body of just so many bytes, and one of a byte more
 bodies_at_the_greatest : fits (Length 4194304) ∷ fits (Length 4194305) ∷ [] ≡ true ∷ false ∷ []
 bodies_at_the_greatest = refl
+
+-- empty lines in front of a head are no fields of it: two of them, of 2 bytes and of 1, and a head with 1 field
+behind_empty_lines : List ℕ
+behind_empty_lines =
+    crlf_bytes ++ codes "\n" ++ line (codes "GET /v1/traces HTTP/1.1") ++ line (codes "Host: x") ++ crlf_bytes
+
+empty_lines : blank_len behind_empty_lines ≡ 3
+unfolding behind_empty_lines
+empty_lines = refl
+
+empty_lines_are_no_fields : field_lines behind_empty_lines ≡ 1
+unfolding behind_empty_lines
+empty_lines_are_no_fields = refl
+
+head_behind_empty_lines : head_len (behind_empty_lines ++ codes "POST") ≡ Some 39
+unfolding behind_empty_lines
+head_behind_empty_lines = refl
+
+-- a trailer may be empty, and a chunk line ends at its LF
+empty_trailer : trailer_len (crlf_bytes ++ codes "POST") ≡ Some 2
+empty_trailer = refl
+
+chunk_line : line_len (line (codes "1a;b") ++ codes "POST") ≡ Some 6
+chunk_line = refl
+
+-- fields of requests
+host_field : Header
+host_field = (codes "Host", codes "x")
+
+json_field : Header
+json_field = (codes "Content-Type", codes "application/json")
+
+length_field : Header
+length_field = (codes "Content-Length", codes "7")
+
+-- a message of another version than 1.1, of no `Host` or of two, or with two lengths, is refused whatever it asks for
+verdict_of_version : ℕ → Verdict
+verdict_of_version minor =
+    verdict_by (codes "POST") (codes "/v1/traces") minor (host_field ∷ json_field ∷ length_field ∷ [])
+
+by_version : verdict_of_version 0 ∷ verdict_of_version 1 ∷ verdict_of_version 2 ∷ []
+    ≡ Refused BadRequest false
+    ∷ Posted (record { framing = Length 7; expects_continue = false; says_close = false })
+    ∷ Refused BadRequest false ∷ []
+unfolding verdict_of_version host_field json_field length_field trim_ows
+by_version = refl
+
+no_host : verdict_by (codes "POST") (codes "/v1/traces") 1 (json_field ∷ length_field ∷ []) ≡ Refused BadRequest false
+unfolding json_field length_field
+no_host = refl
+
+two_hosts : verdict_by (codes "POST") (codes "/close") 1 (host_field ∷ (codes "HOST", codes "y") ∷ [])
+    ≡ Refused BadRequest false
+unfolding host_field
+two_hosts = refl
+
+no_host_of_head : verdict_by (codes "HEAD") (codes "/v1/traces") 1 [] ≡ Refused BadRequest true
+no_host_of_head = refl
+
+unframed_head : verdict_by (codes "HEAD") (codes "/close") 1 (host_field ∷ length_field ∷ length_field ∷ [])
+    ≡ Refused BadRequest true
+unfolding host_field length_field
+unframed_head = refl
+
+-- by target and method: another target goes before another method, and the answer to `HEAD` has no body
+verdict_of : List ℕ → List ℕ → Verdict
+verdict_of method target = verdict_by method target 1 (host_field ∷ [])
+
+get_of_traces : verdict_of (codes "GET") (codes "/v1/traces") ≡ Refused MethodNotAllowed false
+unfolding verdict_of host_field
+get_of_traces = refl
+
+head_of_traces : verdict_of (codes "HEAD") (codes "/v1/traces") ≡ Refused MethodNotAllowed true
+unfolding verdict_of host_field
+head_of_traces = refl
+
+get_of_close : verdict_of (codes "GET") (codes "/close") ≡ Refused MethodNotAllowed false
+unfolding verdict_of host_field
+get_of_close = refl
+
+head_of_close : verdict_of (codes "HEAD") (codes "/close") ≡ Refused MethodNotAllowed true
+unfolding verdict_of host_field
+head_of_close = refl
+
+get_of_another : verdict_of (codes "GET") (codes "/v1/logs") ≡ Refused NotFound false
+unfolding verdict_of host_field
+get_of_another = refl
+
+head_of_another : verdict_of (codes "HEAD") (codes "/v1/traces/") ≡ Refused NotFound true
+unfolding verdict_of host_field
+head_of_another = refl
+
+post_of_another : verdict_of (codes "POST") (codes "/Close") ≡ Refused NotFound false
+unfolding verdict_of host_field
+post_of_another = refl
+
+post_of_close : verdict_of (codes "POST") (codes "/close") ≡ Close
+unfolding verdict_of host_field
+post_of_close = refl
+
+-- a close needs neither JSON nor a body within the limit
+close_of_anything : routed (codes "POST") (codes "/close") [] (Length 4194306) ≡ Close
+close_of_anything = refl
+
+-- a media type that isn't JSON, or a coding of it, goes before a body beyond the limit
+text_beyond_the_limit : posted (codes "POST") ((codes "Content-Type", codes "text/plain") ∷ []) (Length 4194305)
+    ≡ Refused UnsupportedMediaType false
+unfolding trim_ows
+text_beyond_the_limit = refl
+
+coded_beyond_the_limit : posted (codes "POST") (json_field ∷ (codes "Content-Encoding", codes "gzip") ∷ [])
+    (Length 4194305) ≡ Refused UnsupportedMediaType false
+unfolding json_field trim_ows
+coded_beyond_the_limit = refl
+
+json_beyond_the_limit : posted (codes "POST") (json_field ∷ []) (Length 4194305) ≡ Refused BodyTooLarge false
+unfolding json_field trim_ows
+json_beyond_the_limit = refl
+
+no_media_type : posted (codes "POST") [] (Length 5) ≡ Refused UnsupportedMediaType false
+no_media_type = refl
+
+two_media_types : posted (codes "POST") (json_field ∷ json_field ∷ []) (Length 5) ≡ Refused UnsupportedMediaType false
+unfolding json_field
+two_media_types = refl
+
+json_in_chunks : posted (codes "POST") (json_field ∷ (codes "Expect", codes "100-Continue") ∷ []) Chunked
+    ≡ Posted (record { framing = Chunked; expects_continue = true; says_close = false })
+unfolding json_field trim_ows
+json_in_chunks = refl
+
+json_that_closes : posted (codes "POST") (json_field ∷ (codes "Connection", codes "keep-alive, Close") ∷ []) (Length 3)
+    ≡ Posted (record { framing = Length 3; expects_continue = false; says_close = true })
+unfolding json_field trim_ows
+json_that_closes = refl
+
+identity_is_plain : is_plain ((codes "content-encoding", codes "Identity") ∷ []) ≡ true
+identity_is_plain = refl
+
+-- how fields frame a body: a length beyond the limit stands for the first one there
+framings : framing [] ∷ framing (length_field ∷ [])
+    ∷ framing ((codes "content-length", codes "0099999999") ∷ [])
+    ∷ framing ((codes "transfer-encoding", codes "Chunked") ∷ []) ∷ []
+    ≡ Some (Length 0) ∷ Some (Length 7) ∷ Some (Length 4194305) ∷ Some Chunked ∷ []
+unfolding length_field
+framings = refl
+
+no_framings : framing (length_field ∷ length_field ∷ [])
+    ∷ framing (length_field ∷ (codes "Transfer-Encoding", codes "chunked") ∷ [])
+    ∷ framing ((codes "Content-Length", codes "+7") ∷ []) ∷ framing ((codes "Content-Length", []) ∷ [])
+    ∷ framing ((codes "Transfer-Encoding", codes "gzip") ∷ []) ∷ []
+    ≡ None ∷ None ∷ None ∷ None ∷ None ∷ []
+unfolding length_field
+no_framings = refl

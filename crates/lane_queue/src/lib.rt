@@ -23,7 +23,7 @@ mod sender_port;
 
 pub use ends::Sender;
 pub use gate::{Gate, OpenGate, Place};
-pub use law::popped_then_held_is_pushed;
+pub use law::{popped_then_held_is_pushed, pops_take_turns};
 pub use list_port::ListPort;
 pub use pause::Pause;
 pub use port::Port;

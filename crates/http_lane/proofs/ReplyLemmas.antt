@@ -1,0 +1,164 @@
+-- What a lane replies to a body follows from the body and from what it says beside.
+-- They serve the laws `replies_are_determined`, `pieces_do_not_matter` and `whole_connections`.
+use Rattle.std.proofs.Common.{◌≡◌, ℕ, suc, ◌+◌, Bool, true, false, cond, List, [], ◌∷◌, ◌++◌, length, Some, None, refl, ap, sym, subst, ◌∙◌, arith}
+use Rattle.std.specs.Prelude.{filter, is_none}
+use Rattle.serde_json.specs.Data.{Data}
+use Rattle.otlp_reading.specs.Decoding.{IsJson}
+use Rattle.otlp_reading.specs.Reading.{request_of}
+use Rattle.otlp_flatten.specs.Flat.{records_of}
+use Rattle.otlp_types.specs.declared.request.Request.{Request}
+use Rattle.otlp_types.specs.declared.arrival.Record.{Record}
+use Rattle.otlp_types.specs.declared.arrival.Arrival.{Arrival}
+use Rattle.otlp_types.specs.declared.arrival.Item.{Item}
+use Rattle.span_ids.specs.declared.keys.ConnKey.{ConnKey}
+use Rattle.lane_seq.specs.declared.reply.Reply.{Reply}
+use Rattle.lane_seq.specs.declared.reply.Reply.TheVariants.{Done, Partial, BadData, Busy}
+use Rattle.lane_seq.specs.declared.reply.BadData.TheVariants.{Json, Shape}
+use Rattle.lane_seq.specs.Numbers.{arrival_of, arrivals_from, is_invalid}
+use Rattle.lane_seq.specs.Replies.{IsReplyTo, OnReceived}
+use Rattle.http_lane.specs.declared.answer.Fate.{Fate}
+use Rattle.http_lane.specs.Connection.{Cause, submitted, Event, Submission, submission, submission_by, submissions, SubmitsAll, is_counted}
+use Rattle.http_lane.specs.Intake.{Intake, Submits}
+use Rattle.http_lane.specs.Agreement.{said_by, RepliesAreDetermined}
+
+-- as many arrivals, and as many of them with invalid ids, whatever numbers they get
+by_test : (b : Bool) (x y : Arrival) (xs ys : List Arrival) → length xs ≡ length ys → length (cond b (x ∷ xs) xs) ≡ length (cond b (y ∷ ys) ys)
+by_test true x y xs ys e = ap suc e
+by_test false x y xs ys e = e
+
+invalid_same : (k l : ConnKey) (n m i j : ℕ) (rs : List Record)
+    → length (filter is_invalid (arrivals_from k n i rs)) ≡ length (filter is_invalid (arrivals_from l m j rs))
+invalid_same k l n m i j [] = refl
+invalid_same k l n m i j (r ∷ rs) =
+    by_test (is_none r.span.ids) (arrival_of k n i r) (arrival_of l m j r) (filter is_invalid (arrivals_from k (n + 1) i rs))
+    (filter is_invalid (arrivals_from l (m + 1) j rs)) (invalid_same k l (n + 1) (m + 1) i j rs)
+
+as_many : (k l : ConnKey) (n m i j : ℕ) (rs : List Record) → length (arrivals_from k n i rs) ≡ length (arrivals_from l m j rs)
+as_many k l n m i j [] = refl
+as_many k l n m i j (r ∷ rs) = ap suc (as_many k l (n + 1) (m + 1) i j rs)
+
+-- the body was read, and this is a reply to its spans
+abbrev Reads : List ℕ → Reply → Type 0
+Reads body reply = (d : Data) × (request : Request) × IsJson body d × (request_of d ≡ Some request)
+    × (k : ConnKey) × (n : ℕ) × (i : ℕ) × (refused : ℕ)
+    × IsReplyTo (length (arrivals_from k n i (records_of request))) (length (filter is_invalid (arrivals_from k n i (records_of request)))) refused reply
+
+-- what a reply tells of a body
+abbrev Tells : List ℕ → Reply → Type 0
+Tells body (Done n) = Reads body (Done n)
+Tells body (Partial n i f) = Reads body (Partial n i f)
+Tells body (BadData Json) = (d : Data) → IsJson body d → ⊥
+Tells body (BadData Shape) = (d : Data) × IsJson body d × (request_of d ≡ None)
+Tells body Busy = Unit {0}
+
+told : (body : List ℕ) (reply : Reply) (A : Type 0) → OnReceived reply A → (A → Reads body reply)
+    → (reply ≡ BadData Json → (d : Data) → IsJson body d → ⊥) → (reply ≡ BadData Shape → (d : Data) × IsJson body d × (request_of d ≡ None)) → Tells body reply
+told body (Done n) A received f json shape = f received
+told body (Partial n i k) A received f json shape = f received
+told body (BadData Json) A received f json shape = json refl
+told body (BadData Shape) A received f json shape = shape refl
+told body Busy A received f json shape = tt
+
+value_same : (body : List ℕ) (d e : Data) → IsJson body d → IsJson body e → d ≡ e
+value_same body d e h g = let both : Some d ≡ Some e = sym h.1 ∙ g.1 in cc
+
+request_same : (body : List ℕ) (d e : Data) (r q : Request) → IsJson body d → IsJson body e → request_of d ≡ Some r → request_of e ≡ Some q → r ≡ q
+request_same body d e r q h g x y = let both : Some r ≡ Some q = sym x ∙ (ap request_of (value_same body d e h g) ∙ y) in cc
+
+-- no body is read and has the wrong shape
+not_both : (body : List ℕ) (d e : Data) (r : Request) → IsJson body d → IsJson body e → request_of d ≡ Some r → request_of e ≡ None → ⊥
+not_both body d e r h g x y = let both : Some r ≡ None = sym x ∙ (ap request_of (value_same body d e h g) ∙ y) in cc
+
+-- replies to the same spans, of which as many were refused
+reply_same : (spans invalid refused others : ℕ) (p q : Reply) → IsReplyTo spans invalid refused p → IsReplyTo spans invalid others q → said_by p ≡ said_by q → p ≡ q
+reply_same spans invalid refused others (Done n) (Done m) h g e = let same : n ≡ m = h.0 ∙ sym g.0 in cc
+reply_same spans invalid refused others (Done n) (Partial m i f) h g e = let none : 0 ≡ f = cc in absurd (omega arith)
+reply_same spans invalid refused others (Partial n i f) (Done m) h g e = let none : f ≡ 0 = cc in absurd (omega arith)
+reply_same spans invalid refused others (Partial n i f) (Partial m j k) h g e =
+    let a : n ≡ m = h.0 ∙ sym g.0 in let b : i ≡ j = h.1 ∙ sym g.1 in let c : f ≡ k = cc in cc
+reply_same spans invalid refused others (BadData cause) q h g e = absurd h
+reply_same spans invalid refused others Busy q h g e = absurd h
+reply_same spans invalid refused others p (BadData cause) h g e = absurd g
+reply_same spans invalid refused others p Busy h g e = absurd g
+
+reads_same : (body : List ℕ) (p q : Reply) → Reads body p → Reads body q → said_by p ≡ said_by q → p ≡ q
+reads_same body p q h g e =
+    let same : g.1 ≡ h.1 = request_same body g.0 h.0 g.1 h.1 g.2 h.2 g.3 h.3 in
+    let spans : ℕ = length (arrivals_from h.4 h.5 h.6 (records_of h.1)) in
+    let invalid : ℕ = length (filter is_invalid (arrivals_from h.4 h.5 h.6 (records_of h.1))) in
+    let moved : IsReplyTo (length (arrivals_from g.4 g.5 g.6 (records_of h.1))) (length (filter is_invalid (arrivals_from g.4 g.5 g.6 (records_of h.1)))) g.7 q =
+    subst (λ (r : Request). IsReplyTo (length (arrivals_from g.4 g.5 g.6 (records_of r))) (length (filter is_invalid (arrivals_from g.4 g.5 g.6 (records_of r)))) g.7 q) same g.8 in
+    let other : IsReplyTo spans invalid g.7 q =
+    subst (λ n. IsReplyTo n invalid g.7 q) (as_many g.4 h.4 g.5 h.5 g.6 h.6 (records_of h.1))
+    (subst (λ n. IsReplyTo (length (arrivals_from g.4 g.5 g.6 (records_of h.1))) n g.7 q) (invalid_same g.4 h.4 g.5 h.5 g.6 h.6 (records_of h.1)) moved) in
+    reply_same spans invalid h.7 g.7 p q h.8 other e
+
+tells_same : (body : List ℕ) (p q : Reply) → Tells body p → Tells body q → said_by p ≡ said_by q → p ≡ q
+tells_same body (Done n) (Done m) h g e = reads_same body (Done n) (Done m) h g e
+tells_same body (Done n) (Partial m j k) h g e = reads_same body (Done n) (Partial m j k) h g e
+tells_same body (Partial n i f) (Done m) h g e = reads_same body (Partial n i f) (Done m) h g e
+tells_same body (Partial n i f) (Partial m j k) h g e = reads_same body (Partial n i f) (Partial m j k) h g e
+tells_same body (Done n) (BadData Json) h g e = absurd (g h.0 h.2)
+tells_same body (Partial n i f) (BadData Json) h g e = absurd (g h.0 h.2)
+tells_same body (BadData Json) (Done m) h g e = absurd (h g.0 g.2)
+tells_same body (BadData Json) (Partial m j k) h g e = absurd (h g.0 g.2)
+tells_same body (Done n) (BadData Shape) h g e = absurd (not_both body h.0 g.0 h.1 h.2 g.1 h.3 g.2)
+tells_same body (Partial n i f) (BadData Shape) h g e = absurd (not_both body h.0 g.0 h.1 h.2 g.1 h.3 g.2)
+tells_same body (BadData Shape) (Done m) h g e = absurd (not_both body g.0 h.0 g.1 g.2 h.1 g.3 h.2)
+tells_same body (BadData Shape) (Partial m j k) h g e = absurd (not_both body g.0 h.0 g.1 g.2 h.1 g.3 h.2)
+tells_same body (BadData Json) (BadData Json) h g e = refl
+tells_same body (BadData Shape) (BadData Shape) h g e = refl
+tells_same body (BadData Json) (BadData Shape) h g e = absurd (h g.0 g.1)
+tells_same body (BadData Shape) (BadData Json) h g e = absurd (g h.0 h.1)
+tells_same body (Done n) Busy h g e = absurd (cc)
+tells_same body (Partial n i f) Busy h g e = absurd (cc)
+tells_same body (BadData cause) Busy h g e = absurd (cc)
+tells_same body Busy (Done m) h g e = absurd (cc)
+tells_same body Busy (Partial m j k) h g e = absurd (cc)
+tells_same body Busy (BadData cause) h g e = absurd (cc)
+tells_same body Busy Busy h g e = refl
+
+-- equal bodies, of which the lanes say the same beside, have equal replies
+abbrev pub RepliesSame : Cause → Cause → Type 0
+RepliesSame (submitted x m r k) (submitted y n s l) = x ≡ y → said_by r ≡ said_by s → r ≡ s
+RepliesSame _ _ = Unit {0}
+
+pub same_cause : (c : Cause) → RepliesSame c c
+same_cause (submitted x m r k) = λ e f. refl
+same_cause _ = tt
+
+abbrev pub RepliesSameAsFar : List Event → List Event → Type 0
+RepliesSameAsFar [] fs = Unit {0}
+RepliesSameAsFar (e ∷ es) [] = Unit {0}
+RepliesSameAsFar (e ∷ es) (f ∷ fs) = RepliesSame e.cause f.cause × RepliesSameAsFar es fs
+
+parted : {L : Type 0} (submits : L → Submission → L → Type 0) (u v : L) (xs ys : List Submission) → SubmitsAll submits u (xs ++ ys) v
+    → (mid : L) × SubmitsAll submits u xs mid × SubmitsAll submits mid ys v
+parted submits u v [] ys h = (u, refl, h)
+parted submits u v (s ∷ xs) ys h = let more = parted submits h.0 v xs ys h.2 in (more.0, (h.0, h.1, more.1), more.2)
+
+module _ {P : Type 0} (takes : P → Item → P → Type 0) (refuses : P → P → Type 0) where
+  submits_tells : (a b : Intake P) (s : Submission) → Submits takes refuses a s b → Tells s.body s.reply
+  submits_tells a b s h =
+      told s.body s.reply _ h.received (λ r. (r.0, r.1, r.2, r.3, a.conn.key, a.conn.next, s.moment, (r.4).refused, (r.4).replied)) h.json h.shape
+
+module _ {P Q : Type 0} (takes : P → Item → P → Type 0) (refuses : P → P → Type 0) (its_takes : Q → Item → Q → Type 0) (its_refuses : Q → Q → Type 0) where
+  pub replies_determined : RepliesAreDetermined takes refuses its_takes its_refuses
+  replies_determined a b s c d t h g same said =
+      tells_same s.body s.reply t.reply (submits_tells takes refuses a b s h)
+      (subst (λ body. Tells body t.reply) (sym same) (submits_tells its_takes its_refuses c d t g)) said
+
+  one_reply : (a b : Intake P) (c d : Intake Q) (fate its_fate : Fate) (p q : Cause) → SubmitsAll (Submits takes refuses) a (submission_by fate p) b
+      → SubmitsAll (Submits its_takes its_refuses) c (submission_by its_fate q) d → RepliesSame p q
+  one_reply a b c d fate its_fate (submitted x m r k) (submitted y n s l) h g =
+      replies_determined a h.0 (submission x m r (is_counted fate)) c g.0 (submission y n s (is_counted its_fate)) h.1 g.1
+  one_reply a b c d fate its_fate _ _ h g = tt
+
+  pub replies_as_far : (es fs : List Event) (a b : Intake P) (c d : Intake Q) → SubmitsAll (Submits takes refuses) a (submissions es) b
+      → SubmitsAll (Submits its_takes its_refuses) c (submissions fs) d → RepliesSameAsFar es fs
+  replies_as_far [] fs a b c d h g = tt
+  replies_as_far (e ∷ es) [] a b c d h g = tt
+  replies_as_far (e ∷ es) (f ∷ fs) a b c d h g =
+      let x = parted (Submits takes refuses) a b (submission_by e.fate e.cause) (submissions es) h in
+      let y = parted (Submits its_takes its_refuses) c d (submission_by f.fate f.cause) (submissions fs) g in
+      (one_reply a x.0 c y.0 e.fate f.fate e.cause f.cause x.1 y.1, replies_as_far es fs x.0 b y.0 d x.2 y.2)
