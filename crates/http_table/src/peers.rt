@@ -17,6 +17,8 @@ pub enum Tail {
     TimesOut,
     /// Each read is interrupted.
     Interrupted,
+    /// The 61st read is interrupted, and each other would block.
+    Mixes,
     /// Each read fails.
     Fails,
 }
@@ -30,6 +32,20 @@ pub struct Pieces<'b> {
     pub tail: Tail,
     /// So many reads were made.
     pub reads: u64,
+    /// So many of them gave no byte.
+    pub idle: u64,
+}
+
+/// What the read fails with that is the one of this number behind the bytes; `None`: the input ends.
+fn failure(tail: Tail, number: u64) -> Option<ErrorKind> {
+    match tail {
+        Tail::Ends => None,
+        Tail::Mixes if number == 61 => Some(ErrorKind::Interrupted),
+        Tail::Blocks | Tail::Mixes => Some(ErrorKind::WouldBlock),
+        Tail::TimesOut => Some(ErrorKind::TimedOut),
+        Tail::Interrupted => Some(ErrorKind::Interrupted),
+        Tail::Fails => Some(ErrorKind::ConnectionReset),
+    }
 }
 
 impl<'b> Read for Pieces<'b> {
@@ -40,12 +56,10 @@ impl<'b> Read for Pieces<'b> {
         let most = if self.cut > 0 { self.cut } else { usize::MAX };
         let count = self.rest.len().min(self.step).min(piece.len()).min(most);
         if count == 0 {
-            return match self.tail {
-                Tail::Ends => Ok(0),
-                Tail::Blocks => Err(io::Error::from(ErrorKind::WouldBlock)),
-                Tail::TimesOut => Err(io::Error::from(ErrorKind::TimedOut)),
-                Tail::Interrupted => Err(io::Error::from(ErrorKind::Interrupted)),
-                Tail::Fails => Err(io::Error::from(ErrorKind::ConnectionReset)),
+            self.idle = self.idle.saturating_add(1);
+            return match failure(self.tail, self.idle) {
+                Some(kind) => Err(io::Error::from(kind)),
+                None => Ok(0),
             };
         }
         let (front, rest) = self.rest.split_at(count);

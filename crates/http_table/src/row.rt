@@ -10,7 +10,7 @@ pub struct Setup {
     pub capacity: usize,
     /// `received=N`: so many spans were counted as received before.
     pub received: u64,
-    /// `blocks`, `times_out`, `interrupted`, `fails`: what each read does once the bytes are gone.
+    /// `blocks`, `times_out`, `interrupted`, `mixes`, `fails`: what each read does once the bytes are gone.
     pub tail: Tail,
     /// `stopped`: the stop mark is set.
     pub is_stopped: bool,
@@ -85,6 +85,9 @@ fn tail(column: &str) -> Tail {
     }
     if says(column, "interrupted") {
         return Tail::Interrupted;
+    }
+    if says(column, "mixes") {
+        return Tail::Mixes;
     }
     if says(column, "fails") {
         return Tail::Fails;

@@ -90,6 +90,7 @@ pub fn served(alloc: Global, setup: &Setup, input: &[u8], way: Way) -> Result<Ca
             step: way.step,
             tail: setup.tail,
             reads: 0,
+            idle: 0,
         },
     };
     let mut page = Page {
