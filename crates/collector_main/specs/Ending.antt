@@ -26,6 +26,7 @@ use Rattle.script_session.specs.Replay.{Run, RunEnds, settings_by}
 use Rattle.pipeline.specs.declared.fault.RunFault.{RunFault as ServeFault}
 use Rattle.pipeline.specs.Outcome.{SinkAnswers}
 use Rattle.pipeline.specs.Promise.{CoreRunTells}
+use Rattle.tsc_script.specs.Reads.{KnownReader}
 
 -- ---- the last text
 
@@ -97,13 +98,13 @@ pub record HandsText (old : LineSinkState) (text : List ℕ) (written : Bool) (n
 
 -- ---- how each outcome arises
 
--- what the program was given, and what it left of that before its last text: its arguments, what was read of the configuration's file, what its reader had left, and
+-- what the program was given, and what it left of that before its last text: its arguments, what was read of the configuration's file, what its reader had given and had left, and
 -- what its writer had taken
 pub record Course : Type 0 where
   pub arguments : List (List ℕ)
   pub file : Result (List ℕ) FileFault
-  pub unread : Option (List ℕ)
-  pub unread_after : Option (List ℕ)
+  pub unread : KnownReader
+  pub unread_after : KnownReader
   pub taken : Option (List ℕ)
   pub taken_after : Option (List ℕ)
 
@@ -208,7 +209,7 @@ abbrev pub Finishes : (taken : Option (List ℕ)) → Outcome → (taken_last : 
 Finishes taken outcome taken_last status = (written : Bool) × WritesText taken (text_of outcome) written taken_last × (status ≡ exit_status outcome written)
 
 -- the program did what the arguments say by what it read of the file, and then wrote the text of the outcome
-pub record EndsWith (arguments : List (List ℕ)) (unread unread_after taken taken_last : Option (List ℕ)) (status : ℕ) : Type 0 where
+pub record EndsWith (arguments : List (List ℕ)) (unread unread_after : KnownReader) (taken taken_last : Option (List ℕ)) (status : ℕ) : Type 0 where
   pub outcome : Outcome
   pub file : Result (List ℕ) FileFault
   pub between : Option (List ℕ)
@@ -216,10 +217,10 @@ pub record EndsWith (arguments : List (List ℕ)) (unread unread_after taken tak
   pub finishes : Finishes between outcome taken_last status
 
 -- there was no memory for the last text; nothing was read, and at most the text that says so was written
-abbrev pub HasNoRoom : (unread unread_after taken taken_last : Option (List ℕ)) → (status : ℕ) → Type 0
+abbrev pub HasNoRoom : (unread unread_after : KnownReader) (taken taken_last : Option (List ℕ)) → (status : ℕ) → Type 0
 HasNoRoom unread unread_after taken taken_last status = (unread_after ≡ unread) × Finishes taken NoMemory taken_last status
 
 -- the end of the program
-abbrev pub Ends : (arguments : List (List ℕ)) → (unread unread_after taken taken_last : Option (List ℕ)) → (status : ℕ) → Type 0
+abbrev pub Ends : (arguments : List (List ℕ)) → (unread unread_after : KnownReader) (taken taken_last : Option (List ℕ)) → (status : ℕ) → Type 0
 Ends arguments unread unread_after taken taken_last status =
     EndsWith arguments unread unread_after taken taken_last status ⊎ HasNoRoom unread unread_after taken taken_last status

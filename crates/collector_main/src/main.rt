@@ -12,9 +12,10 @@ use std::io::ErrorKind;
 use std::process::ExitCode;
 use std::rt::Env;
 use std::{env, io};
+use tsc_script::Reads;
 
 fn main(rt: HostRuntime) -> ExitCode {
-    let mut input = rt.stdin();
+    let mut input = Reads { reader: rt.stdin() };
     let (_, status) = match arguments(&rt) {
         Ok(arguments) => program(&rt, rt.alloc(), &arguments, &mut input, rt.stdout()),
         Err(error) if error.kind() == ErrorKind::OutOfMemory => (without_memory(rt.stdout()), 5),

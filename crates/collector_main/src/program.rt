@@ -1,5 +1,6 @@
 //! The program: its arguments, its configuration, its texts and its exit status.
 ghost use Rattle.std.specs.Prelude.{◌≡◌, ◌+◌, ◌≤◌, ◌<◌, ◌++◌, ℕ, List, Option, Result, IfSome, IfNone, map, false, vec_capacity, vec_len, length, decimal, codes, string_bytes};
+ghost use Rattle.tsc_script.specs.Reads.{KnownReader};
 ghost use Rattle.collector_main.specs.Configuration.{file_of};
 ghost use Rattle.collector_main.specs.Outcomes.{outcome_of, served_to, exit_status};
 ghost use Rattle.collector_main.specs.Ending.{WritesText, HandsText, Finishes, AsksFor, AsksNothing, CameTo, Replays, Serves, Ends, text_of, name_of, report_text, fault_number};
@@ -15,13 +16,14 @@ use script_session::{RunFault, replay_run};
 use span_ids::Reason;
 use span_sink::{LineSink, Sink, WriteSink};
 use std::alloc::Global;
-use std::io::{Read, Write};
+use std::io::Write;
 use std::net::{Net, TcpListener, TcpStream};
 use std::rt::Files;
 use std::sync::Wait;
 use std::thread::Threads;
 use std::time::Clock;
 use tsc_config::ConfigFault;
+use tsc_script::Source;
 
 /// Room for a line of the report or of a refusal, in bytes.
 pub const TEXT_ROOM: usize = 128;
@@ -61,10 +63,10 @@ pub enum Outcome {
 /// Runs the program with the arguments behind its own name. It gives the writer back beside the exit status.
 pub fn program<
     T: Files + Net<Listener = TcpListener, Stream = TcpStream> + Threads + Wait + Clock + Sync,
-    R: Read,
+    R: Source,
     W: Write + Drop,
 >(rt: &T, alloc: Global, arguments: &[String], reader: &mut R, writer: W) -> (W, u8)
-    ensures { Ends (map string_bytes arguments.now) (R.remaining reader.old) (R.remaining reader.new) (W.contents writer) (W.contents result.0) result.1 }
+    ensures { Ends (map string_bytes arguments.now) (R.given reader.old) (R.given reader.new) (W.contents writer) (W.contents result.0) result.1 }
 {
     let Ok(mut text) = Vec::with_capacity(alloc, TEXT_ROOM) else {
         return (without_memory(writer), 5);
@@ -122,14 +124,14 @@ fn exit_status(outcome: &Outcome, written: bool) -> u8
 /// Does what the arguments say.
 fn run<
     T: Files + Net<Listener = TcpListener, Stream = TcpStream> + Threads + Wait + Clock + Sync,
-    R: Read,
+    R: Source,
     W: Write + Drop,
 >(rt: &T, alloc: Global, arguments: &[String], reader: &mut R, writer: W) -> (W, Outcome)
     ensures { (file : Result (List ℕ) FileFault) × CameTo (record {
       arguments = map string_bytes arguments.now;
       file = file;
-      unread = R.remaining reader.old;
-      unread_after = R.remaining reader.new;
+      unread = R.given reader.old;
+      unread_after = R.given reader.new;
       taken = W.contents writer;
       taken_after = W.contents result.0;
     }) result.1 }
@@ -162,7 +164,7 @@ fn asked(arguments: &[String]) -> Option<(Command, &str)>
 }
 
 /// Runs the script by the configuration in what was read of its file.
-fn replay_by<R: Read, W: Write>(
+fn replay_by<R: Source, W: Write>(
     alloc: Global,
     file: Result<Vec<u8>, FileFault>,
     reader: &mut R,
@@ -171,8 +173,8 @@ fn replay_by<R: Read, W: Write>(
     ensures { (arguments : List (List ℕ)) → Replays (record {
       arguments = arguments;
       file = file_of (λ v. v.items) file;
-      unread = R.remaining reader.old;
-      unread_after = R.remaining reader.new;
+      unread = R.given reader.old;
+      unread_after = R.given reader.new;
       taken = W.contents writer;
       taken_after = W.contents result.0;
     }) result.1 }
@@ -190,7 +192,7 @@ fn serve_by<
     T: Net<Listener = TcpListener, Stream = TcpStream> + Threads + Wait + Clock + Sync,
     W: Write + Drop,
 >(rt: &T, alloc: Global, file: Result<Vec<u8>, FileFault>, writer: W) -> (W, Outcome)
-    ensures { (arguments : List (List ℕ)) → (unread : Option (List ℕ)) → Serves (record {
+    ensures { (arguments : List (List ℕ)) → (unread : KnownReader) → Serves (record {
       arguments = arguments;
       file = file_of (λ v. v.items) file;
       unread = unread;

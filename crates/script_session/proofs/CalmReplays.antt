@@ -49,11 +49,11 @@ same_numbers xs ys e f h = same_list xs ys (e ∙ sym f) (λ k l. at k (omega (a
 -- the world to which a run stopped, and its sink
 record Stopped (run : Run) (script : List ℕ) (line : ℕ) : Type 0 where
   world : World
-  at : StopsAt (λ played. PlaysAll run.settings run.sizes (new_world run.lanes run.shards (first_state run)) played world) (Some script) run.unread_after line
+  at : StopsAt (λ played. PlaysAll run.settings run.sizes (new_world run.lanes run.shards (first_state run)) played world) (Some script) run.unread_after.left line
   calm : Calm world
   sink : world.sink ≡ up_state run.taken_after run.failures_after
 
-stopped : (run : Run) (script : List ℕ) (line : ℕ) → StopsAt (PlayedCalmly run) (Some script) run.unread_after line → Stopped run script line
+stopped : (run : Run) (script : List ℕ) (line : ℕ) → StopsAt (PlayedCalmly run) (Some script) run.unread_after.left line → Stopped run script line
 stopped run script line (inl h) = record { world = h.3.1.after; at = inl (h.0, h.1, h.2, h.3.1.plays); calm = h.3.2; sink = h.3.1.sink }
 stopped run script line (inr h) = record { world = h.3.1.after; at = inr (h.0, h.1, h.2, h.3.1.plays); calm = h.3.2; sink = h.3.1.sink }
 
@@ -68,8 +68,8 @@ replays_agree scripts stops run taken failures unread script bytes is known = (e
     ended report reported h k =
         let a = h.0.2.0 in
         let b = k.0.2.0 in
-        let m = ends_says script run.unread_after h.0.0 (subst (λ (before : Option (List ℕ)). Ends before run.unread_after h.0.0) is h.0.1) in
-        let n = ends_says script unread k.0.0 (subst (λ (before : Option (List ℕ)). Ends before unread k.0.0) is k.0.1) in
+        let m = ends_says script run.unread_after.left h.0.0 (subst (λ (before : Option (List ℕ)). Ends before run.unread_after.left h.0.0) is h.0.1) in
+        let n = ends_says script unread.left k.0.0 (subst (λ (before : Option (List ℕ)). Ends before unread.left k.0.0) is k.0.1) in
         let same = scripts run.settings run.sizes run.lanes run.shards (first_state run) script h.0.0 k.0.0 a.after b.after m n a.plays b.plays h.1 k.1 in (
           same_numbers report reported a.reports.0 b.reports.0 (λ count. (a.reports.1 count).0 ∙ same.counts count ∙ sym (b.reports.1 count).0),
           leaves_same run (with_end run taken failures unread) a.after.sink b.after.sink a.sink b.sink (same.sink bytes known),
@@ -80,8 +80,8 @@ replays_agree scripts stops run taken failures unread script bytes is known = (e
         let first : instructions_of script ≡ Err line = subst (λ (before : Option (List ℕ)). IfSome before (λ text. instructions_of text ≡ Err line)) is h.1 in
         let second : instructions_of script ≡ Err other = subst (λ (before : Option (List ℕ)). IfSome before (λ text. instructions_of text ≡ Err other)) is k.1 in
         let one : line ≡ other = cc in
-        let a = stopped run script line (subst (λ (before : Option (List ℕ)). StopsAt (PlayedCalmly run) before run.unread_after line) is h.0) in
-        let there = subst (λ (before : Option (List ℕ)). StopsAt (PlayedCalmly (with_end run taken failures unread)) before unread other) is k.0 in
-        let b = stopped (with_end run taken failures unread) script line (subst (λ (number : ℕ). StopsAt (PlayedCalmly (with_end run taken failures unread)) (Some script) unread number) (sym one) there) in
-        let same = stops run.settings run.sizes run.lanes run.shards (first_state run) script run.unread_after unread line a.world b.world a.at b.at a.calm b.calm in
+        let a = stopped run script line (subst (λ (before : Option (List ℕ)). StopsAt (PlayedCalmly run) before run.unread_after.left line) is h.0) in
+        let there = subst (λ (before : Option (List ℕ)). StopsAt (PlayedCalmly (with_end run taken failures unread)) before unread.left other) is k.0 in
+        let b = stopped (with_end run taken failures unread) script line (subst (λ (number : ℕ). StopsAt (PlayedCalmly (with_end run taken failures unread)) (Some script) unread.left number) (sym one) there) in
+        let same = stops run.settings run.sizes run.lanes run.shards (first_state run) script run.unread_after.left unread.left line a.world b.world a.at b.at a.calm b.calm in
         (one, leaves_same run (with_end run taken failures unread) a.world.sink b.world.sink a.sink b.sink (same.sink bytes known))

@@ -4,11 +4,12 @@ use Rattle.span_sink.specs.LineSinks.{up_state}
 use Rattle.tsc_script.specs.Instructions.{Instruction}
 use Rattle.tsc_script.specs.Script.{instructions_of}
 use Rattle.tsc_script.specs.Progress.{StopsAt}
+use Rattle.tsc_script.specs.Reads.{KnownReader}
 use Rattle.script_run.specs.Calm.{Calm}
 use Rattle.script_session.specs.Replay.{Run, LeadsIn, PlayedWhole}
 
 -- the run, where it left this of the sink and of the reader
-abbrev pub with_end : Run → (taken : Option (List ℕ)) → (failures : ℕ) → (unread : Option (List ℕ)) → Run
+abbrev pub with_end : Run → (taken : Option (List ℕ)) → (failures : ℕ) → (unread : KnownReader) → Run
 with_end run taken failures unread = record run { taken_after = taken; failures_after = failures; unread_after = unread }
 
 -- the whole script was played to this report, and the run was calm
@@ -21,7 +22,7 @@ PlayedCalmly run played = (report : Option (List ℕ)) × (leads : LeadsIn run p
 
 -- this line is refused, the lines before it were played, and the run was calm
 abbrev pub RefusesCalmly : Run → (line : ℕ) → Type 0
-RefusesCalmly run line = StopsAt (PlayedCalmly run) run.unread run.unread_after line × IfSome run.unread (λ script. instructions_of script ≡ Err line)
+RefusesCalmly run line = StopsAt (PlayedCalmly run) run.unread.left run.unread_after.left line × IfSome run.unread.left (λ script. instructions_of script ≡ Err line)
 
 -- the sink has the same bytes in the end
 abbrev pub LeavesTheSame : (run other : Run) → Type 0
@@ -29,7 +30,7 @@ LeavesTheSame run other = (run.taken_after ≡ other.taken_after) × (run.failur
 
 -- Two calm runs with the same settings, over the same script and from the same bytes of the sink, leave the same bytes, and have the same report; or they refuse the same line.
 abbrev pub CalmReplaysAgree : Type 0
-CalmReplaysAgree = (run : Run) (taken : Option (List ℕ)) (failures : ℕ) (unread : Option (List ℕ)) (script bytes : List ℕ) → run.unread ≡ Some script → run.taken ≡ Some bytes
+CalmReplaysAgree = (run : Run) (taken : Option (List ℕ)) (failures : ℕ) (unread : KnownReader) (script bytes : List ℕ) → run.unread.left ≡ Some script → run.taken ≡ Some bytes
     → let other = with_end run taken failures unread in
     ((report reported : List ℕ) → EndsCalmly run report → EndsCalmly other reported → (report ≡ reported) × LeavesTheSame run other)
     × ((line refused : ℕ) → RefusesCalmly run line → RefusesCalmly other refused → (line ≡ refused) × LeavesTheSame run other)

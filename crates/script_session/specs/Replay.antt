@@ -1,5 +1,5 @@
 -- What a run over a script leaves of its sink.
-use Rattle.std.specs.Prelude.{◌≡◌, ◌⊎◌, ◌+◌, ◌/◌, ℕ, true, [], ◌∷◌, ◌++◌, List, Option, Some, None, Result, Ok, Err, IfSome}
+use Rattle.std.specs.Prelude.{◌≡◌, ◌⊎◌, ◌+◌, ◌/◌, ◌≤◌, ℕ, true, [], ◌∷◌, ◌++◌, List, length, Option, Some, None, Result, Ok, Err, IfSome}
 use Rattle.journal_theory.specs.Journal.{Settings}
 use Rattle.shard_core.specs.Held.{settings_of}
 use Rattle.tsc_config.specs.declared.config.Config.{Config}
@@ -8,6 +8,10 @@ use Rattle.drop_ledger.specs.declared.report.Report.{Report}
 use Rattle.tsc_script.specs.Instructions.{Instruction, close}
 use Rattle.tsc_script.specs.Script.{instructions_of}
 use Rattle.tsc_script.specs.Progress.{Ends, StopsAt, GoesDown}
+use Rattle.tsc_script.specs.Reads.{Turn, KnownReader, Gives}
+use Rattle.tsc_script.specs.Causes.{IsCausedBy}
+use Rattle.tsc_script.specs.declared.stop.Stop.{Stop}
+use Rattle.tsc_script.specs.declared.stop.Stop.TheVariants.{Refused as LineRefused, Fault as LineUnread}
 use Rattle.script_session.specs.declared.fault.RunFault.{RunFault}
 use Rattle.script_session.specs.declared.fault.RunFault.TheVariants.{NoMemory, Refused, Fault, BookFull, SinkDown}
 use Rattle.script_run.specs.World.{World, Sizes, new_world, PlaysAll}
@@ -29,7 +33,7 @@ pub record Leads (s : Settings) (sizes : Sizes) (lanes shards : ℕ) (first : Li
   pub writes : WritesAll first after.events last
   pub failed : FailedOnce first last
 
--- what the run knows: its settings, the sink's bytes and failures before and after, and what the reader had left
+-- what the run knows: its settings, the sink's bytes and failures before and after, and what the reader had given and had left
 pub record Run : Type 0 where
   pub settings : Settings
   pub sizes : Sizes
@@ -39,8 +43,8 @@ pub record Run : Type 0 where
   pub failures : ℕ
   pub taken_after : Option (List ℕ)
   pub failures_after : ℕ
-  pub unread : Option (List ℕ)
-  pub unread_after : Option (List ℕ)
+  pub unread : KnownReader
+  pub unread_after : KnownReader
 
 -- the sink before the first line
 abbrev pub first_state : Run → LineSinkState
@@ -68,21 +72,25 @@ pub record FellBefore (run : Run) (last : LineSinkState) (report : Option (List 
 
 -- the reader was read to its end, all that the script says was played, and no write failed
 abbrev pub PlayedWhole : Run → Option (List ℕ) → Type 0
-PlayedWhole run report = (played : List Instruction) × Ends run.unread run.unread_after played
+PlayedWhole run report = (played : List Instruction) × Ends run.unread.left run.unread_after.left played
     × ClosesWith run (up_state run.taken_after run.failures_after) report played
 
 -- a write failed: the lines up to then were played, and behind them a close alone
 abbrev pub StoppedDown : Run → Option (List ℕ) → Type 0
 StoppedDown run report =
     let last = down_state run.taken_after run.failures_after in
-    GoesDown (ClosesWith run last report) (FellBefore run last report) run.unread run.unread_after
+    GoesDown (ClosesWith run last report) (FellBefore run last report) run.unread.left run.unread_after.left
 
--- what each answer says of the sink and of the counts
+-- the reads, 2^32 at most, gave why the script ended so
+abbrev pub ReadsSay : Run → Result (Unit {0}) Stop → Type 0
+ReadsSay run played = (turns : List Turn) × Gives run.unread run.unread_after turns × (length turns ≤ 4294967296) × IsCausedBy played turns
+
+-- what each answer says of the reader, of the sink and of the counts
 abbrev pub RunEnds : Run → Result Report RunFault → Type 0
-RunEnds run (Ok report) = PlayedWhole run (Some report)
+RunEnds run (Ok report) = PlayedWhole run (Some report) × ReadsSay run (Ok tt)
 RunEnds run (Err NoMemory) = (run.taken_after ≡ run.taken) × (run.failures_after ≡ run.failures) × (run.unread_after ≡ run.unread)
-RunEnds run (Err (Refused line)) = StopsAt (Played run) run.unread run.unread_after line
-    × IfSome run.unread (λ script. instructions_of script ≡ Err line)
-RunEnds run (Err (Fault line)) = StopsAt (Played run) run.unread run.unread_after line
+RunEnds run (Err (Refused line)) = StopsAt (Played run) run.unread.left run.unread_after.left line
+    × IfSome run.unread.left (λ script. instructions_of script ≡ Err line) × ReadsSay run (Err (LineRefused line))
+RunEnds run (Err (Fault line)) = StopsAt (Played run) run.unread.left run.unread_after.left line × ReadsSay run (Err (LineUnread line))
 RunEnds run (Err BookFull) = PlayedWhole run None ⊎ StoppedDown run None
 RunEnds run (Err (SinkDown report)) = StoppedDown run (Some report)

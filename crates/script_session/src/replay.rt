@@ -22,15 +22,15 @@ use shard_core::Shard;
 use span_exporter::Exporter;
 use span_sink::{LineSink, Sink};
 use std::alloc::{AllocError, Global};
-use std::io::Read;
 use tsc_config::Config;
-use tsc_script::play_script;
+use tsc_script::{Source, play_script};
 
 /// Runs a script, and gives the sink back. A connection is served by the lane of its number modulo the number of lanes.
 ///
-/// A reply line and the lines of batches go to the sink, line by line as the script goes on. Where the type of the reader or
-/// of the sink doesn't tell its bytes (`remaining`, `taken`), nothing is claimed of them.
-pub fn replay_run<R: Read, S: Sink>(
+/// A reply line and the lines of batches go to the sink, line by line as the script goes on. At most 2^32 reads are made, and
+/// a script ends before its end only for a cause in what they gave. Where the type of the reader or of the sink doesn't tell
+/// its bytes (`given`, `taken`), nothing is claimed of them.
+pub fn replay_run<R: Source, S: Sink>(
     alloc: Global,
     config: Config,
     reader: &mut R,
@@ -52,8 +52,8 @@ pub fn replay_run<R: Read, S: Sink>(
       failures = S.failures sink;
       taken_after = S.taken result.0;
       failures_after = S.failures result.0;
-      unread = R.remaining reader.old;
-      unread_after = R.remaining reader.new;
+      unread = R.given reader.old;
+      unread_after = R.given reader.new;
     }) result.1 }
 {
     let lines = LineSink::new(sink);
@@ -175,7 +175,7 @@ fn new_shard(alloc: Global, config: &Config) -> Result<Shard, AllocError>
 }
 
 /// Plays a script on a session that has seen no line.
-fn run_session<R: Read, S: Sink>(
+fn run_session<R: Source, S: Sink>(
     alloc: Global,
     reader: &mut R,
     session: Session<S>,
@@ -194,8 +194,8 @@ fn run_session<R: Read, S: Sink>(
           failures = session.output.0.sink.failures;
           taken_after = S.taken result.0;
           failures_after = S.failures result.0;
-          unread = R.remaining reader.old;
-          unread_after = R.remaining reader.new;
+          unread = R.given reader.old;
+          unread_after = R.given reader.new;
         }) result.1 }
 {
     let mut session = session;

@@ -1,9 +1,8 @@
 -- Laws of what a script says.
 -- For the contracts of `play_last` and `play_script`.
-use Rattle.std.proofs.Common.{◌≡◌, ◌≢◌, ℕ, ◌+◌, ◌<◌, List, [], ◌∷◌, ◌++◌, None, Some, Option, Ok, Err, Result, length, refl, sym, ap, ◌∙◌, append-nil, append_assoc, arith, IfSome, cond, length-append, true, false}
+use Rattle.std.proofs.Common.{◌≡◌, ◌≢◌, ℕ, ◌+◌, ◌<◌, ◌≤◌, Bool, List, [], ◌∷◌, ◌++◌, None, Some, Option, Ok, Err, Result, length, refl, sym, ap, ◌∙◌, append_assoc, arith, cond, length-append, true, false}
 use Rattle.std.specs.Prelude.{nat_lt, ◌==◌}
-use Rattle.std.proofs.KnownBytes.{Consumes-trans}
-use Rattle.std.specs.Io.KnownBytes.{Consumes, IsAtEnd, prepend_known}
+use Rattle.tsc_script.specs.Causes.{line_feeds}
 use Rattle.tsc_script.specs.Lines.{HasNoLineFeed, lines_of, onto_first}
 use Rattle.tsc_script.specs.Instructions.{Instruction, receive, tick, close, instruction_of}
 use Rattle.tsc_script.specs.Script.{with_first, after_line, instructions_from, instructions_of, with_all_first}
@@ -35,31 +34,47 @@ one : (x : ℕ) (xs : List ℕ) → HasNoLineFeed (x ∷ xs) → lines_of (x ∷
 one x [] p = onto x [] p.0
 one x (y ∷ ys) p = onto x (y ∷ ys) p.0 ∙ ap (onto_first x) (one y ys p.1)
 
--- what was played is what the script says first
-pub record Follows (start now : Option (List ℕ)) (number : ℕ) (done : List Instruction) : Type 0 where
+-- of the bytes that were read the first say what was played, one line each, and the others are left
+pub record Follows (read left : List ℕ) (number : ℕ) (done : List Instruction) : Type 0 where
   pub used : List ℕ
   pub counted : number ≡ 1 + length done
-  pub consumed : Consumes start now used
+  pub feeds : number ≡ 1 + line_feeds used
+  pub split : read ≡ used ++ left
   pub rest : (more : List ℕ) → instructions_of (used ++ more) ≡ with_all_first done (instructions_from number (lines_of more))
 
 -- nothing was played
-pub Follows-none : (start : Option (List ℕ)) → Follows start (prepend_known [] start) 1 []
-Follows-none start = record {
-  used = [];
-  counted = refl;
-  consumed = none_read start;
-  rest = λ more. refl;
+pub Follows-none : Follows [] [] 1 []
+Follows-none = record { used = []; counted = refl; feeds = refl; split = refl; rest = λ more. refl }
+
+-- more was read
+pub Follows-more : (read left : List ℕ) (n : ℕ) (done : List Instruction) (more new : List ℕ) → Follows read left n done → left ++ more ≡ new → Follows (read ++ more) new n done
+Follows-more read left n done more new f e = record {
+  used = f.used;
+  counted = f.counted;
+  feeds = f.feeds;
+  split = ap (λ (l : List ℕ). l ++ more) f.split ∙ append_assoc f.used left more ∙ ap (λ (l : List ℕ). f.used ++ l) e;
+  rest = f.rest;
 }
-  where
-    none_read : (known : Option (List ℕ)) → Consumes known (prepend_known [] known) []
-    none_read None = tt
-    none_read (Some bytes) = refl
+
+pub count-append : (xs ys : List ℕ) → line_feeds (xs ++ ys) ≡ line_feeds xs + line_feeds ys
+count-append [] ys = omega arith
+count-append (x ∷ xs) ys = omega (arith, count-append xs ys)
+
+pub no-feeds : (xs : List ℕ) → HasNoLineFeed xs → line_feeds xs ≡ 0
+no-feeds [] h = refl
+no-feeds (x ∷ xs) h = let e : (x == 10) ≡ false = grind (arith, h.0) in rw e (omega (arith, no-feeds xs h.1))
+
+pub feeds-length : (xs : List ℕ) → line_feeds xs ≤ length xs
+feeds-length [] = omega arith
+feeds-length (x ∷ xs) =
+    let one : cond (x == 10) 1 0 ≤ 1 = elim (x == 10) as (λ (b : Bool). cond b 1 0 ≤ 1) [ true ↦ omega arith | false ↦ omega arith ] in
+    omega (arith, one, feeds-length xs)
 
 with_all_first-push : (done : List Instruction) (x : Instruction) (r : Result (List Instruction) ℕ) → with_all_first (done ++ x ∷ []) r ≡ with_all_first done (with_first x r)
 with_all_first-push [] x r = refl
 with_all_first-push (y ∷ ys) x r = ap (with_first y) (with_all_first-push ys x r)
 
-with_all_first-ok : (done more : List Instruction) → with_all_first done (Ok more) ≡ Ok (done ++ more)
+pub with_all_first-ok : (done more : List Instruction) → with_all_first done (Ok more) ≡ Ok (done ++ more)
 with_all_first-ok [] more = refl
 with_all_first-ok (y ∷ ys) more = ap (with_first y) (with_all_first-ok ys more)
 
@@ -86,12 +101,14 @@ some_line [] p = absurd (p refl)
 some_line (x ∷ xs) p = elim (x == 10) as (λ b. (cond b ([] ∷ lines_of xs) (onto_first x (lines_of xs))) ≢ []) [ true ↦ (λ e. cc) | false ↦ onto_first-some x (lines_of xs) ]
 
 -- a further line
-pub Follows-line : (start a b : Option (List ℕ)) (n : ℕ) (done : List Instruction) (line : List ℕ) (x : Instruction) → Follows start a n done
-    → Consumes a b (line ++ 10 ∷ []) → HasNoLineFeed line → instruction_of line ≡ Some x → x ≢ close → Follows start b (n + 1) (done ++ x ∷ [])
-Follows-line start a b n done line x f c p e ne = record {
+pub Follows-line : (read left : List ℕ) (n : ℕ) (done : List Instruction) (line : List ℕ) (x : Instruction) → Follows read (line ++ 10 ∷ left) n done
+    → HasNoLineFeed line → instruction_of line ≡ Some x → x ≢ close → Follows read left (n + 1) (done ++ x ∷ [])
+Follows-line read left n done line x f p e ne = record {
   used = f.used ++ (line ++ 10 ∷ []);
   counted = omega (arith, f.counted, length-append done (x ∷ []));
-  consumed = Consumes-trans start a b _ _ f.consumed c;
+  feeds = let one : line_feeds (10 ∷ []) ≡ 1 = refl in
+      omega (arith, f.feeds, count-append f.used (line ++ 10 ∷ []), count-append line (10 ∷ []), no-feeds line p, one);
+  split = f.split ∙ ap (λ (l : List ℕ). f.used ++ l) (sym (append_assoc line (10 ∷ []) left)) ∙ sym (append_assoc f.used (line ++ 10 ∷ []) left);
   rest = λ more.
       ap instructions_of (append_assoc f.used (line ++ 10 ∷ []) more ∙ ap (λ l. f.used ++ l) (append_assoc line (10 ∷ []) more))
       ∙ f.rest (line ++ 10 ∷ more)
@@ -102,33 +119,25 @@ Follows-line start a b n done line x f c p e ne = record {
 }
 
 -- a refusal among the lines that are left is one of the script
-pub Follows-refused : (start a : Option (List ℕ)) (n m : ℕ) (done : List Instruction) → Follows start a n done
-    → IfSome a (λ text. instructions_from n (lines_of text) ≡ Err m) → IfSome start (λ script. instructions_of script ≡ Err m)
-Follows-refused None a n m done f h = tt
-Follows-refused (Some s) None n m done f h = absurd f.consumed
-Follows-refused (Some s) (Some text) n m done f h =
-    ap instructions_of f.consumed ∙ f.rest text ∙ ap (with_all_first done) h ∙ with_all_first-err done m
+pub Follows-refused : (read left : List ℕ) (n m : ℕ) (done : List Instruction) (more : List ℕ) → Follows read left n done
+    → instructions_from n (lines_of (left ++ more)) ≡ Err m → instructions_of (read ++ more) ≡ Err m
+Follows-refused read left n m done more f h =
+    ap (λ (l : List ℕ). instructions_of (l ++ more)) f.split ∙ ap instructions_of (append_assoc f.used left more) ∙ f.rest (left ++ more)
+    ∙ ap (with_all_first done) h ∙ with_all_first-err done m
 
 -- an ended line that says nothing
-pub ended-refused : (a b : Option (List ℕ)) (n : ℕ) (line : List ℕ) → Consumes a b (line ++ 10 ∷ []) → HasNoLineFeed line → instruction_of line ≡ None
-    → IfSome a (λ text. instructions_from n (lines_of text) ≡ Err n)
-ended-refused None b n line c p e = tt
-ended-refused (Some x) None n line c p e = absurd c
-ended-refused (Some x) (Some y) n line c p e =
-    ap (λ l. instructions_from n (lines_of l)) (c ∙ append_assoc line (10 ∷ []) y)
-    ∙ ap (instructions_from n) (lines_of-ended line y p)
-    ∙ ap (λ i. after_line n i (lines_of y) (instructions_from (n + 1) (lines_of y))) e
+pub ended-refused : (n : ℕ) (line left : List ℕ) → HasNoLineFeed line → instruction_of line ≡ None
+    → instructions_from n (lines_of (line ++ 10 ∷ left)) ≡ Err n
+ended-refused n line left p e =
+    ap (instructions_from n) (lines_of-ended line left p) ∙ ap (λ i. after_line n i (lines_of left) (instructions_from (n + 1) (lines_of left))) e
 
 -- a line after a close
-pub closed-refused : (a b : Option (List ℕ)) (n : ℕ) (line : List ℕ) → Consumes a b (line ++ 10 ∷ []) → HasNoLineFeed line → instruction_of line ≡ Some close
-    → IfSome b (λ more. more ≢ []) → IfSome a (λ text. instructions_from n (lines_of text) ≡ Err (n + 1))
-closed-refused None b n line c p e ne = tt
-closed-refused (Some x) None n line c p e ne = absurd c
-closed-refused (Some x) (Some y) n line c p e ne =
-    ap (λ l. instructions_from n (lines_of l)) (c ∙ append_assoc line (10 ∷ []) y)
-    ∙ ap (instructions_from n) (lines_of-ended line y p)
-    ∙ ap (λ i. after_line n i (lines_of y) (instructions_from (n + 1) (lines_of y))) e
-    ∙ after_line-closes n (lines_of y) _ (some_line y ne)
+pub closed-refused : (n : ℕ) (line left : List ℕ) → HasNoLineFeed line → instruction_of line ≡ Some close → left ≢ []
+    → instructions_from n (lines_of (line ++ 10 ∷ left)) ≡ Err (n + 1)
+closed-refused n line left p e ne =
+    ap (instructions_from n) (lines_of-ended line left p)
+    ∙ ap (λ i. after_line n i (lines_of left) (instructions_from (n + 1) (lines_of left))) e
+    ∙ after_line-closes n (lines_of left) _ (some_line left ne)
 
 -- a line that is too long says nothing
 too_long : (line : List ℕ) → MAX_LINE_BYTES < length line → instruction_of line ≡ None
@@ -143,36 +152,13 @@ begun-refused n (x ∷ xs) rest p h =
     ap (instructions_from n) b.2 ∙ ap (λ i. after_line n i b.1 (instructions_from (n + 1) b.1)) (too_long ((x ∷ xs) ++ b.0) long)
 
 -- text that is too long for a line
-pub long-refused : (a b : Option (List ℕ)) (n : ℕ) (text : List ℕ) → Consumes a b text → HasNoLineFeed text → MAX_LINE_BYTES < length text
-    → IfSome a (λ text. instructions_from n (lines_of text) ≡ Err n)
-long-refused None b n text c p h = tt
-long-refused (Some x) None n text c p h = absurd c
-long-refused (Some x) (Some y) n text c p h = ap (λ l. instructions_from n (lines_of l)) c ∙ begun-refused n text y p h
-
--- the text behind the last line feed is refused
-pub last-refused : (a b : Option (List ℕ)) (n m : ℕ) (text : List ℕ) → Consumes a b text → IsAtEnd b → instructions_from n (lines_of text) ≡ Err m
-    → IfSome a (λ text. instructions_from n (lines_of text) ≡ Err m)
-last-refused None b n m text c end e = tt
-last-refused (Some x) None n m text c end e = absurd c
-last-refused (Some x) (Some y) n m text c end e = ap (λ l. instructions_from n (lines_of l)) (c ∙ ap (λ l. text ++ l) end ∙ append-nil text) ∙ e
-
--- the buffer and the reader are both at their end
-pub at_end : (bytes : List ℕ) (known : Option (List ℕ)) → IsAtEnd (prepend_known bytes known) → IsAtEnd known
-at_end bytes None h = tt
-at_end [] (Some y) h = h
-at_end (x ∷ xs) (Some y) h = cc
-
-pub Consumes-end : (a : Option (List ℕ)) (bytes : List ℕ) (known : Option (List ℕ)) (used : List ℕ) → Consumes a (prepend_known bytes known) used
-    → IsAtEnd (prepend_known bytes known) → Consumes a known used
-Consumes-end None bytes known used c h = tt
-Consumes-end (Some x) bytes None used c h = absurd c
-Consumes-end (Some x) [] (Some y) used c h = c
-Consumes-end (Some x) (z ∷ zs) (Some y) used c h = cc
+pub long-refused : (n : ℕ) (text left : List ℕ) → HasNoLineFeed text → MAX_LINE_BYTES < length text → instructions_from n (lines_of (text ++ left)) ≡ Err n
+long-refused n text left p h = begun-refused n text left p h
 
 -- the whole script
-pub Follows-last : (start a : Option (List ℕ)) (n : ℕ) (done more : List Instruction) (text : List ℕ) (f : Follows start a n done)
-    → instructions_from n (lines_of text) ≡ Ok more → instructions_of (f.used ++ text) ≡ Ok (done ++ more)
-Follows-last start a n done more text f e = f.rest text ∙ ap (with_all_first done) e ∙ with_all_first-ok done more
+pub Follows-last : (read left : List ℕ) (n : ℕ) (done more : List Instruction) → Follows read left n done
+    → instructions_from n (lines_of left) ≡ Ok more → instructions_of read ≡ Ok (done ++ more)
+Follows-last read left n done more f e = ap instructions_of f.split ∙ f.rest left ∙ ap (with_all_first done) e ∙ with_all_first-ok done more
 
 pub closed-whole : (n : ℕ) (line : List ℕ) → HasNoLineFeed line → instruction_of line ≡ Some close → instructions_from n (lines_of (line ++ 10 ∷ [])) ≡ Ok (close ∷ [])
 closed-whole n line p e = ap (instructions_from n) (lines_of-ended line [] p) ∙ ap (λ i. after_line n i [] (instructions_from (n + 1) [])) e
@@ -199,3 +185,45 @@ pub last-goes_on : (n : ℕ) (line : List ℕ) (x : Instruction) → 0 < length 
     → instructions_from n (lines_of line) ≡ Ok (x ∷ close ∷ [])
 last-goes_on n line x h p e ne =
     last_says n line h p ∙ ap (λ i. after_line n i [] (Ok (close ∷ []))) e ∙ after_line-goes_on n x [] (Ok (close ∷ [])) ne
+
+-- a refusal among lines is of one of them
+after_line-at_least : (n m : ℕ) (i : Option Instruction) (lines : List (List ℕ)) (rest : Result (List Instruction) ℕ)
+    → ((k : ℕ) → rest ≡ Err k → n ≤ k) → after_line n i lines rest ≡ Err m → n ≤ m
+after_line-at_least n m None lines rest h e = let same : n ≡ m = cc in omega (arith, same)
+after_line-at_least n m (Some close) [] rest h e = cc
+after_line-at_least n m (Some close) (line ∷ lines) rest h e = let same : n + 1 ≡ m = cc in omega (arith, same)
+after_line-at_least n m (Some (receive a b c)) lines (Ok done) h e = cc
+after_line-at_least n m (Some (receive a b c)) lines (Err k) h e = let same : k ≡ m = cc in omega (arith, same, h k refl)
+after_line-at_least n m (Some (tick a)) lines (Ok done) h e = cc
+after_line-at_least n m (Some (tick a)) lines (Err k) h e = let same : k ≡ m = cc in omega (arith, same, h k refl)
+
+pub from-at_least : (n m : ℕ) (lines : List (List ℕ)) → instructions_from n lines ≡ Err m → n ≤ m
+from-at_least n m [] e = cc
+from-at_least n m (line ∷ lines) e =
+    after_line-at_least n m (instruction_of line) lines (instructions_from (n + 1) lines) (λ k f. let far = from-at_least (n + 1) k lines f in omega (arith, far)) e
+
+pub with_all_first-refused : (done : List Instruction) (r : Result (List Instruction) ℕ) (m : ℕ) → with_all_first done r ≡ Err m → r ≡ Err m
+with_all_first-refused [] r m e = e
+with_all_first-refused (x ∷ xs) r m e = with_all_first-refused xs r m (first (with_all_first xs r) e)
+  where
+    first : (k : Result (List Instruction) ℕ) → with_first x k ≡ Err m → k ≡ Err m
+    first (Ok l) h = cc
+    first (Err j) h = h
+
+-- none of the lines that were played is refused, whatever follows
+pub Follows-none_refused : (read left : List ℕ) (n : ℕ) (done : List Instruction) → Follows read left n done
+    → (more : List ℕ) (refused : ℕ) → instructions_of (read ++ more) ≡ Err refused → n ≤ refused
+Follows-none_refused read left n done f more refused e =
+    let here = sym (f.rest (left ++ more)) ∙ ap instructions_of (sym (append_assoc f.used left more) ∙ ap (λ (l : List ℕ). l ++ more) (sym f.split)) ∙ e in
+    from-at_least n refused (lines_of (left ++ more)) (with_all_first-refused done (instructions_from n (lines_of (left ++ more))) refused here)
+
+-- a refusal behind a close is of the next line
+pub closed-at_least : (n m : ℕ) (line left : List ℕ) → HasNoLineFeed line → instruction_of line ≡ Some close
+    → instructions_from n (lines_of (line ++ 10 ∷ left)) ≡ Err m → n + 1 ≤ m
+closed-at_least n m line left p e r =
+    after (lines_of left) (instructions_from (n + 1) (lines_of left))
+    (sym (ap (instructions_from n) (lines_of-ended line left p) ∙ ap (λ i. after_line n i (lines_of left) (instructions_from (n + 1) (lines_of left))) e) ∙ r)
+  where
+    after : (lines : List (List ℕ)) (rest : Result (List Instruction) ℕ) → after_line n (Some close) lines rest ≡ Err m → n + 1 ≤ m
+    after [] rest h = cc
+    after (l ∷ ls) rest h = let same : n + 1 ≡ m = cc in omega (arith, same)

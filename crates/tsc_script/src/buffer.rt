@@ -1,13 +1,14 @@
 //! A buffer over a reader, which counts the reads.
-ghost use Rattle.std.specs.Prelude.{◌≡◌, ◌≢◌, ℕ, ◌+◌, ◌-◌, ◌^◌, ◌<◌, ◌≤◌, ◌++◌, Option, List, [], Err, length, take, drop, IfOk, OnOk, IfErr, OnErr, vec_len};
-ghost use Rattle.std.specs.Result.{IsErrOf};
-ghost use Rattle.std.specs.Io.KnownBytes.{Consumes, Keeps, IsAtEnd};
+ghost use Rattle.std.specs.Prelude.{◌≡◌, ◌≢◌, ◌-◌, ◌<◌, ◌≤◌, List, [], length, take, drop, IfOk, IfSome, vec_len};
+ghost use Rattle.std.specs.Io.KnownBytes.{IsAtEnd};
 ghost use Rattle.tsc_script.specs.declared.limits.TheConstants.{MAX_READS};
-ghost use Rattle.tsc_script.specs.ToRead.{BufferState, still_to_come, AllInterrupted, AllButLastInterrupted};
+ghost use Rattle.tsc_script.specs.declared.buffer.TheConstants.{CHUNK};
+ghost use Rattle.tsc_script.specs.Reads.{Turn, bytes_given, FitsChunk, Gives};
+ghost use Rattle.tsc_script.specs.ToRead.{BufferState, Counts, Finds, Refills};
 
-use crate::read_count::ReadCount;
+use crate::limits::MAX_READS;
+use crate::reads::{ReadTurn, Source};
 use std::alloc::{AllocError, Allocator};
-use std::io::{ErrorKind, Read};
 use std::marker::Model;
 
 /// How many bytes one read asks for.
@@ -30,16 +31,16 @@ pub(crate) struct Buffer<A: Allocator> {
     chunk: Vec<u8, A>,
     at: usize,
     filled: usize,
-    reads: ReadCount,
+    reads: u64,
 }
 
 impl<A: Allocator> Model for Buffer<A> {
     ghost Value = { BufferState };
 
-    ghost view = { λ b. record { bytes = take (b.filled - b.at) (drop b.at b.chunk.items); reads = b.reads.made } };
+    ghost view = { λ b. record { bytes = take (b.filled - b.at) (drop b.at b.chunk.items); reads = b.reads } };
 
     ghost invariant = { λ b. (b.at ≤ b.filled) × (b.filled ≤ vec_len b.chunk)
-        × (0 < vec_len b.chunk) × (b.reads.made ≤ MAX_READS) };
+        × (0 < vec_len b.chunk) × (vec_len b.chunk ≤ CHUNK) × (b.reads ≤ MAX_READS) };
 }
 
 impl<A: Allocator> Buffer<A> {
@@ -52,7 +53,7 @@ impl<A: Allocator> Buffer<A> {
             chunk,
             at: 0,
             filled: 0,
-            reads: ReadCount::new(),
+            reads: 0,
         })
     }
 
@@ -75,66 +76,48 @@ impl<A: Allocator> Buffer<A> {
     }
 
     /// Reads more bytes into the empty buffer.
-    pub(crate) fn refill<R: Read>(&mut self, reader: &mut R) -> Refill
+    pub(crate) fn refill<R: Source>(&mut self, reader: &mut R) -> Refill
         requires { self.old.bytes ≡ [] }
-        ensures more { result ≡ Refill.More → (self.old.reads < self.new.reads)
-            × Consumes (R.remaining reader.old) (R.remaining reader.new) self.new.bytes }
-        ensures end { result ≡ Refill.End → (self.new.bytes ≡ [])
-            × IsAtEnd (R.remaining reader.new) }
-        ensures kept { result ≢ Refill.More → (self.new.bytes ≡ [])
-            × Keeps (R.remaining reader.old) (R.remaining reader.new) }
-        ensures reads { (self.old.reads ≤ self.new.reads) × (self.new.reads ≤ MAX_READS) }
+        ensures turns { (turns : List Turn) × Gives (R.given reader.old) (R.given reader.new) turns
+            × Counts self.old.reads self.new.reads turns × (self.new.bytes ≡ bytes_given turns)
+            × Refills result self.new.reads turns }
+        ensures more { result ≡ Refill.More → self.old.reads < self.new.reads }
+        ensures end { result ≡ Refill.End → IsAtEnd (R.given reader.new).left }
+        ensures reads { self.new.reads ≤ MAX_READS }
+        ensures none { result ≢ Refill.More → self.new.bytes ≡ [] }
     {
         self.at = 0;
         self.filled = 0;
         match read_some(reader, &mut self.chunk, &mut self.reads) {
-            Err(_) => Refill::Fault,
-            Ok(0) => Refill::End,
-            Ok(count) => {
+            Some(ReadTurn::Gave(count)) => {
                 self.filled = count;
                 Refill::More
             }
+            Some(ReadTurn::Ended) => Refill::End,
+            Some(ReadTurn::Failed | ReadTurn::Interrupted) | None => Refill::Fault,
         }
     }
 }
 
-/// Why a reader gave nothing.
-#[derive(Clone, Copy, PartialEq, Eq, Drop)]
-enum ReadFault {
-    /// All reads that may be made, 2^32, were made.
-    NoReadLeft,
-    /// A read failed with an error of this kind, which is no interruption.
-    Error(ErrorKind),
-}
-
-/// Reads once more, and again after each interruption, while the bound on reads allows it. Any other error ends it at once.
-fn read_some<R: Read>(
-    reader: &mut R,
-    chunk: &mut [u8],
-    reads: &mut ReadCount,
-) -> Result<usize, ReadFault>
+/// Reads once more, and again after each interruption; `None`: all reads that may be made, 2^32, were made.
+fn read_some<R: Source>(reader: &mut R, chunk: &mut [u8], reads: &mut u64) -> Option<ReadTurn>
     requires room { 0 < length chunk.old }
-    requires reads { reads.old.made ≤ MAX_READS }
-    ensures within { IfOk result (λ count. count ≤ length chunk.new) }
-    ensures bytes { IfOk result (λ count.
-        Consumes (R.remaining reader.old) (R.remaining reader.new) (take count chunk.new)) }
-    ensures end { IfOk result (λ count. count ≡ 0 → IsAtEnd (R.remaining reader.new)) }
-    ensures fault { OnErr result (Keeps (R.remaining reader.old) (R.remaining reader.new)) }
-    ensures reads { (reads.old.made ≤ reads.new.made) × (reads.new.made ≤ 2 ^ 32) }
-    ensures counted { OnOk result (reads.old.made < reads.new.made) }
-
-    // What is tried again: nothing but an interruption, up to the bound.
-    ensures at_once { result ≢ Err ReadFault.NoReadLeft → AllButLastInterrupted reads.old reads.new }
-    ensures no_read_left { IsErrOf result ReadFault.NoReadLeft
-        → (reads.new.made ≡ 2 ^ 32) × AllInterrupted reads.old reads.new }
-    ensures no_interruption { IfErr result (λ fault. fault ≢ ReadFault.Error ErrorKind.Interrupted) }
+    requires short { length chunk.old ≤ CHUNK }
+    requires reads { reads.old ≤ MAX_READS }
+    ensures turns { (turns : List Turn) × Gives (R.given reader.old) (R.given reader.new) turns
+        × Counts reads.old reads.new turns × Finds result chunk.new reads.new turns }
+    ensures fits { IfSome result (λ turn. FitsChunk turn (length chunk.new)) }
+    ensures end { IfSome result (λ turn. turn ≡ ReadTurn.Ended → IsAtEnd (R.given reader.new).left) }
+    ensures tried_again { IfSome result (λ turn. turn ≢ ReadTurn.Interrupted) }
+    ensures reads { reads.new ≤ MAX_READS }
+    ensures more { IfSome result (λ _. reads.old < reads.new) }
 {
-    while !reads.is_spent() {
-        match reads.read(reader, chunk) {
-            Ok(count) => return Ok(count),
-            Err(ErrorKind::Interrupted) => {}
-            Err(kind) => return Err(ReadFault::Error(kind)),
+    while *reads < MAX_READS {
+        *reads += 1;
+        match reader.turn(chunk) {
+            ReadTurn::Interrupted => {}
+            turn => return Some(turn),
         }
     }
-    Err(ReadFault::NoReadLeft)
+    None
 }

@@ -6,9 +6,8 @@
 //! bytes without its line feed, and any line after `close` is refused. The input's end without `close` acts as one.
 //!
 //! A read is tried again after an interruption alone, while fewer than 2^32 were made; any other error ends the script at
-//! that line. No contract can say when a reader fails, so a body that always answers `Fault` at the right line meets
-//! `play_script`'s contract, as does one that always answers `NoMemory`. Each run of `tests/run.sh` that is done
-//! shows that a good reader gets neither.
+//! that line. Each answer but `Down` has its cause in what the reads gave (`specs/Causes`). A body that always answers
+//! `NoMemory` meets `play_script`'s contract; each run of `tests/run.sh` that is done shows that it isn't answered there.
 #![tactic(auto)]
 
 mod buffer;
@@ -19,11 +18,12 @@ mod limits;
 mod lines;
 mod machine;
 mod play;
-mod read_count;
+mod reads;
 mod stop;
 
 pub use command::Command;
 pub use laws::lines_are_their_words;
 pub use machine::Machine;
 pub use play::play_script;
+pub use reads::{ReadTurn, Reads, Source};
 pub use stop::Stop;

@@ -1,14 +1,15 @@
 //! The lines of a script.
-ghost use Rattle.std.specs.Prelude.{◌≡◌, ◌≢◌, ℕ, ◌+◌, ◌-◌, ◌^◌, ◌<◌, ◌≤◌, ◌++◌, ◌∷◌, Option, List, [], length, take, drop, vec_len, vec_capacity, slice_index};
-ghost use Rattle.std.specs.Io.KnownBytes.{Consumes, Keeps, IsAtEnd};
-ghost use Rattle.tsc_script.specs.ToRead.{BufferState, still_to_come};
+ghost use Rattle.std.specs.Prelude.{◌≡◌, ◌≢◌, ℕ, ◌+◌, ◌-◌, ◌^◌, ◌<◌, ◌≤◌, ◌++◌, ◌∷◌, List, [], length, take, drop, vec_len, vec_capacity, slice_index};
+ghost use Rattle.std.specs.Io.KnownBytes.{IsAtEnd};
+ghost use Rattle.tsc_script.specs.Reads.{Turn, bytes_given, Gives};
+ghost use Rattle.tsc_script.specs.ToRead.{BufferState, Counts, ReadsLine};
 ghost use Rattle.tsc_script.specs.Lines.{HasNoLineFeed};
 
 use crate::buffer::{Buffer, Refill};
 use crate::limits::MAX_LINE_BYTES;
+use crate::reads::Source;
 use memchr::memchr;
 use std::alloc::Allocator;
-use std::io::Read;
 
 /// How a line ended.
 #[derive(Clone, Copy, PartialEq, Eq, Drop)]
@@ -24,7 +25,7 @@ pub(crate) enum LineEnd {
 }
 
 /// Reads the next line into a vector with room for it. Where the line is too long, its first part is used up.
-pub(crate) fn read_line<R: Read, A: Allocator, B: Allocator>(
+pub(crate) fn read_line<R: Source, A: Allocator, B: Allocator>(
     reader: &mut R,
     buffer: &mut Buffer<A>,
     line: &mut Vec<u8, B>,
@@ -32,20 +33,10 @@ pub(crate) fn read_line<R: Read, A: Allocator, B: Allocator>(
     requires { MAX_LINE_BYTES ≤ vec_capacity line.old }
     ensures room { MAX_LINE_BYTES ≤ vec_capacity line.new }
     ensures plain { HasNoLineFeed line.new.items × (vec_len line.new ≤ MAX_LINE_BYTES) }
-    ensures line_feed { result ≡ LineEnd.LineFeed → Consumes
-        (still_to_come buffer.old (R.remaining reader.old))
-        (still_to_come buffer.new (R.remaining reader.new)) (line.new.items ++ 10 ∷ []) }
-    ensures input { result ≡ LineEnd.Input → Consumes
-        (still_to_come buffer.old (R.remaining reader.old))
-        (still_to_come buffer.new (R.remaining reader.new)) line.new.items
-        × IsAtEnd (still_to_come buffer.new (R.remaining reader.new)) }
-    ensures too_long { result ≡ LineEnd.TooLong → (more : List ℕ) × HasNoLineFeed more
-        × (MAX_LINE_BYTES < vec_len line.new + length more) × Consumes
-        (still_to_come buffer.old (R.remaining reader.old))
-        (still_to_come buffer.new (R.remaining reader.new)) (line.new.items ++ more) }
-    ensures fault { result ≡ LineEnd.Fault → Consumes
-        (still_to_come buffer.old (R.remaining reader.old))
-        (still_to_come buffer.new (R.remaining reader.new)) line.new.items }
+    ensures turns { (turns : List Turn) × Gives (R.given reader.old) (R.given reader.new) turns
+        × Counts buffer.old.reads buffer.new.reads turns
+        × ReadsLine result (buffer.old.bytes ++ bytes_given turns) line.new.items buffer.new.bytes buffer.new.reads turns }
+    ensures end { result ≡ LineEnd.Input → IsAtEnd (R.given reader.new).left }
 {
     line.clear();
     'line: loop {

@@ -1,11 +1,13 @@
 //! The playing of a script on a machine.
 ghost use Rattle.std.specs.Prelude.{◌≡◌, ◌≢◌, ℕ, ◌+◌, ◌++◌, ◌∷◌, Bool, true, false, Option, List, [], Some, Ok, Err, OnOk, IfSome, IfErr, length, ◌≤◌, ◌⊎◌, if◌then◌else◌, vec_capacity};
 ghost use Rattle.std.specs.Result.{IsErrOf};
-ghost use Rattle.std.specs.Io.KnownBytes.{Consumes, IsAtEnd};
+ghost use Rattle.std.specs.Io.KnownBytes.{IsAtEnd};
 ghost use Rattle.tsc_script.specs.Instructions.{Instruction, instruction_of_command, close};
 ghost use Rattle.tsc_script.specs.Script.{instructions_of, instructions_from};
 ghost use Rattle.tsc_script.specs.Lines.{HasNoLineFeed, lines_of};
-ghost use Rattle.tsc_script.specs.ToRead.{still_to_come};
+ghost use Rattle.tsc_script.specs.Reads.{Turn, bytes_given, Gives};
+ghost use Rattle.tsc_script.specs.Causes.{IsCausedBy};
+ghost use Rattle.tsc_script.specs.ToRead.{Counts, Closing};
 ghost use Rattle.tsc_script.specs.Stops.{IfRefused, IsAtLine, MatchRefusedDown, is_up_after};
 ghost use Rattle.tsc_script.specs.Progress.{Ends, StopsAfter};
 
@@ -15,14 +17,14 @@ use crate::grammar::parse;
 use crate::limits::MAX_LINE_BYTES;
 use crate::lines::{LineEnd, read_line};
 use crate::machine::Machine;
+use crate::reads::Source;
 use crate::stop::Stop;
 use std::alloc::{Allocator, Global};
-use std::io::Read;
 
 /// Plays a script, line by line. The memory for a line (4,194,368 bytes) and for a read (65,536 bytes) is taken at the
 /// start, before anything is read or played. Once the machine takes no further instruction, no further line is read,
 /// and `close` is played. The reader may have given bytes behind the last line that was used.
-pub fn play_script<R: Read, M: Machine>(
+pub fn play_script<R: Source, M: Machine>(
     alloc: Global,
     reader: &mut R,
     machine: &mut M,
@@ -33,20 +35,24 @@ pub fn play_script<R: Read, M: Machine>(
 
     // The reader was read to its end, and all that it gave was played.
     ensures whole { OnOk result ((instructions : List Instruction)
-        × Ends (R.remaining reader.old) (R.remaining reader.new) instructions
+        × Ends (R.given reader.old).left (R.given reader.new).left instructions
         × M.leads machine.old instructions machine.new) }
 
     // Just the lines before were played, and at `Down` a close behind them.
     ensures stopped { IfErr result (StopsAfter
         (λ done. M.leads machine.old done machine.new)
         (λ done. (fallen : M) × M.leads machine.old done fallen × (M.is_up fallen ≡ false) × M.leads fallen (close ∷ []) machine.new)
-        (R.remaining reader.old) (R.remaining reader.new)) }
+        (R.given reader.old).left (R.given reader.new).left) }
     ensures no_memory { IsErrOf result Stop.NoMemory
         → (machine.new ≡ machine.old) × (reader.new ≡ reader.old) }
 
+    // Each answer comes of what the reads gave, of which there are 2^32 at most.
+    ensures caused { (turns : List Turn) × Gives (R.given reader.old) (R.given reader.new) turns
+        × (length turns ≤ 4294967296) × IsCausedBy result turns }
+
     // It is the first refused line of all that the reader would give.
     ensures refused { IfErr result (λ stop. IfRefused stop (λ number.
-        IfSome (R.remaining reader.old) (λ script. instructions_of script ≡ Err number))) }
+        IfSome (R.given reader.old).left (λ script. instructions_of script ≡ Err number))) }
 
     ensures up { M.is_up machine.new ≡ is_up_after result }
     ensures closed { OnOk result (M.is_closed machine.new ≡ true) }
@@ -135,23 +141,17 @@ fn finish<M: Machine>(machine: &mut M) -> Result<(), Stop>
 }
 
 /// Reads on after the line before this one, behind which nothing may stand.
-fn expect_end<R: Read, A: Allocator, B: Allocator>(
+fn expect_end<R: Source, A: Allocator, B: Allocator>(
     reader: &mut R,
     buffer: &mut Buffer<A>,
     line: &mut Vec<u8, B>,
     number: u64,
 ) -> Result<(), Stop>
     requires { MAX_LINE_BYTES ≤ vec_capacity line.old }
-    ensures end { OnOk result (Consumes
-        (still_to_come buffer.old (R.remaining reader.old))
-        (still_to_come buffer.new (R.remaining reader.new)) []
-        × IsAtEnd (still_to_come buffer.new (R.remaining reader.new))) }
-    ensures refused { IfErr result (λ stop. IfRefused stop (λ at. (at ≡ number)
-        × IfSome (still_to_come buffer.old (R.remaining reader.old)) (λ more. more ≢ []))) }
-    ensures at_line { IfErr result (λ stop. IsAtLine stop number) }
-    ensures read { (read : List ℕ) × Consumes
-        (still_to_come buffer.old (R.remaining reader.old))
-        (still_to_come buffer.new (R.remaining reader.new)) read }
+    ensures turns { (turns : List Turn) × Gives (R.given reader.old) (R.given reader.new) turns
+        × Counts buffer.old.reads buffer.new.reads turns
+        × Closing result number (buffer.old.bytes ++ bytes_given turns) buffer.new.reads turns }
+    ensures end { OnOk result (IsAtEnd (R.given reader.new).left) }
 {
     match read_line(reader, buffer, line) {
         LineEnd::Fault => Err(Stop::Fault(number)),

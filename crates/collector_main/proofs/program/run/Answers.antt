@@ -20,4 +20,4 @@ pub returns-in-Serve : goal.returns-in-Serve
 returns-in-Serve g c =
     let arguments = map string_bytes c.args.arguments.now in
     let asked = subst (λ command. AsksFor arguments command) c.in-Serve.is c.in-Some.ensures.some in
-    (file_of (λ v. v.items) c.read_file-file.result, CameTo-does _ Serve c.serve_by.result.1 asked (c.serve_by.ensures arguments (g.R.Read.remaining c.args.reader.now)))
+    (file_of (λ v. v.items) c.read_file-file.result, CameTo-does _ Serve c.serve_by.result.1 asked (c.serve_by.ensures arguments (g.R.Source.given c.args.reader.now)))
