@@ -10,7 +10,7 @@ read fails, and so do the edits of a crate that isn't proved as it stands. No so
 
 The edits of a crate that touch different functions are tried in one check of those functions: a function is proved from the contracts of
 what it calls, so what is said of one doesn't depend on another's body (`rt plant` tries its bodies so). Each must be refused by a goal of its
-own function; those of which that isn't plain go into a check of fewer, at last alone. --alone tries each alone, on the whole crate.
+own function; one of which that isn't plain is tried by itself, at last on the whole crate. --alone tries each alone, on the whole crate.
 --jobs N takes N crates side by side, and a check takes 1 to 4 GB. It prints a line an edit and one a check, with its processor seconds.
 
 The record, tests/edits.passed, has a line for each crate all of whose edits were refused: its name, a sum over its files, those of the crates
@@ -170,15 +170,15 @@ def judge(edits, crate, status, said):
     return [(True, f"refused: {first}" if first or not told else f"refused (only a proof file names what went, which says little): {told[0]}")]
 
 
-def try_round(left, crate, below, names, is_alone):
-    """Tries edits in one check, and returns what is said of each (None: it has to be tried with fewer) and the processor seconds."""
-    only = [[it for it in named(one, crate, names) if it[-1] == one.name] for edit in left for one in edit.functions or ()]
+def try_round(edits, crate, below, names, is_alone):
+    """Tries edits in one check, and returns what is said of each (None: it has to be tried by itself) and the processor seconds."""
+    only = [[it for it in named(one, crate, names) if it[-1] == one.name] for edit in edits for one in edit.functions or ()]
     only = sorted({"::".join(it) for each in only for it in each}) if all(only) and not is_alone else []
-    *found, seconds = check(crate, below, left, only)
-    results = judge(left, crate, *found)
-    if set(results) == {None} or only and len(left) == 1 and not results[0][0]:
-        *found, more = check(crate, below, left[:1])
-        results[0], seconds = judge(left[:1], crate, *found)[0], seconds + more
+    *found, seconds = check(crate, below, edits, only)
+    results = judge(edits, crate, *found)
+    if only and len(edits) == 1 and not results[0][0]:
+        *found, more = check(crate, below, edits)
+        results, seconds = judge(edits, crate, *found), seconds + more
     return results, seconds
 
 
@@ -192,12 +192,14 @@ def try_crate(crate, below, is_alone):
     if not re.search(r"(?m)^logic=proved", said):
         return crate, [(it, (False, "BAD CRATE: it is not proved as it stands")) for it in found], seconds
     names = re.findall(r"(?m)^fn (\S+): proved$", said)
-    for left in rounds_of([it for it in found.values() if isinstance(it, Edit)], is_alone):
-        while left:
-            results, more = try_round(left, crate, below, names, is_alone)
-            seconds += more
-            tried += [(edit.name, it) for edit, it in zip(left, results) if it]
-            left = [edit for edit, it in zip(left, results) if not it]
+    for edits in rounds_of([it for it in found.values() if isinstance(it, Edit)], is_alone):
+        results, more = try_round(edits, crate, below, names, is_alone)
+        seconds += more
+        for edit, result in zip(edits, results):
+            if not result:
+                (result,), more = try_round([edit], crate, below, names, is_alone)
+                seconds += more
+            tried.append((edit.name, result))
     return crate, tried, seconds
 
 
