@@ -45,7 +45,7 @@ class Runs:
             found = self.run(words, folder, REFUSED_ALLOCATION=str(number))
             was_refused = "allocation refused\n" in found[2]
             refused += was_refused
-            good = is_well(*found) if was_refused else found[0] == 0
+            good = bool(is_well(*found)) if was_refused else found[0] == 0
             self.passed, self.failed = self.passed + good, self.failed + (not good)
             if not good:
                 print(f"{name}, request {number}: status {found[0]}: {(found[1] + found[2])[-200:]!r}")
