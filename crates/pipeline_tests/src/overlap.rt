@@ -85,7 +85,7 @@ fn run_two<G: Gate + Sync, R: Threads + Wait + Clock + Sync>(
     let stop = Mark {
         is_set: AtomicBool::new(false),
     };
-    let sink = MemorySink::new(alloc, false)?;
+    let sink = MemorySink::new(alloc)?;
     let (sink, answer) = run(
         rt, alloc, config, feeds, NoTicks, sink, gate, &stop, &Standing,
     );

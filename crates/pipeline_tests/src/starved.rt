@@ -1,5 +1,5 @@
-//! One lane: a reader that fails, a run that is stopped before it begins, a sink that fails, and a run that may be short
-//! of memory, each of whose allocations `tests/refused_memory/refused.py` refuses in turn.
+//! One lane: a reader that fails, a run that is stopped before it begins, and one that may be short of memory, each
+//! of whose allocations `tests/refused_memory/refused.py` refuses in turn.
 ghost use Rattle.tsc_config.specs.Values.{InRange};
 
 use crate::memory::{Held, Mark, MemoryFeed, MemorySink, NoTicks, Standing};
@@ -29,24 +29,14 @@ fn spans_in(lines: &[u8]) -> u64 {
     count
 }
 
-/// How a run begins.
-#[derive(Clone, Copy, PartialEq, Eq)]
-enum Start {
-    /// Nothing is wrong.
-    Plain,
-    /// The stop mark is set.
-    Stopped,
-    /// The sink fails at each write.
-    SinkBroken,
-}
-
-/// What a run answers of one lane with these connections, the last one first, and its sink.
+/// What a run answers of one lane with these connections, the last one first, and its sink. Its stop mark may be set before it
+/// begins.
 fn run_one<R: Threads + Wait + Clock + Sync>(
     rt: &R,
     alloc: Global,
     config: Config,
     connections: Vec<Held>,
-    start: Start,
+    is_stopped: bool,
 ) -> Result<(MemorySink, Result<Report, RunFault>), Fail>
     requires { InRange config }
 {
@@ -56,9 +46,9 @@ fn run_one<R: Threads + Wait + Clock + Sync>(
         return Err(Fail::from("lanes"));
     }
     let stop = Mark {
-        is_set: AtomicBool::new(start == Start::Stopped),
+        is_set: AtomicBool::new(is_stopped),
     };
-    let sink = MemorySink::new(alloc, start == Start::SinkBroken)?;
+    let sink = MemorySink::new(alloc)?;
     Ok(run(
         rt, alloc, config, feeds, NoTicks, sink, &OpenGate, &stop, &Standing,
     ))
@@ -74,7 +64,7 @@ fn reader_fails_in_a_body(rt: HostRuntime) -> Result<(), Fail> {
     let mut connections = Vec::new(alloc);
     connections.push(Held::whole(request(alloc, A, 1)?))?;
     connections.push(Held::broken(cut))?;
-    let (sink, answer) = run_one(&rt, alloc, config, connections, Start::Plain)?;
+    let (sink, answer) = run_one(&rt, alloc, config, connections, false)?;
     let Ok(report) = answer else {
         return Err(Fail::from("a fault"));
     };
@@ -90,27 +80,11 @@ fn stopped_before_it_begins(rt: HostRuntime) -> Result<(), Fail> {
     let config = configured(alloc, ALL)?;
     let mut connections = Vec::new(alloc);
     connections.push(Held::whole(request(alloc, A, 1)?))?;
-    let (sink, answer) = run_one(&rt, alloc, config, connections, Start::Stopped)?;
+    let (sink, answer) = run_one(&rt, alloc, config, connections, true)?;
     let Ok(report) = answer else {
         return Err(Fail::from("a fault"));
     };
     assert_eq!(rt; numbers(&report), [0, 0, 0, 0, 0, 0, 0, 0, 0]);
-    assert!(rt; sink.taken.is_empty());
-    Ok(())
-}
-
-/// A sink that fails at its first write: the span is counted under the sink's failures, and the report is there.
-#[test]
-fn sink_fails_at_its_first_write(rt: HostRuntime) -> Result<(), Fail> {
-    let alloc = rt.alloc();
-    let config = configured(alloc, ALL)?;
-    let mut connections = Vec::new(alloc);
-    connections.push(Held::whole(request(alloc, A, 1)?))?;
-    let (sink, answer) = run_one(&rt, alloc, config, connections, Start::SinkBroken)?;
-    let Err(RunFault::SinkDown(report)) = answer else {
-        return Err(Fail::from("the sink is not down"));
-    };
-    assert_eq!(rt; numbers(&report), [1, 0, 0, 0, 0, 0, 0, 0, 1]);
     assert!(rt; sink.taken.is_empty());
     Ok(())
 }
@@ -124,7 +98,7 @@ fn busy_then_done(rt: HostRuntime) -> Result<(), Fail> {
     bytes.extend_from_slice(&request(alloc, A, 1)?)?;
     let mut connections = Vec::new(alloc);
     connections.push(Held::whole(bytes))?;
-    let (sink, answer) = run_one(&rt, alloc, config, connections, Start::Plain)?;
+    let (sink, answer) = run_one(&rt, alloc, config, connections, false)?;
     match answer {
         Ok(report) => {
             let [
