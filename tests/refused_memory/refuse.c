@@ -10,6 +10,7 @@
 #include <stdlib.h>
 #include <string.h>
 #include <sys/mman.h>
+#include <sys/syscall.h>
 #include <unistd.h>
 
 /* The number of the request that is refused; 0: none. */
@@ -26,11 +27,20 @@ __attribute__((constructor)) static void start(void) {
 
 __attribute__((destructor)) static void tell(void) {
     char text[64];
+    if (!is_on)
+        return;
     is_on = 0;
     if (getenv("COUNT_ALLOCATIONS")) {
         int length = snprintf(text, sizeof text, "allocations %lu\n", made);
         (void)!write(2, text, length);
     }
+}
+
+/* A program with threads ends so, and no destructor runs then. */
+void _exit(int status) {
+    tell();
+    syscall(SYS_exit_group, status);
+    __builtin_unreachable();
 }
 
 static int is_refused(void) {
