@@ -4,7 +4,7 @@ that are split when a member goes or comes.
 
 usage: tiers.py [TRACES [SECONDS]]        (traces of the sample, 200000; the mean time from a trace's first span to its last, 2)
 
-The exporter routes by a consistent hash ring: 100 points a member, each the CRC-32 (IEEE) of its address and the point's number as one byte, modulo 36000; a
+The exporter routes by a consistent hash ring (as its source is known to have it; not compared with it here): 100 points a member, each the CRC-32 (IEEE) of its address and the point's number as one byte, modulo 36000; a
 trace goes to the member of the first point at or behind the CRC-32 of its id, modulo 36000; a point that is taken already is left out. The addresses are
 tsc-0:4318, tsc-1:4318 .. Loads are those of 1,000,000 spans a second in traces of equal size. A trace is split where its member changes while it is under way."""
 import bisect
