@@ -1,6 +1,6 @@
 //! A counter that stops where a count would pass its greatest number.
-ghost use Rattle.std.specs.Prelude.{◌≡◌, true, false};
-ghost use Rattle.drop_ledger.specs.Places.{TallyState, with_added};
+ghost use Rattle.std.specs.Prelude.{◌≡◌, ◌⊎◌, ◌+◌, ◌^◌, ◌≤◌, true, false, slice_index};
+ghost use Rattle.drop_ledger.specs.Places.{TallyState, place_of, with_added};
 
 use crate::count::Count;
 use crate::counter::Counter;
@@ -43,6 +43,7 @@ impl<K: Counter> Tally<K> {
     pub fn count(&mut self, count: Count, n: u64)
         ensures counted { self.new.is_full ≡ false → (self.old.is_full ≡ false) × (self.new.numbers ≡ with_added count n self.old.numbers) }
         ensures full { self.new.is_full ≡ true → self.new.numbers ≡ self.old.numbers }
+        ensures cause { self.new.is_full ≡ true → (self.old.is_full ≡ true) ⊎ (2 ^ 64 ≤ slice_index self.old.numbers (place_of count) + n) }
     {
         if self.is_full {
             return;

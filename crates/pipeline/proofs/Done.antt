@@ -13,11 +13,11 @@ use Rattle.run_weave.specs.Workers.{zeros, LaneOut, ShardIn, ShardOut, LanesDid,
 use Rattle.pipeline.specs.Made.{NumberedFrom}
 
 module _ {F X J L : Type 0} (gives : F → Option X → F → Type 0) (known : X → Connection) (capacity : ℕ)
-    (number_of : J → ℕ) (feed_of : J → F) (lane_of : J → LaneState (EndState Item)) (before : J → List ℕ) (out_of : L → LaneOut) (did : J → L → Type 0)
-    (tells : (j : J) (l : L) → did j l → LaneDid gives known capacity (number_of j) (feed_of j) (lane_of j) (before j) (out_of l).senders (out_of l).counted (out_of l).is_full) where
+    (number_of : J → ℕ) (feed_of : J → F) (lane_of : J → LaneState (EndState Item)) (out_of : L → LaneOut) (did : J → L → Type 0)
+    (tells : (j : J) (l : L) → did j l → LaneDid gives known capacity (number_of j) (feed_of j) (lane_of j) zeros (out_of l).senders (out_of l).counted (out_of l).is_full) where
   -- the lane is new, and has the job's number
   abbrev pub IsNewLane : J → Type 0
-  IsNewLane j = ((lane_of j).number ≡ number_of j) × ((lane_of j).connected ≡ 0) × (before j ≡ zeros)
+  IsNewLane j = ((lane_of j).number ≡ number_of j) × ((lane_of j).connected ≡ 0)
 
   pub lanes_did : (number : ℕ) (jobs : List J) (lefts : List L) → NumberedFrom number (map number_of jobs) → All IsNewLane jobs → HaveDone did jobs lefts
       → LanesDid gives known capacity number (map feed_of jobs) (map (λ (j : J). (lane_of j).ports) jobs) (map out_of lefts)
@@ -26,8 +26,7 @@ module _ {F X J L : Type 0} (gives : F → Option X → F → Type 0) (known : X
   lanes_did number (j ∷ jobs) [] numbers new done = absurd done
   lanes_did number (j ∷ jobs) (l ∷ lefts) numbers new done = (
     subst (λ n. LaneDid gives known capacity n (feed_of j) (record { number = n; connected = 0; ports = (lane_of j).ports }) zeros out.senders out.counted out.is_full) numbers.0
-        (subst (λ (z : List ℕ). LaneDid gives known capacity (number_of j) (feed_of j) (record { number = number_of j; connected = 0; ports = (lane_of j).ports }) z out.senders out.counted out.is_full) head.2
-        (subst (λ (z : LaneState (EndState Item)). LaneDid gives known capacity (number_of j) (feed_of j) z (before j) out.senders out.counted out.is_full) same (tells j l done.0))),
+        (subst (λ (z : LaneState (EndState Item)). LaneDid gives known capacity (number_of j) (feed_of j) z zeros out.senders out.counted out.is_full) same (tells j l done.0)),
     lanes_did (number + 1) jobs lefts numbers.1 (All-tail IsNewLane j jobs new) done.1,
   )
     where
@@ -40,10 +39,10 @@ module _ {F X J L : Type 0} (gives : F → Option X → F → Type 0) (known : X
       same : lane_of j ≡ record { number = number_of j; connected = 0; ports = (lane_of j).ports }
       same = ap (λ (n : ℕ). record { number = n; connected = (lane_of j).connected; ports = (lane_of j).ports }) head.0 ∙ ap (λ (k : ℕ). record { number = number_of j; connected = k; ports = (lane_of j).ports }) head.1
 
-module _ {J L : Type 0} (s : Settings) (number_of : J → ℕ) (given_of : J → ShardIn) (settings_of : J → Settings) (before : J → List ℕ) (out_of : L → ShardOut) (did : J → L → Type 0)
-    (tells : (j : J) (l : L) → did j l → ShardDid (number_of j) (settings_of j) (given_of j).seat (given_of j).receiver (given_of j).sender (before j) (out_of l).seat (out_of l).receiver (out_of l).sender (out_of l).counted (out_of l).is_full) where
+module _ {J L : Type 0} (s : Settings) (number_of : J → ℕ) (given_of : J → ShardIn) (settings_of : J → Settings) (out_of : L → ShardOut) (did : J → L → Type 0)
+    (tells : (j : J) (l : L) → did j l → ShardDid (number_of j) (settings_of j) (given_of j).seat (given_of j).receiver (given_of j).sender zeros (out_of l).seat (out_of l).receiver (out_of l).sender (out_of l).counted (out_of l).is_full) where
   abbrev pub IsNewShard : J → Type 0
-  IsNewShard j = (settings_of j ≡ s) × (before j ≡ zeros)
+  IsNewShard j = settings_of j ≡ s
 
   pub shards_did : (number : ℕ) (jobs : List J) (lefts : List L) → NumberedFrom number (map number_of jobs) → All IsNewShard jobs → HaveDone did jobs lefts → ShardsDid s number (map given_of jobs) (map out_of lefts)
   shards_did number [] [] numbers new done = tt
@@ -51,8 +50,7 @@ module _ {J L : Type 0} (s : Settings) (number_of : J → ℕ) (given_of : J →
   shards_did number (j ∷ jobs) [] numbers new done = absurd done
   shards_did number (j ∷ jobs) (l ∷ lefts) numbers new done = (
     subst (λ n. ShardDid n s given.seat given.receiver given.sender zeros out.seat out.receiver out.sender out.counted out.is_full) numbers.0
-        (subst (λ (z : List ℕ). ShardDid (number_of j) s given.seat given.receiver given.sender z out.seat out.receiver out.sender out.counted out.is_full) head.1
-        (subst (λ (z : Settings). ShardDid (number_of j) z given.seat given.receiver given.sender (before j) out.seat out.receiver out.sender out.counted out.is_full) head.0 (tells j l done.0))),
+        (subst (λ (z : Settings). ShardDid (number_of j) z given.seat given.receiver given.sender zeros out.seat out.receiver out.sender out.counted out.is_full) head (tells j l done.0)),
     shards_did (number + 1) jobs lefts numbers.1 (All-tail IsNewShard j jobs new) done.1,
   )
     where

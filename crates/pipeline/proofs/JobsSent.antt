@@ -1,14 +1,16 @@
 -- What each thread is given and leaves may go to another thread, by what it holds.
 -- For the call of run_team in running::run_over.
 use denote.RattleType.{RattleType}
-use denote.Ref.{NamedLft}
+use denote.Ref.{NamedLft, ShrRef}
 use denote.Struct.Declared.{shape}
-use denote.Param.Send.{IsSend, IsSync, sendable, recorded_send, struct_send}
+use denote.Struct.Field.{row_field}
+use denote.Param.Send.{IsSend, IsSync, sendable, shr_send, recorded_send, struct_send}
 use Rattle.std.proofs.Crossing as crossing
 use Rattle.std.specs.contracts.alloc.Global as Heap
 use Rattle.std.specs.contracts.impls.GlobalAllocator.TheImpl.{ghosts}
 use Rattle.std.specs.contracts.vec.Vec as Vec
-use Rattle.drop_ledger.specs.declared.part.Accounts.{Ghosts as AccountsGhosts}
+use Rattle.drop_ledger.proofs.report.Report.TheSendSync as report_sent
+use Rattle.drop_ledger.specs.contracts.report.Report as report
 use Rattle.lane_queue.proofs.ends.Sender.TheSendSync as sender_sent
 use Rattle.lane_queue.proofs.receiver.Receiver.TheSendSync as receiver_sent
 use Rattle.lane_queue.proofs.sender_port.SenderPort.TheSendSync as port_sent
@@ -25,12 +27,18 @@ use Rattle.shared_budget.proofs.budget_seat.BudgetSeat.TheSendSync as seat_sent
 use Rattle.shared_budget.specs.contracts.budget_seat.BudgetSeat as seat
 use Rattle.otlp_types.proofs.Sent.{item_send, shipment_send}
 use Rattle.shard_core.proofs.Sent.{shard_send}
-use Rattle.pipeline.proofs.BookSent.{lent_field, part_field, counting_field}
 use Rattle.pipeline.specs.contracts.lane_job.LaneJob as lane_job
 use Rattle.pipeline.specs.contracts.lane_job.LaneLeft as lane_left
 use Rattle.pipeline.specs.contracts.shard_job.ShardJob as shard_job
 use Rattle.pipeline.specs.contracts.shard_job.ShardLeft as shard_left
 use Rattle.pipeline.specs.contracts.ticker_job.TickerJob as ticker_job
+
+-- a reference to what several threads may read
+lent_field : (a : NamedLft) (T : RattleType) → IsSync T → IsSend (row_field (ShrRef a.mir a.lft T)).row
+lent_field a T y = shr_send a.mir a.lft T y
+
+report_field : IsSend report.the_field.row
+report_field = report_sent.the_send
 
 module _ (C : RattleType) (g : Ghosts C.Denot) where
   pub ends_send : IsSend (Vec.the_row (sender.the_row item.the_row C g) Heap.the_row ghosts)
@@ -52,11 +60,11 @@ shard_field = shard_send
 seat_field : (a : NamedLft) (R : RattleType) → IsSync R → IsSend (seat.the_field a R).row
 seat_field a R y = seat_sent.the_send a R y
 
-module _ (a : NamedLft) (F C B G P M R : RattleType) (gC : Ghosts C.Denot) (gB : AccountsGhosts B.Denot) (f : IsSend F) (yG : IsSync G) (yP : IsSync P) (yM : IsSync M) (yR : IsSync R) where
-  pub lane_job_send : IsSend (lane_job.the_row a F C B G P M R gC gB)
+module _ (a : NamedLft) (F C G P M R : RattleType) (gC : Ghosts C.Denot) (f : IsSend F) (yG : IsSync G) (yP : IsSync P) (yM : IsSync M) (yR : IsSync R) where
+  pub lane_job_send : IsSend (lane_job.the_row a F C G P M R gC)
   lane_job_send =
-      let type = lane_job.the_type a F C B G P M R gC gB in
-      recorded_send _ _ _ type.to_one (struct_send (shape type) (lent_field a R yR, (search sendable, (search sendable, (f, (lane_field a C R gC yR, (ends_send C gC, (counting_field a B R gB yR, (lent_field a G yG, (lent_field a P yP, (lent_field a M yM, tt)))))))))))
+      let type = lane_job.the_type a F C G P M R gC in
+      recorded_send _ _ _ type.to_one (struct_send (shape type) (lent_field a R yR, (search sendable, (search sendable, (f, (lane_field a C R gC yR, (ends_send C gC, (lent_field a G yG, (lent_field a P yP, (lent_field a M yM, tt))))))))))
 
 module _ (a : NamedLft) (T C R : RattleType) (gC : Ghosts C.Denot) (t : IsSend T) (yR : IsSync R) where
   pub ticker_job_send : IsSend (ticker_job.the_row a T C R gC)
@@ -64,20 +72,20 @@ module _ (a : NamedLft) (T C R : RattleType) (gC : Ghosts C.Denot) (t : IsSend T
       let type = ticker_job.the_type a T C R gC in
       recorded_send _ _ _ type.to_one (struct_send (shape type) (lent_field a R yR, (search sendable, (t, (ends_send C gC, tt)))))
 
-module _ (a : NamedLft) (C D B G R : RattleType) (gC : Ghosts C.Denot) (gD : Ghosts D.Denot) (gB : AccountsGhosts B.Denot) (yG : IsSync G) (yR : IsSync R) where
-  pub shard_job_send : IsSend (shard_job.the_row a C D B G R gC gD gB)
+module _ (a : NamedLft) (C D G R : RattleType) (gC : Ghosts C.Denot) (gD : Ghosts D.Denot) (yG : IsSync G) (yR : IsSync R) where
+  pub shard_job_send : IsSend (shard_job.the_row a C D G R gC gD)
   shard_job_send =
-      let type = shard_job.the_type a C D B G R gC gD gB in
-      recorded_send _ _ _ type.to_one (struct_send (shape type) (lent_field a R yR, (search sendable, (shard_field, (seat_field a R yR, (receiver_field C gC, (sender_field D gD, (counting_field a B R gB yR, (lent_field a G yG, tt)))))))))
+      let type = shard_job.the_type a C D G R gC gD in
+      recorded_send _ _ _ type.to_one (struct_send (shape type) (lent_field a R yR, (search sendable, (shard_field, (seat_field a R yR, (receiver_field C gC, (sender_field D gD, (lent_field a G yG, tt))))))))
 
-module _ (a : NamedLft) (C D B R : RattleType) (gC : Ghosts C.Denot) (gD : Ghosts D.Denot) (gB : AccountsGhosts B.Denot) (yR : IsSync R) where
-  pub shard_left_send : IsSend (shard_left.the_row a C D B R gC gD gB)
+module _ (a : NamedLft) (C D R : RattleType) (gC : Ghosts C.Denot) (gD : Ghosts D.Denot) (yR : IsSync R) where
+  pub shard_left_send : IsSend (shard_left.the_row a C D R gC gD)
   shard_left_send =
-      let type = shard_left.the_type a C D B R gC gD gB in
-      recorded_send _ _ _ type.to_one (struct_send (shape type) (seat_field a R yR, (receiver_field C gC, (sender_field D gD, (part_field B gB, (search sendable, tt))))))
+      let type = shard_left.the_type a C D R gC gD in
+      recorded_send _ _ _ type.to_one (struct_send (shape type) (seat_field a R yR, (receiver_field C gC, (sender_field D gD, (report_field, (search sendable, tt))))))
 
-module _ (C B : RattleType) (gC : Ghosts C.Denot) (gB : AccountsGhosts B.Denot) where
-  pub lane_left_send : IsSend (lane_left.the_row C B gC gB)
+module _ (C : RattleType) (gC : Ghosts C.Denot) where
+  pub lane_left_send : IsSend (lane_left.the_row C gC)
   lane_left_send =
-      let type = lane_left.the_type C B gC gB in
-      recorded_send _ _ _ type.to_one (struct_send (shape type) (ends_send C gC, (part_field B gB, (search sendable, tt))))
+      let type = lane_left.the_type C gC in
+      recorded_send _ _ _ type.to_one (struct_send (shape type) (ends_send C gC, (report_field, (search sendable, tt))))

@@ -1,5 +1,3 @@
--- BookSent, JobsSent: which of the types that the threads are given and leave may go to another thread.
-pub mod BookSent
 pub mod Columns
 pub mod Dealt
 pub mod Done

@@ -1,31 +1,23 @@
 -- What an answer tells of a run, by what its threads did and by what was counted.
 -- For the contract of running::run_in.
-use Rattle.std.proofs.Common.{◌≡◌, ℕ, ◌+◌, ◌*◌, ◌/◌, ◌<◌, ◌≤◌, Bool, true, false, List, [], ◌∷◌, map, Option, Some, Result, Ok, Err, refl, sym, ap, subst, ◌∙◌, arith}
-use Rattle.std.specs.Prelude.{slice_index}
-use Rattle.std.specs.List.{sum_by}
-use Rattle.std.proofs.lemmas.List.Sums.{sum_by-cons}
+use Rattle.std.proofs.Common.{◌≡◌, ◌⊎◌, ℕ, ◌+◌, ◌*◌, ◌/◌, ◌<◌, ◌≤◌, Bool, true, false, List, Option, Some, Result, Ok, Err, inl, inr, sym, ap, subst, ◌∙◌, arith}
 use Rattle.std.proofs.Math.Nat.{lt-div-mul-add}
-use Rattle.drop_ledger.specs.declared.count.Count.{Count}
 use Rattle.drop_ledger.specs.declared.report.Report.{Report}
-use Rattle.drop_ledger.specs.Parts.{PartState, AreSums}
-use Rattle.drop_ledger.specs.Places.{place_of}
+use Rattle.drop_ledger.specs.Sums.{AreSums, Fits, SumPasses}
 use Rattle.lane_worker.specs.Serving.{Connection}
 use Rattle.span_exporter.specs.Exports.{ExporterState}
 use Rattle.span_sink.specs.LineSinks.{LineSinkState, up_state, down_state}
 use Rattle.world_theory.specs.World.{KeepsATrace, Config as CoreConfig}
+use Rattle.span_weave.specs.Woven.{HoldsOfThreads}
 use Rattle.span_weave.proofs.Headlines.{woven_headline}
 use Rattle.tsc_config.specs.declared.config.Config.{Config}
-use Rattle.run_weave.specs.Workers.{NoneFull, parts_of, ReportsAll}
-use Rattle.run_weave.specs.Ran.{Ran}
+use Rattle.run_weave.specs.Workers.{any_full, parts_of}
+use Rattle.run_weave.specs.Ran.{Ran, Reports, CountPasses}
 use Rattle.run_weave.proofs.Rans.{workers_ran}
 use Rattle.pipeline.specs.declared.fault.RunFault.{RunFault}
 use Rattle.pipeline.specs.declared.fault.RunFault.TheVariants.{NoMemory, BookFull, SinkDown}
-use Rattle.pipeline.specs.Outcome.{ReportsSums, TellsFull, TellsSink}
-use Rattle.pipeline.specs.Promise.{core_of, nodes_of, HasWorked, IsRun, RunTells, CoreRunTells}
-
-sum_mapped : {X Y : Type 0} (g : Y → ℕ) (v : X → Y) (xs : List X) → sum_by g (map v xs) ≡ sum_by (λ (x : X). g (v x)) xs
-sum_mapped g v [] = refl
-sum_mapped g v (x ∷ xs) = omega (arith, sum_by-cons g (v x) (map v xs), sum_by-cons (λ x. g (v x)) x xs, sum_mapped g v xs)
+use Rattle.pipeline.specs.Outcome.{TellsCounts, TellsSink}
+use Rattle.pipeline.specs.Promise.{core_of, nodes_of, HasWorked, IsRun, IsRunBeyond, RunTells, CoreRunTells}
 
 -- each shard keeps a trace, where there are as many traces as shards
 keeps_a_trace : (config : Config) → 0 < config.shards → config.shards ≤ config.num_traces → KeepsATrace (core_of config)
@@ -42,30 +34,50 @@ down_as : (sink : LineSinkState) → sink.is_down ≡ true → sink ≡ down_sta
 down_as sink e = ap (λ (b : Bool). record { taken = sink.taken; failures = sink.failures; is_down = b }) e
 
 module _ {F X T : Type 0} (gives : F → Option X → F → Type 0) (known : X → Connection) (ticks_give : T → Option ℕ → T → Type 0) (config : Config) (feeds : List F) (ticks : T)
-    (some : 0 < config.shards) (each : config.shards ≤ config.num_traces) (old new : ExporterState) (size : old.size ≡ config.send_batch_size) (up : old.sink.is_down ≡ false) (parts : List PartState) (is_full : Bool)
-    (h : HasWorked gives known ticks_give config feeds ticks old new parts is_full) where
-  is_run : (report : List ℕ) → AreSums parts report → is_full ≡ false → IsRun gives known ticks_give config feeds ticks old.sink new.sink report
-  is_run report sums not_full = record { ran = ran; holds = woven_headline (core_of config) config.lanes config.shards ran.threads ran.end (keeps_a_trace config some each) some ran.ran.meets }
+    (some : 0 < config.shards) (each : config.shards ≤ config.num_traces) (old new : ExporterState) (size : old.size ≡ config.send_batch_size) (up : old.sink.is_down ≡ false) (counts : List (List ℕ)) (is_full : Bool)
+    (h : HasWorked gives known ticks_give config feeds ticks old new counts is_full) where
+  -- a run, of which this is so
+  abbrev RanSo : (List F → T → LineSinkState → LineSinkState → Type 0)
+  RanSo fs ts first last = (ran : Ran gives known ticks_give (core_of config) (nodes_of config) config.queue_capacity config.lanes config.shards fs ts first last)
+      × (any_full h.left ≡ false → (lane : ℕ) → lane < config.lanes → ran.stopped lane ≡ false)
+      × (any_full h.left ≡ false → (report : List ℕ) → AreSums (parts_of h.left) report → Reports (core_of config) config.lanes config.shards ran.threads ran.end report)
+      × ((any_full h.left ≡ true) ⊎ SumPasses (parts_of h.left) → CountPasses (core_of config) config.lanes config.shards ran.threads ran.end)
+
+  ran_so : RanSo feeds ticks old.sink new.sink
+  ran_so = subst (λ (e : ExporterState). RanSo feeds ticks old.sink e.sink) h.exporter_left
+      (subst (λ (e : ExporterState). RanSo feeds ticks e.sink h.left.exporter.exporter.sink) h.exporter_is
+      (subst (λ (t : T). RanSo feeds t h.given.exporter.sink h.left.exporter.exporter.sink) h.ticks_are
+      (subst (λ (f : List F). RanSo f h.given.ticks h.given.exporter.sink h.left.exporter.exporter.sink) h.feeds_are
+      (workers_ran gives known ticks_give (core_of config) (nodes_of config) config.queue_capacity config.export_capacity config.lanes config.shards h.given h.left (ap (λ (e : ExporterState). e.size) h.exporter_is ∙ size) h.worked))))
+
+  ran_holds : HoldsOfThreads (core_of config) config.lanes config.shards ran_so.0.threads ran_so.0.end
+  ran_holds = woven_headline (core_of config) config.lanes config.shards ran_so.0.threads ran_so.0.end (keeps_a_trace config some each) some ran_so.0.ran.meets
+
+  is_run : (report : List ℕ) → (is_full ≡ false) × AreSums counts report × Fits report → IsRun gives known ticks_give config feeds ticks old.sink new.sink report
+  is_run report told =
+      let none : any_full h.left ≡ false = sym h.full ∙ told.0 in record {
+        ran = ran_so.0;
+        none_stopped = ran_so.1 none;
+        reports = ran_so.2 none report (subst (λ (z : List (List ℕ)). AreSums z report) h.counted told.1);
+        fits = told.2;
+        holds = ran_holds;
+      }
+
+  is_beyond : (is_full ≡ true) ⊎ SumPasses counts → IsRunBeyond gives known ticks_give config feeds ticks old.sink new.sink
+  is_beyond told = record { ran = ran_so.0; passes = ran_so.3 (passes told); holds = ran_holds }
     where
-      reports : ReportsAll h.left report
-      reports count = sums count ∙ (sym (sum_mapped (λ (numbers : List ℕ). slice_index numbers (place_of count)) (λ (p : PartState). p.numbers) parts)
-          ∙ ap (sum_by (λ (numbers : List ℕ). slice_index numbers (place_of count))) h.counted)
+      passes : (is_full ≡ true) ⊎ SumPasses counts → (any_full h.left ≡ true) ⊎ SumPasses (parts_of h.left)
+      passes (inl e) = inl (sym h.full ∙ e)
+      passes (inr p) = inr (subst SumPasses h.counted p)
 
-      ran : Ran gives known ticks_give (core_of config) (nodes_of config) config.queue_capacity config.lanes config.shards feeds ticks old.sink new.sink report
-      ran = subst (λ (e : ExporterState). Ran gives known ticks_give (core_of config) (nodes_of config) config.queue_capacity config.lanes config.shards feeds ticks old.sink e.sink report) h.exporter_left
-          (subst (λ (e : ExporterState). Ran gives known ticks_give (core_of config) (nodes_of config) config.queue_capacity config.lanes config.shards feeds ticks e.sink h.left.exporter.exporter.sink report) h.exporter_is
-          (subst (λ (t : T). Ran gives known ticks_give (core_of config) (nodes_of config) config.queue_capacity config.lanes config.shards feeds t h.given.exporter.sink h.left.exporter.exporter.sink report) h.ticks_are
-          (subst (λ (f : List F). Ran gives known ticks_give (core_of config) (nodes_of config) config.queue_capacity config.lanes config.shards f h.given.ticks h.given.exporter.sink h.left.exporter.exporter.sink report) h.feeds_are
-          (workers_ran gives known ticks_give (core_of config) (nodes_of config) config.queue_capacity config.export_capacity config.lanes config.shards h.given h.left report (ap (λ (e : ExporterState). e.size) h.exporter_is ∙ size) (h.none_full not_full) reports h.worked))))
-
-  pub told : (answer : Result Report RunFault) → TellsFull is_full answer → TellsSink new.sink.is_down answer → ReportsSums parts answer
+  pub told : (answer : Result Report RunFault) → TellsSink new.sink.is_down answer → TellsCounts is_full counts answer
       → RunTells gives known ticks_give config feeds ticks old.sink.taken old.sink.failures new.sink.taken new.sink.failures answer
-  told (Ok report) full down sums = subst (λ (s : LineSinkState). IsRun gives known ticks_give config feeds ticks (up_state old.sink.taken old.sink.failures) s report) (up_as new.sink down)
-      (subst (λ (s : LineSinkState). IsRun gives known ticks_give config feeds ticks s new.sink report) (up_as old.sink up) (is_run report sums full))
-  told (Err (SinkDown report)) full down sums = subst (λ (s : LineSinkState). IsRun gives known ticks_give config feeds ticks (up_state old.sink.taken old.sink.failures) s report) (down_as new.sink down)
-      (subst (λ (s : LineSinkState). IsRun gives known ticks_give config feeds ticks s new.sink report) (up_as old.sink up) (is_run report sums full))
-  told (Err NoMemory) full down sums = tt
-  told (Err BookFull) full down sums = tt
+  told (Ok report) down tells = subst (λ (s : LineSinkState). IsRun gives known ticks_give config feeds ticks (up_state old.sink.taken old.sink.failures) s report) (up_as new.sink down)
+      (subst (λ (s : LineSinkState). IsRun gives known ticks_give config feeds ticks s new.sink report) (up_as old.sink up) (is_run report tells))
+  told (Err (SinkDown report)) down tells = subst (λ (s : LineSinkState). IsRun gives known ticks_give config feeds ticks (up_state old.sink.taken old.sink.failures) s report) (down_as new.sink down)
+      (subst (λ (s : LineSinkState). IsRun gives known ticks_give config feeds ticks s new.sink report) (up_as old.sink up) (is_run report tells))
+  told (Err NoMemory) down tells = tt
+  told (Err BookFull) down tells = (new.sink.is_down, subst (λ (s : LineSinkState). IsRunBeyond gives known ticks_give config feeds ticks s new.sink) (up_as old.sink up) (is_beyond tells))
 
 module _ {F X T : Type 0} (gives : F → Option X → F → Type 0) (known : X → Connection) (ticks_give : T → Option ℕ → T → Type 0) (config : Config) (feeds : List F) (ticks : T) where
   -- the same of the same bytes and failures
@@ -79,7 +91,7 @@ module _ {F X T : Type 0} (gives : F → Option X → F → Type 0) (known : X �
   -- where nothing is said of the connections and the ticks
   pub core_told : (taken : Option (List ℕ)) (failures : ℕ) (taken_after : Option (List ℕ)) (failures_after : ℕ) (answer : Result Report RunFault) → RunTells gives known ticks_give config feeds ticks taken failures taken_after failures_after answer
       → CoreRunTells config taken failures taken_after failures_after answer
-  core_told taken failures taken_after failures_after (Ok report) h = record { threads = h.ran.threads; end = h.ran.end; ran = h.ran.ran; moments = h.ran.moments; same_ticks = h.ran.same_ticks; holds = h.holds }
-  core_told taken failures taken_after failures_after (Err (SinkDown report)) h = record { threads = h.ran.threads; end = h.ran.end; ran = h.ran.ran; moments = h.ran.moments; same_ticks = h.ran.same_ticks; holds = h.holds }
+  core_told taken failures taken_after failures_after (Ok report) h = record { threads = h.ran.threads; end = h.ran.end; ran = h.ran.ran; reports = h.reports; fits = h.fits; moments = h.ran.moments; same_ticks = h.ran.same_ticks; holds = h.holds }
+  core_told taken failures taken_after failures_after (Err (SinkDown report)) h = record { threads = h.ran.threads; end = h.ran.end; ran = h.ran.ran; reports = h.reports; fits = h.fits; moments = h.ran.moments; same_ticks = h.ran.same_ticks; holds = h.holds }
   core_told taken failures taken_after failures_after (Err NoMemory) h = tt
-  core_told taken failures taken_after failures_after (Err BookFull) h = tt
+  core_told taken failures taken_after failures_after (Err BookFull) h = (h.0, record { threads = h.1.ran.threads; end = h.1.ran.end; ran = h.1.ran.ran; passes = h.1.passes; moments = h.1.ran.moments; same_ticks = h.1.ran.same_ticks; holds = h.1.holds })

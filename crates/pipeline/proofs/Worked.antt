@@ -1,12 +1,12 @@
 -- The threads of a run did what each promises: their queues and seats may be joined again, and then they have worked.
 -- For the contract of running::run_over.
-use Rattle.std.proofs.Common.{◌≡◌, ℕ, ◌+◌, ◌<◌, Bool, false, List, [], ◌∷◌, ◌++◌, length, map, Option, All, refl, sym, ap, subst, ◌∙◌, arith, append_assoc}
+use Rattle.std.proofs.Common.{◌≡◌, ℕ, ◌+◌, ◌<◌, ◌||◌, Bool, false, List, [], ◌∷◌, ◌++◌, length, map, Option, All, refl, sym, ap, subst, ◌∙◌, arith, append_assoc}
+use Rattle.std.specs.List.{list_any}
 use Rattle.std.proofs.lemmas.List.{length-map, map-append}
 use Rattle.std.proofs.lemmas.List.Elements.{All-nil, All-cons, All-head, All-tail}
 use Rattle.atomic_table.specs.Seated.{TableId}
 use Rattle.otlp_types.specs.declared.arrival.Item.{Item}
 use Rattle.otlp_types.specs.declared.arrival.Shipment.{Shipment}
-use Rattle.drop_ledger.specs.Parts.{PartState}
 use Rattle.lane_queue.specs.Ends.{EndState, ReceiverState, queues, AreTied, HasHistoryAt}
 use Rattle.lane_worker.specs.Serving.{Connection}
 use Rattle.policy_tree.specs.declared.limiter_node.LimiterNode.{LimiterNode}
@@ -32,14 +32,17 @@ pub all_both : {X : Type 0} (P Q R : X → Type 0) (xs : List X) → ((x : X) �
 all_both P Q R [] f h k = All-nil R
 all_both P Q R (x ∷ xs) f h k = All-cons R x xs (f x (All-head P x xs h) (All-head Q x xs k)) (all_both P Q R xs f (All-tail P x xs h) (All-tail Q x xs k))
 
--- what was counted with the parts of lanes, of shards and one more
-pub counted_with : {X Y : Type 0} (part : X → PartState) (part_of : Y → PartState) (first : List X) (third : List Y) (last : PartState) (none lanes shards all : List PartState) → none ≡ [] → lanes ≡ none ++ map part first → shards ≡ lanes ++ map part_of third → all ≡ shards ++ last ∷ []
-    → map (λ (p : PartState). p.numbers) all ≡ map (λ (x : X). (part x).numbers) first ++ (map (λ (y : Y). (part_of y).numbers) third ++ last.numbers ∷ [])
-counted_with part part_of first third last none lanes shards all empty by_lanes by_shards by_all =
-    ap (map (λ (p : PartState). p.numbers)) by_all ∙ (map-append (λ (p : PartState). p.numbers) shards (last ∷ [])
-    ∙ (ap (λ (z : List (List ℕ)). z ++ last.numbers ∷ []) (ap (map (λ (p : PartState). p.numbers)) (by_shards ∙ ap (λ (z : List PartState). z ++ map part_of third) (by_lanes ∙ ap (λ (z : List PartState). z ++ map part first) empty))
-    ∙ (map-append (λ (p : PartState). p.numbers) (map part first) (map part_of third) ∙ cc (twice (λ (p : PartState). p.numbers) part first, twice (λ (p : PartState). p.numbers) part_of third)))
-    ∙ append_assoc (map (λ x. (part x).numbers) first) (map (λ y. (part_of y).numbers) third) (last.numbers ∷ [])))
+-- what lanes, shards and one more counted
+pub counted_by_all : {X Y : Type 0} (of_lane : X → List ℕ) (of_shard : Y → List ℕ) (first : List X) (third : List Y) (last : List ℕ) (none lanes shards all : List (List ℕ)) → none ≡ [] → lanes ≡ none ++ map of_lane first → shards ≡ lanes ++ map of_shard third → all ≡ shards ++ last ∷ []
+    → all ≡ map of_lane first ++ (map of_shard third ++ last ∷ [])
+counted_by_all of_lane of_shard first third last none lanes shards all empty by_lanes by_shards by_all =
+    by_all ∙ (ap (λ (z : List (List ℕ)). z ++ last ∷ []) (by_shards ∙ ap (λ (z : List (List ℕ)). z ++ map of_shard third) (by_lanes ∙ ap (λ (z : List (List ℕ)). z ++ map of_lane first) empty))
+    ∙ append_assoc (map of_lane first) (map of_shard third) (last ∷ []))
+
+-- some mapped element passes where one passes mapped
+pub any_mapped : {X Y : Type 0} (test : Y → Bool) (f : X → Y) (xs : List X) → list_any test (map f xs) ≡ list_any (λ (x : X). test (f x)) xs
+any_mapped test f [] = refl
+any_mapped test f (x ∷ xs) = ap (λ (b : Bool). test (f x) || b) (any_mapped test f xs)
 
 module _ {F X T : Type 0} (gives : F → Option X → F → Type 0) (known : X → Connection) (ticks_give : T → Option ℕ → T → Type 0) (s : Settings) (nodes : List LimiterNode) (capacity lanes shards : ℕ) (given : Given F T) (left : Left) where
   -- all did what they promise, with new ends and seats

@@ -2,7 +2,7 @@
 use Rattle.std.specs.Prelude.{◌≡◌, ◌⊎◌, ℕ, ◌+◌, Bool, true, false, if◌then◌else◌, List, Option, Result, Ok, Err}
 use Rattle.std.specs.Io.KnownBytes.{Appends}
 use Rattle.span_sink.specs.LineSinks.{LineSinkState}
-use Rattle.drop_ledger.specs.Parts.{PartState, AreSums}
+use Rattle.drop_ledger.specs.Sums.{AreSums, SumPasses, Fits}
 use Rattle.drop_ledger.specs.declared.report.Report.{Report}
 use Rattle.pipeline.specs.declared.fault.RunFault.{RunFault}
 use Rattle.pipeline.specs.declared.fault.RunFault.TheVariants.{NoMemory, BookFull, SinkDown}
@@ -25,16 +25,9 @@ TellsSink is_down (Err NoMemory) = ⊥
 TellsSink is_down (Err BookFull) = Unit {0}
 TellsSink is_down (Err (SinkDown report)) = is_down ≡ true
 
--- A report has the sums of what was added with these parts.
-abbrev pub ReportsSums : List PartState → Result Report RunFault → Type 0
-ReportsSums parts (Ok report) = AreSums parts report
-ReportsSums parts (Err NoMemory) = Unit {0}
-ReportsSums parts (Err BookFull) = Unit {0}
-ReportsSums parts (Err (SinkDown report)) = AreSums parts report
-
--- What a run that came to its end answers, by whether a count would have passed 2^64-1.
-abbrev pub TellsFull : {A : Type 0} → (is_full : Bool) → Result A RunFault → Type 0
-TellsFull is_full (Ok report) = is_full ≡ false
-TellsFull is_full (Err NoMemory) = ⊥
-TellsFull is_full (Err BookFull) = is_full ≡ true
-TellsFull is_full (Err (SinkDown report)) = is_full ≡ false
+-- What a run that came to its end answers, by what its threads counted: a report of the sums exactly where no thread stopped counting and no sum passes 2^64-1.
+abbrev pub TellsCounts : (is_full : Bool) → List (List ℕ) → Result Report RunFault → Type 0
+TellsCounts is_full counts (Ok report) = (is_full ≡ false) × AreSums counts report × Fits report
+TellsCounts is_full counts (Err NoMemory) = ⊥
+TellsCounts is_full counts (Err BookFull) = (is_full ≡ true) ⊎ SumPasses counts
+TellsCounts is_full counts (Err (SinkDown report)) = (is_full ≡ false) × AreSums counts report × Fits report

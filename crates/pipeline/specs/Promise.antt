@@ -1,6 +1,6 @@
 -- What a run of the pipeline promises: what its threads did is a run of the core.
-use Rattle.std.specs.Prelude.{◌≡◌, ℕ, ◌+◌, ◌/◌, Bool, false, List, [], map, Option, Some, Result, Ok, Err}
-use Rattle.drop_ledger.specs.Parts.{PartState}
+use Rattle.std.specs.Prelude.{◌≡◌, ℕ, ◌+◌, ◌/◌, ◌<◌, Bool, false, List, [], Option, Some, Result, Ok, Err}
+use Rattle.drop_ledger.specs.Sums.{Fits}
 use Rattle.drop_ledger.specs.declared.report.Report.{Report}
 use Rattle.lane_worker.specs.Serving.{Connection}
 use Rattle.policy_tree.specs.declared.limiter_node.LimiterNode.{LimiterNode}
@@ -13,8 +13,8 @@ use Rattle.world_theory.specs.World.{Config as CoreConfig, settings_for}
 use Rattle.span_weave.specs.Threads.{Threads, Export}
 use Rattle.span_weave.specs.Woven.{HoldsOfThreads}
 use Rattle.tsc_config.specs.declared.config.Config.{Config}
-use Rattle.run_weave.specs.Workers.{Given, Left, Worked, NoneFull, parts_of}
-use Rattle.run_weave.specs.Ran.{ThreadsRan, Ran}
+use Rattle.run_weave.specs.Workers.{Given, Left, Worked, any_full, parts_of}
+use Rattle.run_weave.specs.Ran.{ThreadsRan, Ran, Reports, CountPasses}
 use Rattle.pipeline.specs.declared.fault.RunFault.{RunFault}
 use Rattle.pipeline.specs.declared.fault.RunFault.TheVariants.{NoMemory, BookFull, SinkDown}
 
@@ -42,16 +42,16 @@ IsNewShard config shard = StandsFor shard [] 0 × (has_due shard ≡ false) × (
 abbrev pub nodes_of : Config → List LimiterNode
 nodes_of config = limiters (meaning config.policies)
 
--- what each answer tells of the run, by the sink's bytes and failures before and after: such a run left this report
-abbrev pub AnswerTells : (LineSinkState → LineSinkState → List ℕ → Type 0) → (taken : Option (List ℕ)) → (failures : ℕ) → (taken_after : Option (List ℕ)) → (failures_after : ℕ) → Result Report RunFault → Type 0
-AnswerTells IsSuch taken failures taken_after failures_after (Ok report) = IsSuch (up_state taken failures) (up_state taken_after failures_after) report
-AnswerTells IsSuch taken failures taken_after failures_after (Err (SinkDown report)) = IsSuch (up_state taken failures) (down_state taken_after failures_after) report
-AnswerTells IsSuch taken failures taken_after failures_after (Err NoMemory) = Unit {0}
-AnswerTells IsSuch taken failures taken_after failures_after (Err BookFull) = Unit {0}
+-- what each answer tells of the run, by the sink's bytes and failures before and after: such a run left this report, or one of which no report can tell
+abbrev pub AnswerTells : (IsSuch : LineSinkState → LineSinkState → List ℕ → Type 0) → (IsBeyond : LineSinkState → LineSinkState → Type 0) → (taken : Option (List ℕ)) → (failures : ℕ) → (taken_after : Option (List ℕ)) → (failures_after : ℕ) → Result Report RunFault → Type 0
+AnswerTells IsSuch IsBeyond taken failures taken_after failures_after (Ok report) = IsSuch (up_state taken failures) (up_state taken_after failures_after) report
+AnswerTells IsSuch IsBeyond taken failures taken_after failures_after (Err (SinkDown report)) = IsSuch (up_state taken failures) (down_state taken_after failures_after) report
+AnswerTells IsSuch IsBeyond taken failures taken_after failures_after (Err NoMemory) = Unit {0}
+AnswerTells IsSuch IsBeyond taken failures taken_after failures_after (Err BookFull) = (is_down : Bool) × IsBeyond (up_state taken failures) (record { taken = taken_after; failures = failures_after; is_down = is_down })
 
 module _ {F X T : Type 0} (gives : F → Option X → F → Type 0) (known : X → Connection) (ticks_give : T → Option ℕ → T → Type 0) (config : Config) (feeds : List F) (ticks : T) where
-  -- all threads did what each promises, and their queues and seats were joined again; they counted with these parts
-  pub record HasWorked (old new : ExporterState) (parts : List PartState) (is_full : Bool) : Type 0 where
+  -- all threads did what each promises, and their queues and seats were joined again; each counted these numbers, and where one stopped counting `is_full` says so
+  pub record HasWorked (old new : ExporterState) (counts : List (List ℕ)) (is_full : Bool) : Type 0 where
     pub given : Given F T
     pub left : Left
     pub worked : Worked gives known ticks_give (settings_for (core_of config) (config.lanes + 1)) (nodes_of config) config.queue_capacity config.export_capacity config.lanes config.shards given left
@@ -59,17 +59,28 @@ module _ {F X T : Type 0} (gives : F → Option X → F → Type 0) (known : X �
     pub ticks_are : given.ticks ≡ ticks
     pub exporter_is : given.exporter ≡ old
     pub exporter_left : left.exporter.exporter ≡ new
-    pub counted : map (λ (p : PartState). p.numbers) parts ≡ parts_of left
-    pub none_full : is_full ≡ false → NoneFull left
+    pub counted : counts ≡ parts_of left
+    pub full : is_full ≡ any_full left
 
   -- what the threads did is a run of the core, for which the headline holds; the report and the sink tell of it
   pub record IsRun (old new : LineSinkState) (report : List ℕ) : Type 0 where
-    pub ran : Ran gives known ticks_give (core_of config) (nodes_of config) config.queue_capacity config.lanes config.shards feeds ticks old new report
+    pub ran : Ran gives known ticks_give (core_of config) (nodes_of config) config.queue_capacity config.lanes config.shards feeds ticks old new
+    -- each feed was asked until it ended
+    pub none_stopped : (lane : ℕ) → lane < config.lanes → ran.stopped lane ≡ false
+    -- no count passes 2^64-1
+    pub reports : Reports (core_of config) config.lanes config.shards ran.threads ran.end report
+    pub fits : Fits report
+    pub holds : HoldsOfThreads (core_of config) config.lanes config.shards ran.threads ran.end
+
+  -- the same of a run some of whose counts passes 2^64-1, so that there is no report of it
+  pub record IsRunBeyond (old new : LineSinkState) : Type 0 where
+    pub ran : Ran gives known ticks_give (core_of config) (nodes_of config) config.queue_capacity config.lanes config.shards feeds ticks old new
+    pub passes : CountPasses (core_of config) config.lanes config.shards ran.threads ran.end
     pub holds : HoldsOfThreads (core_of config) config.lanes config.shards ran.threads ran.end
 
   -- what each answer tells of the run
   abbrev pub RunTells : (taken : Option (List ℕ)) → (failures : ℕ) → (taken_after : Option (List ℕ)) → (failures_after : ℕ) → Result Report RunFault → Type 0
-  RunTells = AnswerTells IsRun
+  RunTells = AnswerTells IsRun IsRunBeyond
 
 -- ---- a run of connections and ticks of which nothing is said
 
@@ -78,11 +89,23 @@ module _ (config : Config) where
   pub record IsCoreRun (old new : LineSinkState) (report : List ℕ) : Type 0 where
     pub threads : Threads
     pub end : Export
-    pub ran : ThreadsRan (core_of config) (nodes_of config) config.queue_capacity config.lanes config.shards old new report threads end
+    pub ran : ThreadsRan (core_of config) (nodes_of config) config.queue_capacity config.lanes config.shards old new threads end
+    pub reports : Reports (core_of config) config.lanes config.shards threads end report
+    pub fits : Fits report
+    pub moments : List ℕ
+    pub same_ticks : (shard : ℕ) → threads.ticks shard ≡ moments
+    pub holds : HoldsOfThreads (core_of config) config.lanes config.shards threads end
+
+  -- the same of a run some of whose counts passes 2^64-1
+  pub record IsCoreRunBeyond (old new : LineSinkState) : Type 0 where
+    pub threads : Threads
+    pub end : Export
+    pub ran : ThreadsRan (core_of config) (nodes_of config) config.queue_capacity config.lanes config.shards old new threads end
+    pub passes : CountPasses (core_of config) config.lanes config.shards threads end
     pub moments : List ℕ
     pub same_ticks : (shard : ℕ) → threads.ticks shard ≡ moments
     pub holds : HoldsOfThreads (core_of config) config.lanes config.shards threads end
 
   -- what each answer tells of it
   abbrev pub CoreRunTells : (taken : Option (List ℕ)) → (failures : ℕ) → (taken_after : Option (List ℕ)) → (failures_after : ℕ) → Result Report RunFault → Type 0
-  CoreRunTells = AnswerTells IsCoreRun
+  CoreRunTells = AnswerTells IsCoreRun IsCoreRunBeyond

@@ -4,7 +4,7 @@ ghost use Rattle.std.specs.List.{list_any};
 ghost use Rattle.lane_queue.specs.Ends.{IsNew};
 ghost use Rattle.run_weave.specs.Jobs.{ExporterDid};
 
-use drop_ledger::{Accounts, BookShare, Part, Tally};
+use drop_ledger::{Report, Tally};
 use job_threads::Job;
 use lane_queue::{Receiver, Room};
 use otlp_types::Shipment;
@@ -15,55 +15,52 @@ use std::time::Clock;
 
 /// What the exporter is given.
 #[derive(Drop)]
-pub struct ExporterJob<'s, S: Sink, D: Room, B: Accounts, R: Wait> {
+pub struct ExporterJob<'s, S: Sink, D: Room, R: Wait> {
     pub rt: &'s R,
     pub exporter: Exporter<S>,
     pub receiver: Receiver<Shipment, D>,
-    pub share: BookShare<'s, B, R>,
 }
 
 /// What the exporter leaves.
 #[derive(Drop)]
-pub struct ExporterLeft<S: Sink, D: Room, B: Accounts> {
+pub struct ExporterLeft<S: Sink, D: Room> {
     /// The exporter, whose batch is empty.
     pub exporter: Exporter<S>,
     /// The end at which shipments were popped.
     pub receiver: Receiver<Shipment, D>,
-    /// What it counted with.
-    pub part: Part<B>,
-    /// Whether a count would have passed 2^64-1.
+    /// What it counted.
+    pub counts: Report,
+    /// Whether a number of its own would have passed 2^64-1.
     pub is_full: bool,
-    pub ghost one: { part.parts ≡ 1 },
 }
 
-impl<'s, S: Sink + Drop, D: Room, B: Accounts, R: Wait + Clock> Job
-    for ExporterJob<'s, S, D, B, R> {
+impl<'s, S: Sink + Drop, D: Room, R: Wait + Clock> Job for ExporterJob<'s, S, D, R> {
     ghost use Rattle.std.specs.Prelude.{◌≡◌, ◌<◌, [], All, false};
     ghost use Rattle.std.specs.List.{list_any};
     ghost use Rattle.lane_queue.specs.Ends.{IsNew};
     ghost use Rattle.run_weave.specs.Jobs.{ExporterDid};
+    ghost use Rattle.run_weave.specs.Workers.{zeros};
 
-    type Left = ExporterLeft<S, D, B>;
+    type Left = ExporterLeft<S, D>;
 
     ghost ready = { λ job. (job.exporter.batch ≡ []) × (0 < job.exporter.size) × (list_any (λ ended. ended) job.exporter.ends ≡ false)
         × All IsNew job.receiver.ends };
 
-    ghost did = { λ job left. ExporterDid job.exporter job.receiver job.share.numbers
-        left.exporter left.receiver left.part.numbers left.is_full };
+    ghost did = { λ job left. ExporterDid job.exporter job.receiver zeros
+        left.exporter left.receiver left.counts left.is_full };
 
-    fn work(self) -> ExporterLeft<S, D, B> {
+    fn work(self) -> ExporterLeft<S, D> {
         let ExporterJob {
             rt,
             exporter,
             receiver,
-            share,
         } = self;
-        let end = span_exporter::work(rt, exporter, receiver, Tally::new(share));
+        let end = span_exporter::work(rt, exporter, receiver, Tally::new(Report::new()));
         let is_full = end.tally.is_full();
         ExporterLeft {
             exporter: end.exporter,
             receiver: end.receiver,
-            part: end.tally.end().end(),
+            counts: end.tally.end(),
             is_full,
         }
     }

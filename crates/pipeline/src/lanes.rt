@@ -1,36 +1,30 @@
 //! What the lanes' threads are given.
-ghost use Rattle.std.specs.Prelude.{◌≡◌, ◌+◌, ◌<◌, ◌≤◌, [], All, length, map, replicate, vec_len, vec_capacity, IfOk, OnOk};
-ghost use Rattle.drop_ledger.specs.Parts.{PartState};
+ghost use Rattle.std.specs.Prelude.{◌≡◌, ◌<◌, ◌≤◌, [], All, length, map, vec_len, vec_capacity, IfOk};
 ghost use Rattle.queue_grid.specs.Grid.{ends_of};
 ghost use Rattle.pipeline.specs.Made.{NumberedFrom};
 
 use crate::lane_job::LaneJob;
 use crate::lent::Lent;
-use drop_ledger::{Accounts, BookShare, Part};
 use lane_queue::{Room, Sender, SenderPort};
 use lane_seq::Lane;
 use otlp_types::Item;
 use std::alloc::{AllocError, Global};
 use std::sync::Wait;
 
-/// What the lanes' threads are given: for each feed, in their order, a lane of its number over its ends, and a part to count
-/// with.
-pub fn lane_jobs<'s, F: Drop, C: Room, B: Accounts, G, P, M, R: Wait>(
-    lent: &Lent<'s, B, G, P, M, R>,
+/// What the lanes' threads are given: for each feed, in their order, a lane of its number over its ends.
+pub fn lane_jobs<'s, F: Drop, C: Room, G, P, M, R: Wait>(
+    lent: &Lent<'s, G, P, M, R>,
     feeds: Vec<F>,
     columns: Vec<Vec<Sender<Item, C>>>,
-    parts: &mut Vec<Part<B>>,
-) -> Result<Vec<LaneJob<'s, F, C, B, G, P, M, R>>, AllocError>
+) -> Result<Vec<LaneJob<'s, F, C, G, P, M, R>>, AllocError>
     requires few { vec_len feeds < 65536 }
     requires columns { (vec_len columns ≡ vec_len feeds) × All (λ c. 0 < length c.items) columns.items }
-    requires parts { (vec_len feeds ≤ vec_len parts.old) × All (λ p. p ≡ record { parts = 1; numbers = replicate 9 0 }) parts.old.items }
     ensures count { IfOk result (λ jobs. vec_len jobs ≡ vec_len feeds) }
     ensures ready { IfOk result (λ jobs. All (λ job. (job.lane.number ≡ job.number) × (job.room.items ≡ []) × (length job.lane.ports ≤ vec_capacity job.room)) jobs.items) }
     ensures feeds { IfOk result (λ jobs. map (λ job. job.feed) jobs.items ≡ feeds.items) }
     ensures columns { IfOk result (λ jobs. map (λ job. job.lane.ports) jobs.items ≡ ends_of columns.items) }
     ensures numbers { IfOk result (λ jobs. NumberedFrom 0 (map (λ job. job.number) jobs.items)) }
-    ensures new { IfOk result (λ jobs. All (λ job. (job.lane.connected ≡ 0) × (job.share.numbers ≡ replicate 9 0)) jobs.items) }
-    ensures parts { OnOk result ((vec_len parts.new + vec_len feeds ≡ vec_len parts.old) × All (λ p. p ≡ record { parts = 1; numbers = replicate 9 0 }) parts.new.items) }
+    ensures new { IfOk result (λ jobs. All (λ job. job.lane.connected ≡ 0) jobs.items) }
 {
     let mut feeds = feeds;
     let mut columns = columns;
@@ -38,27 +32,23 @@ pub fn lane_jobs<'s, F: Drop, C: Room, B: Accounts, G, P, M, R: Wait>(
     while let Some(feed) = feeds.pop() {
         let number = feeds.len() as u16;
         let senders = columns.take_last();
-        let part = parts.take_last();
-        jobs.push_reserved(lane_job(lent, number, feed, senders, part)?);
+        jobs.push_reserved(lane_job(lent, number, feed, senders)?);
     }
     jobs.reverse();
     Ok(jobs)
 }
 
 /// What a lane's thread is given.
-fn lane_job<'s, F: Drop, C: Room, B: Accounts, G, P, M, R: Wait>(
-    lent: &Lent<'s, B, G, P, M, R>,
+fn lane_job<'s, F: Drop, C: Room, G, P, M, R: Wait>(
+    lent: &Lent<'s, G, P, M, R>,
     number: u16,
     feed: F,
     senders: Vec<Sender<Item, C>>,
-    part: Part<B>,
-) -> Result<LaneJob<'s, F, C, B, G, P, M, R>, AllocError>
-    requires some { 0 < length senders.items }
-    requires part { part.parts ≡ 1 }
+) -> Result<LaneJob<'s, F, C, G, P, M, R>, AllocError>
+    requires { 0 < length senders.items }
     ensures number { IfOk result (λ job. job.number ≡ number) }
     ensures lane { IfOk result (λ job. job.lane ≡ record { number = number; connected = 0; ports = senders.items }) }
     ensures room { IfOk result (λ job. (job.room.items ≡ []) × (length job.lane.ports ≤ vec_capacity job.room)) }
-    ensures share { IfOk result (λ job. job.share ≡ part) }
     ensures feed { IfOk result (λ job. job.feed ≡ feed) }
 {
     let (ports, room) = lane_lists(lent.alloc, senders.len())?;
@@ -69,7 +59,6 @@ fn lane_job<'s, F: Drop, C: Room, B: Accounts, G, P, M, R: Wait>(
         feed,
         lane: lane_of(lent.rt, number, senders, ports),
         room,
-        share: BookShare::new(lent.rt, lent.book, part),
         gate: lent.gate,
         stop: lent.stop,
         clock: lent.clock,

@@ -1,6 +1,5 @@
 //! All that a run needs is made before a thread is started.
-ghost use Rattle.std.specs.Prelude.{◌≡◌, ◌+◌, ◌++◌, ◌∷◌, ◌<◌, ◌≤◌, [], All, length, map, replicate, vec_len, vec_capacity, IfOk};
-ghost use Rattle.drop_ledger.specs.Parts.{PartState};
+ghost use Rattle.std.specs.Prelude.{◌≡◌, ◌+◌, ◌++◌, ◌∷◌, ◌<◌, ◌≤◌, [], All, length, map, vec_len, vec_capacity, IfOk};
 ghost use Rattle.lane_queue.specs.Ends.{AreTied, IsNew};
 ghost use Rattle.queue_grid.specs.Grid.{AreNewColumns, HasRoom, IsTiedGrid, ends_of};
 ghost use Rattle.shared_budget.specs.Budget.{AreNewSeats};
@@ -14,7 +13,7 @@ use crate::lent::Lent;
 use crate::shard_job::ShardJob;
 use crate::shards::{ShardEnds, shard_jobs};
 use crate::ticker_job::TickerJob;
-use drop_ledger::{Accounts, BookShare, Part};
+use drop_ledger::Report;
 use job_threads::Team;
 use lane_queue::{LaneQueue, Receiver, Room, Sender};
 use otlp_types::{Item, Shipment};
@@ -26,45 +25,37 @@ use tsc_config::Config;
 
 /// What a run needs beside its exporter.
 #[derive(Drop)]
-pub struct Made<'s, F, T, C: Room, D: Room, B: Accounts, G, P, M, R: Wait> {
+pub struct Made<'s, F, T, C: Room, D: Room, G, P, M, R: Wait> {
     /// What the threads are given.
-    pub team: Team<
-        LaneJob<'s, F, C, B, G, P, M, R>,
-        TickerJob<'s, T, C, R>,
-        ShardJob<'s, C, D, B, G, R>,
-    >,
+    pub team: Team<LaneJob<'s, F, C, G, P, M, R>, TickerJob<'s, T, C, R>, ShardJob<'s, C, D, G, R>>,
     /// The ends at which the exporter pops, by shard.
     pub shipments: Receiver<Shipment, D>,
-    /// What the exporter counts with.
-    pub share: BookShare<'s, B, R>,
     /// Room for what the threads leave.
-    pub rooms: Rooms<'s, C, D, B, R>,
+    pub rooms: Rooms<'s, C, D, R>,
 }
 
 /// Room for what the threads of a run leave, and the lists with which its queues are joined again.
 #[derive(Drop)]
-pub struct Rooms<'s, C: Room, D: Room, B: Accounts, R: Wait> {
+pub struct Rooms<'s, C: Room, D: Room, R: Wait> {
     /// The ends at which items were pushed, for each lane and then for the ticker, by shard.
     pub columns: Vec<Vec<Sender<Item, C>>>,
     /// The shards' seats and ends.
     pub ends: ShardEnds<'s, C, D, R>,
-    /// The parts with which all counted.
-    pub parts: Vec<Part<B>>,
+    /// What each thread counted.
+    pub counts: Vec<Report>,
     /// An empty list for each shard.
     pub rows: Vec<Vec<Sender<Item, C>>>,
 }
 
-/// Makes all that the threads of a run are given. There is a part for each lane and shard, and one for the exporter.
-pub fn make<'s, F: Drop, T: Drop, C: Room, D: Room, B: Accounts, G, P, M, R: Wait>(
-    lent: &Lent<'s, B, G, P, M, R>,
+/// Makes all that the threads of a run are given.
+pub fn make<'s, F: Drop, T: Drop, C: Room, D: Room, G, P, M, R: Wait>(
+    lent: &Lent<'s, G, P, M, R>,
     config: &Config,
     feeds: Vec<F>,
     ticks: T,
-    parts: Vec<Part<B>>,
-) -> Result<Made<'s, F, T, C, D, B, G, P, M, R>, AllocError>
+) -> Result<Made<'s, F, T, C, D, G, P, M, R>, AllocError>
     requires runs { CanRun config.now C.capacity D.capacity }
     requires feeds { vec_len feeds ≡ config.now.lanes }
-    requires parts { (vec_len parts ≡ config.now.lanes + config.now.shards + 1) × All (λ p. p ≡ record { parts = 1; numbers = replicate 9 0 }) parts.items }
     ensures lanes { IfOk result (λ made. (vec_len made.team.first ≡ config.now.lanes)
         × All (λ job. (job.lane.number ≡ job.number) × (job.room.items ≡ []) × (length job.lane.ports ≤ vec_capacity job.room)) made.team.first.items) }
     ensures shards { IfOk result (λ made. (vec_len made.team.third ≡ config.now.shards)
@@ -73,16 +64,15 @@ pub fn make<'s, F: Drop, T: Drop, C: Room, D: Room, B: Accounts, G, P, M, R: Wai
     ensures feeds { IfOk result (λ made. map (λ job. job.feed) made.team.first.items ≡ feeds.items) }
     ensures ticker { IfOk result (λ made. (made.team.second.number ≡ config.now.lanes) × (made.team.second.ticks ≡ ticks)) }
     ensures numbers { IfOk result (λ made. NumberedFrom 0 (map (λ job. job.number) made.team.first.items) × NumberedFrom 0 (map (λ job. job.number) made.team.third.items)) }
-    ensures new_lanes { IfOk result (λ made. All (λ job. (job.lane.connected ≡ 0) × (job.share.numbers ≡ replicate 9 0)) made.team.first.items) }
-    ensures new_shards { IfOk result (λ made. All (λ job. HasSettings config.now job.shard × (job.share.numbers ≡ replicate 9 0)) made.team.third.items) }
-    ensures share { IfOk result (λ made. made.share.numbers ≡ replicate 9 0) }
+    ensures new_lanes { IfOk result (λ made. All (λ job. job.lane.connected ≡ 0) made.team.first.items) }
+    ensures new_shards { IfOk result (λ made. All (λ job. HasSettings config.now job.shard) made.team.third.items) }
     ensures ends { IfOk result (λ made. HasEnds (nodes_of config.now) config.now.shards (map (λ job. job.lane.ports) made.team.first.items) made.team.second.senders.items
         (map (λ job. job.receiver) made.team.third.items) (map (λ job. job.sender) made.team.third.items) (map (λ job. job.seat) made.team.third.items) made.shipments) }
     ensures columns { IfOk result (λ made. (made.rooms.columns.items ≡ []) × (config.now.lanes + 1 ≤ vec_capacity made.rooms.columns)) }
     ensures seats { IfOk result (λ made. (made.rooms.ends.seats.items ≡ []) × (config.now.shards ≤ vec_capacity made.rooms.ends.seats)) }
     ensures receivers { IfOk result (λ made. (made.rooms.ends.receivers.items ≡ []) × (config.now.shards ≤ vec_capacity made.rooms.ends.receivers)) }
     ensures exports { IfOk result (λ made. (made.rooms.ends.exports.items ≡ []) × (config.now.shards ≤ vec_capacity made.rooms.ends.exports)) }
-    ensures parts_room { IfOk result (λ made. (made.rooms.parts.items ≡ []) × (config.now.lanes + config.now.shards + 1 ≤ vec_capacity made.rooms.parts)) }
+    ensures counts_room { IfOk result (λ made. (made.rooms.counts.items ≡ []) × (config.now.lanes + config.now.shards + 1 ≤ vec_capacity made.rooms.counts)) }
     ensures rows { IfOk result (λ made. (vec_len made.rooms.rows ≡ config.now.shards) × All (HasRoom (config.now.lanes + 1)) made.rooms.rows.items) }
 {
     let lanes = config.lanes as usize;
@@ -93,29 +83,25 @@ pub fn make<'s, F: Drop, T: Drop, C: Room, D: Room, B: Accounts, G, P, M, R: Wai
         shipments,
         rows,
     } = made;
-    let mut parts = parts;
-    let share = BookShare::new(lent.rt, lent.book, parts.take_last());
-    let team = team_of(lent, config, feeds, ticks, columns, ends, parts)?;
+    let team = team_of(lent, config, feeds, ticks, columns, ends)?;
     let rooms = rooms_for(lent.alloc, lanes, config.shards, rows)?;
     Ok(Made {
         team,
         shipments,
-        share,
         rooms,
     })
 }
 
 /// What the threads of a run are given: the lanes, the ticker and the shards.
-fn team_of<'s, F: Drop, T: Drop, C: Room, D: Room, B: Accounts, G, P, M, R: Wait>(
-    lent: &Lent<'s, B, G, P, M, R>,
+fn team_of<'s, F: Drop, T: Drop, C: Room, D: Room, G, P, M, R: Wait>(
+    lent: &Lent<'s, G, P, M, R>,
     config: &Config,
     feeds: Vec<F>,
     ticks: T,
     columns: Vec<Vec<Sender<Item, C>>>,
     ends: ShardEnds<'s, C, D, R>,
-    parts: Vec<Part<B>>,
 ) -> Result<
-    Team<LaneJob<'s, F, C, B, G, P, M, R>, TickerJob<'s, T, C, R>, ShardJob<'s, C, D, B, G, R>>,
+    Team<LaneJob<'s, F, C, G, P, M, R>, TickerJob<'s, T, C, R>, ShardJob<'s, C, D, G, R>>,
     AllocError,
 >
     requires runs { CanRun config.now C.capacity D.capacity }
@@ -124,7 +110,6 @@ fn team_of<'s, F: Drop, T: Drop, C: Room, D: Room, B: Accounts, G, P, M, R: Wait
     requires seats { AreNewSeats (nodes_of config.now) config.now.shards ends.seats.items }
     requires receivers { (vec_len ends.receivers ≡ config.now.shards) × All (λ r. All IsNew r.ends) ends.receivers.items }
     requires exports { (vec_len ends.exports ≡ config.now.shards) × All IsNew ends.exports.items }
-    requires parts { (vec_len parts ≡ config.now.lanes + config.now.shards) × All (λ p. p ≡ record { parts = 1; numbers = replicate 9 0 }) parts.items }
     ensures lanes { IfOk result (λ team. (vec_len team.first ≡ config.now.lanes)
         × All (λ job. (job.lane.number ≡ job.number) × (job.room.items ≡ []) × (length job.lane.ports ≤ vec_capacity job.room)) team.first.items) }
     ensures shards { IfOk result (λ team. (vec_len team.third ≡ config.now.shards)
@@ -132,17 +117,16 @@ fn team_of<'s, F: Drop, T: Drop, C: Room, D: Room, B: Accounts, G, P, M, R: Wait
     ensures feeds { IfOk result (λ team. map (λ job. job.feed) team.first.items ≡ feeds.items) }
     ensures ticker { IfOk result (λ team. (team.second.number ≡ config.now.lanes) × (team.second.ticks ≡ ticks)) }
     ensures numbers { IfOk result (λ team. NumberedFrom 0 (map (λ job. job.number) team.first.items) × NumberedFrom 0 (map (λ job. job.number) team.third.items)) }
-    ensures new_lanes { IfOk result (λ team. All (λ job. (job.lane.connected ≡ 0) × (job.share.numbers ≡ replicate 9 0)) team.first.items) }
-    ensures new_shards { IfOk result (λ team. All (λ job. HasSettings config.now job.shard × (job.share.numbers ≡ replicate 9 0)) team.third.items) }
+    ensures new_lanes { IfOk result (λ team. All (λ job. job.lane.connected ≡ 0) team.first.items) }
+    ensures new_shards { IfOk result (λ team. All (λ job. HasSettings config.now job.shard) team.third.items) }
     ensures ports { IfOk result (λ team. ends_of columns.items ≡ map (λ job. job.lane.ports) team.first.items ++ team.second.senders.items ∷ []) }
     ensures ends { IfOk result (λ team. (map (λ job. job.seat) team.third.items ≡ ends.entry.seats.items) × (map (λ job. job.receiver) team.third.items ≡ ends.entry.receivers.items) × (map (λ job. job.sender) team.third.items ≡ ends.entry.exports.items)) }
 {
     new_seats_have_nodes();
     let mut columns = columns;
-    let mut parts = parts;
     let senders = columns.take_last();
-    let third = shard_jobs(lent, config, ends, &mut parts)?;
-    let first = lane_jobs(lent, feeds, columns, &mut parts)?;
+    let third = shard_jobs(lent, config, ends)?;
+    let first = lane_jobs(lent, feeds, columns)?;
     Ok(Team {
         first,
         second: TickerJob {
@@ -208,27 +192,27 @@ fn run_ends<'s, C: Room, D: Room, R: Wait>(
 }
 
 /// Room for what so many lanes, the ticker, so many shards and the exporter leave.
-fn rooms_for<'s, C: Room, D: Room, B: Accounts, R: Wait>(
+fn rooms_for<'s, C: Room, D: Room, R: Wait>(
     alloc: Global,
     lanes: usize,
     shards: usize,
     rows: Vec<Vec<Sender<Item, C>>>,
-) -> Result<Rooms<'s, C, D, B, R>, AllocError>
+) -> Result<Rooms<'s, C, D, R>, AllocError>
     requires { lanes + shards < 1000000 }
     ensures columns { IfOk result (λ rooms. (rooms.columns.items ≡ []) × (lanes + 1 ≤ vec_capacity rooms.columns)) }
     ensures seats { IfOk result (λ rooms. (rooms.ends.seats.items ≡ []) × (shards ≤ vec_capacity rooms.ends.seats)) }
     ensures receivers { IfOk result (λ rooms. (rooms.ends.receivers.items ≡ []) × (shards ≤ vec_capacity rooms.ends.receivers)) }
     ensures exports { IfOk result (λ rooms. (rooms.ends.exports.items ≡ []) × (shards ≤ vec_capacity rooms.ends.exports)) }
-    ensures parts { IfOk result (λ rooms. (rooms.parts.items ≡ []) × (lanes + shards + 1 ≤ vec_capacity rooms.parts)) }
+    ensures counts { IfOk result (λ rooms. (rooms.counts.items ≡ []) × (lanes + shards + 1 ≤ vec_capacity rooms.counts)) }
     ensures rows { IfOk result (λ rooms. rooms.rows ≡ rows) }
 {
     let columns = Vec::with_capacity(alloc, lanes + 1)?;
-    let parts = Vec::with_capacity(alloc, lanes + shards + 1)?;
+    let counts = Vec::with_capacity(alloc, lanes + shards + 1)?;
     let ends = ends_room(alloc, shards)?;
     Ok(Rooms {
         columns,
         ends,
-        parts,
+        counts,
         rows,
     })
 }

@@ -1,11 +1,10 @@
 //! A run: all threads are started, or none does anything; the exporter works on the caller's.
-ghost use Rattle.std.specs.Prelude.{◌≡◌, ◌+◌, ◌-◌, ◌^◌, ◌<◌, ◌≤◌, [], All, false, length, replicate, vec_len, IfErr, IfOk};
+ghost use Rattle.std.specs.Prelude.{◌≡◌, ◌-◌, ◌^◌, ◌<◌, ◌≤◌, [], false, length, vec_len, IfErr, IfOk};
 ghost use Rattle.std.specs.List.{list_any};
-ghost use Rattle.drop_ledger.specs.Parts.{PartState};
 ghost use Rattle.lane_worker.specs.Serving.{connection};
 ghost use Rattle.span_sink.specs.LineSinks.{up_state};
 ghost use Rattle.pipeline.specs.Made.{CanRun};
-ghost use Rattle.pipeline.specs.Outcome.{ReportsSums, SinkAnswers, SinkWent, TellsFull, TellsSink};
+ghost use Rattle.pipeline.specs.Outcome.{SinkAnswers, SinkWent, TellsCounts, TellsSink};
 ghost use Rattle.pipeline.specs.Promise.{HasWorked, RunTells};
 ghost use Rattle.tsc_config.specs.declared.config.Config.{Config};
 
@@ -15,7 +14,7 @@ use crate::gathering::{Counted, gather_lanes, gather_shards};
 use crate::joining::join_all;
 use crate::lent::Lent;
 use crate::making::{Made, Rooms, make};
-use drop_ledger::{Accounts, Blanks, Book, Part, Report};
+use drop_ledger::{Report, total};
 use http_lane::{Clock as MomentClock, Stop};
 use job_threads::run_team;
 use lane_queue::{Gate, Room};
@@ -74,14 +73,13 @@ where
         Ok(exporter) => exporter,
         Err((lines, _)) => return (lines.end(), Err(RunFault::NoMemory)),
     };
-    let blanks = Blanks::new(config.lanes as u64 + config.shards as u64 + 2);
-    let (exporter, answer) = run_in::<F, T, S, G, P, M, Brand, Brand, Brand, R>(
-        rt, alloc, &config, feeds, ticks, exporter, blanks, gate, stop, clock,
+    let (exporter, answer) = run_in::<F, T, S, G, P, M, Brand, Brand, R>(
+        rt, alloc, &config, feeds, ticks, exporter, gate, stop, clock,
     );
     (exporter.end().end(), answer)
 }
 
-/// Makes the book, runs the threads, and answers the report.
+/// Runs the threads, and answers the report.
 fn run_in<
     F: Feed + Send + Drop,
     T: Ticks + Send + Drop,
@@ -91,7 +89,6 @@ fn run_in<
     M: MomentClock + Sync,
     C: Room + Send + Sync,
     D: Room + Send + Sync,
-    B: Accounts + Send + Sync,
     R: Threads + Wait + Clock + Sync,
 >(
     rt: &R,
@@ -100,7 +97,6 @@ fn run_in<
     feeds: Vec<F>,
     ticks: T,
     exporter: Exporter<S>,
-    blanks: Blanks,
     gate: &G,
     stop: &P,
     clock: &M,
@@ -110,28 +106,21 @@ where
     F::Writer: Send,
     requires runs { CanRun config.now C.capacity D.capacity }
     requires feeds { vec_len feeds ≡ config.now.lanes }
-    requires names { blanks.names ≡ B.names }
-    requires parts { (blanks.parts ≡ B.parts) × (B.parts ≡ config.now.lanes + config.now.shards + 2) }
     requires new_exporter { (exporter.batch ≡ []) × (0 < exporter.size) × (list_any (λ ended. ended) exporter.ends ≡ false) × (exporter.sink.is_down ≡ false) }
     requires exporter_is { (exporter.size ≡ config.now.send_batch_size) × (length exporter.ends ≡ config.now.shards) }
     ensures sink { SinkAnswers exporter.sink.taken exporter.sink.failures result.0.sink.taken result.0.sink.failures result.1 }
     ensures ran { RunTells F.gives (λ x. connection (F.Reader.given x.0) (F.Writer.contents x.1)) T.gives config.now feeds.items ticks exporter.sink.taken exporter.sink.failures result.0.sink.taken result.0.sink.failures result.1 }
 {
-    let lanes = config.lanes as usize;
-    let Ok((book, parts)) = Book::<B>::new(alloc, blanks, lanes + config.shards + 1) else {
-        return (exporter, Err(RunFault::NoMemory));
-    };
     let lent = Lent {
         rt,
         alloc,
-        book: &book,
         gate,
         stop,
         clock,
     };
-    match run_over::<F, T, S, G, P, M, C, D, B, R>(&lent, config, feeds, ticks, exporter, parts) {
+    match run_over::<F, T, S, G, P, M, C, D, R>(&lent, config, feeds, ticks, exporter) {
         Ok((exporter, counted)) => {
-            let answer = answer_of(book, counted, exporter.is_down());
+            let answer = answer_of(&counted, exporter.is_down());
             (exporter, answer)
         }
         Err(exporter) => (exporter, Err(RunFault::NoMemory)),
@@ -139,27 +128,21 @@ where
 }
 
 /// What a run answers whose threads have ended.
-fn answer_of<B: Accounts>(
-    book: Book<B>,
-    counted: Counted<B>,
-    is_down: bool,
-) -> Result<Report, RunFault>
-    requires all { vec_len counted.parts + 1 ≡ B.parts }
+fn answer_of(counted: &Counted, is_down: bool) -> Result<Report, RunFault>
     ensures sink { TellsSink is_down result }
-    ensures full { TellsFull counted.is_full result }
-    ensures sums { ReportsSums counted.parts.items result }
+    ensures counts { TellsCounts counted.now.is_full counted.now.counts.items result }
 {
-    let report = book.gather(counted.parts);
     if counted.is_full {
-        Err(RunFault::BookFull)
-    } else if is_down {
-        Err(RunFault::SinkDown(report))
-    } else {
-        Ok(report)
+        return Err(RunFault::BookFull);
+    }
+    match total(&counted.counts) {
+        Ok(report) if is_down => Err(RunFault::SinkDown(report)),
+        Ok(report) => Ok(report),
+        Err(_) => Err(RunFault::BookFull),
     }
 }
 
-/// Makes what the threads are given, runs them, and gathers the parts with which they counted. It gives the exporter back
+/// Makes what the threads are given, runs them, and gathers what they counted. It gives the exporter back
 /// where there was no memory, or a thread couldn't be started: then none has done anything.
 fn run_over<
     's,
@@ -171,43 +154,37 @@ fn run_over<
     M: MomentClock + Sync,
     C: Room + Send + Sync,
     D: Room + Send + Sync,
-    B: Accounts + Send + Sync,
     R: Threads + Wait + Clock + Sync,
 >(
-    lent: &Lent<'s, B, G, P, M, R>,
+    lent: &Lent<'s, G, P, M, R>,
     config: &Config,
     feeds: Vec<F>,
     ticks: T,
     exporter: Exporter<S>,
-    parts: Vec<Part<B>>,
-) -> Result<(Exporter<S>, Counted<B>), Exporter<S>>
+) -> Result<(Exporter<S>, Counted), Exporter<S>>
 where
     F::Reader: Send,
     F::Writer: Send,
     requires runs { CanRun config.now C.capacity D.capacity }
     requires feeds { vec_len feeds ≡ config.now.lanes }
-    requires parts { (vec_len parts ≡ config.now.lanes + config.now.shards + 1) × All (λ p. p ≡ record { parts = 1; numbers = replicate 9 0 }) parts.items }
     requires new_exporter { (exporter.batch ≡ []) × (0 < exporter.size) × (list_any (λ ended. ended) exporter.ends ≡ false) × (exporter.sink.is_down ≡ false) }
     requires exporter_ends { length exporter.ends ≡ config.now.shards }
-    ensures worked { IfOk result (λ ran. HasWorked F.gives (λ x. connection (F.Reader.given x.0) (F.Writer.contents x.1)) T.gives config.now feeds.items ticks exporter ran.0 ran.1.parts.items ran.1.is_full) }
-    ensures parts { IfOk result (λ ran. vec_len ran.1.parts ≡ config.now.lanes + config.now.shards + 1) }
+    ensures worked { IfOk result (λ ran. HasWorked F.gives (λ x. connection (F.Reader.given x.0) (F.Writer.contents x.1)) T.gives config.now feeds.items ticks exporter ran.0 ran.1.counts.items ran.1.is_full) }
     ensures sink { IfOk result (λ ran. SinkWent exporter.sink ran.0.sink) }
     ensures back { IfErr result (λ back. back ≡ exporter) }
 {
-    let Ok(made) = make::<F, T, C, D, B, G, P, M, R>(lent, config, feeds, ticks, parts) else {
+    let Ok(made) = make::<F, T, C, D, G, P, M, R>(lent, config, feeds, ticks) else {
         return Err(exporter);
     };
     let Made {
         team,
         shipments,
-        share,
         rooms,
     } = made;
     let job = ExporterJob {
         rt: lent.rt,
         exporter,
         receiver: shipments,
-        share,
     };
     match run_team(lent.rt, lent.alloc, team, job) {
         Ok((left, last)) => {
@@ -217,17 +194,17 @@ where
             let Rooms {
                 mut columns,
                 mut ends,
-                parts,
+                counts,
                 rows,
             } = rooms;
             let mut counted = Counted {
-                parts,
+                counts,
                 is_full: false,
             };
             gather_lanes(left.first, &mut columns, &mut counted);
             columns.push_reserved(left.second);
             gather_shards(left.third, &mut ends, &mut counted);
-            counted.add(last.part, last.is_full);
+            counted.add(last.counts, last.is_full);
             join_all(columns, ends, last.receiver, rows);
             Ok((last.exporter, counted))
         }

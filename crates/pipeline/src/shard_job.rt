@@ -1,7 +1,7 @@
 //! What a shard's thread is given, does and leaves.
 ghost use Rattle.std.specs.Prelude.{◌≡◌};
 
-use drop_ledger::{Accounts, BookShare, Part, Tally};
+use drop_ledger::{Report, Tally};
 use job_threads::Job;
 use lane_queue::{Gate, Receiver, Room, Sender};
 use otlp_types::{Item, Shipment};
@@ -12,47 +12,45 @@ use std::time::Clock;
 
 /// What a shard's thread is given.
 #[derive(Drop)]
-pub struct ShardJob<'s, C: Room, D: Room, B: Accounts, G, R: Wait> {
+pub struct ShardJob<'s, C: Room, D: Room, G, R: Wait> {
     pub rt: &'s R,
     pub number: u16,
     pub shard: Shard,
     pub seat: BudgetSeat<'s, R>,
     pub receiver: Receiver<Item, C>,
     pub sender: Sender<Shipment, D>,
-    pub share: BookShare<'s, B, R>,
     pub gate: &'s G,
 }
 
 /// What a shard's thread leaves.
 #[derive(Drop)]
-pub struct ShardLeft<'s, C: Room, D: Room, B: Accounts, R: Wait> {
+pub struct ShardLeft<'s, C: Room, D: Room, R: Wait> {
     /// The shard's seat at the limiter.
     pub seat: BudgetSeat<'s, R>,
     /// The end at which its items were popped.
     pub receiver: Receiver<Item, C>,
     /// The end at which it shipped.
     pub sender: Sender<Shipment, D>,
-    /// What it counted with.
-    pub part: Part<B>,
-    /// Whether a count would have passed 2^64-1.
+    /// What it counted.
+    pub counts: Report,
+    /// Whether a number of its own would have passed 2^64-1.
     pub is_full: bool,
-    pub ghost one: { part.parts ≡ 1 },
 }
 
-impl<'s, C: Room, D: Room, B: Accounts, G: Gate, R: Wait + Clock> Job
-    for ShardJob<'s, C, D, B, G, R> {
+impl<'s, C: Room, D: Room, G: Gate, R: Wait + Clock> Job for ShardJob<'s, C, D, G, R> {
     ghost use Rattle.shard_core.specs.Held.{settings};
     ghost use Rattle.run_weave.specs.Jobs.{ShardDid};
+    ghost use Rattle.run_weave.specs.Workers.{zeros};
     ghost use Rattle.pipeline.specs.Made.{IsReady};
 
-    type Left = ShardLeft<'s, C, D, B, R>;
+    type Left = ShardLeft<'s, C, D, R>;
 
     ghost ready = { λ job. IsReady job.shard job.receiver job.sender job.seat };
 
-    ghost did = { λ job left. ShardDid job.number (settings job.shard) job.seat job.receiver job.sender job.share.numbers
-        left.seat left.receiver left.sender left.part.numbers left.is_full };
+    ghost did = { λ job left. ShardDid job.number (settings job.shard) job.seat job.receiver job.sender zeros
+        left.seat left.receiver left.sender left.counts left.is_full };
 
-    fn work(self) -> ShardLeft<'s, C, D, B, R> {
+    fn work(self) -> ShardLeft<'s, C, D, R> {
         let ShardJob {
             rt,
             number,
@@ -60,17 +58,16 @@ impl<'s, C: Room, D: Room, B: Accounts, G: Gate, R: Wait + Clock> Job
             seat,
             receiver,
             sender,
-            share,
             gate,
         } = self;
-        let tally = Tally::new(share);
+        let tally = Tally::new(Report::new());
         let end = shard_worker::work(rt, number, shard, seat, receiver, sender, tally, gate);
         let is_full = end.tally.is_full();
         ShardLeft {
             seat: end.limiter,
             receiver: end.receiver,
             sender: end.sender,
-            part: end.tally.end().end(),
+            counts: end.tally.end(),
             is_full,
         }
     }

@@ -1,6 +1,5 @@
 //! What the shards' threads are given.
-ghost use Rattle.std.specs.Prelude.{◌≡◌, ◌+◌, ◌<◌, ◌≤◌, [], All, true, false, length, map, replicate, vec_len, vec_capacity, IfOk, OnOk};
-ghost use Rattle.drop_ledger.specs.Parts.{PartState};
+ghost use Rattle.std.specs.Prelude.{◌≡◌, ◌<◌, ◌≤◌, [], All, true, false, length, map, vec_len, vec_capacity, IfOk};
 ghost use Rattle.lane_queue.specs.Ends.{IsNew};
 ghost use Rattle.tsc_config.specs.declared.config.Config.{Config};
 ghost use Rattle.pipeline.specs.Made.{NumberedFrom, HasNodes, IsReady};
@@ -8,7 +7,6 @@ ghost use Rattle.pipeline.specs.Promise.{HasSettings, IsNewShard};
 
 use crate::lent::Lent;
 use crate::shard_job::ShardJob;
-use drop_ledger::{Accounts, BookShare, Part};
 use lane_queue::{Receiver, Room, Sender};
 use otlp_types::{Item, Shipment, TryClone};
 use shard_core::Shard;
@@ -25,31 +23,27 @@ pub struct ShardEnds<'s, C: Room, D: Room, R: Wait> {
     pub exports: Vec<Sender<Shipment, D>>,
 }
 
-/// What the shards' threads are given, in their order: for each a shard, its ends, its seat at the limiter, and a part to
-/// count with.
-pub fn shard_jobs<'s, C: Room, D: Room, B: Accounts, G, P, M, R: Wait>(
-    lent: &Lent<'s, B, G, P, M, R>,
+/// What the shards' threads are given, in their order: for each a shard, its ends and its seat at the limiter.
+pub fn shard_jobs<'s, C: Room, D: Room, G, P, M, R: Wait>(
+    lent: &Lent<'s, G, P, M, R>,
     config: &Config,
     ends: ShardEnds<'s, C, D, R>,
-    parts: &mut Vec<Part<B>>,
-) -> Result<Vec<ShardJob<'s, C, D, B, G, R>>, AllocError>
+) -> Result<Vec<ShardJob<'s, C, D, G, R>>, AllocError>
     requires waits { 0 < config.now.decision_wait }
     requires shards { (0 < config.now.shards) × (config.now.shards ≤ 64) }
     requires traces { config.now.shards ≤ config.now.num_traces }
     requires seats { (vec_len ends.seats ≡ config.now.shards) × All (λ seat. HasNodes seat config.now.policies) ends.seats.items }
     requires receivers { (vec_len ends.receivers ≡ config.now.shards) × All (λ r. All IsNew r.ends) ends.receivers.items }
     requires exports { (vec_len ends.exports ≡ config.now.shards) × All IsNew ends.exports.items }
-    requires parts { (config.now.shards ≤ vec_len parts.old) × All (λ p. p ≡ record { parts = 1; numbers = replicate 9 0 }) parts.old.items }
     ensures count { IfOk result (λ jobs. vec_len jobs ≡ config.now.shards) }
     ensures ready { IfOk result (λ jobs. All (λ job. IsReady job.shard job.receiver job.sender job.seat) jobs.items) }
     ensures ends { IfOk result (λ jobs. (map (λ job. job.seat) jobs.items ≡ ends.entry.seats.items) × (map (λ job. job.receiver) jobs.items ≡ ends.entry.receivers.items) × (map (λ job. job.sender) jobs.items ≡ ends.entry.exports.items)) }
     ensures numbers { IfOk result (λ jobs. NumberedFrom 0 (map (λ job. job.number) jobs.items)) }
-    ensures new { IfOk result (λ jobs. All (λ job. HasSettings config.now job.shard × (job.share.numbers ≡ replicate 9 0)) jobs.items) }
-    ensures parts { OnOk result ((vec_len parts.new + config.now.shards ≡ vec_len parts.old) × All (λ p. p ≡ record { parts = 1; numbers = replicate 9 0 }) parts.new.items) }
+    ensures new { IfOk result (λ jobs. All (λ job. HasSettings config.now job.shard) jobs.items) }
 {
     let shards = new_shards(lent.alloc, config)?;
     let jobs = Vec::with_capacity(lent.alloc, config.shards)?;
-    Ok(jobs_of(lent, config, shards, ends, parts, jobs))
+    Ok(jobs_of(lent, config, shards, ends, jobs))
 }
 
 /// The shards of a configuration, which have taken nothing.
@@ -87,27 +81,24 @@ fn new_shard(alloc: Global, config: &Config) -> Result<Shard, AllocError>
 }
 
 /// What the threads of these shards are given; `jobs` has room for it.
-fn jobs_of<'s, C: Room, D: Room, B: Accounts, G, P, M, R: Wait>(
-    lent: &Lent<'s, B, G, P, M, R>,
+fn jobs_of<'s, C: Room, D: Room, G, P, M, R: Wait>(
+    lent: &Lent<'s, G, P, M, R>,
     config: &Config,
     shards: Vec<Shard>,
     ends: ShardEnds<'s, C, D, R>,
-    parts: &mut Vec<Part<B>>,
-    jobs: Vec<ShardJob<'s, C, D, B, G, R>>,
-) -> Vec<ShardJob<'s, C, D, B, G, R>>
+    jobs: Vec<ShardJob<'s, C, D, G, R>>,
+) -> Vec<ShardJob<'s, C, D, G, R>>
     requires few { vec_len shards < 65536 }
     requires shards { All (IsNewShard config.now) shards.items }
     requires room { (jobs.items ≡ []) × (vec_len shards ≤ vec_capacity jobs) }
     requires seats { (vec_len ends.seats ≡ vec_len shards) × All (λ seat. HasNodes seat config.now.policies) ends.seats.items }
     requires receivers { (vec_len ends.receivers ≡ vec_len shards) × All (λ r. All IsNew r.ends) ends.receivers.items }
     requires exports { (vec_len ends.exports ≡ vec_len shards) × All IsNew ends.exports.items }
-    requires parts { (vec_len shards ≤ vec_len parts.old) × All (λ p. p ≡ record { parts = 1; numbers = replicate 9 0 }) parts.old.items }
     ensures count { vec_len result ≡ vec_len shards }
     ensures ready { All (λ job. IsReady job.shard job.receiver job.sender job.seat) result.items }
     ensures ends { (map (λ job. job.seat) result.items ≡ ends.entry.seats.items) × (map (λ job. job.receiver) result.items ≡ ends.entry.receivers.items) × (map (λ job. job.sender) result.items ≡ ends.entry.exports.items) }
     ensures numbers { NumberedFrom 0 (map (λ job. job.number) result.items) }
-    ensures new { All (λ job. HasSettings config.now job.shard × (job.share.numbers ≡ replicate 9 0)) result.items }
-    ensures parts { (vec_len parts.new + vec_len shards ≡ vec_len parts.old) × All (λ p. p ≡ record { parts = 1; numbers = replicate 9 0 }) parts.new.items }
+    ensures new { All (λ job. HasSettings config.now job.shard) result.items }
 {
     let mut shards = shards;
     let mut jobs = jobs;
@@ -117,7 +108,6 @@ fn jobs_of<'s, C: Room, D: Room, B: Accounts, G, P, M, R: Wait>(
         mut exports,
     } = ends;
     while let Some(shard) = shards.pop() {
-        let share = BookShare::new(lent.rt, lent.book, parts.take_last());
         jobs.push_reserved(ShardJob {
             rt: lent.rt,
             number: shards.len() as u16,
@@ -125,7 +115,6 @@ fn jobs_of<'s, C: Room, D: Room, B: Accounts, G, P, M, R: Wait>(
             seat: seats.take_last(),
             receiver: receivers.take_last(),
             sender: exports.take_last(),
-            share,
             gate: lent.gate,
         });
     }

@@ -1,9 +1,10 @@
 -- What a lane received, its tries and its counts go on with each request and each connection.
 -- For the law of `Worked`.
-use Rattle.std.proofs.Common.{◌≡◌, ℕ, ◌+◌, ◌<◌, ◌≤◌, ◌==◌, ◌&&◌, Bool, true, false, not, cond, List, [], ◌∷◌, ◌++◌, length, filter, count_by, replicate, is_none, is_some, Option, Some, None, MatchBool, refl, sym, ap, subst, ◌∙◌, arith, append-nil, append_assoc, length-append, eq-eqb, ne_eqb, inl, inr}
+use Rattle.std.proofs.Common.{◌≡◌, ℕ, ◌+◌, ◌^◌, ◌<◌, ◌≤◌, ◌==◌, ◌&&◌, ◌||◌, ◌⊎◌, Bool, true, false, not, cond, List, [], ◌∷◌, ◌++◌, length, filter, count_by, replicate, is_none, is_some, Option, Some, None, MatchBool, refl, sym, ap, subst, ◌∙◌, arith, append-nil, append_assoc, length-append, eq-eqb, ne_eqb, inl, inr}
 use Rattle.std.proofs.lemmas.List.Elements.{filter-append}
 use Rattle.std.proofs.lemmas.List.Sums.{sum_by-cons}
-use Rattle.std.specs.Prelude.{if◌then◌else◌}
+use Rattle.std.specs.Prelude.{if◌then◌else◌, slice_index}
+use Rattle.std.proofs.lemmas.List.{get_or-set_other}
 use Rattle.serde_json.specs.Data.{Data}
 use Rattle.otlp_reading.specs.Decoding.{IsJson}
 use Rattle.otlp_reading.specs.Reading.{request_of}
@@ -17,7 +18,7 @@ use Rattle.span_ids.specs.declared.keys.ConnKey.{ConnKey}
 use Rattle.span_ids.specs.declared.outcome.Reason.TheVariants.{InvalidId, QueueFull, NoMemory, Evicted, NotSampled, LateNotSampled, ExporterDown}
 use Rattle.drop_ledger.specs.declared.count.Count.{Count}
 use Rattle.drop_ledger.specs.declared.count.Count.TheVariants.{Received, Handed, Dropped}
-use Rattle.drop_ledger.specs.Places.{place_of, Addition, added_to, Gains}
+use Rattle.drop_ledger.specs.Places.{place_of, with_added, Addition, after_adding, added_to, Gains}
 use Rattle.drop_ledger.proofs.Gains.{gains_none, gains_both, gains_one}
 use Rattle.drop_ledger.proofs.EachCount.{each_count}
 use Rattle.lane_queue.specs.Ends.{EndState, TakesItem, IsRefused}
@@ -32,7 +33,7 @@ use Rattle.lane_seq.specs.Replies.{IsRefusal, OnReceived, IsReplyTo}
 use Rattle.http_lane.specs.Connection.{Submission, SubmitsAll, submissions, events_of}
 use Rattle.http_lane.specs.declared.answer.ServeEnd.{ServeEnd}
 use Rattle.http_lane.specs.Engine.{KnownReader, Served}
-use Rattle.http_lane.specs.Intake.{Intake, Submits, Counts, additions_of, intake, first_conn, connected}
+use Rattle.http_lane.specs.Intake.{Intake, Submits, StopsAtFull, Counts, additions_of, intake, first_conn, connected}
 use Rattle.lane_worker.specs.Serving.{Connection, LaneAt, lane_at, ServedOne, ServesAll, is_book_full}
 use Rattle.journal_theory.proofs.ListFacts.{Each, Each-append, Each-weaker, tally-append}
 use Rattle.world_theory.specs.Step.{has_ids, is_of_conn, arrivals}
@@ -43,7 +44,8 @@ use Rattle.span_weave.proofs.Numbering.{numbers_go_on}
 use Rattle.span_weave.proofs.Tries.{pushes_are_tries, no_tries, tries_then}
 use Rattle.run_weave.specs.Lanes.{Log, log, Came, Logs, ReceivesOne, ReceivesAll}
 use Rattle.run_weave.specs.Workers.{zeros}
-use Rattle.run_weave.proofs.Counted.{served_counted}
+use Rattle.run_weave.proofs.Counted.{any_uncounted, full_as_uncounted}
+use Rattle.run_weave.proofs.Tallied.{Tallied, gained_there}
 
 -- ---- what a lane counts
 
@@ -100,6 +102,30 @@ reply_gains came refused (Partial n i f) old new is counted = (additions_of (Par
 reply_gains came refused (BadData cause) old new is counted = absurd is
 reply_gains came refused Busy old new is counted = absurd is
 
+-- another number is as it was
+elsewhere : (count other : Count) (n : ℕ) (numbers : List ℕ) → (place_of other ≡ place_of count → ⊥) → slice_index (with_added count n numbers) (place_of other) ≡ slice_index numbers (place_of other)
+elsewhere count other n numbers apart = get_or-set_other numbers (place_of count) (place_of other) (slice_index numbers (place_of count) + n) 0 apart
+
+-- where a number would have passed, it does so with all that came
+reply_passes : (came : List Arrival) (refused : ℕ) (reply : Reply) (old new : List ℕ) → IsReplyTo (length came) (length (filter is_invalid came)) refused reply → StopsAtFull (additions_of reply) old new
+    → (count : Count) × (2 ^ 64 ≤ slice_index old (place_of count) + lane_gains came refused count)
+reply_passes came refused (Done n) old new is (inl h) = (Received, omega (arith, h.0, is.0))
+reply_passes came refused (Done n) old new is (inr h) = absurd h
+reply_passes came refused (Partial n i f) old new is (inl h) = (Received, omega (arith, h.0, is.0))
+reply_passes came refused (Partial n i f) old new is (inr (inl h)) =
+    (Dropped InvalidId, omega (arith, h.0, is.1, same_invalid came, elsewhere Received (Dropped InvalidId) n old (λ e. absurd (omega (arith, e)))))
+reply_passes came refused (Partial n i f) old new is (inr (inr (inl h))) =
+    (Dropped QueueFull, omega (
+      arith,
+      h.0,
+      is.2,
+      elsewhere (Dropped InvalidId) (Dropped QueueFull) i (with_added Received n old) (λ e. absurd (omega (arith, e))),
+      elsewhere Received (Dropped QueueFull) n old (λ e. absurd (omega (arith, e))),
+    ))
+reply_passes came refused (Partial n i f) old new is (inr (inr (inr h))) = absurd h
+reply_passes came refused (BadData cause) old new is h = absurd is
+reply_passes came refused Busy old new is h = absurd is
+
 -- ---- the arrivals of a request
 
 same_arrivals : (conn : ConnKey) (next moment : ℕ) (records : List Record) → arrivals conn next moment records ≡ arrivals_from conn next moment records
@@ -144,19 +170,27 @@ fills capacity p q h =
     let all : pushes full.0 ≡ pops full.0 ++ full.1 = popped_then_held capacity full.0 full.1 full.2 in
     omega (arith, full.3, ap (λ (z : List Item). length z) (sym all ∙ full.4), length-append (pops full.0) full.1)
 
+or_false : (b : Bool) → (b || false) ≡ b
+or_false true = refl
+or_false false = refl
+
+or_assoc : (a b c : Bool) → ((a || b) || c) ≡ (a || (b || c))
+or_assoc true b c = refl
+or_assoc false b c = refl
+
 -- ---- one request
 
 module _ (capacity number : ℕ) (first : List (EndState Item)) where
-  -- what was received is numbered, and was tried at ports that were first these, and counted
-  pub record Keeps (received : List Arrival) (ports : List (EndState Item)) (counted : List ℕ) : Type 0 where
+  -- what was received is numbered, and was tried at ports that were first these, and counted, unless a number would have passed 2^64-1
+  pub record Keeps (is_full : Bool) (received : List Arrival) (ports : List (EndState Item)) (counted : List ℕ) : Type 0 where
     pub refused : ℕ
     pub numbered : AreNumbered number received
     pub tries : TriesOf capacity (λ (e : EndState Item). e.items) received first refused ports
-    pub counts : Gains (lane_gains received refused) zeros counted
+    pub counts : Tallied is_full (lane_gains received refused) counted
 
   -- a lane on a connection
-  pub record OnConn (x : Log) : Type 0 where
-    pub keeps : Keeps x.received x.at.lane.ports x.at.counted
+  pub record OnConn (is_full : Bool) (x : Log) : Type 0 where
+    pub keeps : Keeps is_full x.received x.at.lane.ports x.at.counted
     pub lane_is : x.at.lane.number ≡ number
     pub key_is : x.at.conn.key.lane ≡ number
     pub next_is : x.at.conn.next ≡ count_by (is_of_conn x.at.conn.key) x.received
@@ -164,13 +198,13 @@ module _ (capacity number : ℕ) (first : List (EndState Item)) where
     pub below : Each (λ (a : Arrival). a.key.conn.ordinal < x.at.lane.connected) x.received
 
   -- the spans of a request came
-  receives : (old : Log) (moment : ℕ) (records : List Record) (reply : Reply) (new : Intake (EndState Item)) → OnConn old
+  receives : (is_full : Bool) (old : Log) (moment : ℕ) (records : List Record) (reply : Reply) (is_counted : Bool) (new : Intake (EndState Item)) → OnConn is_full old
       → new.lane ≡ record old.at.lane { ports = new.lane.ports }
       → Receives (TakesItem capacity) (IsRefused capacity) (arrivals_from old.at.conn.key old.at.conn.next moment records) old.at.lane.ports reply new.lane.ports
       → new.conn ≡ record old.at.conn { next = old.at.conn.next + length (arrivals_from old.at.conn.key old.at.conn.next moment records) }
-      → Counts reply true old.at.counted new.counted
-      → OnConn (log new (old.received ++ arrivals_from old.at.conn.key old.at.conn.next moment records))
-  receives old moment records reply new o lane r conn counts = record {
+      → Counts reply is_counted old.at.counted new.counted
+      → OnConn (is_full || not is_counted) (log new (old.received ++ arrivals_from old.at.conn.key old.at.conn.next moment records))
+  receives is_full old moment records reply is_counted new o lane r conn counts = record {
     keeps = record {
       refused = k.refused + r.refused;
       numbered = subst (λ (z : List Arrival). AreNumbered number (old.received ++ z)) (ap (λ n. arrivals key n moment records) (sym o.next_is) ∙ same_arrivals key old.at.conn.next moment records)
@@ -178,8 +212,7 @@ module _ (capacity number : ℕ) (first : List (EndState Item)) where
           (numbers_go_on key moment records old.received (subst (λ n. AreNumbered n old.received) (sym o.key_is) k.numbered)));
       tries = tries_then capacity (λ (e : EndState Item). e.items) old.received came first old.at.lane.ports new.lane.ports k.refused r.refused k.tries
           (pushes_are_tries (TakesItem capacity) (IsRefused capacity) capacity (λ (e : EndState Item). e.items) (grows capacity) (stays capacity) (fills capacity) came old.at.lane.ports r.refused new.lane.ports r.pushed);
-      counts = gains_both (lane_gains old.received k.refused) (lane_gains came r.refused) (lane_gains (old.received ++ came) (k.refused + r.refused)) zeros old.at.counted new.counted
-          (gains_append old.received came k.refused r.refused) k.counts (reply_gains came r.refused reply old.at.counted new.counted r.replied counts);
+      counts = more_counted is_full is_counted k.counts counts;
     };
     lane_is = ap (λ (l : LaneState (EndState Item)). l.number) lane ∙ o.lane_is;
     key_is = ap (λ (c : Conn). c.key.lane) conn ∙ o.key_is;
@@ -190,7 +223,7 @@ module _ (capacity number : ℕ) (first : List (EndState Item)) where
         (Each-weaker (λ (a : Arrival). a.key.conn ≡ key) (λ (a : Arrival). a.key.conn.ordinal < old.at.lane.connected) came (λ a e. subst (λ (c : ConnKey). c.ordinal < old.at.lane.connected) (sym e) o.current) (on_their_conn key old.at.conn.next moment records)));
   }
     where
-      k : Keeps old.received old.at.lane.ports old.at.counted
+      k : Keeps is_full old.received old.at.lane.ports old.at.counted
       k = o.keeps
 
       key : ConnKey
@@ -198,6 +231,14 @@ module _ (capacity number : ℕ) (first : List (EndState Item)) where
 
       came : List Arrival
       came = arrivals_from key old.at.conn.next moment records
+
+      more_counted : (full counted : Bool) → Tallied full (lane_gains old.received k.refused) old.at.counted → Counts reply counted old.at.counted new.counted → Tallied (full || not counted) (lane_gains (old.received ++ came) (k.refused + r.refused)) new.counted
+      more_counted true counted p c = (p.0, omega (arith, p.1, gains_append old.received came k.refused r.refused p.0))
+      more_counted false true g c = gains_both (lane_gains old.received k.refused) (lane_gains came r.refused) (lane_gains (old.received ++ came) (k.refused + r.refused)) zeros old.at.counted new.counted
+          (gains_append old.received came k.refused r.refused) g (reply_gains came r.refused reply old.at.counted new.counted r.replied c)
+      more_counted false false g c =
+          let p = reply_passes came r.refused reply old.at.counted new.counted r.replied c in
+          (p.0, omega (arith, p.1, gained_there (lane_gains old.received k.refused) old.at.counted p.0 g, gains_append old.received came k.refused r.refused p.0))
 
       same_key : new.conn.key ≡ key
       same_key = ap (λ (c : Conn). c.key) conn
@@ -209,52 +250,62 @@ module _ (capacity number : ℕ) (first : List (EndState Item)) where
       longer = omega (arith, o.next_is, count_is key old.received, count_is key (old.received ++ came), tally-append (is_of_conn key) old.received came, all_own key came (on_their_conn key old.at.conn.next moment records))
 
   -- nothing came of a refused request
-  refuses : (old : Log) (new : Intake (EndState Item)) → OnConn old → new.lane ≡ old.at.lane → new.conn ≡ old.at.conn → new.counted ≡ old.at.counted → OnConn (log new (old.received ++ []))
-  refuses old new o lane conn counted = subst OnConn (sym (ap (λ (at : Intake (EndState Item)). log at (old.received ++ [])) same ∙ ap (λ (z : List Arrival). log old.at z) (append-nil old.received))) o
+  refuses : (is_full : Bool) (old : Log) (new : Intake (EndState Item)) → OnConn is_full old → new.lane ≡ old.at.lane → new.conn ≡ old.at.conn → new.counted ≡ old.at.counted → OnConn is_full (log new (old.received ++ []))
+  refuses is_full old new o lane conn counted = subst (OnConn is_full) (sym (ap (λ (at : Intake (EndState Item)). log at (old.received ++ [])) same ∙ ap (λ (z : List Arrival). log old.at z) (append-nil old.received))) o
     where
       same : new ≡ old.at
       same = ap (λ (l : LaneState (EndState Item)). intake l new.conn new.counted) lane ∙ (ap (λ (c : Conn). intake old.at.lane c new.counted) conn ∙ ap (λ (n : List ℕ). intake old.at.lane old.at.conn n) counted)
 
-  takes : (old : Log) (s : Submission) (new : Intake (EndState Item)) → OnConn old → s.is_counted ≡ true → Submits (TakesItem capacity) (IsRefused capacity) old.at s new
-      → (came : List Arrival) × Came old.at s s.reply came × OnConn (log new (old.received ++ came))
-  takes old s new o counted h = go s.reply h.received (subst (λ b. Counts s.reply b old.at.counted new.counted) counted h.counts) h.refused
+  -- a refused request adds nothing to the counts, so it is counted
+  refused_counted : (is_full : Bool) (old : Log) (s : Submission) (new : Intake (EndState Item)) → additions_of s.reply ≡ [] → OnConn is_full old → new.lane ≡ old.at.lane → new.conn ≡ old.at.conn → Counts s.reply s.is_counted old.at.counted new.counted
+      → OnConn (is_full || not s.is_counted) (log new (old.received ++ []))
+  refused_counted is_full old s new none o lane conn counts = go s.is_counted counts
     where
-      go : (reply : Reply) → OnReceived reply ((d : Data) × (request : Request) × IsJson s.body d × (request_of d ≡ Some request)
+      go : (counted : Bool) → Counts s.reply counted old.at.counted new.counted → OnConn (is_full || not counted) (log new (old.received ++ []))
+      go true c = subst (λ b. OnConn b (log new (old.received ++ []))) (sym (or_false is_full)) (refuses is_full old new o lane conn (subst (λ (z : List Addition). new.counted ≡ after_adding z old.at.counted) none c))
+      go false c = absurd (subst (λ (z : List Addition). StopsAtFull z old.at.counted new.counted) none c)
+
+  takes : (is_full : Bool) (old : Log) (s : Submission) (new : Intake (EndState Item)) → OnConn is_full old → Submits (TakesItem capacity) (IsRefused capacity) old.at s new
+      → (came : List Arrival) × Came old.at s s.reply came × OnConn (is_full || not s.is_counted) (log new (old.received ++ came))
+  takes is_full old s new o h = go s.reply refl h.received h.refused
+    where
+      go : (reply : Reply) → s.reply ≡ reply → OnReceived reply ((d : Data) × (request : Request) × IsJson s.body d × (request_of d ≡ Some request)
           × Receives (TakesItem capacity) (IsRefused capacity) (arrivals_from old.at.conn.key old.at.conn.next s.moment (records_of request)) old.at.lane.ports s.reply new.lane.ports
           × (new.conn ≡ record old.at.conn { next = old.at.conn.next + length (arrivals_from old.at.conn.key old.at.conn.next s.moment (records_of request)) }))
-          → Counts reply true old.at.counted new.counted → (IsRefusal reply → (new.lane ≡ old.at.lane) × (new.conn ≡ old.at.conn))
-          → (came : List Arrival) × Came old.at s reply came × OnConn (log new (old.received ++ came))
-      go (Done n) r counts same = (arrivals_from old.at.conn.key old.at.conn.next s.moment (records_of r.1), (r.0, r.1, r.2, r.3, refl), receives old s.moment (records_of r.1) s.reply new o h.lane r.4 r.5 (subst (λ b. Counts s.reply b old.at.counted new.counted) counted h.counts))
-      go (Partial n i f) r counts same = (arrivals_from old.at.conn.key old.at.conn.next s.moment (records_of r.1), (r.0, r.1, r.2, r.3, refl), receives old s.moment (records_of r.1) s.reply new o h.lane r.4 r.5 (subst (λ b. Counts s.reply b old.at.counted new.counted) counted h.counts))
-      go (BadData cause) r counts same = let kept = same tt in ([], refl, refuses old new o kept.0 kept.1 counts)
-      go Busy r counts same = let kept = same tt in ([], refl, refuses old new o kept.0 kept.1 counts)
+          → (IsRefusal reply → (new.lane ≡ old.at.lane) × (new.conn ≡ old.at.conn))
+          → (came : List Arrival) × Came old.at s reply came × OnConn (is_full || not s.is_counted) (log new (old.received ++ came))
+      go (Done n) is r same = (arrivals_from old.at.conn.key old.at.conn.next s.moment (records_of r.1), (r.0, r.1, r.2, r.3, refl), receives is_full old s.moment (records_of r.1) s.reply s.is_counted new o h.lane r.4 r.5 h.counts)
+      go (Partial n i f) is r same = (arrivals_from old.at.conn.key old.at.conn.next s.moment (records_of r.1), (r.0, r.1, r.2, r.3, refl), receives is_full old s.moment (records_of r.1) s.reply s.is_counted new o h.lane r.4 r.5 h.counts)
+      go (BadData cause) is r same = let kept = same tt in ([], refl, refused_counted is_full old s new (ap additions_of is) o kept.0 kept.1 h.counts)
+      go Busy is r same = let kept = same tt in ([], refl, refused_counted is_full old s new (ap additions_of is) o kept.0 kept.1 h.counts)
 
   -- the requests of a connection
-  takes_all : (old : Log) (ss : List Submission) (new : Intake (EndState Item)) → OnConn old → Each (λ (s : Submission). s.is_counted ≡ true) ss → SubmitsAll (Submits (TakesItem capacity) (IsRefused capacity)) old.at ss new
-      → (received : List Arrival) × SubmitsAll (Logs capacity) old ss (log new received) × OnConn (log new received)
-  takes_all old [] new o counted h = (old.received, ap (λ (at : Intake (EndState Item)). log at old.received) h, subst (λ (at : Intake (EndState Item)). OnConn (log at old.received)) (sym h) o)
-  takes_all old (s ∷ ss) new o counted h =
-      let one = takes old s h.0 o counted.0 h.1 in
-      let more = takes_all (log h.0 (old.received ++ one.0)) ss new one.2 counted.1 h.2 in
-      (more.0, (log h.0 (old.received ++ one.0), (h.1, one.0, one.1, refl), more.1), more.2)
+  takes_all : (is_full : Bool) (old : Log) (ss : List Submission) (new : Intake (EndState Item)) → OnConn is_full old → SubmitsAll (Submits (TakesItem capacity) (IsRefused capacity)) old.at ss new
+      → (received : List Arrival) × SubmitsAll (Logs capacity) old ss (log new received) × OnConn (is_full || any_uncounted ss) (log new received)
+  takes_all is_full old [] new o h = (old.received, ap (λ (at : Intake (EndState Item)). log at old.received) h, subst (λ (b : Bool). OnConn b (log new old.received)) (sym (or_false is_full)) (subst (λ (at : Intake (EndState Item)). OnConn is_full (log at old.received)) (sym h) o))
+  takes_all is_full old (s ∷ ss) new o h =
+      let one = takes is_full old s h.0 o h.1 in
+      let more = takes_all (is_full || not s.is_counted) (log h.0 (old.received ++ one.0)) ss new one.2 h.2 in
+      (more.0, (log h.0 (old.received ++ one.0), (h.1, one.0, one.1, refl), more.1), subst (λ (b : Bool). OnConn b (log new more.0)) (or_assoc is_full (not s.is_counted) (any_uncounted ss)) more.2)
 
   -- ---- one connection after the other
 
   -- a lane between two connections
-  pub record Between (at : LaneAt) (received : List Arrival) : Type 0 where
-    pub keeps : Keeps received at.lane.ports at.counted
+  pub record Between (is_full : Bool) (at : LaneAt) (received : List Arrival) : Type 0 where
+    pub keeps : Keeps is_full received at.lane.ports at.counted
     pub lane_is : at.lane.number ≡ number
     pub below : Each (λ (a : Arrival). a.key.conn.ordinal < at.lane.connected) received
 
-  serves_one : (c : Connection) (at : LaneAt) (received : List Arrival) (new : LaneAt) (end : ServeEnd) → Between at received → is_book_full end ≡ false → ServedOne capacity c at new end
-      → (after : List Arrival) × ReceivesOne capacity c at received new after end × Between new after
-  serves_one c at received new end b not_full h =
+  serves_one : (c : Connection) (at : LaneAt) (received : List Arrival) (new : LaneAt) (end : ServeEnd) → Between false at received → ServedOne capacity c at new end
+      → (after : List Arrival) × ReceivesOne capacity c at received new after end × Between (is_book_full end) new after
+  serves_one c at received new end b h =
       let served = h.3 in
       let does = served.3 in
-      let all = takes_all (log (intake (connected at.lane) (first_conn at.lane) at.counted) received) (submissions (events_of served.0)) (intake new.lane h.0 new.counted) begin (served_counted served.0 end served.1 not_full) does.3 in
-      (all.0, (h.0, h.1, h.2, (served.0, served.1, served.2, (does.0, does.1, does.2, all.1))), record { keeps = all.2.keeps; lane_is = all.2.lane_is; below = all.2.below })
+      let all = takes_all false (log (intake (connected at.lane) (first_conn at.lane) at.counted) received) (submissions (events_of served.0)) (intake new.lane h.0 new.counted) begin does.3 in
+      let on = subst (λ (full : Bool). OnConn full (log (intake new.lane h.0 new.counted) all.0)) (full_as_uncounted served.0 end served.1) all.2 in
+      (all.0, (h.0, h.1, h.2, (served.0, served.1, served.2, (does.0, does.1, does.2, all.1))), record { keeps = on.keeps; lane_is = on.lane_is; below = on.below })
     where
-      begin : OnConn (log (intake (connected at.lane) (first_conn at.lane) at.counted) received)
+      begin : OnConn false (log (intake (connected at.lane) (first_conn at.lane) at.counted) received)
       begin = record {
         keeps = b.keeps;
         lane_is = b.lane_is;
@@ -265,16 +316,22 @@ module _ (capacity number : ℕ) (first : List (EndState Item)) where
       }
 
   module _ {F X : Type 0} (gives : F → Option X → F → Type 0) (known : X → Connection) where
-    pub serves_all : (given : List X) (old : F) (at : LaneAt) (received : List Arrival) (new : F) (last : LaneAt) → Between at received → ServesAll gives known capacity given old at new last false
-        → (after : List Arrival) × ReceivesAll gives known capacity given old at received new last after false × Between last after
-    serves_all [] old at received new last b h = (received, (h.0, h.1, refl, refl), subst (λ (z : LaneAt). Between z received) (sym h.1) b)
-    serves_all (x ∷ rest) old at received new last b h = go (is_book_full h.2) refl h.5 (λ mid between k. serves_all rest h.0 h.1 mid new last between k)
+    pub serves_all : (given : List X) (old : F) (at : LaneAt) (received : List Arrival) (new : F) (last : LaneAt) (is_full : Bool) → Between false at received → ServesAll gives known capacity given old at new last is_full
+        → (after : List Arrival) × ReceivesAll gives known capacity given old at received new last after is_full × Between is_full last after
+    serves_all [] old at received new last is_full b h = (received, (h.0, h.1, refl, h.2), subst (λ (full : Bool). Between full last received) (sym h.2) (subst (λ (z : LaneAt). Between false z received) (sym h.1) b))
+    serves_all (x ∷ rest) old at received new last is_full b h = go (is_book_full h.2) refl h.5 (λ mid between k. serves_all rest h.0 h.1 mid new last is_full between k)
       where
-        go : (full : Bool) → is_book_full h.2 ≡ full → MatchBool full ((rest ≡ []) × (new ≡ h.0) × (last ≡ h.1) × (false ≡ true)) (ServesAll gives known capacity rest h.0 h.1 new last false)
-            → ((mid : List Arrival) → Between h.1 mid → ServesAll gives known capacity rest h.0 h.1 new last false → (after : List Arrival) × ReceivesAll gives known capacity rest h.0 h.1 mid new last after false × Between last after)
-            → (after : List Arrival) × ReceivesAll gives known capacity (x ∷ rest) old at received new last after false × Between last after
-        go true is more others_of = absurd (cc (more.3))
+        go : (full : Bool) → is_book_full h.2 ≡ full → MatchBool full ((rest ≡ []) × (new ≡ h.0) × (last ≡ h.1) × (is_full ≡ true)) (ServesAll gives known capacity rest h.0 h.1 new last is_full)
+            → ((mid : List Arrival) → Between false h.1 mid → ServesAll gives known capacity rest h.0 h.1 new last is_full → (after : List Arrival) × ReceivesAll gives known capacity rest h.0 h.1 mid new last after is_full × Between is_full last after)
+            → (after : List Arrival) × ReceivesAll gives known capacity (x ∷ rest) old at received new last after is_full × Between is_full last after
+        go true is more others_of =
+            let one = serves_one (known x) at received h.1 h.2 b h.4 in
+            (
+              one.0,
+              (h.0, h.1, one.0, h.2, h.3, one.1, subst (λ full. MatchBool full ((rest ≡ []) × (new ≡ h.0) × (last ≡ h.1) × (one.0 ≡ one.0) × (is_full ≡ true)) (ReceivesAll gives known capacity rest h.0 h.1 one.0 new last one.0 is_full)) (sym is) (more.0, more.1, more.2, refl, more.3)),
+              subst (λ (full : Bool). Between full last one.0) (is ∙ sym more.3) (subst (λ (z : LaneAt). Between (is_book_full h.2) z one.0) (sym more.2) one.2),
+            )
         go false is more others_of =
-            let one = serves_one (known x) at received h.1 h.2 b is h.4 in
-            let others = others_of one.0 one.2 more in
-            (others.0, (h.0, h.1, one.0, h.2, h.3, one.1, subst (λ full. MatchBool full ((rest ≡ []) × (new ≡ h.0) × (last ≡ h.1) × (others.0 ≡ one.0) × (false ≡ true)) (ReceivesAll gives known capacity rest h.0 h.1 one.0 new last others.0 false)) (sym is) others.1), others.2)
+            let one = serves_one (known x) at received h.1 h.2 b h.4 in
+            let others = others_of one.0 (subst (λ (full : Bool). Between full h.1 one.0) is one.2) more in
+            (others.0, (h.0, h.1, one.0, h.2, h.3, one.1, subst (λ full. MatchBool full ((rest ≡ []) × (new ≡ h.0) × (last ≡ h.1) × (others.0 ≡ one.0) × (is_full ≡ true)) (ReceivesAll gives known capacity rest h.0 h.1 one.0 new last others.0 is_full)) (sym is) others.1), others.2)

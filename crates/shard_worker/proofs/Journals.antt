@@ -10,7 +10,7 @@ use Rattle.otlp_types.specs.declared.arrival.Shipment.TheVariants.{End}
 use Rattle.drop_ledger.specs.declared.count.Count.{Count}
 use Rattle.drop_ledger.specs.declared.count.Count.TheVariants.{Received, Handed, Dropped}
 use Rattle.drop_ledger.specs.Places.{TallyState, Tallies}
-use Rattle.drop_ledger.proofs.Gains.{tallies_none}
+use Rattle.drop_ledger.proofs.Gains.{tallies_none, tallies_same}
 use Rattle.lane_queue.specs.Ends.{EndState, ReceiverState, with_item, TakesAt}
 use Rattle.lane_queue.specs.Merges.{IsMergeOf}
 use Rattle.lane_queue.proofs.Merging.{merge_more}
@@ -124,7 +124,7 @@ works asks first number s shard receiver items_shipped sender before tally limit
       answered = subst (λ z. IsAnswered z J) is done.answered;
       asked = subst (λ z. AskedBy asks z J first limiter) is done.at.asked;
       shipped = shipped ∙ ap (λ l. l ++ End number ∷ []) (done.at.shipped_is ∙ ap (λ z. shipments (effect_dealt z J done.dealt).released) is ∙ ap (λ (e : Effect). shipments e.released) same);
-      counted = λ some. let h = subst (λ z. Tallies (counted_dealt z J done.dealt) before tally) is done.at.counted some in (h.0, (h.1.0, h.1.1, λ count. h.1.2 count ∙ counts count));
+      counted = tallies_same (counted_dealt s J done.dealt) (counted_in s J) before tally (λ count. sym (counts count)) (subst (λ z. Tallies (counted_dealt z J done.dealt) before tally) is done.at.counted);
     } where
       counts : (count : Count) → counted_dealt s (journal_of popped) kept.2.dealt count ≡ counted_in s (journal_of popped) count
       counts Received = refl

@@ -1,16 +1,7 @@
-//! Each count through the trait, one that would pass the greatest number, and what two shares of a book count.
-ghost use Rattle.std.specs.Prelude.{◌≡◌};
-
-use drop_ledger::{
-    Accounts, Blanks, Book, BookFull, BookShare, Count, Counter, Part, Report, Tally,
-    numbers_are_sums,
-};
+//! Each count through the trait, one that would pass the greatest number, and the sums of what several counted.
+use drop_ledger::{BookFull, Count, Counter, Report, Tally, numbers_are_sums, total};
 use span_ids::Reason;
-use std::alloc::{AllocError, Global};
-use std::marker::Brand;
 use std::process::Abort;
-use std::sync::Wait;
-use std::test::Fail;
 
 /// Adds by the trait.
 fn add_to<C: Counter>(counter: &mut C, count: Count, n: u64) -> Result<(), BookFull> {
@@ -47,66 +38,49 @@ fn each_count_by_itself(rt: HostRuntime) {
     numbers_are_sums();
 }
 
-/// The parts of a lane and of a shard, of which both count on the book, and whether the lane's and the shard's is full then.
-fn counted<B: Accounts, R: Wait>(
-    rt: &R,
-    book: &Book<B>,
-    lane: Part<B>,
-    shard: Part<B>,
-) -> (Part<B>, Part<B>, (bool, bool))
-    requires { (lane.parts ≡ 1) × (shard.parts ≡ 1) }
-    ensures { (result.0.parts ≡ 1) × (result.1.parts ≡ 1) }
-{
-    let mut lane = Tally::new(BookShare::new(rt, book, lane));
-    let mut shard = Tally::new(BookShare::new(rt, book, shard));
-    lane.count(Count::Received, 7);
-    shard.count(Count::Dropped(Reason::NotSampled), 4);
+/// What a lane counted that took 8 spans, and whether it stopped counting.
+fn lane() -> (Report, bool) {
+    let mut lane = Tally::new(Report::new());
+    lane.count(Count::Received, 8);
     lane.count(Count::Dropped(Reason::QueueFull), 1);
-    shard.count(Count::Dropped(Reason::QueueFull), 2);
-    shard.count(Count::Dropped(Reason::LateNotSampled), u64::MAX);
-    lane.count(Count::Dropped(Reason::LateNotSampled), 1);
-    lane.count(Count::Handed, 5);
-    let is_full = (lane.is_full(), shard.is_full());
-    (lane.end().end(), shard.end().end(), is_full)
+    lane.count(Count::Dropped(Reason::InvalidId), u64::MAX);
+    let is_full = lane.is_full();
+    (lane.end(), is_full)
 }
 
-/// The report of a book of three parts, of which two count; the second of them would pass the greatest number, and
-/// counts nothing more.
-fn gathered<B: Accounts, R: Wait>(
-    rt: &R,
-    alloc: Global,
-    blanks: Blanks,
-) -> Result<Report, AllocError>
-    requires names { blanks.names ≡ B.names }
-    requires parts { (blanks.parts ≡ B.parts) × (B.parts ≡ 3) }
-{
-    let (book, mut parts) = Book::<B>::new(alloc, blanks, 2)?;
-    let Some(lane) = parts.pop() else {
-        return Err(AllocError);
-    };
-    let Some(shard) = parts.pop() else {
-        return Err(AllocError);
-    };
-    let (lane, shard, is_full) = counted(rt, &book, lane, shard);
-    if is_full != (true, false) {
-        return Err(AllocError);
-    }
-    parts.push(lane)?;
-    parts.push(shard)?;
-    Ok(book.gather(parts))
+/// What a shard counted, one count of which would have passed the greatest number: nothing more was counted then.
+fn shard() -> (Report, bool) {
+    let mut shard = Tally::new(Report::new());
+    shard.count(Count::Dropped(Reason::NotSampled), 4);
+    shard.count(Count::Dropped(Reason::QueueFull), 2);
+    shard.count(Count::Dropped(Reason::LateNotSampled), u64::MAX);
+    shard.count(Count::Dropped(Reason::LateNotSampled), 1);
+    shard.count(Count::Handed, 5);
+    let is_full = shard.is_full();
+    (shard.end(), is_full)
 }
 
 #[test]
-fn two_shares_are_gathered(rt: HostRuntime) -> Result<(), Fail> {
-    let report = gathered::<Brand, _>(&rt, rt.alloc(), Blanks::new(3))?;
+fn several_are_summed(rt: HostRuntime) {
+    let (lane, is_full) = lane();
+    assert!(rt; !is_full);
+    let (shard, is_full) = shard();
+    assert!(rt; is_full);
     let numbers = [
-        (Count::Received, 7),
+        (Count::Received, 8),
         (Count::Handed, 0),
-        (Count::Dropped(Reason::InvalidId), 0),
+        (Count::Dropped(Reason::InvalidId), u64::MAX),
         (Count::Dropped(Reason::QueueFull), 3),
+        (Count::Dropped(Reason::NoMemory), 0),
+        (Count::Dropped(Reason::Evicted), 0),
         (Count::Dropped(Reason::NotSampled), 4),
         (Count::Dropped(Reason::LateNotSampled), u64::MAX),
+        (Count::Dropped(Reason::ExporterDown), 0),
     ];
-    check(&rt, &report, &numbers);
-    Ok(())
+    match total(&[lane, shard]) {
+        Ok(report) => check(&rt, &report, &numbers),
+        Err(_) => assert!(rt; false, "each sum fits"),
+    }
+    assert!(rt; total(&[shard, lane, shard]).is_err());
+    assert!(rt; total(&[]).is_ok());
 }

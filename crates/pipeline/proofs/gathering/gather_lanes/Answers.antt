@@ -1,7 +1,7 @@
 use Rattle.std.proofs.Common.{◌≡◌, ◌++◌, ◌∷◌, [], ap, sym, ◌∙◌, arith, append_assoc, length}
 use Rattle.std.proofs.lemmas.List.{map-append}
 use Rattle.queue_grid.specs.Grid.{ends_of}
-use Rattle.pipeline.proofs.Gathered.{one_more, none_full}
+use Rattle.pipeline.proofs.Gathered.{one_more, any_more, any_none}
 use Rattle.pipeline.proofs.gathering.gather_lanes.Goals as goal
 
 pub loop-lane-preserved : goal.loop-lane-preserved
@@ -16,6 +16,6 @@ loop-lane-preserved g c =
       c.add.ensures.capacity ∙ h.4,
       one_more (λ lane. lane.senders.items) (ends_of c.loop-lane.columns.items) (ends_of c.push_reserved.new.self.items) (ends_of c.args.columns.now.items) c.loop-lane.yielded lane
           (ap ends_of c.push_reserved.ensures.items ∙ map-append (λ v. v.items) c.loop-lane.columns.items (lane.senders ∷ [])) h.5,
-      one_more (λ lane. lane.part) c.loop-lane.counted.parts.items c.add.new.self.parts.items c.args.counted.now.parts.items c.loop-lane.yielded lane c.add.ensures.parts h.6,
-      none_full (λ lane. lane.is_full) c.loop-lane.counted.is_full c.add.new.self.is_full c.args.counted.now.is_full c.loop-lane.yielded lane c.add.ensures.full h.7,
+      one_more (λ lane. lane.counts) c.loop-lane.counted.counts.items c.add.new.self.counts.items c.args.counted.now.counts.items c.loop-lane.yielded lane c.add.ensures.counts h.6,
+      any_more (λ lane. lane.is_full) c.loop-lane.counted.is_full c.add.new.self.is_full c.args.counted.now.is_full c.loop-lane.yielded lane c.add.ensures.full h.7,
     )

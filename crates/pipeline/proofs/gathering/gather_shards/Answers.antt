@@ -1,5 +1,5 @@
 use Rattle.std.proofs.Common.{◌≡◌, ◌++◌, ◌∷◌, [], ap, sym, ◌∙◌, arith, append_assoc, length}
-use Rattle.pipeline.proofs.Gathered.{one_more, none_full}
+use Rattle.pipeline.proofs.Gathered.{one_more, any_more, any_none}
 use Rattle.pipeline.proofs.gathering.gather_shards.Goals as goal
 
 pub loop-shard-preserved : goal.loop-shard-preserved
@@ -23,6 +23,6 @@ loop-shard-preserved g c =
       one_more (λ shard. shard.seat) c.loop-shard.ends.seats.items c.push_reserved.new.self.items c.args.ends.now.seats.items c.loop-shard.yielded shard seat.items h.9,
       one_more (λ shard. shard.receiver) c.loop-shard.ends.receivers.items c.push_reserved-in-loop-shard.new.self.items c.args.ends.now.receivers.items c.loop-shard.yielded shard receiver.items h.10,
       one_more (λ shard. shard.sender) c.loop-shard.ends.exports.items c.push_reserved-in-loop-shard-2.new.self.items c.args.ends.now.exports.items c.loop-shard.yielded shard sender.items h.11,
-      one_more (λ shard. shard.part) c.loop-shard.counted.parts.items c.add.new.self.parts.items c.args.counted.now.parts.items c.loop-shard.yielded shard c.add.ensures.parts h.12,
-      none_full (λ shard. shard.is_full) c.loop-shard.counted.is_full c.add.new.self.is_full c.args.counted.now.is_full c.loop-shard.yielded shard c.add.ensures.full h.13,
+      one_more (λ shard. shard.counts) c.loop-shard.counted.counts.items c.add.new.self.counts.items c.args.counted.now.counts.items c.loop-shard.yielded shard c.add.ensures.counts h.12,
+      any_more (λ shard. shard.is_full) c.loop-shard.counted.is_full c.add.new.self.is_full c.args.counted.now.is_full c.loop-shard.yielded shard c.add.ensures.full h.13,
     )

@@ -1,19 +1,8 @@
-use Rattle.std.proofs.Common.{◌≡◌, ◌+◌, ◌∙◌, ap, sym, subst, arith, vec_len, All, Some}
-use Rattle.std.specs.Prelude.{replicate}
-use Rattle.std.proofs.lemmas.List.Elements.{All-pop}
+use Rattle.std.proofs.Common.{◌≡◌, ◌+◌, sym, subst, arith, vec_len, All}
 use Rattle.queue_grid.specs.Grid.{ends_of, HasRoom}
 use Rattle.pipeline.specs.Promise.{nodes_of}
 use Rattle.pipeline.proofs.Ends.{has_ends}
 use Rattle.pipeline.proofs.making.make.Goals as goal
-
-pub team_of-requires-clause-parts : goal.team_of-requires-clause-parts
-team_of-requires-clause-parts g c = (
-  omega (arith, c.take_last.ensures.len, c.requires.parts.0),
-  (All-pop (λ p. p ≡ record { parts = 1; numbers = replicate 9 0 }) c.args.parts.items c.take_last.new.self.items (Some c.take_last.result) c.take_last.ensures.items c.requires.parts.1).0,
-)
-
-pub returns-clause-share : goal.returns-clause-share
-returns-clause-share g c = ap (λ p. p.numbers) (c.new-share.ensures ∙ (All-pop (λ p. p ≡ record { parts = 1; numbers = replicate 9 0 }) c.args.parts.items c.take_last.new.self.items (Some c.take_last.result) c.take_last.ensures.items c.requires.parts.1).1)
 
 pub returns-clause-ends : goal.returns-clause-ends
 returns-clause-ends g c =

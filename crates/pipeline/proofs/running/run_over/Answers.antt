@@ -1,4 +1,5 @@
-use Rattle.std.proofs.Common.{◌≡◌, ◌+◌, ◌++◌, ◌<◌, ◌≤◌, ◌∙◌, ℕ, [], ◌∷◌, All, false, refl, ap, sym, subst, arith, length, map, vec_len, vec_capacity}
+use Rattle.std.specs.List.{list_any}
+use Rattle.std.proofs.Common.{◌≡◌, ◌+◌, ◌++◌, ◌||◌, ◌<◌, ◌≤◌, ◌∙◌, ℕ, [], ◌∷◌, All, refl, ap, sym, subst, arith, length, map, vec_len, vec_capacity}
 use Rattle.std.proofs.lemmas.List.{length-map, map-append}
 use Rattle.lane_queue.specs.Ends.{AreTied, HasHistoryAt}
 use Rattle.lane_worker.specs.Serving.{connection}
@@ -6,13 +7,12 @@ use Rattle.queue_grid.specs.Grid.{ends_of, HasRoom, IsTiedGrid, HaveHistories}
 use Rattle.shard_core.specs.Held.{settings}
 use Rattle.shared_budget.specs.Budget.{AreOfOneBudget, HaveOneHistoryEach}
 use Rattle.world_theory.specs.World.{settings_for}
-use Rattle.world_theory.proofs.Steps.{or_both}
 use Rattle.run_weave.specs.Jobs.{TickerDid, ExporterDid}
 use Rattle.run_weave.specs.Workers.{zeros, LaneOut, ShardIn, ShardOut, Given, Left, senders_of, Worked}
 use Rattle.pipeline.specs.Made.{HasEnds}
 use Rattle.pipeline.specs.Promise.{core_of, nodes_of}
 use Rattle.pipeline.proofs.Done.{lanes_did, shards_did}
-use Rattle.pipeline.proofs.Worked.{twice, all_mapped, all_both, counted_with, Done, tied_left, shipped_left, seats_left, worked}
+use Rattle.pipeline.proofs.Worked.{twice, all_both, counted_by_all, any_mapped, Done, tied_left, shipped_left, seats_left, worked}
 use Rattle.pipeline.proofs.running.run_over.Given.{Over}
 use Rattle.pipeline.proofs.running.run_over.Goals.{After-add}
 use denote.Exit.{yes, no}
@@ -32,22 +32,22 @@ returns-in-Ok-run_team-clause-sink g c =
 pub run_team-requires-send-J : goal.run_team-requires-send-J
 run_team-requires-send-J g c κs within =
     let feed : IsSend (param 0 g.row.F) = record { owned = c.type_bounds.send-F.owned; leaving = c.type_bounds.send-F.leaving } in
-    param_send _ _ (arg_send _ no _ (lane_job_send _ (param 0 g.row.F) (param 6 g.row.C) (param 8 g.row.B) (param 3 g.row.G) (param 4 g.row.P) (param 5 g.row.M) (param 9 g.row.R) g.C.Room g.B.Accounts feed c.type_bounds.sync-G c.type_bounds.sync-P c.type_bounds.sync-M c.type_bounds.sync-R))
+    param_send _ _ (arg_send _ no _ (lane_job_send _ (param 0 g.row.F) (param 6 g.row.C) (param 3 g.row.G) (param 4 g.row.P) (param 5 g.row.M) (param 8 g.row.R) g.C.Room feed c.type_bounds.sync-G c.type_bounds.sync-P c.type_bounds.sync-M c.type_bounds.sync-R))
 
 pub run_team-requires-send-K : goal.run_team-requires-send-K
 run_team-requires-send-K g c κs within = param_send _ _ (arg_send _ no _ (ticker_job_send _ _ _ _ _ c.type_bounds.send-T c.type_bounds.sync-R))
 
 pub run_team-requires-send-L : goal.run_team-requires-send-L
-run_team-requires-send-L g c κs within = param_send _ _ (arg_send _ no _ (shard_job_send _ (param 6 g.row.C) (param 7 g.row.D) (param 8 g.row.B) (param 3 g.row.G) (param 9 g.row.R) g.C.Room g.D.Room g.B.Accounts c.type_bounds.sync-G c.type_bounds.sync-R))
+run_team-requires-send-L g c κs within = param_send _ _ (arg_send _ no _ (shard_job_send _ (param 6 g.row.C) (param 7 g.row.D) (param 3 g.row.G) (param 8 g.row.R) g.C.Room g.D.Room c.type_bounds.sync-G c.type_bounds.sync-R))
 
 pub run_team-requires-send-J-Left : goal.run_team-requires-send-J-Left
-run_team-requires-send-J-Left g c κs within = param_send _ _ (arg_send _ yes _ (lane_left_send (param 6 g.row.C) (param 8 g.row.B) g.C.Room g.B.Accounts))
+run_team-requires-send-J-Left g c κs within = param_send _ _ (arg_send _ yes _ (lane_left_send (param 6 g.row.C) g.C.Room))
 
 pub run_team-requires-send-K-Left : goal.run_team-requires-send-K-Left
 run_team-requires-send-K-Left g c κs within = param_send _ _ (arg_send _ yes _ (ends_send (param 6 g.row.C) g.C.Room))
 
 pub run_team-requires-send-L-Left : goal.run_team-requires-send-L-Left
-run_team-requires-send-L-Left g c κs within = param_send _ _ (arg_send _ no _ (shard_left_send _ (param 6 g.row.C) (param 7 g.row.D) (param 8 g.row.B) (param 9 g.row.R) g.C.Room g.D.Room g.B.Accounts c.type_bounds.sync-R))
+run_team-requires-send-L-Left g c κs within = param_send _ _ (arg_send _ no _ (shard_left_send _ (param 6 g.row.C) (param 7 g.row.D) (param 8 g.row.R) g.C.Room g.D.Room c.type_bounds.sync-R))
 
 -- what all were given
 abbrev given_of : (g : Over) → After-add g → Given g.row.F.Denot g.row.T.Denot
@@ -64,10 +64,10 @@ given_of g c = record {
 -- what all left
 abbrev left_of : (g : Over) → After-add g → Left
 left_of g c = record {
-  lanes = map (λ l. record { senders = l.senders.items; counted = l.part.numbers; is_full = l.is_full }) c.in-Ok-run_team.left.first.items;
+  lanes = map (λ l. record { senders = l.senders.items; counted = l.counts; is_full = l.is_full }) c.in-Ok-run_team.left.first.items;
   ticker = c.in-Ok-run_team.left.second.items;
-  shards = map (λ l. record { seat = l.seat; receiver = l.receiver; sender = l.sender; counted = l.part.numbers; is_full = l.is_full }) c.in-Ok-run_team.left.third.items;
-  exporter = record { exporter = c.in-Ok-run_team.last.exporter; receiver = c.in-Ok-run_team.last.receiver; counted = c.in-Ok-run_team.last.part.numbers; is_full = c.in-Ok-run_team.last.is_full };
+  shards = map (λ l. record { seat = l.seat; receiver = l.receiver; sender = l.sender; counted = l.counts; is_full = l.is_full }) c.in-Ok-run_team.left.third.items;
+  exporter = record { exporter = c.in-Ok-run_team.last.exporter; receiver = c.in-Ok-run_team.last.receiver; counted = c.in-Ok-run_team.last.counts; is_full = c.in-Ok-run_team.last.is_full };
 }
 
 -- all did what they promise
@@ -93,13 +93,13 @@ all_done g c =
       new_batch = c.requires.new_exporter.0;
       up = c.requires.new_exporter.3;
       exporter_ends = c.requires.exporter_ends;
-      lanes_did = lanes_did g.F.Feed.gives (λ x. connection (g.F.Reader.Source.given x.0) (g.F.Writer.Write.contents x.1)) g.C.Room.capacity (λ j. j.number) (λ j. j.feed) (λ j. j.lane) (λ j. j.share.numbers)
-          (λ l. record { senders = l.senders.items; counted = l.part.numbers; is_full = l.is_full }) _ (λ j l h. h) 0 made.team.first.items c.in-Ok-run_team.left.first.items e.numbers.0
-          (all_both (λ j. (j.lane.number ≡ j.number) × (j.room.items ≡ []) × (length j.lane.ports ≤ vec_capacity j.room)) (λ j. (j.lane.connected ≡ 0) × (j.share.numbers ≡ zeros)) (λ j. (j.lane.number ≡ j.number) × (j.lane.connected ≡ 0) × (j.share.numbers ≡ zeros)) made.team.first.items (λ j h k. (h.0, k.0, k.1)) e.lanes.1 e.new_lanes) ran.first;
+      lanes_did = lanes_did g.F.Feed.gives (λ x. connection (g.F.Reader.Source.given x.0) (g.F.Writer.Write.contents x.1)) g.C.Room.capacity (λ j. j.number) (λ j. j.feed) (λ j. j.lane)
+          (λ l. record { senders = l.senders.items; counted = l.counts; is_full = l.is_full }) _ (λ j l h. h) 0 made.team.first.items c.in-Ok-run_team.left.first.items e.numbers.0
+          (all_both (λ j. (j.lane.number ≡ j.number) × (j.room.items ≡ []) × (length j.lane.ports ≤ vec_capacity j.room)) (λ j. j.lane.connected ≡ 0) (λ j. (j.lane.number ≡ j.number) × (j.lane.connected ≡ 0)) made.team.first.items (λ j h k. (h.0, k)) e.lanes.1 e.new_lanes) ran.first;
       ticker_did = subst (λ n. TickerDid g.T.Ticks.gives n made.team.second.ticks made.team.second.senders.items c.in-Ok-run_team.left.second.items) e.ticker.0 ran.second;
-      shards_did = shards_did (settings_for (core_of c.args.config.now) (c.args.config.now.lanes + 1)) (λ j. j.number) (λ j. record { seat = j.seat; receiver = j.receiver; sender = j.sender }) (λ j. settings j.shard) (λ j. j.share.numbers)
-          (λ l. record { seat = l.seat; receiver = l.receiver; sender = l.sender; counted = l.part.numbers; is_full = l.is_full }) _ (λ j l h. h) 0 third c.in-Ok-run_team.left.third.items e.numbers.1 e.new_shards ran.third;
-      exporter_did = subst (λ z. ExporterDid c.args.exporter made.shipments z left.exporter.exporter left.exporter.receiver left.exporter.counted left.exporter.is_full) e.share ran.main;
+      shards_did = shards_did (settings_for (core_of c.args.config.now) (c.args.config.now.lanes + 1)) (λ j. j.number) (λ j. record { seat = j.seat; receiver = j.receiver; sender = j.sender }) (λ j. settings j.shard)
+          (λ l. record { seat = l.seat; receiver = l.receiver; sender = l.sender; counted = l.counts; is_full = l.is_full }) _ (λ j l h. h) 0 third c.in-Ok-run_team.left.third.items e.numbers.1 e.new_shards ran.third;
+      exporter_did = ran.main;
     }
 
 -- what was gathered is what was left
@@ -107,21 +107,21 @@ columns_are : (g : Over) (c : After-add g) → ends_of c.push_reserved.new.self.
 columns_are g c =
     ap ends_of c.push_reserved.ensures.items ∙ (map-append (λ v. v.items) c.gather_lanes.new.columns.items (c.in-Ok-run_team.left.second ∷ [])
     ∙ ap (λ z. z ++ c.in-Ok-run_team.left.second.items ∷ []) (c.gather_lanes.ensures.columns ∙ (ap (λ z. ends_of z ++ map (λ lane. lane.senders.items) c.in-Ok-run_team.left.first.items) c.in-Ok.ensures.columns.0
-    ∙ sym (twice (λ out. out.senders) (λ l. record { senders = l.senders.items; counted = l.part.numbers; is_full = l.is_full }) c.in-Ok-run_team.left.first.items))))
+    ∙ sym (twice (λ out. out.senders) (λ l. record { senders = l.senders.items; counted = l.counts; is_full = l.is_full }) c.in-Ok-run_team.left.first.items))))
 
 receivers_short : (g : Over) (c : After-add g) → c.gather_shards.new.ends.receivers.items ≡ map (λ shard. shard.receiver) c.in-Ok-run_team.left.third.items
 receivers_short g c = c.gather_shards.ensures.receivers ∙ ap (λ z. z ++ map (λ shard. shard.receiver) c.in-Ok-run_team.left.third.items) c.in-Ok.ensures.receivers.0
 
 receivers_are : (g : Over) (c : After-add g) → c.gather_shards.new.ends.receivers.items ≡ map (λ x. x.receiver) (left_of g c).shards
-receivers_are g c = receivers_short g c ∙ sym (twice (λ x. x.receiver) (λ l. record { seat = l.seat; receiver = l.receiver; sender = l.sender; counted = l.part.numbers; is_full = l.is_full }) c.in-Ok-run_team.left.third.items)
+receivers_are g c = receivers_short g c ∙ sym (twice (λ x. x.receiver) (λ l. record { seat = l.seat; receiver = l.receiver; sender = l.sender; counted = l.counts; is_full = l.is_full }) c.in-Ok-run_team.left.third.items)
 
 exports_are : (g : Over) (c : After-add g) → c.gather_shards.new.ends.exports.items ≡ map (λ x. x.sender) (left_of g c).shards
 exports_are g c = c.gather_shards.ensures.exports ∙ (ap (λ z. z ++ map (λ shard. shard.sender) c.in-Ok-run_team.left.third.items) c.in-Ok.ensures.exports.0
-    ∙ sym (twice (λ x. x.sender) (λ l. record { seat = l.seat; receiver = l.receiver; sender = l.sender; counted = l.part.numbers; is_full = l.is_full }) c.in-Ok-run_team.left.third.items))
+    ∙ sym (twice (λ x. x.sender) (λ l. record { seat = l.seat; receiver = l.receiver; sender = l.sender; counted = l.counts; is_full = l.is_full }) c.in-Ok-run_team.left.third.items))
 
 seats_are : (g : Over) (c : After-add g) → c.gather_shards.new.ends.seats.items ≡ map (λ x. x.seat) (left_of g c).shards
 seats_are g c = c.gather_shards.ensures.seats ∙ (ap (λ z. z ++ map (λ shard. shard.seat) c.in-Ok-run_team.left.third.items) c.in-Ok.ensures.seats.0
-    ∙ sym (twice (λ x. x.seat) (λ l. record { seat = l.seat; receiver = l.receiver; sender = l.sender; counted = l.part.numbers; is_full = l.is_full }) c.in-Ok-run_team.left.third.items))
+    ∙ sym (twice (λ x. x.seat) (λ l. record { seat = l.seat; receiver = l.receiver; sender = l.sender; counted = l.counts; is_full = l.is_full }) c.in-Ok-run_team.left.third.items))
 
 pub join_all-requires-clause-tied : goal.join_all-requires-clause-tied
 join_all-requires-clause-tied g c = subst (λ z. IsTiedGrid z c.gather_shards.new.ends.receivers.items) (sym (columns_are g c))
@@ -164,15 +164,9 @@ returns-in-Ok-run_team-clause-worked g c =
       ticks_are = c.in-Ok.ensures.ticker.1;
       exporter_is = refl;
       exporter_left = refl;
-      counted = counted_with (λ l. l.part) (λ l. l.part) first third c.in-Ok-run_team.last.part c.in-Ok.made.rooms.parts.items c.gather_lanes.new.counted.parts.items c.gather_shards.new.counted.parts.items c.add.new.self.parts.items
-          c.in-Ok.ensures.parts_room.0 c.gather_lanes.ensures.parts c.gather_shards.ensures.parts c.add.ensures.parts
-          ∙ cc (twice (λ (out : LaneOut). out.counted) (λ l. record { senders = l.senders.items; counted = l.part.numbers; is_full = l.is_full }) first, twice (λ (x : ShardOut). x.counted) (λ l. record { seat = l.seat; receiver = l.receiver; sender = l.sender; counted = l.part.numbers; is_full = l.is_full }) third);
-      none_full = λ e.
-          let both = or_both c.gather_shards.new.counted.is_full c.in-Ok-run_team.last.is_full (sym c.add.ensures.full ∙ e) in
-          let shards = c.gather_shards.ensures.full both.0 in
-          let lanes = c.gather_lanes.ensures.full shards.0 in record {
-            lanes = all_mapped (λ (out : LaneOut). out.is_full ≡ false) (λ l. record { senders = l.senders.items; counted = l.part.numbers; is_full = l.is_full }) first lanes.1;
-            shards = all_mapped (λ (out : ShardOut). out.is_full ≡ false) (λ l. record { seat = l.seat; receiver = l.receiver; sender = l.sender; counted = l.part.numbers; is_full = l.is_full }) third shards.1;
-            exporter = both.1;
-          };
+      counted = counted_by_all (λ l. l.counts) (λ l. l.counts) first third c.in-Ok-run_team.last.counts c.in-Ok.made.rooms.counts.items c.gather_lanes.new.counted.counts.items c.gather_shards.new.counted.counts.items c.add.new.self.counts.items
+          c.in-Ok.ensures.counts_room.0 c.gather_lanes.ensures.counts c.gather_shards.ensures.counts c.add.ensures.counts
+          ∙ cc (twice (λ (out : LaneOut). out.counted) (λ l. record { senders = l.senders.items; counted = l.counts; is_full = l.is_full }) first, twice (λ (x : ShardOut). x.counted) (λ l. record { seat = l.seat; receiver = l.receiver; sender = l.sender; counted = l.counts; is_full = l.is_full }) third);
+      full = c.add.ensures.full ∙ (ap (λ b. b || c.in-Ok-run_team.last.is_full) (c.gather_shards.ensures.full ∙ ap (λ b. b || list_any (λ shard. shard.is_full) third) c.gather_lanes.ensures.full)
+          ∙ cc (any_mapped (λ (out : LaneOut). out.is_full) (λ l. record { senders = l.senders.items; counted = l.counts; is_full = l.is_full }) first, any_mapped (λ (x : ShardOut). x.is_full) (λ l. record { seat = l.seat; receiver = l.receiver; sender = l.sender; counted = l.counts; is_full = l.is_full }) third));
     }

@@ -1,14 +1,20 @@
-use Rattle.std.proofs.Common.{◌∙◌, ap, sym}
+use Rattle.std.proofs.Common.{subst}
+use Rattle.lane_worker.specs.Serving.{connection}
 use Rattle.run_weave.specs.Jobs.{LaneDid}
 use Rattle.pipeline.proofs.lane_job.LaneJobJob.work.Goals as goal
 
 pub returns : goal.returns
 returns g c =
-    let w = c.work-end.ensures.works in record {
+    let w = c.work-end.ensures.works in
+    subst
+    (λ counts. LaneDid g.F.Feed.gives (λ x. connection (g.F.Reader.Source.given x.0) (g.F.Writer.Write.contents x.1)) g.C.Room.capacity c.args.self.number c.args.self.feed c.args.self.lane counts c.work-end.result.senders.items
+        c.work-end.new.counter c.work-end.result.is_full)
+    c.new-counts.ensures
+    (record {
       last = c.work-end.new.feed;
       after = w.0;
       served = w.1;
-      counts = w.2 ∙ sym (ap (λ p. p.numbers) c.end.ensures.0);
+      counts = w.2;
       ends = w.3;
       same_queues = c.work-end.ensures.same_queues;
-    }
+    })

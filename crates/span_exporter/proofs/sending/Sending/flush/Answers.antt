@@ -8,7 +8,7 @@ returns-in-Handed-clause-sent g c = λ start before calls sent.
     let told = c.in-Handed.ensures in (
       Handed c.in-Handed.spans,
       sent_flush start before c.args.self.now.exporter c.flush.new.self c.args.self.now.tally c.count.new.self calls (Handed c.in-Handed.spans) sent (told.sent, told.emptied)
-          (counts_handed c.in-Handed.spans _ c.args.self.now.tally c.count.new.self told.sent.1 c.count.ensures.counted),
+          (counts_handed c.in-Handed.spans _ c.args.self.now.tally c.count.new.self told.sent.1 c.count.ensures.counted c.count.ensures.cause),
     )
 
 pub returns-in-Spoiled-clause-sent : goal.returns-in-Spoiled-clause-sent
@@ -17,7 +17,7 @@ returns-in-Spoiled-clause-sent g c = λ start before calls sent.
     let answer = Spoiled c.in-Spoiled.spans c.in-Spoiled.reason in (
       answer,
       sent_flush start before c.args.self.now.exporter c.flush.new.self c.args.self.now.tally c.count-in-Spoiled.new.self calls answer sent (told.sent, told.emptied)
-          (counts_spoiled c.in-Spoiled.spans _ c.in-Spoiled.reason c.args.self.now.tally c.count-in-Spoiled.new.self told.sent.1 c.count-in-Spoiled.ensures.counted),
+          (counts_spoiled c.in-Spoiled.spans _ c.in-Spoiled.reason c.args.self.now.tally c.count-in-Spoiled.new.self told.sent.1 c.count-in-Spoiled.ensures.counted c.count-in-Spoiled.ensures.cause),
     )
 
 pub returns-in-Empty-clause-sent : goal.returns-in-Empty-clause-sent
