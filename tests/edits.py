@@ -14,7 +14,7 @@ own function; one of which that isn't plain is tried by itself, at last on the w
 --jobs N takes N crates side by side, and a check takes 1 to 4 GB. It prints a line an edit and one a check, with its processor seconds.
 
 The record, tests/edits.passed, has a line for each crate all of whose edits were refused: its name, a sum over its files, those of the crates
-below it and the kit's line, the number of its edits, and the processor seconds of the tries. --stale compares the sums with the files that
+below it and the kit's logic, the number of its edits, and the processor seconds of the tries. --stale compares the sums with the files that
 are there. The last line is 'N passed, M failed': of edits, or of crates."""
 import argparse
 import collections
@@ -46,7 +46,7 @@ def read_record():
 
 
 def write_record(record):
-    head = "# crate, sum of its files, those below it and the kit's line, edits refused, processor seconds: written by tests/edits.py\n"
+    head = "# crate, sum of its files, those below it and the kit's logic, edits refused, processor seconds: written by tests/edits.py\n"
     Path(RECORD).write_text(head + "".join(f"{name} {' '.join(record[name])}\n" for name in sorted(record)), "utf-8")
 
 

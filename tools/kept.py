@@ -20,8 +20,8 @@ def crates_below():
 
 
 def sum_of(crate, below, parts=("src", "specs", "proofs")):
-    """Returns a sum over the kit's line, the lines of crates.txt, the crate's files in these parts, and those of the crates below it that are proved."""
-    kit = subprocess.run(["rt", "version"], capture_output=True, text=True, check=True).stdout
+    """Returns a sum over the kit's logic, the lines of crates.txt, the crate's files in these parts, and those of the crates below it that are proved."""
+    kit = subprocess.run(["rt", "version"], capture_output=True, text=True, check=True).stdout.split()[-1]  # (the logic's sum)
     rows = [it for it in Path("crates.txt").read_text("utf-8").split("\n") if re.split("[: ]", it)[0] in {*below, crate}]
     found = hashlib.sha256("\n".join([kit, *sorted(rows)]).encode())
     for name in [*sorted(below), crate]:

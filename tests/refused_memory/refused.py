@@ -1,15 +1,18 @@
 #!/usr/bin/env python3
 """Runs a program or a test once for each request for memory that it makes, and refuses that request (refuse.c; it needs a C compiler).
 
-usage: refused.py [--crates FOLDER] [--sample N] exchanges | readings | CRATE[/WORD] ..
+usage: refused.py [--crates FOLDER] [--sample N] exchanges | readings | replays | CRATE[/WORD] ..
 
 - exchanges: those of `http_table` that say `starves`. Each run must find that whole answers were written and that the counts are those of the answered
   requests, or end with status 1 and print nothing, where the table itself was refused its memory.
 - readings: the table of `reading_table`. A body for which memory is refused is read again, so each run must print that no body is read otherwise, with
   status 1, or 0 where a list that gives up its spare room was refused that; or end with status 1 and print nothing.
+- replays: the program, on a script of two requests of one connection. A request for which memory is refused is answered 503 and takes no number, so
+  that the other one is answered 200 and its span is handed over, or counted for want of memory; each span that was received is in one of the other
+  counts. Or the program ends with status 5, or 3 and fault 8, before anything was read.
 - CRATE: its tests, or those with WORD in their name. Each must answer as ever or end by the refusal.
 
---sample N refuses N requests, spread evenly, in place of each. The programs must be built: rt run in http_table and reading_table, rt test in CRATE;
+--sample N refuses N requests, spread evenly, in place of each. The programs must be built: rt run in http_table, reading_table and collector_main, rt test in CRATE;
 --crates says where (the repository's crates). The last line is 'N passed, M failed': of refusals."""
 import argparse
 import os
@@ -26,10 +29,12 @@ class Runs:
 
     def __init__(self, library, sample):
         self.library, self.sample, self.passed, self.failed = library, sample, 0, 0
+        self.given = ""  # on standard input
 
     def run(self, words, folder, **more):
         """Returns the status, what was printed, and what was said on standard error."""
-        done = subprocess.run(words, cwd=folder, env={**os.environ, "LD_PRELOAD": self.library, **more}, capture_output=True, text=True, errors="replace", timeout=120)
+        env = {**os.environ, "LD_PRELOAD": self.library, **more}
+        done = subprocess.run(words, cwd=folder, env=env, input=self.given, capture_output=True, text=True, errors="replace", timeout=120)
         return done.returncode, done.stdout, done.stderr
 
     def numbers(self, words, folder):
@@ -66,6 +71,28 @@ def readings(runs, crates):
     runs.each("readings", words, folder, lambda status, printed, _: (status, printed) in ((0, expected), (1, expected), (1, "")))
 
 
+def replays(runs, crates):
+    span = '{"resourceSpans":[{"scopeSpans":[{"spans":[{"traceId":"5b8efff798038103d269b633813fc60c","spanId":"eee19b7ec3c1b174","status":{"code":2}}]}]}]}'
+    counts = re.compile("received (\\d+)\nhanded (\\d+)\n" + "".join(f"dropped {reason} (\\d+)\n" for reason in range(1, 8)))
+
+    def is_well(status, printed, _):
+        if status in (3, 5):
+            return printed == {3: "tsc: configuration refused: 8\n", 5: "tsc: no memory\n"}[status]
+        replies = re.findall(r"(?m)^reply (\d+) (.*)$", printed)
+        report = [int(it) for found in counts.findall(printed) for it in found]
+        taken = [it for it in replies if it == ("200", "{}")]
+        busy = [it for it in replies if it[0] == "503"]
+        lines = len(re.findall('"traceId"', printed))
+        return (
+            status == 0 and len(replies) == 2 and len(taken) + len(busy) == 2 and len(busy) <= 1
+            and len(report) == 9 and report[0] == len(taken) == sum(report[1:]) and report[1] == lines and report[1] + report[4] == len(taken)
+        )
+
+    runs.given = f"recv 1 1000 {span}\nrecv 1 1001 {span}\ntick 11000\n"
+    runs.each("replays", [f"{crates}/collector_main/out/collector_main", "replay", f"{HERE.parent.parent}/examples/errors.toml"], crates, is_well)
+    runs.given = ""
+
+
 def tests(runs, crates, named):
     crate, _, word = named.partition("/")
     program = f"{crates}/{crate}/out/{crate}_tests"
@@ -87,7 +114,7 @@ def main():
         subprocess.run(["cc", "-shared", "-fPIC", "-O1", "-o", f"{work}/refuse.so", HERE / "refuse.c", "-ldl"], check=True)
         runs = Runs(f"{work}/refuse.so", words.sample)
         for name in words.names:
-            {"exchanges": exchanges, "readings": readings}.get(name, lambda *given: tests(*given, name))(runs, crates)
+            {"exchanges": exchanges, "readings": readings, "replays": replays}.get(name, lambda *given: tests(*given, name))(runs, crates)
     print(f"{runs.passed} passed, {runs.failed} failed")
     return 1 if runs.failed or not runs.passed else 0
 

@@ -1,6 +1,6 @@
 -- Columns that have an end for each receiver have one at all.
 -- For the call of lane_jobs in making::make.
-use Rattle.std.proofs.Common.{◌≡◌, ◌<◌, ℕ, List, [], ◌∷◌, length, map, Vec, All, arith}
+use Rattle.std.proofs.Common.{◌≡◌, ◌<◌, ℕ, List, [], ◌∷◌, length, Vec, All, arith}
 use Rattle.std.proofs.lemmas.List.Elements.{All-nil, All-cons, All-head, All-tail}
 use Rattle.queue_grid.specs.Grid.{ends_of, AreOfLength}
 

@@ -1,8 +1,8 @@
 -- Jobs that are made from the last one to the first, and then turned round.
 -- For the contracts of lanes::lane_jobs and shards::shard_jobs.
-use Rattle.std.proofs.Common.{◌≡◌, ℕ, ◌+◌, List, [], ◌∷◌, ◌++◌, map, reverse, All, refl, sym, ap, subst, ◌∙◌, ◌<◌, length, arith, append_assoc}
+use Rattle.std.proofs.Common.{◌≡◌, ℕ, ◌+◌, List, [], ◌∷◌, ◌++◌, map, reverse, All, refl, sym, ap, subst, ◌∙◌, length, arith, append_assoc}
 use Rattle.std.proofs.lemmas.List.{reverse-append}
-use Rattle.std.proofs.lemmas.List.Elements.{All-nil, All-cons, All-head, All-tail, All-push}
+use Rattle.std.proofs.lemmas.List.Elements.{All-nil, All-head, All-tail, All-push}
 use Rattle.pipeline.specs.Made.{NumberedFrom}
 
 one_more : {X : Type 0} (made : List X) (x : X) → reverse (made ++ x ∷ []) ≡ x ∷ reverse made

@@ -1,6 +1,6 @@
 -- Worked rows of a run's configuration, by computation. No clause needs them: they show what `core_of` says, which code and contracts follow.
 -- No contract rests on it: it shows the definitions on worked cases.
-use Rattle.std.specs.Prelude.{ℕ, List, [], ◌∷◌, Some, ◌≡◌, refl}
+use Rattle.std.specs.Prelude.{[], ◌∷◌, Some, ◌≡◌, refl}
 use Rattle.tsc_config.specs.declared.config.Config.{Config}
 use Rattle.pipeline.specs.Promise.{core_of}
 

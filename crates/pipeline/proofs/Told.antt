@@ -1,13 +1,13 @@
 -- What an answer tells of a run, by what its threads did and by what was counted.
 -- For the contract of running::run_in.
-use Rattle.std.proofs.Common.{◌≡◌, ◌⊎◌, ℕ, ◌+◌, ◌*◌, ◌/◌, ◌<◌, ◌≤◌, Bool, true, false, List, Option, Some, Result, Ok, Err, inl, inr, sym, ap, subst, ◌∙◌, arith}
+use Rattle.std.proofs.Common.{◌≡◌, ◌⊎◌, ℕ, ◌+◌, ◌*◌, ◌/◌, ◌<◌, ◌≤◌, Bool, true, false, List, Option, Result, Ok, Err, inl, inr, sym, ap, subst, ◌∙◌, arith}
 use Rattle.std.proofs.Math.Nat.{lt-div-mul-add}
 use Rattle.drop_ledger.specs.declared.report.Report.{Report}
 use Rattle.drop_ledger.specs.Sums.{AreSums, Fits, SumPasses}
 use Rattle.lane_worker.specs.Serving.{Connection}
 use Rattle.span_exporter.specs.Exports.{ExporterState}
 use Rattle.span_sink.specs.LineSinks.{LineSinkState, up_state, down_state}
-use Rattle.world_theory.specs.World.{KeepsATrace, Config as CoreConfig}
+use Rattle.world_theory.specs.World.{KeepsATrace}
 use Rattle.span_weave.specs.Woven.{HoldsOfThreads}
 use Rattle.span_weave.proofs.Headlines.{woven_headline}
 use Rattle.tsc_config.specs.declared.config.Config.{Config}

@@ -1,18 +1,17 @@
 -- The threads of a run did what each promises: their queues and seats may be joined again, and then they have worked.
 -- For the contract of running::run_over.
-use Rattle.std.proofs.Common.{◌≡◌, ℕ, ◌+◌, ◌<◌, ◌||◌, Bool, false, List, [], ◌∷◌, ◌++◌, length, map, Option, All, refl, sym, ap, subst, ◌∙◌, arith, append_assoc}
+use Rattle.std.proofs.Common.{◌≡◌, ℕ, ◌+◌, ◌<◌, ◌||◌, Bool, false, List, [], ◌∷◌, ◌++◌, length, map, Option, All, refl, sym, ap, subst, ◌∙◌, append_assoc}
 use Rattle.std.specs.List.{list_any}
 use Rattle.std.proofs.lemmas.List.{length-map, map-append}
 use Rattle.std.proofs.lemmas.List.Elements.{All-nil, All-cons, All-head, All-tail}
 use Rattle.atomic_table.specs.Seated.{TableId}
 use Rattle.otlp_types.specs.declared.arrival.Item.{Item}
 use Rattle.otlp_types.specs.declared.arrival.Shipment.{Shipment}
-use Rattle.lane_queue.specs.Ends.{EndState, ReceiverState, queues, AreTied, HasHistoryAt}
+use Rattle.lane_queue.specs.Ends.{EndState, queues, AreTied, HasHistoryAt}
 use Rattle.lane_worker.specs.Serving.{Connection}
 use Rattle.policy_tree.specs.declared.limiter_node.LimiterNode.{LimiterNode}
 use Rattle.queue_grid.specs.Grid.{IsTiedGrid, HaveHistories}
 use Rattle.journal_theory.specs.Journal.{Settings}
-use Rattle.shared_budget.specs.Seats.{Stand}
 use Rattle.shared_budget.specs.Budget.{AreOfOneBudget, NewSeatsAreOfOne, AskingKeepsCells, SameCellsSuffice, HaveOneHistoryEach}
 use Rattle.run_weave.specs.Jobs.{TickerDid, ExporterDid}
 use Rattle.run_weave.specs.Workers.{zeros, LaneOut, ShardIn, ShardOut, LanesDid, ShardsDid, Given, Left, senders_of, Worked}

@@ -1,6 +1,6 @@
 -- What a lane received, its tries and its counts go on with each request and each connection.
 -- For the law of `Worked`.
-use Rattle.std.proofs.Common.{◌≡◌, ℕ, ◌+◌, ◌^◌, ◌<◌, ◌≤◌, ◌==◌, ◌&&◌, ◌||◌, ◌⊎◌, Bool, true, false, not, cond, List, [], ◌∷◌, ◌++◌, length, filter, count_by, replicate, is_none, is_some, Option, Some, None, MatchBool, refl, sym, ap, subst, ◌∙◌, arith, append-nil, append_assoc, length-append, eq-eqb, ne_eqb, inl, inr}
+use Rattle.std.proofs.Common.{◌≡◌, ℕ, ◌+◌, ◌^◌, ◌<◌, ◌≤◌, ◌==◌, ◌&&◌, ◌||◌, Bool, true, false, not, cond, List, [], ◌∷◌, ◌++◌, length, filter, count_by, is_none, is_some, Option, Some, None, MatchBool, refl, sym, ap, subst, ◌∙◌, arith, append-nil, length-append, eq-eqb, ne_eqb, inl, inr}
 use Rattle.std.proofs.lemmas.List.Elements.{filter-append}
 use Rattle.std.proofs.lemmas.List.Sums.{sum_by-cons}
 use Rattle.std.specs.Prelude.{if◌then◌else◌, slice_index}
@@ -19,7 +19,7 @@ use Rattle.span_ids.specs.declared.outcome.Reason.TheVariants.{InvalidId, QueueF
 use Rattle.drop_ledger.specs.declared.count.Count.{Count}
 use Rattle.drop_ledger.specs.declared.count.Count.TheVariants.{Received, Handed, Dropped}
 use Rattle.drop_ledger.specs.Places.{place_of, with_added, Addition, after_adding, added_to, Gains}
-use Rattle.drop_ledger.proofs.Gains.{gains_none, gains_both, gains_one}
+use Rattle.drop_ledger.proofs.Gains.{gains_both, gains_one}
 use Rattle.drop_ledger.proofs.EachCount.{each_count}
 use Rattle.lane_queue.specs.Ends.{EndState, TakesItem, IsRefused}
 use Rattle.lane_queue.specs.Histories.{pushes, pops}
@@ -32,16 +32,15 @@ use Rattle.lane_seq.specs.Pushes.{LaneState, Receives}
 use Rattle.lane_seq.specs.Replies.{IsRefusal, OnReceived, IsReplyTo}
 use Rattle.http_lane.specs.Connection.{Submission, SubmitsAll, submissions, events_of}
 use Rattle.http_lane.specs.declared.answer.ServeEnd.{ServeEnd}
-use Rattle.http_lane.specs.Engine.{KnownReader, Served}
 use Rattle.http_lane.specs.Intake.{Intake, Submits, StopsAtFull, Counts, additions_of, intake, first_conn, connected}
-use Rattle.lane_worker.specs.Serving.{Connection, LaneAt, lane_at, ServedOne, ServesAll, is_book_full}
+use Rattle.lane_worker.specs.Serving.{Connection, LaneAt, ServedOne, ServesAll, is_book_full}
 use Rattle.journal_theory.proofs.ListFacts.{Each, Each-append, Each-weaker, tally-append}
 use Rattle.world_theory.specs.Step.{has_ids, is_of_conn, arrivals}
 use Rattle.world_theory.proofs.Received.{on_conn, count_is}
 use Rattle.span_weave.specs.Threads.{AreNumbered}
 use Rattle.span_weave.specs.Pushes.{TriesOf}
 use Rattle.span_weave.proofs.Numbering.{numbers_go_on}
-use Rattle.span_weave.proofs.Tries.{pushes_are_tries, no_tries, tries_then}
+use Rattle.span_weave.proofs.Tries.{pushes_are_tries, tries_then}
 use Rattle.run_weave.specs.Lanes.{Log, log, Came, Logs, ReceivesOne, ReceivesAll}
 use Rattle.run_weave.specs.Workers.{zeros}
 use Rattle.run_weave.proofs.Counted.{any_uncounted, full_as_uncounted}
@@ -114,14 +113,16 @@ reply_passes came refused (Done n) old new is (inr h) = absurd h
 reply_passes came refused (Partial n i f) old new is (inl h) = (Received, omega (arith, h.0, is.0))
 reply_passes came refused (Partial n i f) old new is (inr (inl h)) =
     (Dropped InvalidId, omega (arith, h.0, is.1, same_invalid came, elsewhere Received (Dropped InvalidId) n old (λ e. absurd (omega (arith, e)))))
-reply_passes came refused (Partial n i f) old new is (inr (inr (inl h))) =
-    (Dropped QueueFull, omega (
-      arith,
-      h.0,
-      is.2,
-      elsewhere (Dropped InvalidId) (Dropped QueueFull) i (with_added Received n old) (λ e. absurd (omega (arith, e))),
-      elsewhere Received (Dropped QueueFull) n old (λ e. absurd (omega (arith, e))),
-    ))
+reply_passes came refused (Partial n i f) old new is (inr (inr (inl h))) = (
+  Dropped QueueFull,
+  omega (
+    arith,
+    h.0,
+    is.2,
+    elsewhere (Dropped InvalidId) (Dropped QueueFull) i (with_added Received n old) (λ e. absurd (omega (arith, e))),
+    elsewhere Received (Dropped QueueFull) n old (λ e. absurd (omega (arith, e))),
+  ),
+)
 reply_passes came refused (Partial n i f) old new is (inr (inr (inr h))) = absurd h
 reply_passes came refused (BadData cause) old new is h = absurd is
 reply_passes came refused Busy old new is h = absurd is
@@ -325,8 +326,7 @@ module _ (capacity number : ℕ) (first : List (EndState Item)) where
             → ((mid : List Arrival) → Between false h.1 mid → ServesAll gives known capacity rest h.0 h.1 new last is_full → (after : List Arrival) × ReceivesAll gives known capacity rest h.0 h.1 mid new last after is_full × Between is_full last after)
             → (after : List Arrival) × ReceivesAll gives known capacity (x ∷ rest) old at received new last after is_full × Between is_full last after
         go true is more others_of =
-            let one = serves_one (known x) at received h.1 h.2 b h.4 in
-            (
+            let one = serves_one (known x) at received h.1 h.2 b h.4 in (
               one.0,
               (h.0, h.1, one.0, h.2, h.3, one.1, subst (λ full. MatchBool full ((rest ≡ []) × (new ≡ h.0) × (last ≡ h.1) × (one.0 ≡ one.0) × (is_full ≡ true)) (ReceivesAll gives known capacity rest h.0 h.1 one.0 new last one.0 is_full)) (sym is) (more.0, more.1, more.2, refl, more.3)),
               subst (λ (full : Bool). Between full last one.0) (is ∙ sym more.3) (subst (λ (z : LaneAt). Between (is_book_full h.2) z one.0) (sym more.2) one.2),

@@ -1,10 +1,9 @@
 -- What a thread counted from zeros on, or that a number of its own would have passed 2^64-1.
 -- For the law of `Worked`.
-use Rattle.std.proofs.Common.{◌≡◌, ◌⊎◌, ℕ, ◌+◌, ◌^◌, ◌≤◌, ◌||◌, Bool, true, false, not, List, inl, inr, refl, sym, ap, ◌∙◌, arith}
+use Rattle.std.proofs.Common.{◌≡◌, ◌⊎◌, ℕ, ◌^◌, ◌≤◌, Bool, true, false, List, inl, inr, refl, sym, ap, ◌∙◌, arith}
 use Rattle.std.specs.Prelude.{slice_index}
 use Rattle.drop_ledger.specs.declared.count.Count.{Count}
 use Rattle.drop_ledger.specs.Places.{place_of, Gains, Passes, Tallies}
-use Rattle.drop_ledger.proofs.Gains.{gains_none}
 use Rattle.drop_ledger.proofs.Added.{numbers_are_sums, zero_at}
 use Rattle.run_weave.specs.Jobs.{counting}
 use Rattle.run_weave.specs.Workers.{zeros}

@@ -1,5 +1,5 @@
 use Rattle.std.proofs.Common.{◌≡◌, ◌++◌, ◌∷◌, [], ap, sym, ◌∙◌, arith, append_assoc, length}
-use Rattle.pipeline.proofs.Gathered.{one_more, any_more, any_none}
+use Rattle.pipeline.proofs.Gathered.{one_more, any_more}
 use Rattle.pipeline.proofs.gathering.gather_shards.Goals as goal
 
 pub loop-shard-preserved : goal.loop-shard-preserved

@@ -7,8 +7,8 @@ use Rattle.queue_grid.specs.Grid.{ends_of, HasRoom, IsTiedGrid, HaveHistories}
 use Rattle.shard_core.specs.Held.{settings}
 use Rattle.shared_budget.specs.Budget.{AreOfOneBudget, HaveOneHistoryEach}
 use Rattle.world_theory.specs.World.{settings_for}
-use Rattle.run_weave.specs.Jobs.{TickerDid, ExporterDid}
-use Rattle.run_weave.specs.Workers.{zeros, LaneOut, ShardIn, ShardOut, Given, Left, senders_of, Worked}
+use Rattle.run_weave.specs.Jobs.{TickerDid}
+use Rattle.run_weave.specs.Workers.{LaneOut, ShardIn, ShardOut, Given, Left, senders_of, Worked}
 use Rattle.pipeline.specs.Made.{HasEnds}
 use Rattle.pipeline.specs.Promise.{core_of, nodes_of}
 use Rattle.pipeline.proofs.Done.{lanes_did, shards_did}

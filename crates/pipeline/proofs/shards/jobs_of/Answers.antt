@@ -1,4 +1,4 @@
-use Rattle.std.proofs.Common.{◌≡◌, ◌∙◌, ap, sym, subst, arith, map, vec_len, All, Some, refl}
+use Rattle.std.proofs.Common.{sym, subst, arith, map, vec_len, All, Some, refl}
 use Rattle.std.proofs.lemmas.List.Elements.{All-push, All-pop}
 use Rattle.lane_queue.specs.Ends.{IsNew}
 use Rattle.pipeline.specs.Made.{NumberedFrom, HasNodes, IsReady}

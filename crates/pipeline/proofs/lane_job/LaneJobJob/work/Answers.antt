@@ -8,7 +8,7 @@ returns g c =
     let w = c.work-end.ensures.works in
     subst
     (λ counts. LaneDid g.F.Feed.gives (λ x. connection (g.F.Reader.Source.given x.0) (g.F.Writer.Write.contents x.1)) g.C.Room.capacity c.args.self.number c.args.self.feed c.args.self.lane counts c.work-end.result.senders.items
-        c.work-end.new.counter c.work-end.result.is_full)
+    c.work-end.new.counter c.work-end.result.is_full)
     c.new-counts.ensures
     (record {
       last = c.work-end.new.feed;
