@@ -1,0 +1,100 @@
+"""What senders do beside the plain request, as a table: each row is one request on a connection of its own, and what it is answered.
+
+Where a standard decides, the row says so: RFC 9110 and 9112, the OTLP specification ("JSON Protobuf Encoding") and RFC 8259. docs/OPERATING.md has the same table for readers."""
+
+import base64
+import json
+
+from collector import ALL, ERROR_SPAN, body_of, want
+
+ID, SPAN_ID = ERROR_SPAN["traceId"], ERROR_SPAN["spanId"]
+ONE = body_of([ERROR_SPAN])
+PLAIN = {"Host": "collector", "Content-Type": "application/json"}
+PARTIAL = '{"partialSuccess":{"errorMessage":"invalid id: 1, queue full: 0","rejectedSpans":"1"}}'
+
+
+def in_base64(text):
+    return base64.b64encode(bytes.fromhex(text)).decode()
+
+
+def with_fields(**fields):
+    return body_of([{**ERROR_SPAN, **fields}])
+
+
+def attribute(**value):
+    return with_fields(attributes=[{"key": "k", "value": value}])
+
+
+# (name, what differs of the head, the body, the status, the answer's body)
+HEADS = [
+    ("user agent, trace context, answers in gzip", {"User-Agent": "OTel-OTLP-Exporter-Python/1.27.0", "Accept-Encoding": "gzip, deflate", "traceparent": f"00-{ID}-{SPAN_ID}-01"}, 200, "{}"),
+    ("a charset behind the type", {"Content-Type": "application/json; charset=utf-8"}, 200, "{}"),  # RFC 9110, 8.3
+    ("the type in other letters", {"Content-Type": "Application/JSON"}, 200, "{}"),  # RFC 9110, 8.3.1: case doesn't matter
+    ("field names in small letters", {"Host": None, "Content-Type": None, "host": "collector", "content-type": "application/json"}, 200, "{}"),  # RFC 9110, 5.1
+    ("no compression, named so", {"Content-Encoding": "identity"}, 200, "{}"),
+    ("gzip", {"Content-Encoding": "gzip"}, 415, '{"message":"unsupported media type"}'),
+    ("protobuf", {"Content-Type": "application/x-protobuf"}, 415, '{"message":"unsupported media type"}'),
+    ("no type", {"Content-Type": None}, 415, '{"message":"unsupported media type"}'),
+    ("no host", {"Host": None}, 400, '{"message":"bad request"}'),  # RFC 9112, 3.2
+]
+
+# (name, the request line, the status, the answer's body, or None where an answer has none)
+LINES = [
+    ("a probe by HEAD", "HEAD /v1/traces HTTP/1.1", 405, None),
+    ("a probe by GET", "GET /v1/traces HTTP/1.1", 405, '{"message":"method not allowed"}'),
+    ("a probe by OPTIONS", "OPTIONS /v1/traces HTTP/1.1", 405, '{"message":"method not allowed"}'),
+    ("a probe of the root", "GET / HTTP/1.1", 404, '{"message":"not found"}'),
+    ("OPTIONS of the server", "OPTIONS * HTTP/1.1", 404, '{"message":"not found"}'),
+    ("a proxy's whole address", "POST http://collector:4318/v1/traces HTTP/1.1", 404, '{"message":"not found"}'),
+    ("a query", "POST /v1/traces?tenant=1 HTTP/1.1", 404, '{"message":"not found"}'),
+    ("a slash behind the path", "POST /v1/traces/ HTTP/1.1", 404, '{"message":"not found"}'),
+    ("metrics", "POST /v1/metrics HTTP/1.1", 404, '{"message":"not found"}'),
+    ("HTTP/1.0, nginx's default", "POST /v1/traces HTTP/1.0", 400, '{"message":"bad request"}'),
+    ("HTTP/2 without an upgrade", "PRI * HTTP/2.0", 400, '{"message":"bad request"}'),
+]
+
+# (name, the body, the status, the answer's body)
+BODIES = [
+    ("an empty request", b"{}", 200, "{}"),
+    ("no body", b"", 400, '{"message":"not JSON"}'),
+    ("a byte order mark", b"\xef\xbb\xbf" + ONE, 400, '{"message":"not JSON"}'),  # RFC 8259, 8.1
+    ("ids in capital letters", with_fields(traceId=ID.upper(), spanId=SPAN_ID.upper()), 200, "{}"),  # OTLP: hex, case doesn't matter
+    ("ids in base64", with_fields(traceId=in_base64(ID), spanId=in_base64(SPAN_ID)), 200, PARTIAL),  # OTLP: not base64
+    ("names of enumerations", with_fields(kind="SPAN_KIND_SERVER"), 400, '{"message":"wrong shape"}'),  # OTLP: numbers only
+    ("times as numbers", with_fields(startTimeUnixNano=1700000000000000000), 200, "{}"),
+    ("times as texts", with_fields(startTimeUnixNano="1700000000000000000"), 200, "{}"),
+    ("a whole number as a text", attribute(intValue="5"), 200, "{}"),
+    ("a whole number", attribute(intValue=5), 200, "{}"),
+    ("a double", attribute(doubleValue=1.5), 200, "{}"),
+    ("bytes", attribute(bytesValue="AAE="), 200, "{}"),
+    ("fields that are null", with_fields(attributes=None, parentSpanId=None), 200, "{}"),
+    ("a key that isn't known", with_fields(newField=[1]), 200, "{}"),
+    ("snake case outside", json.dumps({"resource_spans": [{}]}).encode(), 200, "{}"),  # OTLP: such keys aren't known
+    ("snake case in a span", body_of([{"trace_id": ID, "span_id": SPAN_ID}]), 200, PARTIAL),
+]
+
+
+def rows():
+    """Each row as its name, its bytes, the status and the answer's body."""
+    for name, more, status, answer in HEADS:
+        yield name, "POST /v1/traces HTTP/1.1", {**PLAIN, **more}, ONE, status, answer
+    for name, line, status, answer in LINES:
+        yield name, line, PLAIN, ONE, status, answer
+    for name, body, status, answer in BODIES:
+        yield name, "POST /v1/traces HTTP/1.1", PLAIN, body, status, answer
+
+
+def what_senders_do(start):
+    """Each row of the table is answered so, and the report counts the spans of those that were answered 200."""
+    collector = start(ALL)
+    taken = invalid = 0
+    for name, line, fields, body, status, answer in rows():
+        head = [line, *[f"{key}: {value}" for key, value in fields.items() if value], f"Content-Length: {len(body)}"]
+        found = collector.ask("\r\n".join(head).encode() + b"\r\n\r\n" + body, answer is not None)
+        want(name, (found[0], found[2]), (status, answer or ""))
+        taken += status == 200 and (b'"spans"' in body)
+        invalid += answer == PARTIAL
+    want("the report", collector.close()[1], [taken, taken - invalid, invalid, 0, 0, 0, 0, 0, 0])
+
+
+CHECKS = [what_senders_do]
