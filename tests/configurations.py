@@ -4,10 +4,12 @@ it isn't 0; one name a line on standard output.
 
     tests/configurations.py FOLDER
 
-The fault of each stands in the tables, by its number in OPERATING.md; none of it is the program's answer. Of two faults the one with the
-lower number is told.
+The fault of each stands in the tables, by its number in OPERATING.md, and the bounds of whole numbers in the definition (tests/settings.py); none
+of it is the program's answer. Of two faults the one with the lower number is told.
 """
 import sys
+
+from settings import top_numbers
 
 NOT_TOML, UNKNOWN_KEY, MISSING_KEY, WRONG_TYPE, OUT_OF_RANGE, TOO_FEW_TRACES = "123456"
 EMPTY_LIST, TOO_DEEP, TOO_MANY, SAME_NAME, CROSSED_BOUNDS, NO_VALUES = (f"7.{number}" for number in range(1, 7))
@@ -34,24 +36,8 @@ FAULTS = [
     ('policies = [{ name = "a", type = "status_code", status_code = { status_codes = ["error"] } }]', OUT_OF_RANGE),
 ]
 
-# The keys of whole numbers from 1 on, each with the greatest that it takes.
-NUMBERS = {
-    "decision_wait_ms": 3_600_000,
-    "num_traces": 1_000_000,
-    "lanes": 64,
-    "shards": 64,
-    "queue_capacity": 65_536,
-    "export_capacity": 65_536,
-    "send_batch_size": 8192,
-    "tick_ms": 60_000,
-}
-
 # Lines before one policy.
 LINES = [
-    ("root_wait_ms = 0", TAKEN),
-    ("root_wait_ms = 3600000", TAKEN),
-    ("root_wait_ms = 3600001", OUT_OF_RANGE),
-    ("root_wait_ms = -1", OUT_OF_RANGE),
     ("root_wait_ms = 0.5", WRONG_TYPE),
     ("root_wait = 0", UNKNOWN_KEY),
     ('listen = ""', TAKEN),
@@ -183,9 +169,10 @@ def numbered(folder, what, rows):
 
 def at_the_bounds():
     """Lines with each key of whole numbers at its bounds and beyond, of another type, and twice."""
-    for key, greatest in NUMBERS.items():
-        values = [("1", TAKEN), (greatest, TAKEN), ("0", OUT_OF_RANGE), (greatest + 1, OUT_OF_RANGE), ("-1", OUT_OF_RANGE)]
-        yield from ((f"{key} = {value}", fault) for value, fault in values + [("1.0", WRONG_TYPE), ('"1"', WRONG_TYPE)])
+    for key, (_, least, greatest) in top_numbers().items():
+        yield from ((f"{key} = {value}", TAKEN) for value in (least, greatest))
+        yield from ((f"{key} = {value}", OUT_OF_RANGE) for value in dict.fromkeys((least - 1, greatest + 1, -1)))
+        yield from ((f"{key} = {value}", WRONG_TYPE) for value in ("1.0", '"1"'))
         yield f"{key} = 1\n{key} = 1", NOT_TOML
 
 

@@ -300,6 +300,13 @@ made_runs() {
     done < "$work/names"
 }
 
+# The README's table of keys and the example of every key, against the definition of the keys.
+table_of_keys() {
+    local wrong
+    wrong=$(PYTHONDONTWRITEBYTECODE=1 "$top/tests/settings.py" 2>&1) || wrong=${wrong:-"tests/settings.py failed"}
+    tell "the table of keys" "$wrong"
+}
+
 if [ $# -eq 0 ]; then
     (cd "$top/crates/collector_main" && rt run -- replay ../../examples/errors.toml < /dev/null > /dev/null) || give_up "the program isn't built"
     set -- "$top/crates/collector_main/out/collector_main"
@@ -322,6 +329,7 @@ for program in "$@"; do
     unreadable
     no_room
     no_memory
+    table_of_keys
     made_runs
 done
 echo "$passed passed, $failed failed"

@@ -1,0 +1,65 @@
+#!/usr/bin/env python3
+"""The keys of whole numbers, as `crates/tsc_config/specs/Settings.antt` states them, which the law `settings_are_of_their_keys` ties to the program.
+
+    tests/settings.py
+
+It compares the README's table and examples/every_key.toml with them, prints a line for each difference, and ends with status 1 where there is one.
+"""
+import re
+import sys
+import tomllib
+from pathlib import Path
+
+TOP = Path(__file__).resolve().parent.parent
+DEFINITION = TOP / "crates/tsc_config/specs/Settings.antt"
+CACHES = "decision_cache"
+
+
+def bounds(text):
+    """The default, the least and the greatest of a row of the definition."""
+    return tuple(int(number) for number in text.split())
+
+
+def top_numbers():
+    """Of each key at the top the default, the least and the greatest."""
+    rows = re.findall(r'^  pub \w+ : IsNumberAt members \(codes "(\w+)"\) (\d+ \d+ \d+) ', DEFINITION.read_text(), re.M)
+    return {key: bounds(row) for key, row in rows}
+
+
+def cache_numbers():
+    """The same of each key of the table of caches."""
+    text = DEFINITION.read_text()
+    row = re.search(r"IsNumberAt sizes key (\d+ \d+ \d+) size", text).group(1)
+    return {key: bounds(row) for key in re.findall(r'^  pub \w+ : IsCacheSize members \(codes "(\w+)"\) ', text, re.M)}
+
+
+def readme_numbers():
+    """What the README's table says of each key whose default is a number: each name of a row's first cell but that of the caches' table."""
+    found = {}
+    for line in (TOP / "README.md").read_text().splitlines():
+        row = re.match(r"\| (`[^|]*) \| (?:each )?(\d+) to (\d+)[^|]* \| (\d+)(?: \(off\))? \|", line)
+        for key in re.findall(r"`(\w+)`", row.group(1)) if row else []:
+            if key != CACHES:
+                found.setdefault(key, []).append(bounds(f"{row.group(4)} {row.group(2)} {row.group(3)}"))
+    return found
+
+
+def differences():
+    """A line for each difference."""
+    wanted = top_numbers() | cache_numbers()
+    said = readme_numbers()
+    if not top_numbers() or not cache_numbers():
+        yield f"{DEFINITION} has no rows"
+    for key in sorted(wanted.keys() | said.keys()):
+        if said.get(key) != [wanted.get(key)]:
+            yield f"README.md has {said.get(key)} for {key}, the definition {wanted.get(key)} (default, least, greatest)"
+    example = tomllib.loads((TOP / "examples/every_key.toml").read_text())
+    for place, keys in ((example, top_numbers()), (example.get(CACHES, {}), cache_numbers())):
+        numbers = {key for key, value in place.items() if type(value) is int}
+        yield from (f"examples/every_key.toml and the definition differ in {key}" for key in sorted(numbers ^ keys.keys()))
+
+
+if __name__ == "__main__":
+    found = list(differences())
+    print("\n".join(found), end="\n" if found else "")
+    sys.exit(1 if found else 0)
