@@ -6,6 +6,8 @@ usage: failing_writes.py PROGRAM ..      (it needs a C compiler; failing.c)
 - Each write takes one byte, or three: the same output as ever, and status 0.
 - Writes fail behind each number of bytes, from none up to one less than there are: just these bytes, the first of what the example prints, and status 1.
 - Behind all of them: all, and status 0.
+- A write takes nothing behind so many bytes, and later ones would take some: just these bytes, and status 1.
+- Each write is interrupted sixteen times before it takes something: the same output as ever. Seventeen times: nothing, and status 1.
 
 The last line is 'N passed, M failed': of runs."""
 import os
@@ -37,6 +39,10 @@ def main():
                 wanted = (0 if count == len(expected) else 1, expected[:count])
                 cases.append((f"fails behind {count} bytes", {"FAIL_AFTER": str(count)}, wanted))
                 cases.append((f"fails behind {count} bytes, one a write", {"FAIL_AFTER": str(count), "WRITE_AT_MOST": "1"}, wanted))
+            for count in range(0, len(expected), 7):
+                cases.append((f"takes nothing behind {count} bytes", {"ZERO_AFTER": str(count)}, (1, expected[:count])))
+            cases.append(("interrupted sixteen times", {"INTERRUPTS": "16"}, (0, expected)))
+            cases.append(("interrupted seventeen times", {"INTERRUPTS": "17"}, (1, b"")))
             for name, limits, wanted in cases:
                 found = run(program, library, **limits)
                 passed, failed = passed + (found == wanted), failed + (found != wanted)

@@ -17,7 +17,7 @@ from pathlib import Path
 
 TOP = Path(__file__).resolve().parent.parent.parent
 sys.path.insert(0, str(TOP / "tests"))
-from collector import ALL, Collector, Failure, body_of, spans_of, want  # noqa: E402
+from collector import ALL, Failure, Starter, body_of, spans_of, want  # noqa: E402
 
 RECIPES = TOP / "examples" / "neighbours"
 TOKEN = "a-token"
@@ -42,9 +42,10 @@ def authority(folder, name):
 class Neighbour:
     """A proxy that runs before a collector."""
 
-    def __init__(self, words, port, libraries, **settings):
+    def __init__(self, here, words, port, **settings):
         self.port = port
-        environment = {**os.environ, "LD_LIBRARY_PATH": libraries, **settings}
+        here.proxies.append(self)
+        environment = {**os.environ, "LD_LIBRARY_PATH": here.libraries, **settings}
         self.process = subprocess.Popen(words, env=environment, stdout=subprocess.DEVNULL, stderr=subprocess.PIPE)
         for _ in range(100):
             if self.process.poll() is not None:
@@ -56,8 +57,10 @@ class Neighbour:
         raise Failure(f"{words[0]} doesn't listen")
 
     def end(self):
-        self.process.terminate()
-        self.process.wait(10)
+        if self.process.poll() is None:
+            self.process.terminate()
+            self.process.wait(10)
+        self.process.stderr.close()
 
 
 def spans_for(client, request, count):
@@ -113,7 +116,7 @@ def all_came_back(collector, sent):
 def haproxy(here, collector, certificate):
     port = free_port()
     settings = {"TRACES": f"127.0.0.1:{port}", "CERTIFICATE": str(certificate), "TOKEN": TOKEN, "TSC": f"127.0.0.1:{collector.port}"}
-    return Neighbour([f"{here.packages}/usr/sbin/haproxy", "-f", str(RECIPES / "haproxy.cfg")], port, here.libraries, **settings)
+    return Neighbour(here, [f"{here.packages}/usr/sbin/haproxy", "-f", str(RECIPES / "haproxy.cfg")], port, **settings)
 
 
 def nginx(here, collector, recipe):
@@ -124,7 +127,7 @@ def nginx(here, collector, recipe):
     (folder / "logs").mkdir(parents=True, exist_ok=True)
     (folder / "nginx.conf").write_text(f"pid {folder}/pid;\n" + text, "utf-8")
     words = ["-c", f"{folder}/nginx.conf", "-p", str(folder), "-e", "stderr", "-g", "daemon off; user root;"]
-    return Neighbour([f"{here.packages}/usr/sbin/nginx", *words], port, here.libraries)
+    return Neighbour(here, [f"{here.packages}/usr/sbin/nginx", *words], port)
 
 
 def trusting(certificate):
@@ -133,7 +136,7 @@ def trusting(certificate):
 
 def ten_thousand_through_haproxy(here):
     """100 clients over TLS with the token, ten requests of ten spans each, over four lanes."""
-    collector, certificate = Collector(here.program, SETTINGS), authority(here.folder, "own")
+    collector, certificate = here.start(SETTINGS), authority(here.folder, "own")
     proxy = haproxy(here, collector, certificate)
     connect = lambda: http.client.HTTPSConnection("127.0.0.1", proxy.port, timeout=30, context=trusting(certificate))
     sent = send_from_many(connect, 100, 10, 10, [("Authorization", f"Bearer {TOKEN}")])
@@ -143,7 +146,7 @@ def ten_thousand_through_haproxy(here):
 
 def haproxy_turns_away(here):
     """A client that trusts another certificate, one without the token, one that would close the collector."""
-    collector, certificate = Collector(here.program, SETTINGS), authority(here.folder, "own")
+    collector, certificate = here.start(SETTINGS), authority(here.folder, "own")
     proxy = haproxy(here, collector, certificate)
     connect = lambda trusted: http.client.HTTPSConnection("127.0.0.1", proxy.port, timeout=10, context=trusting(trusted))
     try:
@@ -162,7 +165,7 @@ def haproxy_turns_away(here):
 
 def haproxy_limits_each_client(here):
     """Of 1,200 requests of one address within ten seconds those beyond 1,000 are answered 429."""
-    collector, certificate = Collector(here.program, SETTINGS), authority(here.folder, "own")
+    collector, certificate = here.start(SETTINGS), authority(here.folder, "own")
     proxy = haproxy(here, collector, certificate)
     connection = http.client.HTTPSConnection("127.0.0.1", proxy.port, timeout=10, context=trusting(certificate))
     began, statuses = time.monotonic(), []
@@ -182,7 +185,7 @@ def haproxy_limits_each_client(here):
 
 def two_hundred_of_wrk(here):
     """200 clients of wrk for five seconds, through nginx over four lanes: no error, and as many spans as answers."""
-    collector = Collector(here.program, SETTINGS)
+    collector = here.start(SETTINGS)
     proxy = nginx(here, collector, (RECIPES / "nginx.conf").read_text("utf-8"))
     script = here.folder / "post.lua"
     script.write_text('wrk.method = "POST"\nwrk.headers["Content-Type"] = "application/json"\nwrk.body = [[%s]]\n' % body_of(spans_for(0, 0, 1)).decode())
@@ -201,7 +204,7 @@ def two_hundred_of_wrk(here):
 def ten_thousand_through_nginx(here):
     """100 clients, ten requests of ten spans each, over four lanes; and without `proxy_http_version` each is answered 400."""
     recipe = (RECIPES / "nginx.conf").read_text("utf-8")
-    collector = Collector(here.program, SETTINGS)
+    collector = here.start(SETTINGS)
     proxy = nginx(here, collector, recipe)
     sent = send_from_many(lambda: http.client.HTTPConnection("127.0.0.1", proxy.port, timeout=30), 100, 10, 10)
     proxy.end()
@@ -215,10 +218,17 @@ CHECKS = [ten_thousand_through_haproxy, haproxy_turns_away, haproxy_limits_each_
 
 
 class Here:
-    """What each check is given."""
+    """What each check is given: the packages and their libraries, a folder, what starts collectors, and the proxies that run."""
 
     def __init__(self, program, packages, libraries, folder):
-        self.program, self.packages, self.libraries, self.folder = program, packages, libraries, folder
+        self.packages, self.libraries, self.folder = packages, libraries, folder
+        self.start, self.proxies = Starter(program), []
+
+    def stop(self):
+        for it in self.proxies:
+            it.end()
+        for collector in self.start.started:
+            collector.stop()
 
 
 def main():
@@ -226,13 +236,16 @@ def main():
     for check in CHECKS:
         with tempfile.TemporaryDirectory() as folder:
             os.chmod(folder, 0o755)
+            here = Here(*sys.argv[1:4], Path(folder))
             try:
-                check(Here(*sys.argv[1:4], Path(folder)))
+                check(here)
                 passed += 1
                 print(f"ok {check.__name__}", flush=True)
             except (Failure, OSError, subprocess.SubprocessError) as problem:
                 failed += 1
                 print(f"FAILED {check.__name__}: {problem}", flush=True)
+            finally:
+                here.stop()
     print(f"{passed} passed, {failed} failed")
     return 1 if failed else 0
 
