@@ -1,28 +1,29 @@
 //! The mark to stop.
 use http_lane::Stop;
-use std::sync::atomic::{AtomicBool, Ordering};
+use std::sync::OnceLock;
 
-/// A mark that any thread may set, and that stays set.
+/// A mark that any thread may set, and that stays set: what is written once behind a `&` can't be taken back there.
 #[derive(Drop)]
 pub struct StopMark {
-    is_set: AtomicBool,
+    set: OnceLock<()>,
 }
 
 impl StopMark {
     /// A mark that isn't set.
     pub fn new() -> Self {
         StopMark {
-            is_set: AtomicBool::new(false),
+            set: OnceLock::new(),
         }
     }
 }
 
 impl Stop for StopMark {
     fn is_set(&self) -> bool {
-        self.is_set.load(Ordering::SeqCst)
+        self.set.get().is_some()
     }
 
     fn set(&self) {
-        self.is_set.store(true, Ordering::SeqCst);
+        // An `Err` says that it is set, or that another thread is setting it.
+        let _ = self.set.try_set(());
     }
 }
