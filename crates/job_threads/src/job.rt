@@ -29,7 +29,8 @@ pub struct Done<'s, X> {
     pub left: Option<X>,
 }
 
-/// What a thread promises that is started with this job: it saw this start word, and has worked where that said yes.
+/// What a thread promises that is started with this job: it saw this start word, and has worked where that said yes. Where it
+/// said no, nothing is left.
 #[derive(Drop)]
 pub struct Works<'s, J> {
     pub word: &'s OnceLock<bool>,
@@ -37,7 +38,7 @@ pub struct Works<'s, J> {
 }
 
 impl<'s, J: Job> Promise<Done<'s, J::Left>> for Works<'s, J> {
-    ghost use Rattle.std.specs.Prelude.{◌≡◌, true, MatchOption};
+    ghost use Rattle.std.specs.Prelude.{◌≡◌, true, false, MatchOption, None};
 
-    ghost kept_by = { λ p r. (r.word.of ≡ p.word.now.id) × (r.word.value ≡ true → MatchOption r.left ⊥ (λ left. J.did p.job.value left)) };
+    ghost kept_by = { λ p r. (r.word.of ≡ p.word.now.id) × (r.word.value ≡ true → MatchOption r.left ⊥ (λ left. J.did p.job.value left)) × (r.word.value ≡ false → r.left ≡ None) };
 }

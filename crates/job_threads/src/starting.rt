@@ -1,5 +1,5 @@
 //! Threads are started.
-ghost use Rattle.std.specs.Prelude.{◌≡◌, ◌+◌, ◌++◌, ◌≤◌, vec_capacity, [], ◌∷◌, All, true, MatchOption, IfSome, vec_len, map, reverse};
+ghost use Rattle.std.specs.Prelude.{◌≡◌, ◌+◌, ◌++◌, ◌≤◌, vec_capacity, [], ◌∷◌, All, true, false, None, MatchOption, IfSome, vec_len, map, reverse};
 
 use crate::job::{Done, Job, Works};
 use crate::word::await_word;
@@ -14,7 +14,8 @@ pub type Handle<'s, J> = PromisedHandle<Done<'s, <J as Job>::Left>, Works<'s, J>
 /// What a thread does.
 fn thread<'s, J: Job + Drop, R: Wait>(rt: &R, word: &'s OnceLock<bool>, job: J) -> Done<'s, J::Left>
     requires { J.ready job }
-    ensures { (result.word.of ≡ word.now.id) × (result.word.value ≡ true → MatchOption result.left ⊥ (λ left. J.did job left)) }
+    ensures { (result.word.of ≡ word.now.id) × (result.word.value ≡ true → MatchOption result.left ⊥ (λ left. J.did job left))
+        × (result.word.value ≡ false → result.left ≡ None) }
 {
     let token = await_word(rt, word);
     let left = if *word.value(&token) {
@@ -46,7 +47,8 @@ where
             promise,
             move || -> Done<'_, J::Left>
                 requires { J.ready job }
-                ensures { (result.word.of ≡ word.entry.now.id) × (result.word.value ≡ true → MatchOption result.left ⊥ (λ left. J.did job left)) }
+                ensures { (result.word.of ≡ word.entry.now.id) × (result.word.value ≡ true → MatchOption result.left ⊥ (λ left. J.did job left))
+                    × (result.word.value ≡ false → result.left ≡ None) }
             { thread(rt, word, job) },
         )
         .ok()

@@ -1,5 +1,5 @@
 //! Jobs of three kinds on threads of their own, beside one on the caller's.
-ghost use Rattle.std.specs.Prelude.{◌≡◌, ◌≤◌, [], All, IfErr, IfOk, IfSome, Some, map, reverse, true, vec_capacity, vec_len};
+ghost use Rattle.std.specs.Prelude.{◌≡◌, ◌≤◌, [], All, IfErr, IfOk, IfSome, Some, false, map, reverse, true, vec_capacity, vec_len};
 ghost use Rattle.job_threads.specs.Jobs.{HaveDone, TeamDid};
 
 use crate::job::Job;
@@ -80,8 +80,8 @@ where
         {
             let started = start_team(scope, rt, alloc, begin, team);
             match tell(rt, begin, started) {
-                Some((handles, token)) => { Ok(work_and_join(rt, &token, handles, rooms, main)) }
-                None => Err(main),
+                Ok((handles, token)) => { Ok(work_and_join(rt, &token, handles, rooms, main)) }
+                Err(_) => Err(main),
             }
         },
     )
@@ -102,19 +102,22 @@ fn rooms_for<A: Drop, B: Drop>(
     })
 }
 
-/// Says by the start word whether all were started. `None` where they weren't, or where the word was said before.
+/// Says by the start word whether all were started. `Err` where they weren't, with the word, or with `None` where it was
+/// said before.
 fn tell<'s, H: Drop, R: Wait>(
     rt: &R,
     word: &'s OnceLock<bool>,
     started: Option<H>,
-) -> Option<(H, OnceToken<'s, bool>)>
-    ensures handles { IfSome result (λ told. started ≡ Some told.0) }
-    ensures word { IfSome result (λ told. (told.1.value ≡ true) × (told.1.of ≡ word.now.id)) }
+) -> Result<(H, OnceToken<'s, bool>), Option<OnceToken<'s, bool>>>
+    ensures handles { IfOk result (λ told. started ≡ Some told.0) }
+    ensures yes { IfOk result (λ told. (told.1.value ≡ true) × (told.1.of ≡ word.now.id)) }
+    ensures no { IfErr result (λ told. IfSome told (λ token. (token.value ≡ false) × (token.of ≡ word.now.id))) }
 {
     let said = word.set(rt, started.is_some());
     match (started, said) {
-        (Some(handles), Ok(token)) => Some((handles, token)),
-        _ => None,
+        (Some(handles), Ok(token)) => Ok((handles, token)),
+        (None, Ok(token)) => Err(Some(token)),
+        (_, Err(_)) => Err(None),
     }
 }
 

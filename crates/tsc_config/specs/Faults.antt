@@ -2,9 +2,10 @@
 use Rattle.std.specs.Prelude.{ℕ, ℤ, pos, ◌&&◌, codes, Option, None, Some, if◌then◌else◌, int_le, nat_lt}
 use Rattle.std.specs.Str.{bytes_eq}
 use Rattle.toml.specs.Data.{Data, string, integer, boolean, array, table, Items, no_items, item, Members, no_members, member, get_member}
-use Rattle.tsc_config.specs.Keys.{has_unknown_key, type_name, type_of, type_at, code_of}
+use Rattle.tsc_config.specs.Keys.{NumberRow, number_row, has_unknown_key, type_name, type_of, type_at, code_of}
 use Rattle.tsc_config.specs.declared.fault.ConfigFault.{ConfigFault}
 use Rattle.tsc_config.specs.declared.fault.ConfigFault.TheVariants.{NotToml, UnknownKey, MissingKey, WrongType, OutOfRange, TooFewTraces, Policy, NoMemory}
+use Rattle.tsc_config.specs.declared.kinds.NumberKey.TheVariants as number_is
 use Rattle.tsc_config.specs.declared.kinds.PolicyType.{PolicyType}
 use Rattle.tsc_config.specs.declared.kinds.PolicyType.TheVariants as type_is
 use Rattle.tsc_config.specs.declared.kinds.TableKind.{TableKind}
@@ -47,6 +48,10 @@ unknown_fault kind members = if has_unknown_key kind members then Some UnknownKe
 abbrev pub integer_fault : (lowest greatest : ℤ) → Data → Option ConfigFault
 integer_fault lowest greatest (integer number) = if int_le lowest number && int_le number greatest then None else Some OutOfRange
 integer_fault lowest greatest _ = Some WrongType
+
+-- the fault of what stands at a key of a whole number
+abbrev pub number_fault : NumberRow → Members → Option ConfigFault
+number_fault row members = optional (integer_fault (pos row.lowest) (pos row.greatest)) (get_member row.name members)
 
 -- a text is wanted
 abbrev pub text_fault : Data → Option ConfigFault
@@ -194,19 +199,19 @@ cache_fault _ = Some WrongType
 -- the rows of the numbers: how many traces, lanes and shards there are, and for how long they wait
 abbrev pub numbers_fault : Members → Option ConfigFault
 numbers_fault members =
-    least (optional (integer_fault (pos 1) (pos 3600000)) (get_member (codes "decision_wait_ms") members))
-    (least (optional (integer_fault (pos 0) (pos 3600000)) (get_member (codes "root_wait_ms") members))
-    (least (optional (integer_fault (pos 1) (pos 1000000)) (get_member (codes "num_traces") members))
-    (least (optional (integer_fault (pos 1) (pos 64)) (get_member (codes "lanes") members))
-    (least (optional (integer_fault (pos 1) (pos 64)) (get_member (codes "shards") members))
-    (optional (integer_fault (pos 1) (pos 60000)) (get_member (codes "tick_ms") members))))))
+    least (number_fault (number_row number_is.DecisionWait) members)
+    (least (number_fault (number_row number_is.RootWait) members)
+    (least (number_fault (number_row number_is.NumTraces) members)
+    (least (number_fault (number_row number_is.Lanes) members)
+    (least (number_fault (number_row number_is.Shards) members)
+    (number_fault (number_row number_is.Tick) members)))))
 
 -- the rows of the sizes of queues and batches
 abbrev pub sizes_fault : Members → Option ConfigFault
 sizes_fault members =
-    least (optional (integer_fault (pos 1) (pos 65536)) (get_member (codes "queue_capacity") members))
-    (least (optional (integer_fault (pos 1) (pos 65536)) (get_member (codes "export_capacity") members))
-    (optional (integer_fault (pos 1) (pos 8192)) (get_member (codes "send_batch_size") members)))
+    least (number_fault (number_row number_is.QueueCapacity) members)
+    (least (number_fault (number_row number_is.ExportCapacity) members)
+    (number_fault (number_row number_is.SendBatchSize) members))
 
 -- the rows of the whole table: a key more is a row more
 unfoldable pub table_fault : Members → Option ConfigFault

@@ -2,10 +2,31 @@
 use Rattle.std.specs.Prelude.{ℕ, ℤ, pos, Bool, true, false, not, ◌&&◌, ◌||◌, List, codes, Option, Some, None, option_and_then, if◌then◌else◌}
 use Rattle.std.specs.Str.{bytes_eq}
 use Rattle.toml.specs.Data.{Data, as_str, Members, no_members, member, get_member}
+use Rattle.tsc_config.specs.declared.kinds.NumberKey.{NumberKey}
+use Rattle.tsc_config.specs.declared.kinds.NumberKey.TheVariants as number_is
 use Rattle.tsc_config.specs.declared.kinds.PolicyType.{PolicyType}
 use Rattle.tsc_config.specs.declared.kinds.PolicyType.TheVariants as type_is
 use Rattle.tsc_config.specs.declared.kinds.TableKind.{TableKind}
 use Rattle.tsc_config.specs.declared.kinds.TableKind.TheVariants as table_is
+
+-- what a key of a whole number has: its name, its default, its lowest and greatest number
+pub record NumberRow : Type 0 where
+  pub name : List ℕ
+  pub default : ℕ
+  pub lowest : ℕ
+  pub greatest : ℕ
+
+-- the table of the keys of whole numbers
+abbrev pub number_row : NumberKey → NumberRow
+number_row number_is.DecisionWait = record { name = codes "decision_wait_ms"; default = 30000; lowest = 1; greatest = 3600000 }
+number_row number_is.RootWait = record { name = codes "root_wait_ms"; default = 0; lowest = 0; greatest = 3600000 }
+number_row number_is.NumTraces = record { name = codes "num_traces"; default = 50000; lowest = 1; greatest = 1000000 }
+number_row number_is.Lanes = record { name = codes "lanes"; default = 1; lowest = 1; greatest = 64 }
+number_row number_is.Shards = record { name = codes "shards"; default = 1; lowest = 1; greatest = 64 }
+number_row number_is.QueueCapacity = record { name = codes "queue_capacity"; default = 1024; lowest = 1; greatest = 65536 }
+number_row number_is.ExportCapacity = record { name = codes "export_capacity"; default = 1024; lowest = 1; greatest = 65536 }
+number_row number_is.SendBatchSize = record { name = codes "send_batch_size"; default = 512; lowest = 1; greatest = 8192 }
+number_row number_is.Tick = record { name = codes "tick_ms"; default = 1000; lowest = 1; greatest = 60000 }
 
 -- the text that names a type of policy, and the key of its settings
 abbrev pub type_name : PolicyType → List ℕ
@@ -39,11 +60,11 @@ is_setting type_is.And key = bytes_eq key (codes "and_sub_policy")
 -- the keys of a table of this kind
 unfoldable pub is_key : TableKind → List ℕ → Bool
 is_key table_is.Config key =
-    bytes_eq key (codes "decision_wait_ms") || bytes_eq key (codes "root_wait_ms") || bytes_eq key (codes "num_traces")
+    bytes_eq key (number_row number_is.DecisionWait).name || bytes_eq key (number_row number_is.RootWait).name || bytes_eq key (number_row number_is.NumTraces).name
     || bytes_eq key (codes "decision_cache") || bytes_eq key (codes "policies")
-    || bytes_eq key (codes "lanes") || bytes_eq key (codes "shards")
-    || bytes_eq key (codes "queue_capacity") || bytes_eq key (codes "export_capacity")
-    || bytes_eq key (codes "send_batch_size") || bytes_eq key (codes "tick_ms")
+    || bytes_eq key (number_row number_is.Lanes).name || bytes_eq key (number_row number_is.Shards).name
+    || bytes_eq key (number_row number_is.QueueCapacity).name || bytes_eq key (number_row number_is.ExportCapacity).name
+    || bytes_eq key (number_row number_is.SendBatchSize).name || bytes_eq key (number_row number_is.Tick).name
     || bytes_eq key (codes "listen")
 is_key table_is.DecisionCache key = bytes_eq key (codes "sampled_cache_size") || bytes_eq key (codes "non_sampled_cache_size")
 is_key (table_is.Policy kind) key = bytes_eq key (codes "name") || bytes_eq key (codes "type") || has_settings kind && bytes_eq key (type_name kind)

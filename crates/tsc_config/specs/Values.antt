@@ -8,7 +8,8 @@ use Rattle.policy_tree.specs.declared.policy.PolicyKind.{PolicyKind}
 use Rattle.policy_tree.specs.declared.policy.PolicyKind.TheVariants as kind_is
 use Rattle.policy_tree.specs.declared.policy.Wanted.{Wanted}
 use Rattle.policy_tree.specs.declared.policy.Wanted.TheVariants.{StringAmong, NumberWithin, Boolean}
-use Rattle.tsc_config.specs.Keys.{type_name, type_at, code_of}
+use Rattle.tsc_config.specs.Keys.{NumberRow, number_row, type_name, type_at, code_of}
+use Rattle.tsc_config.specs.declared.kinds.NumberKey.TheVariants as number_is
 use Rattle.tsc_config.specs.declared.kinds.PolicyType.{PolicyType}
 use Rattle.tsc_config.specs.declared.kinds.PolicyType.TheVariants as type_is
 use Rattle.tsc_config.specs.declared.config.Config.{Config}
@@ -22,6 +23,10 @@ positive_value default greatest _ = default
 abbrev pub positive_of : (default greatest : ℕ) → Option Data → ℕ
 positive_of default greatest None = default
 positive_of default greatest (Some value) = positive_value default greatest value
+
+-- the number at a key of this row
+abbrev pub positive_by : NumberRow → Members → ℕ
+positive_by row members = positive_of row.default row.greatest (get_member row.name members)
 
 -- a number that is at least 0
 abbrev pub natural_value : Data → ℕ
@@ -196,17 +201,17 @@ InRange config = record {
 -- the configuration of a table
 abbrev pub config_of : Members → Config
 config_of members = record {
-  decision_wait = positive_of 30000 3600000 (get_member (codes "decision_wait_ms") members);
-  root_wait = natural_of (get_member (codes "root_wait_ms") members);
-  num_traces = positive_of 50000 1000000 (get_member (codes "num_traces") members);
+  decision_wait = positive_by (number_row number_is.DecisionWait) members;
+  root_wait = natural_of (get_member (number_row number_is.RootWait).name members);
+  num_traces = positive_by (number_row number_is.NumTraces) members;
   sampled_cache_size = cache_size (codes "sampled_cache_size") (get_member (codes "decision_cache") members);
   non_sampled_cache_size = cache_size (codes "non_sampled_cache_size") (get_member (codes "decision_cache") members);
   policies = policies_of (get_member (codes "policies") members);
-  lanes = positive_of 1 64 (get_member (codes "lanes") members);
-  shards = positive_of 1 64 (get_member (codes "shards") members);
-  queue_capacity = positive_of 1024 65536 (get_member (codes "queue_capacity") members);
-  export_capacity = positive_of 1024 65536 (get_member (codes "export_capacity") members);
-  send_batch_size = positive_of 512 8192 (get_member (codes "send_batch_size") members);
-  tick = positive_of 1000 60000 (get_member (codes "tick_ms") members);
+  lanes = positive_by (number_row number_is.Lanes) members;
+  shards = positive_by (number_row number_is.Shards) members;
+  queue_capacity = positive_by (number_row number_is.QueueCapacity) members;
+  export_capacity = positive_by (number_row number_is.ExportCapacity) members;
+  send_batch_size = positive_by (number_row number_is.SendBatchSize) members;
+  tick = positive_by (number_row number_is.Tick) members;
   listen = listen_of (get_member (codes "listen") members);
 }

@@ -10,8 +10,9 @@ ghost use Rattle.tsc_config.specs.declared.fault.ConfigFault.TheVariants.{NoMemo
 
 use crate::fault::ConfigFault;
 use crate::fault_walk::table_fault;
+use crate::kinds::NumberKey;
 use crate::settings_values::natural_at;
-use crate::values::{cache_size_at, listen_at, policies_at, positive_at};
+use crate::values::{cache_size_at, listen_at, policies_at, positive_by};
 use otlp_types::Text;
 use policy_tree::Policies;
 use span_ids::Moment;
@@ -127,8 +128,8 @@ fn config_of(alloc: Global, table: &Table) -> Result<Config, ConfigFault>
     if let Some(fault) = table_fault(table) {
         return Err(fault);
     }
-    let num_traces = positive_at(table, "num_traces", 50_000, 1_000_000) as usize;
-    let shards = positive_at(table, "shards", 1, 64) as usize;
+    let num_traces = positive_by(table, NumberKey::NumTraces) as usize;
+    let shards = positive_by(table, NumberKey::Shards) as usize;
     if num_traces < shards {
         return Err(ConfigFault::TooFewTraces);
     }
@@ -143,18 +144,18 @@ fn config_of(alloc: Global, table: &Table) -> Result<Config, ConfigFault>
         return Err(ConfigFault::NoMemory);
     };
     Ok(Config {
-        decision_wait: positive_at(table, "decision_wait_ms", 30_000, 3_600_000),
-        root_wait: natural_at(table, "root_wait_ms"),
+        decision_wait: positive_by(table, NumberKey::DecisionWait),
+        root_wait: natural_at(table, NumberKey::RootWait.row().0),
         num_traces,
         sampled_cache_size: cache_size_at(table, "sampled_cache_size"),
         non_sampled_cache_size: cache_size_at(table, "non_sampled_cache_size"),
         policies,
-        lanes: positive_at(table, "lanes", 1, 64) as u16,
+        lanes: positive_by(table, NumberKey::Lanes) as u16,
         shards,
-        queue_capacity: positive_at(table, "queue_capacity", 1024, 65_536) as usize,
-        export_capacity: positive_at(table, "export_capacity", 1024, 65_536) as usize,
-        send_batch_size: positive_at(table, "send_batch_size", 512, 8192) as usize,
-        tick: positive_at(table, "tick_ms", 1000, 60_000),
+        queue_capacity: positive_by(table, NumberKey::QueueCapacity) as usize,
+        export_capacity: positive_by(table, NumberKey::ExportCapacity) as usize,
+        send_batch_size: positive_by(table, NumberKey::SendBatchSize) as usize,
+        tick: positive_by(table, NumberKey::Tick),
         listen,
     })
 }

@@ -3,10 +3,11 @@ ghost use Rattle.std.specs.Prelude.{◌≡◌, codes, pos};
 ghost use Rattle.toml.specs.Data.{get_member};
 ghost use Rattle.toml.specs.View.{view, table_view};
 ghost use Rattle.tsc_config.specs.Faults as spec;
+ghost use Rattle.tsc_config.specs.Keys.{number_row};
 
 use crate::fault::{ConfigFault, least};
 use crate::keys::{member, unknown_fault};
-use crate::kinds::TableKind;
+use crate::kinds::{NumberKey, TableKind};
 use crate::policy_faults::policies_fault;
 use crate::settings_faults::{Wanted, optional_fault};
 use toml::{Table, Value};
@@ -29,12 +30,12 @@ pub fn table_fault(table: &Table) -> Option<ConfigFault>
 fn numbers_fault(table: &Table) -> Option<ConfigFault>
     ensures { result ≡ spec.numbers_fault (table_view table.now) }
 {
-    let wait = integer_at_fault(table, "decision_wait_ms", 1, 3_600_000);
-    let root_wait = integer_at_fault(table, "root_wait_ms", 0, 3_600_000);
-    let traces = integer_at_fault(table, "num_traces", 1, 1_000_000);
-    let lanes = integer_at_fault(table, "lanes", 1, 64);
-    let shards = integer_at_fault(table, "shards", 1, 64);
-    let tick = integer_at_fault(table, "tick_ms", 1, 60_000);
+    let wait = number_fault(table, NumberKey::DecisionWait);
+    let root_wait = number_fault(table, NumberKey::RootWait);
+    let traces = number_fault(table, NumberKey::NumTraces);
+    let lanes = number_fault(table, NumberKey::Lanes);
+    let shards = number_fault(table, NumberKey::Shards);
+    let tick = number_fault(table, NumberKey::Tick);
     let counts = least(traces, least(lanes, least(shards, tick)));
     least(wait, least(root_wait, counts))
 }
@@ -43,18 +44,22 @@ fn numbers_fault(table: &Table) -> Option<ConfigFault>
 fn sizes_fault(table: &Table) -> Option<ConfigFault>
     ensures { result ≡ spec.sizes_fault (table_view table.now) }
 {
-    let queue = integer_at_fault(table, "queue_capacity", 1, 65_536);
-    let export = integer_at_fault(table, "export_capacity", 1, 65_536);
-    let batch = integer_at_fault(table, "send_batch_size", 1, 8192);
+    let queue = number_fault(table, NumberKey::QueueCapacity);
+    let export = number_fault(table, NumberKey::ExportCapacity);
+    let batch = number_fault(table, NumberKey::SendBatchSize);
     least(queue, least(export, batch))
 }
 
-/// The fault of a whole number that may be missing.
-fn integer_at_fault(table: &Table, key: &str, lowest: i64, greatest: i64) -> Option<ConfigFault>
-    ensures { result ≡ spec.optional (spec.integer_fault lowest greatest) (get_member key.now (table_view table.now)) }
+/// The fault of what stands at a key of a whole number.
+fn number_fault(table: &Table, key: NumberKey) -> Option<ConfigFault>
+    ensures { result ≡ spec.number_fault (number_row key) (table_view table.now) }
 {
-    optional_fault(table, key, Wanted::Integer(lowest, greatest))
+    let (name, _, lowest, greatest) = key.row();
+    optional_fault(table, name, Wanted::Integer(lowest, greatest))
 }
+
+/// The number of remembered decisions.
+const CACHE_SIZE: Wanted = Wanted::Integer(0, 1_000_000);
 
 fn cache_at_fault(table: &Table) -> Option<ConfigFault>
     ensures { result ≡ spec.optional spec.cache_fault (get_member (codes "decision_cache") (table_view table.now)) }
@@ -71,8 +76,8 @@ fn cache_fault(value: &Value) -> Option<ConfigFault>
     match value {
         Value::Table(table) => {
             let keys = unknown_fault(TableKind::DecisionCache, table);
-            let sampled = integer_at_fault(table, "sampled_cache_size", 0, 1_000_000);
-            let non_sampled = integer_at_fault(table, "non_sampled_cache_size", 0, 1_000_000);
+            let sampled = optional_fault(table, "sampled_cache_size", CACHE_SIZE);
+            let non_sampled = optional_fault(table, "non_sampled_cache_size", CACHE_SIZE);
             least(keys, least(sampled, non_sampled))
         }
         _ => Some(ConfigFault::WrongType),

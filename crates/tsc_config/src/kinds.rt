@@ -1,5 +1,5 @@
 //! The types of policies, and the kinds of tables, by their keys.
-ghost use Rattle.std.specs.Prelude.{◌≡◌};
+ghost use Rattle.std.specs.Prelude.{◌≡◌, pos};
 ghost use Rattle.tsc_config.specs.Keys as spec;
 
 /// The types of policy (tailsamplingprocessor README, `type`).
@@ -31,6 +31,42 @@ impl PolicyType {
             PolicyType::SpanCount => "span_count",
             PolicyType::RateLimiting => "rate_limiting",
             PolicyType::And => "and",
+        }
+    }
+}
+
+/// The keys of a configuration whose value is a whole number.
+#[derive(Clone, Copy)]
+pub enum NumberKey {
+    DecisionWait,
+    RootWait,
+    NumTraces,
+    Lanes,
+    Shards,
+    QueueCapacity,
+    ExportCapacity,
+    SendBatchSize,
+    Tick,
+}
+
+impl NumberKey {
+    /// Its name, its default, its lowest and its greatest number.
+    pub fn row(self) -> (&'static str, u64, i64, i64)
+        ensures name { result.0.now ≡ (spec.number_row self).name }
+        ensures default { result.1 ≡ (spec.number_row self).default }
+        ensures lowest { result.2 ≡ pos (spec.number_row self).lowest }
+        ensures greatest { result.3 ≡ pos (spec.number_row self).greatest }
+    {
+        match self {
+            NumberKey::DecisionWait => ("decision_wait_ms", 30_000, 1, 3_600_000),
+            NumberKey::RootWait => ("root_wait_ms", 0, 0, 3_600_000),
+            NumberKey::NumTraces => ("num_traces", 50_000, 1, 1_000_000),
+            NumberKey::Lanes => ("lanes", 1, 1, 64),
+            NumberKey::Shards => ("shards", 1, 1, 64),
+            NumberKey::QueueCapacity => ("queue_capacity", 1024, 1, 65_536),
+            NumberKey::ExportCapacity => ("export_capacity", 1024, 1, 65_536),
+            NumberKey::SendBatchSize => ("send_batch_size", 512, 1, 8192),
+            NumberKey::Tick => ("tick_ms", 1000, 1, 60_000),
         }
     }
 }

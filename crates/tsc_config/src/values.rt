@@ -2,11 +2,11 @@
 ghost use Rattle.std.specs.Prelude.{◌≡◌, ◌<◌, ◌≤◌, IfOk, codes};
 ghost use Rattle.toml.specs.Data.{get_member};
 ghost use Rattle.toml.specs.View.{view, table_view, array_view};
-ghost use Rattle.tsc_config.specs.Keys.{type_name};
+ghost use Rattle.tsc_config.specs.Keys.{number_row, type_name};
 ghost use Rattle.tsc_config.specs.Values as spec;
 
 use crate::keys::{member, type_at};
-use crate::kinds::PolicyType;
+use crate::kinds::{NumberKey, PolicyType};
 use crate::settings_values::{kind_in, natural_at, text_at, text_of};
 use otlp_types::{List, Text};
 use policy_tree::{Policy, PolicyKind};
@@ -14,18 +14,17 @@ use std::alloc::{AllocError, Global};
 use toml::value::Array;
 use toml::{Table, Value};
 
-/// The number at a key, from 1 to the greatest.
-pub fn positive_at(table: &Table, key: &str, default: u64, greatest: u64) -> u64
-    requires positive { 0 < default }
-    requires within { default ≤ greatest }
-    ensures number { result ≡ spec.positive_of default greatest (get_member key.now (table_view table.now)) }
+/// The number at a key whose numbers begin with 1.
+pub fn positive_by(table: &Table, key: NumberKey) -> u64
+    requires positive { 0 < (number_row key).default }
+    requires within { (number_row key).default ≤ (number_row key).greatest }
+    ensures number { result ≡ spec.positive_by (number_row key) (table_view table.now) }
     ensures positive { 0 < result }
-    ensures within { result ≤ greatest }
+    ensures within { result ≤ (number_row key).greatest }
 {
-    match member(table, key) {
-        Some(Value::Integer(number)) if 1 <= *number && *number as u64 <= greatest => {
-            *number as u64
-        }
+    let (name, default, _, greatest) = key.row();
+    match member(table, name) {
+        Some(Value::Integer(number)) if 1 <= *number && *number <= greatest => *number as u64,
         _ => default,
     }
 }

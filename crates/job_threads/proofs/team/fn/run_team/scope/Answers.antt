@@ -8,13 +8,13 @@ use Rattle.job_threads.proofs.team.fn.run_team.scope.Goals as goal
 pub work_and_join-requires : goal.work_and_join-requires
 work_and_join-requires g c =
     let started = c.start_team-started.ensures in
-    let told = c.in-Some.ensures in
-    let handles = c.in-Some.handles in
+    let told = c.in-Ok.ensures in
+    let handles = c.in-Ok.handles in
     let team = c.captures.team in
     let first = MatchOption-at_some _ _ _ told.handles started.first in
     let second = MatchOption-at_some _ _ _ told.handles started.second in
     let third = MatchOption-at_some _ _ _ told.handles started.third in
-    let word = sym told.word.1 in
+    let word = sym told.yes.1 in
     record {
       yes = search rules;
       words = (
@@ -27,8 +27,8 @@ work_and_join-requires g c =
       main = search rules;
     }
 
-pub returns-in-Some : goal.returns-in-Some
-returns-in-Some g c =
+pub returns-in-Ok : goal.returns-in-Ok
+returns-in-Ok g c =
     let team = c.captures.team in
     let left = c.work_and_join.result.0 in
     let first : HaveDone g.J.Job.did team.first.items left.first.items = search rules in
