@@ -184,12 +184,12 @@ def haproxy_limits_each_client(here):
 
 
 def two_hundred_of_wrk(here):
-    """200 clients of wrk for five seconds, through nginx over four lanes: no error, and as many spans as answers."""
+    """200 clients of wrk for five seconds, through nginx over four lanes: no answer takes ten seconds, and as many spans as answers."""
     collector = here.start(SETTINGS)
     proxy = nginx(here, collector, (RECIPES / "nginx.conf").read_text("utf-8"))
     script = here.folder / "post.lua"
     script.write_text('wrk.method = "POST"\nwrk.headers["Content-Type"] = "application/json"\nwrk.body = [[%s]]\n' % body_of(spans_for(0, 0, 1)).decode())
-    words = [f"{here.packages}/usr/bin/wrk", "-t2", "-c200", "-d5s", "-s", str(script), f"http://127.0.0.1:{proxy.port}/v1/traces"]
+    words = [f"{here.packages}/usr/bin/wrk", "-t2", "-c200", "-d5s", "--timeout", "10s", "-s", str(script), f"http://127.0.0.1:{proxy.port}/v1/traces"]
     said = subprocess.run(words, env={**os.environ, "LD_LIBRARY_PATH": here.libraries}, capture_output=True, text=True, check=True).stdout
     want("what wrk tells of errors", [it for it in said.split("\n") if "Socket errors" in it or "Non-2xx" in it], [])
     answers = int(re.search(r"(\d+) requests in", said)[1])
