@@ -33,6 +33,8 @@ FAULTS = [
     ("decision_cache = { non_sampled_cache_size = -1 }\npolicies = []", OUT_OF_RANGE),
     ('policies = [{ name = "a", type = "always_sample", status_code = 1 }]', UNKNOWN_KEY),
     ('policies = [{ name = "a", type = "none", status_code = 1 }]', OUT_OF_RANGE),
+    (f'policies = [{{ name = "a", type = "not", and = {{ and_sub_policy = [{ALL}] }} }}]', UNKNOWN_KEY),
+    ('policies = [{ name = "a", type = "drop" }]', MISSING_KEY),
     ('policies = [{ name = "a", type = "status_code", status_code = { status_codes = ["error"] } }]', OUT_OF_RANGE),
 ]
 
@@ -45,6 +47,11 @@ LINES = [
     ("listen = 4318", WRONG_TYPE),
     ('listen = ["127.0.0.1:4318"]', WRONG_TYPE),
     ('listen = "a"\nlisten = "a"', NOT_TOML),
+    ("accept_gzip = true", TAKEN),
+    ("accept_gzip = false", TAKEN),
+    ("accept_gzip = 1", WRONG_TYPE),
+    ('accept_gzip = "gzip"', WRONG_TYPE),
+    ("accept_gzip = [true]", WRONG_TYPE),
 ]
 
 # For each fault a line and the beginning of a list of policies that has it, by rising numbers.
@@ -132,6 +139,17 @@ SETTINGS = {
         ("", MISSING_KEY),
         ("spans_per_second = 1, burst = 2", UNKNOWN_KEY),
     ],
+    "probabilistic": [
+        *((f"sampling_percentage = {value}", TAKEN) for value in ("0", "100", "12.5", "0.0001", "99.9999", "100.0", "-0.0", "1e1", "33.33330")),
+        *((f"sampling_percentage = {value}", OUT_OF_RANGE) for value in ("-1", "101", "12.34567", "0.00005", "100.0001", "-0.0001", "1e300", "nan", "inf", "-inf")),
+        *((f"sampling_percentage = {value}", WRONG_TYPE) for value in ('"12.5"', "true", "[1]")),
+        ("", MISSING_KEY),
+        ('hash_salt = "own"', MISSING_KEY),
+        ('hash_salt = "own", sampling_percentage = 10', TAKEN),
+        ('hash_salt = "", sampling_percentage = 10', TAKEN),
+        ("hash_salt = 1, sampling_percentage = 10", WRONG_TYPE),
+        ("sampling_percentage = 10, mode = 1", UNKNOWN_KEY),
+    ],
     "and": [
         ("and_sub_policy = []", EMPTY_LIST),
         ("", MISSING_KEY),
@@ -144,6 +162,29 @@ SETTINGS = {
         ('and_sub_policy = [{ type = "nothing", nothing = 1 }]', MISSING_KEY),
         ('and_sub_policy = [{ name = "b", type = "nothing", nothing = 1 }]', OUT_OF_RANGE),
         ("sub_policies = []", UNKNOWN_KEY),
+    ],
+    "not": [
+        (f"not_sub_policy = {ALL}", TAKEN),
+        ("", MISSING_KEY),
+        ("not_sub_policy = {}", MISSING_KEY),
+        ("not_sub_policy = []", WRONG_TYPE),
+        (f"not_sub_policy = [{ALL}]", WRONG_TYPE),
+        ('not_sub_policy = "all"', WRONG_TYPE),
+        ('not_sub_policy = { name = "b", type = "latency", latency = { threshold = 1 } }', UNKNOWN_KEY),
+        ('not_sub_policy = { name = "b", type = "span_count", span_count = { min_spans = 2, max_spans = 1 } }', CROSSED_BOUNDS),
+        ('not_sub_policy = { name = "b", type = "nothing" }', OUT_OF_RANGE),
+        ("and_sub_policy = []", UNKNOWN_KEY),
+    ],
+    "drop": [
+        ("drop_sub_policy = []", EMPTY_LIST),
+        ("", MISSING_KEY),
+        ("drop_sub_policy = {}", WRONG_TYPE),
+        (f"drop_sub_policy = {ALL}", WRONG_TYPE),
+        ("drop_sub_policy = [1]", WRONG_TYPE),
+        (f"drop_sub_policy = [{ALL}]", TAKEN),
+        (f"drop_sub_policy = [{ALL}, {ALL}]", SAME_NAME),
+        ('drop_sub_policy = [{ name = "b", type = "not", not = { not_sub_policy = 1 } }]', WRONG_TYPE),
+        ("not_sub_policy = []", UNKNOWN_KEY),
     ],
 }
 
@@ -206,7 +247,17 @@ def lists():
     yield from ((nested(levels, ALL), fault) for levels, fault in ((0, TAKEN), (7, TAKEN), (8, TOO_DEEP)))
     yield from ((nested(levels + 1, ""), EMPTY_LIST) for levels in (0, 1, 8, 20))
     yield nested(3, status_policies(1, 1, 0)), NO_VALUES
+    yield nested(6, f'{{ name = "n", type = "not", not = {{ not_sub_policy = {ALL} }} }}'), TAKEN
+    yield nested(7, f'{{ name = "n", type = "not", not = {{ not_sub_policy = {ALL} }} }}'), TOO_DEEP
     yield nested(3, '{ name = "a", type = "span_count", span_count = { min_spans = 2, max_spans = 1 } }'), CROSSED_BOUNDS
+
+
+def percentages():
+    """Every 997th number of ten-thousandths of a percent, 64 in a list of policies; each is taken."""
+    texts = [f"{count // 10**4}.{count % 10**4:04}" for count in range(0, 10**6 + 1, 997)]
+    for start in range(0, len(texts), 64):
+        some = enumerate(texts[start : start + 64])
+        yield ", ".join(f'{{ name = "{n}", type = "probabilistic", probabilistic = {{ sampling_percentage = {text} }} }}' for n, text in some), TAKEN
 
 
 def main(folder):
@@ -217,7 +268,7 @@ def main(folder):
     for kind, rows in SETTINGS.items():
         texts = [(f'policies = [{{ name = "a", type = "{kind}", {kind} = {{ {settings} }} }}]', fault) for settings, fault in rows]
         numbered(folder, f"settings of {kind}", texts)
-    numbered(folder, "list of policies", [(f"policies = [{inner}]", fault) for inner, fault in lists()])
+    numbered(folder, "list of policies", [(f"policies = [{inner}]", fault) for inner, fault in [*lists(), *percentages()]])
 
 
 if __name__ == "__main__":

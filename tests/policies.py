@@ -120,6 +120,27 @@ def attributes(folder):
             one_run(folder, f"inverted attribute {row} of the {place}", [(kind, f'key = "env", {settings}, invert_match = true')], spans, not is_in)
 
 
+def fnv_1a(octets):
+    """The 64-bit FNV-1a hash of bytes."""
+    state = 0xCBF29CE484222325
+    for octet in octets:
+        state = (state ^ octet) * 0x100000001B3 % 2**64
+    return state
+
+
+def percentages(folder):
+    """A trace at the least percentage that keeps it, in ten-thousandths of a percent, and one below, for some salts; and at all and none."""
+    published = {b"": 0xCBF29CE484222325, b"a": 0xAF63DC4C8601EC8C, b"foobar": 0x85944171F73967E8}
+    assert all(fnv_1a(octets) == hashed for octets, hashed in published.items())
+    one = span(1)
+    for number, salt in enumerate((None, "", "default-hash-seed", "other", "\u00e9")):
+        hashed = fnv_1a((salt or "default-hash-seed").encode() + bytes.fromhex(one["traceId"]))
+        least = next(count for count in range(10**6 + 1) if hashed <= count * TOP // 10**6)
+        for count in (0, least - 1, least, 10**6):
+            settings = ([] if salt is None else [f'hash_salt = "{salt}"']) + [f"sampling_percentage = {count // 10**4}.{count % 10**4:04}"]
+            one_run(folder, f"{count} ten-thousandths of a percent by salt {number}", [("probabilistic", ", ".join(settings))], [(one, None)], count >= least)
+
+
 def policies_together(folder):
     """An inverted match against a trace wins over policies that sample it, but not from within an `and`; one for it samples only where no policy is against it."""
     inverted = ("string_attribute", 'key = "env", values = ["prod2", "dev"], invert_match = true')
@@ -136,6 +157,32 @@ def policies_together(folder):
         one_run(folder, name, kinds, [(span(1, attributes=[attribute("env", stringValue=value)]), None)], is_kept)
 
 
+def joined(kind, *kinds):
+    """A policy that is made of others."""
+    tables = [policy(name, *of) for name, of in zip("abc", kinds)]
+    return kind, f"{kind}_sub_policy = " + (tables[0] if kind == "not" else f"[{', '.join(tables)}]")
+
+
+def policies_of_policies(folder):
+    """A drop wins over any other answer, but not from within another policy; a trace of two spans with `env` as `dev`."""
+    never = ("span_count", "min_spans = 9")
+    against = ("string_attribute", 'key = "env", values = ["dev"], invert_match = true')
+    in_favour = ("string_attribute", 'key = "env", values = ["prod"], invert_match = true')
+    one, two = (("rate_limiting", f"spans_per_second = {limit}") for limit in (1, 2))
+    rows = [
+        ([joined("not", ALWAYS)], False), ([joined("not", never)], True), ([joined("not", ALWAYS), ALWAYS], True), ([joined("not", never), never], True),
+        ([joined("not", against)], True), ([joined("not", in_favour)], False), ([joined("not", joined("not", ALWAYS))], True), ([joined("not", never), against], False),
+        ([joined("not", one)], True), ([joined("not", two)], False), ([joined("and", ALWAYS, joined("not", never))], True), ([joined("not", joined("and", ALWAYS, never))], True),
+        ([joined("drop", ALWAYS)], False), ([joined("drop", ALWAYS), ALWAYS], False), ([ALWAYS, joined("drop", ALWAYS)], False), ([joined("drop", never), ALWAYS], True),
+        ([joined("drop", ALWAYS, never), ALWAYS], True), ([joined("drop", ALWAYS, in_favour), ALWAYS], False), ([joined("drop", against), ALWAYS], True), ([joined("drop", never)], False),
+        ([in_favour], True), ([in_favour, joined("drop", never)], False), ([in_favour, joined("drop", ALWAYS)], False), ([against, joined("drop", never), ALWAYS], False),
+        ([joined("and", joined("drop", ALWAYS)), ALWAYS], True), ([joined("not", joined("drop", ALWAYS))], True), ([joined("drop", joined("drop", ALWAYS)), ALWAYS], True),
+        ([joined("drop", joined("not", never)), ALWAYS], False), ([joined("drop", one), ALWAYS], True), ([joined("drop", two), ALWAYS], False),
+    ]  # fmt: skip
+    for number, (kinds, is_kept) in enumerate(rows):
+        one_run(folder, f"policies of policies {number}", kinds, [(span(n, attributes=[attribute("env", stringValue="dev")]), None) for n in (1, 2)], is_kept)
+
+
 if __name__ == "__main__":
-    for write in (latencies, times_at_the_top, status_codes, span_counts, rates, attributes, policies_together):
+    for write in (latencies, times_at_the_top, status_codes, span_counts, rates, attributes, percentages, policies_together, policies_of_policies):
         write(sys.argv[1])

@@ -3,7 +3,9 @@
 Where a standard decides, the row says so: RFC 9110 and 9112, the OTLP specification ("JSON Protobuf Encoding") and RFC 8259. docs/OPERATING.md has the same table for readers."""
 
 import base64
+import gzip
 import json
+import zlib
 
 from collector import ALL, ERROR_SPAN, body_of, want
 
@@ -73,6 +75,22 @@ BODIES = [
     ("snake case in a span", body_of([{"trace_id": ID, "span_id": SPAN_ID}]), 200, PARTIAL),
 ]
 
+# The same where the collector takes gzip: (name, the coding, the body, the status, the answer's body)
+PACKED = [
+    ("plain", "identity", ONE, 200, "{}"),
+    ("gzip", "gzip", gzip.compress(ONE), 200, "{}"),  # RFC 9110, 8.4.1.3
+    ("x-gzip in other letters", "X-GZip", gzip.compress(ONE, 1), 200, "{}"),  # RFC 9110, 8.4.1.3: the same as gzip
+    ("gzip in two members", "gzip", gzip.compress(ONE[:40]) + gzip.compress(ONE[40:]), 200, "{}"),  # RFC 1952, 2.2
+    ("gzip of no JSON", "gzip", gzip.compress(b""), 400, '{"message":"not JSON"}'),
+    ("a plain body that says gzip", "gzip", ONE, 400, '{"message":"not gzip"}'),
+    ("gzip that is cut", "gzip", gzip.compress(ONE)[:-1], 400, '{"message":"not gzip"}'),
+    ("zlib's own form", "gzip", zlib.compress(ONE), 400, '{"message":"not gzip"}'),
+    ("gzip of a byte more than a body may have", "gzip", gzip.compress(b" " * 4194305), 413, '{"message":"body too large"}'),
+    ("gzip of 20 MB", "gzip", gzip.compress(bytes(20_000_000)), 413, '{"message":"body too large"}'),
+    ("deflate", "deflate", zlib.compress(ONE), 415, '{"message":"unsupported media type"}'),
+    ("a list of codings", "gzip, gzip", gzip.compress(gzip.compress(ONE)), 415, '{"message":"unsupported media type"}'),
+]
+
 
 def rows():
     """Each row as its name, its bytes, the status and the answer's body."""
@@ -97,4 +115,19 @@ def what_senders_do(start):
     want("the report", collector.close()[1], [taken, taken - invalid, invalid, 0, 0, 0, 0, 0, 0])
 
 
-CHECKS = [what_senders_do]
+def packed_bodies(start):
+    """Where gzip is taken each body of that table is answered so, by its length and in chunks, and the spans that are read are counted."""
+    collector = start("accept_gzip = true\n" + ALL)
+    taken = 0
+    for name, coding, body, status, answer in PACKED:
+        fields = {**PLAIN, "Content-Encoding": coding}
+        head = "\r\n".join(["POST /v1/traces HTTP/1.1", *[f"{key}: {value}" for key, value in fields.items()]]).encode()
+        chunks = b"".join(b"%x\r\n%s\r\n" % (len(body[at : at + 1000]), body[at : at + 1000]) for at in range(0, len(body), 1000))
+        for framed in (b"\r\nContent-Length: %d\r\n\r\n" % len(body) + body, b"\r\nTransfer-Encoding: chunked\r\n\r\n" + chunks + b"0\r\n\r\n"):
+            found = collector.ask(head + framed, True)
+            want(name, (found[0], found[2]), (status, answer))
+            taken += status == 200
+    want("the report", collector.close()[1], [taken, taken, 0, 0, 0, 0, 0, 0, 0])
+
+
+CHECKS = [what_senders_do, packed_bodies]

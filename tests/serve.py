@@ -13,6 +13,7 @@ import time
 
 import senders
 import serve_limits
+import serve_many
 from collector import ALL, ERRORS, ERROR_LINE, ERROR_SPAN, Failure, body_of, post, run_checks, spans_of, want
 
 
@@ -41,23 +42,24 @@ def serve_on_loopback(start):
     want("the report", numbers, [1, 1, 0, 0, 0, 0, 0, 0, 0])
 
 
-def waits_at_the_close(start):
-    """A request on a connection that waits for a lane when the close comes is refused, and not counted."""
+def asks_behind_the_close(start):
+    """A request that comes on an open connection just behind the close is refused, and not counted."""
     collector = start("lanes = 2\n" + ALL)
     silent = collector.client()
     closing = collector.client()
-    closing.send(post(body_of([ERROR_SPAN])))
-    want("the answer before the close", closing.answer()[::2], (200, "{}"))
-    waiting = collector.client()
-    waiting.send(post(body_of([ERROR_SPAN])))
+    late = collector.client()
+    for client in (closing, late):
+        client.send(post(body_of([ERROR_SPAN])))
+        want("the answer before the close", client.answer()[::2], (200, "{}"))
     closing.send(post(b"", "/close"))
     want("the answer to /close", closing.answer()[::2], (200, "{}"))
+    late.send(post(body_of([ERROR_SPAN])))
     refused = b'HTTP/1.1 503 Service Unavailable\r\nContent-Type: application/json\r\nContent-Length: 21\r\nRetry-After: 1\r\nConnection: close\r\n\r\n{"message":"closing"}'
-    want("the answer behind the close", waiting.rest(), refused)
+    want("the answer behind the close", late.rest(), refused)
     lines, numbers = collector.end()
     silent.close()
-    want("the lines", lines, [ERROR_LINE])
-    want("the report", numbers, [1, 1, 0, 0, 0, 0, 0, 0, 0])
+    want("the number of spans", len(spans_of(lines)), 2)
+    want("the report", numbers, [2, 2, 0, 0, 0, 0, 0, 0, 0])
 
 
 def is_kept_while_it_runs(start):
@@ -329,9 +331,9 @@ def has_curl():
 
 def main():
     """Runs each check on each program."""
-    checks = [one_error, serve_on_loopback, waits_at_the_close, is_kept_while_it_runs, keep_alive, chunked, expect, refusals, broken_clients, many_clients]
+    checks = [one_error, serve_on_loopback, asks_behind_the_close, is_kept_while_it_runs, keep_alive, chunked, expect, refusals, broken_clients, many_clients]
     checks += [queues_of_four, closes_under_way, refused_address, reader_is_gone] + ([under_curl] if has_curl() else [])
-    run_checks(sys.argv[1:], checks + senders.CHECKS + serve_limits.CHECKS)
+    run_checks(sys.argv[1:], checks + senders.CHECKS + serve_limits.CHECKS + serve_many.CHECKS)
 
 
 if __name__ == "__main__":

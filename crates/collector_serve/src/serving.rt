@@ -1,17 +1,18 @@
 //! The collector on a listener.
-ghost use Rattle.std.specs.Prelude.{◌≡◌, ◌<◌, ◌-◌, ◌^◌, IfOk, vec_len};
+ghost use Rattle.std.specs.Prelude.{◌≡◌, ◌<◌, ◌-◌, ◌^◌, All, IfOk, vec_len};
 ghost use Rattle.pipeline.specs.Outcome.{SinkAnswers};
 ghost use Rattle.pipeline.specs.Promise.{CoreRunTells};
 ghost use Rattle.tsc_config.specs.Values.{InRange};
 
-use crate::connections::Connections;
 use crate::ticker::Ticker;
 use drop_ledger::Report;
 use http_lane::{Clock as Moments, Stop};
+use lane_driver::TurnDriver;
 use lane_queue::OpenGate;
-use pipeline::{RunFault, run};
+use lane_worker::ByTurns;
+use pipeline::{RunFault, run_by_turns};
 use span_sink::Sink;
-use std::alloc::{AllocError, Global};
+use std::alloc::Global;
 use std::io;
 use std::net::{Net, TcpListener, TcpStream};
 use std::sync::Wait;
@@ -31,13 +32,13 @@ pub fn listen<R: Net<Listener = TcpListener, Stream = TcpStream>>(
 
 /// Runs the collector on a listener that doesn't block, until a request says `POST /close`, which sets the mark, or it is set
 /// otherwise. It may be set already: then what is asked on a connection that waits is refused. It gives the sink back, and the
-/// report of all spans: what the threads did is a run of the core. `NoMemory`: there was none at the start, and no
-/// connection was taken.
+/// report of all spans: what the threads did is a run of the core. `NoMemory`: there was none at the start, or a lane can't
+/// watch its connections, and no connection was taken.
 pub fn serve_on<
     S: Sink + Drop,
     P: Stop + Sync,
     M: Moments + Sync,
-    R: Threads + Wait + Clock + Sync,
+    R: Net + Threads + Wait + Clock + Sync,
 >(
     rt: &R,
     alloc: Global,
@@ -52,27 +53,36 @@ pub fn serve_on<
     ensures sink { SinkAnswers (S.taken sink) (S.failures sink) (S.taken result.0) (S.failures result.0) result.1 }
     ensures ran { CoreRunTells config (S.taken sink) (S.failures sink) (S.taken result.0) (S.failures result.0) result.1 }
 {
-    let Ok(feeds) = feeds(alloc, listener, stop, config.lanes as usize) else {
+    let Ok(drivers) = drivers(rt, alloc, &config, listener, stop) else {
         return (sink, Err(RunFault::NoMemory));
     };
     let ticks = Ticker::new(config.tick, clock, stop);
-    run(
-        rt, alloc, config, feeds, ticks, sink, &OpenGate, stop, clock,
+    run_by_turns(
+        rt, alloc, config, drivers, ticks, sink, &OpenGate, stop, clock,
     )
 }
 
-/// One feed for each lane.
-fn feeds<'l, P: Stop>(
+/// What drives each lane, and whether packed bodies are taken there. Each has its share of the connections that may be open at once.
+fn drivers<'l, P: Stop, R: Net + Clock>(
+    rt: &R,
     alloc: Global,
+    config: &Config,
     listener: &'l TcpListener,
     stop: &'l P,
-    lanes: usize,
-) -> Result<Vec<Connections<'l, P>>, AllocError>
-    ensures { IfOk result (λ feeds. vec_len feeds ≡ lanes) }
+) -> io::Result<Vec<ByTurns<TurnDriver<'l, P>>>>
+    requires { 0 < config.now.lanes }
+    ensures lanes { IfOk result (λ drivers. vec_len drivers ≡ config.now.lanes) }
+    ensures gzip { IfOk result (λ drivers. All (λ it. it.takes_gzip ≡ config.now.accept_gzip) drivers.items) }
 {
-    let mut feeds = Vec::with_capacity(alloc, lanes)?;
+    let lanes = config.lanes as usize;
+    let limit = (config.max_connections / lanes).max(1);
+    let mut drivers = Vec::with_capacity(alloc, lanes)?;
     for _ in 0..lanes {
-        feeds.push(Connections::new(listener, stop))?;
+        let driver = TurnDriver::new(rt, alloc, listener, stop, limit)?;
+        drivers.push(ByTurns {
+            driver,
+            takes_gzip: config.accept_gzip,
+        })?;
     }
-    Ok(feeds)
+    Ok(drivers)
 }

@@ -1,7 +1,7 @@
 -- What events do, one after another.
 -- They serve the clauses of `write_text`, `respond`, `act`, `settle`, `wait` and `serve_turns`.
 use Rattle.std.proofs.Common.{false, ◌≡◌, ℕ, List, [], ◌∷◌, ◌++◌, Option, Some, None, sym, ap, ◌∙◌, refl, subst, append_assoc, append-nil, true, take, drop, ◌+◌, Bool, length, ◌<◌, arith, length-append, inl, inr, ◌⊎◌}
-use Rattle.std.specs.Prelude.{MatchOption}
+use Rattle.std.specs.Prelude.{MatchOption, ◌||◌}
 use Rattle.std.proofs.Math.Seq.{take-add}
 use Rattle.std.specs.Io.KnownBytes.{Appends, Consumes}
 use Rattle.http_lane.specs.declared.answer.Fate.{Fate}
@@ -10,7 +10,8 @@ use Rattle.http_lane.specs.declared.answer.ServeEnd.{ServeEnd}
 use Rattle.http_lane.specs.declared.answer.ServeEnd.TheVariants.{Turns, NoMemory}
 use Rattle.http_lane.specs.Connection.{Reading, Cause, Event, Brings, Rests, Settles, end_of, can_be, Writes, WritesBy, text_of, SubmitsAll, Submission, submissions, submission_by, is_counted, accepts, refusal, close_asked, starved, stopping, timed_out, submitted, end_with, Standing, Round, Rounds, IsRound, Turn, turns_of, bytes_by, bytes_given, is_end, is_ended, events_of, at_first, standing, IsRoundBy, in_head}
 use Rattle.http_lane.specs.declared.answer.TheConstants.{READ_LIMIT}
-use Rattle.http_lane.specs.Engine.{Does, Puts, IsFateOfText, Served, KnownReader, Tells, Gives}
+use Rattle.http_lane.specs.Engine.{Does, Puts, IsFateOfText, Served, KnownReader, Tells, Gives, Serves}
+use Rattle.http_lane.specs.Turns.{answers, has_answer}
 
 pub Appends-then : (u v w : Option (List ℕ)) (a b : List ℕ) → Appends u v a → Appends v w b → Appends u w (a ++ b)
 Appends-then None v w a b x y = tt
@@ -143,7 +144,7 @@ does_then submits t u v a b c xs ys d p = (
 pub record Serving {E L : Type 0} (stands : E → Reading → Type 0) (submits : L → Submission → L → Type 0) (old_text new_text : Option (List ℕ)) (old new : L) (old_reader new_reader : KnownReader) (engine : E) (row count : ℕ) : Type 0 where
   pub rounds : List Round
   pub last : Standing
-  pub run : Rounds at_first rounds last
+  pub run : Rounds (at_first old_reader.takes_gzip) rounds last
   pub goes_on : last.end ≡ None
   pub stood : stands engine last.reading
   pub rests : Rests last.reading
@@ -211,7 +212,7 @@ module _ {E L : Type 0} {stands : E → Reading → Type 0} {submits : L → Sub
   serving_more v c new e' row' turn is_stopped events reading s r stood rests told did = record {
     rounds = s.rounds ++ round_of turn is_stopped events ∷ [];
     last = standing reading row' None;
-    run = rounds_more at_first s.last (standing reading row' None) s.rounds (round_of turn is_stopped events) s.run s.goes_on r;
+    run = rounds_more (at_first old.takes_gzip) s.last (standing reading row' None) s.rounds (round_of turn is_stopped events) s.run s.goes_on r;
     goes_on = refl;
     stood = stood;
     rests = rests;
@@ -229,7 +230,7 @@ module _ {E L : Type 0} {stands : E → Reading → Type 0} {submits : L → Sub
     s.rounds ++ round_of turn is_stopped events ∷ [],
     record {
       last = standing reading row' (Some why);
-      run = rounds_more at_first s.last (standing reading row' (Some why)) s.rounds (round_of turn is_stopped events) s.run s.goes_on r;
+      run = rounds_more (at_first old.takes_gzip) s.last (standing reading row' (Some why)) s.rounds (round_of turn is_stopped events) s.run s.goes_on r;
       few = omega (arith, length-append s.rounds (round_of turn is_stopped events ∷ []), s.count_is);
       ends = refl;
     },
@@ -265,9 +266,9 @@ counted_text Unmade f = refl
 counted_text Unwritten f = refl
 
 -- a connection of which nothing has been read
-pub serving_first : {E L : Type 0} (awaits : E → Reading → Type 0) (submits : L → Submission → L → Type 0) (text : Option (List ℕ)) (lane : L) (reader : KnownReader) (engine : E) → awaits engine (in_head [])
+pub serving_first : {E L : Type 0} (awaits : E → Reading → Type 0) (submits : L → Submission → L → Type 0) (text : Option (List ℕ)) (lane : L) (reader : KnownReader) (engine : E) → awaits engine (in_head reader.takes_gzip [])
     → Serving awaits submits text text lane lane reader reader engine 0 0
-serving_first awaits submits text lane reader engine a = record { rounds = []; last = at_first; run = refl; goes_on = refl; stood = a; rests = refl; row_is = refl; count_is = refl; turns = gives_none reader; done = does_none submits text lane }
+serving_first awaits submits text lane reader engine a = record { rounds = []; last = at_first reader.takes_gzip; run = refl; goes_on = refl; stood = a; rests = refl; row_is = refl; count_is = refl; turns = gives_none reader; done = does_none submits text lane }
 
 -- all reads were made
 pub serving_turns : {E L : Type 0} (awaits : E → Reading → Type 0) (submits : L → Submission → L → Type 0) (t u : Option (List ℕ)) (a b : L) (old new : KnownReader) (engine : E) (row : ℕ)
@@ -283,7 +284,35 @@ serving_turns awaits submits t u a b old new engine row s = (
 pub served_nothing : {L : Type 0} (submits : L → Submission → L → Type 0) (text : Option (List ℕ)) (lane : L) (reader : KnownReader) → Served submits text text lane lane reader reader NoMemory
 served_nothing submits text lane reader = (
   [],
-  record { last = at_first; run = refl; few = omega arith; ends = inr (refl, refl) },
+  record { last = at_first reader.takes_gzip; run = refl; few = omega arith; ends = inr (refl, refl) },
   gives_none reader,
   does_none submits text lane,
 )
+
+-- ---- whether a request was answered
+
+or_false : (b : Bool) → (b || false) ≡ b
+or_false true = refl
+or_false false = refl
+
+or_assoc : (a b c : Bool) → (a || (b || c)) ≡ ((a || b) || c)
+or_assoc true b c = refl
+or_assoc false b c = refl
+
+-- what is done with a whole body answers it
+pub serves_answers : (is_packed : Bool) (body : Option (List ℕ)) (closing : Bool) (cause : Cause) → Serves is_packed body closing cause → answers cause ≡ true
+serves_answers is_packed body closing (accepts awaited) s = absurd s
+serves_answers is_packed body closing (refusal r i) s = refl
+serves_answers is_packed body closing close_asked s = refl
+serves_answers is_packed body closing starved s = refl
+serves_answers is_packed body closing stopping s = refl
+serves_answers is_packed body closing timed_out s = refl
+serves_answers is_packed body closing (submitted b m r c) s = refl
+
+has-append : (xs : List Event) (e : Event) → has_answer (xs ++ e ∷ []) ≡ (has_answer xs || answers e.cause)
+has-append [] e = or_false (answers e.cause)
+has-append (x ∷ xs) e = ap (λ b. answers x.cause || b) (has-append xs e) ∙ or_assoc (answers x.cause) (has_answer xs) (answers e.cause)
+
+-- one event more
+pub answered_more : (events : List Event) (e : Event) (before now : Bool) → before ≡ has_answer events → answers e.cause ≡ now → (before || now) ≡ has_answer (events ++ e ∷ [])
+answered_more events e before now b n = ap (λ x. x || now) b ∙ (ap (λ y. has_answer events || y) (sym n) ∙ sym (has-append events e))

@@ -5,3 +5,5 @@ pub mod EventLemmas
 pub mod ReplyLemmas
 pub mod AnswerLemmas
 pub mod StepLemmas
+mod TurnLemmas
+mod UnpackLemmas

@@ -2,6 +2,9 @@
 use Rattle.std.specs.Prelude.{◌≡◌, ℕ, ◌<◌, ◌≤◌, Bool, true, false, List, [], ◌++◌, Option, Some, None, take}
 use Rattle.std.specs.Io.KnownBytes.{Appends, Consumes, IsAtEnd}
 use Rattle.std.specs.Borrow.{Bor}
+use Rattle.http_text.specs.declared.request.Refusal.TheVariants.{NotGzip, BodyTooLarge}
+use Rattle.inflate.specs.declared.fault.GzipFault.{GzipFault}
+use Rattle.inflate.specs.declared.fault.GzipFault.TheVariants.{Broken, TooLong, NoMemory}
 use Rattle.http_lane.specs.declared.answer.Brought.{Brought}
 use Rattle.http_lane.specs.declared.answer.Brought.TheVariants.{Nothing, Refused, Close, Accepted, Whole}
 use Rattle.http_lane.specs.declared.answer.Answer.{Answer}
@@ -11,15 +14,17 @@ use Rattle.http_lane.specs.declared.answer.ReadTurn.TheVariants.{Gave, Quiet as 
 use Rattle.http_lane.specs.declared.answer.Fate.{Fate}
 use Rattle.http_lane.specs.declared.answer.Fate.TheVariants.{Uncounted}
 use Rattle.http_lane.specs.declared.answer.ServeEnd.{ServeEnd}
-use Rattle.http_lane.specs.Connection.{Reading, Cause, accepts, refusal, close_asked, starved, stopping, submitted, Brings, Rests, Event, Settles, Writes, WritesBy, text_of, SubmitsAll, Submission, submissions, submission_by, can_be, closes as closes_of, end_with, Turn, gave, quiet, interrupted, failed, ended, bytes_given, is_ended, Round, Standing, standing, IsRoundBy, IsTranscript, turns_of, events_of}
+use Rattle.http_lane.specs.Connection.{Reading, Cause, accepts, refusal, close_asked, starved, stopping, submitted, Brings, Rests, IsTextOf, IsUnfit, Event, Settles, Writes, WritesBy, text_of, SubmitsAll, Submission, submissions, submission_by, can_be, closes as closes_of, end_with, Turn, gave, quiet, interrupted, failed, ended, bytes_given, is_ended, Round, Standing, standing, IsRoundBy, IsTranscript, turns_of, events_of}
+use Rattle.http_lane.specs.Turns.{answers, has_answer}
 use Rattle.http_lane.specs.Answer.{continue_text, answer_text, refusal_row, done_row, busy_row, closing_row, timeout_row, reply_row}
 
--- what may be done with a whole body
-abbrev pub Serves : Option (List ℕ) → Bool → Cause → Type 0
-Serves body closing starved = Unit {0}
-Serves body closing stopping = Unit {0}
-Serves body closing (submitted given moment reply closes) = (body ≡ Some given) × (closes ≡ closing)
-Serves body closing _ = ⊥
+-- what may be done with a whole body, as it came
+abbrev pub Serves : (is_packed : Bool) → Option (List ℕ) → Bool → Cause → Type 0
+Serves is_packed body closing starved = Unit {0}
+Serves is_packed body closing stopping = Unit {0}
+Serves is_packed body closing (refusal why is_head) = (came : List ℕ) × (body ≡ Some came) × IsUnfit is_packed came why × (is_head ≡ false)
+Serves is_packed body closing (submitted text moment reply closes) = (came : List ℕ) × (body ≡ Some came) × IsTextOf is_packed came text × (closes ≡ closing)
+Serves is_packed body closing _ = ⊥
 
 -- the body that is seen is this one, if there is one
 abbrev pub Sees : Option (Bor (List ℕ)) → Option (List ℕ) → Type 0
@@ -33,13 +38,13 @@ Advances stands awaits body Nothing r new = Rests r × awaits new r
 Advances stands awaits body (Refused x is_head) r new = (next : Reading) × Brings r (refusal x is_head) next
 Advances stands awaits body Close r new = (next : Reading) × Brings r close_asked next
 Advances stands awaits body (Accepted awaited) r new = (next : Reading) × Brings r (accepts awaited) next × stands new next
-Advances stands awaits body (Whole closing) r new =
-    (next : Reading) × stands new next × ((cause : Cause) → Serves body closing cause → Brings r cause next)
+Advances stands awaits body (Whole is_packed closing) r new =
+    (next : Reading) × stands new next × ((cause : Cause) → Serves is_packed body closing cause → Brings r cause next)
 
 -- something was found after which the connection can go on
 abbrev pub GoesOn : Brought → Type 0
 GoesOn (Accepted awaited) = Unit {0}
-GoesOn (Whole closing) = Unit {0}
+GoesOn (Whole is_packed closing) = Unit {0}
 GoesOn _ = ⊥
 
 -- the bytes of an answer
@@ -52,6 +57,12 @@ text_of_answer Stopping = answer_text closing_row true false
 text_of_answer TimedOut = answer_text timeout_row true false
 text_of_answer (Replied reply closes) = answer_text (reply_row reply) closes false
 
+-- the answer to a packed body that gives no text
+abbrev pub answer_to : GzipFault → Answer
+answer_to Broken = ARefused NotGzip false
+answer_to TooLong = ARefused BodyTooLarge false
+answer_to NoMemory = Starved
+
 -- what an answer's bytes do to a writer
 abbrev pub Puts : Option (List ℕ) → Option (List ℕ) → Fate → List ℕ → Type 0
 Puts old new fate text = (bytes : List ℕ) × Appends old new bytes × WritesBy fate text bytes
@@ -62,9 +73,14 @@ Does submits old_text new_text old new events =
     (bytes : List ℕ) × Appends old_text new_text bytes × Writes events bytes × SubmitsAll submits old (submissions events) new
 
 -- what the engine's bytes brought, until they brought nothing more or the connection ended
-abbrev pub Settled : {E L : Type 0} → (awaits : E → Reading → Type 0) → (L → Submission → L → Type 0) → Option (List ℕ) → Option (List ℕ) → L → L → Reading → Option ServeEnd → E → Type 0
-Settled awaits submits old_text new_text old new r end engine =
+abbrev pub SettledTo : {E L : Type 0} → (awaits : E → Reading → Type 0) → (L → Submission → L → Type 0) → Option (List ℕ) → Option (List ℕ) → L → L → Reading → Option ServeEnd → E → Type 0
+SettledTo awaits submits old_text new_text old new r end engine =
     (events : List Event) × (last : Reading) × Settles r events end last × (end ≡ None → awaits engine last) × Does submits old_text new_text old new events
+
+-- the same, and whether a request was answered
+abbrev pub Settled : {E L : Type 0} → (awaits : E → Reading → Type 0) → (L → Submission → L → Type 0) → Option (List ℕ) → Option (List ℕ) → L → L → Reading → (Option ServeEnd × Bool) → E → Type 0
+Settled awaits submits old_text new_text old new r settled engine =
+    (events : List Event) × (last : Reading) × Settles r events settled.0 last × (settled.0 ≡ None → awaits engine last) × Does submits old_text new_text old new events × (settled.1 ≡ has_answer events)
 
 -- one event: its cause is true of `brings`, and this was done for it
 pub record Did {L : Type 0} (submits : L → Submission → L → Type 0) (old_text new_text : Option (List ℕ)) (old new : L) (cause : Cause) (closing : Bool) (fate : Fate) : Type 0 where
@@ -74,17 +90,17 @@ pub record Did {L : Type 0} (submits : L → Submission → L → Type 0) (old_t
   pub lane : SubmitsAll submits old (submission_by fate cause) new
 
 -- a whole body was served
-abbrev pub Responds : {L : Type 0} → (L → Submission → L → Type 0) → Option (List ℕ) → Option (List ℕ) → L → L → Option (List ℕ) → Bool → (Bool × Fate) → Type 0
-Responds submits old_text new_text old new body closing r =
-    (cause : Cause) × Serves body closing cause × Did submits old_text new_text old new cause r.0 r.1
+abbrev pub Responds : {L : Type 0} → (L → Submission → L → Type 0) → Option (List ℕ) → Option (List ℕ) → L → L → Bool → Option (List ℕ) → Bool → (Bool × Fate) → Type 0
+Responds submits old_text new_text old new is_packed body closing r =
+    (cause : Cause) × Serves is_packed body closing cause × Did submits old_text new_text old new cause r.0 r.1
 
 -- one step of serving, from a reading
-abbrev pub Acts : {E L : Type 0} → (stands awaits : E → Reading → Type 0) → (L → Submission → L → Type 0) → Option (List ℕ) → Option (List ℕ) → L → L → Reading → Option (Bool × Fate) → E → Type 0
+abbrev pub Acts : {E L : Type 0} → (stands awaits : E → Reading → Type 0) → (L → Submission → L → Type 0) → Option (List ℕ) → Option (List ℕ) → L → L → Reading → Option (Bool × Fate × Bool) → E → Type 0
 Acts stands awaits submits old_text new_text old new r None engine = Rests r × awaits engine r × (new_text ≡ old_text) × (new ≡ old)
 Acts stands awaits submits old_text new_text old new r (Some done) engine =
-    (cause : Cause) × (next : Reading) × Brings r cause next × (end_with done.1 done.0 ≡ None → stands engine next) × Did submits old_text new_text old new cause done.0 done.1
+    (cause : Cause) × (next : Reading) × Brings r cause next × (end_with done.1 done.0 ≡ None → stands engine next) × Did submits old_text new_text old new cause done.0 done.1 × (answers cause ≡ done.2)
 
-abbrev pub IsOpenAfter : Option (Bool × Fate) → Type 0
+abbrev pub IsOpenAfter : Option (Bool × Fate × Bool) → Type 0
 IsOpenAfter None = ⊥
 IsOpenAfter (Some done) = end_with done.1 done.0 ≡ None
 
@@ -106,13 +122,14 @@ abbrev pub FitsPiece : ReadTurn → ℕ → Type 0
 FitsPiece (Gave n) len = (0 < n) × (n ≤ len)
 FitsPiece _ len = Unit {0}
 
--- what is known of a reader: what its reads gave so far, and the bytes that it has left
+-- what is known of a reader: what its reads gave so far, the bytes that it has left, and whether packed bodies are taken from it
 pub record KnownReader : Type 0 where
   pub turns : Option (List Turn)
   pub left : Option (List ℕ)
+  pub takes_gzip : Bool
 
-abbrev pub known_reader : Option (List Turn) → Option (List ℕ) → KnownReader
-known_reader turns left = record { turns = turns; left = left }
+abbrev pub known_reader : Option (List Turn) → Option (List ℕ) → Bool → KnownReader
+known_reader turns left takes_gzip = record { turns = turns; left = left; takes_gzip = takes_gzip }
 
 -- where it is known what its reads gave, these turns are more
 abbrev pub Tells : Option (List Turn) → Option (List Turn) → List Turn → Type 0
@@ -128,7 +145,7 @@ pub record Gives (old new : KnownReader) (turns : List Turn) : Type 0 where
 -- a connection was served: it has a transcript, which the reader, the writer and the lane followed
 abbrev pub Served : {L : Type 0} → (L → Submission → L → Type 0) → Option (List ℕ) → Option (List ℕ) → L → L → KnownReader → KnownReader → ServeEnd → Type 0
 Served submits old_text new_text old new old_reader new_reader end =
-    (rounds : List Round) × IsTranscript rounds end × Gives old_reader new_reader (turns_of rounds) × Does submits old_text new_text old new (events_of rounds)
+    (rounds : List Round) × IsTranscript old_reader.takes_gzip rounds end × Gives old_reader new_reader (turns_of rounds) × Does submits old_text new_text old new (events_of rounds)
 
 -- a quiet turn was dealt with, whatever lane there is
 abbrev pub Waits : Option (List ℕ) → Option (List ℕ) → Standing → ℕ → Option ServeEnd → Type 0

@@ -1,10 +1,10 @@
 //! The loop of a connection.
-ghost use Rattle.std.specs.Prelude.{◌≡◌, ◌+◌, [], ℕ, ◌<◌, ◌≤◌, List, ◌++◌, IsTrue, take, IfOk, Option, false, true, ◌^◌, ◌-◌, if◌then◌else◌};
+ghost use Rattle.std.specs.Prelude.{◌≡◌, ◌+◌, [], ℕ, ◌<◌, ◌≤◌, List, ◌++◌, IsTrue, take, IfOk, Option, Some, Bool, false, true, ◌^◌, ◌-◌, if◌then◌else◌};
 ghost use Rattle.http_lane.specs.Intake.{Submits, intake, Counts, first_conn, connected};
 ghost use Rattle.lane_seq.specs.declared.preparing.Conn.{Conn};
 ghost use Rattle.std.specs.Io.KnownBytes.{Appends};
-ghost use Rattle.http_lane.specs.Connection.{Reading};
-ghost use Rattle.http_lane.specs.Engine.{Puts, Settled, text_of_answer, Responds, Acts, IsOpenAfter, IsFateOfText, Waits, Served, Sees};
+ghost use Rattle.http_lane.specs.Connection.{Reading, IsTextOf};
+ghost use Rattle.http_lane.specs.Engine.{Puts, Settled, SettledTo, text_of_answer, Responds, Acts, IsOpenAfter, IsFateOfText, Waits, Served, Sees, answer_to};
 ghost use Rattle.http_lane.specs.Connection.{end_with, Standing, in_head, is_between, counts_spans};
 ghost use Rattle.http_lane.specs.declared.answer.ServeEnd.TheVariants.{Closed, Cut};
 
@@ -17,6 +17,8 @@ use crate::reads::{PIECE_LIMIT, Source};
 use crate::requests::Requests;
 use crate::texts::text_of;
 use drop_ledger::{Count, Counter};
+use http_text::{BODY_LIMIT, Refusal};
+use inflate::{GzipFault, gunzip};
 use lane_queue::Port;
 use lane_seq::{Conn, Lane, Reply};
 use otlp_types::Item;
@@ -40,7 +42,7 @@ fn write_text<W: Write>(writer: &mut W, text: &[u8]) -> Fate
 }
 
 /// Writes an answer.
-fn answer<W: Write>(alloc: Global, writer: &mut W, answer: &Answer) -> Fate
+pub(crate) fn answer<W: Write>(alloc: Global, writer: &mut W, answer: &Answer) -> Fate
     ensures puts { Puts (W.contents writer.old) (W.contents writer.new) result (text_of_answer answer.now) }
     ensures fate { IsFateOfText result }
 {
@@ -78,7 +80,7 @@ fn count<C: Counter>(counts: &mut C, reply: &Reply) -> bool
 }
 
 /// How an event ends the connection.
-fn end_with(fate: Fate, closes: bool) -> Option<ServeEnd>
+pub(crate) fn end_with(fate: Fate, closes: bool) -> Option<ServeEnd>
     ensures { result ≡ end_with fate closes }
 {
     match fate {
@@ -90,27 +92,20 @@ fn end_with(fate: Fate, closes: bool) -> Option<ServeEnd>
     }
 }
 
-/// Serves a body that was read whole; `None`: there was no memory for it.
-fn respond<P: Port<Item>, C: Counter, W: Write, S: Stop, K: Clock>(
+/// Hands a text to the lane, counts its spans and answers.
+fn submit<P: Port<Item>, C: Counter, W: Write, K: Clock>(
     alloc: Global,
     lane: &mut Lane<P>,
     conn: &mut Conn,
     counts: &mut C,
     writer: &mut W,
-    stop: &S,
     clock: &K,
-    body: Option<&[u8]>,
+    text: &[u8],
     says_close: bool,
 ) -> (bool, Fate)
-    ensures { (given : Option (List ℕ)) → Sees body.entry given → Responds (Submits P.takes P.refuses) (W.contents writer.old) (W.contents writer.new) (intake lane.old conn.old (C.counted counts.old)) (intake lane.new conn.new (C.counted counts.new)) given says_close result }
+    ensures { (is_packed : Bool) (body : List ℕ) → IsTextOf is_packed body text.now → Responds (Submits P.takes P.refuses) (W.contents writer.old) (W.contents writer.new) (intake lane.old conn.old (C.counted counts.old)) (intake lane.new conn.new (C.counted counts.new)) is_packed (Some body) says_close result }
 {
-    let Some(body) = body else {
-        return (true, answer(alloc, writer, &Answer::Starved));
-    };
-    if stop.is_set() {
-        return (true, answer(alloc, writer, &Answer::Stopping));
-    }
-    let reply = lane.submit(alloc, conn, body, clock.now());
+    let reply = lane.submit(alloc, conn, text, clock.now());
     if !count(counts, &reply) {
         return (says_close, Fate::Uncounted);
     }
@@ -121,7 +116,79 @@ fn respond<P: Port<Item>, C: Counter, W: Write, S: Stop, K: Clock>(
     (says_close, answer(alloc, writer, &replied))
 }
 
-/// Does what the bytes bring next, if they bring anything.
+/// The answer to a packed body that gives no text.
+fn unfit(fault: GzipFault) -> Answer
+    ensures { result ≡ answer_to fault }
+{
+    match fault {
+        GzipFault::Broken => Answer::Refused {
+            refusal: Refusal::NotGzip,
+            is_head: false,
+        },
+        GzipFault::TooLong => Answer::Refused {
+            refusal: Refusal::BodyTooLarge,
+            is_head: false,
+        },
+        GzipFault::NoMemory => Answer::Starved,
+    }
+}
+
+/// Unpacks a body and serves its text.
+fn unpack<P: Port<Item>, C: Counter, W: Write, K: Clock>(
+    alloc: Global,
+    lane: &mut Lane<P>,
+    conn: &mut Conn,
+    counts: &mut C,
+    writer: &mut W,
+    clock: &K,
+    body: &[u8],
+    says_close: bool,
+) -> (bool, Fate)
+    ensures { Responds (Submits P.takes P.refuses) (W.contents writer.old) (W.contents writer.new) (intake lane.old conn.old (C.counted counts.old)) (intake lane.new conn.new (C.counted counts.new)) true (Some body.now) says_close result }
+{
+    match gunzip(alloc, body, BODY_LIMIT) {
+        Ok(text) => submit(
+            alloc,
+            lane,
+            conn,
+            counts,
+            writer,
+            clock,
+            text.as_slice(),
+            says_close,
+        ),
+        Err(fault) => (true, answer(alloc, writer, &unfit(fault))),
+    }
+}
+
+/// Serves a body that was read whole, packed by gzip or not; `None`: there was no memory for it.
+fn respond<P: Port<Item>, C: Counter, W: Write, S: Stop, K: Clock>(
+    alloc: Global,
+    lane: &mut Lane<P>,
+    conn: &mut Conn,
+    counts: &mut C,
+    writer: &mut W,
+    stop: &S,
+    clock: &K,
+    is_packed: bool,
+    body: Option<&[u8]>,
+    says_close: bool,
+) -> (bool, Fate)
+    ensures { (given : Option (List ℕ)) → Sees body.entry given → Responds (Submits P.takes P.refuses) (W.contents writer.old) (W.contents writer.new) (intake lane.old conn.old (C.counted counts.old)) (intake lane.new conn.new (C.counted counts.new)) is_packed given says_close result }
+{
+    let Some(body) = body else {
+        return (true, answer(alloc, writer, &Answer::Starved));
+    };
+    if stop.is_set() {
+        return (true, answer(alloc, writer, &Answer::Stopping));
+    }
+    if is_packed {
+        return unpack(alloc, lane, conn, counts, writer, clock, body, says_close);
+    }
+    submit(alloc, lane, conn, counts, writer, clock, body, says_close)
+}
+
+/// Does what the bytes bring next, if they bring anything. The last flag says whether a request was answered.
 fn act<E: Engine, P: Port<Item>, C: Counter, W: Write, S: Stop, K: Clock>(
     alloc: Global,
     engine: &mut E,
@@ -131,7 +198,7 @@ fn act<E: Engine, P: Port<Item>, C: Counter, W: Write, S: Stop, K: Clock>(
     writer: &mut W,
     stop: &S,
     clock: &K,
-) -> Option<(bool, Fate)>
+) -> Option<(bool, Fate, bool)>
     ensures acts { (r : Reading) → E.stands engine.old r → Acts E.stands E.awaits (Submits P.takes P.refuses) (W.contents writer.old) (W.contents writer.new) (intake lane.old conn.old (C.counted counts.old)) (intake lane.new conn.new (C.counted counts.new)) r result engine.new }
     ensures less { IsOpenAfter result → E.left engine.new < E.left engine.old }
 {
@@ -139,27 +206,56 @@ fn act<E: Engine, P: Port<Item>, C: Counter, W: Write, S: Stop, K: Clock>(
         Brought::Nothing => None,
         Brought::Refused { refusal, is_head } => {
             let refused = Answer::Refused { refusal, is_head };
-            Some((true, answer(alloc, writer, &refused)))
+            Some((true, answer(alloc, writer, &refused), true))
         }
         Brought::Close => {
             stop.set();
-            Some((true, answer(alloc, writer, &Answer::CloseAsked)))
+            Some((true, answer(alloc, writer, &Answer::CloseAsked), true))
         }
         Brought::Accepted { awaited: true } => {
-            Some((false, answer(alloc, writer, &Answer::Continue)))
+            Some((false, answer(alloc, writer, &Answer::Continue), false))
         }
-        Brought::Accepted { awaited: false } => Some((false, Fate::Written)),
-        Brought::Whole { says_close } => {
+        Brought::Accepted { awaited: false } => Some((false, Fate::Written, false)),
+        Brought::Whole {
+            is_packed,
+            says_close,
+        } => {
             let body = engine.body();
-            Some(respond(
-                alloc, lane, conn, counts, writer, stop, clock, body, says_close,
-            ))
+            let (closes, fate) = respond(
+                alloc, lane, conn, counts, writer, stop, clock, is_packed, body, says_close,
+            );
+            Some((closes, fate, true))
         }
     }
 }
 
-/// Does all that the bytes bring, and says how the connection ends, if it does.
-fn settle<E: Engine, P: Port<Item>, C: Counter, W: Write, S: Stop, K: Clock>(
+/// Does all that the bytes bring, and says how the connection ends, if it does, and whether a request was answered.
+pub(crate) fn settle<E: Engine, P: Port<Item>, C: Counter, W: Write, S: Stop, K: Clock>(
+    alloc: Global,
+    engine: &mut E,
+    lane: &mut Lane<P>,
+    conn: &mut Conn,
+    counts: &mut C,
+    writer: &mut W,
+    stop: &S,
+    clock: &K,
+) -> (Option<ServeEnd>, bool)
+    ensures { (r : Reading) → E.stands engine.old r → Settled E.awaits (Submits P.takes P.refuses) (W.contents writer.old) (W.contents writer.new) (intake lane.old conn.old (C.counted counts.old)) (intake lane.new conn.new (C.counted counts.new)) r result engine.new }
+{
+    let mut answered = false;
+    while let Some((closes, fate, answers)) = act(
+        alloc, engine, lane, conn, counts, writer, stop, clock,
+    ) {
+        answered = answered | answers;
+        if let Some(end) = end_with(fate, closes) {
+            return (Some(end), answered);
+        }
+    }
+    (None, answered)
+}
+
+/// The same, where nobody asks whether a request was answered.
+fn settle_to_end<E: Engine, P: Port<Item>, C: Counter, W: Write, S: Stop, K: Clock>(
     alloc: Global,
     engine: &mut E,
     lane: &mut Lane<P>,
@@ -169,14 +265,10 @@ fn settle<E: Engine, P: Port<Item>, C: Counter, W: Write, S: Stop, K: Clock>(
     stop: &S,
     clock: &K,
 ) -> Option<ServeEnd>
-    ensures { (r : Reading) → E.stands engine.old r → Settled E.awaits (Submits P.takes P.refuses) (W.contents writer.old) (W.contents writer.new) (intake lane.old conn.old (C.counted counts.old)) (intake lane.new conn.new (C.counted counts.new)) r result engine.new }
+    ensures { (r : Reading) → E.stands engine.old r → SettledTo E.awaits (Submits P.takes P.refuses) (W.contents writer.old) (W.contents writer.new) (intake lane.old conn.old (C.counted counts.old)) (intake lane.new conn.new (C.counted counts.new)) r result engine.new }
 {
-    while let Some((closes, fate)) = act(alloc, engine, lane, conn, counts, writer, stop, clock) {
-        if let Some(end) = end_with(fate, closes) {
-            return Some(end);
-        }
-    }
-    None
+    let (end, _) = settle(alloc, engine, lane, conn, counts, writer, stop, clock);
+    end
 }
 
 /// Deals with a quiet turn, the last of so many in a row.
@@ -227,7 +319,7 @@ fn serve_turns<E: Engine, P: Port<Item>, C: Counter, R: Source, W: Write, S: Sto
     stop: &S,
     clock: &K,
 ) -> ServeEnd
-    requires { E.awaits engine.old (in_head []) }
+    requires { E.awaits engine.old (in_head (R.given reader.old).takes_gzip []) }
     ensures { Served (Submits P.takes P.refuses) (W.contents writer.old) (W.contents writer.new) (intake lane.old conn.old (C.counted counts.old)) (intake lane.new conn.new (C.counted counts.new)) (R.given reader.old) (R.given reader.new) result }
 {
     let mut piece = [0; PIECE_LIMIT];
@@ -237,7 +329,9 @@ fn serve_turns<E: Engine, P: Port<Item>, C: Counter, R: Source, W: Write, S: Sto
             ReadTurn::Gave(n) => {
                 row = 0;
                 engine.take(&piece[..n]);
-                if let Some(end) = settle(alloc, engine, lane, conn, counts, writer, stop, clock) {
+                if let Some(end) = settle_to_end(
+                    alloc, engine, lane, conn, counts, writer, stop, clock,
+                ) {
                     return end;
                 }
             }
@@ -256,7 +350,8 @@ fn serve_turns<E: Engine, P: Port<Item>, C: Counter, R: Source, W: Write, S: Sto
 }
 
 /// Serves the next connection of a lane: reads requests, hands their bodies to the lane, counts their spans, and writes
-/// the answers, each by one write where the writer takes it whole.
+/// the answers, each by one write where the writer takes it whole. Of a packed body, where the reader takes such, the lane
+/// gets what it unpacks to (RFC 1952); a broken one is answered 400, one that unpacks to more than a body may have 413.
 ///
 /// The moment of a request is asked of the clock once, when its body has been read. It ends as
 /// [`ServeEnd::NoMemory`], with nothing read, where memory for its buffer was refused.
@@ -275,7 +370,7 @@ pub fn serve<P: Port<Item>, C: Counter, R: Source, W: Write, S: Stop, K: Clock>(
         (R.given reader.old) (R.given reader.new) result }
 {
     let mut conn = lane.connect();
-    match Requests::new(alloc) {
+    match Requests::new(alloc, reader.takes_gzip()) {
         Ok(mut engine) => serve_turns(
             alloc,
             &mut engine,

@@ -1,8 +1,9 @@
 //! A table of exchanges with what RFC 9112 and the table of answers give for each. A row of `exchanges.tsv` has a name,
 //! how it is run, the bytes that a client sends, the bytes that are answered, how the connection ends, and what was
 //! counted; `column` says how bytes are written there. Each exchange goes through `serve` in one piece, a byte at a time,
-//! and cut in every two pieces; where the row says so, also with a write that fails after each number of bytes. The gate
-//! runs it and compares what it prints.
+//! and cut in every two pieces; where the row says so, also with a write that fails after each number of bytes. And it goes
+//! through `serve_turns` on one, two and fifty connections at once, whose pieces are dealt at random. `turns.tsv` has
+//! connections by a scripted clock (`clocked`). The gate runs it and compares what it prints.
 //!
 //! With the argument `refused` it runs the rows that say `starves` once each, and lets an exchange be short of memory at
 //! one place. So a run for each allocation that is refused in turn (`tests/refused_memory/refused.py exchanges`) shows that
@@ -12,7 +13,9 @@
 //! as a body N times, for `bench/http.sh` to count what either costs.
 #![tactic(auto)]
 
+mod clocked;
 mod column;
+mod many;
 mod peers;
 mod row;
 mod short;
@@ -22,6 +25,8 @@ mod trial;
 use row::Row;
 use std::alloc::{AllocError, Global};
 use std::process::ExitCode;
+use std::sync::Wait;
+use std::time::Clock;
 use std::{env, fs, io};
 
 /// What became of the rows that were run.
@@ -32,14 +37,20 @@ struct Tally {
 }
 
 /// Whether the exchange of a line comes out as it says.
-fn holds(alloc: Global, line: &str, starved: bool) -> Result<bool, AllocError> {
+fn holds<R: Wait + Clock>(
+    rt: &R,
+    alloc: Global,
+    line: &str,
+    starved: bool,
+) -> Result<bool, AllocError> {
     let Some(row) = Row::read(alloc, line)? else {
         return Ok(false);
     };
     if starved {
         return short::holds(alloc, &row);
     }
-    trial::holds(alloc, &row)
+    let answers = trial::joined(alloc, &row.answers)?;
+    Ok(trial::holds(alloc, &row)? && many::holds(rt, alloc, &row, &answers)?)
 }
 
 /// Whether a line is to be run.
@@ -47,20 +58,43 @@ fn is_asked_for(line: &str, starved: bool) -> bool {
     !line.is_empty() && !line.starts_with('#') && (!starved || line.contains("starves"))
 }
 
+/// Runs the table of connections by a clock.
+fn run_turns<R: Wait + Clock>(
+    rt: &HostRuntime,
+    waits: &R,
+    wrong: &mut u64,
+) -> io::Result<()> {
+    let table = fs::read_to_string(rt, "turns.tsv")?;
+    for line in table.lines() {
+        if !line.starts_with('#') && !clocked::holds(waits, rt.alloc(), line)? {
+            *wrong = wrong.saturating_add(1);
+            println!(rt; "not as the table says: {line}")?;
+        }
+    }
+    Ok(())
+}
+
 /// Runs the table.
-fn run_table(rt: &HostRuntime, starved: bool) -> io::Result<ExitCode> {
+fn run_table<R: Wait + Clock>(
+    rt: &HostRuntime,
+    waits: &R,
+    starved: bool,
+) -> io::Result<ExitCode> {
     let table = fs::read_to_string(rt, "exchanges.tsv")?;
     let mut tally = Tally { rows: 0, wrong: 0 };
     for line in table.lines() {
         if !is_asked_for(line, starved) {
             continue;
         }
-        let right = holds(rt.alloc(), line, starved)?;
+        let right = holds(waits, rt.alloc(), line, starved)?;
         tally.rows = tally.rows.saturating_add(1);
         if !right {
             tally.wrong = tally.wrong.saturating_add(1);
             println!(rt; "not as the table says: {line}")?;
         }
+    }
+    if !starved {
+        run_turns(rt, waits, &mut tally.wrong)?;
     }
     let rows = tally.rows;
     let wrong = tally.wrong;
@@ -87,7 +121,7 @@ fn main(rt: HostRuntime) -> io::Result<ExitCode> {
             println!(rt; "{resources} resources read")?;
             Ok(ExitCode::from(0))
         }
-        [how] => run_table(&rt, how.as_str() == "refused"),
-        _ => run_table(&rt, false),
+        [how] => run_table(&rt, &rt, how.as_str() == "refused"),
+        _ => run_table(&rt, &rt, false),
     }
 }

@@ -14,6 +14,8 @@ pub struct Setup {
     pub tail: Tail,
     /// `stopped`: the stop mark is set.
     pub is_stopped: bool,
+    /// `gzip`: packed bodies are taken.
+    pub takes_gzip: bool,
     /// `long`: it isn't cut in every two pieces, nor read a byte at a time.
     pub is_long: bool,
     /// `writes`: writes fail after each number of bytes.
@@ -102,6 +104,7 @@ fn how(column: &str) -> Setup {
         received: number(column, "received").unwrap_or(0),
         tail: tail(column),
         is_stopped: says(column, "stopped"),
+        takes_gzip: says(column, "gzip"),
         is_long: says(column, "long"),
         writes: says(column, "writes"),
         cuts: says(column, "cuts"),

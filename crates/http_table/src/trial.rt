@@ -24,7 +24,7 @@ pub struct Way {
 }
 
 /// No queue of the table holds more spans.
-const MOST_QUEUED: usize = 100;
+const MOST_QUEUED: usize = 10_000;
 
 /// In one piece.
 pub const WHOLE: Way = Way {
@@ -44,7 +44,8 @@ pub struct Came {
     pub outcome: Outcome,
 }
 
-fn name_of(end: ServeEnd) -> &'static str {
+/// The name of an end.
+pub fn name_of(end: ServeEnd) -> &'static str {
     match end {
         ServeEnd::Closed => "Closed",
         ServeEnd::Cut => "Cut",
@@ -60,7 +61,7 @@ fn name_of(end: ServeEnd) -> &'static str {
 }
 
 /// How many spans are queued, and the number and moment of the last.
-fn queued(lane: Lane<ListPort<Item>>) -> (u64, u64, u64) {
+pub fn queued(lane: Lane<ListPort<Item>>) -> (u64, u64, u64) {
     let mut pushed: u64 = 0;
     let mut last = 0;
     let mut moment = 0;
@@ -92,6 +93,7 @@ pub fn served(alloc: Global, setup: &Setup, input: &[u8], way: Way) -> Result<Ca
             reads: 0,
             idle: 0,
         },
+        takes_gzip: setup.takes_gzip,
     };
     let mut page = Page {
         bytes: Vec::with_capacity(alloc, 4096)?,

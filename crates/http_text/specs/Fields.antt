@@ -1,5 +1,5 @@
 -- What the fields of a head say (RFC 9110, section 5; RFC 9112, section 6), from the list of names and values.
-use Rattle.std.specs.Prelude.{ℕ, suc, min, Bool, false, not, ◌&&◌, List, [], ◌∷◌, map, length, Option, Some, None, if◌then◌else◌, nat_lt, ◌==◌, codes, filter}
+use Rattle.std.specs.Prelude.{ℕ, suc, min, Bool, false, not, ◌&&◌, ◌||◌, List, [], ◌∷◌, map, length, Option, Some, None, if◌then◌else◌, nat_lt, ◌==◌, codes, filter}
 use Rattle.std.specs.List.{list_all, list_any, before_first}
 use Rattle.std.specs.Char.{is_ascii_digit}
 use Rattle.std.specs.Str.Parse.{digits_value}
@@ -58,6 +58,26 @@ has name test h = str_eq_ignore_ascii_case h.0 name && test h.1
 -- no coding but `identity`
 abbrev pub is_plain : List Header → Bool
 is_plain headers = not (list_any (has (codes "content-encoding") (λ value. not (str_eq_ignore_ascii_case value (codes "identity")))) headers)
+
+-- the codings of the content but `identity`, in the order in which they were applied (RFC 9110, section 8.4), by fields of one coding each
+abbrev pub codings : List Header → List (List ℕ)
+codings headers = map (λ (h : Header). h.1) (filter (has (codes "content-encoding") (λ value. not (str_eq_ignore_ascii_case value (codes "identity")))) headers)
+
+-- `gzip`, or `x-gzip`, which is the same (RFC 9110, section 8.4.1.3)
+abbrev pub is_gzip : List ℕ → Bool
+is_gzip coding = str_eq_ignore_ascii_case coding (codes "gzip") || str_eq_ignore_ascii_case coding (codes "x-gzip")
+
+abbrev pub is_gzip_by : Option (List ℕ) → Bool
+is_gzip_by None = false
+is_gzip_by (Some coding) = is_gzip coding
+
+-- the content is packed: its one coding is gzip
+abbrev pub is_packed : List Header → Bool
+is_packed headers = is_gzip_by (only (codings headers))
+
+-- a coding that is taken: none, or gzip where it is taken
+abbrev pub is_taken : Bool → List Header → Bool
+is_taken takes_gzip headers = is_plain headers || (takes_gzip && is_packed headers)
 
 -- the words of a comma list, where a word is trimmed
 abbrev pub cons_first : ℕ → List (List ℕ) → List (List ℕ)

@@ -11,7 +11,7 @@ use Rattle.http_text.specs.declared.request.Refusal.{Refusal}
 use Rattle.http_text.specs.declared.request.Refusal.TheVariants.{HeadTooLarge, BadRequest, NotFound, MethodNotAllowed, UnsupportedMediaType, BodyTooLarge}
 use Rattle.http_text.specs.declared.request.Verdict.{Verdict}
 use Rattle.http_text.specs.declared.request.Verdict.TheVariants.{Refused, Close, Post as Posted}
-use Rattle.http_text.specs.Fields.{Header, values_named, framing, is_json, is_plain, says_close, expects_continue}
+use Rattle.http_text.specs.Fields.{Header, values_named, framing, is_json, is_packed, is_taken, says_close, expects_continue}
 use Rattle.http_text.specs.Lines.{head_len, blank_len, cut}
 
 -- the fields of a head's text: the lines between the request line and the empty line at the end
@@ -30,54 +30,54 @@ fits (Length n) = nat_le n BODY_LIMIT
 fits Chunked = true
 
 -- a request for the traces, by its fields
-abbrev pub posted : List ℕ → List Header → Framing → Verdict
-posted method headers framed =
-    if not (is_json headers && is_plain headers) then refused method UnsupportedMediaType
+abbrev pub posted : Bool → List ℕ → List Header → Framing → Verdict
+posted takes_gzip method headers framed =
+    if not (is_json headers && is_taken takes_gzip headers) then refused method UnsupportedMediaType
     else (if not (fits framed) then refused method BodyTooLarge
-    else Posted (record { framing = framed; expects_continue = expects_continue headers; says_close = says_close headers }))
+    else Posted (record { framing = framed; expects_continue = expects_continue headers; is_packed = is_packed headers; says_close = says_close headers }))
 
 -- where a message that is framed goes, by its target
-abbrev pub routed : List ℕ → List ℕ → List Header → Framing → Verdict
-routed method target headers framed =
+abbrev pub routed : Bool → List ℕ → List ℕ → List Header → Framing → Verdict
+routed takes_gzip method target headers framed =
     if bytes_eq target (codes "/close") && is_post method then Close
     else (if not (bytes_eq target (codes "/close") || bytes_eq target (codes "/v1/traces")) then refused method NotFound
     else (if not (is_post method) then refused method MethodNotAllowed
-    else posted method headers framed))
+    else posted takes_gzip method headers framed))
 
-abbrev pub framed_or_bad : List ℕ → List ℕ → List Header → Option Framing → Verdict
-framed_or_bad method target headers None = refused method BadRequest
-framed_or_bad method target headers (Some framed) = routed method target headers framed
+abbrev pub framed_or_bad : Bool → List ℕ → List ℕ → List Header → Option Framing → Verdict
+framed_or_bad takes_gzip method target headers None = refused method BadRequest
+framed_or_bad takes_gzip method target headers (Some framed) = routed takes_gzip method target headers framed
 
--- the rows of the table that are about the head, in their order
-abbrev pub verdict_by : List ℕ → List ℕ → ℕ → List Header → Verdict
-verdict_by method target minor headers =
+-- the rows of the table that are about the head, in their order; `takes_gzip` is a setting
+abbrev pub verdict_by : Bool → List ℕ → List ℕ → ℕ → List Header → Verdict
+verdict_by takes_gzip method target minor headers =
     if (minor == 1) && (length (values_named (codes "host") headers) == 1)
-    then framed_or_bad method target headers (framing headers)
+    then framed_or_bad takes_gzip method target headers (framing headers)
     else refused method BadRequest
 
-abbrev pub verdict : RequestHead → Verdict
-verdict h = verdict_by h.method h.target h.minor (map name_and_value h.fields)
+abbrev pub verdict : Bool → RequestHead → Verdict
+verdict takes_gzip h = verdict_by takes_gzip h.method h.target h.minor (map name_and_value h.fields)
 
 -- the whole text is this head
 abbrev pub IsHead : List ℕ → RequestHead → Type 0
 IsHead text h = ReadsRequest text h [] × (length h.fields ≤ FIELD_LIMIT)
 
 -- what the text of a head comes to, where it has no more lines than are allowed
-abbrev pub Judges : List ℕ → Verdict → Type 0
-Judges text v =
-    ((h : RequestHead) × IsHead text h × (v ≡ verdict h))
+abbrev pub Judges : Bool → List ℕ → Verdict → Type 0
+Judges takes_gzip text v =
+    ((h : RequestHead) × IsHead text h × (v ≡ verdict takes_gzip h))
     ⊎ (((h : RequestHead) → ¬ (IsHead text h)) × (v ≡ Refused BadRequest false))
 
--- what the text of a head comes to
-pub record IsVerdict (text : List ℕ) (v : Verdict) : Type 0 where
+-- what the text of a head comes to, where gzip is taken or isn't
+pub record IsVerdict (takes_gzip : Bool) (text : List ℕ) (v : Verdict) : Type 0 where
   pub many : FIELD_LIMIT < field_lines text → v ≡ Refused HeadTooLarge false
-  pub few : field_lines text ≤ FIELD_LIMIT → Judges text v
+  pub few : field_lines text ≤ FIELD_LIMIT → Judges takes_gzip text v
 
 -- the stream begins with a head that comes to this, and the rest follows it
-abbrev pub HeadBy : Cut → List ℕ → Verdict → List ℕ → Type 0
-HeadBy (Whole n) stream v rest = IsVerdict (take n stream) v × (rest ≡ drop n stream)
-HeadBy Waits stream v rest = ⊥
-HeadBy TooLong stream v rest = (v ≡ Refused HeadTooLarge false) × (rest ≡ stream)
+abbrev pub HeadBy : Bool → Cut → List ℕ → Verdict → List ℕ → Type 0
+HeadBy takes_gzip (Whole n) stream v rest = IsVerdict takes_gzip (take n stream) v × (rest ≡ drop n stream)
+HeadBy takes_gzip Waits stream v rest = ⊥
+HeadBy takes_gzip TooLong stream v rest = (v ≡ Refused HeadTooLarge false) × (rest ≡ stream)
 
-abbrev pub BeginsWithHead : List ℕ → Verdict → List ℕ → Type 0
-BeginsWithHead stream v rest = HeadBy (cut head_len stream) stream v rest
+abbrev pub BeginsWithHead : Bool → List ℕ → Verdict → List ℕ → Type 0
+BeginsWithHead takes_gzip stream v rest = HeadBy takes_gzip (cut head_len stream) stream v rest

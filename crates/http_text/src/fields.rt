@@ -1,13 +1,13 @@
 //! What the fields of a head say (RFC 9110, section 5; RFC 9112, section 6). Names and words are compared without
 //! regard to ASCII case.
-ghost use Rattle.std.specs.Prelude.{◌≡◌, ℕ, ◌+◌, ◌<◌, ◌≤◌, ◌==◌, List, [], length, map, All, IfSome, IfNone, codes, is_some, option_copied, Some, None, if◌then◌else◌, nat_le, nat_lt, Option, IsTrue, reverse, ◌^◌, min, suc, position};
+ghost use Rattle.std.specs.Prelude.{◌≡◌, ℕ, ◌+◌, ◌<◌, ◌≤◌, ◌==◌, List, [], length, map, All, IfSome, IfNone, codes, is_some, option_copied, Some, None, if◌then◌else◌, nat_le, nat_lt, Option, IsTrue, reverse, ◌^◌, min, suc, position, not};
 ghost use Rattle.std.specs.List.{before_first};
 ghost use Rattle.std.specs.Str.{str_eq_ignore_ascii_case};
 ghost use Rattle.std.specs.Str.Parse.{digits_value};
 ghost use Rattle.httparse.specs.Ascii.{comma, semicolon};
 ghost use Rattle.httparse.specs.Grammar.{skip_ows, trim_ows};
 ghost use Rattle.httparse.specs.Spans.{IsHeaderWithin, header_bytes};
-ghost use Rattle.http_text.specs.Fields.{values_named, is_number, framing, media_type, is_json, is_plain, has_word, says_close, expects_continue};
+ghost use Rattle.http_text.specs.Fields.{values_named, is_number, framing, media_type, is_json, is_plain, codings, is_gzip, is_packed, is_taken, has, has_word, says_close, expects_continue};
 ghost use Rattle.http_text.specs.Named.{Seen};
 
 use crate::request::{BODY_LIMIT, Framing};
@@ -127,7 +127,7 @@ pub fn is_json(text: &[u8], spans: &[HeaderSpan]) -> bool
 }
 
 /// No `Content-Encoding` but `identity`.
-pub fn is_plain(text: &[u8], spans: &[HeaderSpan]) -> bool
+fn is_plain(text: &[u8], spans: &[HeaderSpan]) -> bool
     requires { All (IsHeaderWithin (length text.now)) spans.now }
     ensures { result ≡ is_plain (map (header_bytes text.now) spans.now) }
 {
@@ -137,6 +137,56 @@ pub fn is_plain(text: &[u8], spans: &[HeaderSpan]) -> bool
             && !eq_ignore_case(span.value.of(text), b"identity");
     }
     !is_coded
+}
+
+/// The coding of the content that isn't `identity`.
+fn find_coding<'b>(text: &'b [u8], spans: &[HeaderSpan]) -> Named<'b>
+    requires { All (IsHeaderWithin (length text.now)) spans.now }
+    ensures { Seen result (codings (map (header_bytes text.now) spans.now)) }
+{
+    let mut found = Named::Absent;
+    for span in spans {
+        if is_coding(span.name.of(text), span.value.of(text)) {
+            found = match found {
+                Named::Absent => Named::One(span.value.of(text)),
+                _ => Named::Many,
+            };
+        }
+    }
+    found
+}
+
+/// The field says a coding that isn't `identity`.
+fn is_coding(name: &[u8], value: &[u8]) -> bool
+    ensures { result ≡ has (codes "content-encoding") (λ value. not (str_eq_ignore_ascii_case value (codes "identity"))) (name.now, value.now) }
+{
+    eq_ignore_case(name, b"content-encoding") && !eq_ignore_case(value, b"identity")
+}
+
+/// `gzip` or `x-gzip`.
+fn is_gzip(coding: &[u8]) -> bool
+    ensures { result ≡ is_gzip coding.now }
+{
+    eq_ignore_case(coding, b"gzip") || eq_ignore_case(coding, b"x-gzip")
+}
+
+/// The one coding of the content is gzip.
+pub fn is_packed(text: &[u8], spans: &[HeaderSpan]) -> bool
+    requires { All (IsHeaderWithin (length text.now)) spans.now }
+    ensures { result ≡ is_packed (map (header_bytes text.now) spans.now) }
+{
+    match find_coding(text, spans) {
+        Named::One(coding) => is_gzip(coding),
+        _ => false,
+    }
+}
+
+/// No coding, or gzip where it is taken.
+pub fn is_taken(takes_gzip: bool, text: &[u8], spans: &[HeaderSpan]) -> bool
+    requires { All (IsHeaderWithin (length text.now)) spans.now }
+    ensures { result ≡ is_taken takes_gzip (map (header_bytes text.now) spans.now) }
+{
+    is_plain(text, spans) || (takes_gzip && is_packed(text, spans))
 }
 
 /// `Expect` says `100-continue`.

@@ -7,7 +7,9 @@ ghost use Rattle.http_text.specs.Lines.{blank_len};
 ghost use Rattle.http_text.specs.Head.{IsHead, IsVerdict, field_lines, verdict_by, refused, routed, posted};
 ghost use Rattle.http_text.specs.Spans.{IsHeadAt};
 
-use crate::fields::{Named, expects_continue, find_named, framing, is_json, is_plain, says_close};
+use crate::fields::{
+    Named, expects_continue, find_named, framing, is_json, is_packed, is_taken, says_close,
+};
 use crate::lines::blank_len;
 use crate::request::{BODY_LIMIT, FIELD_LIMIT, Framing, Post, Refusal, Verdict};
 use httparse::Status;
@@ -37,9 +39,9 @@ fn field_lines(text: &[u8]) -> usize
     lines.saturating_sub(2)
 }
 
-/// What the text of a head comes to.
-pub fn judge(text: &[u8]) -> Verdict
-    ensures { IsVerdict text.now result }
+/// What the text of a head comes to, where packed bodies are taken or aren't.
+pub fn judge(text: &[u8], takes_gzip: bool) -> Verdict
+    ensures { IsVerdict takes_gzip text.now result }
 {
     if field_lines(text) > FIELD_LIMIT {
         return Verdict::Refused {
@@ -52,6 +54,7 @@ pub fn judge(text: &[u8]) -> Verdict
         Some(head) => {
             let fields = &headers[..head.headers];
             verdict_by(
+                takes_gzip,
                 head.method.of(text),
                 head.path.of(text),
                 head.version,
@@ -78,6 +81,7 @@ fn refused(method: &[u8], refusal: Refusal) -> Verdict
 
 /// What a head's parts come to, by the table.
 fn verdict_by(
+    takes_gzip: bool,
     method: &[u8],
     target: &[u8],
     minor: u8,
@@ -85,19 +89,20 @@ fn verdict_by(
     headers: &[HeaderSpan],
 ) -> Verdict
     requires { All (IsHeaderWithin (length text.now)) headers.now }
-    ensures { result ≡ verdict_by method.now target.now minor (map (header_bytes text.now) headers.now) }
+    ensures { result ≡ verdict_by takes_gzip method.now target.now minor (map (header_bytes text.now) headers.now) }
 {
     if minor != 1 || !matches!(find_named(text, headers, b"host"), Named::One(_)) {
         return refused(method, Refusal::BadRequest);
     }
     match framing(text, headers) {
         None => refused(method, Refusal::BadRequest),
-        Some(framed) => routed(method, target, text, headers, framed),
+        Some(framed) => routed(takes_gzip, method, target, text, headers, framed),
     }
 }
 
 /// What a request whose body is framed comes to, by its target and method.
 fn routed(
+    takes_gzip: bool,
     method: &[u8],
     target: &[u8],
     text: &[u8],
@@ -105,7 +110,7 @@ fn routed(
     framed: Framing,
 ) -> Verdict
     requires { All (IsHeaderWithin (length text.now)) headers.now }
-    ensures { result ≡ routed method.now target.now (map (header_bytes text.now) headers.now) framed }
+    ensures { result ≡ routed takes_gzip method.now target.now (map (header_bytes text.now) headers.now) framed }
 {
     let is_post = method == b"POST".as_slice();
     let is_close = target == b"/close".as_slice();
@@ -118,15 +123,21 @@ fn routed(
     if !is_post {
         return refused(method, Refusal::MethodNotAllowed);
     }
-    posted(method, text, headers, framed)
+    posted(takes_gzip, method, text, headers, framed)
 }
 
 /// What a request for traces comes to, by its other fields.
-fn posted(method: &[u8], text: &[u8], headers: &[HeaderSpan], framed: Framing) -> Verdict
+fn posted(
+    takes_gzip: bool,
+    method: &[u8],
+    text: &[u8],
+    headers: &[HeaderSpan],
+    framed: Framing,
+) -> Verdict
     requires { All (IsHeaderWithin (length text.now)) headers.now }
-    ensures { result ≡ posted method.now (map (header_bytes text.now) headers.now) framed }
+    ensures { result ≡ posted takes_gzip method.now (map (header_bytes text.now) headers.now) framed }
 {
-    if !(is_json(text, headers) && is_plain(text, headers)) {
+    if !(is_json(text, headers) && is_taken(takes_gzip, text, headers)) {
         return refused(method, Refusal::UnsupportedMediaType);
     }
     if matches!(framed, Framing::Length(len) if len > BODY_LIMIT) {
@@ -135,6 +146,7 @@ fn posted(method: &[u8], text: &[u8], headers: &[HeaderSpan], framed: Framing) -
     Verdict::Post(Post {
         framing: framed,
         expects_continue: expects_continue(text, headers),
+        is_packed: is_packed(text, headers),
         says_close: says_close(text, headers),
     })
 }

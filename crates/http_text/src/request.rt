@@ -17,10 +17,12 @@ pub enum Refusal {
     NotFound,
     /// 405: not `POST`.
     MethodNotAllowed,
-    /// 415: no `application/json`, or a coding of it.
+    /// 415: no `application/json`, or a coding of it that isn't taken.
     UnsupportedMediaType,
-    /// 413: a body above [`BODY_LIMIT`].
+    /// 413: a body above [`BODY_LIMIT`], as it comes or unpacked.
     BodyTooLarge,
+    /// 400: a body that says to be gzip, and isn't (RFC 1952).
+    NotGzip,
 }
 
 /// How long the body is.
@@ -39,6 +41,8 @@ pub struct Post {
     pub framing: Framing,
     /// It waits for `100 Continue`.
     pub expects_continue: bool,
+    /// The body is packed by gzip (RFC 9110, section 8.4.1.3).
+    pub is_packed: bool,
     /// It asks to close the connection.
     pub says_close: bool,
 }

@@ -2,7 +2,8 @@
 -- No contract rests on it: it shows the definitions on worked cases.
 use Rattle.std.specs.Prelude.{ℕ, Bool, true, false, pos, List, [], ◌∷◌, ◌++◌, map, reverse, length, take, Option, Some, None, ◌≡◌, refl}
 use Rattle.otlp_types.proofs.Samples.{plain_record}
-use Rattle.policy_tree.specs.Tree.{Policies, no_more, one_more, leaf, and_policy, rate_limiting, always_sample, status_code, latency}
+use Rattle.policy_tree.specs.Tree.{Policies, no_more, one_more, leaf, and_policy, rate_limiting}
+use Rattle.policy_tree.specs.declared.policy.Leaf.TheVariants.{AlwaysSample, StatusCode, Latency}
 use Rattle.journal_theory.specs.Journal.{Entry, Settings, Journal, Opening, notes, due_now, are_each_answered}
 use Rattle.journal_theory.specs.Fate.{Fate, waits, is_released, is_counted, effect, output, under, fate}
 use Rattle.trace_buffer.specs.Buffer.{Episode}
@@ -44,10 +45,10 @@ abbrev tick_with : ℕ → List (List Bool) → Entry
 tick_with m answers = record (tick m) { answers = answers }
 
 abbrev errors : Policies
-errors = one_more (leaf (status_code (pos 2 ∷ []))) no_more
+errors = one_more (leaf (StatusCode (pos 2 ∷ []))) no_more
 
 abbrev always : Policies
-always = one_more (leaf always_sample) no_more
+always = one_more (leaf AlwaysSample) no_more
 
 -- two senders, a wait of ten seconds
 abbrev settings : Policies → (limit : Option ℕ) → (sampled non_sampled : ℕ) → Settings
@@ -207,7 +208,7 @@ new_verdict = refl
 
 -- an `and` of a latency of 500 and at most 3 spans a second
 abbrev slow_few : Policies
-slow_few = one_more (and_policy (one_more (leaf (latency 500 0)) (one_more (rate_limiting 3) no_more))) no_more
+slow_few = one_more (and_policy (one_more (leaf (Latency 500 0)) (one_more (rate_limiting 3) no_more))) no_more
 
 abbrev ending : (t n end : ℕ) → Entry
 ending t n end = took (Span (arrival t n 1000 0 0 end))

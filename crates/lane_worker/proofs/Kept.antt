@@ -1,5 +1,5 @@
 -- What is served and pushed leaves a lane's ports the ends of the same queues.
--- For the clauses `same_queues` of `serve_next`, `serve_all` and `work`.
+-- For the clauses `same_queues` of `serve_next`, `serve_all` and `work`, and of the `serve_all` of `ByTurns`.
 use Rattle.std.proofs.Common.{◌≡◌, ℕ, List, [], ◌∷◌, length, Option, Some, None, sym, refl, ap, ◌∙◌, subst, ⊎_elim}
 use Rattle.otlp_types.specs.declared.span.Ids.{Ids}
 use Rattle.otlp_types.specs.declared.arrival.Arrival.{Arrival}
@@ -11,8 +11,9 @@ use Rattle.lane_seq.specs.declared.reply.Reply.{Reply}
 use Rattle.lane_seq.specs.declared.reply.Reply.TheVariants.{Done, Partial, BadData, Busy}
 use Rattle.lane_seq.specs.Replies.{OnReceived, IsRefusal}
 use Rattle.lane_seq.specs.Pushes.{LaneState, TakesAt, RefusesAt, PushesOne, PushesAll}
-use Rattle.http_lane.specs.Connection.{Submission, SubmitsAll}
-use Rattle.http_lane.specs.Intake.{Intake, Submits}
+use Rattle.http_lane.specs.Connection.{Submission, SubmitsAll, submissions}
+use Rattle.http_lane.specs.Intake.{Intake, intake, connected, Submits}
+use Rattle.lane_turns.specs.Acts.{Act, took, had, LaneNow, lane_now, conn_of, LaneDid}
 
 module _ (capacity : ℕ) where
   one : (ids : Option Ids) (item : Item) (old new : List (EndState Item)) (refused : ℕ) → PushesOne (TakesItem capacity) (IsRefused capacity) ids item old refused new → queues new ≡ queues old
@@ -38,3 +39,10 @@ module _ (capacity : ℕ) where
   pub kept : (ss : List Submission) (old new : Intake (EndState Item)) → SubmitsAll (Submits (TakesItem capacity) (IsRefused capacity)) old ss new → queues new.lane.ports ≡ queues old.lane.ports
   kept [] old new p = ap (λ (i : Intake (EndState Item)). queues i.lane.ports) p
   kept (s ∷ ss) old new p = kept ss p.0 new p.2 ∙ submits old p.0 s p.1
+
+  -- the turns of many connections
+  pub turns_kept : (number : ℕ) (acts : List Act) (old new : LaneNow (EndState Item)) → LaneDid (Submits (TakesItem capacity) (IsRefused capacity)) number old acts new → queues new.lane.ports ≡ queues old.lane.ports
+  turns_kept number [] old new d = ap (λ (l : LaneNow (EndState Item)). queues l.lane.ports) d
+  turns_kept number (took ordinal moment ∷ acts) old new d = turns_kept number acts (lane_now (connected old.lane) old.counted) new d.1
+  turns_kept number (had ordinal before after t ∷ acts) old new d =
+      turns_kept number acts d.0 new d.2 ∙ kept (submissions t.events) (intake old.lane (conn_of number ordinal before) old.counted) (intake d.0.lane (conn_of number ordinal after) d.0.counted) d.1

@@ -1,4 +1,4 @@
--- What a lane's thread did: the connections that its feed gave were served, one after the other.
+-- What a lane's thread did: the connections that its feed gave were served, one after the other; or many at once, turn by turn.
 use Rattle.std.specs.Prelude.{◌≡◌, ◌⊎◌, ℕ, ◌-◌, ◌^◌, ◌<◌, Bool, true, false, MatchBool, List, [], ◌∷◌, Option, Some, None}
 use Rattle.otlp_types.specs.declared.arrival.Item.{Item}
 use Rattle.otlp_types.specs.declared.arrival.Item.TheVariants.{End}
@@ -9,6 +9,7 @@ use Rattle.http_lane.specs.declared.answer.ServeEnd.{ServeEnd}
 use Rattle.http_lane.specs.declared.answer.ServeEnd.TheVariants.{BookFull}
 use Rattle.http_lane.specs.Engine.{KnownReader, Served}
 use Rattle.http_lane.specs.Intake.{Submits, intake, first_conn, connected}
+use Rattle.lane_turns.specs.Acts.{LaneNow, lane_now, ServesTurns}
 
 -- what was known of a connection's reader and writer when the feed gave it
 pub record Connection : Type 0 where
@@ -18,13 +19,12 @@ pub record Connection : Type 0 where
 abbrev pub connection : KnownReader → Option (List ℕ) → Connection
 connection reader written = record { reader = reader; written = written }
 
--- a lane, and what it counted
-pub record LaneAt : Type 0 where
-  pub lane : LaneState (EndState Item)
-  pub counted : List ℕ
+-- a lane between threads, and what it counted
+abbrev pub LaneAt : Type 0
+LaneAt = LaneNow (EndState Item)
 
 abbrev pub lane_at : LaneState (EndState Item) → List ℕ → LaneAt
-lane_at lane counted = record { lane = lane; counted = counted }
+lane_at lane counted = lane_now lane counted
 
 -- the connection ended because a count would have passed 2^64-1
 abbrev pub is_book_full : ServeEnd → Bool
@@ -51,6 +51,10 @@ module _ {F X : Type 0} (gives : F → Option X → F → Type 0) (known : X →
   -- there are connections of which that is so
   abbrev pub HasServed : (old : F) → (before : LaneAt) → (new : F) → (after : LaneAt) → (is_full : Bool) → Type 0
   HasServed old before new after is_full = (given : List X) × ServesAll given old before new after is_full
+
+-- many connections were served at once, turn by turn, by a lane whose queues may hold so many items
+abbrev pub ServesMany : (takes_gzip : Bool) → (capacity : ℕ) → (before after : LaneAt) → (is_full : Bool) → Type 0
+ServesMany takes_gzip capacity before after is_full = ServesTurns (Submits (TakesItem capacity) (IsRefused capacity)) takes_gzip before after is_full
 
 -- the end after an End of this number was pushed there
 abbrev pub with_end : (number : ℕ) → EndState Item → EndState Item

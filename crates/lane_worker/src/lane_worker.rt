@@ -4,6 +4,7 @@ ghost use Rattle.lane_queue.specs.Ends.{EndState, queues};
 ghost use Rattle.lane_worker.specs.Serving.{LaneAt, connection, lane_at, ServedOne, HasServed, is_book_full, with_end};
 
 use crate::feed::Feed;
+use crate::lane_server::LaneServer;
 use drop_ledger::Counter;
 use http_lane::{Clock as MomentClock, ServeEnd, Source, Stop, serve};
 use lane_queue::{Gate, Place, Room, Sender, SenderPort};
@@ -23,16 +24,24 @@ pub struct LaneEnd<C: Room> {
     pub is_full: bool,
 }
 
-/// Serves what the feed gives until it gives nothing, and then pushes the lane's End to each shard. After 2^64-1
-/// connections, or once a count would have passed 2^64-1, no further connection is asked for. `number` is the lane's, and
-/// `room` has room for its ends by shard.
-pub fn work<'r, F: Feed, C: Room, K: Counter, G: Gate, S: Stop, M: MomentClock, R: Wait + Clock>(
+/// Serves the lane's connections, and then pushes the lane's End to each shard. `number` is the lane's, and `room` has room
+/// for its ends by shard.
+pub fn work<
+    'r,
+    V: LaneServer,
+    C: Room,
+    K: Counter,
+    G: Gate,
+    S: Stop,
+    M: MomentClock,
+    R: Wait + Clock,
+>(
     rt: &'r R,
     alloc: Global,
     number: u16,
     lane: Lane<SenderPort<'r, Item, C, R>>,
     room: Vec<Sender<Item, C>>,
-    feed: &mut F,
+    server: &mut V,
     counter: &mut K,
     gate: &G,
     stop: &S,
@@ -40,15 +49,14 @@ pub fn work<'r, F: Feed, C: Room, K: Counter, G: Gate, S: Stop, M: MomentClock, 
 ) -> LaneEnd<C>
     requires number { lane.number ≡ number }
     requires room { (room.items ≡ []) × (length lane.ports ≤ vec_capacity room) }
-    ensures works { (after : LaneAt) × HasServed F.gives (λ x. connection (F.Reader.given x.0) (F.Writer.contents x.1)) C.capacity
-        feed.old (lane_at lane.entry (K.counted counter.old)) feed.new after result.is_full
+    ensures works { (after : LaneAt) × V.serves C.capacity server.old (lane_at lane.entry (K.counted counter.old)) server.new after result.is_full
         × (after.counted ≡ K.counted counter.new)
         × (result.senders.items ≡ map (with_end number) after.lane.ports) }
     ensures same_queues { queues result.senders.items ≡ queues lane.entry.ports }
 {
     let mut lane = lane;
-    let is_full = serve_all(
-        rt, alloc, number, &mut lane, feed, counter, gate, stop, clock,
+    let is_full = server.serve_all(
+        rt, alloc, number, &mut lane, counter, gate, stop, clock,
     );
     let senders = end_all(rt, number, lane.end().ports, room);
     LaneEnd { senders, is_full }
@@ -73,8 +81,9 @@ fn end_all<'r, C: Room, R: Wait + Clock>(
     senders
 }
 
-/// Serves what the feed gives, and says whether a count would have passed 2^64-1.
-fn serve_all<'r, F: Feed, C: Room, K: Counter, G: Gate, S: Stop, M: MomentClock, R: Wait + Clock>(
+/// Serves what the feed gives until it gives nothing, one connection after the other, and says whether a count would have
+/// passed 2^64-1. After 2^64-1 connections, or once a count would have passed that, no further connection is asked for.
+pub fn serve_all<'r, F: Feed, C: Room, K: Counter, G: Gate, S: Stop, M: MomentClock, R: Wait + Clock>(
     rt: &R,
     alloc: Global,
     number: u16,

@@ -1,13 +1,16 @@
 //! A lane and the ticker, each on a thread of its own: what their threads do, and what they promise of it.
 //!
-//! [`work`] serves the connections that a [`Feed`] gives, one after the other, until the feed gives none, and then pushes
-//! the lane's `End` to each shard. [`tick`] pushes the moments that [`Ticks`] give to every shard, and then its own `End`.
+//! [`work`] has a [`LaneServer`] serve the lane's connections, and then pushes the lane's `End` to each shard. [`OneByOne`]
+//! serves the connections that a [`Feed`] gives, one after the other; [`ByTurns`] serves many at once, as a
+//! `lane_turns::Driver` says. [`tick`] pushes the moments that [`Ticks`] give to every shard, and then its own `End`.
 #![tactic(auto)]
 
 mod feed;
+mod lane_server;
 mod lane_worker;
 mod ticker;
 
 pub use feed::{Feed, Ticks};
+pub use lane_server::{ByTurns, LaneServer, OneByOne};
 pub use lane_worker::{LaneEnd, work};
 pub use ticker::tick;

@@ -2,7 +2,8 @@
 use Rattle.std.specs.Prelude.{◌≡◌, ℕ, ◌+◌, ◌/◌, ◌<◌, Bool, false, List, [], Option, Some, Result, Ok, Err}
 use Rattle.drop_ledger.specs.Sums.{Fits}
 use Rattle.drop_ledger.specs.declared.report.Report.{Report}
-use Rattle.lane_worker.specs.Serving.{Connection}
+use Rattle.otlp_types.specs.declared.arrival.Arrival.{Arrival}
+use Rattle.lane_worker.specs.Serving.{LaneAt}
 use Rattle.policy_tree.specs.declared.limiter_node.LimiterNode.{LimiterNode}
 use Rattle.policy_tree.specs.Meaning.{meaning}
 use Rattle.policy_tree.specs.Tree.{limiters}
@@ -17,6 +18,7 @@ use Rattle.run_weave.specs.Workers.{Given, Left, Worked, any_full, parts_of}
 use Rattle.run_weave.specs.Ran.{ThreadsRan, Ran, Reports, CountPasses}
 use Rattle.pipeline.specs.declared.fault.RunFault.{RunFault}
 use Rattle.pipeline.specs.declared.fault.RunFault.TheVariants.{NoMemory, BookFull, SinkDown}
+use Rattle.pipeline.specs.Outcome.{TellsCounts, TellsSink}
 
 -- the core's configuration: each shard has its share of the traces and of the caches
 abbrev pub core_of : Config → CoreConfig
@@ -49,23 +51,42 @@ AnswerTells IsSuch IsBeyond taken failures taken_after failures_after (Err (Sink
 AnswerTells IsSuch IsBeyond taken failures taken_after failures_after (Err NoMemory) = Unit {0}
 AnswerTells IsSuch IsBeyond taken failures taken_after failures_after (Err BookFull) = (is_down : Bool) × IsBeyond (up_state taken failures) (record { taken = taken_after; failures = failures_after; is_down = is_down })
 
-module _ {F X T : Type 0} (gives : F → Option X → F → Type 0) (known : X → Connection) (ticks_give : T → Option ℕ → T → Type 0) (config : Config) (feeds : List F) (ticks : T) where
+module _ {F T : Type 0} (serves : ℕ → F → LaneAt → F → LaneAt → Bool → Type 0) (ticks_give : T → Option ℕ → T → Type 0) (config : Config) (servers : List F) (ticks : T) where
   -- all threads did what each promises, and their queues and seats were joined again; each counted these numbers, and where one stopped counting `is_full` says so
   pub record HasWorked (old new : ExporterState) (counts : List (List ℕ)) (is_full : Bool) : Type 0 where
     pub given : Given F T
     pub left : Left
-    pub worked : Worked gives known ticks_give (settings_for (core_of config) (config.lanes + 1)) (nodes_of config) config.queue_capacity config.export_capacity config.lanes config.shards given left
-    pub feeds_are : given.feeds ≡ feeds
+    pub worked : Worked serves ticks_give (settings_for (core_of config) (config.lanes + 1)) (nodes_of config) config.queue_capacity config.export_capacity config.lanes config.shards given left
+    pub feeds_are : given.feeds ≡ servers
     pub ticks_are : given.ticks ≡ ticks
     pub exporter_is : given.exporter ≡ old
     pub exporter_left : left.exporter.exporter ≡ new
     pub counted : counts ≡ parts_of left
     pub full : is_full ≡ any_full left
 
+  -- what an answer tells of threads that did so: the sums of what they counted, and whether the sink is down; where there was no memory at the start none did anything
+  abbrev pub WorkedTells : (old new : ExporterState) → Result Report RunFault → Type 0
+  WorkedTells old new (Ok report) = (counts : List (List ℕ)) × (is_full : Bool) × HasWorked old new counts is_full × TellsSink {A = Report} new.sink.is_down (Ok report) × TellsCounts is_full counts (Ok report)
+  WorkedTells old new (Err NoMemory) = Unit {0}
+  WorkedTells old new (Err BookFull) = (counts : List (List ℕ)) × (is_full : Bool) × HasWorked old new counts is_full × TellsSink {A = Report} new.sink.is_down (Err BookFull) × TellsCounts is_full counts (Err BookFull)
+  WorkedTells old new (Err (SinkDown report)) = (counts : List (List ℕ)) × (is_full : Bool) × HasWorked old new counts is_full × TellsSink {A = Report} new.sink.is_down (Err (SinkDown report)) × TellsCounts is_full counts (Err (SinkDown report))
+
+  -- the same by the sink's bytes and failures, before and after
+  pub record ServersTell (taken : Option (List ℕ)) (failures : ℕ) (taken_after : Option (List ℕ)) (failures_after : ℕ) (answer : Result Report RunFault) : Type 0 where
+    pub old : ExporterState
+    pub new : ExporterState
+    pub size : old.size ≡ config.send_batch_size
+    pub first : old.sink ≡ up_state taken failures
+    pub taken_is : new.sink.taken ≡ taken_after
+    pub failures_are : new.sink.failures ≡ failures_after
+    pub tells : WorkedTells old new answer
+
+module _ {F T : Type 0} (receives : ℕ → F → LaneAt → List Arrival → F → LaneAt → List Arrival → Bool → Type 0) (ticks_give : T → Option ℕ → T → Type 0) (config : Config) (servers : List F) (ticks : T) where
+
   -- what the threads did is a run of the core, for which the headline holds; the report and the sink tell of it
   pub record IsRun (old new : LineSinkState) (report : List ℕ) : Type 0 where
-    pub ran : Ran gives known ticks_give (core_of config) (nodes_of config) config.queue_capacity config.lanes config.shards feeds ticks old new
-    -- each feed was asked until it ended
+    pub ran : Ran receives ticks_give (core_of config) (nodes_of config) config.queue_capacity config.lanes config.shards servers ticks old new
+    -- each lane's connections were served to their end
     pub none_stopped : (lane : ℕ) → lane < config.lanes → ran.stopped lane ≡ false
     -- no count passes 2^64-1
     pub reports : Reports (core_of config) config.lanes config.shards ran.threads ran.end report
@@ -74,7 +95,7 @@ module _ {F X T : Type 0} (gives : F → Option X → F → Type 0) (known : X �
 
   -- the same of a run some of whose counts passes 2^64-1, so that there is no report of it
   pub record IsRunBeyond (old new : LineSinkState) : Type 0 where
-    pub ran : Ran gives known ticks_give (core_of config) (nodes_of config) config.queue_capacity config.lanes config.shards feeds ticks old new
+    pub ran : Ran receives ticks_give (core_of config) (nodes_of config) config.queue_capacity config.lanes config.shards servers ticks old new
     pub passes : CountPasses (core_of config) config.lanes config.shards ran.threads ran.end
     pub holds : HoldsOfThreads (core_of config) config.lanes config.shards ran.threads ran.end
 

@@ -7,7 +7,7 @@ use http_lane::{Clock as MomentClock, Stop};
 use job_threads::Job;
 use lane_queue::{Gate, Room, Sender, SenderPort};
 use lane_seq::Lane;
-use lane_worker::Feed;
+use lane_worker::LaneServer;
 use otlp_types::Item;
 use std::alloc::Global;
 use std::sync::Wait;
@@ -15,11 +15,11 @@ use std::time::Clock;
 
 /// What a lane's thread is given. Its lane has the lane's number, and `room` has room for the lane's ends.
 #[derive(Drop)]
-pub struct LaneJob<'s, F, C: Room, G, P, M, R: Wait> {
+pub struct LaneJob<'s, V, C: Room, G, P, M, R: Wait> {
     pub rt: &'s R,
     pub alloc: Global,
     pub number: u16,
-    pub feed: F,
+    pub feed: V,
     pub lane: Lane<SenderPort<'s, Item, C, R>>,
     pub room: Vec<Sender<Item, C>>,
     pub gate: &'s G,
@@ -38,10 +38,9 @@ pub struct LaneLeft<C: Room> {
     pub is_full: bool,
 }
 
-impl<'s, F: Feed + Drop, C: Room, G: Gate, P: Stop, M: MomentClock, R: Wait + Clock> Job
-    for LaneJob<'s, F, C, G, P, M, R> {
+impl<'s, V: LaneServer + Drop, C: Room, G: Gate, P: Stop, M: MomentClock, R: Wait + Clock> Job
+    for LaneJob<'s, V, C, G, P, M, R> {
     ghost use Rattle.std.specs.Prelude.{◌≡◌, ◌≤◌, [], length, vec_capacity};
-    ghost use Rattle.lane_worker.specs.Serving.{connection};
     ghost use Rattle.run_weave.specs.Jobs.{LaneDid};
     ghost use Rattle.run_weave.specs.Workers.{zeros};
 
@@ -49,7 +48,7 @@ impl<'s, F: Feed + Drop, C: Room, G: Gate, P: Stop, M: MomentClock, R: Wait + Cl
 
     ghost ready = { λ job. (job.lane.number ≡ job.number) × (job.room.items ≡ []) × (length job.lane.ports ≤ vec_capacity job.room) };
 
-    ghost did = { λ job left. LaneDid F.gives (λ x. connection (F.Reader.given x.0) (F.Writer.contents x.1)) C.capacity
+    ghost did = { λ job left. LaneDid V.serves C.capacity
         job.number job.feed job.lane zeros left.senders.items left.counts left.is_full };
 
     fn work(self) -> LaneLeft<C> {

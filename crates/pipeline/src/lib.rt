@@ -1,7 +1,8 @@
 //! A running collector: a thread for each lane, each shard and the ticker, and the exporter on the caller's.
 //!
-//! [`run`] makes all that the threads need, runs them as one team of jobs, gathers what they leave, and joins their
-//! queues and seats again: what they did is a run of the core (`specs/Promise`).
+//! [`run`] (over feeds, one connection after the other) and [`run_by_turns`] (many at once) make all that the threads need, run
+//! them as one team of jobs, gather what they leave, and join their queues and seats again: what they did is a run of the
+//! core (`specs/Promise`).
 #![tactic(auto)]
 
 mod exporter_job;
@@ -18,4 +19,4 @@ mod shards;
 mod ticker_job;
 
 pub use fault::RunFault;
-pub use running::run;
+pub use running::{run, run_by_turns};

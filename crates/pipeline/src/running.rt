@@ -1,11 +1,11 @@
 //! A run: all threads are started, or none does anything; the exporter works on the caller's.
-ghost use Rattle.std.specs.Prelude.{◌≡◌, ◌-◌, ◌^◌, ◌<◌, ◌≤◌, [], false, length, vec_len, IfErr, IfOk};
+ghost use Rattle.std.specs.Prelude.{◌≡◌, ◌-◌, ◌^◌, ◌<◌, ◌≤◌, [], false, length, map, vec_len, IfErr, IfOk};
 ghost use Rattle.std.specs.List.{list_any};
 ghost use Rattle.lane_worker.specs.Serving.{connection};
-ghost use Rattle.span_sink.specs.LineSinks.{up_state};
+ghost use Rattle.run_weave.specs.Received.{receives_one_by_one, receives_by_turns};
 ghost use Rattle.pipeline.specs.Made.{CanRun};
 ghost use Rattle.pipeline.specs.Outcome.{SinkAnswers, SinkWent, TellsCounts, TellsSink};
-ghost use Rattle.pipeline.specs.Promise.{HasWorked, RunTells};
+ghost use Rattle.pipeline.specs.Promise.{HasWorked, WorkedTells, ServersTell, RunTells};
 ghost use Rattle.tsc_config.specs.declared.config.Config.{Config};
 
 use crate::exporter_job::ExporterJob;
@@ -18,11 +18,12 @@ use drop_ledger::{Report, total};
 use http_lane::{Clock as MomentClock, Stop};
 use job_threads::run_team;
 use lane_queue::{Gate, Room};
-use lane_worker::{Feed, Ticks};
+use lane_turns::Driver;
+use lane_worker::{ByTurns, Feed, LaneServer, OneByOne, Ticks};
 use shared_budget::asked_seats_may_be_compared;
 use span_exporter::{Exporter, sink_takes_lines};
 use span_sink::{LineSink, Sink, takes_handed_lines};
-use std::alloc::Global;
+use std::alloc::{AllocError, Global};
 use std::marker::Brand;
 use std::sync::Wait;
 use std::thread::Threads;
@@ -32,8 +33,9 @@ use tsc_config::Config;
 /// Runs the pipeline until every feed and the ticks have ended, and gives the sink back: a thread for each lane, each shard
 /// and the ticker, and the exporter on this one.
 ///
-/// There is one feed for each lane. `gate`, `stop` and `clock` are lent to all lanes, the gate to the shards too. The sink
-/// has the lines of the batches that were handed over; the report has the counts of all threads.
+/// There is one feed for each lane, which serves its connections one after the other. `gate`, `stop` and `clock` are lent to
+/// all lanes, the gate to the shards too. The sink has the lines of the batches that were handed over; the report has the
+/// counts of all threads.
 pub fn run<
     F: Feed + Send + Drop,
     T: Ticks + Send + Drop,
@@ -66,22 +68,107 @@ where
     requires feeds { vec_len feeds ≡ config.lanes }
     requires failures { S.failures sink < 2 ^ 64 - 1 }
     ensures sink { SinkAnswers (S.taken sink) (S.failures sink) (S.taken result.0) (S.failures result.0) result.1 }
-    ensures ran { RunTells F.gives (λ x. connection (F.Reader.given x.0) (F.Writer.contents x.1)) T.gives config feeds.items ticks (S.taken sink) (S.failures sink) (S.taken result.0) (S.failures result.0) result.1 }
+    ensures ran { RunTells (receives_one_by_one (λ (s : OneByOne F). s.feed) F.gives (λ x. connection (F.Reader.given x.0) (F.Writer.contents x.1))) T.gives config (map (λ f. record { feed = f }) feeds.items) ticks (S.taken sink) (S.failures sink) (S.taken result.0) (S.failures result.0) result.1 }
+{
+    match one_by_one(alloc, feeds) {
+        Ok(servers) => run_servers(rt, alloc, config, servers, ticks, sink, gate, stop, clock),
+        Err(_) => (sink, Err(RunFault::NoMemory)),
+    }
+}
+
+/// What serves the connections of each feed.
+fn one_by_one<F: Drop>(alloc: Global, feeds: Vec<F>) -> Result<Vec<OneByOne<F>>, AllocError>
+    ensures { IfOk result (λ servers. servers.items ≡ map (λ f. record { feed = f }) feeds.items) }
+{
+    let mut servers = Vec::with_capacity(alloc, feeds.len())?;
+    for feed in feeds {
+        servers.push_reserved(OneByOne { feed });
+    }
+    Ok(servers)
+}
+
+/// The same where each lane serves many connections at once, turn by turn, as its driver says. There is one driver for each
+/// lane.
+pub fn run_by_turns<
+    D: Driver + Send + Drop,
+    T: Ticks + Send + Drop,
+    S: Sink + Drop,
+    G: Gate + Sync,
+    P: Stop + Sync,
+    M: MomentClock + Sync,
+    R: Threads + Wait + Clock + Sync,
+>(
+    rt: &R,
+    alloc: Global,
+    config: Config,
+    drivers: Vec<ByTurns<D>>,
+    ticks: T,
+    sink: S,
+    gate: &G,
+    stop: &P,
+    clock: &M,
+) -> (S, Result<Report, RunFault>)
+    requires waits { 0 < config.decision_wait }
+    requires lanes { 0 < config.lanes }
+    requires shards { (0 < config.shards) × (config.shards ≤ 64) }
+    requires traces { config.shards ≤ config.num_traces }
+    requires queue { 0 < config.queue_capacity }
+    requires export { 0 < config.export_capacity }
+    requires batch { 0 < config.send_batch_size }
+    requires drivers { vec_len drivers ≡ config.lanes }
+    requires failures { S.failures sink < 2 ^ 64 - 1 }
+    ensures sink { SinkAnswers (S.taken sink) (S.failures sink) (S.taken result.0) (S.failures result.0) result.1 }
+    ensures ran { RunTells (receives_by_turns (λ (s : ByTurns D). s.takes_gzip)) T.gives config drivers.items ticks (S.taken sink) (S.failures sink) (S.taken result.0) (S.failures result.0) result.1 }
+{
+    run_servers(rt, alloc, config, drivers, ticks, sink, gate, stop, clock)
+}
+
+/// The same, whatever serves the lanes' connections.
+fn run_servers<
+    V: LaneServer + Send + Drop,
+    T: Ticks + Send + Drop,
+    S: Sink + Drop,
+    G: Gate + Sync,
+    P: Stop + Sync,
+    M: MomentClock + Sync,
+    R: Threads + Wait + Clock + Sync,
+>(
+    rt: &R,
+    alloc: Global,
+    config: Config,
+    servers: Vec<V>,
+    ticks: T,
+    sink: S,
+    gate: &G,
+    stop: &P,
+    clock: &M,
+) -> (S, Result<Report, RunFault>)
+    requires waits { 0 < config.decision_wait }
+    requires lanes { 0 < config.lanes }
+    requires shards { (0 < config.shards) × (config.shards ≤ 64) }
+    requires traces { config.shards ≤ config.num_traces }
+    requires queue { 0 < config.queue_capacity }
+    requires export { 0 < config.export_capacity }
+    requires batch { 0 < config.send_batch_size }
+    requires servers { vec_len servers ≡ config.lanes }
+    requires failures { S.failures sink < 2 ^ 64 - 1 }
+    ensures sink { SinkAnswers (S.taken sink) (S.failures sink) (S.taken result.0) (S.failures result.0) result.1 }
+    ensures ran { ServersTell V.serves T.gives config servers.items ticks (S.taken sink) (S.failures sink) (S.taken result.0) (S.failures result.0) result.1 }
 {
     let lines = LineSink::new(sink);
     let exporter = match Exporter::new(alloc, config.send_batch_size, config.shards, lines) {
         Ok(exporter) => exporter,
         Err((lines, _)) => return (lines.end(), Err(RunFault::NoMemory)),
     };
-    let (exporter, answer) = run_in::<F, T, S, G, P, M, Brand, Brand, R>(
-        rt, alloc, &config, feeds, ticks, exporter, gate, stop, clock,
+    let (exporter, answer) = run_in::<V, T, S, G, P, M, Brand, Brand, R>(
+        rt, alloc, &config, servers, ticks, exporter, gate, stop, clock,
     );
     (exporter.end().end(), answer)
 }
 
 /// Runs the threads, and answers the report.
 fn run_in<
-    F: Feed + Send + Drop,
+    V: LaneServer + Send + Drop,
     T: Ticks + Send + Drop,
     S: Sink + Drop,
     G: Gate + Sync,
@@ -94,22 +181,19 @@ fn run_in<
     rt: &R,
     alloc: Global,
     config: &Config,
-    feeds: Vec<F>,
+    servers: Vec<V>,
     ticks: T,
     exporter: Exporter<S>,
     gate: &G,
     stop: &P,
     clock: &M,
 ) -> (Exporter<S>, Result<Report, RunFault>)
-where
-    F::Reader: Send,
-    F::Writer: Send,
     requires runs { CanRun config.now C.capacity D.capacity }
-    requires feeds { vec_len feeds ≡ config.now.lanes }
+    requires servers { vec_len servers ≡ config.now.lanes }
     requires new_exporter { (exporter.batch ≡ []) × (0 < exporter.size) × (list_any (λ ended. ended) exporter.ends ≡ false) × (exporter.sink.is_down ≡ false) }
     requires exporter_is { (exporter.size ≡ config.now.send_batch_size) × (length exporter.ends ≡ config.now.shards) }
     ensures sink { SinkAnswers exporter.sink.taken exporter.sink.failures result.0.sink.taken result.0.sink.failures result.1 }
-    ensures ran { RunTells F.gives (λ x. connection (F.Reader.given x.0) (F.Writer.contents x.1)) T.gives config.now feeds.items ticks exporter.sink.taken exporter.sink.failures result.0.sink.taken result.0.sink.failures result.1 }
+    ensures ran { WorkedTells V.serves T.gives config.now servers.items ticks exporter result.0 result.1 }
 {
     let lent = Lent {
         rt,
@@ -118,7 +202,7 @@ where
         stop,
         clock,
     };
-    match run_over::<F, T, S, G, P, M, C, D, R>(&lent, config, feeds, ticks, exporter) {
+    match run_over::<V, T, S, G, P, M, C, D, R>(&lent, config, servers, ticks, exporter) {
         Ok((exporter, counted)) => {
             let answer = answer_of(&counted, exporter.is_down());
             (exporter, answer)
@@ -146,7 +230,7 @@ fn answer_of(counted: &Counted, is_down: bool) -> Result<Report, RunFault>
 /// where there was no memory, or a thread couldn't be started: then none has done anything.
 fn run_over<
     's,
-    F: Feed + Send + Drop,
+    V: LaneServer + Send + Drop,
     T: Ticks + Send + Drop,
     S: Sink + Drop,
     G: Gate + Sync,
@@ -158,22 +242,19 @@ fn run_over<
 >(
     lent: &Lent<'s, G, P, M, R>,
     config: &Config,
-    feeds: Vec<F>,
+    servers: Vec<V>,
     ticks: T,
     exporter: Exporter<S>,
 ) -> Result<(Exporter<S>, Counted), Exporter<S>>
-where
-    F::Reader: Send,
-    F::Writer: Send,
     requires runs { CanRun config.now C.capacity D.capacity }
-    requires feeds { vec_len feeds ≡ config.now.lanes }
+    requires servers { vec_len servers ≡ config.now.lanes }
     requires new_exporter { (exporter.batch ≡ []) × (0 < exporter.size) × (list_any (λ ended. ended) exporter.ends ≡ false) × (exporter.sink.is_down ≡ false) }
     requires exporter_ends { length exporter.ends ≡ config.now.shards }
-    ensures worked { IfOk result (λ ran. HasWorked F.gives (λ x. connection (F.Reader.given x.0) (F.Writer.contents x.1)) T.gives config.now feeds.items ticks exporter ran.0 ran.1.counts.items ran.1.is_full) }
+    ensures worked { IfOk result (λ ran. HasWorked V.serves T.gives config.now servers.items ticks exporter ran.0 ran.1.counts.items ran.1.is_full) }
     ensures sink { IfOk result (λ ran. SinkWent exporter.sink ran.0.sink) }
     ensures back { IfErr result (λ back. back ≡ exporter) }
 {
-    let Ok(made) = make::<F, T, C, D, G, P, M, R>(lent, config, feeds, ticks) else {
+    let Ok(made) = make::<V, T, C, D, G, P, M, R>(lent, config, servers, ticks) else {
         return Err(exporter);
     };
     let Made {

@@ -14,7 +14,7 @@ fn feed_and_ticks_end(rt: HostRuntime) -> Result<(), Fail> {
     let listener = listen(&rt, "127.0.0.1:0")?;
     let stop = StopMark::new();
     stop.set();
-    let mut connections = Connections::new(&listener, &stop);
+    let mut connections = Connections::new(&listener, &stop, false);
     assert!(rt; connections.next(&rt).is_none());
     let clock = WallClock::new(&rt);
     let mut ticker = Ticker::new(60_000, &clock, &stop);
@@ -22,13 +22,14 @@ fn feed_and_ticks_end(rt: HostRuntime) -> Result<(), Fail> {
     Ok(())
 }
 
-/// A read of a connection waits a tenth of a second, a write thirty seconds, and answers go out at once.
+/// A read of a connection waits a tenth of a second, a write thirty seconds, answers go out at once, and packed bodies are
+/// taken where they were to be.
 #[test]
 fn reads_and_writes_wait_only_so_long(rt: HostRuntime) -> Result<(), Fail> {
     let listener = listen(&rt, "127.0.0.1:0")?;
     let _client = TcpStream::connect(&rt, listener.local_addr()?)?;
     let stop = StopMark::new();
-    let Some((reads, writer)) = Connections::new(&listener, &stop).next(&rt) else {
+    let Some((reads, writer)) = Connections::new(&listener, &stop, true).next(&rt) else {
         return Err(Fail::from("no connection"));
     };
     assert_eq!(rt;
@@ -37,6 +38,7 @@ fn reads_and_writes_wait_only_so_long(rt: HostRuntime) -> Result<(), Fail> {
     );
     assert_eq!(rt; writer.write_timeout()?, Some(Duration::from_secs(30)));
     assert!(rt; writer.nodelay()?);
+    assert!(rt; reads.takes_gzip);
     Ok(())
 }
 

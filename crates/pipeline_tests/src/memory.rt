@@ -65,7 +65,11 @@ impl Feed for MemoryFeed {
 
     fn next<R: Wait + Clock>(&mut self, _rt: &R) -> Option<(Reads<Held>, Vec<u8>)> {
         let reader = self.connections.pop()?;
-        Some((Reads { reader }, Vec::new(self.alloc)))
+        let reads = Reads {
+            reader,
+            takes_gzip: false,
+        };
+        Some((reads, Vec::new(self.alloc)))
     }
 }
 

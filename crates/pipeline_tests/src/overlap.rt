@@ -14,6 +14,7 @@ use std::sync::atomic::AtomicBool;
 use std::test::Fail;
 use std::thread::Threads;
 use std::time::Clock;
+use tsc_config::laws::settings_are_of_their_keys;
 use tsc_config::{Config, ConfigFault, read};
 
 /// A trace of shard 0 of two, and one of shard 1.
@@ -63,7 +64,10 @@ pub fn configured(alloc: Global, text: &str) -> Result<Config, Fail>
     ensures { IfOk result InRange }
 {
     match read(alloc, text) {
-        Ok(config) => Ok(config),
+        Ok(config) => {
+            settings_are_of_their_keys();
+            Ok(config)
+        }
         Err(ConfigFault::NoMemory) => Err(Fail::from(AllocError)),
         Err(_) => Err(Fail::from("configuration")),
     }

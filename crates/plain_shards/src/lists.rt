@@ -1,6 +1,6 @@
 //! Lists of one policy.
 use otlp_types::{List, Text};
-use policy_tree::{Policies, Policy, PolicyKind};
+use policy_tree::{Leaf, Policies, Policy, PolicyKind};
 use std::alloc::{AllocError, Global};
 
 /// One policy of this kind. `AllocError` where the policy is refused, too.
@@ -18,10 +18,10 @@ pub fn one_policy(alloc: Global, kind: PolicyKind) -> Result<Policies, AllocErro
 /// One policy: on this status code, or one that samples each trace.
 pub fn policy_on(alloc: Global, code: Option<i32>) -> Result<Policies, AllocError> {
     let kind = match code {
-        None => PolicyKind::AlwaysSample,
-        Some(code) => PolicyKind::StatusCode {
+        None => PolicyKind::Leaf(Leaf::AlwaysSample),
+        Some(code) => PolicyKind::Leaf(Leaf::StatusCode {
             codes: List::from_vec(vec![in alloc; code]?),
-        },
+        }),
     };
     one_policy(alloc, kind)
 }

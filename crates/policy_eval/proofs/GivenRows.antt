@@ -1,7 +1,8 @@
 -- Worked rows of the policies' meaning where their askings get a list of answers, by computation.
 -- For the definitions that `evaluate` and `judge` cite.
 use Rattle.std.specs.Prelude.{Bool, true, false, List, [], ◌∷◌, map, ◌≡◌, refl}
-use Rattle.policy_tree.specs.Tree.{Policies, no_more, one_more, leaf, and_policy, rate_limiting, span_count}
+use Rattle.policy_tree.specs.Tree.{Policies, no_more, one_more, leaf, and_policy, rate_limiting}
+use Rattle.policy_tree.specs.declared.policy.Leaf.TheVariants.{SpanCount}
 use Rattle.policy_eval.specs.Given.{verdict_given, asked_given, are_answered}
 use Rattle.policy_eval.proofs.Rows.{arrival, no_then_rate, slow_and_granted}
 use Rattle.otlp_types.specs.declared.arrival.Arrival.{Arrival}
@@ -34,7 +35,7 @@ both_have_to_grant = refl
 
 -- two limiters at the top: the first answer is the first one's
 abbrev slow_or_rate : Policies
-slow_or_rate = one_more (and_policy (one_more (rate_limiting 3) (one_more (leaf (span_count 2 0)) no_more))) (one_more (rate_limiting 4) no_more)
+slow_or_rate = one_more (and_policy (one_more (rate_limiting 3) (one_more (leaf (SpanCount 2 0)) no_more))) (one_more (rate_limiting 4) no_more)
 
 pub each_gets_its_answer : map (λ (answers : List Bool). verdict_given slow_or_rate answers one) ((true ∷ false ∷ []) ∷ (false ∷ true ∷ []) ∷ (true ∷ []) ∷ []) ≡ AgainstIt ∷ ForIt ∷ AgainstIt ∷ []
 each_gets_its_answer = refl

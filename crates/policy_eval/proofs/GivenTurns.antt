@@ -1,8 +1,9 @@
--- The walk over the parts of an `and` and over the top policies, where a list of answers is given.
+-- The walk over the parts of a policy and over the top policies, where a list of answers is given.
 -- For the clauses of `verdict_and_askings` and of `answer_given`.
 use Rattle.std.proofs.Common.{◌≡◌, ℕ, ◌+◌, ◌≤◌, Bool, true, false, List, ◌++◌, length, drop, refl, sym, ap, subst, ◌∙◌, arith, append-nil, length-append}
 use Rattle.std.proofs.lemmas.List.{drop-drop}
-use Rattle.policy_tree.specs.Tree.{Policy, and_policy, Policies, no_more, one_more, nodes, nodes_in}
+use Rattle.policy_tree.specs.declared.policy.Join.{Join}
+use Rattle.policy_tree.specs.Tree.{Policy, joined, Policies, no_more, one_more, nodes, nodes_in}
 use Rattle.policy_eval.specs.Policies as spec
 use Rattle.policy_eval.specs.Given.{answer_given, each_samples_given, left_by, nodes_asked, nodes_asked_in_turn, answers_given, nodes_asked_at_top, verdict_given, asked_given}
 use Rattle.policy_eval.specs.GivenLaws.{left-drops, asks-few}
@@ -27,26 +28,26 @@ module _ (bs : List Bool) (spans : List Arrival) where
   taken-few : (p : Policy) (before behind : ℕ) (a : Answer) → Taken p before behind a → behind ≤ before + nodes p
   taken-few p before behind a k = let few = asks-few p 0 (drop before bs) spans in let e = k.asked 0 in omega (arith, few, e)
 
-  -- the parts `rest` of an `and` are still to be asked
-  pub record Part (policy : Policy) (before : ℕ) (rest : Policies) (next : ℕ) : Type 0 where
+  -- the parts `rest` of a policy are still to be asked
+  pub record Part (policy : Policy) (join : Join) (before : ℕ) (rest : Policies) (next : ℕ) : Type 0 where
     pub few : next + nodes_in rest ≤ 64
-    pub answers : answer_given policy (drop before bs) spans ≡ spec.plain (each_samples_given rest (drop next bs) spans)
+    pub answers : answer_given policy (drop before bs) spans ≡ spec.joined_answer join (each_samples_given rest (drop next bs) spans)
     pub asked : (node : ℕ) → (first : ℕ) × (before + length (nodes_asked policy node (drop before bs) spans) ≡ next + length (nodes_asked_in_turn rest first (drop next bs) spans))
 
-  pub part-first : (policy : Policy) (before : ℕ) (parts : Policies) → policy ≡ and_policy parts → before + nodes policy ≤ 64 → Part policy before parts before
-  part-first policy before parts e h = record {
+  pub part-first : (policy : Policy) (join : Join) (before : ℕ) (parts : Policies) → policy ≡ joined join parts → before + nodes policy ≤ 64 → Part policy join before parts before
+  part-first policy join before parts e h = record {
     few = let k : nodes policy ≡ nodes_in parts + 1 = ap nodes e in omega (arith, k, h);
     answers = ap (λ p. answer_given p (drop before bs) spans) e;
     asked = λ node. (node + 1, ap (λ p. before + length (nodes_asked p node (drop before bs) spans)) e);
   }
 
-  pub part-more : (policy : Policy) (before : ℕ) (p : Policy) (rest : Policies) (next behind : ℕ) (a : Answer) → Part policy before (one_more p rest) next → Taken p next behind a → is_for a ≡ true → Part policy before rest behind
-  part-more policy before p rest next behind a w k h =
+  pub part-more : (policy : Policy) (join : Join) (before : ℕ) (p : Policy) (rest : Policies) (next behind : ℕ) (a : Answer) → Part policy join before (one_more p rest) next → Taken p next behind a → is_for a ≡ true → Part policy join before rest behind
+  part-more policy join before p rest next behind a w k h =
       let yes : spec.samples (answer_given p (drop next bs) spans) ≡ true = sym (samples-is (answer_given p (drop next bs) spans)) ∙ sym (ap is_for k.answer) ∙ h in
       let left = taken-left p next behind a k in
       record {
         few = let few = taken-few p next behind a k in let all = w.few in omega (arith, few, all);
-        answers = w.answers ∙ (let e : spec.plain (each_samples_given (one_more p rest) (drop next bs) spans) ≡ spec.plain (each_samples_given rest (drop behind bs) spans) = rw (yes, left) in e);
+        answers = w.answers ∙ (let e : spec.joined_answer join (each_samples_given (one_more p rest) (drop next bs) spans) ≡ spec.joined_answer join (each_samples_given rest (drop behind bs) spans) = rw (yes, left) in e);
         asked = λ node.
             let was = w.asked node in
             let more = nodes_asked_in_turn rest (was.0 + nodes p) (drop behind bs) spans in
@@ -57,11 +58,11 @@ module _ (bs : List Bool) (spans : List Arrival) where
             (was.0 + nodes p, was.1 ∙ (let q : next + length (nodes_asked_in_turn (one_more p rest) was.0 (drop next bs) spans) ≡ behind + length more = omega (arith, both, here) in q));
       }
 
-  pub part-stop : (policy : Policy) (before : ℕ) (p : Policy) (rest : Policies) (next behind : ℕ) (a : Answer) → Part policy before (one_more p rest) next → Taken p next behind a → is_for a ≡ false → Taken policy before behind NotSample
-  part-stop policy before p rest next behind a w k h =
+  pub part-stop : (policy : Policy) (join : Join) (before : ℕ) (p : Policy) (rest : Policies) (next behind : ℕ) (a : Answer) → Part policy join before (one_more p rest) next → Taken p next behind a → is_for a ≡ false → Taken policy before behind (answer_of (spec.joined_answer join false))
+  part-stop policy join before p rest next behind a w k h =
       let no : spec.samples (answer_given p (drop next bs) spans) ≡ false = sym (samples-is (answer_given p (drop next bs) spans)) ∙ sym (ap is_for k.answer) ∙ h in
       record {
-        answer = let e : spec.plain (each_samples_given (one_more p rest) (drop next bs) spans) ≡ spec.not_sample = rw no in sym (ap answer_of (w.answers ∙ e));
+        answer = let e : spec.joined_answer join (each_samples_given (one_more p rest) (drop next bs) spans) ≡ spec.joined_answer join false = rw no in sym (ap answer_of (w.answers ∙ e));
         asked = λ node.
             let was = w.asked node in
             let ns = nodes_asked p was.0 (drop next bs) spans in
@@ -69,8 +70,8 @@ module _ (bs : List Bool) (spans : List Arrival) where
             k.asked was.0 ∙ sym (was.1 ∙ ap (λ ms. next + length ms) e);
       }
 
-  pub part-last : (policy : Policy) (before next : ℕ) → Part policy before no_more next → Taken policy before next Sample
-  part-last policy before next w = record {
+  pub part-last : (policy : Policy) (join : Join) (before next : ℕ) → Part policy join before no_more next → Taken policy before next (answer_of (spec.joined_answer join true))
+  part-last policy join before next w = record {
     answer = sym (ap answer_of w.answers);
     asked = λ node. let e = (w.asked node).1 in omega (arith, e);
   }
@@ -84,7 +85,7 @@ module _ (bs : List Bool) (spans : List Arrival) where
   pub at_top-first : (all : Policies) → nodes_in all ≤ 64 → AtTop all all 0 none_seen
   at_top-first all h = record {
     few = omega (arith, h);
-    tells = record { sample = refl; not_sample = refl; inverted_sample = refl; inverted_not_sample = refl };
+    tells = record { sample = refl; not_sample = refl; inverted_sample = refl; inverted_not_sample = refl; dropped = refl };
     asked = (0, omega arith);
   }
 

@@ -1,4 +1,3 @@
-pub mod Leaves
 pub mod Verdicts
 pub mod Turns
 pub mod GivenTurns

@@ -5,7 +5,8 @@ use Rattle.std.proofs.lemmas.Bool.Decides.{nat_tests}
 use Rattle.std.proofs.lemmas.Bool.{and_parts}
 use Rattle.policy_tree.specs.declared.limiter_node.LimiterNode.{LimiterNode}
 use Rattle.policy_tree.specs.declared.policy.Policy.{Policy as Named}
-use Rattle.policy_tree.specs.Tree.{Policy, leaf, rate_limiting, and_policy, Policies, no_more, one_more, nodes, nodes_in, limits, limits_in}
+use Rattle.policy_tree.specs.declared.policy.Join.{Join}
+use Rattle.policy_tree.specs.Tree.{Policy, leaf, rate_limiting, joined, Policies, no_more, one_more, nodes, nodes_in, limits, limits_in}
 use Rattle.policy_tree.specs.Meaning.{meaning, policy_meaning}
 use Rattle.policy_eval.specs.Policies as spec
 use Rattle.policy_eval.specs.Given.{answer_given, each_samples_given, left_by, left_by_parts, nodes_asked, nodes_asked_in_turn, answers_given, nodes_asked_at_top, asked_given, Asked, Evaluates}
@@ -31,6 +32,7 @@ samples-is spec.sample = refl
 samples-is spec.not_sample = refl
 samples-is spec.inverted_sample = refl
 samples-is spec.inverted_not_sample = refl
+samples-is spec.dropped = refl
 
 -- a number of policies within the limits is counted exactly
 pub counted_nodes : (n : ℕ) → n ≤ 64 → min n (2 ^ 64 - 1) ≡ n
@@ -103,18 +105,18 @@ module _ (S : Type 0) (has : S → ℕ → Bool) (asks : S → ℕ → ℕ → �
     so_far = asked-append asks second (length spans) w.asked part.1 w.mine part.0 s0 s t w.so_far part.3;
   }
 
-module _ (S : Type 0) (has : S → ℕ → Bool) (asks : S → ℕ → ℕ → ℕ → Bool → S → Type 0) (s0 : S) (policy : Policy) (node second : ℕ) (spans : List Arrival) where
-  -- of an `and` the parts `rest` are still to be asked, from number `next` on
+module _ (S : Type 0) (has : S → ℕ → Bool) (asks : S → ℕ → ℕ → ℕ → Bool → S → Type 0) (s0 : S) (policy : Policy) (join : Join) (node second : ℕ) (spans : List Arrival) where
+  -- of a policy the parts `rest` are still to be asked, from number `next` on
   pub record Turn (s : S) (rest : Policies) (next : ℕ) : Type 0 where
     pub counted : next + nodes_in rest ≡ node + nodes policy
     pub within : node + nodes policy ≤ 64
     pub walked : Walked S has asks s0 second spans s rest next
-    pub answers : (later : List Bool) → answer_given policy (walked.mine ++ later) spans ≡ spec.plain (each_samples_given rest later spans)
+    pub answers : (later : List Bool) → answer_given policy (walked.mine ++ later) spans ≡ spec.joined_answer join (each_samples_given rest later spans)
     pub leaves : (later : List Bool) → left_by policy (walked.mine ++ later) spans ≡ left_by_parts rest later spans
     pub asking : (later : List Bool) → nodes_asked policy node (walked.mine ++ later) spans ≡ walked.asked ++ nodes_asked_in_turn rest next later spans
 
   -- before the first part
-  pub turn-first : (parts : Policies) → policy ≡ and_policy parts → node + nodes policy ≤ 64 → knows (has s0) (limits policy node) ≡ true → Turn s0 parts (node + 1)
+  pub turn-first : (parts : Policies) → policy ≡ joined join parts → node + nodes policy ≤ 64 → knows (has s0) (limits policy node) ≡ true → Turn s0 parts (node + 1)
   turn-first parts e within known = record {
     counted = let k : nodes policy ≡ nodes_in parts + 1 = ap nodes e in omega (arith, k);
     within = within;
@@ -133,7 +135,7 @@ module _ (S : Type 0) (has : S → ℕ → Bool) (asks : S → ℕ → ℕ → �
         within = w.within;
         walked = walked-more S has asks s0 second spans s t p rest next a w.walked part keeps;
         answers = λ later. ap (λ bs. answer_given policy bs spans) (append_assoc w.walked.mine part.0 later) ∙ w.answers (part.0 ++ later)
-            ∙ (let e : spec.plain (each_samples_given (one_more p rest) (part.0 ++ later) spans) ≡ spec.plain (each_samples_given rest later spans) = rw (yes later, its.leaves later) in e);
+            ∙ (let e : spec.joined_answer join (each_samples_given (one_more p rest) (part.0 ++ later) spans) ≡ spec.joined_answer join (each_samples_given rest later spans) = rw (yes later, its.leaves later) in e);
         leaves = λ later. ap (λ bs. left_by policy bs spans) (append_assoc w.walked.mine part.0 later) ∙ w.leaves (part.0 ++ later)
             ∙ (let e : left_by_parts (one_more p rest) (part.0 ++ later) spans ≡ left_by_parts rest later spans = rw (yes later, its.leaves later) in e);
         asking = λ later. ap (λ bs. nodes_asked policy node bs spans) (append_assoc w.walked.mine part.0 later) ∙ w.asking (part.0 ++ later)
@@ -142,7 +144,7 @@ module _ (S : Type 0) (has : S → ℕ → Bool) (asks : S → ℕ → ℕ → �
       }
 
   -- a part that doesn't sample ends the walk
-  pub turn-stop : (s t : S) (p : Policy) (rest : Policies) (next : ℕ) (a : Answer) → Turn s (one_more p rest) next → Answers asks p next second spans a s t → is_for a ≡ false → Answers asks policy node second spans NotSample s0 t
+  pub turn-stop : (s t : S) (p : Policy) (rest : Policies) (next : ℕ) (a : Answer) → Turn s (one_more p rest) next → Answers asks p next second spans a s t → is_for a ≡ false → Answers asks policy node second spans (answer_of (spec.joined_answer join false)) s0 t
   turn-stop s t p rest next a w part h =
       let its = part.2 in
       let no : (later : List Bool) → spec.samples (answer_given p (part.0 ++ later) spans) ≡ false = λ later. sym (samples-is (answer_given p (part.0 ++ later) spans)) ∙ sym (ap is_for (its.answers later)) ∙ h in (
@@ -150,7 +152,7 @@ module _ (S : Type 0) (has : S → ℕ → Bool) (asks : S → ℕ → ℕ → �
         w.walked.asked ++ part.1,
         record {
           answers = λ later.
-              let e : spec.plain (each_samples_given (one_more p rest) (part.0 ++ later) spans) ≡ spec.not_sample = rw (no later) in
+              let e : spec.joined_answer join (each_samples_given (one_more p rest) (part.0 ++ later) spans) ≡ spec.joined_answer join false = rw (no later) in
               sym (ap answer_of (ap (λ bs. answer_given policy bs spans) (append_assoc w.walked.mine part.0 later) ∙ w.answers (part.0 ++ later) ∙ e));
           leaves = λ later.
               let e : left_by_parts (one_more p rest) (part.0 ++ later) spans ≡ later = rw (no later) (its.leaves later) in
@@ -163,7 +165,7 @@ module _ (S : Type 0) (has : S → ℕ → Bool) (asks : S → ℕ → ℕ → �
       )
 
   -- after the last part
-  pub turn-last : (s : S) (next : ℕ) → Turn s no_more next → Answers asks policy node second spans Sample s0 s
+  pub turn-last : (s : S) (next : ℕ) → Turn s no_more next → Answers asks policy node second spans (answer_of (spec.joined_answer join true)) s0 s
   turn-last s next w = (
     w.walked.mine,
     w.walked.asked,
@@ -192,7 +194,7 @@ module _ (S : Type 0) (has : S → ℕ → Bool) (asks : S → ℕ → ℕ → �
     counted = omega arith;
     within = within;
     walked = walked-first S has asks s0 second spans all 0 known;
-    tells = λ later. record { sample = refl; not_sample = refl; inverted_sample = refl; inverted_not_sample = refl };
+    tells = λ later. record { sample = refl; not_sample = refl; inverted_sample = refl; inverted_not_sample = refl; dropped = refl };
     asking = λ later. refl;
   }
 

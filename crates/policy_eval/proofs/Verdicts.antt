@@ -12,6 +12,7 @@ pub record Tells (s : Seen) (rest all : List spec.Answer) : Type 0 where
   pub not_sample : spec.has_answer spec.not_sample all ≡ (s.not_sample || spec.has_answer spec.not_sample rest)
   pub inverted_sample : spec.has_answer spec.inverted_sample all ≡ (s.inverted_sample || spec.has_answer spec.inverted_sample rest)
   pub inverted_not_sample : spec.has_answer spec.inverted_not_sample all ≡ (s.inverted_not_sample || spec.has_answer spec.inverted_not_sample rest)
+  pub dropped : spec.has_answer spec.dropped all ≡ (s.dropped || spec.has_answer spec.dropped rest)
 
 or-yes : (b c : Bool) → (b || (true || c)) ≡ (true || c)
 or-yes true c = refl
@@ -22,13 +23,14 @@ or-end true = refl
 or-end false = refl
 
 pub tells-more : (s : Seen) (a : spec.Answer) (rest all : List spec.Answer) → Tells s (a ∷ rest) all → Tells (seen_with (answer_of a) s) rest all
-tells-more s spec.sample rest all t = record { sample = t.sample ∙ or-yes s.sample (spec.has_answer spec.sample rest); not_sample = t.not_sample; inverted_sample = t.inverted_sample; inverted_not_sample = t.inverted_not_sample }
-tells-more s spec.not_sample rest all t = record { sample = t.sample; not_sample = t.not_sample ∙ or-yes s.not_sample (spec.has_answer spec.not_sample rest); inverted_sample = t.inverted_sample; inverted_not_sample = t.inverted_not_sample }
-tells-more s spec.inverted_sample rest all t = record { sample = t.sample; not_sample = t.not_sample; inverted_sample = t.inverted_sample ∙ or-yes s.inverted_sample (spec.has_answer spec.inverted_sample rest); inverted_not_sample = t.inverted_not_sample }
-tells-more s spec.inverted_not_sample rest all t = record { sample = t.sample; not_sample = t.not_sample; inverted_sample = t.inverted_sample; inverted_not_sample = t.inverted_not_sample ∙ or-yes s.inverted_not_sample (spec.has_answer spec.inverted_not_sample rest) }
+tells-more s spec.sample rest all t = record { sample = t.sample ∙ or-yes s.sample (spec.has_answer spec.sample rest); not_sample = t.not_sample; inverted_sample = t.inverted_sample; inverted_not_sample = t.inverted_not_sample; dropped = t.dropped }
+tells-more s spec.not_sample rest all t = record { sample = t.sample; not_sample = t.not_sample ∙ or-yes s.not_sample (spec.has_answer spec.not_sample rest); inverted_sample = t.inverted_sample; inverted_not_sample = t.inverted_not_sample; dropped = t.dropped }
+tells-more s spec.inverted_sample rest all t = record { sample = t.sample; not_sample = t.not_sample; inverted_sample = t.inverted_sample ∙ or-yes s.inverted_sample (spec.has_answer spec.inverted_sample rest); inverted_not_sample = t.inverted_not_sample; dropped = t.dropped }
+tells-more s spec.inverted_not_sample rest all t = record { sample = t.sample; not_sample = t.not_sample; inverted_sample = t.inverted_sample; inverted_not_sample = t.inverted_not_sample ∙ or-yes s.inverted_not_sample (spec.has_answer spec.inverted_not_sample rest); dropped = t.dropped }
+tells-more s spec.dropped rest all t = record { sample = t.sample; not_sample = t.not_sample; inverted_sample = t.inverted_sample; inverted_not_sample = t.inverted_not_sample; dropped = t.dropped ∙ or-yes s.dropped (spec.has_answer spec.dropped rest) }
 
 pub tells-all : (s : Seen) (all : List spec.Answer) → Tells s [] all → verdict_of_seen s ≡ spec.verdict_of_answers all
-tells-all s all t = rw (t.sample ∙ or-end s.sample, t.not_sample ∙ or-end s.not_sample, t.inverted_sample ∙ or-end s.inverted_sample, t.inverted_not_sample ∙ or-end s.inverted_not_sample)
+tells-all s all t = rw (t.sample ∙ or-end s.sample, t.not_sample ∙ or-end s.not_sample, t.inverted_sample ∙ or-end s.inverted_sample, t.inverted_not_sample ∙ or-end s.inverted_not_sample, t.dropped ∙ or-end s.dropped)
 
 -- ---- latencies
 

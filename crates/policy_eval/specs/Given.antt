@@ -1,9 +1,9 @@
 -- What policies mean where their askings get a list of answers in turn: the first asking gets the first answer.
 use Rattle.std.specs.Prelude.{◌≡◌, ℕ, ◌+◌, Bool, true, false, ◌&&◌, ◌==◌, if◌then◌else◌, List, [], ◌∷◌, ◌++◌, length}
-use Rattle.policy_tree.specs.Tree.{Policy, leaf, rate_limiting, and_policy, Policies, no_more, one_more, nodes}
+use Rattle.policy_tree.specs.Tree.{Policy, leaf, rate_limiting, joined, Policies, no_more, one_more, nodes}
 use Rattle.otlp_types.specs.declared.arrival.Arrival.{Arrival}
 use Rattle.span_ids.specs.declared.outcome.Verdict.{Verdict}
-use Rattle.policy_eval.specs.Policies.{Answer, plain, leaf_answer, samples, verdict_of_answers}
+use Rattle.policy_eval.specs.Policies.{Answer, plain, joined_answer, leaf_answer, samples, verdict_of_answers}
 
 -- the answer that the next asking gets: a missing one is a refusal
 abbrev pub next_answer : (answers : List Bool) → Bool
@@ -15,14 +15,14 @@ abbrev pub later_answers : (answers : List Bool) → List Bool
 later_answers [] = []
 later_answers (granted ∷ later) = later
 
--- ---- a policy, and the parts of an `and`
+-- ---- a policy, and the parts of one
 
 abbrev mutual
   -- what the policy answers where its askings get these answers in turn
   pub answer_given : Policy → (answers : List Bool) → List Arrival → Answer
   answer_given (leaf l) answers spans = leaf_answer l spans
   answer_given (rate_limiting limit) answers spans = plain (next_answer answers)
-  answer_given (and_policy parts) answers spans = plain (each_samples_given parts answers spans)
+  answer_given (joined join parts) answers spans = joined_answer join (each_samples_given parts answers spans)
 
   -- every part answers sample or inverted sample
   pub each_samples_given : Policies → (answers : List Bool) → List Arrival → Bool
@@ -33,9 +33,9 @@ abbrev mutual
   pub left_by : Policy → (answers : List Bool) → List Arrival → List Bool
   left_by (leaf l) answers spans = answers
   left_by (rate_limiting limit) answers spans = later_answers answers
-  left_by (and_policy parts) answers spans = left_by_parts parts answers spans
+  left_by (joined join parts) answers spans = left_by_parts parts answers spans
 
-  -- those that the parts of an `and` leave: no further one is asked once one doesn't sample
+  -- those that the parts leave: no further one is asked once one doesn't sample
   pub left_by_parts : Policies → (answers : List Bool) → List Arrival → List Bool
   left_by_parts no_more answers spans = answers
   left_by_parts (one_more p rest) answers spans = if samples (answer_given p answers spans) then left_by_parts rest (left_by p answers spans) spans else left_by p answers spans
@@ -45,9 +45,9 @@ abbrev mutual
   pub nodes_asked : Policy → (node : ℕ) → (answers : List Bool) → List Arrival → List ℕ
   nodes_asked (leaf l) node answers spans = []
   nodes_asked (rate_limiting limit) node answers spans = node ∷ []
-  nodes_asked (and_policy parts) node answers spans = nodes_asked_in_turn parts (node + 1) answers spans
+  nodes_asked (joined join parts) node answers spans = nodes_asked_in_turn parts (node + 1) answers spans
 
-  -- those that the parts of an `and` ask
+  -- those that the parts ask
   pub nodes_asked_in_turn : Policies → (node : ℕ) → (answers : List Bool) → List Arrival → List ℕ
   nodes_asked_in_turn no_more node answers spans = []
   nodes_asked_in_turn (one_more p rest) node answers spans = nodes_asked p node answers spans ++ (if samples (answer_given p answers spans) then nodes_asked_in_turn rest (node + nodes p) (left_by p answers spans) spans else [])

@@ -2,7 +2,7 @@
 use Rattle.std.proofs.Common.{◌≡◌, ℕ, ◌+◌, ◌≤◌, ◌<◌, ◌==◌, Bool, true, false, ◌&&◌, cond, List, [], ◌∷◌, ◌++◌, map, length, drop, refl, sym, ap, subst, ◌∙◌, arith, append-nil, append_assoc, length-append}
 use Rattle.std.proofs.lemmas.Bool.Decides.{nat_tests}
 use Rattle.std.proofs.lemmas.List.{map-append, drop-drop, length-map}
-use Rattle.policy_tree.specs.Tree.{Policy, leaf, rate_limiting, and_policy, Policies, no_more, one_more, nodes, nodes_in}
+use Rattle.policy_tree.specs.Tree.{Policy, leaf, rate_limiting, joined, Policies, no_more, one_more, nodes, nodes_in}
 use Rattle.rate_budget.specs.Rising.{Rises, rises-lower, rises-upper, rises-append}
 use Rattle.otlp_types.specs.declared.arrival.Arrival.{Arrival}
 use Rattle.policy_eval.specs.Policies as spec
@@ -19,7 +19,7 @@ mutual
   pub left-drops : (p : Policy) (node : ℕ) (bs : List Bool) (spans : List Arrival) → left_by p bs spans ≡ drop (length (nodes_asked p node bs spans)) bs
   left-drops (leaf l) node bs spans = refl
   left-drops (rate_limiting limit) node bs spans = later-drop bs
-  left-drops (and_policy parts) node bs spans = parts-drop parts (node + 1) bs spans
+  left-drops (joined join parts) node bs spans = parts-drop parts (node + 1) bs spans
 
   parts-drop : (ps : Policies) (node : ℕ) (bs : List Bool) (spans : List Arrival) → left_by_parts ps bs spans ≡ drop (length (nodes_asked_in_turn ps node bs spans)) bs
   parts-drop no_more node bs spans = refl
@@ -38,7 +38,7 @@ mutual
   pub asks-few : (p : Policy) (node : ℕ) (bs : List Bool) (spans : List Arrival) → length (nodes_asked p node bs spans) ≤ nodes p
   asks-few (leaf l) node bs spans = omega arith
   asks-few (rate_limiting limit) node bs spans = omega arith
-  asks-few (and_policy parts) node bs spans = let k = parts-few parts (node + 1) bs spans in omega (arith, k)
+  asks-few (joined join parts) node bs spans = let k = parts-few parts (node + 1) bs spans in omega (arith, k)
 
   parts-few : (ps : Policies) (node : ℕ) (bs : List Bool) (spans : List Arrival) → length (nodes_asked_in_turn ps node bs spans) ≤ nodes_in ps
   parts-few no_more node bs spans = omega arith
@@ -64,7 +64,7 @@ mutual
   asked-rise : (p : Policy) (node : ℕ) (bs : List Bool) (spans : List Arrival) → Rises node (node + nodes p) (nodes_asked p node bs spans)
   asked-rise (leaf l) node bs spans = omega arith
   asked-rise (rate_limiting limit) node bs spans = (omega arith, omega arith)
-  asked-rise (and_policy parts) node bs spans =
+  asked-rise (joined join parts) node bs spans =
       let ns = nodes_asked_in_turn parts (node + 1) bs spans in
       let low = rises-lower node (node + 1) (node + 1 + nodes_in parts) ns (omega arith) (parts-rise parts (node + 1) bs spans) in
       rises-upper node (node + 1 + nodes_in parts) (node + (nodes_in parts + 1)) ns (omega arith) low
@@ -117,7 +117,7 @@ mutual
       (answer_given p bs spans ≡ spec.answer p node granted spans) × (nodes_asked p node bs spans ≡ spec.asked p node granted spans)
   answers-as (leaf l) node granted bs spans h = (refl, refl)
   answers-as (rate_limiting limit) node granted bs spans h = (ap (λ xs. spec.plain (next_answer xs)) h, refl)
-  answers-as (and_policy parts) node granted bs spans h = let k = parts-as parts (node + 1) granted bs spans h in (ap spec.plain k.0, k.1)
+  answers-as (joined join parts) node granted bs spans h = let k = parts-as parts (node + 1) granted bs spans h in (ap (spec.joined_answer join) k.0, k.1)
 
   parts-as : (ps : Policies) (node : ℕ) (granted : ℕ → Bool) (bs : List Bool) (spans : List Arrival) → Gives granted bs (nodes_asked_in_turn ps node bs spans) (left_by_parts ps bs spans) →
       (each_samples_given ps bs spans ≡ spec.each_samples ps node granted spans) × (nodes_asked_in_turn ps node bs spans ≡ spec.asked_in_turn ps node granted spans)
@@ -169,7 +169,7 @@ mutual
       (answer_given p bs spans ≡ spec.answer p node granted spans) × (left_by p bs spans ≡ later) × (nodes_asked p node bs spans ≡ spec.asked p node granted spans)
   answers-by (leaf l) node granted spans later = (refl, refl, refl)
   answers-by (rate_limiting limit) node granted spans later = (refl, refl, refl)
-  answers-by (and_policy parts) node granted spans later = let k = parts-by parts (node + 1) granted spans later in (ap spec.plain k.0, k.1, k.2)
+  answers-by (joined join parts) node granted spans later = let k = parts-by parts (node + 1) granted spans later in (ap (spec.joined_answer join) k.0, k.1, k.2)
 
   parts-by : (ps : Policies) (node : ℕ) (granted : ℕ → Bool) (spans : List Arrival) (later : List Bool) → let bs = map granted (spec.asked_in_turn ps node granted spans) ++ later in
       (each_samples_given ps bs spans ≡ spec.each_samples ps node granted spans) × (left_by_parts ps bs spans ≡ later) × (nodes_asked_in_turn ps node bs spans ≡ spec.asked_in_turn ps node granted spans)

@@ -1,4 +1,5 @@
--- To be read in this order: Policies (what a policy means), Given, Judged (the verdict by a list of answers), Laws (what holds of all askings), Meaning (what a caller sees); GivenLaws, AskingLaws, Walks (for provers).
+-- To be read in this order: Probabilistic (a percentage of all traces), Policies (what a policy means), Given, Judged (the verdict by a list of answers), Laws (what holds of all askings), Meaning (what a caller sees); GivenLaws, AskingLaws, Walks (for provers).
+pub mod Probabilistic
 pub mod Policies
 pub mod Meaning
 pub mod Given

@@ -4,7 +4,7 @@ use Rattle.std.specs.List.{list_all}
 use Rattle.policy_eval.specs.Policies as spec
 use Rattle.policy_tree.specs.declared.limiter_node.LimiterNode.{LimiterNode}
 use Rattle.policy_eval.specs.declared.answer.Answer.{Answer}
-use Rattle.policy_eval.specs.declared.answer.Answer.TheVariants.{Sample, NotSample, InvertedSample, InvertedNotSample}
+use Rattle.policy_eval.specs.declared.answer.Answer.TheVariants.{Sample, NotSample, InvertedSample, InvertedNotSample, Dropped}
 use Rattle.policy_eval.specs.declared.answer.Seen.{Seen}
 use Rattle.span_ids.specs.declared.outcome.Verdict.{Verdict}
 use Rattle.span_ids.specs.declared.outcome.Verdict.TheVariants.{Sampled, NotSampled}
@@ -15,6 +15,7 @@ answer_of spec.sample = Sample
 answer_of spec.not_sample = NotSample
 answer_of spec.inverted_sample = InvertedSample
 answer_of spec.inverted_not_sample = InvertedNotSample
+answer_of spec.dropped = Dropped
 
 -- an answer for the trace
 abbrev pub is_for : Answer → Bool
@@ -22,10 +23,11 @@ is_for Sample = true
 is_for InvertedSample = true
 is_for NotSample = false
 is_for InvertedNotSample = false
+is_for Dropped = false
 
 -- no answer was given
 abbrev pub none_seen : Seen
-none_seen = record { sample = false; not_sample = false; inverted_sample = false; inverted_not_sample = false }
+none_seen = record { sample = false; not_sample = false; inverted_sample = false; inverted_not_sample = false; dropped = false }
 
 -- which answers were given, with one more
 abbrev pub seen_with : Answer → Seen → Seen
@@ -33,11 +35,13 @@ seen_with Sample s = record s { sample = true }
 seen_with NotSample s = record s { not_sample = true }
 seen_with InvertedSample s = record s { inverted_sample = true }
 seen_with InvertedNotSample s = record s { inverted_not_sample = true }
+seen_with Dropped s = record s { dropped = true }
 
 -- the verdict by which answers were given
 abbrev pub verdict_of_seen : Seen → Verdict
 verdict_of_seen s =
-    if s.inverted_not_sample then NotSampled
+    if s.dropped then NotSampled
+    else if s.inverted_not_sample then NotSampled
     else if s.sample then Sampled
     else if s.inverted_sample && not s.not_sample then Sampled
     else NotSampled

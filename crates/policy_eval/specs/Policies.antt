@@ -2,7 +2,14 @@
 use Rattle.std.specs.Prelude.{ℕ, ◌+◌, ◌-◌, ◌/◌, min, max, ℤ, Bool, true, false, not, ◌&&◌, ◌||◌, if◌then◌else◌, ◌==◌, nat_lt, nat_le, List, [], ◌∷◌, ◌++◌, length, bytes_eq, int_le}
 use Rattle.std.specs.List.{list_any}
 use Rattle.std.specs.Ordering.{int_eq}
-use Rattle.policy_tree.specs.Tree.{Wanted, text_among, whole_within, truth_of, Leaf, always_sample, latency, status_code, attribute, span_count, Policy, leaf, rate_limiting, and_policy, Policies, no_more, one_more, nodes}
+use Rattle.policy_eval.specs.Probabilistic.{trace_of, is_chosen}
+use Rattle.policy_tree.specs.declared.policy.Leaf.{Leaf}
+use Rattle.policy_tree.specs.declared.policy.Leaf.TheVariants as leaf_is
+use Rattle.policy_tree.specs.declared.policy.Wanted.{Wanted}
+use Rattle.policy_tree.specs.declared.policy.Wanted.TheVariants.{StringAmong, NumberWithin, Boolean}
+use Rattle.policy_tree.specs.declared.policy.Join.{Join}
+use Rattle.policy_tree.specs.declared.policy.Join.TheVariants.{And, Not, Drop}
+use Rattle.policy_tree.specs.Tree.{Policy, leaf, rate_limiting, joined, Policies, no_more, one_more, nodes}
 use Rattle.otlp_types.specs.declared.arrival.Arrival.{Arrival}
 use Rattle.otlp_types.specs.declared.value.AnyValue.{AnyValue}
 use Rattle.otlp_types.specs.declared.value.AnyValue.TheVariants.{Str, Int, Bool as Truth}
@@ -16,6 +23,7 @@ pub data Answer : Type 0 where
   not_sample : Answer
   inverted_sample : Answer
   inverted_not_sample : Answer
+  dropped : Answer
 
 -- ---- leaves
 
@@ -52,10 +60,10 @@ is_among values text = list_any (λ v. bytes_eq v text) values
 
 -- the value of an attribute is of the wanted kind, and as it is wanted
 abbrev pub is_wanted : Wanted → AnyValue → Bool
-is_wanted (text_among values) (Str t) = is_among values t
-is_wanted (whole_within least greatest) (Int n) = int_le least n && int_le n greatest
-is_wanted (truth_of true) (Truth b) = b
-is_wanted (truth_of false) (Truth b) = not b
+is_wanted (StringAmong values) (Str t) = is_among values t
+is_wanted (NumberWithin least greatest) (Int n) = int_le least n && int_le n greatest
+is_wanted (Boolean true) (Truth b) = b
+is_wanted (Boolean false) (Truth b) = not b
 is_wanted _ _ = false
 
 -- some attribute of that key has a wanted value
@@ -80,11 +88,12 @@ inverted holds = if holds then inverted_not_sample else inverted_sample
 
 -- the answer of a leaf
 abbrev pub leaf_answer : Leaf → List Arrival → Answer
-leaf_answer always_sample spans = sample
-leaf_answer (latency threshold upper) spans = plain (is_slow threshold upper (duration_ms spans))
-leaf_answer (status_code codes) spans = plain (has_status codes spans)
-leaf_answer (attribute key wanted invert) spans = if invert then inverted (matches key wanted spans) else plain (matches key wanted spans)
-leaf_answer (span_count least most) spans = plain (is_within least most (length spans))
+leaf_answer leaf_is.AlwaysSample spans = sample
+leaf_answer (leaf_is.Latency threshold upper) spans = plain (is_slow threshold upper (duration_ms spans))
+leaf_answer (leaf_is.StatusCode codes) spans = plain (has_status codes spans)
+leaf_answer (leaf_is.Attribute key wanted invert) spans = if invert then inverted (matches key wanted spans) else plain (matches key wanted spans)
+leaf_answer (leaf_is.SpanCount least most) spans = plain (is_within least most (length spans))
+leaf_answer (leaf_is.Probabilistic salt ten_thousandths) spans = plain (is_chosen salt ten_thousandths (trace_of spans))
 
 -- ---- answers: `granted` is the limiter's answer at each node
 
@@ -94,13 +103,20 @@ samples sample = true
 samples inverted_sample = true
 samples not_sample = false
 samples inverted_not_sample = false
+samples dropped = false
+
+-- what is made of policies by whether each of them samples: as an `and`, as a `not`, and as a `drop`
+abbrev pub joined_answer : Join → Bool → Answer
+joined_answer And all = plain all
+joined_answer Not all = plain (not all)
+joined_answer Drop all = if all then dropped else not_sample
 
 abbrev mutual
   -- the answer of the policy with this number
   pub answer : Policy → (node : ℕ) → (granted : ℕ → Bool) → List Arrival → Answer
   answer (leaf l) node granted spans = leaf_answer l spans
   answer (rate_limiting limit) node granted spans = plain (granted node)
-  answer (and_policy parts) node granted spans = plain (each_samples parts (node + 1) granted spans)
+  answer (joined join parts) node granted spans = joined_answer join (each_samples parts (node + 1) granted spans)
 
   -- every part answers sample or inverted sample
   pub each_samples : Policies → (node : ℕ) → (granted : ℕ → Bool) → List Arrival → Bool
@@ -112,9 +128,9 @@ abbrev mutual
   pub asked : Policy → (node : ℕ) → (granted : ℕ → Bool) → List Arrival → List ℕ
   asked (leaf l) node granted spans = []
   asked (rate_limiting limit) node granted spans = node ∷ []
-  asked (and_policy parts) node granted spans = asked_in_turn parts (node + 1) granted spans
+  asked (joined join parts) node granted spans = asked_in_turn parts (node + 1) granted spans
 
-  -- the parts of an `and`: no further one is asked once one doesn't sample
+  -- the parts: no further one is asked once one doesn't sample
   pub asked_in_turn : Policies → (node : ℕ) → (granted : ℕ → Bool) → List Arrival → List ℕ
   asked_in_turn no_more node granted spans = []
   asked_in_turn (one_more p rest) node granted spans = asked p node granted spans ++ (if samples (answer p node granted spans) then asked_in_turn rest (node + nodes p) granted spans else [])
@@ -137,16 +153,18 @@ is_same_answer sample sample = true
 is_same_answer not_sample not_sample = true
 is_same_answer inverted_sample inverted_sample = true
 is_same_answer inverted_not_sample inverted_not_sample = true
+is_same_answer dropped dropped = true
 is_same_answer _ _ = false
 
 -- one of the answers is this one
 abbrev pub has_answer : Answer → List Answer → Bool
 has_answer one all = list_any (is_same_answer one) all
 
--- an inverted not-sample decides against; else a sample decides for; else an inverted sample with no not-sample does
+-- a drop decides against, and then an inverted not-sample does; else a sample decides for; else an inverted sample with no not-sample does
 abbrev pub verdict_of_answers : List Answer → Verdict
 verdict_of_answers all =
-    if has_answer inverted_not_sample all then NotSampled
+    if has_answer dropped all then NotSampled
+    else if has_answer inverted_not_sample all then NotSampled
     else if has_answer sample all then Sampled
     else if has_answer inverted_sample all && not (has_answer not_sample all) then Sampled
     else NotSampled

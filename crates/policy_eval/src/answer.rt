@@ -1,8 +1,9 @@
 //! What a policy answers, and the verdict of all answers (tailsamplingprocessor README, "Policies").
 ghost use Rattle.std.specs.Prelude.{◌≡◌, if◌then◌else◌};
-ghost use Rattle.policy_eval.specs.Policies.{plain, inverted};
+ghost use Rattle.policy_eval.specs.Policies.{plain, inverted, joined_answer};
 ghost use Rattle.policy_eval.specs.Meaning.{answer_of, is_for, none_seen, seen_with, verdict_of_seen};
 
+use policy_tree::Join;
 use span_ids::Verdict;
 
 /// What a policy answers for the spans of a trace.
@@ -14,6 +15,8 @@ pub enum Answer {
     InvertedSample,
     /// An inverted match matches.
     InvertedNotSample,
+    /// The trace is dropped, whatever any other policy answers.
+    Dropped,
 }
 
 impl Answer {
@@ -41,13 +44,25 @@ impl Answer {
         }
     }
 
+    /// The answer that is made of policies by whether each of them samples.
+    pub fn joined(join: Join, each_samples: bool) -> Answer
+        ensures { result ≡ answer_of (joined_answer join each_samples) }
+    {
+        match join {
+            Join::And => Answer::plain(each_samples),
+            Join::Not => Answer::plain(!each_samples),
+            Join::Drop if each_samples => Answer::Dropped,
+            Join::Drop => Answer::NotSample,
+        }
+    }
+
     /// Whether it is an answer for the trace.
     pub fn samples(self) -> bool
         ensures { result ≡ is_for self }
     {
         match self {
             Answer::Sample | Answer::InvertedSample => true,
-            Answer::NotSample | Answer::InvertedNotSample => false,
+            Answer::NotSample | Answer::InvertedNotSample | Answer::Dropped => false,
         }
     }
 }
@@ -59,6 +74,7 @@ pub struct Seen {
     pub not_sample: bool,
     pub inverted_sample: bool,
     pub inverted_not_sample: bool,
+    pub dropped: bool,
 }
 
 impl Seen {
@@ -71,6 +87,7 @@ impl Seen {
             not_sample: false,
             inverted_sample: false,
             inverted_not_sample: false,
+            dropped: false,
         }
     }
 
@@ -84,6 +101,7 @@ impl Seen {
             Answer::NotSample => seen.not_sample = true,
             Answer::InvertedSample => seen.inverted_sample = true,
             Answer::InvertedNotSample => seen.inverted_not_sample = true,
+            Answer::Dropped => seen.dropped = true,
         }
         seen
     }
@@ -92,7 +110,7 @@ impl Seen {
     pub fn verdict(self) -> Verdict
         ensures { result ≡ verdict_of_seen self }
     {
-        if self.inverted_not_sample {
+        if self.dropped || self.inverted_not_sample {
             Verdict::NotSampled
         } else if self.sample || self.inverted_sample && !self.not_sample {
             Verdict::Sampled

@@ -60,25 +60,21 @@ fn answer_given(
     ensures asked { (node : ℕ) → result.1 ≡ asked + length (nodes_asked (policy_meaning policy.now) node (drop asked answers.now) spans.now) }
 {
     match &policy.kind {
+        PolicyKind::Leaf(leaf) => (leaf_answer(leaf, spans), asked),
         PolicyKind::RateLimiting { .. } => {
             let granted = answers.get(asked).copied().unwrap_or(false);
             (Answer::plain(granted), asked + 1)
         }
-        PolicyKind::And { policies } => {
+        PolicyKind::Joined { join, policies } => {
             let mut next = asked;
             for part in policies.as_slice() {
                 let (given, behind) = answer_given(part, spans, answers, next);
                 next = behind;
                 if !given.samples() {
-                    return (Answer::NotSample, next);
+                    return (Answer::joined(*join, false), next);
                 }
             }
-            (Answer::Sample, next)
+            (Answer::joined(*join, true), next)
         }
-        PolicyKind::AlwaysSample
-        | PolicyKind::Latency { .. }
-        | PolicyKind::StatusCode { .. }
-        | PolicyKind::Attribute { .. }
-        | PolicyKind::SpanCount { .. } => (leaf_answer(&policy.kind, spans), asked),
     }
 }

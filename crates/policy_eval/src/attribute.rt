@@ -1,14 +1,13 @@
 //! The attribute policies: what a span or its resource has under a key.
 ghost use Rattle.std.specs.Prelude.{◌≡◌};
 ghost use Rattle.policy_eval.specs.Policies.{matches, has_wanted, is_among, is_wanted};
-ghost use Rattle.policy_tree.specs.Meaning.{wanted_of};
 
 use otlp_types::{AnyValue, Arrival, KeyValue, Text};
 use policy_tree::Wanted;
 
 /// Whether some span, or its resource, has an attribute of this key that is as wanted.
 pub fn matches(key: &str, wanted: &Wanted, spans: &[Arrival]) -> bool
-    ensures { result ≡ matches key.now (wanted_of wanted.now) spans.now }
+    ensures { result ≡ matches key.now wanted.now spans.now }
 {
     spans.iter().any(|arrival| has_wanted(key, wanted, arrival.rec.span.attributes.as_slice())
         || has_wanted(
@@ -19,14 +18,14 @@ pub fn matches(key: &str, wanted: &Wanted, spans: &[Arrival]) -> bool
 }
 
 fn has_wanted(key: &str, wanted: &Wanted, attributes: &[KeyValue]) -> bool
-    ensures { result ≡ has_wanted key.now (wanted_of wanted.now) attributes.now }
+    ensures { result ≡ has_wanted key.now wanted.now attributes.now }
 {
     attributes.iter().any(|attribute| attribute.key.as_str() == key
         && is_wanted(wanted, &attribute.value))
 }
 
 fn is_wanted(wanted: &Wanted, value: &AnyValue) -> bool
-    ensures { result ≡ is_wanted (wanted_of wanted.now) value.now }
+    ensures { result ≡ is_wanted wanted.now value.now }
 {
     match (wanted, value) {
         (Wanted::StringAmong(values), AnyValue::Str(text)) => is_among(

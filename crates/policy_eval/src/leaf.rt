@@ -1,38 +1,39 @@
 //! The answers of policies that have no parts and ask no limiter.
 ghost use Rattle.std.specs.Prelude.{◌≡◌};
-ghost use Rattle.policy_tree.specs.Tree.{Leaf, leaf};
-ghost use Rattle.policy_tree.specs.Meaning.{kind_meaning};
 ghost use Rattle.policy_eval.specs.Policies.{has_status, leaf_answer};
 ghost use Rattle.policy_eval.specs.Meaning.{answer_of};
 
 use crate::answer::Answer;
 use crate::attribute::matches;
 use crate::latency::{is_slow, is_within};
+use crate::probabilistic::is_chosen;
 use otlp_types::Arrival;
-use policy_tree::PolicyKind;
+use policy_tree::Leaf;
 
 /// What such a policy answers for the spans of a trace.
-pub fn leaf_answer(kind: &PolicyKind, spans: &[Arrival]) -> Answer
-    ensures { (l : Leaf) → kind_meaning kind.now ≡ leaf l → result ≡ answer_of (leaf_answer l spans.now) }
+pub fn leaf_answer(leaf: &Leaf, spans: &[Arrival]) -> Answer
+    ensures { result ≡ answer_of (leaf_answer leaf.now spans.now) }
 {
-    match kind {
-        PolicyKind::Latency {
+    match leaf {
+        Leaf::AlwaysSample => Answer::Sample,
+        Leaf::Latency {
             threshold_ms,
             upper_threshold_ms,
         } => Answer::plain(is_slow(*threshold_ms, *upper_threshold_ms, spans)),
-        PolicyKind::StatusCode { codes } => Answer::plain(has_status(codes.as_slice(), spans)),
-        PolicyKind::Attribute {
+        Leaf::StatusCode { codes } => Answer::plain(has_status(codes.as_slice(), spans)),
+        Leaf::Attribute {
             key,
             wanted,
             invert_match,
         } => Answer::of_match(matches(key.as_str(), wanted, spans), *invert_match),
-        PolicyKind::SpanCount {
+        Leaf::SpanCount {
             min_spans,
             max_spans,
         } => Answer::plain(is_within(*min_spans, *max_spans, spans.len() as u64)),
-        PolicyKind::AlwaysSample | PolicyKind::RateLimiting { .. } | PolicyKind::And { .. } => {
-            Answer::Sample
-        }
+        Leaf::Probabilistic {
+            hash_salt,
+            ten_thousandths,
+        } => Answer::plain(is_chosen(hash_salt.as_str(), *ten_thousandths, spans)),
     }
 }
 

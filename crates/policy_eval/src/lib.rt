@@ -10,6 +10,7 @@ mod attribute;
 mod latency;
 mod laws;
 mod leaf;
+mod probabilistic;
 mod verdict;
 
 pub use answer_list::{judge, verdict_given};

@@ -16,7 +16,7 @@ use span_ids::{Moment, Verdict};
 /// The verdict of the policies on the spans of a trace, at this moment in milliseconds. It takes no memory.
 ///
 /// The limiter nodes are asked in the order of their numbers, each at most once, for the number of spans, in the second
-/// of the moment. An `and` asks no further after a part that does not sample.
+/// of the moment. Of the parts of a policy no further one is asked after one that does not sample.
 pub fn evaluate<L: Limiter>(
     policies: &Policies,
     spans: &[Arrival],
@@ -54,26 +54,22 @@ fn answer<L: Limiter>(
     ensures keeps { (m : ℕ) → L.has_node limiter.new m ≡ L.has_node limiter.old m }
 {
     match &policy.kind {
+        PolicyKind::Leaf(leaf) => leaf_answer(leaf, spans),
         PolicyKind::RateLimiting { .. } => Answer::plain(limiter.ask(
             node,
             second,
             spans.len() as u64,
         )),
-        PolicyKind::And { policies } => {
+        PolicyKind::Joined { join, policies } => {
             let mut next = node + 1;
             for part in policies.as_slice() {
                 let given = answer(part, next, spans, second, limiter);
                 if !given.samples() {
-                    return Answer::NotSample;
+                    return Answer::joined(*join, false);
                 }
                 next += part.count() as u16;
             }
-            Answer::Sample
+            Answer::joined(*join, true)
         }
-        PolicyKind::AlwaysSample
-        | PolicyKind::Latency { .. }
-        | PolicyKind::StatusCode { .. }
-        | PolicyKind::Attribute { .. }
-        | PolicyKind::SpanCount { .. } => leaf_answer(&policy.kind, spans),
     }
 }

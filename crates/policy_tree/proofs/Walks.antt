@@ -3,7 +3,7 @@
 use Rattle.std.proofs.Common.{◌≡◌, ℕ, ◌+◌, List, [], ◌∷◌, ◌++◌, length, refl, ap, sym, ◌∙◌, arith, append_assoc}
 use Rattle.std.proofs.lemmas.List.{length-append}
 use Rattle.policy_tree.specs.declared.limiter_node.LimiterNode.{LimiterNode}
-use Rattle.policy_tree.specs.Tree.{Policy, Policies, leaf, rate_limiting, and_policy, no_more, one_more, nodes, nodes_in, limits, limits_in}
+use Rattle.policy_tree.specs.Tree.{Policy, Policies, leaf, rate_limiting, joined, no_more, one_more, nodes, nodes_in, limits, limits_in}
 use Rattle.policy_tree.specs.Walk.{walk_of, walk, limiter_at, limiters_from, LimitersAreOfTheWalk}
 
 mutual
@@ -11,7 +11,7 @@ mutual
   long_of : (p : Policy) → nodes p ≡ length (walk_of p)
   long_of (leaf l) = refl
   long_of (rate_limiting limit) = refl
-  long_of (and_policy parts) = let e = long parts in omega (arith, e)
+  long_of (joined join parts) = let e = long parts in omega (arith, e)
 
   long : (ps : Policies) → nodes_in ps ≡ length (walk ps)
   long no_more = refl
@@ -29,7 +29,7 @@ mutual
   same_of : (p : Policy) (node : ℕ) → limits p node ≡ limiters_from node (walk_of p)
   same_of (leaf l) node = refl
   same_of (rate_limiting limit) node = refl
-  same_of (and_policy parts) node = same parts (node + 1)
+  same_of (joined join parts) node = same parts (node + 1)
 
   same : (ps : Policies) (node : ℕ) → limits_in ps node ≡ limiters_from node (walk ps)
   same no_more node = refl

@@ -1,10 +1,14 @@
 -- Which lists of policies are refused, and why (tailsamplingprocessor README, "Policies").
 use Rattle.std.specs.Prelude.{ℕ, Bool, false, ◌||◌, ◌&&◌, not, if◌then◌else◌, nat_lt, nat_le, int_lt, ◌==◌, List, [], ◌∷◌, map, length, bytes_eq, Option, Some, None}
 use Rattle.std.specs.List.{list_any}
-use Rattle.policy_tree.specs.Tree.{Leaf, always_sample, latency, status_code, attribute, span_count, Wanted, text_among, whole_within, truth_of, nodes_in, depth_in, has_empty_list, some_leaf_in}
+use Rattle.policy_tree.specs.Tree.{nodes_in, depth_in, has_empty_list, some_leaf_in}
 use Rattle.policy_tree.specs.Meaning.{meaning}
 use Rattle.policy_tree.specs.declared.policy.Policy.{Policy, Policy-F, fold-Policy}
 use Rattle.policy_tree.specs.declared.policy.PolicyKind.TheOpen.{PolicyKind-F}
+use Rattle.policy_tree.specs.declared.policy.Leaf.{Leaf}
+use Rattle.policy_tree.specs.declared.policy.Leaf.TheVariants as leaf_is
+use Rattle.policy_tree.specs.declared.policy.Wanted.{Wanted}
+use Rattle.policy_tree.specs.declared.policy.Wanted.TheVariants as wanted_is
 use Rattle.policy_tree.specs.declared.leaves.LeafFault.{LeafFault}
 use Rattle.policy_tree.specs.declared.leaves.LeafFault.TheVariants as leaf_fault
 use Rattle.policy_tree.specs.declared.fault.PolicyFault.{PolicyFault}
@@ -42,13 +46,9 @@ is_doubled policies = has_same_names policies || list_any (λ (p : Named). p.dou
 
 -- a kind's list, if it has one, with what is known of each policy in it
 abbrev pub doubled_step : PolicyKind-F Bool Named → Bool
-doubled_step PolicyKind-F.AlwaysSample = false
-doubled_step (PolicyKind-F.Latency threshold upper) = false
-doubled_step (PolicyKind-F.StatusCode codes) = false
-doubled_step (PolicyKind-F.Attribute key wanted invert) = false
-doubled_step (PolicyKind-F.SpanCount least most) = false
+doubled_step (PolicyKind-F.Leaf l) = false
 doubled_step (PolicyKind-F.RateLimiting limit) = false
-doubled_step (PolicyKind-F.And policies) = is_doubled policies
+doubled_step (PolicyKind-F.Joined join policies) = is_doubled policies
 
 -- a policy, with what is known of its kind
 abbrev pub named_step : Policy-F Bool Named → Named
@@ -66,31 +66,28 @@ has_doubled_names policies = is_doubled (map named policies)
 
 -- a value is to be one of no values
 abbrev pub wants_none : Wanted → Bool
-wants_none (text_among values) = length values == 0
-wants_none (whole_within least greatest) = false
-wants_none (truth_of value) = false
+wants_none (wanted_is.StringAmong values) = length values == 0
+wants_none (wanted_is.NumberWithin least greatest) = false
+wants_none (wanted_is.Boolean value) = false
 
 -- the policy looks for one of no values
 abbrev pub has_no_values : Leaf → Bool
-has_no_values always_sample = false
-has_no_values (latency threshold upper) = false
-has_no_values (status_code codes) = length codes == 0
-has_no_values (attribute key wanted invert) = wants_none wanted
-has_no_values (span_count least most) = false
+has_no_values (leaf_is.StatusCode codes) = length codes == 0
+has_no_values (leaf_is.Attribute key wanted invert) = wants_none wanted
+has_no_values _ = false
 
 -- a value is to be within bounds that leave nothing
 abbrev pub wants_crossed : Wanted → Bool
-wants_crossed (text_among values) = false
-wants_crossed (whole_within least greatest) = int_lt greatest least
-wants_crossed (truth_of value) = false
+wants_crossed (wanted_is.StringAmong values) = false
+wants_crossed (wanted_is.NumberWithin least greatest) = int_lt greatest least
+wants_crossed (wanted_is.Boolean value) = false
 
 -- an upper bound that isn't 0 leaves nothing, or the bounds of a number leave nothing
 abbrev pub has_crossed_bounds : Leaf → Bool
-has_crossed_bounds always_sample = false
-has_crossed_bounds (latency threshold upper) = not (upper == 0) && nat_le upper threshold
-has_crossed_bounds (status_code codes) = false
-has_crossed_bounds (attribute key wanted invert) = wants_crossed wanted
-has_crossed_bounds (span_count least most) = not (most == 0) && nat_lt most least
+has_crossed_bounds (leaf_is.Latency threshold upper) = not (upper == 0) && nat_le upper threshold
+has_crossed_bounds (leaf_is.Attribute key wanted invert) = wants_crossed wanted
+has_crossed_bounds (leaf_is.SpanCount least most) = not (most == 0) && nat_lt most least
+has_crossed_bounds _ = false
 
 -- the leaf has this fault
 abbrev pub has_leaf_fault : LeafFault → Leaf → Bool

@@ -5,14 +5,6 @@ use Rattle.policy_tree.specs.declared.policy.Policy.{Policy, Policy-F, fold-Poli
 use Rattle.policy_tree.specs.declared.policy.PolicyKind.{PolicyKind}
 use Rattle.policy_tree.specs.declared.policy.PolicyKind.TheOpen.{PolicyKind-F}
 use Rattle.policy_tree.specs.declared.policy.PolicyKind.TheFolds.{fold-PolicyKind}
-use Rattle.policy_tree.specs.declared.policy.Wanted.{Wanted}
-use Rattle.policy_tree.specs.declared.policy.Wanted.TheVariants.{StringAmong, NumberWithin, Boolean}
-
--- what the value of an attribute is to be
-abbrev pub wanted_of : Wanted → tree.Wanted
-wanted_of (StringAmong values) = tree.text_among values
-wanted_of (NumberWithin least greatest) = tree.whole_within least greatest
-wanted_of (Boolean value) = tree.truth_of value
 
 -- the policies of one list, in order
 abbrev pub in_order : List tree.Policy → tree.Policies
@@ -21,13 +13,9 @@ in_order (p ∷ rest) = tree.one_more p (in_order rest)
 
 -- one kind, with each part without its names
 abbrev pub kind_step : PolicyKind-F tree.Policy tree.Policy → tree.Policy
-kind_step PolicyKind-F.AlwaysSample = tree.leaf tree.always_sample
-kind_step (PolicyKind-F.Latency threshold upper) = tree.leaf (tree.latency threshold upper)
-kind_step (PolicyKind-F.StatusCode codes) = tree.leaf (tree.status_code codes)
-kind_step (PolicyKind-F.Attribute key wanted invert) = tree.leaf (tree.attribute key (wanted_of wanted) invert)
-kind_step (PolicyKind-F.SpanCount least most) = tree.leaf (tree.span_count least most)
+kind_step (PolicyKind-F.Leaf l) = tree.leaf l
 kind_step (PolicyKind-F.RateLimiting limit) = tree.rate_limiting limit
-kind_step (PolicyKind-F.And parts) = tree.and_policy (in_order parts)
+kind_step (PolicyKind-F.Joined join parts) = tree.joined join (in_order parts)
 
 -- a policy is what its kind is
 abbrev pub policy_step : Policy-F tree.Policy tree.Policy → tree.Policy

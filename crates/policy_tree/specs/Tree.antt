@@ -1,20 +1,9 @@
 -- Policies without their names: their node numbers, their depth, and the limiters among them (tailsamplingprocessor README, "Policies").
-use Rattle.std.specs.Prelude.{ℕ, ◌+◌, max, ℤ, Bool, true, false, ◌||◌, List, [], ◌∷◌, ◌++◌}
+use Rattle.std.specs.Prelude.{ℕ, ◌+◌, max, Bool, true, false, ◌||◌, List, [], ◌∷◌, ◌++◌}
 use Rattle.policy_tree.specs.declared.limiter_node.LimiterNode.{LimiterNode}
-
--- what an attribute's value is to be
-pub data Wanted : Type 0 where
-  text_among : List (List ℕ) → Wanted
-  whole_within : (least greatest : ℤ) → Wanted
-  truth_of : Bool → Wanted
-
--- a policy that has no parts and asks no limiter; times are milliseconds, and an upper bound of 0 is none
-pub data Leaf : Type 0 where
-  always_sample : Leaf
-  latency : (threshold_ms upper_threshold_ms : ℕ) → Leaf
-  status_code : (codes : List ℤ) → Leaf
-  attribute : (key : List ℕ) (wanted : Wanted) (invert_match : Bool) → Leaf
-  span_count : (min_spans max_spans : ℕ) → Leaf
+use Rattle.policy_tree.specs.declared.policy.Leaf.{Leaf}
+use Rattle.policy_tree.specs.declared.policy.Join.{Join}
+use Rattle.policy_tree.specs.declared.policy.Join.TheVariants.{And}
 
 -- a policy, and a list of policies
 mutual
@@ -22,12 +11,16 @@ mutual
   pub data Policy : Type 0 where
     leaf : Leaf → Policy
     rate_limiting : (spans_per_second : ℕ) → Policy
-    and_policy : Policies → Policy
+    joined : Join → Policies → Policy
 
   -- the policies of one list, in order
   pub data Policies : Type 0 where
     no_more : Policies
     one_more : Policy → Policies → Policies
+
+-- what samples where each of these does
+abbrev pub and_policy : Policies → Policy
+and_policy parts = joined And parts
 
 -- ---- nodes: a node's number is its place in the walk that takes a policy before its parts
 
@@ -36,7 +29,7 @@ abbrev mutual
   pub nodes : Policy → ℕ
   nodes (leaf l) = 1
   nodes (rate_limiting limit) = 1
-  nodes (and_policy parts) = nodes_in parts + 1
+  nodes (joined join parts) = nodes_in parts + 1
 
   -- how many policies there are in all of these
   pub nodes_in : Policies → ℕ
@@ -50,7 +43,7 @@ abbrev mutual
   pub depth : Policy → ℕ
   depth (leaf l) = 1
   depth (rate_limiting limit) = 1
-  depth (and_policy parts) = depth_in parts + 1
+  depth (joined join parts) = depth_in parts + 1
 
   -- how many levels of policies there are in these
   pub depth_in : Policies → ℕ
@@ -64,7 +57,7 @@ abbrev mutual
   pub limits : Policy → (node : ℕ) → List LimiterNode
   limits (leaf l) node = []
   limits (rate_limiting limit) node = record { node = node; spans_per_second = limit } ∷ []
-  limits (and_policy parts) node = limits_in parts (node + 1)
+  limits (joined join parts) node = limits_in parts (node + 1)
 
   -- those of all of these
   pub limits_in : Policies → (node : ℕ) → List LimiterNode
@@ -83,27 +76,27 @@ is_empty no_more = true
 is_empty (one_more p rest) = false
 
 abbrev mutual
-  -- an `and` inside has no part
-  pub has_empty_and : Policy → Bool
-  has_empty_and (leaf l) = false
-  has_empty_and (rate_limiting limit) = false
-  has_empty_and (and_policy parts) = is_empty parts || has_empty_and_in parts
+  -- a list inside has no part
+  pub has_empty_inside : Policy → Bool
+  has_empty_inside (leaf l) = false
+  has_empty_inside (rate_limiting limit) = false
+  has_empty_inside (joined join parts) = is_empty parts || has_empty_inside_in parts
 
-  -- an `and` inside one of these has no part
-  pub has_empty_and_in : Policies → Bool
-  has_empty_and_in no_more = false
-  has_empty_and_in (one_more p rest) = has_empty_and p || has_empty_and_in rest
+  -- a list inside one of these has no part
+  pub has_empty_inside_in : Policies → Bool
+  has_empty_inside_in no_more = false
+  has_empty_inside_in (one_more p rest) = has_empty_inside p || has_empty_inside_in rest
 
--- the list is empty, or that of an `and` inside it
+-- the list is empty, or one inside it
 abbrev pub has_empty_list : Policies → Bool
-has_empty_list policies = is_empty policies || has_empty_and_in policies
+has_empty_list policies = is_empty policies || has_empty_inside_in policies
 
 abbrev mutual
   -- a leaf inside passes the test
   pub some_leaf : (Leaf → Bool) → Policy → Bool
   some_leaf test (leaf l) = test l
   some_leaf test (rate_limiting limit) = false
-  some_leaf test (and_policy parts) = some_leaf_in test parts
+  some_leaf test (joined join parts) = some_leaf_in test parts
 
   -- a leaf inside one of these passes the test
   pub some_leaf_in : (Leaf → Bool) → Policies → Bool

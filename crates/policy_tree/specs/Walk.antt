@@ -1,14 +1,14 @@
 -- Policies as the list in which a walk meets them: a policy before its parts, and these in order.
 use Rattle.std.specs.Prelude.{◌≡◌, ℕ, ◌+◌, List, [], ◌∷◌, ◌++◌, length}
 use Rattle.policy_tree.specs.declared.limiter_node.LimiterNode.{LimiterNode}
-use Rattle.policy_tree.specs.Tree.{Policy, Policies, leaf, rate_limiting, and_policy, no_more, one_more, nodes_in, limiters}
+use Rattle.policy_tree.specs.Tree.{Policy, Policies, leaf, rate_limiting, joined, no_more, one_more, nodes_in, limiters}
 
 abbrev mutual
   -- the policy, and behind it its parts
   pub walk_of : Policy → List Policy
   walk_of (leaf l) = leaf l ∷ []
   walk_of (rate_limiting limit) = rate_limiting limit ∷ []
-  walk_of (and_policy parts) = and_policy parts ∷ walk parts
+  walk_of (joined join parts) = joined join parts ∷ walk parts
 
   -- the policies of a list, each with its parts
   pub walk : Policies → List Policy
@@ -19,7 +19,7 @@ abbrev mutual
 abbrev pub limiter_at : (node : ℕ) → Policy → List LimiterNode
 limiter_at node (leaf l) = []
 limiter_at node (rate_limiting limit) = record { node = node; spans_per_second = limit } ∷ []
-limiter_at node (and_policy parts) = []
+limiter_at node (joined join parts) = []
 
 -- those of a list of policies, the first of which has this number
 abbrev pub limiters_from : (node : ℕ) → List Policy → List LimiterNode

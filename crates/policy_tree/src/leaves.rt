@@ -4,7 +4,7 @@ ghost use Rattle.policy_tree.specs.Tree.{some_leaf, some_leaf_in};
 ghost use Rattle.policy_tree.specs.Faults.{has_leaf_fault};
 ghost use Rattle.policy_tree.specs.Meaning.{meaning, policy_meaning};
 
-use crate::policy::{Policy, PolicyKind, Wanted};
+use crate::policy::{Leaf, Policy, PolicyKind, Wanted};
 
 /// A fault that a leaf may have.
 #[derive(Clone, Copy)]
@@ -15,28 +15,27 @@ pub enum LeafFault {
     NoValues,
 }
 
-/// Whether a leaf inside the policy has this fault.
-#[cycle(leaves)]
-fn has_fault(policy: &Policy, fault: LeafFault) -> bool
-    ensures { result ≡ some_leaf (has_leaf_fault fault) (policy_meaning policy.now) }
+/// Whether the leaf has this fault.
+fn leaf_has_fault(leaf: &Leaf, fault: LeafFault) -> bool
+    ensures { result ≡ has_leaf_fault fault leaf.now }
 {
-    match (&policy.kind, fault) {
+    match (leaf, fault) {
         (
-            PolicyKind::Latency {
+            Leaf::Latency {
                 threshold_ms,
                 upper_threshold_ms,
             },
             LeafFault::CrossedBounds,
         ) => *upper_threshold_ms != 0 && upper_threshold_ms <= threshold_ms,
         (
-            PolicyKind::SpanCount {
+            Leaf::SpanCount {
                 min_spans,
                 max_spans,
             },
             LeafFault::CrossedBounds,
         ) => *max_spans != 0 && max_spans < min_spans,
         (
-            PolicyKind::Attribute {
+            Leaf::Attribute {
                 wanted: Wanted::NumberWithin {
                     min_value,
                     max_value,
@@ -45,16 +44,27 @@ fn has_fault(policy: &Policy, fault: LeafFault) -> bool
             },
             LeafFault::CrossedBounds,
         ) => max_value < min_value,
-        (PolicyKind::StatusCode { codes }, LeafFault::NoValues) => codes.is_empty(),
+        (Leaf::StatusCode { codes }, LeafFault::NoValues) => codes.is_empty(),
         (
-            PolicyKind::Attribute {
+            Leaf::Attribute {
                 wanted: Wanted::StringAmong(values),
                 ..
             },
             LeafFault::NoValues,
         ) => values.is_empty(),
-        (PolicyKind::And { policies }, _) => some_has_fault(policies.as_slice(), fault),
         _ => false,
+    }
+}
+
+/// Whether a leaf inside the policy has this fault.
+#[cycle(leaves)]
+fn has_fault(policy: &Policy, fault: LeafFault) -> bool
+    ensures { result ≡ some_leaf (has_leaf_fault fault) (policy_meaning policy.now) }
+{
+    match &policy.kind {
+        PolicyKind::Leaf(leaf) => leaf_has_fault(leaf, fault),
+        PolicyKind::RateLimiting { .. } => false,
+        PolicyKind::Joined { policies, .. } => some_has_fault(policies.as_slice(), fault),
     }
 }
 

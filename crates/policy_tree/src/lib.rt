@@ -15,4 +15,4 @@ pub use fault::PolicyFault;
 pub use laws::limiters_are_of_the_walk;
 pub use limiter_node::LimiterNode;
 pub use policies::Policies;
-pub use policy::{Policy, PolicyKind, Wanted};
+pub use policy::{Join, Leaf, Policy, PolicyKind, Wanted};

@@ -10,7 +10,7 @@ fn has_doubled_names_inside(policy: &Policy) -> bool
     ensures { result ≡ (named policy.now).doubled }
 {
     match &policy.kind {
-        PolicyKind::And { policies } => has_doubled_names(policies.as_slice()),
+        PolicyKind::Joined { policies, .. } => has_doubled_names(policies.as_slice()),
         _ => false,
     }
 }

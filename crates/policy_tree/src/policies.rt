@@ -124,7 +124,11 @@ fn put_limiters(policy: &Policy, node: u16, found: &mut Vec<LimiterNode>) -> Res
             })?;
             Ok(node + 1)
         }
-        PolicyKind::And { policies } => put_limiters_in(policies.as_slice(), node + 1, found),
+        PolicyKind::Joined { policies, .. } => put_limiters_in(
+            policies.as_slice(),
+            node + 1,
+            found,
+        ),
         _ => Ok(node + 1),
     }
 }

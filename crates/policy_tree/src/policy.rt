@@ -17,6 +17,28 @@ pub struct Policy {
 #[cycle(policy)]
 #[derive(Drop)]
 pub enum PolicyKind {
+    /// What this leaf samples.
+    Leaf(Leaf),
+    /// A trace whose spans are granted by a limiter of so many spans per second.
+    RateLimiting { spans_per_second: u64 },
+    /// What is made of these policies. They are asked in order, up to the first that does not sample.
+    Joined { join: Join, policies: List<Policy> },
+}
+
+/// What is made of policies that are asked in order, up to the first that does not sample.
+#[derive(Clone, Copy, Debug, PartialEq, Eq)]
+pub enum Join {
+    /// A trace is sampled that each of them samples (`and_sub_policy`).
+    And,
+    /// A trace is sampled that one of them doesn't sample; there is one (`not_sub_policy`).
+    Not,
+    /// A trace is dropped that each of them samples, whatever any other policy says (`drop_sub_policy`).
+    Drop,
+}
+
+/// What a policy samples that has no parts and asks no limiter: it is decided by the spans of the trace alone.
+#[derive(Drop)]
+pub enum Leaf {
     /// Every trace.
     AlwaysSample,
     /// A trace that takes from the earliest start of its spans to their latest end, in whole milliseconds, at least
@@ -41,14 +63,11 @@ pub enum PolicyKind {
         min_spans: u64,
         max_spans: u64,
     },
-    /// A trace whose spans are granted by a limiter of so many spans per second.
-    RateLimiting {
-        spans_per_second: u64,
-    },
-    /// A trace that each of these policies samples. They are asked in order, up to the first that does not
-    /// (`and_sub_policy`).
-    And {
-        policies: List<Policy>,
+    /// A trace whose id has, behind the salt, a hash among the lowest: so many ten-thousandths of a percent of all
+    /// hashes, from 0 to 1000000 (`probabilistic`: `hash_salt`, `sampling_percentage`).
+    Probabilistic {
+        hash_salt: Text,
+        ten_thousandths: u32,
     },
 }
 
@@ -79,37 +98,12 @@ fn clone_kind(alloc: Global, kind: &PolicyKind) -> Result<PolicyKind, AllocError
     ensures { IfOk result (λ copy. copy ≡ kind.now) }
 {
     match kind {
-        PolicyKind::AlwaysSample => Ok(PolicyKind::AlwaysSample),
-        PolicyKind::Latency {
-            threshold_ms,
-            upper_threshold_ms,
-        } => Ok(PolicyKind::Latency {
-            threshold_ms: *threshold_ms,
-            upper_threshold_ms: *upper_threshold_ms,
-        }),
-        PolicyKind::StatusCode { codes } => Ok(PolicyKind::StatusCode {
-            codes: copy_codes(alloc, codes.as_slice())?,
-        }),
-        PolicyKind::Attribute {
-            key,
-            wanted,
-            invert_match,
-        } => Ok(PolicyKind::Attribute {
-            key: key.try_clone(alloc)?,
-            wanted: wanted.try_clone(alloc)?,
-            invert_match: *invert_match,
-        }),
-        PolicyKind::SpanCount {
-            min_spans,
-            max_spans,
-        } => Ok(PolicyKind::SpanCount {
-            min_spans: *min_spans,
-            max_spans: *max_spans,
-        }),
+        PolicyKind::Leaf(leaf) => Ok(PolicyKind::Leaf(leaf.try_clone(alloc)?)),
         PolicyKind::RateLimiting { spans_per_second } => Ok(PolicyKind::RateLimiting {
             spans_per_second: *spans_per_second,
         }),
-        PolicyKind::And { policies } => Ok(PolicyKind::And {
+        PolicyKind::Joined { join, policies } => Ok(PolicyKind::Joined {
+            join: *join,
             policies: clone_policies(alloc, policies)?,
         }),
     }
@@ -141,6 +135,47 @@ impl TryClone for Policy {
 impl TryClone for PolicyKind {
     fn try_clone(&self, alloc: Global) -> Result<PolicyKind, AllocError> {
         clone_kind(alloc, self)
+    }
+}
+
+impl TryClone for Leaf {
+    fn try_clone(&self, alloc: Global) -> Result<Leaf, AllocError> {
+        match self {
+            Leaf::AlwaysSample => Ok(Leaf::AlwaysSample),
+            Leaf::Latency {
+                threshold_ms,
+                upper_threshold_ms,
+            } => Ok(Leaf::Latency {
+                threshold_ms: *threshold_ms,
+                upper_threshold_ms: *upper_threshold_ms,
+            }),
+            Leaf::StatusCode { codes } => Ok(Leaf::StatusCode {
+                codes: copy_codes(alloc, codes.as_slice())?,
+            }),
+            Leaf::Attribute {
+                key,
+                wanted,
+                invert_match,
+            } => Ok(Leaf::Attribute {
+                key: key.try_clone(alloc)?,
+                wanted: wanted.try_clone(alloc)?,
+                invert_match: *invert_match,
+            }),
+            Leaf::SpanCount {
+                min_spans,
+                max_spans,
+            } => Ok(Leaf::SpanCount {
+                min_spans: *min_spans,
+                max_spans: *max_spans,
+            }),
+            Leaf::Probabilistic {
+                hash_salt,
+                ten_thousandths,
+            } => Ok(Leaf::Probabilistic {
+                hash_salt: hash_salt.try_clone(alloc)?,
+                ten_thousandths: *ten_thousandths,
+            }),
+        }
     }
 }
 

@@ -1,6 +1,6 @@
 //! How many policies a tree has, how deep it is, and whether some list of it is empty.
 ghost use Rattle.std.specs.Prelude.{◌≡◌, min};
-ghost use Rattle.policy_tree.specs.Tree.{nodes, nodes_in, depth, depth_in, has_empty_and, has_empty_list};
+ghost use Rattle.policy_tree.specs.Tree.{nodes, nodes_in, depth, depth_in, has_empty_inside, has_empty_list};
 ghost use Rattle.policy_tree.specs.Meaning.{meaning, policy_meaning};
 
 use crate::policy::{Policy, PolicyKind};
@@ -14,18 +14,18 @@ impl Policy {
     }
 }
 
-/// Whether an `and` inside the policy has no part.
+/// Whether a list inside the policy has no part.
 #[cycle(empty)]
-fn has_empty_and(policy: &Policy) -> bool
-    ensures { result ≡ has_empty_and (policy_meaning policy.now) }
+fn has_empty_inside(policy: &Policy) -> bool
+    ensures { result ≡ has_empty_inside (policy_meaning policy.now) }
 {
     match &policy.kind {
-        PolicyKind::And { policies } => has_empty_list(policies.as_slice()),
+        PolicyKind::Joined { policies, .. } => has_empty_list(policies.as_slice()),
         _ => false,
     }
 }
 
-/// Whether the list is empty, or that of an `and` inside it.
+/// Whether the list is empty, or one inside it.
 #[cycle(empty)]
 #[tactic(auto, using(crate::proofs::Lists::list_is_empty))]
 pub fn has_empty_list(list: &[Policy]) -> bool
@@ -35,7 +35,7 @@ pub fn has_empty_list(list: &[Policy]) -> bool
         return true;
     }
     for policy in list {
-        if has_empty_and(policy) {
+        if has_empty_inside(policy) {
             return true;
         }
     }
@@ -56,7 +56,7 @@ fn measure(policy: &Policy) -> Size
     ensures number { result.number ≡ min (nodes (policy_meaning policy.now)) usize.MAX }
 {
     match &policy.kind {
-        PolicyKind::And { policies } => {
+        PolicyKind::Joined { policies, .. } => {
             let inside = measure_in(policies.as_slice());
             Size {
                 levels: inside.levels.saturating_add(1),

@@ -1,7 +1,8 @@
 -- Worked rows of a limiter's grants, by computation.
 -- No contract rests on it: it shows the definitions on worked cases.
 use Rattle.std.specs.Prelude.{ℕ, Bool, true, false, List, [], ◌∷◌, ◌≡◌, refl}
-use Rattle.policy_tree.specs.Tree.{Policies, no_more, one_more, leaf, and_policy, rate_limiting, span_count, limiters}
+use Rattle.policy_tree.specs.Tree.{Policies, no_more, one_more, leaf, and_policy, rate_limiting, limiters}
+use Rattle.policy_tree.specs.declared.policy.Leaf.TheVariants.{SpanCount}
 use Rattle.rate_budget.specs.Grant.{Asking, grants, granted_after}
 use Rattle.rate_budget.specs.Budget.{limiter_counts, after}
 
@@ -19,7 +20,7 @@ refused_asking = refl
 
 -- an `and` of a leaf and a limit of 3, and a limit of 4
 abbrev two_limits : Policies
-two_limits = one_more (and_policy (one_more (leaf (span_count 2 0)) (one_more (rate_limiting 3) no_more))) (one_more (rate_limiting 4) no_more)
+two_limits = one_more (and_policy (one_more (leaf (SpanCount 2 0)) (one_more (rate_limiting 3) no_more))) (one_more (rate_limiting 4) no_more)
 
 pub limiter_nodes : limiters two_limits ≡ record { node = 2; spans_per_second = 3 } ∷ record { node = 3; spans_per_second = 4 } ∷ []
 limiter_nodes = refl

@@ -8,6 +8,7 @@ use span_ids::Reason;
 use span_sink::{Sink, SinkFault};
 use std::alloc::{AllocError, Global};
 use std::test::Fail;
+use tsc_config::laws::settings_are_of_their_keys;
 use tsc_config::{Config, ConfigFault, read};
 use tsc_script::Reads;
 
@@ -85,7 +86,10 @@ fn configured(alloc: Global) -> Result<Config, Fail>
     ensures { IfOk result InRange }
 {
     match read(alloc, ERRORS) {
-        Ok(config) => Ok(config),
+        Ok(config) => {
+            settings_are_of_their_keys();
+            Ok(config)
+        }
         Err(ConfigFault::NoMemory) => Err(Fail::from(AllocError)),
         Err(_) => Err(Fail::from("configuration")),
     }

@@ -2,6 +2,8 @@ pub mod Counted
 pub mod Places
 pub mod Tallied
 pub mod Logs
+pub mod OneByOne
+pub mod ManyTurns
 pub mod LaneFacts
 pub mod ShardFacts
 pub mod ExporterFacts

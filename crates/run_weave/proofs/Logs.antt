@@ -15,9 +15,9 @@ use Rattle.otlp_types.specs.declared.arrival.Arrival.{Arrival}
 use Rattle.otlp_types.specs.declared.arrival.Item.{Item}
 use Rattle.otlp_types.specs.declared.span.Ids.{Ids}
 use Rattle.span_ids.specs.declared.keys.ConnKey.{ConnKey}
-use Rattle.span_ids.specs.declared.outcome.Reason.TheVariants.{InvalidId, QueueFull, NoMemory, Evicted, NotSampled, LateNotSampled, ExporterDown}
+use Rattle.span_ids.specs.declared.outcome.Reason.TheVariants.{InvalidId, QueueFull}
 use Rattle.drop_ledger.specs.declared.count.Count.{Count}
-use Rattle.drop_ledger.specs.declared.count.Count.TheVariants.{Received, Handed, Dropped}
+use Rattle.drop_ledger.specs.declared.count.Count.TheVariants.{Received, Dropped}
 use Rattle.drop_ledger.specs.Places.{place_of, with_added, Addition, after_adding, added_to, Gains}
 use Rattle.drop_ledger.proofs.Gains.{gains_both, gains_one}
 use Rattle.drop_ledger.proofs.EachCount.{each_count}
@@ -38,27 +38,15 @@ use Rattle.journal_theory.proofs.ListFacts.{Each, Each-append, Each-weaker, tall
 use Rattle.world_theory.specs.Step.{has_ids, is_of_conn, arrivals}
 use Rattle.world_theory.proofs.Received.{on_conn, count_is}
 use Rattle.span_weave.specs.Threads.{AreNumbered}
-use Rattle.span_weave.specs.Pushes.{TriesOf}
 use Rattle.span_weave.proofs.Numbering.{numbers_go_on}
 use Rattle.span_weave.proofs.Tries.{pushes_are_tries, tries_then}
 use Rattle.run_weave.specs.Lanes.{Log, log, Came, Logs, ReceivesOne, ReceivesAll}
 use Rattle.run_weave.specs.Workers.{zeros}
+use Rattle.run_weave.specs.Received.{Tallied, lane_gains, Keeps}
 use Rattle.run_weave.proofs.Counted.{any_uncounted, full_as_uncounted}
-use Rattle.run_weave.proofs.Tallied.{Tallied, gained_there}
+use Rattle.run_weave.proofs.Tallied.{gained_there}
 
 -- ---- what a lane counts
-
--- of these spans, of which so many found a queue full, a lane counts so many at each count
-abbrev pub lane_gains : List Arrival → (refused : ℕ) → Count → ℕ
-lane_gains received refused Received = length received
-lane_gains received refused Handed = 0
-lane_gains received refused (Dropped InvalidId) = length (filter (λ a. not (has_ids a)) received)
-lane_gains received refused (Dropped QueueFull) = refused
-lane_gains received refused (Dropped NoMemory) = 0
-lane_gains received refused (Dropped Evicted) = 0
-lane_gains received refused (Dropped NotSampled) = 0
-lane_gains received refused (Dropped LateNotSampled) = 0
-lane_gains received refused (Dropped ExporterDown) = 0
 
 gains_append : (xs ys : List Arrival) (first others : ℕ) (count : Count) → lane_gains (xs ++ ys) (first + others) count ≡ lane_gains xs first count + lane_gains ys others count
 gains_append xs ys first others = each_count (λ count. lane_gains (xs ++ ys) (first + others) count ≡ lane_gains xs first count + lane_gains ys others count) (length-append xs ys) refl
@@ -133,7 +121,7 @@ same_arrivals : (conn : ConnKey) (next moment : ℕ) (records : List Record) →
 same_arrivals conn next moment [] = refl
 same_arrivals conn next moment (r ∷ rest) = ap (λ (z : List Arrival). arrival_of conn next moment r ∷ z) (same_arrivals conn (next + 1) moment rest)
 
-on_their_conn : (conn : ConnKey) (next moment : ℕ) (records : List Record) → Each (λ (a : Arrival). a.key.conn ≡ conn) (arrivals_from conn next moment records)
+pub on_their_conn : (conn : ConnKey) (next moment : ℕ) (records : List Record) → Each (λ (a : Arrival). a.key.conn ≡ conn) (arrivals_from conn next moment records)
 on_their_conn conn next moment [] = tt
 on_their_conn conn next moment (r ∷ rest) = (refl, on_their_conn conn (next + 1) moment rest)
 
@@ -171,27 +159,20 @@ fills capacity p q h =
     let all : pushes full.0 ≡ pops full.0 ++ full.1 = popped_then_held capacity full.0 full.1 full.2 in
     omega (arith, full.3, ap (λ (z : List Item). length z) (sym all ∙ full.4), length-append (pops full.0) full.1)
 
-or_false : (b : Bool) → (b || false) ≡ b
+pub or_false : (b : Bool) → (b || false) ≡ b
 or_false true = refl
 or_false false = refl
 
-or_assoc : (a b c : Bool) → ((a || b) || c) ≡ (a || (b || c))
+pub or_assoc : (a b c : Bool) → ((a || b) || c) ≡ (a || (b || c))
 or_assoc true b c = refl
 or_assoc false b c = refl
 
 -- ---- one request
 
 module _ (capacity number : ℕ) (first : List (EndState Item)) where
-  -- what was received is numbered, and was tried at ports that were first these, and counted, unless a number would have passed 2^64-1
-  pub record Keeps (is_full : Bool) (received : List Arrival) (ports : List (EndState Item)) (counted : List ℕ) : Type 0 where
-    pub refused : ℕ
-    pub numbered : AreNumbered number received
-    pub tries : TriesOf capacity (λ (e : EndState Item). e.items) received first refused ports
-    pub counts : Tallied is_full (lane_gains received refused) counted
-
   -- a lane on a connection
   pub record OnConn (is_full : Bool) (x : Log) : Type 0 where
-    pub keeps : Keeps is_full x.received x.at.lane.ports x.at.counted
+    pub keeps : Keeps capacity number first is_full x.received x.at.lane.ports x.at.counted
     pub lane_is : x.at.lane.number ≡ number
     pub key_is : x.at.conn.key.lane ≡ number
     pub next_is : x.at.conn.next ≡ count_by (is_of_conn x.at.conn.key) x.received
@@ -224,7 +205,7 @@ module _ (capacity number : ℕ) (first : List (EndState Item)) where
         (Each-weaker (λ (a : Arrival). a.key.conn ≡ key) (λ (a : Arrival). a.key.conn.ordinal < old.at.lane.connected) came (λ a e. subst (λ (c : ConnKey). c.ordinal < old.at.lane.connected) (sym e) o.current) (on_their_conn key old.at.conn.next moment records)));
   }
     where
-      k : Keeps is_full old.received old.at.lane.ports old.at.counted
+      k : Keeps capacity number first is_full old.received old.at.lane.ports old.at.counted
       k = o.keeps
 
       key : ConnKey
@@ -281,7 +262,7 @@ module _ (capacity number : ℕ) (first : List (EndState Item)) where
       go Busy is r same = let kept = same tt in ([], refl, refused_counted is_full old s new (ap additions_of is) o kept.0 kept.1 h.counts)
 
   -- the requests of a connection
-  takes_all : (is_full : Bool) (old : Log) (ss : List Submission) (new : Intake (EndState Item)) → OnConn is_full old → SubmitsAll (Submits (TakesItem capacity) (IsRefused capacity)) old.at ss new
+  pub takes_all : (is_full : Bool) (old : Log) (ss : List Submission) (new : Intake (EndState Item)) → OnConn is_full old → SubmitsAll (Submits (TakesItem capacity) (IsRefused capacity)) old.at ss new
       → (received : List Arrival) × SubmitsAll (Logs capacity) old ss (log new received) × OnConn (is_full || any_uncounted ss) (log new received)
   takes_all is_full old [] new o h = (old.received, ap (λ (at : Intake (EndState Item)). log at old.received) h, subst (λ (b : Bool). OnConn b (log new old.received)) (sym (or_false is_full)) (subst (λ (at : Intake (EndState Item)). OnConn is_full (log at old.received)) (sym h) o))
   takes_all is_full old (s ∷ ss) new o h =
@@ -293,7 +274,7 @@ module _ (capacity number : ℕ) (first : List (EndState Item)) where
 
   -- a lane between two connections
   pub record Between (is_full : Bool) (at : LaneAt) (received : List Arrival) : Type 0 where
-    pub keeps : Keeps is_full received at.lane.ports at.counted
+    pub keeps : Keeps capacity number first is_full received at.lane.ports at.counted
     pub lane_is : at.lane.number ≡ number
     pub below : Each (λ (a : Arrival). a.key.conn.ordinal < at.lane.connected) received
 
@@ -303,7 +284,7 @@ module _ (capacity number : ℕ) (first : List (EndState Item)) where
       let served = h.3 in
       let does = served.3 in
       let all = takes_all false (log (intake (connected at.lane) (first_conn at.lane) at.counted) received) (submissions (events_of served.0)) (intake new.lane h.0 new.counted) begin does.3 in
-      let on = subst (λ (full : Bool). OnConn full (log (intake new.lane h.0 new.counted) all.0)) (full_as_uncounted served.0 end served.1) all.2 in
+      let on = subst (λ (full : Bool). OnConn full (log (intake new.lane h.0 new.counted) all.0)) (full_as_uncounted c.reader.takes_gzip served.0 end served.1) all.2 in
       (all.0, (h.0, h.1, h.2, (served.0, served.1, served.2, (does.0, does.1, does.2, all.1))), record { keeps = on.keeps; lane_is = on.lane_is; below = on.below })
     where
       begin : OnConn false (log (intake (connected at.lane) (first_conn at.lane) at.counted) received)

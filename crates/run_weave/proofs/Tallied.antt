@@ -7,11 +7,7 @@ use Rattle.drop_ledger.specs.Places.{place_of, Gains, Passes, Tallies}
 use Rattle.drop_ledger.proofs.Added.{numbers_are_sums, zero_at}
 use Rattle.run_weave.specs.Jobs.{counting}
 use Rattle.run_weave.specs.Workers.{zeros}
-
--- so many were counted at each count, or with them a number passes
-abbrev pub Tallied : (is_full : Bool) → (gained : Count → ℕ) → List ℕ → Type 0
-Tallied true gained counted = Passes gained zeros
-Tallied false gained counted = Gains gained zeros counted
+use Rattle.run_weave.specs.Received.{Tallied}
 
 -- the number at a count, where so many were counted there from zeros on
 pub gained_there : (gained : Count → ℕ) (numbers : List ℕ) (count : Count) → Gains gained zeros numbers → slice_index numbers (place_of count) ≡ gained count

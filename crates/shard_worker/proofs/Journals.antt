@@ -20,7 +20,7 @@ use Rattle.shard_core.specs.Held.{Held, settings, StandsFor, is_finished}
 use Rattle.journal_theory.specs.Standing.{Standing, ends}
 use Rattle.journal_theory.specs.Marked.{MarksApply, marks_apply}
 use Rattle.shard_worker.specs.Asking.{AskedBy}
-use Rattle.shard_worker.specs.Work.{shipments, items, with_ids, journal_of, counted_in, Works}
+use Rattle.shard_worker.specs.Work.{shipments, items, HaveIds, with_ids, journal_of, counted_in, Works}
 use Rattle.shard_worker.specs.Turns.{counted_dealt, HasDone, TakesItem}
 
 filter-append : {X : Type 0} (p : X → Bool) (xs ys : List X) → filter p (xs ++ ys) ≡ filter p xs ++ filter p ys
@@ -32,6 +32,11 @@ filter-append p (x ∷ xs) ys = go (p x) (filter-append p xs ys) where
 
 abbrev entries : List (ℕ × Entry) → List Entry
 entries popped = map (λ (x : ℕ × Entry). x.1) popped
+
+-- each span that was popped has valid ids
+all_taken : (popped : List (ℕ × Entry)) → HaveIds popped → with_ids popped ≡ popped
+all_taken [] have = refl
+all_taken (x ∷ rest) have = ap (λ (b : Bool). cond b (x ∷ with_ids rest) (with_ids rest)) have.0 ∙ ap (λ (z : List (ℕ × Entry)). x ∷ z) (all_taken rest have.1)
 
 with_one : (place : ℕ) (e : Entry) (b : Bool) → has_ids e.item ≡ b → with_ids ((place, e) ∷ []) ≡ cond b ((place, e) ∷ []) []
 with_one place e b is = ap (λ c. cond c ((place, e) ∷ []) []) is
@@ -117,6 +122,7 @@ works asks first number s shard receiver items_shipped sender before tally limit
     let same : effect_dealt s J done.dealt ≡ effect s J = subst (λ z. effect_dealt z J done.dealt ≡ effect z J) is done.all_dealt in
     record {
       of_queues = kept.0;
+      whole = λ have. ap (λ l. reverse (entries l)) (all_taken popped have);
       ended = sym (all_ended J s.senders) ∙ ap (λ z. list_all (λ b. b) (ends J z.senders)) (sym is) ∙ sym (ap (λ (st : Standing). list_all (λ b. b) st.ends) done.at.stands.1) ∙ finished;
       dealt = done.dealt;
       stands = done.at.stands;

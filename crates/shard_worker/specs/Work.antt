@@ -1,5 +1,6 @@
 -- What a shard's thread did.
 use Rattle.std.specs.Prelude.{◌≡◌, ℕ, Bool, true, List, [], ◌∷◌, ◌++◌, map, filter, reverse, length}
+use Rattle.std.specs.List.{AllByRecursion}
 use Rattle.otlp_types.specs.declared.arrival.Arrival.{Arrival}
 use Rattle.otlp_types.specs.declared.arrival.Item.{Item}
 use Rattle.otlp_types.specs.declared.arrival.Shipment.{Shipment}
@@ -23,6 +24,10 @@ shipments spans = map (λ a. Span a) spans
 abbrev pub items : List (ℕ × Entry) → List (ℕ × Item)
 items popped = map (λ (x : ℕ × Entry). (x.0, x.1.item)) popped
 
+-- whether each popped span has valid ids, as those that lanes push do
+abbrev pub HaveIds : List (ℕ × Entry) → Type 0
+HaveIds popped = AllByRecursion (λ (x : ℕ × Entry). has_ids x.1.item ≡ true) popped
+
 -- the entries whose item a shard takes: a span without valid ids belongs to no shard
 abbrev pub with_ids : List (ℕ × Entry) → List (ℕ × Entry)
 with_ids popped = filter (λ (x : ℕ × Entry). has_ids x.1.item) popped
@@ -42,6 +47,8 @@ counted_in s past (Dropped reason) = length (under reason (effect s past).counte
 pub record Works {L : Type 0} (asks : L → ℕ → ℕ → ℕ → Bool → L → Type 0) (number : ℕ) (s : Settings) (shard : Held) (receiver : ReceiverState Item) (sender : EndState Shipment) (before after : TallyState) (first last : L) (popped : List (ℕ × Entry)) : Type 0 where
   -- they are what was popped of each sender's queue, in order
   pub of_queues : IsMergeOf receiver.ends (items popped)
+  -- where no popped span is without valid ids, the journal has all that was popped; one without is in no journal, so it is neither shipped nor counted
+  pub whole : HaveIds popped → journal_of popped ≡ reverse (map (λ (x : ℕ × Entry). x.1) popped)
   -- every sender's End is among them
   pub ended : have_ended (journal_of popped) s.senders ≡ true
   -- the shard stands for their journal

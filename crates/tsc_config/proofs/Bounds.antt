@@ -1,12 +1,20 @@
 -- The faults that the walk over a table finds have a number below that of too few traces.
 -- For the contract of `answers_least_fault`.
-use Rattle.std.proofs.Common.{◌≡◌, ◌<◌, ℤ, pos, Bool, true, false, ◌⊎◌, inl, inr, arith, codes, int_le, ◌&&◌, Option, None, Some, if◌then◌else◌}
+use Rattle.std.proofs.Common.{◌≡◌, ◌<◌, ℤ, pos, Bool, true, false, ◌⊎◌, inl, inr, arith, codes, List, [], ◌∷◌, int_le, ◌&&◌, Option, None, Some, if◌then◌else◌}
 use Rattle.std.specs.Str.{bytes_eq}
-use Rattle.toml.specs.Data.{Data, string, integer, boolean, array, table, Items, no_items, item, Members, no_members, member, get_member}
+use Rattle.toml.specs.Data.{Data, string, integer, float, boolean, array, table, Items, no_items, item, Members, no_members, member, get_member}
 use Rattle.tsc_config.proofs.FaultSets.{least_is_one}
-use Rattle.tsc_config.specs.Keys.{has_unknown_key, type_name, type_at, type_of, code_of}
-use Rattle.tsc_config.specs.Faults.{config_fault_number, least, optional, required, unknown_fault, integer_fault, natural_fault, whole_fault, truth_fault, text_fault, type_fault, code_fault, named_fault, items_fault, array_fault}
+use Rattle.policy_tree.specs.declared.policy.Join.{Join}
+use Rattle.policy_tree.specs.declared.policy.Join.TheVariants as join_is
+use Rattle.tsc_config.specs.Percentages.{percentage_of}
+use Rattle.tsc_config.specs.Keys.{has_unknown_key, type_name, type_at, type_of, code_of, join_type, join_name, sub_key, join_at}
+use Rattle.tsc_config.specs.Faults.{config_fault_number, least, optional, required, unknown_fault, integer_fault, whole_fault, truth_fault, text_fault, type_fault, code_fault, percentage_fault, named_fault, items_fault, array_fault, item_fault, wanted_fault, each_setting_fault}
 use Rattle.tsc_config.specs.Faults as spec
+use Rattle.tsc_config.specs.PolicySettings.{Setting, settings as spec_settings}
+use Rattle.tsc_config.specs.declared.policy_settings.ItemKind.{ItemKind}
+use Rattle.tsc_config.specs.declared.policy_settings.ItemKind.TheVariants as item_is
+use Rattle.tsc_config.specs.declared.policy_settings.ValueKind.{ValueKind}
+use Rattle.tsc_config.specs.declared.policy_settings.ValueKind.TheVariants as value_is
 use Rattle.tsc_config.specs.declared.fault.ConfigFault.{ConfigFault}
 use Rattle.tsc_config.specs.declared.fault.ConfigFault.TheVariants.{UnknownKey, MissingKey, WrongType, OutOfRange}
 use Rattle.tsc_config.specs.declared.kinds.PolicyType.{PolicyType}
@@ -67,9 +75,6 @@ wholes : (value : Data) → IsSmall (whole_fault value)
 wholes (integer number) = none
 wholes _ = wrong
 
-naturals : (value : Data) → IsSmall (natural_fault value)
-naturals value = integers (pos 0) (pos 9223372036854775807) value
-
 named : {A : Type 0} → (found : Option A) → IsSmall (named_fault found)
 named None = only OutOfRange (omega arith)
 named (Some found) = none
@@ -82,6 +87,11 @@ status_codes : (value : Data) → IsSmall (code_fault value)
 status_codes (string text) = named (code_of (string text))
 status_codes _ = wrong
 
+percentages : (value : Data) → IsSmall (percentage_fault value)
+percentages (integer number) = named (percentage_of (integer number))
+percentages (float number) = named (percentage_of (float number))
+percentages _ = wrong
+
 all_items : (f : Data → Option ConfigFault) → ((value : Data) → IsSmall (f value)) → (items : Items) → IsSmall (items_fault f items)
 all_items f each no_items = none
 all_items f each (item value rest) = both _ _ (each value) (all_items f each rest)
@@ -90,30 +100,35 @@ arrays : (f : Data → Option ConfigFault) → ((value : Data) → IsSmall (f va
 arrays f each (array items) = all_items f each items
 arrays f each _ = wrong
 
-attributes : (members : Members) (wanted : Option ConfigFault) → IsSmall wanted → IsSmall (spec.attribute_fault members wanted)
-attributes members wanted w =
-    both _ _ (requiredly text_fault texts (get_member (codes "key") members))
-    (both wanted _ w (optionally truth_fault truths (get_member (codes "invert_match") members)))
+items : (kind : ItemKind) (value : Data) → IsSmall (item_fault kind value)
+items item_is.Text value = texts value
+items item_is.StatusCode value = status_codes value
 
-rows : (kind : PolicyType) (members : Members) → IsSmall (spec.rows_fault kind members)
-unfolding spec.rows_fault
-rows type_is.Latency members = both _ _ (requiredly natural_fault naturals (get_member (codes "threshold_ms") members)) (optionally natural_fault naturals (get_member (codes "upper_threshold_ms") members))
-rows type_is.StatusCode members = requiredly (array_fault code_fault) (arrays code_fault status_codes) (get_member (codes "status_codes") members)
-rows type_is.StringAttribute members = attributes members _ (requiredly (array_fault text_fault) (arrays text_fault texts) (get_member (codes "values") members))
-rows type_is.NumericAttribute members = attributes members _ (both _ _ (optionally whole_fault wholes (get_member (codes "min_value") members)) (optionally whole_fault wholes (get_member (codes "max_value") members)))
-rows type_is.BooleanAttribute members = attributes members _ (requiredly truth_fault truths (get_member (codes "value") members))
-rows type_is.SpanCount members = both _ _ (requiredly natural_fault naturals (get_member (codes "min_spans") members)) (optionally natural_fault naturals (get_member (codes "max_spans") members))
-rows type_is.RateLimiting members = requiredly natural_fault naturals (get_member (codes "spans_per_second") members)
-rows type_is.AlwaysSample _ = none
-rows type_is.And _ = none
+values : (kind : ValueKind) (value : Data) → IsSmall (wanted_fault kind value)
+values (value_is.Integer lowest greatest) value = integers lowest greatest value
+values value_is.Whole value = wholes value
+values value_is.Truth value = truths value
+values value_is.Text value = texts value
+values value_is.PolicyType value = types value
+values value_is.Percentage value = percentages value
+values (value_is.Array kind) value = arrays (item_fault kind) (items kind) value
+
+key : (r : Bool) (kind : ValueKind) (at : Option Data) → IsSmall (if r then required (wanted_fault kind) at else optional (wanted_fault kind) at)
+key r kind at = either r _ _ (requiredly (wanted_fault kind) (values kind) at) (optionally (wanted_fault kind) (values kind) at)
+
+each : (rows : List Setting) (members : Members) → IsSmall (each_setting_fault rows members)
+each [] members = none
+each (s ∷ rest) members = both _ _ (key s.is_required s.value (get_member s.name members)) (each rest members)
 
 settings : (kind : PolicyType) (value : Data) → IsSmall (spec.settings_fault kind value)
-settings kind (table members) = both _ _ (unknown (table_is.Settings kind) members) (rows kind members)
+settings kind (table members) = both _ _ (unknown (table_is.Settings kind) members) (each (spec_settings kind) members)
 settings kind _ = wrong
 
 settings_at : (kind : PolicyType) (members : Members) (nested : Option ConfigFault) → IsSmall nested → IsSmall (spec.settings_at_fault kind members nested)
 settings_at type_is.AlwaysSample _ nested n = none
 settings_at type_is.And _ nested n = n
+settings_at type_is.Not _ nested n = n
+settings_at type_is.Drop _ nested n = n
 settings_at kind members nested n = requiredly (spec.settings_fault kind) (settings kind) (get_member (type_name kind) members)
 
 typed : (found : Option PolicyType) (members : Members) (nested : Option ConfigFault) → IsSmall nested → IsSmall (spec.typed_fault_where found members nested)
@@ -136,20 +151,26 @@ mutual
   policy_items (item value rest) = both _ _ (policy value) (policy_items rest)
 
   policy : (value : Data) → IsSmall (spec.policy_fault value)
-  policy (table members) = policy_table members (spec.and_fault members) (ands members)
+  policy (table members) = policy_table members (spec.parts_fault (join_at members) members) (parts (join_at members) members)
   policy _ = wrong
 
-  ands : (members : Members) → IsSmall (spec.and_fault members)
-  ands no_members = missing
-  ands (member key value rest) = either (bytes_eq key (codes "and")) _ _ (and_settings value) (ands rest)
+  parts : (join : Join) (members : Members) → IsSmall (spec.parts_fault join members)
+  parts join no_members = missing
+  parts join (member key value rest) = either (bytes_eq key (join_name join)) _ _ (parts_settings join value) (parts join rest)
 
-  and_settings : (value : Data) → IsSmall (spec.and_settings_fault value)
-  and_settings (table members) = both _ _ (unknown (table_is.Settings type_is.And) members) (sub_policies members)
-  and_settings _ = wrong
+  parts_settings : (join : Join) (value : Data) → IsSmall (spec.parts_settings_fault join value)
+  parts_settings join (table members) = both _ _ (unknown (table_is.Settings (join_type join)) members) (sub_policies join members)
+  parts_settings join _ = wrong
 
-  sub_policies : (members : Members) → IsSmall (spec.sub_policies_fault members)
-  sub_policies no_members = missing
-  sub_policies (member key value rest) = either (bytes_eq key (codes "and_sub_policy")) _ _ (policies value) (sub_policies rest)
+  sub_policies : (join : Join) (members : Members) → IsSmall (spec.sub_policies_fault join members)
+  sub_policies join no_members = missing
+  sub_policies join (member key value rest) = either (bytes_eq key (sub_key join)) _ _ (sub_value join value) (sub_policies join rest)
+
+  sub_value : (join : Join) (value : Data) → IsSmall (spec.sub_value_fault join value)
+  sub_value join_is.And (array items) = policy_items items
+  sub_value join_is.Not (table members) = policy_table members (spec.parts_fault (join_at members) members) (parts (join_at members) members)
+  sub_value join_is.Drop (array items) = policy_items items
+  sub_value _ _ = wrong
 
 sizes : (greatest : ℤ) (at : Option Data) (least_number : ℤ) → IsSmall (optional (integer_fault least_number greatest) at)
 sizes greatest at least_number = optionally (integer_fault least_number greatest) (integers least_number greatest) at
@@ -172,7 +193,9 @@ table_small members =
     (sizes (pos 60000) (get_member (codes "tick_ms") members) (pos 1)))))))
     (both _ _ (both _ _ (sizes (pos 65536) (get_member (codes "queue_capacity") members) (pos 1))
     (both _ _ (sizes (pos 65536) (get_member (codes "export_capacity") members) (pos 1))
-    (sizes (pos 8192) (get_member (codes "send_batch_size") members) (pos 1))))
+    (both _ _ (sizes (pos 8192) (get_member (codes "send_batch_size") members) (pos 1))
+    (sizes (pos 65536) (get_member (codes "max_connections") members) (pos 1)))))
     (both _ _ (optionally text_fault texts (get_member (codes "listen") members))
+    (both _ _ (optionally truth_fault truths (get_member (codes "accept_gzip") members))
     (both _ _ (optionally spec.cache_fault caches (get_member (codes "decision_cache") members))
-    (requiredly spec.policies_fault policies (get_member (codes "policies") members))))))
+    (requiredly spec.policies_fault policies (get_member (codes "policies") members)))))))

@@ -1,13 +1,18 @@
 -- The walk answers the least of the faults that the table has.
 -- For the contract of `answers_least_fault`.
-use Rattle.std.proofs.Common.{◌≡◌, ℕ, ◌≤◌, pos, Bool, true, false, ◌⊎◌, inl, inr, refl, ap, arith, codes, Option, None, Some, if◌then◌else◌, nat_lt}
+use Rattle.std.proofs.Common.{◌≡◌, ℕ, ◌≤◌, pos, Bool, true, false, ◌⊎◌, inl, inr, refl, ap, arith, codes, List, [], ◌∷◌, Option, None, Some, if◌then◌else◌, nat_lt}
 use Rattle.std.proofs.lemmas.Bool.Decides.{nat_tests}
 use Rattle.std.specs.Str.{bytes_eq}
 use Rattle.toml.specs.Data.{Data, array, table, Items, no_items, item, Members, no_members, member, get_member}
-use Rattle.tsc_config.specs.Keys.{type_name, type_at}
-use Rattle.tsc_config.specs.Faults.{config_fault_number, least, optional, required, unknown_fault, integer_fault, whole_fault, truth_fault, text_fault, type_fault, code_fault, items_fault, array_fault}
+use Rattle.policy_tree.specs.declared.policy.Join.{Join}
+use Rattle.policy_tree.specs.declared.policy.Join.TheVariants as join_is
+use Rattle.tsc_config.specs.Keys.{type_name, type_at, join_type, join_name, sub_key, join_at}
+use Rattle.tsc_config.specs.Faults.{config_fault_number, least, optional, required, unknown_fault, integer_fault, text_fault, truth_fault, type_fault, items_fault, array_fault, item_fault, wanted_fault, each_setting_fault}
 use Rattle.tsc_config.specs.Faults as spec
-use Rattle.tsc_config.specs.FaultSets.{IsLeastOf, OptionalHas, RequiredHas, SomeItemHas, ArrayHas, AttributeHas, RowsHave, SettingsHave, SettingsAtHave, TypedHas, PolicyTableHas, PoliciesHave, SomePolicyHas, PolicyHas, AndHas, AndSettingsHave, SubPoliciesHave, CacheHas, NumbersHave, SizesHave, HasFault}
+use Rattle.tsc_config.specs.FaultSets.{IsLeastOf, OptionalHas, RequiredHas, SomeItemHas, ArrayHas, ValueHas, KeyHas, SomeSettingHas, RowsHave, SettingsHave, SettingsAtHave, TypedHas, PolicyTableHas, PoliciesHave, SomePolicyHas, PolicyHas, PartsHave, PartsSettingsHave, SubPoliciesHave, SubValueHas, CacheHas, NumbersHave, SizesHave, HasFault}
+use Rattle.tsc_config.specs.PolicySettings.{Setting, settings}
+use Rattle.tsc_config.specs.declared.policy_settings.ValueKind.{ValueKind}
+use Rattle.tsc_config.specs.declared.policy_settings.ValueKind.TheVariants as value_is
 use Rattle.tsc_config.specs.declared.fault.ConfigFault.{ConfigFault}
 use Rattle.tsc_config.specs.declared.kinds.PolicyType.{PolicyType}
 use Rattle.tsc_config.specs.declared.kinds.PolicyType.TheVariants as type_is
@@ -110,33 +115,28 @@ array_least f _ = alone WrongType
 rows : (a b : Option ConfigFault) → IsLeastOf (λ fault. (a ≡ Some fault) ⊎ (b ≡ Some fault)) (least a b)
 rows a b = both (λ fault. a ≡ Some fault) (λ fault. b ≡ Some fault) a b (row a) (row b)
 
-attribute_least : (members : Members) (Wanted : ConfigFault → Type 0) (wanted : Option ConfigFault) → IsLeastOf Wanted wanted → IsLeastOf (AttributeHas members Wanted) (spec.attribute_fault members wanted)
-attribute_least members Wanted wanted w =
-    let key : Option ConfigFault = required text_fault (get_member (codes "key") members) in
-    let invert : Option ConfigFault = optional truth_fault (get_member (codes "invert_match") members) in
-    both (λ fault. key ≡ Some fault) (λ fault. Wanted fault ⊎ (invert ≡ Some fault)) key (least wanted invert) (row key)
-    (both Wanted (λ fault. invert ≡ Some fault) wanted invert w (row invert))
+value_least : (kind : ValueKind) (value : Data) → IsLeastOf (ValueHas kind value) (wanted_fault kind value)
+value_least (value_is.Array kind) value = array_least (item_fault kind) value
+value_least kind value = row (wanted_fault kind value)
 
-rows_least : (kind : PolicyType) (members : Members) → IsLeastOf (RowsHave kind members) (spec.rows_fault kind members)
-unfolding spec.rows_fault
-rows_least type_is.Latency members = rows _ _
-rows_least type_is.StatusCode members = required_least (ArrayHas code_fault) (array_fault code_fault) (array_least code_fault) _
-rows_least type_is.StringAttribute members = attribute_least members _ _ (required_least (ArrayHas text_fault) (array_fault text_fault) (array_least text_fault) (get_member (codes "values") members))
-rows_least type_is.NumericAttribute members =
-    attribute_least members _ _ (rows (optional whole_fault (get_member (codes "min_value") members)) (optional whole_fault (get_member (codes "max_value") members)))
-rows_least type_is.BooleanAttribute members = attribute_least members _ _ (row (required truth_fault (get_member (codes "value") members)))
-rows_least type_is.SpanCount members = rows _ _
-rows_least type_is.RateLimiting members = row _
-rows_least type_is.AlwaysSample members = none
-rows_least type_is.And members = none
+key_least : (r : Bool) (kind : ValueKind) (at : Option Data) → IsLeastOf (KeyHas r kind at) (if r then required (wanted_fault kind) at else optional (wanted_fault kind) at)
+key_least true kind at = required_least (ValueHas kind) (wanted_fault kind) (value_least kind) at
+key_least false kind at = optional_least (ValueHas kind) (wanted_fault kind) (value_least kind) at
+
+each_least : (rows : List Setting) (members : Members) → IsLeastOf (SomeSettingHas rows members) (each_setting_fault rows members)
+each_least [] members = none
+each_least (s ∷ rest) members =
+    both (KeyHas s.is_required s.value (get_member s.name members)) (SomeSettingHas rest members) _ _ (key_least s.is_required s.value (get_member s.name members)) (each_least rest members)
 
 settings_least : (kind : PolicyType) (value : Data) → IsLeastOf (SettingsHave kind value) (spec.settings_fault kind value)
-settings_least kind (table members) = both (λ fault. unknown_fault (table_is.Settings kind) members ≡ Some fault) (RowsHave kind members) _ _ (row _) (rows_least kind members)
+settings_least kind (table members) = both (λ fault. unknown_fault (table_is.Settings kind) members ≡ Some fault) (RowsHave kind members) _ _ (row _) (each_least (settings kind) members)
 settings_least kind _ = alone WrongType
 
 settings_at_least : (kind : PolicyType) (members : Members) (Nested : ConfigFault → Type 0) (nested : Option ConfigFault) → IsLeastOf Nested nested → IsLeastOf (SettingsAtHave kind members Nested) (spec.settings_at_fault kind members nested)
 settings_at_least type_is.AlwaysSample members Nested nested n = none
 settings_at_least type_is.And members Nested nested n = n
+settings_at_least type_is.Not members Nested nested n = n
+settings_at_least type_is.Drop members Nested nested n = n
 settings_at_least kind members Nested nested n = required_least (SettingsHave kind) (spec.settings_fault kind) (settings_least kind) (get_member (type_name kind) members)
 
 typed_least : (found : Option PolicyType) (members : Members) (Nested : ConfigFault → Type 0) (nested : Option ConfigFault) → IsLeastOf Nested nested → IsLeastOf (TypedHas found members Nested) (spec.typed_fault_where found members nested)
@@ -162,23 +162,31 @@ mutual
   policy_items_least (item value rest) = both (PolicyHas value) (SomePolicyHas rest) _ _ (policy_least value) (policy_items_least rest)
 
   policy_least : (value : Data) → IsLeastOf (PolicyHas value) (spec.policy_fault value)
-  policy_least (table members) = policy_table_least members (AndHas members) (spec.and_fault members) (and_least members)
+  policy_least (table members) =
+      policy_table_least members (PartsHave (join_at members) members) (spec.parts_fault (join_at members) members) (parts_least (join_at members) members)
   policy_least _ = alone WrongType
 
-  and_least : (members : Members) → IsLeastOf (AndHas members) (spec.and_fault members)
-  and_least no_members = alone MissingKey
-  and_least (member key value rest) =
-      branch (AndSettingsHave value) (AndHas rest) (bytes_eq key (codes "and")) _ _ (and_settings_least value) (and_least rest)
+  parts_least : (join : Join) (members : Members) → IsLeastOf (PartsHave join members) (spec.parts_fault join members)
+  parts_least join no_members = alone MissingKey
+  parts_least join (member key value rest) =
+      branch (PartsSettingsHave join value) (PartsHave join rest) (bytes_eq key (join_name join)) _ _ (parts_settings_least join value) (parts_least join rest)
 
-  and_settings_least : (value : Data) → IsLeastOf (AndSettingsHave value) (spec.and_settings_fault value)
-  and_settings_least (table members) =
-      both (λ fault. unknown_fault (table_is.Settings type_is.And) members ≡ Some fault) (SubPoliciesHave members) _ _ (row _) (sub_policies_least members)
-  and_settings_least _ = alone WrongType
+  parts_settings_least : (join : Join) (value : Data) → IsLeastOf (PartsSettingsHave join value) (spec.parts_settings_fault join value)
+  parts_settings_least join (table members) =
+      both (λ fault. unknown_fault (table_is.Settings (join_type join)) members ≡ Some fault) (SubPoliciesHave join members) _ _ (row _) (sub_policies_least join members)
+  parts_settings_least join _ = alone WrongType
 
-  sub_policies_least : (members : Members) → IsLeastOf (SubPoliciesHave members) (spec.sub_policies_fault members)
-  sub_policies_least no_members = alone MissingKey
-  sub_policies_least (member key value rest) =
-      branch (PoliciesHave value) (SubPoliciesHave rest) (bytes_eq key (codes "and_sub_policy")) _ _ (policies_least value) (sub_policies_least rest)
+  sub_policies_least : (join : Join) (members : Members) → IsLeastOf (SubPoliciesHave join members) (spec.sub_policies_fault join members)
+  sub_policies_least join no_members = alone MissingKey
+  sub_policies_least join (member key value rest) =
+      branch (SubValueHas join value) (SubPoliciesHave join rest) (bytes_eq key (sub_key join)) _ _ (sub_value_least join value) (sub_policies_least join rest)
+
+  sub_value_least : (join : Join) (value : Data) → IsLeastOf (SubValueHas join value) (spec.sub_value_fault join value)
+  sub_value_least join_is.And (array items) = policy_items_least items
+  sub_value_least join_is.Not (table members) =
+      policy_table_least members (PartsHave (join_at members) members) (spec.parts_fault (join_at members) members) (parts_least (join_at members) members)
+  sub_value_least join_is.Drop (array items) = policy_items_least items
+  sub_value_least _ _ = alone WrongType
 
 cache_least : (value : Data) → IsLeastOf (CacheHas value) (spec.cache_fault value)
 cache_least (table members) =
@@ -190,6 +198,11 @@ cache_least _ = alone WrongType
 
 three_rows : (a b c : Option ConfigFault) → IsLeastOf (λ fault. (a ≡ Some fault) ⊎ ((b ≡ Some fault) ⊎ (c ≡ Some fault))) (least a (least b c))
 three_rows a b c = both (λ fault. a ≡ Some fault) (λ fault. (b ≡ Some fault) ⊎ (c ≡ Some fault)) _ _ (row a) (rows b c)
+
+four_rows : (a b c d : Option ConfigFault)
+    → IsLeastOf (λ fault. (a ≡ Some fault) ⊎ ((b ≡ Some fault) ⊎ ((c ≡ Some fault) ⊎ (d ≡ Some fault)))) (least a (least b (least c d)))
+four_rows a b c d =
+    both (λ fault. a ≡ Some fault) (λ fault. (b ≡ Some fault) ⊎ ((c ≡ Some fault) ⊎ (d ≡ Some fault))) _ _ (row a) (three_rows b c d)
 
 five_rows : (a b c d e : Option ConfigFault)
     → IsLeastOf (λ fault. (a ≡ Some fault) ⊎ ((b ≡ Some fault) ⊎ ((c ≡ Some fault) ⊎ ((d ≡ Some fault) ⊎ (e ≡ Some fault))))) (least a (least b (least c (least d e))))
@@ -207,10 +220,12 @@ unfolding spec.table_fault
 table_least members =
     let keys : Option ConfigFault = unknown_fault table_is.Config members in
     let listen : Option ConfigFault = optional text_fault (get_member (codes "listen") members) in
+    let gzip : Option ConfigFault = optional truth_fault (get_member (codes "accept_gzip") members) in
     let cache : IsLeastOf (OptionalHas CacheHas (get_member (codes "decision_cache") members)) (optional spec.cache_fault (get_member (codes "decision_cache") members)) = optional_least CacheHas spec.cache_fault cache_least (get_member (codes "decision_cache") members) in
     let policies : IsLeastOf (RequiredHas PoliciesHave (get_member (codes "policies") members)) (required spec.policies_fault (get_member (codes "policies") members)) = required_least PoliciesHave spec.policies_fault policies_least (get_member (codes "policies") members) in
     both (λ fault. keys ≡ Some fault) _ _ _ (row keys)
     (both (NumbersHave members) _ _ _ (six_rows _ _ _ _ _ _)
-    (both (SizesHave members) _ _ _ (three_rows _ _ _)
+    (both (SizesHave members) _ _ _ (four_rows _ _ _ _)
     (both (λ fault. listen ≡ Some fault) _ _ _ (row listen)
-    (both (OptionalHas CacheHas (get_member (codes "decision_cache") members)) (RequiredHas PoliciesHave (get_member (codes "policies") members)) _ _ cache policies))))
+    (both (λ fault. gzip ≡ Some fault) _ _ _ (row gzip)
+    (both (OptionalHas CacheHas (get_member (codes "decision_cache") members)) (RequiredHas PoliciesHave (get_member (codes "policies") members)) _ _ cache policies)))))

@@ -5,4 +5,5 @@ mod Bounds
 mod Whole
 mod Rows
 mod Settings
+mod SettingKeys
 mod PolicyKeys

@@ -1,134 +1,34 @@
 -- Each policy has what stands at the keys of its table.
 -- For `policies_are_of_their_keys`.
-use Rattle.std.proofs.Common.{◌≡◌, ℕ, ◌+◌, ◌≤◌, ℤ, pos, negsuc, zero, suc, Bool, true, false, ◌⊎◌, inl, inr, refl, ap, sym, subst, ◌∙◌, arith, codes, List, [], ◌∷◌, length, slice_get, Option, None, Some, if◌then◌else◌, int_le, ◌&&◌, Ordering, Less, Equal, Greater}
-use Rattle.std.proofs.lemmas.Bool.Decides.{nat_tests}
+use Rattle.std.proofs.Common.{◌≡◌, ℕ, ◌+◌, pos, negsuc, zero, suc, Bool, true, false, ◌⊎◌, inl, inr, refl, ap, sym, subst, ◌∙◌, arith, codes, List, [], ◌∷◌, length, slice_get, Option, None, Some, if◌then◌else◌, Ordering, Less, Equal, Greater}
 use Rattle.std.proofs.lemmas.Slice.Eq.{bytes_eq-Decides}
 use Rattle.std.proofs.lemmas.Map.Text.{is_eq-slice_cmp}
 use Rattle.std.specs.Str.{bytes_eq}
 use Rattle.std.specs.Ordering.{nat_cmp, is_eq, match_ordering}
 use Rattle.std.specs.Cmp.Lexicographic.{slice_cmp}
-use Rattle.toml.specs.Data.{Data, as_str, string, integer, boolean, array, table, Items, no_items, item, Members, no_members, member, get_member, get_item}
+use Rattle.toml.specs.Data.{Data, string, array, table, Items, no_items, item, Members, no_members, member, get_member, get_item}
 use Rattle.policy_tree.specs.declared.policy.Policy.{Policy}
 use Rattle.policy_tree.specs.declared.policy.PolicyKind.{PolicyKind}
 use Rattle.policy_tree.specs.declared.policy.PolicyKind.TheOpen.{PolicyKind-F}
 use Rattle.policy_tree.specs.declared.policy.PolicyKind.TheVariants as kind_is
-use Rattle.policy_tree.specs.declared.policy.PolicyKind.TheVariants.{rolls-AlwaysSample, rolls-Latency, rolls-StatusCode, rolls-Attribute, rolls-SpanCount, rolls-RateLimiting, rolls-And}
+use Rattle.policy_tree.specs.declared.policy.PolicyKind.TheVariants.{rolls-Leaf, rolls-RateLimiting, rolls-Joined}
+use Rattle.policy_tree.specs.declared.policy.Leaf.{Leaf}
+use Rattle.policy_tree.specs.declared.policy.Leaf.TheVariants as leaf_is
 use Rattle.policy_tree.specs.declared.policy.PolicyKind.TheViews.{out-PolicyKind, roll-PolicyKind, out-roll-PolicyKind}
 use Rattle.policy_tree.specs.declared.policy.Wanted.{Wanted}
+use Rattle.tsc_config.proofs.SettingKeys.{type_is_named, text_keys, natural_keys, whole_keys, truth_keys, required_truth, salt_keys, percentage_keys, texts_keys, codes_keys}
 use Rattle.tsc_config.proofs.Settings.{neither, natural, table_parts, read_as}
-use Rattle.tsc_config.specs.Keys.{type_name, type_named, type_found, type_at, code_named, code_of}
-use Rattle.tsc_config.specs.Faults.{optional, required, unknown_fault, natural_fault, text_fault, named_fault, items_fault, array_fault, type_fault, code_fault, truth_fault, whole_fault, attribute_fault, rows_fault, settings_fault, settings_at_fault, typed_fault_where, policy_table_fault, policy_fault, policy_items_fault, policies_fault, and_fault, and_settings_fault, sub_policies_fault, table_fault, least}
-use Rattle.tsc_config.specs.Values.{found_before, natural_of, codes_of, item_codes, texts_of, item_texts, text_of, truth_of, whole_of, attribute, kind_in, kind_by, kind_typed, policy_of, item_policies, policies_of, and_policies, and_settings, sub_policies, policies_value, policy_value, config_of}
-use Rattle.tsc_config.specs.PolicyKeys.{IsText, AreTexts, IsCode, AreCodes, count_items, IsNatural, IsNaturalOrZero, IsTyped, IsWanted, IsLayer, IsKind, IsPolicy, items_of, settings_items, nested_items, value_at, parts_in, parts_of, parts_at, policy_at, HasPolicies, ReadsPolicies}
+use Rattle.policy_tree.specs.declared.policy.Join.{Join}
+use Rattle.policy_tree.specs.declared.policy.Join.TheVariants as join_is
+use Rattle.tsc_config.specs.Keys.{type_name, type_named, type_found, type_at, join_type, join_name, sub_key, join_of, join_at}
+use Rattle.tsc_config.specs.Faults.{optional, required, unknown_fault, natural_fault, text_fault, named_fault, array_fault, type_fault, percentage_fault, truth_fault, whole_fault, code_fault, rows_fault, settings_fault, settings_at_fault, typed_fault_where, policy_table_fault, policy_fault, policy_items_fault, policies_fault, typed_fault, parts_fault, parts_settings_fault, sub_policies_fault, sub_value_fault, table_fault, least}
+use Rattle.tsc_config.specs.Values.{found_before, natural_of, attribute, leaf_in, kind_in, always, kind_by, kind_typed, policy_of, item_policies, policies_of, parts_policies, parts_settings, sub_policies, sub_value, policy_value, config_of}
+use Rattle.tsc_config.specs.PolicyKeys.{IsText, count_items, IsNatural, IsNaturalOrZero, IsTyped, IsWanted, IsLeaf, IsLayer, IsKind, IsPolicy, ArePartsAt, items_of, part_items, settings_items, nested_items, value_at, parts_in, parts_of, parts_at, policy_at, HasPolicies, ReadsPolicies}
 use Rattle.tsc_config.specs.declared.fault.ConfigFault.{ConfigFault}
-use Rattle.tsc_config.specs.declared.fault.ConfigFault.TheVariants.{MissingKey, OutOfRange}
+use Rattle.tsc_config.specs.declared.fault.ConfigFault.TheVariants.{MissingKey}
 use Rattle.tsc_config.specs.declared.kinds.PolicyType.{PolicyType}
 use Rattle.tsc_config.specs.declared.kinds.PolicyType.TheVariants as type_is
 use Rattle.tsc_config.specs.declared.kinds.TableKind.TheVariants as table_is
-
--- ---- what a text names
-
--- the first name that a text is, or a later one
-first : {A : Type 0} (P : A → Type 0) (text name : List ℕ) (value found : A) (rest : Option A) → (text ≡ name → P value) → (rest ≡ Some found → P found)
-    → (if bytes_eq text name then Some value else rest) ≡ Some found → P found
-first {A} P text name value found rest here there e = go (bytes_eq text name) refl e
-  where
-    go : (r : Bool) → bytes_eq text name ≡ r → (if r then Some value else rest) ≡ Some found → P found
-    go true t e = let same : value ≡ found = cc in subst P same (here ((bytes_eq-Decides text name).0 t))
-    go false t e = there e
-
-no_name : {A : Type 0} (P : A → Type 0) (found : A) → None ≡ Some found → P found
-no_name P found e = absurd (cc e)
-
-abbrev IsNamed : List ℕ → PolicyType → Type 0
-IsNamed text kind = text ≡ type_name kind
-
-type_is_named : (text : List ℕ) (kind : PolicyType) → type_named text ≡ Some kind → text ≡ type_name kind
-unfolding type_named
-type_is_named text kind e =
-    first (IsNamed text) text (codes "always_sample") type_is.AlwaysSample kind _ (λ q. q)
-    (first (IsNamed text) text (codes "latency") type_is.Latency kind _ (λ q. q)
-    (first (IsNamed text) text (codes "status_code") type_is.StatusCode kind _ (λ q. q)
-    (first (IsNamed text) text (codes "string_attribute") type_is.StringAttribute kind _ (λ q. q)
-    (first (IsNamed text) text (codes "numeric_attribute") type_is.NumericAttribute kind _ (λ q. q)
-    (first (IsNamed text) text (codes "boolean_attribute") type_is.BooleanAttribute kind _ (λ q. q)
-    (first (IsNamed text) text (codes "span_count") type_is.SpanCount kind _ (λ q. q)
-    (first (IsNamed text) text (codes "rate_limiting") type_is.RateLimiting kind _ (λ q. q)
-    (first (IsNamed text) text (codes "and") type_is.And kind None (λ q. q) (no_name (IsNamed text) kind))))))))) e
-
-code_is_named : (text : List ℕ) (code : ℤ) → code_named text ≡ Some code → IsCode (string text) code
-unfolding code_named
-code_is_named text code e =
-    first (IsCode (string text)) text (codes "UNSET") (pos 0) code _ (λ q. inl (ap string q, refl))
-    (first (IsCode (string text)) text (codes "OK") (pos 1) code _ (λ q. inr (inl (ap string q, refl)))
-    (first (IsCode (string text)) text (codes "ERROR") (pos 2) code None (λ q. inr (inr (ap string q, refl))) (no_name (IsCode (string text)) code))) e
-
--- ---- one key
-
-text_keys : (at : Option Data) → required text_fault at ≡ None → at ≡ Some (string (text_of at))
-text_keys (Some (string text)) e = refl
-text_keys None e = cc
-text_keys (Some _) e = cc
-
-allowed : (r : Bool) → (if r then None else Some OutOfRange) ≡ None → r ≡ true
-allowed true e = refl
-allowed false e = cc
-
-natural_keys : (at : Option Data) → required natural_fault at ≡ None → (at ≡ Some (integer (pos (natural_of at)))) × (natural_of at ≤ 9223372036854775807)
-natural_keys None e = cc
-natural_keys (Some (integer (pos n))) e = (refl, grind (arith, nat_tests, allowed (int_le (pos 0) (pos n) && int_le (pos n) (pos 9223372036854775807)) e))
-natural_keys (Some (integer (negsuc n))) e = cc
-natural_keys (Some _) e = cc
-
-whole_keys : (default : ℤ) (at : Option Data) → optional whole_fault at ≡ None → ((at ≡ None) × (whole_of default at ≡ default)) ⊎ (at ≡ Some (integer (whole_of default at)))
-whole_keys default None e = inl (refl, refl)
-whole_keys default (Some (integer n)) e = inr refl
-whole_keys default (Some _) e = cc
-
-truth_keys : (at : Option Data) → optional truth_fault at ≡ None → ((at ≡ None) × (truth_of at ≡ false)) ⊎ (at ≡ Some (boolean (truth_of at)))
-truth_keys None e = inl (refl, refl)
-truth_keys (Some (boolean b)) e = inr refl
-truth_keys (Some _) e = cc
-
-required_truth : (at : Option Data) → required truth_fault at ≡ None → at ≡ Some (boolean (truth_of at))
-required_truth (Some (boolean b)) e = refl
-required_truth None e = cc
-required_truth (Some _) e = cc
-
-are_texts : (items : Items) → items_fault text_fault items ≡ None → AreTexts items (item_texts items)
-are_texts no_items e = refl
-are_texts (item value rest) e = of value (neither (text_fault value) (items_fault text_fault rest) e).0 (are_texts rest (neither (text_fault value) (items_fault text_fault rest) e).1)
-  where
-    of : (value : Data) → text_fault value ≡ None → AreTexts rest (item_texts rest) → AreTexts (item value rest) (found_before (as_str value) (item_texts rest))
-    of (string text) f later = (refl, later)
-    of _ f later = absurd (cc f)
-
--- the array at a key, of whose items none has a fault
-array_keys : (f : Data → Option ConfigFault) (at : Option Data) → required (array_fault f) at ≡ None → (items : Items) × (at ≡ Some (array items)) × (items_fault f items ≡ None)
-array_keys f (Some (array items)) e = (items, refl, e)
-array_keys f None e = cc
-array_keys f (Some _) e = cc
-
-texts_keys : (at : Option Data) → required (array_fault text_fault) at ≡ None → (items : Items) × (at ≡ Some (array items)) × AreTexts items (texts_of at)
-texts_keys at e = let a = array_keys text_fault at e in
-    let P : Option Data → Type 0 = λ at. AreTexts a.0 (texts_of at) in (a.0, a.1, subst P (sym a.1) (are_texts a.0 a.2))
-
-are_codes : (items : Items) → items_fault code_fault items ≡ None → AreCodes items (item_codes items)
-are_codes no_items e = refl
-are_codes (item value rest) e = of value (neither (code_fault value) (items_fault code_fault rest) e).0 (are_codes rest (neither (code_fault value) (items_fault code_fault rest) e).1)
-  where
-    at_text : (text : List ℕ) (found : Option ℤ) → code_named text ≡ found → named_fault found ≡ None → AreCodes rest (item_codes rest)
-        → AreCodes (item (string text) rest) (found_before found (item_codes rest))
-    at_text text (Some code) n f later = (code_is_named text code n, later)
-    at_text text None n f later = absurd (cc f)
-
-    of : (value : Data) → code_fault value ≡ None → AreCodes rest (item_codes rest) → AreCodes (item value rest) (found_before (code_of value) (item_codes rest))
-    of (string text) f later = at_text text (code_named text) refl f later
-    of _ f later = absurd (cc f)
-
-codes_keys : (at : Option Data) → required (array_fault code_fault) at ≡ None → (items : Items) × (at ≡ Some (array items)) × AreCodes items (codes_of at)
-codes_keys at e = let a = array_keys code_fault at e in
-    let P : Option Data → Type 0 = λ at. AreCodes a.0 (codes_of at) in (a.0, a.1, subst P (sym a.1) (are_codes a.0 a.2))
 
 -- ---- the settings of each type
 
@@ -145,29 +45,39 @@ settings_table kind (Some _) e = cc
 abbrev Typed : Members → PolicyType → Members → Type 0
 Typed members kind settings = IsTyped members (type_name kind) settings
 
--- the three of attributes, where nothing is wrong with what is wanted of the value
-attribute_keys : (members settings : Members) (name : List ℕ) (wanted : Wanted) (of_wanted : Option ConfigFault) → IsTyped members name settings
-    → attribute_fault settings of_wanted ≡ None → (of_wanted ≡ None → IsWanted settings wanted name) → IsKind members (attribute settings wanted)
-attribute_keys members settings name wanted of_wanted typed e h =
-    let k = neither (required text_fault (get_member (codes "key") settings)) (least of_wanted (optional truth_fault (get_member (codes "invert_match") settings))) e in
-    let i = neither of_wanted (optional truth_fault (get_member (codes "invert_match") settings)) k.1 in
-    is_layer members _ (PolicyKind-F.Attribute _ _ _) (rolls-Attribute _ _ _) (record {
-      name = name;
-      settings = settings;
-      typed = typed;
-      at_key = text_keys (get_member (codes "key") settings) k.0;
-      at_wanted = h i.0;
-      at_invert = truth_keys (get_member (codes "invert_match") settings) i.1;
-    })
+-- the three of attributes, where what is wanted of the value is at its keys
+attribute_keys : (members settings : Members) (name : List ℕ) (wanted : Wanted) → IsTyped members name settings → required text_fault (get_member (codes "key") settings) ≡ None
+    → optional truth_fault (get_member (codes "invert_match") settings) ≡ None → IsWanted settings wanted name → IsLeaf members (attribute settings wanted)
+attribute_keys members settings name wanted typed k i w = record {
+  name = name;
+  settings = settings;
+  typed = typed;
+  at_key = text_keys (get_member (codes "key") settings) k;
+  at_wanted = w;
+  at_invert = truth_keys (get_member (codes "invert_match") settings) i;
+}
+
+-- no fault among one, two, three or four
+one : (a : Option ConfigFault) → least a None ≡ None → a ≡ None
+one a e = (neither a None e).0
+
+two : (a b : Option ConfigFault) → least a (least b None) ≡ None → (a ≡ None) × (b ≡ None)
+two a b e = let n = neither a (least b None) e in (n.0, one b n.1)
+
+three : (a b c : Option ConfigFault) → least a (least b (least c None)) ≡ None → (a ≡ None) × ((b ≡ None) × (c ≡ None))
+three a b c e = let n = neither a (least b (least c None)) e in (n.0, two b c n.1)
+
+four : (a b c d : Option ConfigFault) → least a (least b (least c (least d None))) ≡ None → (a ≡ None) × ((b ≡ None) × ((c ≡ None) × (d ≡ None)))
+four a b c d e = let n = neither a (least b (least c (least d None))) e in (n.0, three b c d n.1)
 
 -- two numbers at keys, of which the second may be missing
-two_naturals : (settings : Members) (low high : List ℕ) → least (required natural_fault (get_member low settings)) (optional natural_fault (get_member high settings)) ≡ None
+two_naturals : (settings : Members) (low high : List ℕ) → least (required natural_fault (get_member low settings)) (least (optional natural_fault (get_member high settings)) None) ≡ None
     → IsNatural settings low (natural_of (get_member low settings)) × IsNaturalOrZero settings high (natural_of (get_member high settings))
 two_naturals settings low high e =
-    let n = neither (required natural_fault (get_member low settings)) (optional natural_fault (get_member high settings)) e in
+    let n = two (required natural_fault (get_member low settings)) (optional natural_fault (get_member high settings)) e in
     (natural_keys (get_member low settings) n.0, natural 9223372036854775807 (get_member high settings) n.1)
 
--- ---- the policies of an `and`
+-- ---- the policies that a policy is made of
 
 same : (a b : Bool) → (a ≡ true → b ≡ true) → (b ≡ true → a ≡ true) → a ≡ b
 same true b f g = sym (f refl)
@@ -194,51 +104,68 @@ walk {X} k none f w z s (member key value rest) = s key value rest ∙ ap (λ (r
     go Equal later = refl
     go Greater later = later
 
-and_found : (ms : Members) → and_policies ms ≡ looked [] and_settings (get_member (codes "and") ms)
-and_found ms = walk (codes "and") [] and_settings and_policies refl (λ key value rest. refl) ms
+parts_found : (join : Join) (ms : Members) → parts_policies join ms ≡ looked [] (parts_settings join) (get_member (join_name join) ms)
+parts_found join ms = walk (join_name join) [] (parts_settings join) (parts_policies join) refl (λ key value rest. refl) ms
 
-and_fault_found : (ms : Members) → and_fault ms ≡ looked (Some MissingKey) and_settings_fault (get_member (codes "and") ms)
-and_fault_found ms = walk (codes "and") (Some MissingKey) and_settings_fault and_fault refl (λ key value rest. refl) ms
+parts_fault_found : (join : Join) (ms : Members) → parts_fault join ms ≡ looked (Some MissingKey) (parts_settings_fault join) (get_member (join_name join) ms)
+parts_fault_found join ms = walk (join_name join) (Some MissingKey) (parts_settings_fault join) (parts_fault join) refl (λ key value rest. refl) ms
 
-sub_found : (ms : Members) → sub_policies ms ≡ looked [] policies_value (get_member (codes "and_sub_policy") ms)
-sub_found ms = walk (codes "and_sub_policy") [] policies_value sub_policies refl (λ key value rest. refl) ms
+sub_found : (join : Join) (ms : Members) → sub_policies join ms ≡ looked [] (sub_value join) (get_member (sub_key join) ms)
+sub_found join ms = walk (sub_key join) [] (sub_value join) (sub_policies join) refl (λ key value rest. refl) ms
 
-sub_fault_found : (ms : Members) → sub_policies_fault ms ≡ looked (Some MissingKey) policies_fault (get_member (codes "and_sub_policy") ms)
-sub_fault_found ms = walk (codes "and_sub_policy") (Some MissingKey) policies_fault sub_policies_fault refl (λ key value rest. refl) ms
+sub_fault_found : (join : Join) (ms : Members) → sub_policies_fault join ms ≡ looked (Some MissingKey) (sub_value_fault join) (get_member (sub_key join) ms)
+sub_fault_found join ms = walk (sub_key join) (Some MissingKey) (sub_value_fault join) (sub_policies_fault join) refl (λ key value rest. refl) ms
 
--- the array of an `and` without a fault
-abbrev Nested : Members → Type 0
-Nested members = record {
-  settings : Members;
-  items : Items;
-  at_and : get_member (codes "and") members ≡ Some (table settings);
-  at_parts : get_member (codes "and_sub_policy") settings ≡ Some (array items);
-  parts : and_policies members ≡ item_policies items;
-  sound : policy_items_fault items ≡ None;
+as_many : (items : Items) → policy_items_fault items ≡ None → length (item_policies items) ≡ count_items items
+as_many no_items e = refl
+as_many (item value rest) e = of value (neither (policy_fault value) (policy_items_fault rest) e).0 (as_many rest (neither (policy_fault value) (policy_items_fault rest) e).1)
+  where
+    of : (value : Data) → policy_fault value ≡ None → length (item_policies rest) ≡ count_items rest → length (found_before (policy_value value) (item_policies rest)) ≡ 1 + count_items rest
+    of (table members) f later = omega (arith, later)
+    of _ f later = absurd (cc f)
+
+-- the policy tables at the key of a policy that is joined so, without a fault
+abbrev PartsAt : Join → Option Data → Type 0
+PartsAt join at = record {
+  parts : looked [] (sub_value join) at ≡ item_policies (part_items join at);
+  sound : policy_items_fault (part_items join at) ≡ None;
+  counted : ArePartsAt join at (looked [] (sub_value join) at);
 }
 
-nested : (members : Members) → and_fault members ≡ None → Nested members
-nested members e = at_and (get_member (codes "and") members) refl (sym (and_fault_found members) ∙ e)
-  where
-    at_parts : (settings : Members) → get_member (codes "and") members ≡ Some (table settings) → (at : Option Data) → get_member (codes "and_sub_policy") settings ≡ at
-        → looked (Some MissingKey) policies_fault at ≡ None → Nested members
-    at_parts settings a (Some (array items)) p f = record {
-      settings = settings;
-      items = items;
-      at_and = a;
-      at_parts = p;
-      parts = and_found members ∙ ap (looked [] and_settings) a ∙ sub_found settings ∙ ap (looked [] policies_value) p;
-      sound = f;
-    }
-    at_parts settings a None p f = absurd (cc f)
-    at_parts settings a (Some _) p f = absurd (cc f)
+parts_here : (join : Join) (at : Option Data) → looked (Some MissingKey) (sub_value_fault join) at ≡ None → PartsAt join at
+parts_here join_is.And (Some (array items)) f = record { parts = refl; sound = f; counted = (items, refl, as_many items f) }
+parts_here join_is.Drop (Some (array items)) f = record { parts = refl; sound = f; counted = (items, refl, as_many items f) }
+parts_here join_is.Not (Some (table members)) f = record { parts = refl; sound = rw f; counted = (table members, refl, refl) }
+parts_here join_is.And None f = absurd (cc f)
+parts_here join_is.Drop None f = absurd (cc f)
+parts_here join_is.Not None f = absurd (cc f)
+parts_here join_is.And (Some _) f = absurd (cc f)
+parts_here join_is.Drop (Some _) f = absurd (cc f)
+parts_here join_is.Not (Some _) f = absurd (cc f)
 
-    at_and : (at : Option Data) → get_member (codes "and") members ≡ at → looked (Some MissingKey) and_settings_fault at ≡ None → Nested members
-    at_and (Some (table settings)) a f =
-        at_parts settings a (get_member (codes "and_sub_policy") settings) refl
-        (sym (sub_fault_found settings) ∙ (neither (unknown_fault (table_is.Settings type_is.And) settings) (sub_policies_fault settings) f).1)
-    at_and None a f = absurd (cc f)
-    at_and (Some _) a f = absurd (cc f)
+-- the policy tables that a policy table without a fault is made of
+abbrev Nested : Join → Members → Type 0
+Nested join members = record {
+  settings : Members;
+  at_name : get_member (join_name join) members ≡ Some (table settings);
+  parts : parts_policies join members ≡ item_policies (part_items join (get_member (sub_key join) settings));
+  sound : policy_items_fault (part_items join (get_member (sub_key join) settings)) ≡ None;
+  counted : ArePartsAt join (get_member (sub_key join) settings) (parts_policies join members);
+}
+
+nested : (join : Join) (members : Members) → parts_fault join members ≡ None → Nested join members
+nested join members e = at_name (get_member (join_name join) members) refl (sym (parts_fault_found join members) ∙ e)
+  where
+    at_name : (at : Option Data) → get_member (join_name join) members ≡ at → looked (Some MissingKey) (parts_settings_fault join) at ≡ None → Nested join members
+    at_name (Some (table settings)) a f =
+        let h = parts_here join (get_member (sub_key join) settings)
+        (sym (sub_fault_found join settings) ∙ (neither (unknown_fault (table_is.Settings (join_type join)) settings) (sub_policies_fault join settings) f).1) in
+        let same : parts_policies join members ≡ looked [] (sub_value join) (get_member (sub_key join) settings)
+        = parts_found join members ∙ ap (looked [] (parts_settings join)) a ∙ sub_found join settings in
+        let P : List Policy → Type 0 = λ ps. ArePartsAt join (get_member (sub_key join) settings) ps in
+        record { settings = settings; at_name = a; parts = same ∙ h.parts; sound = h.sound; counted = subst P (sym same) h.counted }
+    at_name None a f = absurd (cc f)
+    at_name (Some _) a f = absurd (cc f)
 
 -- ---- one policy
 
@@ -251,72 +178,86 @@ by_settings kind members keys named e =
     subst P (sym s.1) (keys s.0 (record { typed = named; at_name = s.1 }) s.2)
 
 -- that has none
-always : (at : Option Data) → kind_by type_is.AlwaysSample at ≡ kind_is.AlwaysSample
-unfolding kind_in
-always None = refl
-always (Some (table settings)) = refl
-always (Some _) = refl
+always_by : (at : Option Data) → kind_by type_is.AlwaysSample at ≡ always
+unfolding leaf_in
+always_by None = refl
+always_by (Some (table settings)) = refl
+always_by (Some _) = refl
 
-as_many : (items : Items) → policy_items_fault items ≡ None → length (item_policies items) ≡ count_items items
-as_many no_items e = refl
-as_many (item value rest) e = of value (neither (policy_fault value) (policy_items_fault rest) e).0 (as_many rest (neither (policy_fault value) (policy_items_fault rest) e).1)
-  where
-    of : (value : Data) → policy_fault value ≡ None → length (item_policies rest) ≡ count_items rest → length (found_before (policy_value value) (item_policies rest)) ≡ 1 + count_items rest
-    of (table members) f later = omega (arith, later)
-    of _ f later = absurd (cc f)
+-- a leaf
+is_leaf : (members : Members) (leaf : Leaf) → IsLeaf members leaf → IsKind members (kind_is.Leaf leaf)
+is_leaf members leaf h = is_layer members _ (PolicyKind-F.Leaf leaf) (rolls-Leaf leaf) h
 
-kind_keys : (kind : PolicyType) (members : Members) → IsText members (codes "type") (type_name kind) → settings_at_fault kind members (and_fault members) ≡ None
-    → IsKind members (kind_typed (Some kind) members (and_policies members))
-unfolding rows_fault kind_in
+-- a policy that is made of others
+is_joined : (join : Join) (members : Members) → IsText members (codes "type") (join_name join) → parts_fault join members ≡ None → IsKind members (kind_is.Joined join (parts_policies join members))
+is_joined join members named e =
+    let n = nested join members e in
+    is_layer members _ (PolicyKind-F.Joined join (parts_policies join members)) (rolls-Joined join (parts_policies join members))
+    (n.settings, record { typed = named; at_name = n.at_name }, n.counted)
+
+abbrev parts : PolicyType → Members → List Policy
+parts kind members = parts_policies (join_of (Some kind)) members
+
+kind_keys : (kind : PolicyType) (members : Members) → IsText members (codes "type") (type_name kind) → settings_at_fault kind members (parts_fault (join_of (Some kind)) members) ≡ None
+    → IsKind members (kind_typed (Some kind) members (parts kind members))
+unfolding leaf_in
 kind_keys type_is.AlwaysSample members named e = let P : PolicyKind → Type 0 = λ k. IsKind members k in
-    subst P (sym (always (get_member (codes "always_sample") members))) (is_layer members _ PolicyKind-F.AlwaysSample rolls-AlwaysSample named)
-kind_keys type_is.And members named e =
-    let n = nested members e in
-    is_layer members _ (PolicyKind-F.And (and_policies members)) (rolls-And (and_policies members))
-    (n.settings, record { typed = named; at_name = n.at_and }, (n.items, n.at_parts, ap length n.parts ∙ as_many n.items n.sound))
+    subst P (sym (always_by (get_member (codes "always_sample") members))) (is_leaf members leaf_is.AlwaysSample named)
+kind_keys type_is.And members named e = is_joined join_is.And members named e
+kind_keys type_is.Not members named e = is_joined join_is.Not members named e
+kind_keys type_is.Drop members named e = is_joined join_is.Drop members named e
 kind_keys type_is.Latency members named e = by_settings type_is.Latency members
-    (λ settings typed f. let n = two_naturals settings (codes "threshold_ms") (codes "upper_threshold_ms") f in
-    is_layer members _ (PolicyKind-F.Latency _ _) (rolls-Latency _ _) (settings, typed, n.0, n.1)) named e
+    (λ settings typed f. let n = two_naturals settings (codes "threshold_ms") (codes "upper_threshold_ms") f in is_leaf members _ (settings, typed, n.0, n.1)) named e
 kind_keys type_is.StatusCode members named e = by_settings type_is.StatusCode members
-    (λ settings typed f. is_layer members _ (PolicyKind-F.StatusCode _) (rolls-StatusCode _) (settings, typed, codes_keys (get_member (codes "status_codes") settings) f)) named e
+    (λ settings typed f. is_leaf members _ (settings, typed, codes_keys (get_member (codes "status_codes") settings) (one (required (array_fault code_fault) (get_member (codes "status_codes") settings)) f))) named e
 kind_keys type_is.StringAttribute members named e = by_settings type_is.StringAttribute members
-    (λ settings typed f. attribute_keys members settings (codes "string_attribute") _ (required (array_fault text_fault) (get_member (codes "values") settings)) typed f
-    (λ g. (refl, texts_keys (get_member (codes "values") settings) g))) named e
+    (λ settings typed f.
+    let n = three (required text_fault (get_member (codes "key") settings)) (required (array_fault text_fault) (get_member (codes "values") settings)) (optional truth_fault (get_member (codes "invert_match") settings)) f in
+    is_leaf members _ (attribute_keys members settings (codes "string_attribute") _ typed n.0 n.1.1 (refl, texts_keys (get_member (codes "values") settings) n.1.0))) named e
 kind_keys type_is.NumericAttribute members named e = by_settings type_is.NumericAttribute members
     (λ settings typed f.
-    let low : Option ConfigFault = optional whole_fault (get_member (codes "min_value") settings) in
-    let high : Option ConfigFault = optional whole_fault (get_member (codes "max_value") settings) in
-    attribute_keys members settings (codes "numeric_attribute") _ (least low high) typed f
-    (λ g. (refl, whole_keys (negsuc 9223372036854775807) _ (neither low high g).0, whole_keys (pos 9223372036854775807) _ (neither low high g).1))) named e
+    let n = four (required text_fault (get_member (codes "key") settings)) (optional whole_fault (get_member (codes "min_value") settings)) (optional whole_fault (get_member (codes "max_value") settings)) (optional truth_fault (get_member (codes "invert_match") settings)) f in
+    is_leaf members _ (attribute_keys members settings (codes "numeric_attribute") _ typed n.0 n.1.1.1
+    (refl, whole_keys (negsuc 9223372036854775807) _ n.1.0, whole_keys (pos 9223372036854775807) _ n.1.1.0))) named e
 kind_keys type_is.BooleanAttribute members named e = by_settings type_is.BooleanAttribute members
-    (λ settings typed f. attribute_keys members settings (codes "boolean_attribute") _ (required truth_fault (get_member (codes "value") settings)) typed f
-    (λ g. (refl, required_truth (get_member (codes "value") settings) g))) named e
+    (λ settings typed f.
+    let n = three (required text_fault (get_member (codes "key") settings)) (required truth_fault (get_member (codes "value") settings)) (optional truth_fault (get_member (codes "invert_match") settings)) f in
+    is_leaf members _ (attribute_keys members settings (codes "boolean_attribute") _ typed n.0 n.1.1 (refl, required_truth (get_member (codes "value") settings) n.1.0))) named e
 kind_keys type_is.SpanCount members named e = by_settings type_is.SpanCount members
-    (λ settings typed f. let n = two_naturals settings (codes "min_spans") (codes "max_spans") f in
-    is_layer members _ (PolicyKind-F.SpanCount _ _) (rolls-SpanCount _ _) (settings, typed, n.0, n.1)) named e
+    (λ settings typed f. let n = two_naturals settings (codes "min_spans") (codes "max_spans") f in is_leaf members _ (settings, typed, n.0, n.1)) named e
+kind_keys type_is.Probabilistic members named e = by_settings type_is.Probabilistic members
+    (λ settings typed f.
+    let n = two (optional text_fault (get_member (codes "hash_salt") settings)) (required percentage_fault (get_member (codes "sampling_percentage") settings)) f in
+    is_leaf members _ (settings, typed, salt_keys settings (get_member (codes "hash_salt") settings) refl n.0, percentage_keys settings (get_member (codes "sampling_percentage") settings) refl n.1)) named e
 kind_keys type_is.RateLimiting members named e = by_settings type_is.RateLimiting members
-    (λ settings typed f. is_layer members _ (PolicyKind-F.RateLimiting _) (rolls-RateLimiting _) (settings, typed, natural_keys (get_member (codes "spans_per_second") settings) f)) named e
+    (λ settings typed f. is_layer members _ (PolicyKind-F.RateLimiting _) (rolls-RateLimiting _)
+    (settings, typed, natural_keys (get_member (codes "spans_per_second") settings) (one (required natural_fault (get_member (codes "spans_per_second") settings)) f))) named e
 
-policy_keys : (members : Members) → policy_fault (table members) ≡ None → IsPolicy members (policy_of members (and_policies members))
+-- the policies of a policy table
+abbrev parts_of_table : Members → List Policy
+parts_of_table members = parts_policies (join_at members) members
+
+policy_keys : (members : Members) → policy_fault (table members) ≡ None → IsPolicy members (policy_of members (parts_of_table members))
 unfolding policy_table_fault policy_of
 policy_keys members e =
     let name : Option ConfigFault = required text_fault (get_member (codes "name") members) in
     let kind : Option ConfigFault = required type_fault (get_member (codes "type") members) in
-    let o = neither (least name kind) (typed_fault_where (type_at members) members (and_fault members)) e in
+    let o = neither (least name kind) (typed_fault_where (type_at members) members (parts_fault (join_at members) members)) e in
     let n = neither name kind o.0 in record {
       name = text_keys (get_member (codes "name") members) n.0;
       kind = at_type (get_member (codes "type") members) refl n.1 o.1;
     }
   where
     at_name : (text : List ℕ) (found : Option PolicyType) → type_named text ≡ found → get_member (codes "type") members ≡ Some (string text) → named_fault found ≡ None
-        → typed_fault_where found members (and_fault members) ≡ None → IsKind members (kind_typed found members (and_policies members))
+        → typed_fault_where found members (parts_fault (join_of found) members) ≡ None → IsKind members (kind_typed found members (parts_policies (join_of found) members))
     at_name text (Some kind) t a f g =
         kind_keys kind members (a ∙ ap (λ (x : List ℕ). Some (string x)) (type_is_named text kind t))
-        (neither (unknown_fault (table_is.Policy kind) members) (settings_at_fault kind members (and_fault members)) g).1
+        (neither (unknown_fault (table_is.Policy kind) members) (settings_at_fault kind members (parts_fault (join_of (Some kind)) members)) g).1
     at_name text None t a f g = absurd (cc f)
 
     at_type : (at : Option Data) → get_member (codes "type") members ≡ at → required type_fault at ≡ None
-        → typed_fault_where (type_found at) members (and_fault members) ≡ None → IsKind members (kind_typed (type_found at) members (and_policies members))
+        → typed_fault_where (type_found at) members (parts_fault (join_of (type_found at)) members) ≡ None
+        → IsKind members (kind_typed (type_found at) members (parts_policies (join_of (type_found at)) members))
     at_type (Some (string text)) a f g = at_name text (type_named text) refl a f g
     at_type None a f g = absurd (cc f)
     at_type (Some _) a f g = absurd (cc f)
@@ -325,7 +266,7 @@ policy_keys members e =
 
 -- the value is a table without a fault, and this is its policy
 abbrev OfTable : Option Data → Policy → Type 0
-OfTable at policy = (of : Members) × (at ≡ Some (table of)) × (policy ≡ policy_of of (and_policies of)) × (policy_fault (table of) ≡ None)
+OfTable at policy = (of : Members) × (at ≡ Some (table of)) × (policy ≡ policy_of of (parts_of_table of)) × (policy_fault (table of) ≡ None)
 
 at_place : (items : Items) (place : ℕ) (policy : Policy) → policy_items_fault items ≡ None → slice_get (item_policies items) place ≡ Some policy → OfTable (get_item place items) policy
 at_place no_items place policy e h = cc
@@ -342,34 +283,39 @@ at_place (item value rest) place policy e h = of value place (neither (policy_fa
 parts_are : (kind : PolicyKind) (layer : PolicyKind-F PolicyKind Policy) → roll-PolicyKind layer ≡ kind → parts_of kind ≡ parts_in layer
 parts_are kind layer e = ap parts_in (sym (ap out-PolicyKind e) ∙ out-roll-PolicyKind layer)
 
-none_in : (kind : PolicyKind) → kind ≡ kind_is.AlwaysSample → parts_of kind ≡ []
-none_in kind e = parts_are kind PolicyKind-F.AlwaysSample (rolls-AlwaysSample ∙ sym e)
+none_in : (leaf : Leaf) → parts_of (kind_is.Leaf leaf) ≡ []
+none_in leaf = parts_are _ (PolicyKind-F.Leaf leaf) (rolls-Leaf leaf)
 
 none_in_settings : (kind : PolicyType) (settings : Members) → parts_of (kind_in kind settings) ≡ []
-unfolding kind_in
-none_in_settings type_is.Latency settings = parts_are _ (PolicyKind-F.Latency _ _) (rolls-Latency _ _)
-none_in_settings type_is.StatusCode settings = parts_are _ (PolicyKind-F.StatusCode _) (rolls-StatusCode _)
-none_in_settings type_is.StringAttribute settings = parts_are _ (PolicyKind-F.Attribute _ _ _) (rolls-Attribute _ _ _)
-none_in_settings type_is.NumericAttribute settings = parts_are _ (PolicyKind-F.Attribute _ _ _) (rolls-Attribute _ _ _)
-none_in_settings type_is.BooleanAttribute settings = parts_are _ (PolicyKind-F.Attribute _ _ _) (rolls-Attribute _ _ _)
-none_in_settings type_is.SpanCount settings = parts_are _ (PolicyKind-F.SpanCount _ _) (rolls-SpanCount _ _)
 none_in_settings type_is.RateLimiting settings = parts_are _ (PolicyKind-F.RateLimiting _) (rolls-RateLimiting _)
-none_in_settings _ settings = none_in _ refl
+none_in_settings kind settings = none_in (leaf_in kind settings)
 
 no_parts : (kind : PolicyType) (at : Option Data) → parts_of (kind_by kind at) ≡ []
-no_parts kind None = none_in _ refl
+no_parts kind None = none_in leaf_is.AlwaysSample
 no_parts kind (Some (table settings)) = none_in_settings kind settings
-no_parts kind (Some _) = none_in _ refl
+no_parts kind (Some _) = none_in leaf_is.AlwaysSample
 
--- a policy without parts, or those of an `and` without a fault
-parts_typed : (found : Option PolicyType) (members : Members) → typed_fault_where found members (and_fault members) ≡ None
-    → (parts_of (kind_typed found members (and_policies members)) ≡ []) ⊎ ((and_fault members ≡ None) × (parts_of (kind_typed found members (and_policies members)) ≡ and_policies members))
-parts_typed None members e = inl (none_in _ refl)
-parts_typed (Some type_is.And) members e = inr ((neither (unknown_fault (table_is.Policy type_is.And) members) (and_fault members) e).1, parts_are _ (PolicyKind-F.And (and_policies members)) (rolls-And (and_policies members)))
+-- a policy without parts, or with those of a table without a fault
+abbrev HasParts : Option PolicyType → Members → PolicyKind → Type 0
+HasParts found members kind =
+    (parts_of kind ≡ []) ⊎ ((parts_fault (join_of found) members ≡ None) × (parts_of kind ≡ parts_policies (join_of found) members))
+
+joined_parts : (kind : PolicyType) (join : Join) (members : Members) → typed_fault (kind) members (parts_fault join members) ≡ None → settings_at_fault kind members (parts_fault join members) ≡ parts_fault join members
+    → (parts_fault join members ≡ None) × (parts_of (kind_is.Joined join (parts_policies join members)) ≡ parts_policies join members)
+joined_parts kind join members e same = (
+  sym same ∙ (neither (unknown_fault (table_is.Policy kind) members) (settings_at_fault kind members (parts_fault join members)) e).1,
+  parts_are _ (PolicyKind-F.Joined join (parts_policies join members)) (rolls-Joined join (parts_policies join members)),
+)
+
+parts_typed : (found : Option PolicyType) (members : Members) → typed_fault_where found members (parts_fault (join_of found) members) ≡ None
+    → HasParts found members (kind_typed found members (parts_policies (join_of found) members))
+parts_typed None members e = inl (none_in leaf_is.AlwaysSample)
+parts_typed (Some type_is.And) members e = inr (joined_parts type_is.And join_is.And members e refl)
+parts_typed (Some type_is.Not) members e = inr (joined_parts type_is.Not join_is.Not members e refl)
+parts_typed (Some type_is.Drop) members e = inr (joined_parts type_is.Drop join_is.Drop members e refl)
 parts_typed (Some kind) members e = inl (no_parts kind (get_member (type_name kind) members))
 
-parts_sound : (members : Members) → policy_fault (table members) ≡ None
-    → (parts_of (policy_of members (and_policies members)).kind ≡ []) ⊎ ((and_fault members ≡ None) × (parts_of (policy_of members (and_policies members)).kind ≡ and_policies members))
+parts_sound : (members : Members) → policy_fault (table members) ≡ None → HasParts (type_at members) members (policy_of members (parts_of_table members)).kind
 unfolding policy_table_fault policy_of
 parts_sound members e = parts_typed (type_at members) members (neither (least (required text_fault (get_member (codes "name") members)) (required type_fault (get_member (codes "type") members))) _ e).1
 
@@ -387,22 +333,22 @@ at_places (next ∷ deeper) items place policy e h = inside (slice_get (item_pol
     Inside : Option Data → Type 0
     Inside at = OfTable (value_at (nested_items at) next deeper) policy
 
-    in_array : (members : Members) → Nested members → policy_at (and_policies members) next deeper ≡ Some policy → Later → Inside (Some (table members))
-    in_array members n g later =
+    in_parts : (members : Members) → Nested (join_at members) members → policy_at (parts_of_table members) next deeper ≡ Some policy → Later → Inside (Some (table members))
+    in_parts members n g later =
         let P : Items → Type 0 = λ inner. OfTable (value_at inner next deeper) policy in
-        let same : nested_items (Some (table members)) ≡ n.items = ap settings_items n.at_and ∙ ap items_of n.at_parts in
-        subst P (sym same) (later n.items next n.sound (ap (λ (ps : List Policy). policy_at ps next deeper) (sym n.parts) ∙ g))
+        let same : nested_items (Some (table members)) ≡ part_items (join_at members) (get_member (sub_key (join_at members)) n.settings) = ap (settings_items (join_at members)) n.at_name in
+        subst P (sym same) (later _ next n.sound (ap (λ (ps : List Policy). policy_at ps next deeper) (sym n.parts) ∙ g))
 
-    in_table : (members : Members) → (parts : List Policy) → policy_at parts next deeper ≡ Some policy → (parts ≡ []) ⊎ ((and_fault members ≡ None) × (parts ≡ and_policies members)) → Later → Inside (Some (table members))
-    in_table members parts g (inl none) later = absurd (nothing deeper next policy (ap (λ (ps : List Policy). policy_at ps next deeper) (sym none) ∙ g))
-    in_table members parts g (inr (f, all)) later = in_array members (nested members f) (ap (λ (ps : List Policy). policy_at ps next deeper) (sym all) ∙ g) later
+    in_table : (members : Members) → (kind : PolicyKind) → policy_at (parts_of kind) next deeper ≡ Some policy → HasParts (type_at members) members kind → Later → Inside (Some (table members))
+    in_table members kind g (inl none) later = absurd (nothing deeper next policy (ap (λ (ps : List Policy). policy_at ps next deeper) (sym none) ∙ g))
+    in_table members kind g (inr (f, all)) later = in_parts members (nested (join_at members) members f) (ap (λ (ps : List Policy). policy_at ps next deeper) (sym all) ∙ g) later
 
     inside : (found : Option Policy) → slice_get (item_policies items) place ≡ found → policy_at (parts_at found) next deeper ≡ Some policy → Later → Inside (get_item place items)
     inside None s g later = absurd (nothing deeper next policy g)
     inside (Some outer) s g later =
         let t = at_place items place outer e s in
         subst Inside (sym t.1)
-        (in_table t.0 (parts_of (policy_of t.0 (and_policies t.0)).kind) (ap (λ (p : Policy). policy_at (parts_of p.kind) next deeper) (sym t.2) ∙ g) (parts_sound t.0 t.3) later)
+        (in_table t.0 (policy_of t.0 (parts_of_table t.0)).kind (ap (λ (p : Policy). policy_at (parts_of p.kind) next deeper) (sym t.2) ∙ g) (parts_sound t.0 t.3) later)
 
 sound : (at : Option Data) → required policies_fault at ≡ None → (policy_items_fault (items_of at) ≡ None) × (policies_of at ≡ item_policies (items_of at))
 sound (Some (array items)) e = (e, refl)

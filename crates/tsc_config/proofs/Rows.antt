@@ -1,12 +1,15 @@
 -- The numbers of a configuration's settings, computed on the definitions: each key's default, its range, and what lies just outside.
 -- No clause needs them: they show what the words of `Values` and `Faults` say, which code and contracts follow. The table below repeats no definition.
 use Rattle.std.specs.Prelude.{◌≡◌, ℕ, ℤ, pos, negsuc, true, false, List, [], ◌∷◌, map, codes, Option, Some, None, refl}
-use Rattle.toml.specs.Data.{integer, table, Members, no_members, member}
-use Rattle.tsc_config.specs.Keys.{is_key, is_setting}
-use Rattle.tsc_config.specs.Faults.{least, config_fault_number, numbers_fault, sizes_fault, cache_fault}
+use lib.Ieee.{to_unsigned, of_int, mul, div, eq}
+use Rattle.std.specs.Float.{Float, nan, inf, fin, round_with}
+use Rattle.toml.specs.Data.{integer, boolean, table, Members, no_members, member}
+use Rattle.tsc_config.specs.Keys.{is_key, is_setting, all_types, type_name, type_named}
+use Rattle.tsc_config.specs.Faults.{least, config_fault_number, numbers_fault, sizes_fault, cache_fault, rows_fault}
 use Rattle.tsc_config.specs.declared.kinds.PolicyType.{PolicyType}
 use Rattle.tsc_config.specs.declared.kinds.PolicyType.TheVariants as type_is
-use Rattle.tsc_config.specs.Values.{config_of}
+use Rattle.tsc_config.specs.Percentages.{ten_thousandths, percentage_of}
+use Rattle.tsc_config.specs.Values.{config_of, salt_by}
 use Rattle.tsc_config.specs.declared.config.Config.{Config}
 use Rattle.tsc_config.specs.declared.fault.ConfigFault.{ConfigFault}
 use Rattle.tsc_config.specs.declared.fault.ConfigFault.TheVariants.{NotToml, UnknownKey, MissingKey, WrongType, OutOfRange, TooFewTraces, NoMemory}
@@ -30,6 +33,7 @@ ranges =
     ∷ record { key = codes "queue_capacity"; below = pos 0; lowest = 1; greatest = 65536; above = 65537 }
     ∷ record { key = codes "export_capacity"; below = pos 0; lowest = 1; greatest = 65536; above = 65537 }
     ∷ record { key = codes "send_batch_size"; below = pos 0; lowest = 1; greatest = 8192; above = 8193 }
+    ∷ record { key = codes "max_connections"; below = pos 0; lowest = 1; greatest = 65536; above = 65537 }
     ∷ record { key = codes "tick_ms"; below = pos 0; lowest = 1; greatest = 60000; above = 60001 }
     ∷ []
 
@@ -87,7 +91,7 @@ cache_above_refused = refl
 -- the numbers of a configuration: those of the table, and of `decision_cache`
 abbrev numbers_of : Config → List ℕ
 numbers_of c =
-    c.decision_wait ∷ c.root_wait ∷ c.num_traces ∷ c.lanes ∷ c.shards ∷ c.queue_capacity ∷ c.export_capacity ∷ c.send_batch_size ∷ c.tick
+    c.decision_wait ∷ c.root_wait ∷ c.num_traces ∷ c.lanes ∷ c.shards ∷ c.queue_capacity ∷ c.export_capacity ∷ c.send_batch_size ∷ c.max_connections ∷ c.tick
     ∷ c.sampled_cache_size ∷ c.non_sampled_cache_size ∷ []
 
 -- a table with all keys, each with one of its numbers
@@ -98,17 +102,22 @@ members_of number (r ∷ rows) rest = member r.key (integer (pos (number r))) (m
 abbrev table_of : (Range → ℕ) → Members
 table_of number = members_of number ranges (member (codes "decision_cache") (table (members_of number cache_ranges no_members)) no_members)
 
-defaults : numbers_of (config_of no_members) ≡ 30000 ∷ 0 ∷ 50000 ∷ 1 ∷ 1 ∷ 1024 ∷ 1024 ∷ 512 ∷ 1000 ∷ 0 ∷ 0 ∷ []
+defaults : numbers_of (config_of no_members) ≡ 30000 ∷ 0 ∷ 50000 ∷ 1 ∷ 1 ∷ 1024 ∷ 1024 ∷ 512 ∷ 1024 ∷ 1000 ∷ 0 ∷ 0 ∷ []
 defaults = refl
 
 listens_by_default : (config_of no_members).listen ≡ codes "127.0.0.1:4318"
 listens_by_default = refl
 
+-- gzip is taken only where the key says so
+takes_gzip : (config_of no_members).accept_gzip ∷ (config_of (member (codes "accept_gzip") (boolean true) no_members)).accept_gzip
+    ∷ (config_of (member (codes "accept_gzip") (boolean false) no_members)).accept_gzip ∷ [] ≡ false ∷ true ∷ false ∷ []
+takes_gzip = refl
+
 -- each key gives its own number
-lowest_values : numbers_of (config_of (table_of (λ r. r.lowest))) ≡ 1 ∷ 0 ∷ 1 ∷ 1 ∷ 1 ∷ 1 ∷ 1 ∷ 1 ∷ 1 ∷ 0 ∷ 0 ∷ []
+lowest_values : numbers_of (config_of (table_of (λ r. r.lowest))) ≡ 1 ∷ 0 ∷ 1 ∷ 1 ∷ 1 ∷ 1 ∷ 1 ∷ 1 ∷ 1 ∷ 1 ∷ 0 ∷ 0 ∷ []
 lowest_values = refl
 
-greatest_values : numbers_of (config_of (table_of (λ r. r.greatest))) ≡ 3600000 ∷ 3600000 ∷ 1000000 ∷ 64 ∷ 64 ∷ 65536 ∷ 65536 ∷ 8192 ∷ 60000 ∷ 1000000 ∷ 1000000 ∷ []
+greatest_values : numbers_of (config_of (table_of (λ r. r.greatest))) ≡ 3600000 ∷ 3600000 ∷ 1000000 ∷ 64 ∷ 64 ∷ 65536 ∷ 65536 ∷ 8192 ∷ 65536 ∷ 60000 ∷ 1000000 ∷ 1000000 ∷ []
 greatest_values = refl
 
 abbrev own_numbers : Members
@@ -121,10 +130,11 @@ own_numbers =
     (member (codes "queue_capacity") (integer (pos 13))
     (member (codes "export_capacity") (integer (pos 17))
     (member (codes "send_batch_size") (integer (pos 19))
+    (member (codes "max_connections") (integer (pos 37))
     (member (codes "tick_ms") (integer (pos 23))
-    (member (codes "decision_cache") (table (member (codes "sampled_cache_size") (integer (pos 29)) (member (codes "non_sampled_cache_size") (integer (pos 31)) no_members))) no_members)))))))))
+    (member (codes "decision_cache") (table (member (codes "sampled_cache_size") (integer (pos 29)) (member (codes "non_sampled_cache_size") (integer (pos 31)) no_members))) no_members))))))))))
 
-own_values : numbers_of (config_of own_numbers) ≡ 2 ∷ 3 ∷ 5 ∷ 7 ∷ 11 ∷ 13 ∷ 17 ∷ 19 ∷ 23 ∷ 29 ∷ 31 ∷ []
+own_values : numbers_of (config_of own_numbers) ≡ 2 ∷ 3 ∷ 5 ∷ 7 ∷ 11 ∷ 13 ∷ 17 ∷ 19 ∷ 37 ∷ 23 ∷ 29 ∷ 31 ∷ []
 own_values = refl
 
 -- ---- settings of a policy
@@ -144,18 +154,66 @@ own =
     ∷ record { kind = type_is.BooleanAttribute; keys = codes "key" ∷ codes "value" ∷ codes "invert_match" ∷ []; other = codes "values" }
     ∷ record { kind = type_is.SpanCount; keys = codes "min_spans" ∷ codes "max_spans" ∷ []; other = codes "spans" }
     ∷ record { kind = type_is.RateLimiting; keys = codes "spans_per_second" ∷ []; other = codes "limit" }
+    ∷ record { kind = type_is.Probabilistic; keys = codes "hash_salt" ∷ codes "sampling_percentage" ∷ []; other = codes "percentage" }
     ∷ record { kind = type_is.And; keys = codes "and_sub_policy" ∷ []; other = codes "policies" }
+    ∷ record { kind = type_is.Not; keys = codes "not_sub_policy" ∷ []; other = codes "and_sub_policy" }
+    ∷ record { kind = type_is.Drop; keys = codes "drop_sub_policy" ∷ []; other = codes "not_sub_policy" }
     ∷ []
 
 own_settings : map (λ (o : Own). map (is_setting o.kind) o.keys) own ≡ map (λ (o : Own). map (λ key. true) o.keys) own
-unfolding is_setting
 own_settings = refl
 
 other_keys : map (λ (o : Own). is_setting o.kind o.other) own ≡ map (λ o. false) own
-unfolding is_setting
 other_keys = refl
+
+-- where a policy has no settings, a key is missing of each type that has a required one
+missing_settings : map (λ (kind : PolicyType). rows_fault kind no_members) all_types
+    ≡ None ∷ Some MissingKey ∷ Some MissingKey ∷ Some MissingKey ∷ Some MissingKey ∷ Some MissingKey ∷ Some MissingKey ∷ Some MissingKey ∷ Some MissingKey ∷ None ∷ None ∷ None ∷ []
+missing_settings = refl
+
+-- each type by its name
+types_named : map (λ (kind : PolicyType). type_named (type_name kind)) all_types ≡ map (λ (kind : PolicyType). Some kind) all_types
+types_named = refl
 
 -- ---- the numbers of the faults
 
 fault_numbers : map config_fault_number (NotToml ∷ UnknownKey ∷ MissingKey ∷ WrongType ∷ OutOfRange ∷ TooFewTraces ∷ NoMemory ∷ []) ≡ 1 ∷ 2 ∷ 3 ∷ 4 ∷ 5 ∷ 6 ∷ 8 ∷ []
 fault_numbers = refl
+
+-- ---- percentages
+
+-- the floats of 12.5, 0.0001, 33.3333, 99.9999, 100, 0 and 7.1
+abbrev percentages : List Float
+percentages =
+    fin false 25 (negsuc 0)
+    ∷ fin false 7378697629483821 (negsuc 65)
+    ∷ fin false 4691244920594655 (negsuc 46)
+    ∷ fin false 3518433690445991 (negsuc 44)
+    ∷ fin false 25 (pos 2)
+    ∷ fin false 0 (pos 0)
+    ∷ fin false 3996944669291315 (negsuc 48)
+    ∷ []
+
+percentages_read : map ten_thousandths percentages ≡ Some 125000 ∷ Some 1 ∷ Some 333333 ∷ Some 999999 ∷ Some 1000000 ∷ Some 0 ∷ Some 71000 ∷ []
+unfolding ten_thousandths round_with to_unsigned of_int mul div eq
+percentages_read = refl
+
+-- those of 12.34567, 100.0001, -0.0001, 0.00005 and 10 ^ 300, then no number and the infinities
+abbrev no_percentages : List Float
+no_percentages =
+    fin false 6949994351454889 (negsuc 48)
+    ∷ fin false 3518440727320409 (negsuc 44)
+    ∷ fin true 7378697629483821 (negsuc 65)
+    ∷ fin false 7378697629483821 (negsuc 66)
+    ∷ fin false 1681218273811815 (pos 946)
+    ∷ nan ∷ inf false ∷ inf true ∷ []
+
+no_percentages_refused : map ten_thousandths no_percentages ≡ map (λ x. None) no_percentages
+unfolding ten_thousandths round_with to_unsigned of_int mul div eq
+no_percentages_refused = refl
+
+whole_percentages : map (λ (n : ℤ). percentage_of (integer n)) (pos 0 ∷ pos 1 ∷ pos 100 ∷ pos 101 ∷ negsuc 0 ∷ []) ≡ Some 0 ∷ Some 10000 ∷ Some 1000000 ∷ None ∷ None ∷ []
+whole_percentages = refl
+
+salts : map salt_by ([] ∷ codes "own" ∷ []) ≡ codes "default-hash-seed" ∷ codes "own" ∷ []
+salts = refl

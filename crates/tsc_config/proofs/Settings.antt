@@ -2,14 +2,14 @@
 -- For `settings_are_of_their_keys`.
 use Rattle.std.proofs.Common.{◌≡◌, ℕ, ◌<◌, ◌≤◌, pos, negsuc, zero, suc, Bool, true, false, ◌⊎◌, inl, inr, refl, arith, codes, List, Option, None, Some, Ok, Err, subst, if◌then◌else◌, nat_lt, int_le, ◌&&◌}
 use Rattle.std.proofs.lemmas.Bool.Decides.{nat_tests}
-use Rattle.toml.specs.Data.{Data, string, integer, table, Members, get_member}
+use Rattle.toml.specs.Data.{Data, string, integer, boolean, table, Members, get_member}
 use Rattle.toml.specs.Parse.{parse_document}
 use Rattle.policy_tree.specs.Faults.{fault_of_policies}
 use Rattle.policy_tree.specs.declared.fault.PolicyFault.{PolicyFault}
-use Rattle.tsc_config.specs.Faults.{config_fault_number, least, optional, required, unknown_fault, integer_fault, text_fault, cache_fault, numbers_fault, sizes_fault, policies_fault, table_fault}
+use Rattle.tsc_config.specs.Faults.{config_fault_number, least, optional, required, unknown_fault, integer_fault, text_fault, truth_fault, cache_fault, numbers_fault, sizes_fault, policies_fault, table_fault}
 use Rattle.tsc_config.specs.Reading.{reading, reading_of, reading_unless, reading_where}
-use Rattle.tsc_config.specs.Settings.{IsTextAt, IsCacheSize, HasSettings, ReadsSettings}
-use Rattle.tsc_config.specs.Values.{config_of, positive_of, natural_of, cache_size, listen_of}
+use Rattle.tsc_config.specs.Settings.{IsTextAt, IsTruthAt, IsCacheSize, HasSettings, ReadsSettings}
+use Rattle.tsc_config.specs.Values.{config_of, positive_of, natural_of, cache_size, listen_of, truth_of}
 use Rattle.tsc_config.specs.declared.config.Config.{Config}
 use Rattle.tsc_config.specs.declared.fault.ConfigFault.{ConfigFault}
 use Rattle.tsc_config.specs.declared.fault.ConfigFault.TheVariants.{OutOfRange, TooFewTraces}
@@ -66,6 +66,12 @@ text given None e f = inl (e, refl)
 text given (Some (string bytes)) e f = inr e
 text given (Some _) e f = cc
 
+gzip : (given : Members) (at : Option Data) → get_member (codes "accept_gzip") given ≡ at → optional truth_fault at ≡ None
+    → IsTruthAt given (codes "accept_gzip") (truth_of at)
+gzip given None e f = inl (e, refl)
+gzip given (Some (boolean value)) e f = inr e
+gzip given (Some _) e f = cc
+
 -- both sizes of the table of caches
 cache : (given : Members) (at : Option Data) → get_member (codes "decision_cache") given ≡ at → optional cache_fault at ≡ None
     → IsCacheSize given (codes "sampled_cache_size") (cache_size (codes "sampled_cache_size") at)
@@ -82,14 +88,16 @@ cache given (Some _) e f = cc
 -- each part of a table without a fault has none
 pub table_parts : (members : Members) → table_fault members ≡ None → (numbers_fault members ≡ None) × (sizes_fault members ≡ None) × (optional text_fault (get_member (codes "listen") members) ≡ None)
     × (optional cache_fault (get_member (codes "decision_cache") members) ≡ None) × (required policies_fault (get_member (codes "policies") members) ≡ None)
+    × (optional truth_fault (get_member (codes "accept_gzip") members) ≡ None)
 unfolding table_fault
 table_parts members e =
     let t = neither (unknown_fault table_is.Config members) _ e in
     let n = neither (numbers_fault members) _ t.1 in
     let s = neither (sizes_fault members) _ n.1 in
     let l = neither (optional text_fault (get_member (codes "listen") members)) _ s.1 in
-    let c = neither (optional cache_fault (get_member (codes "decision_cache") members)) _ l.1 in
-    (n.0, s.0, l.0, c.0, c.1)
+    let g = neither (optional truth_fault (get_member (codes "accept_gzip") members)) _ l.1 in
+    let c = neither (optional cache_fault (get_member (codes "decision_cache") members)) _ g.1 in
+    (n.0, s.0, l.0, c.0, c.1, g.0)
 
 -- each row of the table's numbers has no fault
 whole : (members : Members) → table_fault members ≡ None → HasSettings members (config_of members)
@@ -102,6 +110,7 @@ whole members e =
     let shards = neither (optional (integer_fault (pos 1) (pos 64)) (get_member (codes "shards") members)) _ lanes.1 in
     let queue = neither (optional (integer_fault (pos 1) (pos 65536)) (get_member (codes "queue_capacity") members)) _ t.1 in
     let export = neither (optional (integer_fault (pos 1) (pos 65536)) (get_member (codes "export_capacity") members)) _ queue.1 in
+    let batch = neither (optional (integer_fault (pos 1) (pos 8192)) (get_member (codes "send_batch_size") members)) _ export.1 in
     let caches = cache members (get_member (codes "decision_cache") members) refl t.3 in record {
       decision_wait = positive 30000 3600000 (get_member (codes "decision_wait_ms") members) wait.0;
       root_wait = natural 3600000 (get_member (codes "root_wait_ms") members) root.0;
@@ -112,9 +121,11 @@ whole members e =
       shards = positive 1 64 (get_member (codes "shards") members) shards.0;
       queue_capacity = positive 1024 65536 (get_member (codes "queue_capacity") members) queue.0;
       export_capacity = positive 1024 65536 (get_member (codes "export_capacity") members) export.0;
-      send_batch_size = positive 512 8192 (get_member (codes "send_batch_size") members) export.1;
+      send_batch_size = positive 512 8192 (get_member (codes "send_batch_size") members) batch.0;
+      max_connections = positive 1024 65536 (get_member (codes "max_connections") members) batch.1;
       tick = positive 1000 60000 (get_member (codes "tick_ms") members) shards.1;
       listen = text members (get_member (codes "listen") members) refl t.2;
+      accept_gzip = gzip members (get_member (codes "accept_gzip") members) refl t.5;
     }
 
 -- what is read as a configuration is the table's, which has no fault

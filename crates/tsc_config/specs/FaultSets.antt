@@ -1,12 +1,17 @@
 -- The faults of a configuration as a set: each row may have one, and the least of all is answered.
-use Rattle.std.specs.Prelude.{◌≡◌, ℕ, ◌<◌, ◌≤◌, ℤ, pos, true, false, List, ◌⊎◌, codes, Option, None, Some}
+use Rattle.std.specs.Prelude.{◌≡◌, ℕ, ◌<◌, ◌≤◌, ℤ, pos, Bool, true, false, List, [], ◌∷◌, ◌⊎◌, codes, Option, None, Some}
 use Rattle.std.specs.Str.{bytes_eq}
 use Rattle.toml.specs.Data.{Data, array, table, Items, no_items, item, Members, no_members, member, get_member}
 use Rattle.toml.specs.Parse.{parse_document}
 use Rattle.policy_tree.specs.Faults.{fault_of_policies}
 use Rattle.policy_tree.specs.declared.fault.PolicyFault.{PolicyFault}
-use Rattle.tsc_config.specs.Keys.{type_name, type_at}
-use Rattle.tsc_config.specs.Faults.{config_fault_number, optional, required, unknown_fault, integer_fault, natural_fault, whole_fault, truth_fault, text_fault, type_fault, code_fault}
+use Rattle.policy_tree.specs.declared.policy.Join.{Join}
+use Rattle.policy_tree.specs.declared.policy.Join.TheVariants as join_is
+use Rattle.tsc_config.specs.Keys.{type_name, type_at, join_type, join_name, sub_key, join_at}
+use Rattle.tsc_config.specs.Faults.{config_fault_number, optional, required, unknown_fault, integer_fault, text_fault, truth_fault, type_fault, item_fault, wanted_fault}
+use Rattle.tsc_config.specs.PolicySettings.{Setting, settings}
+use Rattle.tsc_config.specs.declared.policy_settings.ValueKind.{ValueKind}
+use Rattle.tsc_config.specs.declared.policy_settings.ValueKind.TheVariants as value_is
 use Rattle.tsc_config.specs.Values.{config_of}
 use Rattle.tsc_config.specs.declared.fault.ConfigFault.{ConfigFault}
 use Rattle.tsc_config.specs.declared.fault.ConfigFault.TheVariants.{NotToml, MissingKey, WrongType, TooFewTraces, Policy}
@@ -41,40 +46,36 @@ abbrev pub ArrayHas : (fault_of : Data → Option ConfigFault) → Data → Conf
 ArrayHas fault_of (array items) fault = SomeItemHas fault_of items fault
 ArrayHas fault_of _ fault = fault ≡ WrongType
 
--- the settings of an attribute policy have this fault, or what is wanted of the value has
-abbrev pub AttributeHas : Members → (Wanted : ConfigFault → Type 0) → ConfigFault → Type 0
-AttributeHas members Wanted fault =
-    (required text_fault (get_member (codes "key") members) ≡ Some fault)
-    ⊎ (Wanted fault
-    ⊎ (optional truth_fault (get_member (codes "invert_match") members) ≡ Some fault))
+-- a value of this kind has this fault
+abbrev pub ValueHas : ValueKind → Data → ConfigFault → Type 0
+ValueHas (value_is.Array kind) value fault = ArrayHas (item_fault kind) value fault
+ValueHas kind value fault = wanted_fault kind value ≡ Some fault
 
--- some row of the settings of a policy of this type, but for the policies of an `and`, has this fault
+-- what stands at a key, which is required or may be missing, has this fault
+abbrev pub KeyHas : (is_required : Bool) → ValueKind → Option Data → ConfigFault → Type 0
+KeyHas true kind at fault = RequiredHas (ValueHas kind) at fault
+KeyHas false kind at fault = OptionalHas (ValueHas kind) at fault
+
+-- one of these settings has this fault
+abbrev pub SomeSettingHas : List Setting → Members → ConfigFault → Type 0
+SomeSettingHas [] members fault = ⊥
+SomeSettingHas (s ∷ rest) members fault = KeyHas s.is_required s.value (get_member s.name members) fault ⊎ SomeSettingHas rest members fault
+
+-- some row of the settings of a policy of this type, but for the policies that it is made of, has this fault
 abbrev pub RowsHave : PolicyType → Members → ConfigFault → Type 0
-RowsHave type_is.Latency members fault =
-    (required natural_fault (get_member (codes "threshold_ms") members) ≡ Some fault)
-    ⊎ (optional natural_fault (get_member (codes "upper_threshold_ms") members) ≡ Some fault)
-RowsHave type_is.StatusCode members fault = RequiredHas (ArrayHas code_fault) (get_member (codes "status_codes") members) fault
-RowsHave type_is.StringAttribute members fault = AttributeHas members (RequiredHas (ArrayHas text_fault) (get_member (codes "values") members)) fault
-RowsHave type_is.NumericAttribute members fault =
-    AttributeHas members (λ of_bound. (optional whole_fault (get_member (codes "min_value") members) ≡ Some of_bound)
-    ⊎ (optional whole_fault (get_member (codes "max_value") members) ≡ Some of_bound)) fault
-RowsHave type_is.BooleanAttribute members fault =
-    AttributeHas members (λ of_value. required truth_fault (get_member (codes "value") members) ≡ Some of_value) fault
-RowsHave type_is.SpanCount members fault =
-    (required natural_fault (get_member (codes "min_spans") members) ≡ Some fault)
-    ⊎ (optional natural_fault (get_member (codes "max_spans") members) ≡ Some fault)
-RowsHave type_is.RateLimiting members fault = required natural_fault (get_member (codes "spans_per_second") members) ≡ Some fault
-RowsHave _ _ fault = ⊥
+RowsHave kind members fault = SomeSettingHas (settings kind) members fault
 
 -- the settings of a policy of this type have this fault
 abbrev pub SettingsHave : PolicyType → Data → ConfigFault → Type 0
 SettingsHave kind (table members) fault = (unknown_fault (table_is.Settings kind) members ≡ Some fault) ⊎ RowsHave kind members fault
 SettingsHave kind _ fault = fault ≡ WrongType
 
--- the settings of a policy table of this type have this fault, where those of an `and` have the nested ones
+-- the settings of a policy table of this type have this fault, where those of a type that is made of others have the nested ones
 abbrev pub SettingsAtHave : PolicyType → Members → (Nested : ConfigFault → Type 0) → ConfigFault → Type 0
 SettingsAtHave type_is.AlwaysSample _ Nested fault = ⊥
 SettingsAtHave type_is.And _ Nested fault = Nested fault
+SettingsAtHave type_is.Not _ Nested fault = Nested fault
+SettingsAtHave type_is.Drop _ Nested fault = Nested fault
 SettingsAtHave kind members Nested fault = RequiredHas (SettingsHave kind) (get_member (type_name kind) members) fault
 
 -- a policy table has this fault beside `name` and `type`: only where its type is known
@@ -102,25 +103,32 @@ abbrev mutual
 
   -- a policy has this fault
   pub PolicyHas : Data → ConfigFault → Type 0
-  PolicyHas (table members) fault = PolicyTableHas members (AndHas members) fault
+  PolicyHas (table members) fault = PolicyTableHas members (PartsHave (join_at members) members) fault
   PolicyHas _ fault = fault ≡ WrongType
 
-  -- the settings of the `and` of a policy table have this fault
-  pub AndHas : Members → ConfigFault → Type 0
-  AndHas no_members fault = fault ≡ MissingKey
-  AndHas (member key value rest) fault =
-      ((bytes_eq key (codes "and") ≡ true) × AndSettingsHave value fault) ⊎ ((bytes_eq key (codes "and") ≡ false) × AndHas rest fault)
+  -- in a policy table the settings of a policy that is joined so have this fault
+  pub PartsHave : Join → Members → ConfigFault → Type 0
+  PartsHave join no_members fault = fault ≡ MissingKey
+  PartsHave join (member key value rest) fault =
+      ((bytes_eq key (join_name join) ≡ true) × PartsSettingsHave join value fault) ⊎ ((bytes_eq key (join_name join) ≡ false) × PartsHave join rest fault)
 
-  -- the settings of an `and` have this fault
-  pub AndSettingsHave : Data → ConfigFault → Type 0
-  AndSettingsHave (table members) fault = (unknown_fault (table_is.Settings type_is.And) members ≡ Some fault) ⊎ SubPoliciesHave members fault
-  AndSettingsHave _ fault = fault ≡ WrongType
+  -- the settings of such a policy have this fault
+  pub PartsSettingsHave : Join → Data → ConfigFault → Type 0
+  PartsSettingsHave join (table members) fault = (unknown_fault (table_is.Settings (join_type join)) members ≡ Some fault) ⊎ SubPoliciesHave join members fault
+  PartsSettingsHave join _ fault = fault ≡ WrongType
 
-  -- the policies of an `and` have this fault
-  pub SubPoliciesHave : Members → ConfigFault → Type 0
-  SubPoliciesHave no_members fault = fault ≡ MissingKey
-  SubPoliciesHave (member key value rest) fault =
-      ((bytes_eq key (codes "and_sub_policy") ≡ true) × PoliciesHave value fault) ⊎ ((bytes_eq key (codes "and_sub_policy") ≡ false) × SubPoliciesHave rest fault)
+  -- the policies that are joined have this fault
+  pub SubPoliciesHave : Join → Members → ConfigFault → Type 0
+  SubPoliciesHave join no_members fault = fault ≡ MissingKey
+  SubPoliciesHave join (member key value rest) fault =
+      ((bytes_eq key (sub_key join) ≡ true) × SubValueHas join value fault) ⊎ ((bytes_eq key (sub_key join) ≡ false) × SubPoliciesHave join rest fault)
+
+  -- the value of their key has: an array, or of a `not` one policy
+  pub SubValueHas : Join → Data → ConfigFault → Type 0
+  SubValueHas join_is.And (array items) fault = SomePolicyHas items fault
+  SubValueHas join_is.Not (table members) fault = PolicyTableHas members (PartsHave (join_at members) members) fault
+  SubValueHas join_is.Drop (array items) fault = SomePolicyHas items fault
+  SubValueHas _ _ fault = fault ≡ WrongType
 
 -- the table of the caches of decisions has this fault
 abbrev pub CacheHas : Data → ConfigFault → Type 0
@@ -149,7 +157,8 @@ abbrev pub SizesHave : Members → ConfigFault → Type 0
 SizesHave members fault =
     NumberHas members (codes "queue_capacity") (pos 65536) fault
     ⊎ (NumberHas members (codes "export_capacity") (pos 65536) fault
-    ⊎ NumberHas members (codes "send_batch_size") (pos 8192) fault)
+    ⊎ (NumberHas members (codes "send_batch_size") (pos 8192) fault
+    ⊎ NumberHas members (codes "max_connections") (pos 65536) fault))
 
 -- the table of a configuration has this fault
 abbrev pub HasFault : Members → ConfigFault → Type 0
@@ -158,8 +167,9 @@ HasFault members fault =
     ⊎ (NumbersHave members fault
     ⊎ (SizesHave members fault
     ⊎ ((optional text_fault (get_member (codes "listen") members) ≡ Some fault)
+    ⊎ ((optional truth_fault (get_member (codes "accept_gzip") members) ≡ Some fault)
     ⊎ (OptionalHas CacheHas (get_member (codes "decision_cache") members) fault
-    ⊎ RequiredHas PoliciesHave (get_member (codes "policies") members) fault))))
+    ⊎ RequiredHas PoliciesHave (get_member (codes "policies") members) fault)))))
 
 -- the text of a configuration with this table, if it is TOML, has this fault
 abbrev pub DocumentHas : Option Members → ConfigFault → Type 0

@@ -1,8 +1,12 @@
 -- What is wrong with the table of a configuration: the fault of least number among those of all its rows.
-use Rattle.std.specs.Prelude.{ℕ, ℤ, pos, ◌&&◌, codes, Option, None, Some, if◌then◌else◌, int_le, nat_lt}
+use Rattle.std.specs.Prelude.{ℕ, ℤ, pos, ◌&&◌, List, [], ◌∷◌, codes, Option, None, Some, if◌then◌else◌, int_le, nat_lt}
 use Rattle.std.specs.Str.{bytes_eq}
-use Rattle.toml.specs.Data.{Data, string, integer, boolean, array, table, Items, no_items, item, Members, no_members, member, get_member}
-use Rattle.tsc_config.specs.Keys.{NumberRow, number_row, has_unknown_key, type_name, type_of, type_at, code_of}
+use Rattle.toml.specs.Data.{Data, string, integer, float, boolean, array, table, Items, no_items, item, Members, no_members, member, get_member}
+use Rattle.tsc_config.specs.PolicySettings.{Setting, settings}
+use Rattle.tsc_config.specs.Percentages.{percentage_of}
+use Rattle.tsc_config.specs.Keys.{NumberRow, number_row, has_unknown_key, type_name, type_of, type_at, code_of, join_type, join_name, sub_key, join_at}
+use Rattle.policy_tree.specs.declared.policy.Join.{Join}
+use Rattle.policy_tree.specs.declared.policy.Join.TheVariants as join_is
 use Rattle.tsc_config.specs.declared.fault.ConfigFault.{ConfigFault}
 use Rattle.tsc_config.specs.declared.fault.ConfigFault.TheVariants.{NotToml, UnknownKey, MissingKey, WrongType, OutOfRange, TooFewTraces, Policy, NoMemory}
 use Rattle.tsc_config.specs.declared.kinds.NumberKey.TheVariants as number_is
@@ -10,8 +14,10 @@ use Rattle.tsc_config.specs.declared.kinds.PolicyType.{PolicyType}
 use Rattle.tsc_config.specs.declared.kinds.PolicyType.TheVariants as type_is
 use Rattle.tsc_config.specs.declared.kinds.TableKind.{TableKind}
 use Rattle.tsc_config.specs.declared.kinds.TableKind.TheVariants as table_is
-use Rattle.tsc_config.specs.declared.settings_faults.Wanted.{Wanted}
-use Rattle.tsc_config.specs.declared.settings_faults.Wanted.TheVariants as wants
+use Rattle.tsc_config.specs.declared.policy_settings.ItemKind.{ItemKind}
+use Rattle.tsc_config.specs.declared.policy_settings.ItemKind.TheVariants as item_is
+use Rattle.tsc_config.specs.declared.policy_settings.ValueKind.{ValueKind}
+use Rattle.tsc_config.specs.declared.policy_settings.ValueKind.TheVariants as value_is
 
 -- the number of a fault
 abbrev pub config_fault_number : ConfigFault → ℕ
@@ -97,48 +103,52 @@ whole_fault _ = Some WrongType
 abbrev pub natural_fault : Data → Option ConfigFault
 natural_fault value = integer_fault (pos 0) (pos 9223372036854775807) value
 
+-- a percentage is wanted: a whole number from 0 to 100, or a number with at most four decimals
+abbrev pub percentage_fault : Data → Option ConfigFault
+percentage_fault (integer number) = named_fault (percentage_of (integer number))
+percentage_fault (float number) = named_fault (percentage_of (float number))
+percentage_fault _ = Some WrongType
+
+-- what is wanted of an item
+abbrev pub item_fault : ItemKind → Data → Option ConfigFault
+item_fault item_is.Text = text_fault
+item_fault item_is.StatusCode = code_fault
+
 -- what is wanted of a value
-abbrev pub wanted_fault : Wanted → Data → Option ConfigFault
-wanted_fault (wants.Integer lowest greatest) = integer_fault lowest greatest
-wanted_fault wants.Whole = whole_fault
-wanted_fault wants.Truth = truth_fault
-wanted_fault wants.Text = text_fault
-wanted_fault wants.StatusCode = code_fault
-wanted_fault wants.PolicyType = type_fault
+abbrev pub wanted_fault : ValueKind → Data → Option ConfigFault
+wanted_fault (value_is.Integer lowest greatest) = integer_fault lowest greatest
+wanted_fault value_is.Whole = whole_fault
+wanted_fault value_is.Truth = truth_fault
+wanted_fault value_is.Text = text_fault
+wanted_fault value_is.PolicyType = type_fault
+wanted_fault value_is.Percentage = percentage_fault
+wanted_fault (value_is.Array kind) = array_fault (item_fault kind)
 
--- the rows of the settings of an attribute policy, where this is the fault of what is wanted of the value
-abbrev pub attribute_fault : Members → (wanted : Option ConfigFault) → Option ConfigFault
-attribute_fault members wanted =
-    least (required text_fault (get_member (codes "key") members))
-    (least wanted (optional truth_fault (get_member (codes "invert_match") members)))
+-- the row of one setting
+abbrev pub setting_fault : Setting → Members → Option ConfigFault
+setting_fault s members =
+    if s.is_required then required (wanted_fault s.value) (get_member s.name members) else optional (wanted_fault s.value) (get_member s.name members)
 
--- the rows of the settings of a policy of this type, but for the policies of an `and`
-unfoldable pub rows_fault : PolicyType → Members → Option ConfigFault
-rows_fault type_is.AlwaysSample _ = None
-rows_fault type_is.Latency members =
-    least (required natural_fault (get_member (codes "threshold_ms") members))
-    (optional natural_fault (get_member (codes "upper_threshold_ms") members))
-rows_fault type_is.StatusCode members = required (array_fault code_fault) (get_member (codes "status_codes") members)
-rows_fault type_is.StringAttribute members = attribute_fault members (required (array_fault text_fault) (get_member (codes "values") members))
-rows_fault type_is.NumericAttribute members =
-    attribute_fault members (least (optional whole_fault (get_member (codes "min_value") members))
-    (optional whole_fault (get_member (codes "max_value") members)))
-rows_fault type_is.BooleanAttribute members = attribute_fault members (required truth_fault (get_member (codes "value") members))
-rows_fault type_is.SpanCount members =
-    least (required natural_fault (get_member (codes "min_spans") members))
-    (optional natural_fault (get_member (codes "max_spans") members))
-rows_fault type_is.RateLimiting members = required natural_fault (get_member (codes "spans_per_second") members)
-rows_fault type_is.And _ = None
+-- the rows of these settings
+abbrev pub each_setting_fault : List Setting → Members → Option ConfigFault
+each_setting_fault [] members = None
+each_setting_fault (s ∷ rest) members = least (setting_fault s members) (each_setting_fault rest members)
+
+-- the rows of the settings of a policy of this type, but for the policies that it is made of
+abbrev pub rows_fault : PolicyType → Members → Option ConfigFault
+rows_fault kind members = each_setting_fault (settings kind) members
 
 -- the settings of a policy of this type are wanted
 abbrev pub settings_fault : PolicyType → Data → Option ConfigFault
 settings_fault kind (table members) = least (unknown_fault (table_is.Settings kind) members) (rows_fault kind members)
 settings_fault kind _ = Some WrongType
 
--- the settings of a policy table of this type: `nested` is the fault of those of an `and`
+-- the settings of a policy table of this type: `nested` is the fault of those of a type that is made of others
 abbrev pub settings_at_fault : PolicyType → Members → (nested : Option ConfigFault) → Option ConfigFault
 settings_at_fault type_is.AlwaysSample _ nested = None
 settings_at_fault type_is.And _ nested = nested
+settings_at_fault type_is.Not _ nested = nested
+settings_at_fault type_is.Drop _ nested = nested
 settings_at_fault kind members nested = required (settings_fault kind) (get_member (type_name kind) members)
 
 -- the rows of a policy table of a known type, beside `name` and `type`
@@ -170,23 +180,30 @@ abbrev mutual
 
   -- a policy table is wanted
   pub policy_fault : Data → Option ConfigFault
-  policy_fault (table members) = policy_table_fault members (and_fault members)
+  policy_fault (table members) = policy_table_fault members (parts_fault (join_at members) members)
   policy_fault _ = Some WrongType
 
-  -- the settings of an `and` are wanted in a policy table
-  pub and_fault : Members → Option ConfigFault
-  and_fault no_members = Some MissingKey
-  and_fault (member key value rest) = if bytes_eq key (codes "and") then and_settings_fault value else and_fault rest
+  -- in a policy table the settings of a policy that is joined so are wanted
+  pub parts_fault : Join → Members → Option ConfigFault
+  parts_fault join no_members = Some MissingKey
+  parts_fault join (member key value rest) = if bytes_eq key (join_name join) then parts_settings_fault join value else parts_fault join rest
 
-  -- the settings of an `and` are wanted
-  pub and_settings_fault : Data → Option ConfigFault
-  and_settings_fault (table members) = least (unknown_fault (table_is.Settings type_is.And) members) (sub_policies_fault members)
-  and_settings_fault _ = Some WrongType
+  -- the settings of such a policy are wanted
+  pub parts_settings_fault : Join → Data → Option ConfigFault
+  parts_settings_fault join (table members) = least (unknown_fault (table_is.Settings (join_type join)) members) (sub_policies_fault join members)
+  parts_settings_fault join _ = Some WrongType
 
-  -- the policies of an `and` are wanted in its settings
-  pub sub_policies_fault : Members → Option ConfigFault
-  sub_policies_fault no_members = Some MissingKey
-  sub_policies_fault (member key value rest) = if bytes_eq key (codes "and_sub_policy") then policies_fault value else sub_policies_fault rest
+  -- in its settings the policies that are joined are wanted
+  pub sub_policies_fault : Join → Members → Option ConfigFault
+  sub_policies_fault join no_members = Some MissingKey
+  sub_policies_fault join (member key value rest) = if bytes_eq key (sub_key join) then sub_value_fault join value else sub_policies_fault join rest
+
+  -- an array of policy tables is wanted, or of a `not` one policy table
+  pub sub_value_fault : Join → Data → Option ConfigFault
+  sub_value_fault join_is.And (array items) = policy_items_fault items
+  sub_value_fault join_is.Not (table members) = policy_table_fault members (parts_fault (join_at members) members)
+  sub_value_fault join_is.Drop (array items) = policy_items_fault items
+  sub_value_fault _ _ = Some WrongType
 
 -- the sizes of the caches of decisions are wanted
 abbrev pub cache_fault : Data → Option ConfigFault
@@ -206,12 +223,13 @@ numbers_fault members =
     (least (number_fault (number_row number_is.Shards) members)
     (number_fault (number_row number_is.Tick) members)))))
 
--- the rows of the sizes of queues and batches
+-- the rows of the sizes of queues and batches, and of how many connections may be open
 abbrev pub sizes_fault : Members → Option ConfigFault
 sizes_fault members =
     least (number_fault (number_row number_is.QueueCapacity) members)
     (least (number_fault (number_row number_is.ExportCapacity) members)
-    (number_fault (number_row number_is.SendBatchSize) members))
+    (least (number_fault (number_row number_is.SendBatchSize) members)
+    (number_fault (number_row number_is.MaxConnections) members)))
 
 -- the rows of the whole table: a key more is a row more
 unfoldable pub table_fault : Members → Option ConfigFault
@@ -220,5 +238,6 @@ table_fault members =
     (least (numbers_fault members)
     (least (sizes_fault members)
     (least (optional text_fault (get_member (codes "listen") members))
+    (least (optional truth_fault (get_member (codes "accept_gzip") members))
     (least (optional cache_fault (get_member (codes "decision_cache") members))
-    (required policies_fault (get_member (codes "policies") members))))))
+    (required policies_fault (get_member (codes "policies") members)))))))

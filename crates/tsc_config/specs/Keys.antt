@@ -1,7 +1,11 @@
 -- The keys of each kind of table, and the texts that `type` and `status_codes` take.
-use Rattle.std.specs.Prelude.{ℕ, ℤ, pos, Bool, true, false, not, ◌&&◌, ◌||◌, List, codes, Option, Some, None, option_and_then, if◌then◌else◌}
+use Rattle.std.specs.Prelude.{ℕ, ℤ, pos, Bool, true, false, not, ◌&&◌, ◌||◌, List, [], ◌∷◌, codes, Option, Some, None, option_and_then, if◌then◌else◌}
+use Rattle.std.specs.List.{list_any}
 use Rattle.std.specs.Str.{bytes_eq}
+use Rattle.tsc_config.specs.PolicySettings.{Setting, settings}
 use Rattle.toml.specs.Data.{Data, as_str, Members, no_members, member, get_member}
+use Rattle.policy_tree.specs.declared.policy.Join.{Join}
+use Rattle.policy_tree.specs.declared.policy.Join.TheVariants as join_is
 use Rattle.tsc_config.specs.declared.kinds.NumberKey.{NumberKey}
 use Rattle.tsc_config.specs.declared.kinds.NumberKey.TheVariants as number_is
 use Rattle.tsc_config.specs.declared.kinds.PolicyType.{PolicyType}
@@ -26,6 +30,7 @@ number_row number_is.Shards = record { name = codes "shards"; default = 1; lowes
 number_row number_is.QueueCapacity = record { name = codes "queue_capacity"; default = 1024; lowest = 1; greatest = 65536 }
 number_row number_is.ExportCapacity = record { name = codes "export_capacity"; default = 1024; lowest = 1; greatest = 65536 }
 number_row number_is.SendBatchSize = record { name = codes "send_batch_size"; default = 512; lowest = 1; greatest = 8192 }
+number_row number_is.MaxConnections = record { name = codes "max_connections"; default = 1024; lowest = 1; greatest = 65536 }
 number_row number_is.Tick = record { name = codes "tick_ms"; default = 1000; lowest = 1; greatest = 60000 }
 
 -- the text that names a type of policy, and the key of its settings
@@ -38,24 +43,30 @@ type_name type_is.NumericAttribute = codes "numeric_attribute"
 type_name type_is.BooleanAttribute = codes "boolean_attribute"
 type_name type_is.SpanCount = codes "span_count"
 type_name type_is.RateLimiting = codes "rate_limiting"
+type_name type_is.Probabilistic = codes "probabilistic"
 type_name type_is.And = codes "and"
+type_name type_is.Not = codes "not"
+type_name type_is.Drop = codes "drop"
 
 -- a policy of this type has settings
 abbrev pub has_settings : PolicyType → Bool
 has_settings type_is.AlwaysSample = false
 has_settings _ = true
 
+-- the key of the policies that a policy of this type is made of
+abbrev pub is_sub_key : PolicyType → List ℕ → Bool
+is_sub_key type_is.And key = bytes_eq key (codes "and_sub_policy")
+is_sub_key type_is.Not key = bytes_eq key (codes "not_sub_policy")
+is_sub_key type_is.Drop key = bytes_eq key (codes "drop_sub_policy")
+is_sub_key _ key = false
+
+-- one of these settings has this key
+abbrev pub has_key : List Setting → List ℕ → Bool
+has_key rows key = list_any (λ (s : Setting). bytes_eq s.name key) rows
+
 -- the keys of the settings of a policy of this type
-unfoldable pub is_setting : PolicyType → List ℕ → Bool
-is_setting type_is.AlwaysSample key = false
-is_setting type_is.Latency key = bytes_eq key (codes "threshold_ms") || bytes_eq key (codes "upper_threshold_ms")
-is_setting type_is.StatusCode key = bytes_eq key (codes "status_codes")
-is_setting type_is.StringAttribute key = bytes_eq key (codes "key") || bytes_eq key (codes "values") || bytes_eq key (codes "invert_match")
-is_setting type_is.NumericAttribute key = bytes_eq key (codes "key") || bytes_eq key (codes "min_value") || bytes_eq key (codes "max_value") || bytes_eq key (codes "invert_match")
-is_setting type_is.BooleanAttribute key = bytes_eq key (codes "key") || bytes_eq key (codes "value") || bytes_eq key (codes "invert_match")
-is_setting type_is.SpanCount key = bytes_eq key (codes "min_spans") || bytes_eq key (codes "max_spans")
-is_setting type_is.RateLimiting key = bytes_eq key (codes "spans_per_second")
-is_setting type_is.And key = bytes_eq key (codes "and_sub_policy")
+abbrev pub is_setting : PolicyType → List ℕ → Bool
+is_setting kind key = has_key (settings kind) key || is_sub_key kind key
 
 -- the keys of a table of this kind
 unfoldable pub is_key : TableKind → List ℕ → Bool
@@ -64,8 +75,8 @@ is_key table_is.Config key =
     || bytes_eq key (codes "decision_cache") || bytes_eq key (codes "policies")
     || bytes_eq key (number_row number_is.Lanes).name || bytes_eq key (number_row number_is.Shards).name
     || bytes_eq key (number_row number_is.QueueCapacity).name || bytes_eq key (number_row number_is.ExportCapacity).name
-    || bytes_eq key (number_row number_is.SendBatchSize).name || bytes_eq key (number_row number_is.Tick).name
-    || bytes_eq key (codes "listen")
+    || bytes_eq key (number_row number_is.SendBatchSize).name || bytes_eq key (number_row number_is.MaxConnections).name || bytes_eq key (number_row number_is.Tick).name
+    || bytes_eq key (codes "listen") || bytes_eq key (codes "accept_gzip")
 is_key table_is.DecisionCache key = bytes_eq key (codes "sampled_cache_size") || bytes_eq key (codes "non_sampled_cache_size")
 is_key (table_is.Policy kind) key = bytes_eq key (codes "name") || bytes_eq key (codes "type") || has_settings kind && bytes_eq key (type_name kind)
 is_key (table_is.Settings kind) key = is_setting kind key
@@ -75,19 +86,20 @@ abbrev pub has_unknown_key : TableKind → Members → Bool
 has_unknown_key kind no_members = false
 has_unknown_key kind (member key value rest) = not (is_key kind key) || has_unknown_key kind rest
 
+-- each type once
+abbrev pub all_types : List PolicyType
+all_types =
+    type_is.AlwaysSample ∷ type_is.Latency ∷ type_is.StatusCode ∷ type_is.StringAttribute ∷ type_is.NumericAttribute ∷ type_is.BooleanAttribute ∷ type_is.SpanCount
+    ∷ type_is.RateLimiting ∷ type_is.Probabilistic ∷ type_is.And ∷ type_is.Not ∷ type_is.Drop ∷ []
+
+-- the first of these types that a text names
+abbrev pub type_among : List PolicyType → List ℕ → Option PolicyType
+type_among [] text = None
+type_among (kind ∷ rest) text = if bytes_eq text (type_name kind) then Some kind else type_among rest text
+
 -- the type of policy that a text names
-unfoldable pub type_named : List ℕ → Option PolicyType
-type_named text =
-    if bytes_eq text (codes "always_sample") then Some type_is.AlwaysSample
-    else if bytes_eq text (codes "latency") then Some type_is.Latency
-    else if bytes_eq text (codes "status_code") then Some type_is.StatusCode
-    else if bytes_eq text (codes "string_attribute") then Some type_is.StringAttribute
-    else if bytes_eq text (codes "numeric_attribute") then Some type_is.NumericAttribute
-    else if bytes_eq text (codes "boolean_attribute") then Some type_is.BooleanAttribute
-    else if bytes_eq text (codes "span_count") then Some type_is.SpanCount
-    else if bytes_eq text (codes "rate_limiting") then Some type_is.RateLimiting
-    else if bytes_eq text (codes "and") then Some type_is.And
-    else None
+abbrev pub type_named : List ℕ → Option PolicyType
+type_named text = type_among all_types text
 
 -- the type of policy that a value names
 abbrev pub type_of : Data → Option PolicyType
@@ -101,6 +113,36 @@ type_found (Some value) = type_of value
 -- the type of policy that a policy table names
 abbrev pub type_at : Members → Option PolicyType
 type_at members = type_found (get_member (codes "type") members)
+
+-- ---- types that are made of other policies
+
+-- the type of policy that is joined so
+abbrev pub join_type : Join → PolicyType
+join_type join_is.And = type_is.And
+join_type join_is.Not = type_is.Not
+join_type join_is.Drop = type_is.Drop
+
+-- its name, which is also the key of its settings
+abbrev pub join_name : Join → List ℕ
+join_name join = type_name (join_type join)
+
+-- the key of the policies that are joined, in these settings
+abbrev pub sub_key : Join → List ℕ
+sub_key join_is.And = codes "and_sub_policy"
+sub_key join_is.Not = codes "not_sub_policy"
+sub_key join_is.Drop = codes "drop_sub_policy"
+
+-- how the policies of a type are joined; of a type that isn't made of others this says nothing that counts
+abbrev pub join_of : Option PolicyType → Join
+join_of (Some type_is.Not) = join_is.Not
+join_of (Some type_is.Drop) = join_is.Drop
+join_of _ = join_is.And
+
+-- how those of a policy table are
+abbrev pub join_at : Members → Join
+join_at members = join_of (type_at members)
+
+-- ---- status codes
 
 -- the status code that a text names (trace.proto v1, Status.StatusCode)
 unfoldable pub code_named : List ℕ → Option ℤ

@@ -1,6 +1,8 @@
--- To be read in this order: Keys, Faults, Values, Reading (what a text is read as); Settings and PolicyKeys (of each key, without the reading); FaultSets (for provers).
+-- To be read in this order: Percentages, PolicySettings, Keys, Faults, Values, Reading (what a text is read as); Settings and PolicyKeys (of each key, without the reading); FaultSets (for provers).
 pub mod FaultSets
 pub mod Faults
+pub mod Percentages
+pub mod PolicySettings
 pub mod Keys
 pub mod Reading
 pub mod Values

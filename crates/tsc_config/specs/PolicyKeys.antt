@@ -1,12 +1,20 @@
 -- What each policy has from its table, key by key, for each type of policy: what stands at the key, or the key's default.
-use Rattle.std.specs.Prelude.{◌≡◌, ℕ, ◌+◌, ◌≤◌, ℤ, pos, negsuc, Bool, false, List, [], ◌∷◌, length, slice_get, ◌⊎◌, codes, Option, Some, None, Ok}
-use Rattle.toml.specs.Data.{Data, string, integer, boolean, array, table, Items, no_items, item, Members, get_member, get_item}
+use Rattle.std.specs.Prelude.{◌≡◌, ℕ, ◌+◌, ◌*◌, ◌≤◌, ℤ, pos, negsuc, Bool, true, false, List, [], ◌∷◌, length, slice_get, ◌⊎◌, codes, Option, Some, None, Ok}
+use Rattle.std.specs.Float.{Float}
+use lib.Ieee.{eq}
+use Rattle.toml.specs.Data.{Data, string, integer, float, boolean, array, table, Items, no_items, item, Members, get_member, get_item}
 use Rattle.toml.specs.Parse.{parse_document}
 use Rattle.policy_tree.specs.declared.policy.Policy.{Policy}
 use Rattle.policy_tree.specs.declared.policy.PolicyKind.{PolicyKind, out-PolicyKind}
 use Rattle.policy_tree.specs.declared.policy.PolicyKind.TheOpen.{PolicyKind-F}
+use Rattle.policy_tree.specs.declared.policy.Leaf.{Leaf}
+use Rattle.policy_tree.specs.declared.policy.Leaf.TheVariants as leaf_is
 use Rattle.policy_tree.specs.declared.policy.Wanted.{Wanted}
 use Rattle.policy_tree.specs.declared.policy.Wanted.TheVariants.{StringAmong, NumberWithin, Boolean}
+use Rattle.policy_tree.specs.declared.policy.Join.{Join}
+use Rattle.policy_tree.specs.declared.policy.Join.TheVariants as join_is
+use Rattle.tsc_config.specs.Keys.{join_name, sub_key, join_at}
+use Rattle.tsc_config.specs.Percentages.{over_ten_thousand}
 use Rattle.tsc_config.specs.Reading.{reading}
 use Rattle.tsc_config.specs.Settings.{IsNumberAt}
 use Rattle.tsc_config.specs.declared.config.Config.{Config}
@@ -34,6 +42,19 @@ IsWholeAt members key default number =
 abbrev pub IsTruthAt : Members → (key : List ℕ) → (truth : Bool) → Type 0
 IsTruthAt members key truth =
     ((get_member key members ≡ None) × (truth ≡ false)) ⊎ (get_member key members ≡ Some (boolean truth))
+
+-- the salt of a key: "default-hash-seed" where it doesn't stand there or is empty, else the text there
+abbrev pub IsSaltAt : Members → (key salt : List ℕ) → Type 0
+IsSaltAt members key salt =
+    ((get_member key members ≡ None) × (salt ≡ codes "default-hash-seed"))
+    ⊎ (((get_member key members ≡ Some (string [])) × (salt ≡ codes "default-hash-seed"))
+    ⊎ (get_member key members ≡ Some (string salt)))
+
+-- the percentage at a required key, in ten-thousandths of a percent: a whole number from 0 to 100, or a float, which is the one nearest to that number
+abbrev pub IsPercentage : Members → (key : List ℕ) → (ten_thousandths : ℕ) → Type 0
+IsPercentage members key ten_thousandths =
+    ((whole : ℕ) × (get_member key members ≡ Some (integer (pos whole))) × (whole ≤ 100) × (ten_thousandths ≡ whole * 10000))
+    ⊎ ((number : Float) × (get_member key members ≡ Some (float number)) × (ten_thousandths ≤ 1000000) × (eq (over_ten_thousand ten_thousandths) number ≡ true))
 
 -- the texts of an array, one for each item
 abbrev pub AreTexts : Items → List (List ℕ) → Type 0
@@ -85,24 +106,35 @@ pub record IsAttribute (members : Members) (key : List ℕ) (wanted : Wanted) (i
   pub at_wanted : IsWanted settings wanted name
   pub at_invert : IsTruthAt settings (codes "invert_match") inverted
 
--- what a policy samples, by the keys of its table; the policies of an `and` are as many as the items of its array
-abbrev pub IsLayer : Members → PolicyKind-F PolicyKind Policy → Type 0
-IsLayer members PolicyKind-F.AlwaysSample = IsText members (codes "type") (codes "always_sample")
-IsLayer members (PolicyKind-F.Latency threshold upper) =
+-- what a leaf samples, by the keys of its table
+abbrev pub IsLeaf : Members → Leaf → Type 0
+IsLeaf members leaf_is.AlwaysSample = IsText members (codes "type") (codes "always_sample")
+IsLeaf members (leaf_is.Latency threshold upper) =
     (settings : Members) × IsTyped members (codes "latency") settings × IsNatural settings (codes "threshold_ms") threshold
     × IsNaturalOrZero settings (codes "upper_threshold_ms") upper
-IsLayer members (PolicyKind-F.StatusCode numbers) =
+IsLeaf members (leaf_is.StatusCode numbers) =
     (settings : Members) × IsTyped members (codes "status_code") settings
     × ((items : Items) × (get_member (codes "status_codes") settings ≡ Some (array items)) × AreCodes items numbers)
-IsLayer members (PolicyKind-F.Attribute key wanted inverted) = IsAttribute members key wanted inverted
-IsLayer members (PolicyKind-F.SpanCount least most) =
+IsLeaf members (leaf_is.Attribute key wanted inverted) = IsAttribute members key wanted inverted
+IsLeaf members (leaf_is.SpanCount least most) =
     (settings : Members) × IsTyped members (codes "span_count") settings × IsNatural settings (codes "min_spans") least
     × IsNaturalOrZero settings (codes "max_spans") most
+IsLeaf members (leaf_is.Probabilistic salt ten_thousandths) =
+    (settings : Members) × IsTyped members (codes "probabilistic") settings × IsSaltAt settings (codes "hash_salt") salt
+    × IsPercentage settings (codes "sampling_percentage") ten_thousandths
+
+-- the policies that are joined are as many as the items of an array, and of a `not` there is one
+abbrev pub ArePartsAt : Join → Option Data → (parts : List Policy) → Type 0
+ArePartsAt join_is.Not at parts = (value : Data) × (at ≡ Some value) × (length parts ≡ 1)
+ArePartsAt _ at parts = (items : Items) × (at ≡ Some (array items)) × (length parts ≡ count_items items)
+
+-- what a policy samples, by the keys of its table
+abbrev pub IsLayer : Members → PolicyKind-F PolicyKind Policy → Type 0
+IsLayer members (PolicyKind-F.Leaf leaf) = IsLeaf members leaf
 IsLayer members (PolicyKind-F.RateLimiting limit) =
     (settings : Members) × IsTyped members (codes "rate_limiting") settings × IsNatural settings (codes "spans_per_second") limit
-IsLayer members (PolicyKind-F.And parts) =
-    (settings : Members) × IsTyped members (codes "and") settings
-    × ((items : Items) × (get_member (codes "and_sub_policy") settings ≡ Some (array items)) × (length parts ≡ count_items items))
+IsLayer members (PolicyKind-F.Joined join parts) =
+    (settings : Members) × IsTyped members (join_name join) settings × ArePartsAt join (get_member (sub_key join) settings) parts
 
 -- the same of a kind
 abbrev pub IsKind : Members → PolicyKind → Type 0
@@ -113,21 +145,27 @@ pub record IsPolicy (members : Members) (policy : Policy) : Type 0 where
   pub name : IsText members (codes "name") policy.name
   pub kind : IsKind members policy.kind
 
--- ---- all policies, each by its place: the number of its item in `policies`, or further that of an item in the `and_sub_policy` of the one before
+-- ---- all policies, each by its place: the number of its item in `policies`, or further that of an item in the policies that the one before is made of
 
 -- the items of an array
 abbrev pub items_of : Option Data → Items
 items_of (Some (array items)) = items
 items_of _ = no_items
 
--- the items of the array in the settings of an `and`
-abbrev pub settings_items : Option Data → Items
-settings_items (Some (table settings)) = items_of (get_member (codes "and_sub_policy") settings)
-settings_items _ = no_items
+-- the policy tables at their key: the items of an array, and of a `not` one
+abbrev pub part_items : Join → Option Data → Items
+part_items join_is.Not None = no_items
+part_items join_is.Not (Some value) = item value no_items
+part_items _ at = items_of at
 
--- those of the `and` of a policy table
+-- those of the settings of a policy that is joined so
+abbrev pub settings_items : Join → Option Data → Items
+settings_items join (Some (table settings)) = part_items join (get_member (sub_key join) settings)
+settings_items join _ = no_items
+
+-- those of a policy table, by its type
 abbrev pub nested_items : Option Data → Items
-nested_items (Some (table members)) = settings_items (get_member (codes "and") members)
+nested_items (Some (table members)) = settings_items (join_at members) (get_member (join_name (join_at members)) members)
 nested_items _ = no_items
 
 -- the value at a place among these items, and further places among the nested ones
@@ -135,9 +173,9 @@ abbrev pub value_at : Items → (place : ℕ) → (deeper : List ℕ) → Option
 value_at items place [] = get_item place items
 value_at items place (next ∷ deeper) = value_at (nested_items (get_item place items)) next deeper
 
--- the policies inside an `and`
+-- the policies inside a policy
 abbrev pub parts_in : PolicyKind-F PolicyKind Policy → List Policy
-parts_in (PolicyKind-F.And parts) = parts
+parts_in (PolicyKind-F.Joined join parts) = parts
 parts_in _ = []
 
 -- the same of a kind

@@ -1,6 +1,6 @@
 -- What a configuration has from its table, key by key: what stands at the key, or the key's default.
-use Rattle.std.specs.Prelude.{◌≡◌, ℕ, ◌≤◌, pos, List, ◌⊎◌, codes, Some, None, Ok}
-use Rattle.toml.specs.Data.{string, integer, table, Members, get_member}
+use Rattle.std.specs.Prelude.{◌≡◌, ℕ, ◌≤◌, pos, Bool, false, List, ◌⊎◌, codes, Some, None, Ok}
+use Rattle.toml.specs.Data.{string, integer, boolean, table, Members, get_member}
 use Rattle.toml.specs.Parse.{parse_document}
 use Rattle.tsc_config.specs.Reading.{reading}
 use Rattle.tsc_config.specs.declared.config.Config.{Config}
@@ -15,6 +15,11 @@ IsNumberAt members key default lowest greatest number =
 abbrev pub IsTextAt : Members → (key : List ℕ) → (default text : List ℕ) → Type 0
 IsTextAt members key default text =
     ((get_member key members ≡ None) × (text ≡ default)) ⊎ (get_member key members ≡ Some (string text))
+
+-- the truth value of a key: false, where it doesn't stand there; else the truth value there
+abbrev pub IsTruthAt : Members → (key : List ℕ) → (truth : Bool) → Type 0
+IsTruthAt members key truth =
+    ((get_member key members ≡ None) × (truth ≡ false)) ⊎ (get_member key members ≡ Some (boolean truth))
 
 -- the size of a cache of decisions: 0 where there is no table of them; else that of its key there
 abbrev pub IsCacheSize : Members → (key : List ℕ) → (size : ℕ) → Type 0
@@ -34,8 +39,10 @@ pub record HasSettings (members : Members) (config : Config) : Type 0 where
   pub queue_capacity : IsNumberAt members (codes "queue_capacity") 1024 1 65536 config.queue_capacity
   pub export_capacity : IsNumberAt members (codes "export_capacity") 1024 1 65536 config.export_capacity
   pub send_batch_size : IsNumberAt members (codes "send_batch_size") 512 1 8192 config.send_batch_size
+  pub max_connections : IsNumberAt members (codes "max_connections") 1024 1 65536 config.max_connections
   pub tick : IsNumberAt members (codes "tick_ms") 1000 1 60000 config.tick
   pub listen : IsTextAt members (codes "listen") (codes "127.0.0.1:4318") config.listen
+  pub accept_gzip : IsTruthAt members (codes "accept_gzip") config.accept_gzip
 
 -- a text that is read as a configuration is a document with these settings
 abbrev pub ReadsSettings : Type 0

@@ -6,9 +6,14 @@ use Rattle.toml.specs.Data.{Data, as_str, as_array, string, integer, boolean, ar
 use Rattle.policy_tree.specs.declared.policy.Policy.{Policy}
 use Rattle.policy_tree.specs.declared.policy.PolicyKind.{PolicyKind}
 use Rattle.policy_tree.specs.declared.policy.PolicyKind.TheVariants as kind_is
+use Rattle.policy_tree.specs.declared.policy.Join.{Join}
+use Rattle.policy_tree.specs.declared.policy.Join.TheVariants as join_is
+use Rattle.policy_tree.specs.declared.policy.Leaf.{Leaf}
+use Rattle.policy_tree.specs.declared.policy.Leaf.TheVariants as leaf_is
 use Rattle.policy_tree.specs.declared.policy.Wanted.{Wanted}
 use Rattle.policy_tree.specs.declared.policy.Wanted.TheVariants.{StringAmong, NumberWithin, Boolean}
-use Rattle.tsc_config.specs.Keys.{NumberRow, number_row, type_name, type_at, code_of}
+use Rattle.tsc_config.specs.Percentages.{percentage_of}
+use Rattle.tsc_config.specs.Keys.{NumberRow, number_row, type_name, type_at, code_of, join_name, sub_key, join_at}
 use Rattle.tsc_config.specs.declared.kinds.NumberKey.TheVariants as number_is
 use Rattle.tsc_config.specs.declared.kinds.PolicyType.{PolicyType}
 use Rattle.tsc_config.specs.declared.kinds.PolicyType.TheVariants as type_is
@@ -110,39 +115,62 @@ item_texts (item value rest) = found_before (as_str value) (item_texts rest)
 abbrev pub texts_of : Option Data → List (List ℕ)
 texts_of at = item_texts (items_at at)
 
+-- the salt of a text: an empty one counts as absent
+abbrev pub salt_by : List ℕ → List ℕ
+salt_by [] = codes "default-hash-seed"
+salt_by (first ∷ rest) = first ∷ rest
+
+-- the percentage at a key, in ten-thousandths of a percent
+abbrev pub percentage_at : Option Data → ℕ
+percentage_at at = unwrap_or (option_and_then percentage_of at) 0
+
 -- the attribute policy of settings, with what is wanted of the value
-abbrev pub attribute : Members → Wanted → PolicyKind
-attribute members wanted = kind_is.Attribute (text_of (get_member (codes "key") members)) wanted (truth_of (get_member (codes "invert_match") members))
+abbrev pub attribute : Members → Wanted → Leaf
+attribute members wanted = leaf_is.Attribute (text_of (get_member (codes "key") members)) wanted (truth_of (get_member (codes "invert_match") members))
+
+-- the bounds of a wanted number
+abbrev pub number_wanted : Members → Wanted
+number_wanted members = NumberWithin (whole_of (negsuc 9223372036854775807) (get_member (codes "min_value") members)) (whole_of (pos 9223372036854775807) (get_member (codes "max_value") members))
+
+-- what a policy of this type samples by its settings, where it has no parts and asks no limiter
+unfoldable pub leaf_in : PolicyType → Members → Leaf
+leaf_in type_is.Latency members = leaf_is.Latency (natural_of (get_member (codes "threshold_ms") members)) (natural_of (get_member (codes "upper_threshold_ms") members))
+leaf_in type_is.StatusCode members = leaf_is.StatusCode (codes_of (get_member (codes "status_codes") members))
+leaf_in type_is.StringAttribute members = attribute members (StringAmong (texts_of (get_member (codes "values") members)))
+leaf_in type_is.NumericAttribute members = attribute members (number_wanted members)
+leaf_in type_is.BooleanAttribute members = attribute members (Boolean (truth_of (get_member (codes "value") members)))
+leaf_in type_is.SpanCount members = leaf_is.SpanCount (natural_of (get_member (codes "min_spans") members)) (natural_of (get_member (codes "max_spans") members))
+leaf_in type_is.Probabilistic members = leaf_is.Probabilistic (salt_by (text_of (get_member (codes "hash_salt") members))) (percentage_at (get_member (codes "sampling_percentage") members))
+leaf_in _ _ = leaf_is.AlwaysSample
 
 -- what a policy of this type samples by its settings
-unfoldable pub kind_in : PolicyType → Members → PolicyKind
-kind_in type_is.Latency members = kind_is.Latency (natural_of (get_member (codes "threshold_ms") members)) (natural_of (get_member (codes "upper_threshold_ms") members))
-kind_in type_is.StatusCode members = kind_is.StatusCode (codes_of (get_member (codes "status_codes") members))
-kind_in type_is.StringAttribute members = attribute members (StringAmong (texts_of (get_member (codes "values") members)))
-kind_in type_is.NumericAttribute members =
-    attribute members (NumberWithin (whole_of (negsuc 9223372036854775807) (get_member (codes "min_value") members)) (whole_of (pos 9223372036854775807) (get_member (codes "max_value") members)))
-kind_in type_is.BooleanAttribute members = attribute members (Boolean (truth_of (get_member (codes "value") members)))
-kind_in type_is.SpanCount members = kind_is.SpanCount (natural_of (get_member (codes "min_spans") members)) (natural_of (get_member (codes "max_spans") members))
+abbrev pub kind_in : PolicyType → Members → PolicyKind
 kind_in type_is.RateLimiting members = kind_is.RateLimiting (natural_of (get_member (codes "spans_per_second") members))
-kind_in _ _ = kind_is.AlwaysSample
+kind_in kind members = kind_is.Leaf (leaf_in kind members)
+
+-- every trace is sampled
+abbrev pub always : PolicyKind
+always = kind_is.Leaf leaf_is.AlwaysSample
 
 -- what it samples by its settings, where they are a table
 abbrev pub kind_of : PolicyType → Data → PolicyKind
 kind_of kind (table members) = kind_in kind members
-kind_of kind _ = kind_is.AlwaysSample
+kind_of kind _ = always
 
 -- what it samples by the value at the key of its settings
 abbrev pub kind_by : PolicyType → Option Data → PolicyKind
-kind_by kind None = kind_is.AlwaysSample
+kind_by kind None = always
 kind_by kind (Some value) = kind_of kind value
 
--- what a policy of this type samples, with these policies in an `and`
+-- what a policy of this type samples, with these policies where it is made of others
 abbrev pub kind_typed : Option PolicyType → Members → (nested : List Policy) → PolicyKind
-kind_typed None _ nested = kind_is.AlwaysSample
-kind_typed (Some type_is.And) _ nested = kind_is.And nested
+kind_typed None _ nested = always
+kind_typed (Some type_is.And) _ nested = kind_is.Joined join_is.And nested
+kind_typed (Some type_is.Not) _ nested = kind_is.Joined join_is.Not nested
+kind_typed (Some type_is.Drop) _ nested = kind_is.Joined join_is.Drop nested
 kind_typed (Some kind) members nested = kind_by kind (get_member (type_name kind) members)
 
--- the policy of a table, with these policies in an `and`
+-- the policy of a table, with these policies where it is made of others
 unfoldable pub policy_of : Members → (nested : List Policy) → Policy
 policy_of members nested = record { name = text_of (get_member (codes "name") members); kind = kind_typed (type_at members) members nested }
 
@@ -159,23 +187,30 @@ abbrev mutual
 
   -- the policy of a value that is a table
   pub policy_value : Data → Option Policy
-  policy_value (table members) = Some (policy_of members (and_policies members))
+  policy_value (table members) = Some (policy_of members (parts_policies (join_at members) members))
   policy_value _ = None
 
-  -- the policies of the `and` of a policy table
-  pub and_policies : Members → List Policy
-  and_policies no_members = []
-  and_policies (member key value rest) = if bytes_eq key (codes "and") then and_settings value else and_policies rest
+  -- the policies that are joined so, of a policy table
+  pub parts_policies : Join → Members → List Policy
+  parts_policies join no_members = []
+  parts_policies join (member key value rest) = if bytes_eq key (join_name join) then parts_settings join value else parts_policies join rest
 
-  -- the policies of the settings of an `and`
-  pub and_settings : Data → List Policy
-  and_settings (table members) = sub_policies members
-  and_settings _ = []
+  -- those of the settings of such a policy
+  pub parts_settings : Join → Data → List Policy
+  parts_settings join (table members) = sub_policies join members
+  parts_settings join _ = []
 
-  -- the policies at their key in the settings of an `and`
-  pub sub_policies : Members → List Policy
-  sub_policies no_members = []
-  sub_policies (member key value rest) = if bytes_eq key (codes "and_sub_policy") then policies_value value else sub_policies rest
+  -- those at their key in these settings
+  pub sub_policies : Join → Members → List Policy
+  sub_policies join no_members = []
+  sub_policies join (member key value rest) = if bytes_eq key (sub_key join) then sub_value join value else sub_policies join rest
+
+  -- those of an array, or of a `not` that of one table
+  pub sub_value : Join → Data → List Policy
+  sub_value join_is.And (array items) = item_policies items
+  sub_value join_is.Not (table members) = policy_of members (parts_policies (join_at members) members) ∷ []
+  sub_value join_is.Drop (array items) = item_policies items
+  sub_value _ _ = []
 
 -- the policies of the array at a key
 abbrev pub policies_of : Option Data → List Policy
@@ -195,6 +230,7 @@ InRange config = record {
   queue : 0 < config.queue_capacity;
   export : 0 < config.export_capacity;
   batch : 0 < config.send_batch_size;
+  connections : 0 < config.max_connections;
   ticks : 0 < config.tick;
 }
 
@@ -212,6 +248,8 @@ config_of members = record {
   queue_capacity = positive_by (number_row number_is.QueueCapacity) members;
   export_capacity = positive_by (number_row number_is.ExportCapacity) members;
   send_batch_size = positive_by (number_row number_is.SendBatchSize) members;
+  max_connections = positive_by (number_row number_is.MaxConnections) members;
   tick = positive_by (number_row number_is.Tick) members;
   listen = listen_of (get_member (codes "listen") members);
+  accept_gzip = truth_of (get_member (codes "accept_gzip") members);
 }

@@ -11,7 +11,7 @@ ghost use Rattle.tsc_config.specs.declared.fault.ConfigFault.TheVariants.{NoMemo
 use crate::fault::ConfigFault;
 use crate::fault_walk::table_fault;
 use crate::kinds::NumberKey;
-use crate::settings_values::natural_at;
+use crate::settings_values::{natural_at, truth_at};
 use crate::values::{cache_size_at, listen_at, policies_at, positive_by};
 use otlp_types::Text;
 use policy_tree::Policies;
@@ -49,12 +49,17 @@ pub struct Config {
     pub export_capacity: usize,
     /// How many spans a batch has at most, from 1 to 8192 (batchprocessor README, `send_batch_size`).
     pub send_batch_size: usize,
+    /// How many connections are open at once at most, over all lanes, from 1 to 65536 (this project's option
+    /// `max_connections`).
+    pub max_connections: usize,
     /// The time between two ticks, at which it is looked for what is due, in milliseconds, from 1 to 60000 (this
     /// project's option `tick_ms`).
     pub tick: u64,
     /// The address on which requests are taken, as `address:port` (otlpreceiver README, `endpoint`). It is not looked
     /// at here.
     pub listen: Text,
+    /// Whether bodies that are packed by gzip are taken (RFC 9110, section 8.4.1.3; this project's option `accept_gzip`).
+    pub accept_gzip: bool,
 }
 
 impl Config {
@@ -89,8 +94,8 @@ impl Config {
 /// `root_wait_ms`, from 0 to 3600000, else 0; `num_traces`, from 1 to 1000000, else 50000; `decision_cache`, a table of
 /// `sampled_cache_size` and `non_sampled_cache_size`, each from 0 to 1000000, else 0; `policies`, a required array of policy tables with
 /// `name`, `type` and the settings of that type; `lanes` and `shards`, from 1 to 64, else 1; `queue_capacity` and
-/// `export_capacity`, from 1 to 65536, else 1024; `send_batch_size`, from 1 to 8192, else 512; `tick_ms`, from 1 to
-/// 60000, else 1000; and `listen`, a text, else `127.0.0.1:4318`.
+/// `export_capacity`, from 1 to 65536, else 1024; `send_batch_size`, from 1 to 8192, else 512; `max_connections`, from 1 to 65536, else 1024; `tick_ms`, from 1 to
+/// 60000, else 1000; `listen`, a text, else `127.0.0.1:4318`; and `accept_gzip`, true or false, else false.
 ///
 /// `Err` is the fault of least number that the text has ([`crate::laws::answers_least_fault`]), or `NoMemory` where
 /// memory was refused. For a text of blanks and comments alone that is never so: it is answered that `policies` is
@@ -155,7 +160,9 @@ fn config_of(alloc: Global, table: &Table) -> Result<Config, ConfigFault>
         queue_capacity: positive_by(table, NumberKey::QueueCapacity) as usize,
         export_capacity: positive_by(table, NumberKey::ExportCapacity) as usize,
         send_batch_size: positive_by(table, NumberKey::SendBatchSize) as usize,
+        max_connections: positive_by(table, NumberKey::MaxConnections) as usize,
         tick: positive_by(table, NumberKey::Tick),
         listen,
+        accept_gzip: truth_at(table, "accept_gzip"),
     })
 }

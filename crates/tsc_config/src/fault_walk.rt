@@ -9,7 +9,8 @@ use crate::fault::{ConfigFault, least};
 use crate::keys::{member, unknown_fault};
 use crate::kinds::{NumberKey, TableKind};
 use crate::policy_faults::policies_fault;
-use crate::settings_faults::{Wanted, optional_fault};
+use crate::policy_settings::ValueKind;
+use crate::settings_faults::optional_fault;
 use toml::{Table, Value};
 
 /// The least fault of the table of a configuration, up to 5. It takes no memory.
@@ -20,9 +21,11 @@ pub fn table_fault(table: &Table) -> Option<ConfigFault>
     let keys = unknown_fault(TableKind::Config, table);
     let numbers = numbers_fault(table);
     let sizes = sizes_fault(table);
-    let listen = optional_fault(table, "listen", Wanted::Text);
+    let listen = optional_fault(table, "listen", ValueKind::Text);
     let cache = cache_at_fault(table);
-    let rest = least(listen, least(cache, required_policies_fault(table)));
+    let gzip = optional_fault(table, "accept_gzip", ValueKind::Truth);
+    let tables = least(cache, required_policies_fault(table));
+    let rest = least(listen, least(gzip, tables));
     least(keys, least(numbers, least(sizes, rest)))
 }
 
@@ -40,14 +43,15 @@ fn numbers_fault(table: &Table) -> Option<ConfigFault>
     least(wait, least(root_wait, counts))
 }
 
-/// The fault of the sizes of queues and batches.
+/// The fault of the sizes of queues and batches, and of how many connections may be open.
 fn sizes_fault(table: &Table) -> Option<ConfigFault>
     ensures { result ≡ spec.sizes_fault (table_view table.now) }
 {
     let queue = number_fault(table, NumberKey::QueueCapacity);
     let export = number_fault(table, NumberKey::ExportCapacity);
     let batch = number_fault(table, NumberKey::SendBatchSize);
-    least(queue, least(export, batch))
+    let connections = number_fault(table, NumberKey::MaxConnections);
+    least(queue, least(export, least(batch, connections)))
 }
 
 /// The fault of what stands at a key of a whole number.
@@ -55,11 +59,11 @@ fn number_fault(table: &Table, key: NumberKey) -> Option<ConfigFault>
     ensures { result ≡ spec.number_fault (number_row key) (table_view table.now) }
 {
     let (name, _, lowest, greatest) = key.row();
-    optional_fault(table, name, Wanted::Integer(lowest, greatest))
+    optional_fault(table, name, ValueKind::Integer(lowest, greatest))
 }
 
 /// The number of remembered decisions.
-const CACHE_SIZE: Wanted = Wanted::Integer(0, 1_000_000);
+const CACHE_SIZE: ValueKind = ValueKind::Integer(0, 1_000_000);
 
 fn cache_at_fault(table: &Table) -> Option<ConfigFault>
     ensures { result ≡ spec.optional spec.cache_fault (get_member (codes "decision_cache") (table_view table.now)) }

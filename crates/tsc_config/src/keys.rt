@@ -1,12 +1,14 @@
 //! The keys of each table, and what stands at a key.
-ghost use Rattle.std.specs.Prelude.{◌≡◌, option_map};
+ghost use Rattle.std.specs.Prelude.{◌≡◌, map, option_map};
 ghost use Rattle.toml.specs.Data.{get_member};
 ghost use Rattle.toml.specs.View.{view, table_view};
 ghost use Rattle.tsc_config.specs.Faults.{unknown_fault};
 ghost use Rattle.tsc_config.specs.Keys as spec;
+ghost use Rattle.tsc_config.specs.PolicySettings.{setting_of};
 
 use crate::fault::ConfigFault;
 use crate::kinds::{PolicyType, TableKind};
+use crate::policy_settings::Setting;
 use toml::{Table, Value};
 
 /// The value at a key.
@@ -17,23 +19,28 @@ pub fn member<'a>(table: &'a Table, key: &str) -> Option<&'a Value>
 }
 
 /// Whether the settings of a policy of this type have this key.
-#[tactic(auto, unfolding(crate::specs::Keys::is_setting))]
 fn is_setting(kind: PolicyType, key: &str) -> bool
     ensures { result ≡ spec.is_setting kind key.now }
 {
-    match kind {
-        PolicyType::AlwaysSample => false,
-        PolicyType::Latency => matches!(key, "threshold_ms" | "upper_threshold_ms"),
-        PolicyType::StatusCode => key == "status_codes",
-        PolicyType::StringAttribute => matches!(key, "key" | "values" | "invert_match"),
-        PolicyType::NumericAttribute => {
-            matches!(key, "key" | "min_value" | "max_value" | "invert_match")
+    has_key(kind.settings(), key)
+        || match kind {
+            PolicyType::And => key == "and_sub_policy",
+            PolicyType::Not => key == "not_sub_policy",
+            PolicyType::Drop => key == "drop_sub_policy",
+            _ => false,
         }
-        PolicyType::BooleanAttribute => matches!(key, "key" | "value" | "invert_match"),
-        PolicyType::SpanCount => matches!(key, "min_spans" | "max_spans"),
-        PolicyType::RateLimiting => key == "spans_per_second",
-        PolicyType::And => key == "and_sub_policy",
+}
+
+/// Whether one of these settings has this key.
+fn has_key(settings: &[Setting], key: &str) -> bool
+    ensures { result ≡ spec.has_key (map setting_of settings.now) key.now }
+{
+    for setting in settings {
+        if setting.name() == key {
+            return true;
+        }
     }
+    false
 }
 
 /// Whether a table of this kind has this key.
@@ -54,8 +61,10 @@ fn is_key(kind: TableKind, key: &str) -> bool
                 | "queue_capacity"
                 | "export_capacity"
                 | "send_batch_size"
+                | "max_connections"
                 | "tick_ms"
                 | "listen"
+                | "accept_gzip"
         ),
         TableKind::DecisionCache => {
             matches!(key, "sampled_cache_size" | "non_sampled_cache_size")
@@ -101,22 +110,15 @@ pub fn unknown_fault(kind: TableKind, table: &Table) -> Option<ConfigFault>
 }
 
 /// The type of policy that a text names.
-#[tactic(auto, unfolding(crate::specs::Keys::type_named))]
 fn type_named(text: &str) -> Option<PolicyType>
     ensures { result ≡ spec.type_named text.now }
 {
-    match text {
-        "always_sample" => Some(PolicyType::AlwaysSample),
-        "latency" => Some(PolicyType::Latency),
-        "status_code" => Some(PolicyType::StatusCode),
-        "string_attribute" => Some(PolicyType::StringAttribute),
-        "numeric_attribute" => Some(PolicyType::NumericAttribute),
-        "boolean_attribute" => Some(PolicyType::BooleanAttribute),
-        "span_count" => Some(PolicyType::SpanCount),
-        "rate_limiting" => Some(PolicyType::RateLimiting),
-        "and" => Some(PolicyType::And),
-        _ => None,
+    for kind in PolicyType::all() {
+        if text == kind.name() {
+            return Some(*kind);
+        }
     }
+    None
 }
 
 /// The type of policy that a value names.

@@ -13,10 +13,33 @@ pub enum PolicyType {
     BooleanAttribute,
     SpanCount,
     RateLimiting,
+    Probabilistic,
     And,
+    Not,
+    Drop,
 }
 
 impl PolicyType {
+    /// Each type once.
+    pub fn all() -> &'static [PolicyType]
+        ensures { result.now ≡ spec.all_types }
+    {
+        &[
+            PolicyType::AlwaysSample,
+            PolicyType::Latency,
+            PolicyType::StatusCode,
+            PolicyType::StringAttribute,
+            PolicyType::NumericAttribute,
+            PolicyType::BooleanAttribute,
+            PolicyType::SpanCount,
+            PolicyType::RateLimiting,
+            PolicyType::Probabilistic,
+            PolicyType::And,
+            PolicyType::Not,
+            PolicyType::Drop,
+        ]
+    }
+
     /// The text that names it, which is also the key of its settings.
     pub fn name(self) -> &'static str
         ensures { result.now ≡ spec.type_name self }
@@ -30,7 +53,10 @@ impl PolicyType {
             PolicyType::BooleanAttribute => "boolean_attribute",
             PolicyType::SpanCount => "span_count",
             PolicyType::RateLimiting => "rate_limiting",
+            PolicyType::Probabilistic => "probabilistic",
             PolicyType::And => "and",
+            PolicyType::Not => "not",
+            PolicyType::Drop => "drop",
         }
     }
 }
@@ -46,6 +72,7 @@ pub enum NumberKey {
     QueueCapacity,
     ExportCapacity,
     SendBatchSize,
+    MaxConnections,
     Tick,
 }
 
@@ -66,6 +93,7 @@ impl NumberKey {
             NumberKey::QueueCapacity => ("queue_capacity", 1024, 1, 65_536),
             NumberKey::ExportCapacity => ("export_capacity", 1024, 1, 65_536),
             NumberKey::SendBatchSize => ("send_batch_size", 512, 1, 8192),
+            NumberKey::MaxConnections => ("max_connections", 1024, 1, 65_536),
             NumberKey::Tick => ("tick_ms", 1000, 1, 60_000),
         }
     }

@@ -10,10 +10,13 @@
 mod config;
 mod fault;
 mod fault_walk;
+mod joins;
 mod keys;
 mod kinds;
 pub mod laws;
+mod percentages;
 mod policy_faults;
+mod policy_settings;
 mod settings_faults;
 mod settings_values;
 mod values;

@@ -6,14 +6,16 @@ ghost use Rattle.tsc_config.specs.Keys.{type_name};
 ghost use Rattle.tsc_config.specs.Faults as spec;
 
 use crate::fault::{ConfigFault, least};
+use crate::joins::{join_at, join_type, sub_key};
 use crate::keys::{member, type_at, unknown_fault};
 use crate::kinds::{PolicyType, TableKind};
-use crate::settings_faults::{Wanted, required_fault, settings_fault};
+use crate::policy_settings::ValueKind;
+use crate::settings_faults::{required_fault, settings_fault};
+use policy_tree::Join;
 use toml::value::Array;
 use toml::{Table, Value};
 
 /// The fault of a list of policy tables.
-#[cycle(policies)]
 pub fn policies_fault(value: &Value) -> Option<ConfigFault>
     ensures { result ≡ spec.policies_fault (view value.now) }
 {
@@ -39,56 +41,71 @@ fn policy_fault(value: &Value) -> Option<ConfigFault>
     ensures { result ≡ spec.policy_fault (view value.now) }
 {
     match value {
-        Value::Table(table) => policy_table_fault(table, and_fault(table)),
+        Value::Table(table) => policy_table_fault(table, parts_fault(join_at(table), table)),
         _ => Some(ConfigFault::WrongType),
     }
 }
 
-/// The fault of the settings of an `and` in a policy table.
+/// The fault of the settings of a policy that is joined so, in a policy table.
 #[cycle(policies)]
-fn and_fault(table: &Table) -> Option<ConfigFault>
-    ensures { result ≡ spec.and_fault (table_view table.now) }
+fn parts_fault(join: Join, table: &Table) -> Option<ConfigFault>
+    ensures { result ≡ spec.parts_fault join (table_view table.now) }
 {
     for (key, value) in table {
-        if key.as_str() == "and" {
-            return and_settings_fault(value);
+        if key.as_str() == join_type(join).name() {
+            return parts_settings_fault(join, value);
         }
     }
     Some(ConfigFault::MissingKey)
 }
 
 #[cycle(policies)]
-fn and_settings_fault(value: &Value) -> Option<ConfigFault>
-    ensures { result ≡ spec.and_settings_fault (view value.now) }
+fn parts_settings_fault(join: Join, value: &Value) -> Option<ConfigFault>
+    ensures { result ≡ spec.parts_settings_fault join (view value.now) }
 {
     match value {
         Value::Table(table) => {
-            let keys = unknown_fault(TableKind::Settings(PolicyType::And), table);
-            least(keys, sub_policies_fault(table))
+            let keys = unknown_fault(TableKind::Settings(join_type(join)), table);
+            least(keys, sub_policies_fault(join, table))
         }
         _ => Some(ConfigFault::WrongType),
     }
 }
 
 #[cycle(policies)]
-fn sub_policies_fault(table: &Table) -> Option<ConfigFault>
-    ensures { result ≡ spec.sub_policies_fault (table_view table.now) }
+fn sub_policies_fault(join: Join, table: &Table) -> Option<ConfigFault>
+    ensures { result ≡ spec.sub_policies_fault join (table_view table.now) }
 {
     for (key, value) in table {
-        if key.as_str() == "and_sub_policy" {
-            return policies_fault(value);
+        if key.as_str() == sub_key(join) {
+            return sub_value_fault(join, value);
         }
     }
     Some(ConfigFault::MissingKey)
 }
 
-/// The fault of a policy table: `nested` is that of the settings of an `and`.
+/// The fault of the policies that are joined: a list of policy tables, or of a `not` one policy table.
+#[cycle(policies)]
+fn sub_value_fault(join: Join, value: &Value) -> Option<ConfigFault>
+    ensures { result ≡ spec.sub_value_fault join (view value.now) }
+{
+    match (join, value) {
+        (Join::Not, Value::Table(table)) => policy_table_fault(
+            table,
+            parts_fault(join_at(table), table),
+        ),
+        (Join::And | Join::Drop, Value::Array(items)) => policy_items_fault(items),
+        _ => Some(ConfigFault::WrongType),
+    }
+}
+
+/// The fault of a policy table: `nested` is that of the settings of a type that is made of other policies.
 #[tactic(auto, unfolding(crate::specs::Faults::policy_table_fault))]
 fn policy_table_fault(table: &Table, nested: Option<ConfigFault>) -> Option<ConfigFault>
     ensures { result ≡ spec.policy_table_fault (table_view table.now) nested }
 {
-    let name = required_fault(table, "name", Wanted::Text);
-    let head = least(name, required_fault(table, "type", Wanted::PolicyType));
+    let name = required_fault(table, "name", ValueKind::Text);
+    let head = least(name, required_fault(table, "type", ValueKind::PolicyType));
     match type_at(table) {
         Some(kind) => least(head, typed_fault(kind, table, nested)),
         None => head,
@@ -112,7 +129,7 @@ fn settings_at_fault(
 {
     match kind {
         PolicyType::AlwaysSample => None,
-        PolicyType::And => nested,
+        PolicyType::And | PolicyType::Not | PolicyType::Drop => nested,
         _ => required_settings_fault(kind, table),
     }
 }

@@ -1,64 +1,108 @@
 //! What the settings of a policy give.
-ghost use Rattle.std.specs.Prelude.{◌≡◌, IfOk};
+ghost use Rattle.std.specs.Prelude.{◌≡◌, IfOk, codes};
 ghost use Rattle.toml.specs.Data.{get_member};
 ghost use Rattle.toml.specs.View.{view, table_view, items_view};
 ghost use Rattle.tsc_config.specs.Values as spec;
 
 use crate::keys::{code_of, member};
 use crate::kinds::PolicyType;
+use crate::percentages::percentage_of;
 use otlp_types::{List, Text};
-use policy_tree::{PolicyKind, Wanted};
+use policy_tree::{Leaf, PolicyKind, Wanted};
 use std::alloc::{AllocError, Global};
 use toml::{Table, Value};
 
 /// What a policy of this type samples by its settings.
-#[tactic(auto, unfolding(crate::specs::Values::kind_in))]
 pub fn kind_in(alloc: Global, kind: PolicyType, settings: &Table) -> Result<PolicyKind, AllocError>
     ensures { IfOk result (λ found. found ≡ spec.kind_in kind (table_view settings.now)) }
 {
     match kind {
-        PolicyType::Latency => Ok(PolicyKind::Latency {
+        PolicyType::RateLimiting => Ok(PolicyKind::RateLimiting {
+            spans_per_second: natural_at(settings, "spans_per_second"),
+        }),
+        _ => Ok(PolicyKind::Leaf(leaf_in(alloc, kind, settings)?)),
+    }
+}
+
+/// What a policy of this type samples by its settings, where it has no parts and asks no limiter.
+#[tactic(auto, unfolding(crate::specs::Values::leaf_in))]
+fn leaf_in(alloc: Global, kind: PolicyType, settings: &Table) -> Result<Leaf, AllocError>
+    ensures { IfOk result (λ found. found ≡ spec.leaf_in kind (table_view settings.now)) }
+{
+    match kind {
+        PolicyType::Latency => Ok(Leaf::Latency {
             threshold_ms: natural_at(settings, "threshold_ms"),
             upper_threshold_ms: natural_at(settings, "upper_threshold_ms"),
         }),
-        PolicyType::StatusCode => Ok(PolicyKind::StatusCode {
+        PolicyType::StatusCode => Ok(Leaf::StatusCode {
             codes: item_codes(alloc, items_at(settings, "status_codes"))?,
         }),
         PolicyType::StringAttribute => {
             let values = item_texts(alloc, items_at(settings, "values"))?;
             attribute(alloc, settings, Wanted::StringAmong(values))
         }
-        PolicyType::NumericAttribute => {
-            let wanted = Wanted::NumberWithin {
-                min_value: whole_at(settings, "min_value", i64::MIN),
-                max_value: whole_at(settings, "max_value", i64::MAX),
-            };
-            attribute(alloc, settings, wanted)
-        }
+        PolicyType::NumericAttribute => attribute(alloc, settings, number_wanted(settings)),
         PolicyType::BooleanAttribute => {
             let value = truth_at(settings, "value");
             attribute(alloc, settings, Wanted::Boolean(value))
         }
-        PolicyType::SpanCount => Ok(PolicyKind::SpanCount {
+        PolicyType::SpanCount => Ok(Leaf::SpanCount {
             min_spans: natural_at(settings, "min_spans"),
             max_spans: natural_at(settings, "max_spans"),
         }),
-        PolicyType::RateLimiting => Ok(PolicyKind::RateLimiting {
-            spans_per_second: natural_at(settings, "spans_per_second"),
+        PolicyType::Probabilistic => Ok(Leaf::Probabilistic {
+            hash_salt: salt_at(alloc, settings)?,
+            ten_thousandths: percentage_at(settings, "sampling_percentage"),
         }),
-        PolicyType::AlwaysSample | PolicyType::And => Ok(PolicyKind::AlwaysSample),
+        PolicyType::AlwaysSample
+        | PolicyType::RateLimiting
+        | PolicyType::And
+        | PolicyType::Not
+        | PolicyType::Drop => Ok(Leaf::AlwaysSample),
     }
 }
 
 /// The attribute policy of settings, with what is wanted of the value.
-fn attribute(alloc: Global, settings: &Table, wanted: Wanted) -> Result<PolicyKind, AllocError>
+fn attribute(alloc: Global, settings: &Table, wanted: Wanted) -> Result<Leaf, AllocError>
     ensures { IfOk result (λ found. found ≡ spec.attribute (table_view settings.now) wanted) }
 {
-    Ok(PolicyKind::Attribute {
+    Ok(Leaf::Attribute {
         key: text_at(alloc, settings, "key")?,
         wanted,
         invert_match: truth_at(settings, "invert_match"),
     })
+}
+
+/// The bounds of a wanted number.
+fn number_wanted(settings: &Table) -> Wanted
+    ensures { result ≡ spec.number_wanted (table_view settings.now) }
+{
+    Wanted::NumberWithin {
+        min_value: whole_at(settings, "min_value", i64::MIN),
+        max_value: whole_at(settings, "max_value", i64::MAX),
+    }
+}
+
+/// The salt of the settings: where there is none, or an empty text, that by default.
+fn salt_at(alloc: Global, settings: &Table) -> Result<Text, AllocError>
+    ensures { IfOk result (λ salt. salt ≡ spec.salt_by (spec.text_of (get_member (codes "hash_salt") (table_view settings.now)))) }
+{
+    let salt = text_at(alloc, settings, "hash_salt")?;
+    if salt.as_str().is_empty() {
+        Text::from_str(alloc, "default-hash-seed")
+    } else {
+        Ok(salt)
+    }
+}
+
+/// The percentage at a key, in ten-thousandths of a percent, and 0 where there is none.
+fn percentage_at(settings: &Table, key: &str) -> u32
+    ensures { result ≡ spec.percentage_at (get_member key.now (table_view settings.now)) }
+{
+    match member(settings, key) {
+        Some(value) => percentage_of(value).unwrap_or(0),
+        None => 0,
+    }
 }
 
 /// The number at a key, at least 0, and 0 where there is none.
@@ -80,7 +124,7 @@ fn whole_at(settings: &Table, key: &str, default: i64) -> i64
     }
 }
 
-fn truth_at(settings: &Table, key: &str) -> bool
+pub fn truth_at(settings: &Table, key: &str) -> bool
     ensures { result ≡ spec.truth_of (get_member key.now (table_view settings.now)) }
 {
     match member(settings, key) {

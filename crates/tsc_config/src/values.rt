@@ -1,15 +1,17 @@
 //! What a table without a fault gives.
 ghost use Rattle.std.specs.Prelude.{◌≡◌, ◌<◌, ◌≤◌, IfOk, codes};
-ghost use Rattle.toml.specs.Data.{get_member};
+ghost use Rattle.policy_tree.specs.declared.policy.Join.TheVariants as join_is;
+ghost use Rattle.toml.specs.Data.{get_member, table as table_data};
 ghost use Rattle.toml.specs.View.{view, table_view, array_view};
 ghost use Rattle.tsc_config.specs.Keys.{number_row, type_name};
 ghost use Rattle.tsc_config.specs.Values as spec;
 
+use crate::joins::{join_at, join_type, sub_key};
 use crate::keys::{member, type_at};
 use crate::kinds::{NumberKey, PolicyType};
 use crate::settings_values::{kind_in, natural_at, text_at, text_of};
 use otlp_types::{List, Text};
-use policy_tree::{Policy, PolicyKind};
+use policy_tree::{Join, Leaf, Policy, PolicyKind};
 use std::alloc::{AllocError, Global};
 use toml::value::Array;
 use toml::{Table, Value};
@@ -63,18 +65,8 @@ pub fn policies_at(alloc: Global, table: &Table) -> Result<Vec<Policy>, AllocErr
     ensures { IfOk result (λ list. list.items ≡ spec.policies_of (get_member (codes "policies") (table_view table.now))) }
 {
     match member(table, "policies") {
-        Some(value) => Ok(policies_value(alloc, value)?.into_vec()),
-        None => Ok(Vec::new(alloc)),
-    }
-}
-
-#[cycle(policies)]
-fn policies_value(alloc: Global, value: &Value) -> Result<List<Policy>, AllocError>
-    ensures { IfOk result (λ list. list ≡ spec.policies_value (view value.now)) }
-{
-    match value {
-        Value::Array(items) => item_policies(alloc, items),
-        _ => Ok(List::new(alloc)),
+        Some(Value::Array(items)) => Ok(item_policies(alloc, items)?.into_vec()),
+        _ => Ok(Vec::new(alloc)),
     }
 }
 
@@ -97,49 +89,72 @@ fn policy_value(alloc: Global, value: &Value) -> Result<Option<Policy>, AllocErr
 {
     match value {
         Value::Table(table) => {
-            let nested = and_policies(alloc, table)?;
+            let nested = parts_policies(alloc, join_at(table), table)?;
             Ok(Some(policy_of(alloc, table, nested)?))
         }
         _ => Ok(None),
     }
 }
 
-/// The policies of the `and` of a policy table.
+/// The policies that are joined so, of a policy table.
 #[cycle(policies)]
-fn and_policies(alloc: Global, table: &Table) -> Result<List<Policy>, AllocError>
-    ensures { IfOk result (λ list. list ≡ spec.and_policies (table_view table.now)) }
+fn parts_policies(alloc: Global, join: Join, table: &Table) -> Result<List<Policy>, AllocError>
+    ensures { IfOk result (λ list. list ≡ spec.parts_policies join (table_view table.now)) }
 {
     for (key, value) in table {
-        if key.as_str() == "and" {
-            return and_settings(alloc, value);
+        if key.as_str() == join_type(join).name() {
+            return parts_settings(alloc, join, value);
         }
     }
     Ok(List::new(alloc))
 }
 
 #[cycle(policies)]
-fn and_settings(alloc: Global, value: &Value) -> Result<List<Policy>, AllocError>
-    ensures { IfOk result (λ list. list ≡ spec.and_settings (view value.now)) }
+fn parts_settings(alloc: Global, join: Join, value: &Value) -> Result<List<Policy>, AllocError>
+    ensures { IfOk result (λ list. list ≡ spec.parts_settings join (view value.now)) }
 {
     match value {
-        Value::Table(settings) => sub_policies(alloc, settings),
+        Value::Table(settings) => sub_policies(alloc, join, settings),
         _ => Ok(List::new(alloc)),
     }
 }
 
 #[cycle(policies)]
-fn sub_policies(alloc: Global, table: &Table) -> Result<List<Policy>, AllocError>
-    ensures { IfOk result (λ list. list ≡ spec.sub_policies (table_view table.now)) }
+fn sub_policies(alloc: Global, join: Join, table: &Table) -> Result<List<Policy>, AllocError>
+    ensures { IfOk result (λ list. list ≡ spec.sub_policies join (table_view table.now)) }
 {
     for (key, value) in table {
-        if key.as_str() == "and_sub_policy" {
-            return policies_value(alloc, value);
+        if key.as_str() == sub_key(join) {
+            return sub_value(alloc, join, value);
         }
     }
     Ok(List::new(alloc))
 }
 
-/// The policy of a table, with these policies in an `and`.
+/// The policies of an array, or of a `not` that of one table.
+#[cycle(policies)]
+fn sub_value(alloc: Global, join: Join, value: &Value) -> Result<List<Policy>, AllocError>
+    ensures { IfOk result (λ list. list ≡ spec.sub_value join (view value.now)) }
+{
+    match (join, value) {
+        (Join::Not, Value::Table(table)) => one_policy(alloc, table),
+        (Join::And | Join::Drop, Value::Array(items)) => item_policies(alloc, items),
+        _ => Ok(List::new(alloc)),
+    }
+}
+
+/// A list of the policy of one table.
+#[cycle(policies)]
+fn one_policy(alloc: Global, table: &Table) -> Result<List<Policy>, AllocError>
+    ensures { IfOk result (λ list. list ≡ spec.sub_value join_is.Not (table_data (table_view table.now))) }
+{
+    let nested = parts_policies(alloc, join_at(table), table)?;
+    let mut list = List::new(alloc);
+    list.push(policy_of(alloc, table, nested)?)?;
+    Ok(list)
+}
+
+/// The policy of a table, with these policies where it is made of others.
 #[tactic(auto, unfolding(crate::specs::Values::policy_of))]
 fn policy_of(alloc: Global, table: &Table, nested: List<Policy>) -> Result<Policy, AllocError>
     ensures { IfOk result (λ policy. policy ≡ spec.policy_of (table_view table.now) nested) }
@@ -159,8 +174,19 @@ fn kind_typed(
     ensures { IfOk result (λ found. found ≡ spec.kind_typed kind (table_view table.now) nested) }
 {
     match kind {
-        None => Ok(PolicyKind::AlwaysSample),
-        Some(PolicyType::And) => Ok(PolicyKind::And { policies: nested }),
+        None => Ok(PolicyKind::Leaf(Leaf::AlwaysSample)),
+        Some(PolicyType::And) => Ok(PolicyKind::Joined {
+            join: Join::And,
+            policies: nested,
+        }),
+        Some(PolicyType::Not) => Ok(PolicyKind::Joined {
+            join: Join::Not,
+            policies: nested,
+        }),
+        Some(PolicyType::Drop) => Ok(PolicyKind::Joined {
+            join: Join::Drop,
+            policies: nested,
+        }),
         Some(kind) => kind_by(alloc, kind, table),
     }
 }
@@ -170,7 +196,7 @@ fn kind_by(alloc: Global, kind: PolicyType, table: &Table) -> Result<PolicyKind,
 {
     match member(table, kind.name()) {
         Some(value) => kind_of(alloc, kind, value),
-        None => Ok(PolicyKind::AlwaysSample),
+        None => Ok(PolicyKind::Leaf(Leaf::AlwaysSample)),
     }
 }
 
@@ -179,6 +205,6 @@ fn kind_of(alloc: Global, kind: PolicyType, value: &Value) -> Result<PolicyKind,
 {
     match value {
         Value::Table(settings) => kind_in(alloc, kind, settings),
-        _ => Ok(PolicyKind::AlwaysSample),
+        _ => Ok(PolicyKind::Leaf(Leaf::AlwaysSample)),
     }
 }

@@ -3,7 +3,8 @@
 use Rattle.std.specs.Prelude.{ℕ, Bool, pos, List, [], ◌∷◌, map, length, Option, Some, None, option_map, is_some, ◌&&◌, ◌==◌}
 use Rattle.std.specs.List.{list_all}
 use Rattle.otlp_types.proofs.Samples.{plain_record}
-use Rattle.policy_tree.specs.Tree.{Policies, no_more, one_more, leaf, always_sample, status_code}
+use Rattle.policy_tree.specs.Tree.{Policies, no_more, one_more, leaf}
+use Rattle.policy_tree.specs.declared.policy.Leaf.TheVariants.{AlwaysSample, StatusCode}
 use Rattle.journal_theory.specs.Journal.{have_ended}
 use Rattle.journal_theory.specs.Fate.{under}
 use Rattle.otlp_types.specs.declared.span.Ids.{Ids}
@@ -18,11 +19,11 @@ use Rattle.world_theory.specs.Places.{waiting}
 
 -- one policy, which samples every trace
 abbrev pub always : Policies
-always = one_more (leaf always_sample) no_more
+always = one_more (leaf AlwaysSample) no_more
 
 -- one policy, which samples the traces with an error
 abbrev pub errors : Policies
-errors = one_more (leaf (status_code (pos 2 ∷ []))) no_more
+errors = one_more (leaf (StatusCode (pos 2 ∷ []))) no_more
 
 -- a wait of 10 milliseconds, batches of one span
 abbrev pub configured : Policies → (limit : Option ℕ) → (sampled non_sampled : ℕ) → Config

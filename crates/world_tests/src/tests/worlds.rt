@@ -7,7 +7,7 @@ use crate::tests::simulated::Simulated;
 use otlp_types::{List, Text};
 use plain_shards::{one_policy, policy_on};
 use plain_spans::{numbered_ids, plain_record};
-use policy_tree::{Policies, Policy, PolicyKind};
+use policy_tree::{Join, Leaf, Policies, Policy, PolicyKind};
 use span_ids::Reason;
 use span_world::{Config, Refusal, Step, World};
 use std::alloc::{AllocError, Global};
@@ -143,7 +143,7 @@ fn close_world(
     rt: &impl Abort,
     alloc: Global,
 ) -> Result<([bool; 2], [Result<(), Refusal>; 2]), AllocError> {
-    let config = config_of_one(one_policy(alloc, PolicyKind::AlwaysSample)?);
+    let config = config_of_one(one_policy(alloc, PolicyKind::Leaf(Leaf::AlwaysSample))?);
     let mut world = replayed(rt, alloc, config, one_span(alloc, false)?)?;
     let is_handed = has_handed_one(&world);
     let is_ended = enables_none(&mut world, others(alloc)?)?;
@@ -161,7 +161,7 @@ fn one_span_through_the_world(rt: HostRuntime) -> Result<(), Fail> {
 
 /// The place and the reason at which a second tick is refused while a trace is due.
 fn tick_again(alloc: Global) -> Result<Option<(usize, Refusal)>, AllocError> {
-    let config = config_of_one(one_policy(alloc, PolicyKind::AlwaysSample)?);
+    let config = config_of_one(one_policy(alloc, PolicyKind::Leaf(Leaf::AlwaysSample))?);
     match World::replay(alloc, 1, 1, config, one_span(alloc, true)?) {
         Ok(_) => Ok(None),
         Err((_, Refusal::NoMemory)) => Err(AllocError),
@@ -187,7 +187,13 @@ fn asks_twice(alloc: Global) -> Result<Policies, AllocError> {
             },
         })?;
     }
-    one_policy(alloc, PolicyKind::And { policies: parts })
+    one_policy(
+        alloc,
+        PolicyKind::Joined {
+            join: Join::And,
+            policies: parts,
+        },
+    )
 }
 
 /// The one decision of that policy by these answers: how many spans are counted, or why it is refused.

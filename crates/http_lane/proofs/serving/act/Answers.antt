@@ -1,7 +1,7 @@
 use Rattle.std.proofs.Common.{ap, refl, subst, sym, []}
 use Rattle.http_lane.specs.Connection.{accepts, refusal, close_asked, text_of}
 use Rattle.http_lane.specs.Engine.{Puts}
-use Rattle.http_lane.proofs.EventLemmas.{can_text, never_open, Appends-none}
+use Rattle.http_lane.proofs.EventLemmas.{can_text, never_open, Appends-none, serves_answers}
 use Rattle.http_lane.proofs.serving.act.Goals as goal
 
 pub returns-in-Refused-clause-acts : goal.returns-in-Refused-clause-acts
@@ -18,6 +18,7 @@ returns-in-Refused-clause-acts g c = λ r stands.
         puts = c.answer.ensures.puts;
         lane = refl;
       },
+      refl,
     )
 
 pub returns-in-Close-clause-acts : goal.returns-in-Close-clause-acts
@@ -33,6 +34,7 @@ returns-in-Close-clause-acts g c = λ r stands.
         puts = c.answer-in-Close.ensures.puts;
         lane = refl;
       },
+      refl,
     )
 
 pub returns-in-Accepted-true-clause-acts : goal.returns-in-Accepted-true-clause-acts
@@ -51,6 +53,7 @@ returns-in-Accepted-true-clause-acts g c = λ r stands.
             (sym c.in-Accepted-true.awaited-test) c.answer-in-Accepted-true.ensures.puts;
         lane = refl;
       },
+      refl,
     )
 
 pub returns-in-Accepted-false-clause-acts : goal.returns-in-Accepted-false-clause-acts
@@ -67,10 +70,11 @@ returns-in-Accepted-false-clause-acts g c = λ r stands.
         puts = ([], Appends-none (g.W.Write.contents c.args.writer.now), ap (λ a. text_of (accepts a)) (sym c.in-Accepted-false.awaited-test));
         lane = refl;
       },
+      refl,
     )
 
 pub returns-in-Whole-clause-acts : goal.returns-in-Whole-clause-acts
 returns-in-Whole-clause-acts g c = λ r stands.
     let found = c.in-Whole.ensures.brings r stands in
-    let served = c.respond.ensures (g.E.Engine.body_of c.advance.new.self) c.body-body.ensures in
-    (served.0, found.0, found.2 served.0 served.1, (λ e. found.1), served.2)
+    let served = c.respond-closes.ensures (g.E.Engine.body_of c.advance.new.self) c.body-body.ensures in
+    (served.0, found.0, found.2 served.0 served.1, (λ e. found.1), served.2, serves_answers c.in-Whole.is_packed (g.E.Engine.body_of c.advance.new.self) c.in-Whole.says_close served.0 served.1)

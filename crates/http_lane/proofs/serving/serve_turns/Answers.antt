@@ -20,7 +20,7 @@ returns-in-Some g c =
     let bytes = take c.in-Gave.n c.turn.new.piece in
     let settled = c.in-Some.ensures (grown s.last.reading bytes) (c.take.ensures s.last.reading s.stood) in
     let some : 0 < length bytes = omega (arith, length-take c.in-Gave.n c.turn.new.piece, c.in-Gave.ensures.fits.0, c.in-Gave.ensures.fits.1, c.turn.auto.piece) in
-    serving_end (g.W.Write.contents c.settle.new.writer) (intake c.settle.new.lane c.settle.new.conn (g.C.Counter.counted c.settle.new.counts)) (g.R.Source.given c.turn.new.self) 0 (gave bytes) false settled.0 settled.1 c.in-Some.end
+    serving_end (g.W.Write.contents c.settle_to_end.new.writer) (intake c.settle_to_end.new.lane c.settle_to_end.new.conn (g.C.Counter.counted c.settle_to_end.new.counts)) (g.R.Source.given c.turn.new.self) 0 (gave bytes) false settled.0 settled.1 c.in-Some.end
     s (some, settled.2, refl) c.loop-test.true c.in-Gave.ensures.tells settled.4
 
 pub returns-in-Failed : goal.returns-in-Failed
@@ -56,7 +56,7 @@ loop-preserved g c =
           let some : 0 < length bytes = omega (arith, length-take w.in-Gave.n c.turn.new.piece, w.in-Gave.ensures.fits.0, w.in-Gave.ensures.fits.1, c.turn.auto.piece) in
           rw (w.engine-is, w.lane-is, w.conn-is, w.counts-is, w.writer-is, w.row-is) (
             omega arith,
-            serving_more (known w.settle.new.writer) (intake w.settle.new.lane w.settle.new.conn (g.C.Counter.counted w.settle.new.counts)) read w.settle.new.engine 0 (gave bytes) false settled.0 settled.1
+            serving_more (known w.settle_to_end.new.writer) (intake w.settle_to_end.new.lane w.settle_to_end.new.conn (g.C.Counter.counted w.settle_to_end.new.counts)) read w.settle_to_end.new.engine 0 (gave bytes) false settled.0 settled.1
                 s (some, settled.2, refl) (settled.3 refl) (settled_rests reading settled.0 settled.1 settled.2) w.in-Gave.ensures.tells settled.4,
           )
       | in-Quiet+in_default-wait w ↦

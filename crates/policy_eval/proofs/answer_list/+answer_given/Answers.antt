@@ -4,13 +4,12 @@ use Rattle.std.proofs.Common.{◌≡◌, ℕ, zero, suc, ◌+◌, Bool, false, L
 use Rattle.std.specs.Option.{unwrap_or, option_map, option_copied}
 use Rattle.std.proofs.lemmas.Grind.{common_steps}
 use Rattle.policy_tree.specs.declared.policy.Policy.{Policy}
-use Rattle.policy_tree.specs.Tree.{rate_limiting, and_policy, Policies}
+use Rattle.policy_tree.specs.Tree.{leaf, rate_limiting, joined, Policies}
 use Rattle.policy_tree.specs.Meaning.{meaning, policy_meaning}
 use Rattle.policy_tree.specs.declared.policy.PolicyKind.TheFolds.{the_lemmas}
 use Rattle.policy_eval.specs.Policies.{plain}
 use Rattle.policy_eval.specs.Given.{answer_given, next_answer}
 use Rattle.policy_eval.specs.Meaning.{answer_of}
-use Rattle.policy_eval.proofs.Leaves.{leaf_meant}
 use Rattle.policy_eval.proofs.Turns.{part_at}
 use Rattle.policy_eval.proofs.GivenTurns.{Part, part-first, part-more, part-stop, part-last}
 use Rattle.policy_eval.proofs.answer_list.+answer_given.Goals as goal
@@ -28,21 +27,21 @@ next-at (b ∷ bs) (suc i) = next-at bs i
 pub loop-part-init : goal.loop-part-init
 loop-part-init t c =
     let parts = meaning c.as_slice-part-items.result.now in
-    let whole : policy_meaning c.args.policy.now ≡ and_policy parts = let is = c.in-And.is in let items = c.as_slice-part-items.ensures in search (rules, the_lemmas) in
-    part-first c.args.answers.now c.args.spans.now (policy_meaning c.args.policy.now) c.args.asked parts whole c.requires
+    let whole : policy_meaning c.args.policy.now ≡ joined c.in-Joined.join parts = let is = c.in-Joined.is in let items = c.as_slice-part-items.ensures in search (rules, the_lemmas) in
+    part-first c.args.answers.now c.args.spans.now (policy_meaning c.args.policy.now) c.in-Joined.join c.args.asked parts whole c.requires
 
 pub loop-part-preserved : goal.loop-part-preserved
 loop-part-preserved t c =
-    let T = λ (r : Policies). Part c.args.answers.now c.args.spans.now (policy_meaning c.args.policy.now) c.args.asked r c.loop-part.next in
+    let T = λ (r : Policies). Part c.args.answers.now c.args.spans.now (policy_meaning c.args.policy.now) c.in-Joined.join c.args.asked r c.loop-part.next in
     let here = part_at T c.as_slice-part-items.result.now c.loop-part.part-index c.part-item.result c.loop-part-test.true c.part-item.is c.loop-part.invariant in
-    part-more c.args.answers.now c.args.spans.now (policy_meaning c.args.policy.now) c.args.asked (policy_meaning c.part-item.result) (meaning (drop (c.loop-part.part-index + 1) c.as_slice-part-items.result.now)) c.loop-part.next c.answer_given-given.result.1 c.answer_given-given.result.0 here (record { answer = c.answer_given-given.ensures.answer; asked = c.answer_given-given.ensures.asked }) (sym c.samples.ensures ∙ c.if-not-samples.false)
+    part-more c.args.answers.now c.args.spans.now (policy_meaning c.args.policy.now) c.in-Joined.join c.args.asked (policy_meaning c.part-item.result) (meaning (drop (c.loop-part.part-index + 1) c.as_slice-part-items.result.now)) c.loop-part.next c.answer_given-given.result.1 c.answer_given-given.result.0 here (record { answer = c.answer_given-given.ensures.answer; asked = c.answer_given-given.ensures.asked }) (sym c.samples.ensures ∙ c.if-not-samples.false)
 
 pub returns-then-not-samples : goal.returns-then-not-samples
 returns-then-not-samples t c =
-    let T = λ (r : Policies). Part c.args.answers.now c.args.spans.now (policy_meaning c.args.policy.now) c.args.asked r c.loop-part.next in
+    let T = λ (r : Policies). Part c.args.answers.now c.args.spans.now (policy_meaning c.args.policy.now) c.in-Joined.join c.args.asked r c.loop-part.next in
     let here = part_at T c.as_slice-part-items.result.now c.loop-part.part-index c.part-item.result c.loop-part-test.true c.part-item.is c.loop-part.invariant in
-    let stop = part-stop c.args.answers.now c.args.spans.now (policy_meaning c.args.policy.now) c.args.asked (policy_meaning c.part-item.result) (meaning (drop (c.loop-part.part-index + 1) c.as_slice-part-items.result.now)) c.loop-part.next c.answer_given-given.result.1 c.answer_given-given.result.0 here (record { answer = c.answer_given-given.ensures.answer; asked = c.answer_given-given.ensures.asked }) (sym c.samples.ensures ∙ c.if-not-samples.true) in
-    record { answer = stop.answer; asked = stop.asked }
+    let stop = part-stop c.args.answers.now c.args.spans.now (policy_meaning c.args.policy.now) c.in-Joined.join c.args.asked (policy_meaning c.part-item.result) (meaning (drop (c.loop-part.part-index + 1) c.as_slice-part-items.result.now)) c.loop-part.next c.answer_given-given.result.1 c.answer_given-given.result.0 here (record { answer = c.answer_given-given.ensures.answer; asked = c.answer_given-given.ensures.asked }) (sym c.samples.ensures ∙ c.if-not-samples.true) in
+    record { answer = c.joined.ensures ∙ stop.answer; asked = stop.asked }
 
 pub returns-after-loop-part : goal.returns-after-loop-part
 returns-after-loop-part t c =
@@ -50,10 +49,10 @@ returns-after-loop-part t c =
     let bs = c.args.answers.now in
     let spans = c.args.spans.now in
     let whole = policy_meaning c.args.policy.now in
-    let T = λ (ps : List Policy). Part bs spans whole c.args.asked (meaning ps) c.loop-part.next in
+    let T = λ (ps : List Policy). Part bs spans whole c.in-Joined.join c.args.asked (meaning ps) c.loop-part.next in
     let none : drop c.loop-part.part-index items ≡ [] = grind (arith, common_steps) in
-    let last = part-last bs spans whole c.args.asked c.loop-part.next (subst T none c.loop-part.invariant) in
-    record { answer = last.answer; asked = last.asked }
+    let last = part-last bs spans whole c.in-Joined.join c.args.asked c.loop-part.next (subst T none c.loop-part.invariant) in
+    record { answer = c.joined-in-Joined.ensures ∙ last.answer; asked = last.asked }
 
 pub returns-in-RateLimiting-clause-answer : goal.returns-in-RateLimiting-clause-answer
 returns-in-RateLimiting-clause-answer t c =
@@ -65,10 +64,9 @@ returns-in-RateLimiting-clause-answer t c =
     let granted : c.unwrap_or-granted.result ≡ next_answer left = c.unwrap_or-granted.ensures ∙ ap (λ o. unwrap_or o false) c.copied.ensures ∙ got ∙ next-at c.args.answers.now c.args.asked in
     c.plain.ensures ∙ ap (λ b. answer_of (plain b)) granted ∙ ap (λ p. answer_of (answer_given p left spans)) (sym kind)
 
-pub returns-in-AlwaysSample-clause-answer : goal.returns-in-AlwaysSample-clause-answer
-returns-in-AlwaysSample-clause-answer t c =
-    let policy = c.args.policy.now in
+pub returns-in-Leaf-clause-answer : goal.returns-in-Leaf-clause-answer
+returns-in-Leaf-clause-answer t c =
     let left = drop c.args.asked c.args.answers.now in
     let spans = c.args.spans.now in
-    let meant = leaf_meant policy c.in-AlwaysSample.is in
-    c.leaf_answer.ensures meant.0 meant.1 ∙ ap (λ p. answer_of (answer_given p left spans)) (sym meant.2)
+    let kind : policy_meaning c.args.policy.now ≡ leaf c.in-Leaf.leaf = let is = c.in-Leaf.is in search (rules, the_lemmas) in
+    c.leaf_answer.ensures ∙ ap (λ p. answer_of (answer_given p left spans)) (sym kind)

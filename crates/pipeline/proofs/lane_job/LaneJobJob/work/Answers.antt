@@ -1,5 +1,4 @@
 use Rattle.std.proofs.Common.{subst}
-use Rattle.lane_worker.specs.Serving.{connection}
 use Rattle.run_weave.specs.Jobs.{LaneDid}
 use Rattle.pipeline.proofs.lane_job.LaneJobJob.work.Goals as goal
 
@@ -7,11 +6,11 @@ pub returns : goal.returns
 returns g c =
     let w = c.work-end.ensures.works in
     subst
-    (λ counts. LaneDid g.F.Feed.gives (λ x. connection (g.F.Reader.Source.given x.0) (g.F.Writer.Write.contents x.1)) g.C.Room.capacity c.args.self.number c.args.self.feed c.args.self.lane counts c.work-end.result.senders.items
+    (λ counts. LaneDid g.V.LaneServer.serves g.C.Room.capacity c.args.self.number c.args.self.feed c.args.self.lane counts c.work-end.result.senders.items
     c.work-end.new.counter c.work-end.result.is_full)
     c.new-counts.ensures
     (record {
-      last = c.work-end.new.feed;
+      last = c.work-end.new.server;
       after = w.0;
       served = w.1;
       counts = w.2;

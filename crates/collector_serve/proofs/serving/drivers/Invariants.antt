@@ -1,0 +1,5 @@
+use Rattle.std.proofs.Common.{◌≡◌, vec_len, All}
+use Rattle.collector_serve.proofs.serving.drivers.Given as goal
+
+abbrev pub invariant-loop : goal.invariant-loop
+invariant-loop g l = (vec_len l.drivers ≡ l.counter) × All (λ it. it.takes_gzip ≡ l.config.accept_gzip) l.drivers.items

@@ -1,0 +1,46 @@
+use Rattle.http_lane.specs.Intake.{intake, Counts}
+use Rattle.std.proofs.Common.{refl, subst, sym, []}
+use Rattle.http_lane.specs.Connection.{submitted}
+use Rattle.http_lane.proofs.EventLemmas.{can_text, counted_text, Appends-none}
+use Rattle.http_lane.proofs.serving.submit.Goals as goal
+
+pub returns-then-not-count : goal.returns-then-not-count
+returns-then-not-count g c = λ is_packed body is.
+    let reply = c.submit-reply.result in
+    let cause = submitted c.args.text.now c.now.result reply c.args.says_close in
+    let took = c.submit-reply.ensures in
+    let counts = c.if-not-count.ensures.counts in
+    let new = intake c.submit-reply.new.self c.submit-reply.new.conn (g.C.Counter.counted c.count.new.counts) in (
+      cause,
+      (body, refl, is, refl),
+      record {
+        can = c.if-not-count.ensures.spans refl;
+        closes = refl;
+        puts = ([], Appends-none (g.W.Write.contents c.args.writer.now), refl);
+        lane = (
+          new,
+          record { received = took.received; lane = took.lane; ports = took.ports; json = took.json; shape = took.shape; refused = took.refused; counts = counts },
+          refl,
+        );
+      },
+    )
+
+pub returns : goal.returns
+returns g c = λ is_packed body is.
+    let reply = c.submit-reply.result in
+    let cause = submitted c.args.text.now c.now.result reply c.args.says_close in
+    let took = c.submit-reply.ensures in
+    let counts = c.if-not-count.ensures.counts in (
+      cause,
+      (body, refl, is, refl),
+      record {
+        can = can_text c.answer.result cause c.answer.ensures.fate refl;
+        closes = refl;
+        puts = c.answer.ensures.puts;
+        lane = (
+          intake c.submit-reply.new.self c.submit-reply.new.conn (g.C.Counter.counted c.count.new.counts),
+          record { received = took.received; lane = took.lane; ports = took.ports; json = took.json; shape = took.shape; refused = took.refused; counts = subst (λ t. Counts reply t (g.C.Counter.counted c.args.counts.now) (g.C.Counter.counted c.count.new.counts)) (sym (counted_text c.answer.result c.answer.ensures.fate)) counts },
+          refl,
+        );
+      },
+    )

@@ -1,0 +1,218 @@
+//! One turn of a connection among many.
+ghost use Rattle.std.specs.Prelude.{◌≡◌, ◌+◌, ◌<◌, ◌≤◌, [], ℕ, List, Option, None, Bool, false, IfSome, IfNone, length, nat_le, ◌||◌, if◌then◌else◌};
+ghost use Rattle.http_lane.specs.Intake.{Submits, intake};
+ghost use Rattle.std.specs.Io.KnownBytes.{Appends};
+ghost use Rattle.http_lane.specs.Connection.{Reading, Event, in_head, is_between, grown, Writes, submissions};
+ghost use Rattle.http_lane.specs.declared.answer.ServeEnd.TheVariants.{Closed, Cut};
+ghost use Rattle.http_lane.specs.Engine.{Does, IsAtRest, Settled};
+ghost use Rattle.http_lane.specs.Requests.{Awaits};
+ghost use Rattle.http_lane.specs.Turns.{Waiting, waiting, AwaitsBy, Coming, IsTaken, IsTurnBy, nothing};
+
+use crate::answer::{Answer, ServeEnd};
+use crate::engine::Engine;
+use crate::lent::{Clock, Stop};
+use crate::reads::PIECE_LIMIT;
+use crate::requests::Requests;
+use crate::serving::{answer, end_with, settle};
+use drop_ledger::Counter;
+use lane_queue::Port;
+use lane_seq::{Conn, Lane};
+use otlp_types::Item;
+use std::alloc::Global;
+use std::io::Write;
+
+/// So many milliseconds without a byte end a connection between requests.
+pub const IDLE_LIMIT: u64 = 60_000;
+
+/// A request that isn't whole so many milliseconds after its first byte is answered with 408.
+pub const REQUEST_LIMIT: u64 = 10_000;
+
+/// A connection between two turns. It has a buffer only while a request is under way.
+#[derive(Drop)]
+pub struct Exchange {
+    /// What reads the request under way; `None`: no byte of one has come.
+    pub engine: Option<Requests>,
+    /// Its number on its lane, and that of its next span.
+    pub conn: Conn,
+    /// The moment of the first byte of the request under way, or between requests that of the last answer.
+    pub since: u64,
+}
+
+impl Exchange {
+    /// A connection that came at this moment.
+    pub fn new(conn: Conn, moment: u64) -> Self
+        ensures { result ≡ record { engine = None; conn = conn; since = moment } }
+    {
+        Exchange {
+            engine: None,
+            conn,
+            since: moment,
+        }
+    }
+
+    /// Whether no byte of a request has come.
+    pub fn is_between(&self) -> bool
+        ensures { (takes_gzip : Bool) (w : Waiting) → AwaitsBy takes_gzip Awaits self.now.engine w.reading → result ≡ is_between w.reading }
+    {
+        self.engine.is_none()
+    }
+
+    /// A turn that brought these bytes; `takes_gzip`: whether packed bodies are taken, the same at each turn.
+    pub fn came<P: Port<Item>, C: Counter, W: Write, S: Stop, K: Clock>(
+        &mut self,
+        alloc: Global,
+        takes_gzip: bool,
+        spare: &mut Option<Requests>,
+        lane: &mut Lane<P>,
+        counts: &mut C,
+        writer: &mut W,
+        stop: &S,
+        clock: &K,
+        piece: &[u8],
+        moment: u64,
+    ) -> Option<ServeEnd>
+        requires piece { (0 < length piece.now) × (length piece.now ≤ PIECE_LIMIT) }
+        requires at { (w : Waiting) × AwaitsBy takes_gzip Awaits self.old.engine w.reading }
+        requires spare { IfSome spare.old (λ engine. Awaits engine (in_head takes_gzip [])) }
+        ensures turn { (w : Waiting) → AwaitsBy takes_gzip Awaits self.old.engine w.reading → self.old.since ≡ w.since
+            → (coming : Coming) × (events : List Event) × (next : Waiting) × IsTaken piece.now coming × IsTurnBy coming w moment false events next × (next.end ≡ result)
+            × (result ≡ None → AwaitsBy takes_gzip Awaits self.new.engine next.reading × (self.new.since ≡ next.since))
+            × Does (Submits P.takes P.refuses) (W.contents writer.old) (W.contents writer.new) (intake lane.old self.old.conn (C.counted counts.old)) (intake lane.new self.new.conn (C.counted counts.new)) events }
+        ensures spare { IfSome spare.new (λ engine. Awaits engine (in_head takes_gzip [])) }
+    {
+        let begins = self.is_between();
+        let Some(mut engine) = taken(alloc, takes_gzip, &mut self.engine, spare) else {
+            return Some(ServeEnd::NoMemory);
+        };
+        let (end, answered) = come(
+            alloc,
+            &mut engine,
+            lane,
+            &mut self.conn,
+            counts,
+            writer,
+            stop,
+            clock,
+            piece,
+        );
+        if let Some(why) = end {
+            return Some(why);
+        }
+        let is_between = engine.is_between();
+        self.since = since_after(is_between, begins, answered, self.since, moment);
+        if is_between {
+            *spare = Some(engine);
+            return None;
+        }
+        self.engine = Some(engine);
+        None
+    }
+
+    /// A turn that brought nothing.
+    pub fn waited<W: Write, S: Stop>(
+        &self,
+        alloc: Global,
+        writer: &mut W,
+        stop: &S,
+        moment: u64,
+    ) -> Option<ServeEnd>
+        ensures turn { (takes_gzip : Bool) (w : Waiting) → AwaitsBy takes_gzip Awaits self.now.engine w.reading → self.now.since ≡ w.since
+            → (is_stopped : Bool) × (events : List Event) × IsTurnBy nothing w moment is_stopped events (waiting w.reading w.since result)
+            × (bytes : List ℕ) × Appends (W.contents writer.old) (W.contents writer.new) bytes × Writes events bytes × (submissions events ≡ []) }
+    {
+        if self.is_between() {
+            if stop.is_set() {
+                return Some(ServeEnd::Stopped);
+            }
+            if is_over(self.since, IDLE_LIMIT, moment) {
+                return Some(ServeEnd::Quiet);
+            }
+            return None;
+        }
+        if is_over(self.since, REQUEST_LIMIT, moment) {
+            return end_with(answer(alloc, writer, &Answer::TimedOut), true);
+        }
+        None
+    }
+
+    /// When it is to be looked at though nothing comes.
+    pub fn due(&self) -> u64 {
+        let limit = if self.is_between() {
+            IDLE_LIMIT
+        } else {
+            REQUEST_LIMIT
+        };
+        self.since.saturating_add(limit)
+    }
+
+    /// How it ends at the end of its input.
+    pub fn over(&self) -> ServeEnd
+        ensures { (takes_gzip : Bool) (w : Waiting) → AwaitsBy takes_gzip Awaits self.now.engine w.reading → result ≡ (if is_between w.reading then Closed else Cut) }
+    {
+        if self.is_between() {
+            ServeEnd::Closed
+        } else {
+            ServeEnd::Cut
+        }
+    }
+}
+
+/// Since when a connection waits after bytes.
+fn since_after(is_between: bool, begins: bool, answered: bool, since: u64, moment: u64) -> u64
+    ensures { result ≡ (if is_between || (begins || answered) then moment else since) }
+{
+    if is_between || begins || answered {
+        moment
+    } else {
+        since
+    }
+}
+
+/// Whether so many milliseconds have passed since a moment.
+fn is_over(since: u64, limit: u64, moment: u64) -> bool
+    ensures { result ≡ nat_le (since + limit) moment }
+{
+    since as u128 + limit as u128 <= moment as u128
+}
+
+/// The engine of a connection: its own, or the spare one, or a new one. `None`: there is no memory for it.
+fn taken(
+    alloc: Global,
+    takes_gzip: bool,
+    own: &mut Option<Requests>,
+    spare: &mut Option<Requests>,
+) -> Option<Requests>
+    requires spare { IfSome spare.old (λ engine. Awaits engine (in_head takes_gzip [])) }
+    ensures own { IfSome result (λ engine. (r : Reading) → AwaitsBy takes_gzip Awaits own.old r → Awaits engine r) }
+    ensures none { IfNone result (own.old ≡ None) }
+    ensures left { own.new ≡ None }
+    ensures spare { IfSome spare.new (λ engine. Awaits engine (in_head takes_gzip [])) }
+{
+    if let Some(engine) = own.take() {
+        return Some(engine);
+    }
+    if let Some(engine) = spare.take() {
+        return Some(engine);
+    }
+    Requests::new(alloc, takes_gzip).ok()
+}
+
+/// Bytes came to an engine that awaits them: all is done that they bring.
+fn come<E: Engine, P: Port<Item>, C: Counter, W: Write, S: Stop, K: Clock>(
+    alloc: Global,
+    engine: &mut E,
+    lane: &mut Lane<P>,
+    conn: &mut Conn,
+    counts: &mut C,
+    writer: &mut W,
+    stop: &S,
+    clock: &K,
+    piece: &[u8],
+) -> (Option<ServeEnd>, bool)
+    requires rests { IsAtRest E.awaits engine.old }
+    requires fits { length piece.now ≤ PIECE_LIMIT }
+    ensures { (r : Reading) → E.awaits engine.old r → Settled E.awaits (Submits P.takes P.refuses) (W.contents writer.old) (W.contents writer.new) (intake lane.old conn.old (C.counted counts.old)) (intake lane.new conn.new (C.counted counts.new)) (grown r piece.now) result engine.new }
+{
+    engine.take(piece);
+    settle(alloc, engine, lane, conn, counts, writer, stop, clock)
+}

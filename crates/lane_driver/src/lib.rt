@@ -1,0 +1,16 @@
+//! Drives a lane by the readiness of its connections (`mio`, over epoll): which connection has its turn next, what came on
+//! it, and what is sent to it.
+//!
+//! A [`TurnDriver`] is the [`Driver`](lane_turns::Driver) of one lane. Nothing that `lane_turns` promises rests on what it
+//! reports. It never waits on a socket: what one doesn't take is kept in an [`Outgoing`] and goes on when it may, and no
+//! further request is read before. Behind an answer that closes, what the client still sends is thrown away for a while, so
+//! that the answer reaches it (RFC 9112, section 9.6).
+#![tactic(auto)]
+
+mod driver;
+mod link;
+mod outgoing;
+
+pub use driver::TurnDriver;
+pub use link::{LINGER_BYTES, LINGER_LIMIT, WRITE_LIMIT};
+pub use outgoing::{Outgoing, Sent};

@@ -1,0 +1,196 @@
+//! A connection's socket.
+ghost use Rattle.std.specs.Prelude.{◌≡◌, ◌<◌, ◌≤◌, ℕ, [], length};
+
+use crate::outgoing::{Outgoing, Sent};
+use http_lane::ServeEnd;
+use mio::net::TcpStream;
+use std::alloc::{AllocError, Global};
+use std::io::{ErrorKind, Read};
+use std::net::Shutdown;
+
+/// A write that takes nothing for so long ends its connection, in milliseconds.
+pub const WRITE_LIMIT: u64 = 30_000;
+
+/// So long what a client still sends behind the last answer is thrown away at most, in milliseconds.
+pub const LINGER_LIMIT: u64 = 1_000;
+
+/// And so many bytes at most.
+pub const LINGER_BYTES: usize = 8_388_608;
+
+/// So many writes are made at once.
+const WRITES: usize = 64;
+
+/// So many reads are thrown away at once.
+const THROWN: usize = 16;
+
+/// What a connection does.
+#[derive(Clone, Copy, PartialEq, Eq)]
+pub enum Phase {
+    /// Requests are read and answered.
+    Serving,
+    /// Its last answer is to be sent.
+    Closing,
+    /// The last answer was sent: what still comes is thrown away, at most so many bytes.
+    Lingering { left: usize },
+}
+
+/// How a connection goes on.
+#[derive(Clone, Copy, PartialEq, Eq)]
+pub enum Step {
+    /// It waits until it is ready.
+    Waits,
+    /// It may go on at once.
+    GoesOn,
+    /// It is over.
+    Over,
+}
+
+/// What a read that doesn't wait gave.
+#[derive(Clone, Copy, PartialEq, Eq)]
+pub enum Got {
+    /// So many bytes.
+    Bytes(usize),
+    /// Nothing for now.
+    Nothing,
+    /// The end of the input.
+    End,
+    /// A fault.
+    Fault,
+}
+
+/// A connection's socket, and what is to be sent there.
+#[derive(Drop)]
+pub struct Link {
+    pub stream: TcpStream,
+    pub outgoing: Outgoing,
+    /// Its key in the lane's table, until it has ended there.
+    pub key: usize,
+    pub phase: Phase,
+    /// When the request under way, or the idle time, is over.
+    pub due: u64,
+    /// No request is under way.
+    pub is_idle: bool,
+    /// Since when what is to be sent stands still, or the last answer was sent.
+    pub since: u64,
+    /// It stands among those that are to be served.
+    pub is_listed: bool,
+}
+
+impl Link {
+    /// A connection that has just come.
+    pub fn new(alloc: Global, stream: TcpStream, key: usize, due: u64) -> Self {
+        Link {
+            stream,
+            outgoing: Outgoing::new(alloc),
+            key,
+            phase: Phase::Serving,
+            due,
+            is_idle: true,
+            since: 0,
+            is_listed: false,
+        }
+    }
+
+    /// When it is to be looked at though nothing is ready.
+    pub fn deadline(&self) -> u64 {
+        if let Phase::Lingering { .. } = self.phase {
+            return self.since.saturating_add(LINGER_LIMIT);
+        }
+        if self.outgoing.is_empty() {
+            return self.due;
+        }
+        self.since.saturating_add(WRITE_LIMIT)
+    }
+
+    /// An answer is to be sent. `Err`: there is no memory to keep it.
+    pub fn answer(&mut self, text: &[u8], moment: u64) -> Result<(), AllocError> {
+        if self.outgoing.is_empty() {
+            self.since = moment;
+        }
+        self.outgoing.put(text)
+    }
+
+    /// Sends what can be sent. `false`: it failed.
+    pub fn flush(&mut self, moment: u64) -> bool {
+        for _ in 0..WRITES {
+            if self.outgoing.is_empty() {
+                return true;
+            }
+            match self.outgoing.send(&mut self.stream) {
+                Sent::Some => self.since = moment,
+                Sent::Blocked => return true,
+                Sent::Failed => return false,
+            }
+        }
+        true
+    }
+
+    /// One read of a request. None is read before the answer to the one before it was sent.
+    pub fn receive(&mut self, piece: &mut [u8]) -> Got
+        requires { self.old.outgoing ≡ [] }
+        ensures { (n : ℕ) → result ≡ Got.Bytes n → (0 < n) × (n ≤ length piece.old) }
+    {
+        read(&mut self.stream, piece)
+    }
+
+    /// Its connection has ended in the lane's table. An answer that closes is still to be sent.
+    pub fn end(&mut self, end: ServeEnd, moment: u64) -> Step {
+        if end != ServeEnd::Answered {
+            return Step::Over;
+        }
+        self.phase = Phase::Closing;
+        self.close(moment)
+    }
+
+    /// Sends the rest of the last answer, and then tells the client that nothing more comes.
+    pub fn close(&mut self, moment: u64) -> Step {
+        if !self.flush(moment) {
+            return Step::Over;
+        }
+        if !self.outgoing.is_empty() {
+            return Step::Waits;
+        }
+        if self.stream.shutdown(Shutdown::Write).is_err() {
+            return Step::Over;
+        }
+        self.phase = Phase::Lingering { left: LINGER_BYTES };
+        self.since = moment;
+        Step::GoesOn
+    }
+
+    /// Throws away what came, of which so many bytes may come still.
+    pub fn drain(&mut self, piece: &mut [u8], left: usize) -> Step {
+        let mut left = left;
+        for _ in 0..THROWN {
+            match read(&mut self.stream, piece) {
+                Got::Bytes(n) => {
+                    if n >= left {
+                        return Step::Over;
+                    }
+                    left -= n;
+                }
+                Got::Nothing => {
+                    self.phase = Phase::Lingering { left };
+                    return Step::Waits;
+                }
+                Got::End | Got::Fault => return Step::Over,
+            }
+        }
+        self.phase = Phase::Lingering { left };
+        Step::GoesOn
+    }
+}
+
+/// One read that doesn't wait.
+fn read(stream: &mut TcpStream, piece: &mut [u8]) -> Got
+    ensures { (n : ℕ) → result ≡ Got.Bytes n → (0 < n) × (n ≤ length piece.old) }
+{
+    match stream.read(piece) {
+        Ok(0) => Got::End,
+        Ok(n) => Got::Bytes(n),
+        Err(error) => match error.kind() {
+            ErrorKind::WouldBlock | ErrorKind::Interrupted => Got::Nothing,
+            _ => Got::Fault,
+        },
+    }
+}

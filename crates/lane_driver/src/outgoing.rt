@@ -1,0 +1,93 @@
+//! What is to be sent on a connection.
+ghost use Rattle.std.specs.Prelude.{◌≡◌, ◌≤◌, ◌++◌, ℕ, List, [], OnOk, OnErr, IsTrue, length, drop};
+ghost use Rattle.std.specs.Io.KnownBytes.{Appends};
+
+use std::alloc::{AllocError, Global};
+use std::io::{ErrorKind, Write};
+use std::marker::Model;
+
+/// What a write that doesn't wait came to.
+#[derive(Clone, Copy, PartialEq, Eq)]
+pub enum Sent {
+    /// Some bytes were taken.
+    Some,
+    /// None can be taken now.
+    Blocked,
+    /// It failed.
+    Failed,
+}
+
+/// The bytes of answers that weren't sent yet, in their order. It has memory only while some wait.
+#[derive(Drop)]
+pub struct Outgoing {
+    alloc: Global,
+    bytes: Vec<u8>,
+    at: usize,
+}
+
+impl Model for Outgoing {
+    ghost use Rattle.std.specs.Prelude.{◌≤◌, ℕ, List, drop, vec_len};
+
+    ghost Value = { List ℕ };
+
+    ghost view = { λ o. drop o.at o.bytes.items };
+
+    ghost invariant = { λ o. o.at ≤ vec_len o.bytes };
+}
+
+impl Outgoing {
+    /// Nothing.
+    pub fn new(alloc: Global) -> Self
+        ensures { result ≡ [] }
+    {
+        Outgoing {
+            alloc,
+            bytes: Vec::new(alloc),
+            at: 0,
+        }
+    }
+
+    /// Whether nothing is to be sent.
+    pub fn is_empty(&self) -> bool
+        ensures { IsTrue result → self.now ≡ [] }
+    {
+        self.at == self.bytes.len()
+    }
+
+    /// These bytes are to be sent too, behind the others. `Err`: there is no memory for them.
+    pub fn put(&mut self, text: &[u8]) -> Result<(), AllocError>
+        ensures put { OnOk result (self.new ≡ self.old ++ text.now) }
+        ensures kept { OnErr result (self.new ≡ self.old) }
+    {
+        self.bytes.extend_from_slice(text)
+    }
+
+    /// One write: what was taken goes from the front.
+    pub fn send<W: Write>(&mut self, writer: &mut W) -> Sent
+        ensures { (sent : List ℕ) × (self.old ≡ sent ++ self.new) × Appends (W.contents writer.old) (W.contents writer.new) sent }
+    {
+        match writer.write(&self.bytes[self.at..]) {
+            Ok(0) => Sent::Failed,
+            Ok(n) => {
+                self.skip(n);
+                Sent::Some
+            }
+            Err(error) => match error.kind() {
+                ErrorKind::WouldBlock | ErrorKind::Interrupted => Sent::Blocked,
+                _ => Sent::Failed,
+            },
+        }
+    }
+
+    /// So many bytes were sent.
+    fn skip(&mut self, n: usize)
+        requires { n ≤ length self.old }
+        ensures { self.new ≡ drop n self.old }
+    {
+        self.at += n;
+        if self.at == self.bytes.len() {
+            self.bytes = Vec::new(self.alloc);
+            self.at = 0;
+        }
+    }
+}

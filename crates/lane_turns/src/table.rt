@@ -1,0 +1,156 @@
+//! One turn of one of many connections.
+ghost use Rattle.std.specs.Prelude.{◌≡◌, ◌≢◌, ◌++◌, ◌∷◌, ◌<◌, ◌≤◌, [], ℕ, Bool, List, Option, Some, None, IfSome, length, false, true, IsTrue};
+ghost use Rattle.slab.specs.Slab.{get, ContainsKey};
+ghost use Rattle.http_lane.specs.Intake.{Submits};
+ghost use Rattle.http_lane.specs.Connection.{in_head, is_between};
+ghost use Rattle.http_lane.specs.Requests.{Awaits};
+ghost use Rattle.http_lane.specs.Turns.{Waiting, AwaitsBy};
+ghost use Rattle.lane_turns.specs.Acts.{Act, LaneNow, lane_now, Fits, Comes, GoesOn, act_uncounted, is_full_end};
+
+use drop_ledger::Counter;
+use http_lane::{Clock, Exchange, PIECE_LIMIT, Requests, ServeEnd, Stop};
+use lane_queue::Port;
+use lane_seq::Lane;
+use otlp_types::Item;
+use slab::Slab;
+use std::alloc::Global;
+use std::io::Write;
+
+/// The connection at this key has a turn that brought these bytes. Where that ends it, it is open no more.
+pub fn came<P: Port<Item>, C: Counter, W: Write, S: Stop, K: Clock>(
+    alloc: Global,
+    takes_gzip: bool,
+    open: &mut Slab<Exchange>,
+    key: usize,
+    spare: &mut Option<Requests>,
+    lane: &mut Lane<P>,
+    counts: &mut C,
+    writer: &mut W,
+    stop: &S,
+    clock: &K,
+    piece: &[u8],
+    moment: u64,
+) -> Option<ServeEnd>
+    requires piece { (0 < length piece.now) × (length piece.now ≤ PIECE_LIMIT) }
+    requires open { ContainsKey «open».old key }
+    requires at { (x : Exchange) → get «open».old key ≡ Some x → (w : Waiting) × AwaitsBy takes_gzip Awaits x.engine w.reading }
+    requires spare { IfSome spare.old (λ engine. Awaits engine (in_head takes_gzip [])) }
+    ensures fits { (number : ℕ) (first : LaneNow P) (acts : List Act) → Fits (Submits P.takes P.refuses) takes_gzip number first (get «open».old) acts (lane_now lane.old (C.counted counts.old))
+        → (a : Act) × Comes piece.now moment a × Fits (Submits P.takes P.refuses) takes_gzip number first (get «open».new) (acts ++ a ∷ []) (lane_now lane.new (C.counted counts.new))
+        × (act_uncounted a ≡ is_full_end result) }
+    ensures others { (other : ℕ) → other ≢ key → get «open».new other ≡ get «open».old other }
+    ensures spare { IfSome spare.new (λ engine. Awaits engine (in_head takes_gzip [])) }
+{
+    let mut exchange = open.remove(key);
+    let end = exchange.came(
+        alloc, takes_gzip, spare, lane, counts, writer, stop, clock, piece, moment,
+    );
+    if let Some(why) = end {
+        return Some(why);
+    }
+    open.insert_reserved(exchange);
+    None
+}
+
+/// What a connection leaves by.
+#[derive(Clone, Copy, PartialEq, Eq)]
+pub enum Leaving {
+    /// Its input ended.
+    Over,
+    /// A read failed.
+    ReadFailed,
+    /// A write failed, or took nothing for too long.
+    WriteFailed,
+}
+
+/// The connection at this key has a turn that brought nothing. Where that ends it, it is open no more.
+pub fn waited<P: Port<Item>, C: Counter, W: Write, S: Stop>(
+    alloc: Global,
+    open: &mut Slab<Exchange>,
+    key: usize,
+    lane: &Lane<P>,
+    counts: &C,
+    writer: &mut W,
+    stop: &S,
+    moment: u64,
+) -> Option<ServeEnd>
+    requires { ContainsKey «open».old key }
+    ensures fits { (takes_gzip : Bool) → GoesOn (Submits P.takes P.refuses) takes_gzip (get «open».old) (lane_now lane.now (C.counted counts.now)) (get «open».new) (lane_now lane.now (C.counted counts.now)) (is_full_end result) }
+    ensures others { (other : ℕ) → other ≢ key → get «open».new other ≡ get «open».old other }
+{
+    let exchange = open.remove(key);
+    let end = exchange.waited(alloc, writer, stop, moment);
+    if let Some(why) = end {
+        return Some(why);
+    }
+    open.insert_reserved(exchange);
+    None
+}
+
+/// The connection at this key leaves.
+pub fn leave<P: Port<Item>, C: Counter>(
+    open: &mut Slab<Exchange>,
+    key: usize,
+    lane: &Lane<P>,
+    counts: &C,
+    how: Leaving,
+    moment: u64,
+) -> ServeEnd
+    requires { ContainsKey «open».old key }
+    ensures fits { (takes_gzip : Bool) → GoesOn (Submits P.takes P.refuses) takes_gzip (get «open».old) (lane_now lane.now (C.counted counts.now)) (get «open».new) (lane_now lane.now (C.counted counts.now)) (is_full_end (Some result)) }
+    ensures others { (other : ℕ) → other ≢ key → get «open».new other ≡ get «open».old other }
+{
+    let exchange = open.remove(key);
+    match how {
+        Leaving::Over => exchange.over(),
+        Leaving::ReadFailed => ServeEnd::ReadFault,
+        Leaving::WriteFailed => ServeEnd::WriteFault,
+    }
+}
+
+/// The connection at this key ends, if there is one and no request is under way on it.
+pub fn dismiss<P: Port<Item>, C: Counter>(
+    open: &mut Slab<Exchange>,
+    key: usize,
+    lane: &Lane<P>,
+    counts: &C,
+    moment: u64,
+) -> Option<ServeEnd>
+    ensures fits { (takes_gzip : Bool) → GoesOn (Submits P.takes P.refuses) takes_gzip (get «open».old) (lane_now lane.now (C.counted counts.now)) (get «open».new) (lane_now lane.now (C.counted counts.now)) (is_full_end result) }
+    ensures others { (other : ℕ) → other ≢ key → get «open».new other ≡ get «open».old other }
+{
+    if !is_idle(open, key) {
+        return None;
+    }
+    open.remove(key);
+    Some(ServeEnd::Quiet)
+}
+
+/// Whether there is a connection at this key on which no request is under way.
+fn is_idle(open: &Slab<Exchange>, key: usize) -> bool
+    ensures { IsTrue result → (x : Exchange) × (get «open».now key ≡ Some x) × ((takes_gzip : Bool) (w : Waiting) → AwaitsBy takes_gzip Awaits x.engine w.reading → is_between w.reading ≡ true) }
+{
+    match open.get(key) {
+        Some(exchange) => exchange.is_between(),
+        None => false,
+    }
+}
+
+/// A connection is taken. `None`: there is no memory for it, or no number.
+pub fn take<P: Port<Item>, C: Counter>(
+    open: &mut Slab<Exchange>,
+    lane: &mut Lane<P>,
+    counts: &C,
+    moment: u64,
+) -> Option<usize>
+    ensures fits { (takes_gzip : Bool) → GoesOn (Submits P.takes P.refuses) takes_gzip (get «open».old) (lane_now lane.old (C.counted counts.now)) (get «open».new) (lane_now lane.new (C.counted counts.now)) false }
+{
+    if lane.connected() == u64::MAX {
+        return None;
+    }
+    let Ok(()) = open.reserve(1) else {
+        return None;
+    };
+    let exchange = Exchange::new(lane.connect(), moment);
+    Some(open.insert_reserved(exchange))
+}

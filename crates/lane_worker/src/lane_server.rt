@@ -1,0 +1,103 @@
+//! What serves the connections of a lane, on the lane's thread.
+ghost use Rattle.std.specs.Prelude.{◌≡◌, ℕ, Bool};
+ghost use Rattle.lane_queue.specs.Ends.{queues};
+ghost use Rattle.lane_worker.specs.Serving.{LaneAt, lane_at};
+
+use crate::feed::Feed;
+use crate::lane_worker::serve_all;
+use drop_ledger::Counter;
+use http_lane::{Clock as MomentClock, Stop};
+use lane_queue::{Gate, Room, SenderPort};
+use lane_seq::Lane;
+use lane_turns::{Driver, serve_turns};
+use otlp_types::Item;
+use std::alloc::Global;
+use std::sync::Wait;
+use std::time::Clock;
+
+/// What serves the connections of a lane.
+pub trait LaneServer {
+    /// What it does to a lane whose queues may hold so many items: itself and the lane before and after it served all, and
+    /// whether a count would have passed 2^64-1.
+    ghost serves: { ℕ → Self → LaneAt → Self → LaneAt → Bool → Type 0 };
+
+    /// Serves connections until there are none any more, or a count would have passed 2^64-1, and says whether that was so.
+    fn serve_all<'r, C: Room, K: Counter, G: Gate, S: Stop, M: MomentClock, R: Wait + Clock>(
+        &mut self,
+        rt: &'r R,
+        alloc: Global,
+        number: u16,
+        lane: &mut Lane<SenderPort<'r, Item, C, R>>,
+        counter: &mut K,
+        gate: &G,
+        stop: &S,
+        clock: &M,
+    ) -> bool
+        ensures served { serves C.capacity self.old (lane_at lane.old (K.counted counter.old)) self.new (lane_at lane.new (K.counted counter.new)) result }
+        ensures same_queues { queues lane.new.ports ≡ queues lane.old.ports };
+}
+
+/// Serves what a feed gives, one connection after the other, each to its end.
+#[derive(Drop)]
+pub struct OneByOne<F> {
+    pub feed: F,
+}
+
+impl<F: Feed> LaneServer for OneByOne<F> {
+    ghost use Rattle.lane_worker.specs.Serving.{connection, HasServed};
+
+    ghost serves = { λ capacity old before new after is_full. HasServed F.gives (λ x. connection (F.Reader.given x.0) (F.Writer.contents x.1)) capacity old.feed before new.feed after is_full };
+
+    fn serve_all<'r, C: Room, K: Counter, G: Gate, S: Stop, M: MomentClock, R: Wait + Clock>(
+        &mut self,
+        rt: &'r R,
+        alloc: Global,
+        number: u16,
+        lane: &mut Lane<SenderPort<'r, Item, C, R>>,
+        counter: &mut K,
+        gate: &G,
+        stop: &S,
+        clock: &M,
+    ) -> bool {
+        serve_all(
+            rt, alloc, number, lane, &mut self.feed, counter, gate, stop, clock,
+        )
+    }
+}
+
+/// Serves many connections at once, turn by turn as a driver says.
+#[derive(Drop)]
+pub struct ByTurns<D> {
+    pub driver: D,
+    /// Whether packed bodies are taken.
+    pub takes_gzip: bool,
+}
+
+impl<D: Driver> LaneServer for ByTurns<D> {
+    ghost use Rattle.lane_worker.specs.Serving.{ServesMany};
+
+    ghost serves = { λ capacity old before new after is_full. ServesMany old.takes_gzip capacity before after is_full };
+
+    fn serve_all<'r, C: Room, K: Counter, G: Gate, S: Stop, M: MomentClock, R: Wait + Clock>(
+        &mut self,
+        rt: &'r R,
+        alloc: Global,
+        _number: u16,
+        lane: &mut Lane<SenderPort<'r, Item, C, R>>,
+        counter: &mut K,
+        _gate: &G,
+        stop: &S,
+        clock: &M,
+    ) -> bool {
+        serve_turns(
+            rt,
+            alloc,
+            self.takes_gzip,
+            &mut self.driver,
+            lane,
+            counter,
+            stop,
+            clock,
+        )
+    }
+}

@@ -1,9 +1,0 @@
--- How many items each queue may hold.
--- For the call of run_in in run.
-use Rattle.pipeline.proofs.running.run.Given as goal
-
-abbrev pub ghosts-run_in-C-Room : goal.ghosts-run_in-C-Room
-ghosts-run_in-C-Room g a = record { capacity = a.config.now.queue_capacity }
-
-abbrev pub ghosts-run_in-D-Room : goal.ghosts-run_in-D-Room
-ghosts-run_in-D-Room g a = record { capacity = a.config.now.export_capacity }

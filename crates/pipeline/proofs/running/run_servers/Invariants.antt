@@ -1,0 +1,9 @@
+-- How many items each queue may hold.
+-- For the call of run_in in run_servers.
+use Rattle.pipeline.proofs.running.run_servers.Given as goal
+
+abbrev pub ghosts-run_in-C-Room : goal.ghosts-run_in-C-Room
+ghosts-run_in-C-Room g a = record { capacity = a.config.now.queue_capacity }
+
+abbrev pub ghosts-run_in-D-Room : goal.ghosts-run_in-D-Room
+ghosts-run_in-D-Room g a = record { capacity = a.config.now.export_capacity }

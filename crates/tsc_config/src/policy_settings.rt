@@ -1,0 +1,96 @@
+//! The table of the settings of each type of policy (tailsamplingprocessor README).
+ghost use Rattle.std.specs.Prelude.{◌≡◌, map};
+ghost use Rattle.tsc_config.specs.PolicySettings as spec;
+
+use crate::kinds::PolicyType;
+
+/// What an item of an array is to be.
+#[derive(Clone, Copy)]
+pub enum ItemKind {
+    Text,
+    /// A text that names a status code.
+    StatusCode,
+}
+
+/// What a value is to be.
+#[derive(Clone, Copy)]
+pub enum ValueKind {
+    /// A whole number within these bounds.
+    Integer(i64, i64),
+    Whole,
+    Truth,
+    Text,
+    /// A text that names a type of policy.
+    PolicyType,
+    /// A whole number from 0 to 100, or a number between with at most four decimals.
+    Percentage,
+    /// An array of such items.
+    Array(ItemKind),
+}
+
+/// A whole number from 0 on.
+const NATURAL: ValueKind = ValueKind::Integer(0, i64::MAX);
+
+/// The names of status codes.
+const STATUS_CODES: ValueKind = ValueKind::Array(ItemKind::StatusCode);
+
+/// A setting of a policy: its key, and what its value is to be.
+#[derive(Clone, Copy)]
+pub enum Setting {
+    /// It has to stand there.
+    Required(&'static str, ValueKind),
+    /// It may be missing.
+    Optional(&'static str, ValueKind),
+}
+
+impl Setting {
+    /// Its key.
+    pub fn name(self) -> &'static str
+        ensures { result.now ≡ (spec.setting_of self).name }
+    {
+        match self {
+            Setting::Required(name, _) | Setting::Optional(name, _) => name,
+        }
+    }
+}
+
+impl PolicyType {
+    /// Its settings, but for the policies that it is made of.
+    pub fn settings(self) -> &'static [Setting]
+        ensures { map spec.setting_of result.now ≡ spec.settings self }
+    {
+        match self {
+            PolicyType::Latency => &[
+                Setting::Required("threshold_ms", NATURAL),
+                Setting::Optional("upper_threshold_ms", NATURAL),
+            ],
+            PolicyType::StatusCode => &[Setting::Required("status_codes", STATUS_CODES)],
+            PolicyType::StringAttribute => &[
+                Setting::Required("key", ValueKind::Text),
+                Setting::Required("values", ValueKind::Array(ItemKind::Text)),
+                Setting::Optional("invert_match", ValueKind::Truth),
+            ],
+            PolicyType::NumericAttribute => &[
+                Setting::Required("key", ValueKind::Text),
+                Setting::Optional("min_value", ValueKind::Whole),
+                Setting::Optional("max_value", ValueKind::Whole),
+                Setting::Optional("invert_match", ValueKind::Truth),
+            ],
+            PolicyType::BooleanAttribute => &[
+                Setting::Required("key", ValueKind::Text),
+                Setting::Required("value", ValueKind::Truth),
+                Setting::Optional("invert_match", ValueKind::Truth),
+            ],
+            PolicyType::SpanCount => &[
+                Setting::Required("min_spans", NATURAL),
+                Setting::Optional("max_spans", NATURAL),
+            ],
+            PolicyType::RateLimiting => &[Setting::Required("spans_per_second", NATURAL)],
+            PolicyType::Probabilistic => &[
+                Setting::Optional("hash_salt", ValueKind::Text),
+                Setting::Required("sampling_percentage", ValueKind::Percentage),
+            ],
+            PolicyType::AlwaysSample | PolicyType::And | PolicyType::Not | PolicyType::Drop => &[],
+        }
+    }
+}

@@ -1,0 +1,130 @@
+"""Checks of `tsc serve` with many connections at once: idle ones, slow ones, ones that read nothing, and refusals under way."""
+
+import json
+import socket
+import time
+
+from collector import ALL, ERROR_SPAN, Failure, body_of, post, want
+from serve_limits import at_most, side_by_side, spans_by_number
+
+MEGABYTES = b" " * 5_000_000
+
+
+def beside_idle_ones(start):
+    """Two hundred idle connections on one lane hold none of eight busy ones; and each of them is served when it asks."""
+    collector = start("num_traces = 10000\nqueue_capacity = 65536\n" + ALL)
+    idle = [collector.client() for _ in range(200)]
+    busy = [collector.client() for _ in range(8)]
+    began = time.monotonic()
+
+    def asks(at):
+        for number in range(25):
+            busy[at].send(post(body_of(spans_by_number(25 * at + number, 1))))
+            want("the answer", busy[at].answer()[::2], (200, "{}"))
+
+    side_by_side(asks, range(8))
+    at_most("two hundred requests beside idle connections", 10, began)
+    for at, client in enumerate(idle):
+        client.send(post(body_of(spans_by_number(1000 + at, 1))))
+        want("the answer to one that was idle", client.answer()[::2], (200, "{}"))
+    began = time.monotonic()
+    want("the report", collector.close()[1], [400, 400, 0, 0, 0, 0, 0, 0, 0])
+    at_most("the close beside idle connections", 5, began)
+
+
+def numbered_by_connection(start):
+    """Requests of many connections that take turns: spans of one connection and trace come out in the order in which it sent them."""
+    collector = start("lanes = 2\nshards = 2\nnum_traces = 10000\nqueue_capacity = 65536\n" + ALL)
+    clients = [collector.client() for _ in range(40)]
+    for turn in range(10):
+        for at, client in enumerate(clients):
+            spans = [{"traceId": f"{at + 1:032x}", "spanId": f"{at + 1:08x}{10 * turn + part + 1:08x}"} for part in range(10)]
+            client.send(post(body_of(spans)))
+        for client in clients:
+            want("the answer", client.answer()[::2], (200, "{}"))
+    for client in clients:
+        client.close()
+    lines, numbers = collector.close()
+    want("the report", numbers, [4000, 4000, 0, 0, 0, 0, 0, 0, 0])
+    seen = {}
+    for line in lines:
+        for span in spans_in(line):
+            seen.setdefault(span["traceId"], []).append(span["spanId"])
+    for at in range(40):
+        want("the order", seen[f"{at + 1:032x}"], [f"{at + 1:08x}{number + 1:08x}" for number in range(100)])
+
+
+def spans_in(line):
+    """The spans of a line of output, in its order."""
+    return [span for of in json.loads(line)["resourceSpans"] for scope in of["scopeSpans"] for span in scope["spans"]]
+
+
+def tricklers(start):
+    """Clients that send a byte every half second are answered 408 ten seconds after their first, and hold neither others nor the close."""
+    collector = start(ALL)
+    began = time.monotonic()
+    slow = [collector.client() for _ in range(50)]
+    request = post(body_of([ERROR_SPAN]))
+    for at in range(18):
+        for client in slow:
+            client.send(request[at : at + 1])
+        want("the answer beside them", collector.ask(post(body_of([ERROR_SPAN])))[::2], (200, "{}"))
+        time.sleep(0.5)
+    for client in slow:
+        want("the answer to a trickler", client.answer()[::2], (408, '{"message":"request timeout"}'))
+    took = time.monotonic() - began
+    if not 9 <= took <= 12:
+        raise Failure(f"tricklers were answered after {took:.1f} s")
+    under_way = [collector.client() for _ in range(20)]
+    for client in under_way:
+        client.send(request[:20])
+    began = time.monotonic()
+    want("the report", collector.close()[1], [18, 18, 0, 0, 0, 0, 0, 0, 0])
+    at_most("the close beside requests under way", 5, began)
+
+
+def refusals_arrive(start):
+    """A refusal reaches a client that sends all of a long request before it reads: 413, 415, 404 and 431, fifty times each."""
+    collector = start("lanes = 2\n" + ALL)
+    too_long = post(MEGABYTES)
+    rows = [
+        (413, too_long),
+        (415, too_long.replace(b"application/json", b"application/octet-stream")),
+        (404, too_long.replace(b"/v1/traces", b"/v1/metrics")),
+        (431, b"POST /v1/traces HTTP/1.1\r\nX: " + MEGABYTES),
+    ]
+
+    def asks(at):
+        status, request = rows[at]
+        for number in range(50):
+            client = collector.client()
+            client.send(request)
+            want(f"the status of refusal {number}", client.answer()[0], status)
+            client.close()
+
+    side_by_side(asks, range(4))
+    want("the report", collector.close()[1], [0] * 9)
+
+
+def reads_nothing(start):
+    """A client that sends requests and reads no answer holds nobody: another is served meanwhile."""
+    collector = start(ALL)
+    deaf = socket.socket()
+    deaf.setsockopt(socket.SOL_SOCKET, socket.SO_RCVBUF, 4096)
+    deaf.connect(("127.0.0.1", collector.port))
+    deaf.setblocking(False)
+    request = post(b"[]") * 1000
+    for _ in range(200):
+        try:
+            deaf.send(request)
+        except BlockingIOError:
+            time.sleep(0.005)
+    began = time.monotonic()
+    for _ in range(10):
+        want("the answer", collector.ask(post(body_of([ERROR_SPAN])))[::2], (200, "{}"))
+    at_most("ten requests beside a client that reads nothing", 5, began)
+    want("the report", collector.close()[1], [10, 10, 0, 0, 0, 0, 0, 0, 0])
+    deaf.close()
+
+
+CHECKS = [beside_idle_ones, numbered_by_connection, tricklers, refusals_arrive, reads_nothing]
