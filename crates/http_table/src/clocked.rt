@@ -113,11 +113,7 @@ fn steps_of<'t>(alloc: Global, column: &'t str) -> Result<Vec<Step<'t>>, AllocEr
 }
 
 /// Whether the connection of a line comes out as it says.
-pub fn holds<R: Wait + Clock>(
-    rt: &R,
-    alloc: Global,
-    line: &str,
-) -> Result<bool, AllocError> {
+pub fn holds<R: Wait + Clock>(rt: &R, alloc: Global, line: &str) -> Result<bool, AllocError> {
     let mut columns = line.split('\t');
     let (Some(_), Some(steps), Some(answers), Some(end)) = (
         columns.next(),

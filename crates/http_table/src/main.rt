@@ -59,11 +59,7 @@ fn is_asked_for(line: &str, starved: bool) -> bool {
 }
 
 /// Runs the table of connections by a clock.
-fn run_turns<R: Wait + Clock>(
-    rt: &HostRuntime,
-    waits: &R,
-    wrong: &mut u64,
-) -> io::Result<()> {
+fn run_turns<R: Wait + Clock>(rt: &HostRuntime, waits: &R, wrong: &mut u64) -> io::Result<()> {
     let table = fs::read_to_string(rt, "turns.tsv")?;
     for line in table.lines() {
         if !line.starts_with('#') && !clocked::holds(waits, rt.alloc(), line)? {
@@ -75,11 +71,7 @@ fn run_turns<R: Wait + Clock>(
 }
 
 /// Runs the table.
-fn run_table<R: Wait + Clock>(
-    rt: &HostRuntime,
-    waits: &R,
-    starved: bool,
-) -> io::Result<ExitCode> {
+fn run_table<R: Wait + Clock>(rt: &HostRuntime, waits: &R, starved: bool) -> io::Result<ExitCode> {
     let table = fs::read_to_string(rt, "exchanges.tsv")?;
     let mut tally = Tally { rows: 0, wrong: 0 };
     for line in table.lines() {

@@ -185,8 +185,8 @@ pub fn serve_turns<D: Driver, P: Port<Item>, C: Counter, S: Stop, K: Moments, R:
         }
         text.clear();
         let done = turn(
-            alloc, takes_gzip, next, moment, &piece, &mut table, &mut spare, lane, counts, &mut text, stop,
-            clock,
+            alloc, takes_gzip, next, moment, &piece, &mut table, &mut spare, lane, counts,
+            &mut text, stop, clock,
         );
         driver.done(done, &text);
         if is_full(&done) {

@@ -60,7 +60,15 @@ impl<F: Feed> LaneServer for OneByOne<F> {
         clock: &M,
     ) -> bool {
         serve_all(
-            rt, alloc, number, lane, &mut self.feed, counter, gate, stop, clock,
+            rt,
+            alloc,
+            number,
+            lane,
+            &mut self.feed,
+            counter,
+            gate,
+            stop,
+            clock,
         )
     }
 }

@@ -55,9 +55,7 @@ pub fn work<
     ensures same_queues { queues result.senders.items ≡ queues lane.entry.ports }
 {
     let mut lane = lane;
-    let is_full = server.serve_all(
-        rt, alloc, number, &mut lane, counter, gate, stop, clock,
-    );
+    let is_full = server.serve_all(rt, alloc, number, &mut lane, counter, gate, stop, clock);
     let senders = end_all(rt, number, lane.end().ports, room);
     LaneEnd { senders, is_full }
 }
@@ -83,7 +81,16 @@ fn end_all<'r, C: Room, R: Wait + Clock>(
 
 /// Serves what the feed gives until it gives nothing, one connection after the other, and says whether a count would have
 /// passed 2^64-1. After 2^64-1 connections, or once a count would have passed that, no further connection is asked for.
-pub fn serve_all<'r, F: Feed, C: Room, K: Counter, G: Gate, S: Stop, M: MomentClock, R: Wait + Clock>(
+pub fn serve_all<
+    'r,
+    F: Feed,
+    C: Room,
+    K: Counter,
+    G: Gate,
+    S: Stop,
+    M: MomentClock,
+    R: Wait + Clock,
+>(
     rt: &R,
     alloc: Global,
     number: u16,

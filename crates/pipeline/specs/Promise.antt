@@ -82,7 +82,6 @@ module _ {F T : Type 0} (serves : ℕ → F → LaneAt → F → LaneAt → Bool
     pub tells : WorkedTells old new answer
 
 module _ {F T : Type 0} (receives : ℕ → F → LaneAt → List Arrival → F → LaneAt → List Arrival → Bool → Type 0) (ticks_give : T → Option ℕ → T → Type 0) (config : Config) (servers : List F) (ticks : T) where
-
   -- what the threads did is a run of the core, for which the headline holds; the report and the sink tell of it
   pub record IsRun (old new : LineSinkState) (report : List ℕ) : Type 0 where
     pub ran : Ran receives ticks_give (core_of config) (nodes_of config) config.queue_capacity config.lanes config.shards servers ticks old new

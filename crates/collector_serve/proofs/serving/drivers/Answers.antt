@@ -6,5 +6,5 @@ pub loop-preserved : goal.loop-preserved
 loop-preserved g c = (
   omega (arith, c.in_ok-push.ensures.len, c.loop.invariant.0),
   All-same (λ it. it.takes_gzip ≡ c.args.config.now.accept_gzip) c.push.new.self.items _ c.in_ok-push.ensures.items
-  (All-push (λ it. it.takes_gzip ≡ c.args.config.now.accept_gzip) c.loop.drivers.items _ c.loop.invariant.1 refl),
+      (All-push (λ it. it.takes_gzip ≡ c.args.config.now.accept_gzip) c.loop.drivers.items _ c.loop.invariant.1 refl),
 )
