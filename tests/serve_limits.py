@@ -45,7 +45,6 @@ def too_many_open_files(start):
     time.sleep(0.5)
     for client in clients:
         client.close()
-    time.sleep(2)
     for _ in range(5):
         want("the answer", collector.ask(post(body_of([ERROR_SPAN])))[::2], (200, "{}"))
     want("the report", collector.close()[1], [5, 5, 0, 0, 0, 0, 0, 0, 0])

@@ -1,6 +1,8 @@
 """Checks of `tsc serve` with many connections at once: idle ones, slow ones, ones that read nothing, and refusals under way."""
 
 import json
+import os
+import resource
 import socket
 import time
 
@@ -60,31 +62,118 @@ def spans_in(line):
 
 
 def tricklers(start):
-    """Clients that send a byte every half second are answered 408 ten seconds after their first, and hold neither others nor the close."""
-    collector = start(ALL)
-    began = time.monotonic()
-    slow = [collector.client() for _ in range(50)]
+    """Two thousand clients that send a byte a second are answered 408 ten seconds after their first, and hold neither others nor the close."""
+    collector = start("max_connections = 4096\n" + ALL)
     request = post(body_of([ERROR_SPAN]))
-    for at in range(18):
+    began = time.monotonic()
+    slow = [collector.client() for _ in range(2000)]
+    for at in range(9):
         for client in slow:
             client.send(request[at : at + 1])
         want("the answer beside them", collector.ask(post(body_of([ERROR_SPAN])))[::2], (200, "{}"))
-        time.sleep(0.5)
+        time.sleep(max(0, began + at + 1 - time.monotonic()))
     for client in slow:
         want("the answer to a trickler", client.answer()[::2], (408, '{"message":"request timeout"}'))
     took = time.monotonic() - began
-    if not 9 <= took <= 12:
+    if not 9 <= took <= 14:
         raise Failure(f"tricklers were answered after {took:.1f} s")
+    for client in slow:
+        client.close()
     under_way = [collector.client() for _ in range(20)]
     for client in under_way:
         client.send(request[:20])
     began = time.monotonic()
-    want("the report", collector.close()[1], [18, 18, 0, 0, 0, 0, 0, 0, 0])
+    want("the report", collector.close()[1], [9, 9, 0, 0, 0, 0, 0, 0, 0])
     at_most("the close beside requests under way", 5, began)
 
 
+def open_files(collector):
+    """How many files it has open."""
+    return len(os.listdir(f"/proc/{collector.process.pid}/fd"))
+
+
+def comes_back_to(collector, count, seconds):
+    """Waits until it has no more files open than so many."""
+    began = time.monotonic()
+    while open_files(collector) > count:
+        at_most(f"{open_files(collector)} open files, and not {count}", seconds, began)
+        time.sleep(0.02)
+
+
+def stays_behind_its_refusal(start):
+    """A client, the only one, that stays behind the 408 to its request: its connection is closed a second later all the same."""
+    collector = start(ALL)
+    client = collector.client()
+    client.send(b"POST /v1/traces HTTP/1.1\r\n")
+    time.sleep(0.3)
+    before = open_files(collector)
+    want("the answer", client.answer()[::2], (408, '{"message":"request timeout"}'))
+    comes_back_to(collector, before - 1, 6)
+    client.close()
+    want("the report", collector.close()[1], [0] * 9)
+
+
+def twenty_thousand_short_ones(start):
+    """Twenty thousand connections of one request each leave no open file behind."""
+    collector = start("lanes = 4\nnum_traces = 100000\nqueue_capacity = 65536\n" + ALL)
+    want("the answer", collector.ask(post(body_of([ERROR_SPAN])))[::2], (200, "{}"))
+    time.sleep(0.3)
+    before = open_files(collector)
+
+    def asks(at):
+        for number in range(5000):
+            client = collector.client()
+            client.socket.setsockopt(socket.SOL_SOCKET, socket.SO_LINGER, b"\1\0\0\0\0\0\0\0")
+            client.send(post(body_of(spans_by_number(5000 * at + number, 1))))
+            want("the answer", client.answer()[::2], (200, "{}"))
+            client.close()
+
+    side_by_side(asks, range(4))
+    comes_back_to(collector, before, 10)
+    want("the report", collector.close()[1], [20_001, 20_001, 0, 0, 0, 0, 0, 0, 0])
+
+
+def few_may_be_open(start):
+    """At sixteen connections at most, on two lanes: a hundred clients are served one after the other though none of them leaves; one that asked waits for nobody."""
+    collector = start("lanes = 2\nmax_connections = 16\n" + ALL)
+    clients = []
+    for at in range(100):
+        clients.append(collector.client())
+        clients[-1].send(post(body_of(spans_by_number(at, 1))))
+        want(f"the answer to client {at}", clients[-1].answer()[::2], (200, "{}"))
+    time.sleep(0.5)
+    open_now = sum(is_open(it.socket) for it in clients)
+    if not 8 <= open_now <= 18:
+        raise Failure(f"of a hundred connections {open_now} are open")
+    want("the report", collector.close()[1], [100, 100, 0, 0, 0, 0, 0, 0, 0])
+
+
+def is_open(of):
+    """Whether the other side of a socket hasn't ended it."""
+    of.setblocking(False)
+    try:
+        return of.recv(1) != b""
+    except BlockingIOError:
+        return True
+    except ConnectionResetError:
+        return False
+
+
+def few_open_files(start):
+    """With 64 open files and two hundred clients that stay: it goes on serving those that ask, and others once they are gone."""
+    collector = start("lanes = 4\n" + ALL, limits=[(resource.RLIMIT_NOFILE, 64)])
+    clients = [collector.client() for _ in range(200)]
+    for at in range(50):
+        want("the answer beside them", collector.ask(post(body_of(spans_by_number(at, 1))))[::2], (200, "{}"))
+    for client in clients:
+        client.close()
+    for at in range(50):
+        want("the answer behind them", collector.ask(post(body_of(spans_by_number(50 + at, 1))))[::2], (200, "{}"))
+    want("the report", collector.close()[1], [100, 100, 0, 0, 0, 0, 0, 0, 0])
+
+
 def refusals_arrive(start):
-    """A refusal reaches a client that sends all of a long request before it reads: 413, 415, 404 and 431, fifty times each."""
+    """A refusal reaches a client that sends all of a long request before it reads: 413, 415, 404 and 431, two hundred times each."""
     collector = start("lanes = 2\n" + ALL)
     too_long = post(MEGABYTES)
     rows = [
@@ -96,7 +185,7 @@ def refusals_arrive(start):
 
     def asks(at):
         status, request = rows[at]
-        for number in range(50):
+        for number in range(200):
             client = collector.client()
             client.send(request)
             want(f"the status of refusal {number}", client.answer()[0], status)
@@ -127,4 +216,5 @@ def reads_nothing(start):
     deaf.close()
 
 
-CHECKS = [beside_idle_ones, numbered_by_connection, tricklers, refusals_arrive, reads_nothing]
+CHECKS = [beside_idle_ones, numbered_by_connection, tricklers, stays_behind_its_refusal, twenty_thousand_short_ones]
+CHECKS += [few_may_be_open, few_open_files, refusals_arrive, reads_nothing]

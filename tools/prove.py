@@ -4,15 +4,35 @@
 usage: prove.py [--jobs N] [NAME ..]      (at the top of the repository; no name: every crate)
 
 The named crates and those below them are checked as `rt check` does it, over the work that earlier checks kept, which this keeps too; what was proved and
-hasn't changed isn't checked again. It prints a line a crate; what the prover said of it is in crates/NAME/out/check.log. The last line is 'N crates proved, M not'."""
+hasn't changed isn't checked again. It prints a line a crate; what the prover said of it is in crates/NAME/out/check.log. A crate counts as not proved, too,
+where `rt ci` would refuse what `rt check` lets pass: a warning that a pattern of a contract or a definition matches everything; and files that aren't laid
+out as `rt fmt` does it are told behind. The last line is 'N crates proved, M not'."""
 import argparse
 import os
+import re
+import shutil
+import subprocess
 import sys
+import tempfile
 import time
 from concurrent.futures import FIRST_COMPLETED, ThreadPoolExecutor, wait
 from pathlib import Path
 
 from kept import crates_below, keep, proof_of, room_of, run, sum_of
+
+
+REFUSED = re.compile(r"^\./(src|specs)/.*: warning: this pattern binds a variable spelled", re.MULTILINE)
+
+
+def not_laid_out(names):
+    """Returns the files of these crates that `rt fmt` would change."""
+    with tempfile.TemporaryDirectory() as room:
+        shutil.copy("crates.txt", room)
+        for name in names:
+            shutil.copytree(f"crates/{name}", f"{room}/crates/{name}", ignore=shutil.ignore_patterns("out"))
+            subprocess.run(["rt", "fmt"], cwd=f"{room}/crates/{name}", capture_output=True, check=False)
+        files = (it.relative_to(room) for name in names for it in Path(f"{room}/crates/{name}").rglob("*") if it.suffix in {".rt", ".antt"})
+        return sorted(str(it) for it in files if it.read_bytes() != Path(room, it).read_bytes())
 
 
 def prove(name, below, is_used):
@@ -25,6 +45,7 @@ def prove(name, below, is_used):
         if status == 0 and is_used:
             status, more, also, _ = run(room, name, ["rt", "lib", "--jobs", "1"])
             said, seconds = said + more, seconds + also
+        status = status or (1 if REFUSED.search(said) else 0)
         keep(room, name, before if status == 0 else None, said)
     return name, status == 0, seconds
 
@@ -59,8 +80,11 @@ def main():
     proved, failed = prove_all(uses, wanted, words.jobs)
     for name in sorted(failed):
         sys.stdout.write(Path(f"crates/{name}/out/check.log").read_text("utf-8", "replace")[-4000:])
+    changed = not_laid_out(sorted(wanted))
+    for file in changed:
+        print(f"{file} isn't laid out as `rt fmt` does it")
     print(f"{len(proved)} crates proved, {len(wanted - proved)} not")
-    return 1 if wanted - proved else 0
+    return 1 if changed or wanted - proved else 0
 
 
 if __name__ == "__main__":

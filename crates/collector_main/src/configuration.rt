@@ -9,7 +9,6 @@ use std::alloc::Global;
 use std::io::{ErrorKind, Read};
 use std::rt::Files;
 use std::{fs, io};
-use tsc_config::laws::settings_are_of_their_keys;
 use tsc_config::{Config, read};
 
 /// The longest configuration that is read, in bytes.
@@ -82,10 +81,7 @@ pub fn config_in(alloc: Global, bytes: Vec<u8>) -> Result<Config, Outcome>
         return Err(Outcome::Unreadable);
     };
     match read(alloc, text.as_str()) {
-        Ok(config) => {
-            settings_are_of_their_keys();
-            Ok(config)
-        }
+        Ok(config) => Ok(config),
         Err(fault) => Err(Outcome::Configuration(fault)),
     }
 }

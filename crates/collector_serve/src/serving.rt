@@ -3,6 +3,7 @@ ghost use Rattle.std.specs.Prelude.{◌≡◌, ◌<◌, ◌-◌, ◌^◌, All, I
 ghost use Rattle.pipeline.specs.Outcome.{SinkAnswers};
 ghost use Rattle.pipeline.specs.Promise.{CoreRunTells};
 ghost use Rattle.tsc_config.specs.Values.{InRange};
+ghost use Rattle.collector_serve.specs.Sharing.{share_of};
 
 use crate::ticker::Ticker;
 use drop_ledger::Report;
@@ -62,6 +63,18 @@ pub fn serve_on<
     )
 }
 
+/// How many connections a lane may have.
+fn share(connections: usize, lanes: usize) -> usize
+    requires { 0 < lanes }
+    ensures { result ≡ share_of connections lanes }
+{
+    if lanes <= connections {
+        connections / lanes
+    } else {
+        1
+    }
+}
+
 /// What drives each lane, and whether packed bodies are taken there. Each has its share of the connections that may be open at once.
 fn drivers<'l, P: Stop, R: Net + Clock>(
     rt: &R,
@@ -72,10 +85,11 @@ fn drivers<'l, P: Stop, R: Net + Clock>(
 ) -> io::Result<Vec<ByTurns<TurnDriver<'l, P>>>>
     requires { 0 < config.now.lanes }
     ensures lanes { IfOk result (λ drivers. vec_len drivers ≡ config.now.lanes) }
+    ensures shares { IfOk result (λ drivers. All (λ it. it.driver.links.limit ≡ share_of config.now.max_connections config.now.lanes) drivers.items) }
     ensures gzip { IfOk result (λ drivers. All (λ it. it.takes_gzip ≡ config.now.accept_gzip) drivers.items) }
 {
     let lanes = config.lanes as usize;
-    let limit = (config.max_connections / lanes).max(1);
+    let limit = share(config.max_connections, lanes);
     let mut drivers = Vec::with_capacity(alloc, lanes)?;
     for _ in 0..lanes {
         let driver = TurnDriver::new(rt, alloc, listener, stop, limit)?;

@@ -9,7 +9,10 @@
 
 mod driver;
 mod link;
+mod links;
 mod outgoing;
+mod readiness;
+mod walk;
 
 pub use driver::TurnDriver;
 pub use link::{LINGER_BYTES, LINGER_LIMIT, WRITE_LIMIT};

@@ -3,6 +3,7 @@ ghost use Rattle.std.specs.Prelude.{◌≡◌, ◌<◌, ◌≤◌, ℕ, [], leng
 
 use crate::outgoing::{Outgoing, Sent};
 use http_lane::ServeEnd;
+use lane_turns::Leaving;
 use mio::net::TcpStream;
 use std::alloc::{AllocError, Global};
 use std::io::{ErrorKind, Read};
@@ -43,6 +44,19 @@ pub enum Step {
     GoesOn,
     /// It is over.
     Over,
+}
+
+/// What a look at a connection comes to.
+#[derive(Clone, Copy, PartialEq, Eq)]
+pub enum Looked {
+    /// It waits on, and is to be looked at again at this moment.
+    Waits(u64),
+    /// It is over.
+    Over,
+    /// It leaves.
+    Leaves(Leaving),
+    /// It has a turn that brings nothing.
+    HasTurn,
 }
 
 /// What a read that doesn't wait gave.
@@ -100,6 +114,30 @@ impl Link {
             return self.due;
         }
         self.since.saturating_add(WRITE_LIMIT)
+    }
+
+    /// What a look at it comes to now, where `stopping` is the moment from which on no request goes on.
+    pub fn looked_at(&self, now: u64, stopping: Option<u64>) -> Looked {
+        let is_blocked = !self.outgoing.is_empty();
+        let is_idle = self.is_idle && !is_blocked;
+        let is_cut = match stopping {
+            Some(moment) => now >= moment,
+            None => false,
+        };
+        let ends_idle = self.phase == Phase::Serving && is_idle && stopping.is_some();
+        if !is_cut && now < self.deadline() && !ends_idle {
+            return Looked::Waits(self.deadline());
+        }
+        if self.phase != Phase::Serving {
+            return Looked::Over;
+        }
+        if is_cut && !is_idle {
+            return Looked::Leaves(Leaving::ReadFailed);
+        }
+        if is_blocked {
+            return Looked::Leaves(Leaving::WriteFailed);
+        }
+        Looked::HasTurn
     }
 
     /// An answer is to be sent. `Err`: there is no memory to keep it.

@@ -11,6 +11,7 @@
 //! `specs/`, their reading order in its `Lib`.
 #![tactic(auto)]
 
+mod bell;
 mod ends;
 mod gate;
 mod law;

@@ -14,7 +14,6 @@ use std::sync::atomic::AtomicBool;
 use std::test::Fail;
 use std::thread::Threads;
 use std::time::Clock;
-use tsc_config::laws::settings_are_of_their_keys;
 use tsc_config::{Config, ConfigFault, read};
 
 /// A trace of shard 0 of two, and one of shard 1.
@@ -64,10 +63,7 @@ pub fn configured(alloc: Global, text: &str) -> Result<Config, Fail>
     ensures { IfOk result InRange }
 {
     match read(alloc, text) {
-        Ok(config) => {
-            settings_are_of_their_keys();
-            Ok(config)
-        }
+        Ok(config) => Ok(config),
         Err(ConfigFault::NoMemory) => Err(Fail::from(AllocError)),
         Err(_) => Err(Fail::from("configuration")),
     }

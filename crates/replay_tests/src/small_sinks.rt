@@ -8,7 +8,6 @@ use span_ids::Reason;
 use span_sink::{Sink, SinkFault};
 use std::alloc::{AllocError, Global};
 use std::test::Fail;
-use tsc_config::laws::settings_are_of_their_keys;
 use tsc_config::{Config, ConfigFault, read};
 use tsc_script::Reads;
 
@@ -86,10 +85,7 @@ fn configured(alloc: Global) -> Result<Config, Fail>
     ensures { IfOk result InRange }
 {
     match read(alloc, ERRORS) {
-        Ok(config) => {
-            settings_are_of_their_keys();
-            Ok(config)
-        }
+        Ok(config) => Ok(config),
         Err(ConfigFault::NoMemory) => Err(Fail::from(AllocError)),
         Err(_) => Err(Fail::from("configuration")),
     }

@@ -58,8 +58,8 @@ KeyHas false kind at fault = OptionalHas (ValueHas kind) at fault
 
 -- one of these settings has this fault
 abbrev pub SomeSettingHas : List Setting → Members → ConfigFault → Type 0
-SomeSettingHas [] members fault = ⊥
-SomeSettingHas (s ∷ rest) members fault = KeyHas s.is_required s.value (get_member s.name members) fault ⊎ SomeSettingHas rest members fault
+SomeSettingHas [] given fault = ⊥
+SomeSettingHas (s ∷ rest) given fault = KeyHas s.is_required s.value (get_member s.name given) fault ⊎ SomeSettingHas rest given fault
 
 -- some row of the settings of a policy of this type, but for the policies that it is made of, has this fault
 abbrev pub RowsHave : PolicyType → Members → ConfigFault → Type 0

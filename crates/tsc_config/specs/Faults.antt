@@ -131,8 +131,8 @@ setting_fault s members =
 
 -- the rows of these settings
 abbrev pub each_setting_fault : List Setting → Members → Option ConfigFault
-each_setting_fault [] members = None
-each_setting_fault (s ∷ rest) members = least (setting_fault s members) (each_setting_fault rest members)
+each_setting_fault [] given = None
+each_setting_fault (s ∷ rest) given = least (setting_fault s given) (each_setting_fault rest given)
 
 -- the rows of the settings of a policy of this type, but for the policies that it is made of
 abbrev pub rows_fault : PolicyType → Members → Option ConfigFault

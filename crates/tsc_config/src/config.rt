@@ -114,6 +114,7 @@ pub fn read(alloc: Global, text: &str) -> Result<Config, ConfigFault>
     ensures queue { IfOk result (λ config. 0 < config.queue_capacity) }
     ensures export { IfOk result (λ config. 0 < config.export_capacity) }
     ensures batch { IfOk result (λ config. 0 < config.send_batch_size) }
+    ensures connections { IfOk result (λ config. 0 < config.max_connections) }
     ensures ticks { IfOk result (λ config. 0 < config.tick) }
     ensures memory { IfErr result (λ fault. fault ≡ NoMemory → ¬ IsBlank text.now) }
 {

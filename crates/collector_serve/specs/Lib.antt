@@ -1,0 +1,2 @@
+-- Sharing: how many connections each lane may have.
+pub mod Sharing

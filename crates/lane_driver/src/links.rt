@@ -1,0 +1,133 @@
+//! The sockets of a lane's connections.
+ghost use Rattle.std.specs.Prelude.{◌≡◌, ◌≤◌, ◌<◌, ◌+◌, IfSome, IsFalse, IsTrue};
+ghost use Rattle.slab.specs.Slab.{slab_len};
+
+use crate::link::{Link, Phase};
+use slab::Slab;
+use std::alloc::Global;
+use std::collections::VecDeque;
+
+/// The sockets of the connections that are served, and of those whose last answer is under way, each at its place.
+#[derive(Drop)]
+pub struct Links {
+    slab: Slab<Link>,
+    /// So many are open at once at most, besides one that came last.
+    pub limit: usize,
+    /// Places from which on there is no link.
+    pub end: usize,
+    /// The places of those that are to be served.
+    ready: VecDeque<usize>,
+}
+
+impl Links {
+    /// None.
+    pub fn new(alloc: Global, limit: usize) -> Self
+        ensures { result.limit ≡ limit }
+    {
+        Links {
+            slab: Slab::new(alloc),
+            limit,
+            end: 0,
+            ready: VecDeque::new(alloc),
+        }
+    }
+
+    /// How many there are.
+    pub fn len(&self) -> usize
+        ensures { result ≡ slab_len self.now.slab }
+    {
+        self.slab.len()
+    }
+
+    /// Whether there is none.
+    pub fn is_empty(&self) -> bool {
+        self.slab.is_empty()
+    }
+
+    /// Whether as many as may be are open, or more.
+    pub fn is_at_limit(&self) -> bool
+        ensures { IsFalse result → slab_len self.now.slab < self.now.limit }
+    {
+        self.slab.len() >= self.limit
+    }
+
+    /// Whether more are open than may be.
+    pub fn is_beyond_limit(&self) -> bool
+        ensures { IsFalse result → slab_len self.now.slab ≤ self.now.limit }
+    {
+        self.slab.len() > self.limit
+    }
+
+    /// The link at this place.
+    pub fn get(&self, place: usize) -> Option<&Link> {
+        self.slab.get(place)
+    }
+
+    /// The same, to be changed.
+    pub fn get_mut(&mut self, place: usize) -> Option<&mut Link> {
+        self.slab.get_mut(place)
+    }
+
+    /// One more, and its place. `None`: there is no memory for it, or more are open than may be.
+    pub fn insert(&mut self, link: Link) -> Option<usize>
+        ensures { IfSome result (λ _. slab_len self.new.slab ≤ self.new.limit + 1) }
+    {
+        if self.is_beyond_limit() {
+            return None;
+        }
+        let place = self.slab.insert(link).ok()?;
+        self.end = self.end.max(place.saturating_add(1));
+        Some(place)
+    }
+
+    /// Closes the socket at this place.
+    pub fn remove(&mut self, place: usize) {
+        let _ = self.slab.try_remove(place);
+    }
+
+    /// The link at this place is to be served.
+    pub fn list(&mut self, place: usize) {
+        let mut is_new = false;
+        if let Some(link) = self.slab.get_mut(place) {
+            is_new = !link.is_listed;
+            link.is_listed = true;
+        }
+        if is_new && self.ready.push_back(place).is_err() {
+            self.unlist(place);
+        }
+    }
+
+    fn unlist(&mut self, place: usize) {
+        if let Some(link) = self.slab.get_mut(place) {
+            link.is_listed = false;
+        }
+    }
+
+    /// The place of the next of those that are to be served, which it is no more.
+    pub fn next_ready(&mut self) -> Option<usize> {
+        let place = self.ready.pop_front()?;
+        self.unlist(place);
+        Some(place)
+    }
+
+    /// How many are to be served.
+    pub fn ready_count(&self) -> usize {
+        self.ready.len()
+    }
+
+    /// The place and the key of the connection that has been idle longest, of those that would be idle too long by this moment.
+    pub fn idle_longest(&self, by: u64) -> Option<(usize, usize)> {
+        let mut found = None;
+        let mut least = by;
+        for place in 0..self.end {
+            if let Some(link) = self.slab.get(place) {
+                let is_idle = link.is_idle && link.phase == Phase::Serving;
+                if is_idle && link.outgoing.is_empty() && link.due < least {
+                    least = link.due;
+                    found = Some((place, link.key));
+                }
+            }
+        }
+        found
+    }
+}
