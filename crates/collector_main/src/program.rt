@@ -7,7 +7,7 @@ ghost use Rattle.collector_main.specs.Ending.{WritesText, HandsText, Finishes, A
 ghost use Rattle.collector_main.specs.declared.program.Outcome.TheVariants.{NoMemory};
 
 use crate::configuration::{FileFault, config_of, read_file};
-use collector_serve::{StopMark, WallClock, listen, serve_on};
+use collector_serve::{StopMark, WallClock, drivers, listen, serve_on};
 use drop_ledger::{Count, Report};
 use itoa::Buffer;
 use lane_seq::put;
@@ -16,7 +16,7 @@ use script_session::{RunFault, replay_run};
 use span_ids::Reason;
 use span_sink::{LineSink, Sink, WriteSink};
 use std::alloc::Global;
-use std::io::Write;
+use std::io::{ErrorKind, Write};
 use std::net::{Net, TcpListener, TcpStream};
 use std::rt::Files;
 use std::sync::Wait;
@@ -56,7 +56,7 @@ pub enum Outcome {
     NoMemory,
     /// A count would have passed 2^64-1.
     BookFull,
-    /// The address can't be listened at.
+    /// The address can't be listened at, or too many files are open for a lane to watch its connections.
     CannotListen,
 }
 
@@ -208,10 +208,15 @@ fn serve_by<
     let Ok(listener) = listen(rt, config.listen.as_str()) else {
         return (writer, Outcome::CannotListen);
     };
+    let stop = StopMark::new();
+    let drivers = match drivers(rt, alloc, &config, &listener, &stop) {
+        Ok(drivers) => drivers,
+        Err(error) if error.kind() == ErrorKind::OutOfMemory => return (writer, Outcome::NoMemory),
+        Err(_) => return (writer, Outcome::CannotListen),
+    };
     let clock = WallClock::new(rt);
     let sink = WriteSink::new(writer);
-    let stop = StopMark::new();
-    let (sink, answer) = serve_on(rt, alloc, config, &listener, sink, &stop, &clock);
+    let (sink, answer) = serve_on(rt, alloc, config, drivers, sink, &stop, &clock);
     (sink.end(), served_to(answer))
 }
 

@@ -9,7 +9,7 @@ mod ticker;
 mod wall_clock;
 
 pub use connections::Connections;
-pub use serving::{listen, serve_on};
+pub use serving::{drivers, listen, serve_on};
 pub use stop_mark::StopMark;
 pub use ticker::Ticker;
 pub use wall_clock::WallClock;

@@ -10,6 +10,7 @@ use drop_ledger::Report;
 use http_lane::{Clock as Moments, Stop};
 use lane_driver::TurnDriver;
 use lane_queue::OpenGate;
+use lane_turns::Driver;
 use lane_worker::ByTurns;
 use pipeline::{RunFault, run_by_turns};
 use span_sink::Sink;
@@ -31,32 +32,31 @@ pub fn listen<R: Net<Listener = TcpListener, Stream = TcpStream>>(
     Ok(listener)
 }
 
-/// Runs the collector on a listener that doesn't block, until a request says `POST /close`, which sets the mark, or it is set
+/// Runs the collector on what drives its lanes, until a request says `POST /close`, which sets the mark, or it is set
 /// otherwise. It may be set already: then what is asked on a connection that waits is refused. It gives the sink back, and the
-/// report of all spans: what the threads did is a run of the core. `NoMemory`: there was none at the start, or a lane can't
-/// watch its connections, and no connection was taken.
+/// report of all spans: what the threads did is a run of the core. `NoMemory`: there was none at the start, and no connection
+/// was taken.
 pub fn serve_on<
+    D: Driver + Send + Drop,
     S: Sink + Drop,
     P: Stop + Sync,
     M: Moments + Sync,
-    R: Net + Threads + Wait + Clock + Sync,
+    R: Threads + Wait + Clock + Sync,
 >(
     rt: &R,
     alloc: Global,
     config: Config,
-    listener: &TcpListener,
+    drivers: Vec<ByTurns<D>>,
     sink: S,
     stop: &P,
     clock: &M,
 ) -> (S, Result<Report, RunFault>)
     requires ranges { InRange config }
+    requires drivers { vec_len drivers ≡ config.lanes }
     requires failures { S.failures sink < 2 ^ 64 - 1 }
     ensures sink { SinkAnswers (S.taken sink) (S.failures sink) (S.taken result.0) (S.failures result.0) result.1 }
     ensures ran { CoreRunTells config (S.taken sink) (S.failures sink) (S.taken result.0) (S.failures result.0) result.1 }
 {
-    let Ok(drivers) = drivers(rt, alloc, &config, listener, stop) else {
-        return (sink, Err(RunFault::NoMemory));
-    };
     let ticks = Ticker::new(config.tick, clock, stop);
     run_by_turns(
         rt, alloc, config, drivers, ticks, sink, &OpenGate, stop, clock,
@@ -75,8 +75,9 @@ fn share(connections: usize, lanes: usize) -> usize
     }
 }
 
-/// What drives each lane, and whether packed bodies are taken there. Each has its share of the connections that may be open at once.
-fn drivers<'l, P: Stop, R: Net + Clock>(
+/// What drives each lane, and whether packed bodies are taken there. Each has its share of the connections that may be open at
+/// once. `Err`: there is no memory, or too many files are open for a lane to watch its connections.
+pub fn drivers<'l, P: Stop, R: Net + Clock>(
     rt: &R,
     alloc: Global,
     config: &Config,
