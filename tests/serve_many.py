@@ -13,10 +13,13 @@ MEGABYTES = b" " * 5_000_000
 
 
 def beside_idle_ones(start):
-    """Two hundred idle connections on one lane hold none of eight busy ones; and each of them is served when it asks."""
-    collector = start("num_traces = 10000\nqueue_capacity = 65536\n" + ALL)
-    idle = [collector.client() for _ in range(200)]
-    busy = [collector.client() for _ in range(8)]
+    """Ten thousand idle connections on four lanes (as many as may be open here) hold none of sixteen busy ones; and those are served when they ask."""
+    most = resource.getrlimit(resource.RLIMIT_NOFILE)[1]
+    resource.setrlimit(resource.RLIMIT_NOFILE, (most, most))
+    count = min(10_000, most - 200)
+    collector = start("lanes = 4\nmax_connections = 16384\nnum_traces = 10000\nqueue_capacity = 65536\n" + ALL)
+    idle = [collector.client() for _ in range(count)]
+    busy = [collector.client() for _ in range(16)]
     began = time.monotonic()
 
     def asks(at):
@@ -24,14 +27,17 @@ def beside_idle_ones(start):
             busy[at].send(post(body_of(spans_by_number(25 * at + number, 1))))
             want("the answer", busy[at].answer()[::2], (200, "{}"))
 
-    side_by_side(asks, range(8))
-    at_most("two hundred requests beside idle connections", 10, began)
-    for at, client in enumerate(idle):
+    side_by_side(asks, range(16))
+    at_most("four hundred requests beside idle connections", 10, began)
+    for at, client in enumerate(idle[::10]):
         client.send(post(body_of(spans_by_number(1000 + at, 1))))
         want("the answer to one that was idle", client.answer()[::2], (200, "{}"))
     began = time.monotonic()
-    want("the report", collector.close()[1], [400, 400, 0, 0, 0, 0, 0, 0, 0])
+    received = 400 + len(idle[::10])
+    want("the report", collector.close()[1], [received, received, 0, 0, 0, 0, 0, 0, 0])
     at_most("the close beside idle connections", 5, began)
+    for client in idle:
+        client.close()
 
 
 def numbered_by_connection(start):

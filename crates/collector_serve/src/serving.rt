@@ -8,7 +8,7 @@ ghost use Rattle.collector_serve.specs.Sharing.{share_of};
 use crate::ticker::Ticker;
 use drop_ledger::Report;
 use http_lane::{Clock as Moments, Stop};
-use lane_driver::TurnDriver;
+use lane_driver::{Loads, TurnDriver};
 use lane_queue::OpenGate;
 use lane_turns::Driver;
 use lane_worker::ByTurns;
@@ -17,7 +17,7 @@ use span_sink::Sink;
 use std::alloc::Global;
 use std::io;
 use std::net::{Net, TcpListener, TcpStream};
-use std::sync::Wait;
+use std::sync::{Arc, Wait};
 use std::thread::Threads;
 use std::time::Clock;
 use tsc_config::Config;
@@ -91,9 +91,11 @@ pub fn drivers<'l, P: Stop, R: Net + Clock>(
 {
     let lanes = config.lanes as usize;
     let limit = share(config.max_connections, lanes);
+    let loads = Arc::new(alloc, Loads::new(alloc, lanes)?)?;
     let mut drivers = Vec::with_capacity(alloc, lanes)?;
-    for _ in 0..lanes {
-        let driver = TurnDriver::new(rt, alloc, listener, stop, limit)?;
+    for lane in 0..lanes {
+        let loads = Arc::try_clone(&loads)?;
+        let driver = TurnDriver::new(rt, alloc, listener, stop, limit, loads, lane)?;
         drivers.push(ByTurns {
             driver,
             takes_gzip: config.accept_gzip,

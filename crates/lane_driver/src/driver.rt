@@ -4,7 +4,8 @@ ghost use Rattle.lane_turns.specs.Driving.{FitsNext};
 
 use crate::link::{Got, Link, Looked, Phase, Step};
 use crate::links::Links;
-use crate::readiness::{Accepted, EVENTS, Readiness, Ready};
+use crate::loads::Loads;
+use crate::readiness::{Accepted, EVENTS, NAP, Readiness, Ready};
 use crate::walk::Walk;
 use http_lane::{IDLE_LIMIT, ServeEnd, Stop};
 use lane_turns::{Done, Driver, Leaving, Next};
@@ -12,17 +13,11 @@ use mio::net::TcpStream;
 use std::alloc::Global;
 use std::io;
 use std::net::{Net, TcpListener};
-use std::sync::Wait;
+use std::sync::{Arc, Wait};
 use std::time::Clock;
 
 /// So many reads a connection has at a turn.
 const READS: usize = 4;
-
-/// So long a lane that has connections leaves a new one to the others at most, in milliseconds.
-const PATIENCE: u64 = 8;
-
-/// So long it waits at most before it looks at the mark to stop, in milliseconds.
-const NAP: u64 = 100;
 
 /// One that has been idle for less isn't closed because too many files are open, in milliseconds.
 const GRACE: u64 = 1_000;
@@ -70,13 +65,16 @@ pub struct TurnDriver<'l, P: Stop> {
 }
 
 impl<'l, P: Stop> TurnDriver<'l, P> {
-    /// One with no connection, which has `limit` connections open at most.
+    /// One with no connection, which has `limit` connections open at most; `loads` has how many each lane has, and this is the
+    /// lane of that number.
     pub fn new<R: Net + Clock>(
         rt: &R,
         alloc: Global,
         listener: &'l TcpListener,
         stop: &'l P,
         limit: usize,
+        loads: Arc<Loads, Global>,
+        lane: usize,
     ) -> io::Result<Self>
         ensures { IfOk result (λ driver. driver.links.limit ≡ limit) }
     {
@@ -84,7 +82,7 @@ impl<'l, P: Stop> TurnDriver<'l, P> {
             alloc,
             stop,
             readiness: Readiness::new(rt, alloc, listener)?,
-            links: Links::new(alloc, limit),
+            links: Links::new(alloc, limit, loads, lane),
             to_serve: 0,
             current: None,
             reads: 0,
@@ -179,16 +177,6 @@ impl<'l, P: Stop> TurnDriver<'l, P> {
         Follows::Do(Next::Leave { key, how })
     }
 
-    /// From when on a new connection is taken: the fewer connections a lane has the sooner, so that they are spread over the
-    /// lanes; and one that has no room for it leaves it to the others for a while.
-    fn patience(&self) -> u64 {
-        if self.links.is_at_limit() {
-            return self.now.saturating_add(NAP);
-        }
-        let count = u64::try_from(self.links.len()).unwrap_or(PATIENCE);
-        self.now.saturating_add(count.min(PATIENCE))
-    }
-
     /// Takes a connection of the listener, unless as many as may be are open and none is idle. Where there is then one too many, the
     /// one that has been idle longest leaves.
     fn take(&mut self, piece: &mut [u8]) -> Follows
@@ -196,7 +184,7 @@ impl<'l, P: Stop> TurnDriver<'l, P> {
         ensures { (next : Next) → result ≡ Follows.Do next → FitsNext next (length piece.old) }
     {
         self.to_take = self.to_take.saturating_sub(1);
-        self.take_from = self.patience();
+        self.take_from = self.links.patience(self.now);
         if self.links.is_beyond_limit() {
             return self.make_room(piece, u64::MAX);
         }
@@ -365,7 +353,7 @@ impl<'l, P: Stop> TurnDriver<'l, P> {
             match self.readiness.next() {
                 Some(Ready::Listener) => {
                     if !self.may_take {
-                        self.take_from = self.patience();
+                        self.take_from = self.links.patience(self.now);
                     }
                     self.may_take = true;
                 }

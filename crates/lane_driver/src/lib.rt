@@ -10,10 +10,12 @@
 mod driver;
 mod link;
 mod links;
+mod loads;
 mod outgoing;
 mod readiness;
 mod walk;
 
 pub use driver::TurnDriver;
 pub use link::{LINGER_BYTES, LINGER_LIMIT, WRITE_LIMIT};
+pub use loads::Loads;
 pub use outgoing::{Outgoing, Sent};

@@ -3,9 +3,15 @@ ghost use Rattle.std.specs.Prelude.{◌≡◌, ◌≤◌, ◌<◌, ◌+◌, IfSo
 ghost use Rattle.slab.specs.Slab.{slab_len};
 
 use crate::link::{Link, Phase};
+use crate::loads::Loads;
+use crate::readiness::NAP;
 use slab::Slab;
 use std::alloc::Global;
 use std::collections::VecDeque;
+use std::sync::Arc;
+
+/// So long a lane that doesn't have the fewest connections leaves a new one to the others at most, in milliseconds.
+const PATIENCE: u64 = 8;
 
 /// The sockets of the connections that are served, and of those whose last answer is under way, each at its place.
 #[derive(Drop)]
@@ -17,11 +23,14 @@ pub struct Links {
     pub end: usize,
     /// The places of those that are to be served.
     ready: VecDeque<usize>,
+    /// How many each lane has, and the number of this one.
+    loads: Arc<Loads, Global>,
+    lane: usize,
 }
 
 impl Links {
     /// None.
-    pub fn new(alloc: Global, limit: usize) -> Self
+    pub fn new(alloc: Global, limit: usize, loads: Arc<Loads, Global>, lane: usize) -> Self
         ensures { result.limit ≡ limit }
     {
         Links {
@@ -29,6 +38,8 @@ impl Links {
             limit,
             end: 0,
             ready: VecDeque::new(alloc),
+            loads,
+            lane,
         }
     }
 
@@ -49,6 +60,16 @@ impl Links {
         ensures { IsFalse result → slab_len self.now.slab < self.now.limit }
     {
         self.slab.len() >= self.limit
+    }
+
+    /// From when on a new connection is taken: at once by the lane that has the fewest, by another the sooner the fewer more it
+    /// has; and one that has no room for it leaves it to the others for a while.
+    pub fn patience(&self, now: u64) -> u64 {
+        if self.is_at_limit() {
+            return now.saturating_add(NAP);
+        }
+        let more = (self.slab.len() as u64).saturating_sub(self.loads.least());
+        now.saturating_add(more.min(PATIENCE))
     }
 
     /// Whether more are open than may be.
@@ -77,12 +98,14 @@ impl Links {
         }
         let place = self.slab.insert(link).ok()?;
         self.end = self.end.max(place.saturating_add(1));
+        self.loads.set(self.lane, self.slab.len());
         Some(place)
     }
 
     /// Closes the socket at this place.
     pub fn remove(&mut self, place: usize) {
         let _ = self.slab.try_remove(place);
+        self.loads.set(self.lane, self.slab.len());
     }
 
     /// The link at this place is to be served.

@@ -12,6 +12,9 @@ use std::time::{Clock, Duration, Instant};
 /// The listener's token; a connection's is its place among the links.
 const LISTENER: Token = Token(usize::MAX);
 
+/// So long a lane waits at most before it looks at the mark to stop, in milliseconds.
+pub const NAP: u64 = 100;
+
 /// So many are found at once at most.
 pub const EVENTS: usize = 256;
 

@@ -1,7 +1,8 @@
-use Rattle.std.proofs.Common.{◌≡◌, ℕ, List, Option, refl, sym, subst}
+use Rattle.std.proofs.Common.{◌≡◌, ℕ, List, Option, Err, refl, sym, subst}
 use Rattle.span_sink.specs.Sinks.{SinkState}
 use Rattle.pipeline.specs.Outcome.{SinkAnswers}
 use Rattle.pipeline.specs.Promise.{CoreRunTells}
+use Rattle.pipeline.specs.declared.fault.RunFault.TheVariants.{NoMemory}
 use Rattle.collector_main.specs.Configuration.{file_of}
 use Rattle.collector_main.specs.Ending.{Course, Serves}
 use Rattle.collector_main.specs.declared.program.Outcome.{Outcome}
@@ -29,3 +30,15 @@ returns g c = λ arguments unread.
     let now = course (g.W.Write.contents c.args.writer) (g.W.Write.contents c.end.result) in
     let P : Outcome → Type 0 = λ outcome. Serves now outcome in
     subst P (sym c.served_to.ensures) (Serves-ran now c.in-Ok.config after.failures answer c.in-Ok.ensures.is_read refl tells ran)
+
+pub returns-in-Err-drivers : goal.returns-in-Err-drivers
+returns-in-Err-drivers g c = λ arguments unread.
+    let now : Course = record {
+      arguments = arguments;
+      file = file_of (λ v. v.items) c.args.file;
+      unread = unread;
+      unread_after = unread;
+      taken = g.W.Write.contents c.args.writer;
+      taken_after = g.W.Write.contents c.args.writer;
+    } in
+    Serves-ran now c.in-Ok.config 0 (Err NoMemory) c.in-Ok.ensures.is_read refl (refl, refl) tt

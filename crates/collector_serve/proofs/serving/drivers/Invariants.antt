@@ -2,6 +2,6 @@ use Rattle.std.proofs.Common.{◌≡◌, vec_len, All}
 use Rattle.collector_serve.specs.Sharing.{share_of}
 use Rattle.collector_serve.proofs.serving.drivers.Given as goal
 
-abbrev pub invariant-loop : goal.invariant-loop
-invariant-loop g l = (vec_len l.drivers ≡ l.counter) × All (λ it. it.takes_gzip ≡ l.config.accept_gzip) l.drivers.items
+abbrev pub invariant-loop-lane : goal.invariant-loop-lane
+invariant-loop-lane g l = (vec_len l.drivers ≡ l.lane) × All (λ it. it.takes_gzip ≡ l.config.accept_gzip) l.drivers.items
     × All (λ it. it.driver.links.limit ≡ share_of l.config.max_connections l.config.lanes) l.drivers.items

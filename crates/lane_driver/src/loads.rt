@@ -1,0 +1,36 @@
+//! How many connections each lane has, so that a new one goes to the lane that has the fewest.
+use std::alloc::{AllocError, Global};
+use std::sync::atomic::{AtomicU64, Ordering};
+
+/// A number for each lane, which that lane writes and all read.
+#[derive(Drop)]
+pub struct Loads {
+    counts: Vec<AtomicU64>,
+}
+
+impl Loads {
+    /// Of so many lanes, none of which has a connection.
+    pub fn new(alloc: Global, lanes: usize) -> Result<Self, AllocError> {
+        let mut counts = Vec::with_capacity(alloc, lanes)?;
+        for _ in 0..lanes {
+            counts.push(AtomicU64::new(0))?;
+        }
+        Ok(Loads { counts })
+    }
+
+    /// The lane has so many now.
+    pub fn set(&self, lane: usize, count: usize) {
+        if let Some(it) = self.counts.get(lane) {
+            it.store(count as u64, Ordering::SeqCst);
+        }
+    }
+
+    /// The fewest that a lane has.
+    pub fn least(&self) -> u64 {
+        let mut least = u64::MAX;
+        for it in self.counts.iter() {
+            least = least.min(it.load(Ordering::SeqCst));
+        }
+        least
+    }
+}
