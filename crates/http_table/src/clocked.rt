@@ -1,7 +1,7 @@
 //! One connection by a clock: a row of `turns.tsv` has a name, what a driver says, the bytes that are answered, and how the
 //! connection ends and at which of these steps. The steps, parted by ` | `: `take MOMENT`, `came MOMENT BYTES`, `look MOMENT`,
 //! `over MOMENT`, `read_failed MOMENT`, `write_failed MOMENT`, `dismiss MOMENT`, and `stop MOMENT`, which sets the stop mark.
-ghost use Rattle.std.specs.Prelude.{◌≡◌, ◌<◌, ◌≤◌, length};
+ghost use Rattle.std.specs.Prelude.{◌≡◌, ◌<◌, ◌≤◌, length, ⊤};
 ghost use Rattle.lane_turns.specs.Driving.{FitsNext};
 
 use crate::column::bytes_of;
@@ -64,6 +64,10 @@ fn said(step: &Step, key: usize, piece: &mut [u8]) -> Option<Next>
 }
 
 impl<'t> Driver for Script<'t> {
+    ghost asks = { λ old next moment piece new. ⊤ };
+
+    ghost hears = { λ old done text new. ⊤ };
+
     fn next<R: Wait + Clock>(&mut self, rt: &R, piece: &mut [u8]) -> (Next, u64) {
         for _ in rt.forever() {
             let Some(step) = self.steps.get(self.at) else {

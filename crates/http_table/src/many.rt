@@ -1,5 +1,5 @@
 //! The same exchange on several connections of a lane at once, whose pieces are dealt at random.
-ghost use Rattle.std.specs.Prelude.{◌≡◌, ◌<◌, ◌≤◌, length};
+ghost use Rattle.std.specs.Prelude.{◌≡◌, ◌<◌, ◌≤◌, length, ⊤};
 ghost use Rattle.lane_turns.specs.Driving.{FitsNext};
 
 use crate::peers::{Mark, Tail, Ticks};
@@ -130,6 +130,10 @@ impl<'b> Deal<'b> {
 }
 
 impl<'b> Driver for Deal<'b> {
+    ghost asks = { λ old next moment piece new. ⊤ };
+
+    ghost hears = { λ old done text new. ⊤ };
+
     fn next<R: Wait + Clock>(&mut self, _rt: &R, piece: &mut [u8]) -> (Next, u64) {
         (self.deal(piece), 0)
     }

@@ -1,5 +1,5 @@
 //! Which connection has its turn next.
-ghost use Rattle.std.specs.Prelude.{◌≡◌, ◌<◌, ◌≤◌, Some, IfOk, length};
+ghost use Rattle.std.specs.Prelude.{◌≡◌, ◌<◌, ◌≤◌, Some, IfOk, length, ⊤};
 ghost use Rattle.lane_turns.specs.Driving.{FitsNext};
 
 use crate::link::{Got, Link, Looked, Phase, Step};
@@ -415,6 +415,10 @@ impl<'l, P: Stop> TurnDriver<'l, P> {
 }
 
 impl<'l, P: Stop> Driver for TurnDriver<'l, P> {
+    ghost asks = { λ old next moment piece new. ⊤ };
+
+    ghost hears = { λ old done text new. ⊤ };
+
     fn next<R: Wait + Clock>(&mut self, rt: &R, piece: &mut [u8]) -> (Next, u64) {
         for _ in rt.forever() {
             match self.step(piece) {

@@ -1,2 +1,3 @@
 pub mod Runs
 mod Uncounted
+mod Told

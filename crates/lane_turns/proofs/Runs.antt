@@ -47,11 +47,11 @@ one_of e = cc e
 
 -- ---- runs
 
-of_own : (A B : Type 0) (b : Bool) → b ≡ true → A → MatchBool b A B
+pub of_own : (A B : Type 0) (b : Bool) → b ≡ true → A → MatchBool b A B
 of_own A B true e a = a
 of_own A B false e a = absurd cc
 
-of_other : (A B : Type 0) (b : Bool) → b ≡ false → B → MatchBool b A B
+pub of_other : (A B : Type 0) (b : Bool) → b ≡ false → B → MatchBool b A B
 of_other A B true e x = absurd cc
 of_other A B false e x = x
 
@@ -71,7 +71,7 @@ turns_more k (took i m ∷ acts) c mid j after t next own ends turn r = either_w
 turns_more k (had i b a u ∷ acts) c mid j after t next own ends turn r =
     either_way (i == k) (λ x. (x.0, x.1, x.2, x.3, turns_more k acts (numbered x.2 a) mid j after t next own ends turn x.4)) (λ x. turns_more k acts c mid j after t next own ends turn x) r
 
-run_more : (g : Bool) → (k : ℕ) (acts : List Act) (mid : Numbered) (j after : ℕ) (t : Turned) (next : Waiting) → (j == k) ≡ true → mid.waiting.end ≡ None → IsTurn mid.waiting t next
+pub run_more : (g : Bool) → (k : ℕ) (acts : List Act) (mid : Numbered) (j after : ℕ) (t : Turned) (next : Waiting) → (j == k) ≡ true → mid.waiting.end ≡ None → IsTurn mid.waiting t next
     → RunOf g k acts mid → RunOf g k (acts ++ had j mid.next after t ∷ []) (numbered next after)
 run_more g k [] mid j after t next own ends turn r = absurd r
 run_more g k (took i m ∷ acts) mid j after t next own ends turn r = either_way (i == k) (λ x. turns_more k acts (numbered (came_at g m) 0) mid j after t next own ends turn x) (λ x. run_more g k acts mid j after t next own ends turn x) r

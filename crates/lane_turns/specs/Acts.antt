@@ -9,7 +9,7 @@ use Rattle.http_lane.specs.declared.answer.ServeEnd.TheVariants.{BookFull}
 use Rattle.http_lane.specs.Connection.{Submission, SubmitsAll, submissions}
 use Rattle.http_lane.specs.Intake.{Intake, intake, connected}
 use Rattle.http_lane.specs.Requests.{Awaits}
-use Rattle.http_lane.specs.Turns.{Waiting, came_at, Turned, IsTurn, AwaitsBy, IsTaken}
+use Rattle.http_lane.specs.Turns.{Waiting, came_at, Turned, IsTurn, AwaitsBy}
 use Rattle.lane_turns.specs.declared.serving.Done.{Done}
 use Rattle.lane_turns.specs.declared.serving.Done.TheVariants.{Turned as HadTurn}
 
@@ -117,15 +117,10 @@ abbrev pub is_full_done : Done → Bool
 is_full_done (HadTurn key end due is_idle) = is_full_end end
 is_full_done _ = false
 
--- the act is a turn that brought these bytes at this moment
-abbrev pub Comes : List ℕ → (moment : ℕ) → Act → Type 0
-Comes piece moment (took j m) = ⊥
-Comes piece moment (had j before after t) = IsTaken piece t.coming × (t.moment ≡ moment)
-
--- the lane and its open connections went on from here to there: whatever acts led here, these more led there; the flag says whether the spans of some request of theirs found no place in the counts
-abbrev pub GoesOn : {P : Type 0} → (submits : Intake P → Submission → Intake P → Type 0) → (takes_gzip : Bool) → (old_open : (key : ℕ) → Option Exchange) → (old : LaneNow P) → (new_open : (key : ℕ) → Option Exchange) → (new : LaneNow P) → (is_full : Bool) → Type 0
-GoesOn {P} submits takes_gzip old_open old new_open new is_full = (number : ℕ) (first : LaneNow P) (acts : List Act) → Fits submits takes_gzip number first old_open acts old
-    → (more : List Act) × Fits submits takes_gzip number first new_open (acts ++ more) new × (acts_uncounted more ≡ is_full)
+-- the lane and its open connections went on from here to there: whatever acts led here, these more led there, and `by` holds of them; the flag says whether the spans of some request of theirs found no place in the counts
+abbrev pub GoesOn : {P : Type 0} → (submits : Intake P → Submission → Intake P → Type 0) → (takes_gzip : Bool) → (old_open : (key : ℕ) → Option Exchange) → (old : LaneNow P) → (new_open : (key : ℕ) → Option Exchange) → (new : LaneNow P) → (is_full : Bool) → (by : (earlier more : List Act) → Type 0) → Type 0
+GoesOn {P} submits takes_gzip old_open old new_open new is_full by = (number : ℕ) (first : LaneNow P) (acts : List Act) → Fits submits takes_gzip number first old_open acts old
+    → (more : List Act) × Fits submits takes_gzip number first new_open (acts ++ more) new × (acts_uncounted more ≡ is_full) × by acts more
 
 -- each open connection awaits more of some reading
 abbrev pub AllAwait : (takes_gzip : Bool) → (open_at : (key : ℕ) → Option Exchange) → Type 0

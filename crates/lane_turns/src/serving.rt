@@ -1,11 +1,15 @@
 //! The loop of a lane over all its connections.
-ghost use Rattle.std.specs.Prelude.{◌≡◌, ◌<◌, ◌≤◌, [], ℕ, IfSome, length};
-ghost use Rattle.slab.specs.Slab.{get};
+ghost use Rattle.std.specs.Prelude.{◌≡◌, ◌<◌, ◌≤◌, [], ℕ, Bool, List, None, IfSome, IsTrue, false, length};
+ghost use Rattle.slab.specs.Slab.{get, ContainsKey};
 ghost use Rattle.http_lane.specs.Intake.{Submits};
 ghost use Rattle.http_lane.specs.Connection.{in_head};
 ghost use Rattle.http_lane.specs.Requests.{Awaits};
 ghost use Rattle.lane_turns.specs.Acts.{lane_now, GoesOn, AllAwait, ServesTurns, is_full_done, is_full_end};
+ghost use Rattle.lane_turns.specs.Driven.{AsTold, TellsTurn, IsDriven};
 ghost use Rattle.lane_turns.specs.Driving.{FitsNext};
+ghost use Rattle.lane_turns.specs.declared.serving.Next.{Next};
+ghost use Rattle.lane_turns.specs.declared.serving.Next.TheVariants.{End};
+ghost use Rattle.lane_turns.specs.declared.serving.Done.{Done};
 
 use crate::table::{Leaving, came, dismiss, leave, take, waited};
 use drop_ledger::Counter;
@@ -54,16 +58,26 @@ pub enum Done {
 
 /// What finds out which connections are ready, and when, and sends what is answered.
 pub trait Driver {
+    /// What one call of `next` does: the driver before it, what it said, with its moment and the bytes of the piece then, and the
+    /// driver after it.
+    ghost asks: { Self → Next → ℕ → List ℕ → Self → Type 0 };
+
+    /// What one call of `done` does: the driver before it, what it was told of what it had said, with what is to be sent, and the
+    /// driver after it.
+    ghost hears: { Self → Done → List ℕ → Self → Type 0 };
+
     /// What is to be done next, and its moment in milliseconds. Bytes that came lie at the front of the piece. It may wait.
     fn next<R: Wait + Clock>(&mut self, rt: &R, piece: &mut [u8]) -> (Next, u64)
         requires { 0 < length piece.old }
-        ensures { FitsNext result.0 (length piece.old) };
+        ensures fits { FitsNext result.0 (length piece.old) }
+        ensures said { asks self.old result.0 result.1 piece.new self.new };
 
     /// What became of it, and what is to be sent on that connection.
-    fn done(&mut self, done: Done, text: &[u8]);
+    fn done(&mut self, done: Done, text: &[u8])
+        ensures { hears self.old done text.now self.new };
 }
 
-/// Does what is to be done next.
+/// Does what is to be done next. The text is then what is to be sent.
 fn turn<P: Port<Item>, C: Counter, S: Stop, K: Moments>(
     alloc: Global,
     takes_gzip: bool,
@@ -82,9 +96,11 @@ fn turn<P: Port<Item>, C: Counter, S: Stop, K: Moments>(
     requires next { FitsNext next PIECE_LIMIT }
     requires at { AllAwait takes_gzip (get table.old) }
     requires spare { IfSome spare.old (λ engine. Awaits engine (in_head takes_gzip [])) }
-    ensures fits { GoesOn (Submits P.takes P.refuses) takes_gzip (get table.old) (lane_now lane.old (C.counted counts.old)) (get table.new) (lane_now lane.new (C.counted counts.new)) (is_full_done result) }
+    ensures fits { GoesOn (Submits P.takes P.refuses) takes_gzip (get table.old) (lane_now lane.old (C.counted counts.old)) (get table.new) (lane_now lane.new (C.counted counts.new)) (is_full_done result)
+        (λ earlier. AsTold takes_gzip (get table.old) (get table.new) earlier next moment piece.now result text.new.items) }
     ensures spare { IfSome spare.new (λ engine. Awaits engine (in_head takes_gzip [])) }
 {
+    text.clear();
     match next {
         Next::Take => Done::Took(take(table, lane, counts, moment)),
         Next::Came { key, len } => {
@@ -131,7 +147,8 @@ fn turn<P: Port<Item>, C: Counter, S: Stop, K: Moments>(
 
 /// What became of the connection at this key.
 fn turned(table: &Slab<Exchange>, key: usize, end: Option<ServeEnd>) -> Done
-    ensures { is_full_done result ≡ is_full_end end }
+    ensures full { is_full_done result ≡ is_full_end end }
+    ensures tells { (takes_gzip : Bool) → AllAwait takes_gzip (get table.now) → TellsTurn (get table.now) key end result }
 {
     let (due, is_idle) = match table.get(key) {
         Some(exchange) => (exchange.due(), exchange.is_between()),
@@ -143,6 +160,14 @@ fn turned(table: &Slab<Exchange>, key: usize, end: Option<ServeEnd>) -> Done
         due,
         is_idle,
     }
+}
+
+/// Whether the driver says to end, and no connection is open.
+fn is_over(next: Next, table: &Slab<Exchange>) -> bool
+    ensures over { IsTrue result → (next ≡ End) × ((key : ℕ) → get table.now key ≡ None) }
+    ensures goes_on { result ≡ false → next ≡ End → (key : ℕ) × ContainsKey table.now key }
+{
+    matches!(next, Next::End) && table.is_empty()
 }
 
 /// Whether a connection ended because a count would have passed 2^64-1.
@@ -170,7 +195,8 @@ pub fn serve_turns<D: Driver, P: Port<Item>, C: Counter, S: Stop, K: Moments, R:
     stop: &S,
     clock: &K,
 ) -> bool
-    ensures { ServesTurns (Submits P.takes P.refuses) takes_gzip (lane_now lane.old (C.counted counts.old)) (lane_now lane.new (C.counted counts.new)) result }
+    ensures served { ServesTurns (Submits P.takes P.refuses) takes_gzip (lane_now lane.old (C.counted counts.old)) (lane_now lane.new (C.counted counts.new)) result }
+    ensures driven { IsDriven D.asks D.hears (Submits P.takes P.refuses) takes_gzip driver.old (lane_now lane.old (C.counted counts.old)) driver.new (lane_now lane.new (C.counted counts.new)) result }
 {
     let mut table = Slab::new(alloc);
     let mut spare = None;
@@ -178,12 +204,9 @@ pub fn serve_turns<D: Driver, P: Port<Item>, C: Counter, S: Stop, K: Moments, R:
     let mut text = Vec::new(alloc);
     for _ in rt.forever() {
         let (next, moment) = driver.next(rt, &mut piece);
-        if table.is_empty() {
-            if next == Next::End {
-                return false;
-            }
+        if is_over(next, &table) {
+            return false;
         }
-        text.clear();
         let done = turn(
             alloc, takes_gzip, next, moment, &piece, &mut table, &mut spare, lane, counts,
             &mut text, stop, clock,

@@ -1,11 +1,13 @@
 //! One turn of one of many connections.
-ghost use Rattle.std.specs.Prelude.{◌≡◌, ◌≢◌, ◌++◌, ◌∷◌, ◌<◌, ◌≤◌, [], ℕ, Bool, List, Option, Some, None, IfSome, length, false, true, IsTrue};
+ghost use Rattle.std.specs.Prelude.{◌≡◌, ◌≢◌, ◌<◌, ◌≤◌, [], ℕ, Bool, Option, Some, None, IfSome, length, false, IsTrue};
+ghost use Rattle.std.specs.Io.KnownBytes.{Appends};
 ghost use Rattle.slab.specs.Slab.{get, ContainsKey};
 ghost use Rattle.http_lane.specs.Intake.{Submits};
 ghost use Rattle.http_lane.specs.Connection.{in_head, is_between};
 ghost use Rattle.http_lane.specs.Requests.{Awaits};
-ghost use Rattle.http_lane.specs.Turns.{Waiting, AwaitsBy};
-ghost use Rattle.lane_turns.specs.Acts.{Act, LaneNow, lane_now, Fits, Comes, GoesOn, act_uncounted, is_full_end};
+ghost use Rattle.http_lane.specs.Turns.{Waiting, AwaitsBy, IsTaken, nothing};
+ghost use Rattle.lane_turns.specs.Acts.{lane_now, GoesOn, is_full_end};
+ghost use Rattle.lane_turns.specs.Driven.{AnyOne, TurnAt, TakesOne, Dismisses, coming_of};
 
 use drop_ledger::Counter;
 use http_lane::{Clock, Exchange, PIECE_LIMIT, Requests, ServeEnd, Stop};
@@ -35,9 +37,8 @@ pub fn came<P: Port<Item>, C: Counter, W: Write, S: Stop, K: Clock>(
     requires open { ContainsKey «open».old key }
     requires at { (x : Exchange) → get «open».old key ≡ Some x → (w : Waiting) × AwaitsBy takes_gzip Awaits x.engine w.reading }
     requires spare { IfSome spare.old (λ engine. Awaits engine (in_head takes_gzip [])) }
-    ensures fits { (number : ℕ) (first : LaneNow P) (acts : List Act) → Fits (Submits P.takes P.refuses) takes_gzip number first (get «open».old) acts (lane_now lane.old (C.counted counts.old))
-        → (a : Act) × Comes piece.now moment a × Fits (Submits P.takes P.refuses) takes_gzip number first (get «open».new) (acts ++ a ∷ []) (lane_now lane.new (C.counted counts.new))
-        × (act_uncounted a ≡ is_full_end result) }
+    ensures fits { GoesOn (Submits P.takes P.refuses) takes_gzip (get «open».old) (lane_now lane.old (C.counted counts.old)) (get «open».new) (lane_now lane.new (C.counted counts.new)) (is_full_end result)
+        (TurnAt takes_gzip (get «open».old) (get «open».new) key moment AnyOne (IsTaken piece.now) (Appends (W.contents writer.old) (W.contents writer.new)) result) }
     ensures others { (other : ℕ) → other ≢ key → get «open».new other ≡ get «open».old other }
     ensures spare { IfSome spare.new (λ engine. Awaits engine (in_head takes_gzip [])) }
 {
@@ -75,7 +76,8 @@ pub fn waited<P: Port<Item>, C: Counter, W: Write, S: Stop>(
     moment: u64,
 ) -> Option<ServeEnd>
     requires { ContainsKey «open».old key }
-    ensures fits { (takes_gzip : Bool) → GoesOn (Submits P.takes P.refuses) takes_gzip (get «open».old) (lane_now lane.now (C.counted counts.now)) (get «open».new) (lane_now lane.now (C.counted counts.now)) (is_full_end result) }
+    ensures fits { (takes_gzip : Bool) → GoesOn (Submits P.takes P.refuses) takes_gzip (get «open».old) (lane_now lane.now (C.counted counts.now)) (get «open».new) (lane_now lane.now (C.counted counts.now)) (is_full_end result)
+        (TurnAt takes_gzip (get «open».old) (get «open».new) key moment AnyOne (λ coming. coming ≡ nothing) (Appends (W.contents writer.old) (W.contents writer.new)) result) }
     ensures others { (other : ℕ) → other ≢ key → get «open».new other ≡ get «open».old other }
 {
     let exchange = open.remove(key);
@@ -97,7 +99,8 @@ pub fn leave<P: Port<Item>, C: Counter>(
     moment: u64,
 ) -> ServeEnd
     requires { ContainsKey «open».old key }
-    ensures fits { (takes_gzip : Bool) → GoesOn (Submits P.takes P.refuses) takes_gzip (get «open».old) (lane_now lane.now (C.counted counts.now)) (get «open».new) (lane_now lane.now (C.counted counts.now)) (is_full_end (Some result)) }
+    ensures fits { (takes_gzip : Bool) → GoesOn (Submits P.takes P.refuses) takes_gzip (get «open».old) (lane_now lane.now (C.counted counts.now)) (get «open».new) (lane_now lane.now (C.counted counts.now)) (is_full_end (Some result))
+        (TurnAt takes_gzip (get «open».old) (get «open».new) key moment AnyOne (λ coming. coming ≡ coming_of how) (λ text. text ≡ []) (Some result)) }
     ensures others { (other : ℕ) → other ≢ key → get «open».new other ≡ get «open».old other }
 {
     let exchange = open.remove(key);
@@ -116,7 +119,8 @@ pub fn dismiss<P: Port<Item>, C: Counter>(
     counts: &C,
     moment: u64,
 ) -> Option<ServeEnd>
-    ensures fits { (takes_gzip : Bool) → GoesOn (Submits P.takes P.refuses) takes_gzip (get «open».old) (lane_now lane.now (C.counted counts.now)) (get «open».new) (lane_now lane.now (C.counted counts.now)) (is_full_end result) }
+    ensures fits { (takes_gzip : Bool) → GoesOn (Submits P.takes P.refuses) takes_gzip (get «open».old) (lane_now lane.now (C.counted counts.now)) (get «open».new) (lane_now lane.now (C.counted counts.now)) (is_full_end result)
+        (Dismisses takes_gzip (get «open».old) (get «open».new) key moment result) }
     ensures others { (other : ℕ) → other ≢ key → get «open».new other ≡ get «open».old other }
 {
     if !is_idle(open, key) {
@@ -128,7 +132,8 @@ pub fn dismiss<P: Port<Item>, C: Counter>(
 
 /// Whether there is a connection at this key on which no request is under way.
 fn is_idle(open: &Slab<Exchange>, key: usize) -> bool
-    ensures { IsTrue result → (x : Exchange) × (get «open».now key ≡ Some x) × ((takes_gzip : Bool) (w : Waiting) → AwaitsBy takes_gzip Awaits x.engine w.reading → is_between w.reading ≡ true) }
+    ensures there { IsTrue result → ContainsKey «open».now key }
+    ensures idle { (x : Exchange) → get «open».now key ≡ Some x → (takes_gzip : Bool) (w : Waiting) → AwaitsBy takes_gzip Awaits x.engine w.reading → result ≡ is_between w.reading }
 {
     match open.get(key) {
         Some(exchange) => exchange.is_between(),
@@ -143,7 +148,8 @@ pub fn take<P: Port<Item>, C: Counter>(
     counts: &C,
     moment: u64,
 ) -> Option<usize>
-    ensures fits { (takes_gzip : Bool) → GoesOn (Submits P.takes P.refuses) takes_gzip (get «open».old) (lane_now lane.old (C.counted counts.now)) (get «open».new) (lane_now lane.new (C.counted counts.now)) false }
+    ensures fits { (takes_gzip : Bool) → GoesOn (Submits P.takes P.refuses) takes_gzip (get «open».old) (lane_now lane.old (C.counted counts.now)) (get «open».new) (lane_now lane.new (C.counted counts.now)) false
+        (λ earlier. TakesOne (get «open».old) (get «open».new) moment result) }
 {
     if lane.connected() == u64::MAX {
         return None;

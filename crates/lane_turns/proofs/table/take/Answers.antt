@@ -1,5 +1,7 @@
 use Rattle.std.proofs.Common.{◌≡◌, ◌∙◌, [], ◌∷◌, ◌++◌, None, refl, sym, ap, subst, append-nil}
 use Rattle.slab.specs.Slab.{get}
+use Rattle.lane_seq.specs.declared.preparing.Conn.{Conn}
+use Rattle.http_lane.specs.declared.turns.Exchange.{Exchange}
 use Rattle.http_lane.specs.Intake.{Submits}
 use Rattle.lane_turns.specs.Acts.{lane_now, took, Fits}
 use Rattle.lane_turns.proofs.Runs.{fits_take}
@@ -14,6 +16,7 @@ returns-in_default g c = record {
         subst (λ l. Fits (Submits g.P.Port.takes g.P.Port.refuses) takes_gzip number first (get c.reserve.new.self) l now) (sym (append-nil acts))
             (subst (λ o. Fits (Submits g.P.Port.takes g.P.Port.refuses) takes_gzip number first o acts now) (sym same) f),
         refl,
+        (refl, λ key. ap (λ o. o key) same),
       );
 }
 
@@ -31,5 +34,12 @@ returns g c = record {
             (λ other ne. c.insert_reserved.ensures.updates.others other ne ∙ ap (λ o. o other) same) f c.args.moment c.new-exchange.result c.insert_reserved.ensures.updates.changed
             (c.new-exchange.ensures ∙ λ i. record { engine = None; conn = c.connect.ensures.conn i; since = c.args.moment })),
         refl,
+        (
+          c.new-exchange.result,
+          ap (λ n. took n c.args.moment ∷ []) (sym (ap (λ (x : Exchange). x.conn.key.ordinal) c.new-exchange.ensures ∙ ap (λ (conn : Conn). conn.key.ordinal) c.connect.ensures.conn)),
+          ap (λ o. o key) (sym same) ∙ c.insert_reserved.ensures.was_vacant,
+          c.insert_reserved.ensures.updates.changed,
+          λ other ne. c.insert_reserved.ensures.updates.others other ne ∙ ap (λ o. o other) same,
+        ),
       );
 }

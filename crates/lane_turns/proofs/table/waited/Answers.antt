@@ -1,4 +1,5 @@
-use Rattle.std.proofs.Common.{◌≡◌, ◌∙◌, [], ◌∷◌, Some, refl, sym, ap, subst}
+use Rattle.std.proofs.Common.{◌≡◌, ◌∙◌, [], ◌∷◌, Some, None, refl, sym, ap, subst}
+use Rattle.std.specs.Io.KnownBytes.{Appends}
 use Rattle.slab.specs.Slab.{get}
 use Rattle.http_lane.specs.Connection.{SubmitsAll}
 use Rattle.http_lane.specs.Intake.{Submits, intake}
@@ -6,6 +7,7 @@ use Rattle.http_lane.specs.declared.turns.Exchange.{Exchange}
 use Rattle.http_lane.specs.Turns.{waiting, turned, nothing}
 use Rattle.lane_turns.specs.Acts.{lane_now, had, is_full_end}
 use Rattle.lane_turns.proofs.Runs.{Left, fits_turn, one_of}
+use Rattle.lane_turns.proofs.Told.{has_turn}
 use Rattle.lane_turns.proofs.Uncounted.{one_full, turn_full}
 use Rattle.lane_turns.proofs.table.waited.Goals as goal
 
@@ -24,6 +26,14 @@ returns-in-Some-clause-fits g c = λ takes_gzip number first acts f.
           c.remove-exchange.ensures.updates.others f nothing c.args.moment t.0 t.1 next x.conn c.args.lane.now (g.C.Counter.counted c.args.counts.now) t.2 still
           (λ y e. absurd (let none = sym gone ∙ e in cc)) (λ e. absurd (let some = sym e ∙ c.in-Some.is in cc)),
       one_full (had x.conn.key.ordinal x.conn.next x.conn.next (turned nothing c.args.moment t.0 t.1)) _ (turn_full nothing o.waiting c.args.moment t.0 t.1 next t.2 ∙ ap is_full_end c.in-Some.is),
+      (
+        x,
+        at,
+        tt,
+        has_turn takes_gzip acts x c.args.moment (λ coming. coming ≡ nothing) (Appends (g.W.Write.contents c.args.writer.now) (g.W.Write.contents c.waited-end.new.writer)) (Some c.in-Some.why) o.waiting nothing t.0 t.1 next x.conn.next t.3
+            o.run o.goes_on t.2 refl c.in-Some.is t.5 t.4,
+        (gone, c.remove-exchange.ensures.updates.others),
+      ),
     )
 
 pub returns-clause-fits : goal.returns-clause-fits
@@ -44,4 +54,15 @@ returns-clause-fits g c = λ takes_gzip number first acts f.
           (λ y e. subst (λ (z : Exchange). Left takes_gzip x.conn next z) (let both = sym here ∙ e in one_of both) (record { conn_is = refl; goes_on = c.in_default.is; awaits = o.awaits; since = o.since }))
           (λ e. (x, here)),
       one_full (had x.conn.key.ordinal x.conn.next x.conn.next (turned nothing c.args.moment t.0 t.1)) _ (turn_full nothing o.waiting c.args.moment t.0 t.1 next t.2 ∙ ap is_full_end c.in_default.is),
+      (
+        x,
+        at,
+        tt,
+        has_turn takes_gzip acts x c.args.moment (λ coming. coming ≡ nothing) (Appends (g.W.Write.contents c.args.writer.now) (g.W.Write.contents c.waited-end.new.writer)) None o.waiting nothing t.0 t.1 next x.conn.next t.3
+            o.run o.goes_on t.2 refl c.in_default.is t.5 t.4,
+        (
+          (x, here, refl),
+          λ other ne. c.insert_reserved.ensures.updates.others other (λ e. ne (e ∙ place)) ∙ c.remove-exchange.ensures.updates.others other ne,
+        ),
+      ),
     )
