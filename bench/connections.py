@@ -20,6 +20,7 @@ class Many(Collector):
 
     def __init__(self, program, lanes, connections, more=""):
         super().__init__(program, lanes, f"1000\nmax_connections = {connections}\n{more}")
+        time.sleep(1)  # (it listens before it has taken memory for its queues)
 
     def files(self):
         """How many files it has open."""
@@ -47,11 +48,12 @@ def wrk(port, connections, seconds, body, *fields):
         words = ["wrk", "-t2", f"-c{connections}", f"-d{seconds}", "--timeout", "10", "--latency", "-s", script(folder, body)]
         words += [it for field in fields for it in ("-H", field)] + [f"http://127.0.0.1:{port}/v1/traces"]
         said = subprocess.run(words, capture_output=True, text=True, check=True).stdout
-    found = {name: float(number) * {"us": 0.001, "ms": 1, "s": 1000}[unit] for name, number, unit in re.findall(r"^ +(50|99)% +([\d.]+)(us|ms|s)$", said, re.M)}
+    units = {"us": 0.001, "ms": 1, "s": 1000, "m": 60_000}
+    found = {name: float(number) * units[unit] for name, number, unit in re.findall(r"^ +(50|99)% +([\d.]+)(us|ms|s|m) *$", said, re.M)}
     errors = re.findall(r"^ *(Socket errors:.*|Non-2xx.*)$", said, re.M)
     rate = float(re.search(r"Requests/sec: +([\d.]+)", said)[1])
     count = int(re.search(r"(\d+) requests in", said)[1])
-    return rate, found["50"], found["99"], errors, count
+    return rate, found.get("50", -1), found.get("99", -1), errors, count
 
 
 def told(what, rate, half, most, errors, count):
@@ -62,6 +64,8 @@ def beside_idle(program):
     """Sixteen busy connections on four lanes, alone and beside 10,000 idle ones."""
     collector = Many(program, 4, 16384)
     told("16 busy, one span a request, 4 lanes", *wrk(collector.port, 16, 10, ONE))
+    collector.close()
+    collector = Many(program, 4, 16384)
     before = collector.kibibytes()
     idle = []
     for at in range(10_000):
@@ -72,10 +76,10 @@ def beside_idle(program):
     time.sleep(2)
     more = collector.kibibytes() - before
     print(f"10,000 idle connections: {collector.files()} open files, {more} KiB more, {more * 1024 / 10_000:.0f} bytes each", flush=True)
-    told("16 busy beside 10,000 idle", *wrk(collector.port, 16, 10, ONE))
     used = collector.cpu()
     time.sleep(10)
     print(f"with 10,000 idle: {(collector.cpu() - used) * 10:.2f} % of a core", flush=True)
+    told("16 busy beside 10,000 idle", *wrk(collector.port, 16, 10, ONE))
     print(f"the close: {collector.close():.2f} s", flush=True)
     for of in idle:
         of.close()

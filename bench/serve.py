@@ -132,4 +132,5 @@ def main():
     print(f"closed in {collector.close():.1f} s")
 
 
-main()
+if __name__ == "__main__":
+    main()

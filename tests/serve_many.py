@@ -71,8 +71,8 @@ def tricklers(start):
     """Two thousand clients that send a byte a second are answered 408 ten seconds after their first, and hold neither others nor the close."""
     collector = start("max_connections = 4096\n" + ALL)
     request = post(body_of([ERROR_SPAN]))
-    began = time.monotonic()
     slow = [collector.client() for _ in range(2000)]
+    began = time.monotonic()
     for at in range(9):
         for client in slow:
             client.send(request[at : at + 1])

@@ -16,20 +16,26 @@ use pipeline::{RunFault, run_by_turns};
 use span_sink::Sink;
 use std::alloc::Global;
 use std::io;
-use std::net::{Net, TcpListener, TcpStream};
+use std::io::ErrorKind;
+use std::net::{Net, TcpListener, TcpStream, ToSocketAddrs};
 use std::sync::{Arc, Wait};
 use std::thread::Threads;
 use std::time::Clock;
 use tsc_config::Config;
 
-/// A listener at this address (`address:port`) that doesn't block.
+/// A listener at this address (`address:port`) that doesn't block, with the longest backlog that the system allows.
 pub fn listen<R: Net<Listener = TcpListener, Stream = TcpStream>>(
     rt: &R,
     address: &str,
 ) -> io::Result<TcpListener> {
-    let listener = TcpListener::bind(rt, address)?;
-    listener.set_nonblocking(true)?;
-    Ok(listener)
+    let mut last = io::Error::from(ErrorKind::AddrNotAvailable);
+    for at in address.to_socket_addrs(rt)? {
+        match mio::net::TcpListener::bind(rt, at) {
+            Ok(listener) => return Ok(TcpListener::from(listener)),
+            Err(error) => last = error,
+        }
+    }
+    Err(last)
 }
 
 /// Runs the collector on what drives its lanes, until a request says `POST /close`, which sets the mark, or it is set

@@ -10,7 +10,7 @@ use std::alloc::Global;
 use std::collections::VecDeque;
 use std::sync::Arc;
 
-/// So long a lane that doesn't have the fewest connections leaves a new one to the others at most, in milliseconds.
+/// So long a lane that has more connections than others leaves a new one to them at most, in milliseconds.
 const PATIENCE: u64 = 8;
 
 /// The sockets of the connections that are served, and of those whose last answer is under way, each at its place.
@@ -62,13 +62,16 @@ impl Links {
         self.slab.len() >= self.limit
     }
 
-    /// From when on a new connection is taken: at once by the lane that has the fewest, by another the sooner the fewer more it
-    /// has; and one that has no room for it leaves it to the others for a while.
+    /// From when on a new connection is taken: at once by the lane that has the fewest, and by those that have an eighth more at
+    /// most, so that the one that has least to do takes it; by another the sooner the fewer more it has. One that has no room for
+    /// it leaves it to the others for a while.
     pub fn patience(&self, now: u64) -> u64 {
         if self.is_at_limit() {
             return now.saturating_add(NAP);
         }
-        let more = (self.slab.len() as u64).saturating_sub(self.loads.least());
+        let least = self.loads.least();
+        let fewest = least.saturating_add(least / 8);
+        let more = (self.slab.len() as u64).saturating_sub(fewest);
         now.saturating_add(more.min(PATIENCE))
     }
 
