@@ -5,6 +5,7 @@
 
 mod configuration;
 mod program;
+mod validating;
 
 use crate::program::{program, without_memory};
 use std::alloc::{Alloc, Global};
