@@ -7,7 +7,7 @@ ghost use Rattle.collector_main.specs.Ending.{WritesText, HandsText, Finishes, A
 ghost use Rattle.collector_main.specs.declared.program.Outcome.TheVariants.{NoMemory};
 
 use crate::configuration::{FileFault, config_of, read_file};
-use collector_serve::{StopMark, WallClock, drivers, listen, serve_on};
+use collector_serve::{Board, StopMark, StoppingSink, WallClock, drivers, listen, serve_on};
 use drop_ledger::{Count, Report};
 use itoa::Buffer;
 use lane_seq::put;
@@ -215,9 +215,11 @@ fn serve_by<
         Err(_) => return (writer, Outcome::CannotListen),
     };
     let clock = WallClock::new(rt);
-    let sink = WriteSink::new(writer);
-    let (sink, answer) = serve_on(rt, alloc, config, drivers, sink, &stop, &clock);
-    (sink.end(), served_to(answer))
+    let stops = config.stops_at_output_fault;
+    let sink = StoppingSink::new(WriteSink::new(writer), &stop, stops);
+    let board = Board::new();
+    let (sink, answer) = serve_on(rt, alloc, config, drivers, sink, &board, &stop, &clock);
+    (sink.end().end(), served_to(answer))
 }
 
 fn served_to(answer: Result<Report, ServeFault>) -> Outcome

@@ -5,11 +5,11 @@ ghost use Rattle.pipeline.specs.Promise.{CoreRunTells};
 ghost use Rattle.tsc_config.specs.Values.{InRange};
 ghost use Rattle.collector_serve.specs.Sharing.{share_of};
 
+use crate::board::Board;
 use crate::ticker::Ticker;
 use drop_ledger::Report;
 use http_lane::{Clock as Moments, Stop};
 use lane_driver::{Loads, TurnDriver};
-use lane_queue::OpenGate;
 use lane_turns::Driver;
 use lane_worker::ByTurns;
 use pipeline::{RunFault, run_by_turns};
@@ -40,8 +40,8 @@ pub fn listen<R: Net<Listener = TcpListener, Stream = TcpStream>>(
 
 /// Runs the collector on what drives its lanes, until a request says `POST /close`, which sets the mark, or it is set
 /// otherwise. It may be set already: then what is asked on a connection that waits is refused. It gives the sink back, and the
-/// report of all spans: what the threads did is a run of the core. `NoMemory`: there was none at the start, and no connection
-/// was taken.
+/// report of all spans: what the threads did is a run of the core. The board shows the counts meanwhile. `NoMemory`: there was
+/// none at the start, and no connection was taken.
 pub fn serve_on<
     D: Driver + Send + Drop,
     S: Sink + Drop,
@@ -54,6 +54,7 @@ pub fn serve_on<
     config: Config,
     drivers: Vec<ByTurns<D>>,
     sink: S,
+    board: &Board,
     stop: &P,
     clock: &M,
 ) -> (S, Result<Report, RunFault>)
@@ -64,9 +65,7 @@ pub fn serve_on<
     ensures ran { CoreRunTells config (S.taken sink) (S.failures sink) (S.taken result.0) (S.failures result.0) result.1 }
 {
     let ticks = Ticker::new(config.tick, clock, stop);
-    run_by_turns(
-        rt, alloc, config, drivers, ticks, sink, &OpenGate, stop, clock,
-    )
+    run_by_turns(rt, alloc, config, drivers, ticks, sink, board, stop, clock)
 }
 
 /// How many connections a lane may have.

@@ -266,6 +266,7 @@ fn run_over<
         rt: lent.rt,
         exporter,
         receiver: shipments,
+        gate: lent.gate,
     };
     match run_team(lent.rt, lent.alloc, team, job) {
         Ok((left, last)) => {
