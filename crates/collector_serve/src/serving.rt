@@ -92,7 +92,7 @@ pub fn drivers<'l, P: Stop, R: Net + Clock>(
     requires { 0 < config.now.lanes }
     ensures lanes { IfOk result (λ drivers. vec_len drivers ≡ config.now.lanes) }
     ensures shares { IfOk result (λ drivers. All (λ it. it.driver.links.limit ≡ share_of config.now.max_connections config.now.lanes) drivers.items) }
-    ensures gzip { IfOk result (λ drivers. All (λ it. it.takes_gzip ≡ config.now.accept_gzip) drivers.items) }
+    ensures allowed { IfOk result (λ drivers. All (λ it. it.allowed ≡ allowed_by config.now) drivers.items) }
 {
     let lanes = config.lanes as usize;
     let limit = share(config.max_connections, lanes);
@@ -103,7 +103,10 @@ pub fn drivers<'l, P: Stop, R: Net + Clock>(
         let driver = TurnDriver::new(rt, alloc, listener, stop, limit, loads, lane)?;
         drivers.push(ByTurns {
             driver,
-            takes_gzip: config.accept_gzip,
+            allowed: Allowed {
+                gzip: config.accept_gzip,
+                close: true,
+            },
         })?;
     }
     Ok(drivers)

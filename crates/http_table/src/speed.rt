@@ -12,7 +12,10 @@ pub fn serve_once(alloc: Global, input: &[u8]) -> Result<u64, AllocError> {
         received: 0,
         tail: Tail::Ends,
         is_stopped: false,
-        takes_gzip: true,
+        allowed: Allowed {
+            gzip: true,
+            close: true,
+        },
         is_long: true,
         writes: false,
         cuts: false,

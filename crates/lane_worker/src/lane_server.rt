@@ -3,6 +3,7 @@ ghost use Rattle.std.specs.Prelude.{◌≡◌, ℕ, Bool};
 ghost use Rattle.lane_queue.specs.Ends.{queues};
 ghost use Rattle.lane_worker.specs.Serving.{LaneAt, lane_at};
 
+use http_text::Allowed;
 use crate::feed::Feed;
 use crate::lane_worker::serve_all;
 use drop_ledger::Counter;
@@ -78,13 +79,13 @@ impl<F: Feed> LaneServer for OneByOne<F> {
 pub struct ByTurns<D> {
     pub driver: D,
     /// Whether packed bodies are taken.
-    pub takes_gzip: bool,
+    pub allowed: Allowed,
 }
 
 impl<D: Driver> LaneServer for ByTurns<D> {
     ghost use Rattle.lane_worker.specs.Serving.{ServesMany};
 
-    ghost serves = { λ capacity old before new after is_full. ServesMany old.takes_gzip capacity before after is_full };
+    ghost serves = { λ capacity old before new after is_full. ServesMany old.allowed capacity before after is_full };
 
     fn serve_all<'r, C: Room, K: Counter, G: Gate, S: Stop, M: MomentClock, R: Wait + Clock>(
         &mut self,
@@ -100,7 +101,7 @@ impl<D: Driver> LaneServer for ByTurns<D> {
         serve_turns(
             rt,
             alloc,
-            self.takes_gzip,
+            self.allowed,
             &mut self.driver,
             lane,
             counter,

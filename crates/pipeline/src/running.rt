@@ -118,7 +118,7 @@ pub fn run_by_turns<
     requires drivers { vec_len drivers ≡ config.lanes }
     requires failures { S.failures sink < 2 ^ 64 - 1 }
     ensures sink { SinkAnswers (S.taken sink) (S.failures sink) (S.taken result.0) (S.failures result.0) result.1 }
-    ensures ran { RunTells (receives_by_turns (λ (s : ByTurns D). s.takes_gzip)) T.gives config drivers.items ticks (S.taken sink) (S.failures sink) (S.taken result.0) (S.failures result.0) result.1 }
+    ensures ran { RunTells (receives_by_turns (λ (s : ByTurns D). s.allowed)) T.gives config drivers.items ticks (S.taken sink) (S.failures sink) (S.taken result.0) (S.failures result.0) result.1 }
 {
     run_servers(rt, alloc, config, drivers, ticks, sink, gate, stop, clock)
 }

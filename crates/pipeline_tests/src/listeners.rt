@@ -38,7 +38,7 @@ fn reads_and_writes_wait_only_so_long(rt: HostRuntime) -> Result<(), Fail> {
     );
     assert_eq!(rt; writer.write_timeout()?, Some(Duration::from_secs(30)));
     assert!(rt; writer.nodelay()?);
-    assert!(rt; reads.takes_gzip);
+    assert!(rt; reads.allowed.gzip);
     Ok(())
 }
 

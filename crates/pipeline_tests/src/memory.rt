@@ -67,7 +67,10 @@ impl Feed for MemoryFeed {
         let reader = self.connections.pop()?;
         let reads = Reads {
             reader,
-            takes_gzip: false,
+            allowed: Allowed {
+                gzip: false,
+                close: true,
+            },
         };
         Some((reads, Vec::new(self.alloc)))
     }
