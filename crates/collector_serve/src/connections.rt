@@ -1,8 +1,8 @@
 //! The connections that a listener takes.
 ghost use Rattle.std.specs.Prelude.{◌≡◌, IfOk, IfSome};
 
-use http_text::Allowed;
 use http_lane::{Reads, Stop};
+use http_text::Allowed;
 use lane_worker::Feed;
 use std::net::{TcpListener, TcpStream};
 use std::sync::Wait;
@@ -28,7 +28,7 @@ pub struct Connections<'l, P: Stop> {
 }
 
 impl<'l, P: Stop> Connections<'l, P> {
-    /// The connections of this listener, of which bodies packed by gzip are taken or aren't.
+    /// The connections of this listener, to whose clients this is allowed.
     pub fn new(listener: &'l TcpListener, stop: &'l P, allowed: Allowed) -> Self
         ensures { result.allowed ≡ allowed }
     {

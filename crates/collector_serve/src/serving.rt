@@ -80,7 +80,7 @@ fn share(connections: usize, lanes: usize) -> usize
     }
 }
 
-/// What drives each lane, and whether packed bodies are taken there. Each has its share of the connections that may be open at
+/// What drives each lane, and what is allowed to its clients. Each has its share of the connections that may be open at
 /// once. `Err`: there is no memory, or too many files are open for a lane to watch its connections.
 pub fn drivers<'l, P: Stop, R: Net + Clock>(
     rt: &R,

@@ -24,7 +24,7 @@ pub none_between : {E : Type 0} (allowed : Allowed) (awaits : E → Reading → 
 none_between allowed awaits None r at n = ap is_between at
 none_between allowed awaits (Some e) r at n = absurd cc
 
--- ---- whether packed bodies are taken stays the same
+-- ---- what is allowed stays the same
 
 pub awaits_packed : {E : Type 0} (allowed : Allowed) (awaits : E → Reading → Type 0) (own : Option E) (r : Reading) → AwaitsBy allowed awaits own r → allowed_in r ≡ allowed
 awaits_packed allowed awaits None r at = ap allowed_in at

@@ -123,7 +123,7 @@ abbrev pub FitsPiece : ReadTurn → ℕ → Type 0
 FitsPiece (Gave n) len = (0 < n) × (n ≤ len)
 FitsPiece _ len = Unit {0}
 
--- what is known of a reader: what its reads gave so far, the bytes that it has left, and whether packed bodies are taken from it
+-- what is known of a reader: what its reads gave so far, the bytes that it has left, and what is allowed to its client
 pub record KnownReader : Type 0 where
   pub turns : Option (List Turn)
   pub left : Option (List ℕ)

@@ -31,7 +31,7 @@ pub record Waiting : Type 0 where
 abbrev pub waiting : Reading → ℕ → Option ServeEnd → Waiting
 waiting reading since end = record { reading = reading; since = since; end = end }
 
--- the connection came at this moment; the flag: whether packed bodies are taken
+-- the connection came at this moment, with this allowed to its client
 abbrev pub came_at : (allowed : Allowed) → ℕ → Waiting
 came_at allowed moment = waiting (in_head allowed []) moment None
 
@@ -79,7 +79,7 @@ abbrev pub Turns : Waiting → List Turned → Waiting → Type 0
 Turns w [] last = last ≡ w
 Turns w (t ∷ turns) last = (w.end ≡ None) × (next : Waiting) × IsTurn w t next × Turns next turns last
 
--- whether packed bodies are taken
+-- what is allowed to the client
 abbrev pub allowed_in : Reading → Allowed
 allowed_in (in_head allowed bytes) = allowed
 allowed_in (in_body allowed post bytes) = allowed

@@ -9,7 +9,6 @@ ghost use Rattle.http_lane.specs.Requests.{Awaits};
 ghost use Rattle.http_lane.specs.Turns.{Waiting, waiting, AwaitsBy, Coming, IsTaken, IsTurnBy, nothing};
 ghost use Rattle.http_text.specs.declared.allowed.Allowed.{Allowed};
 
-use http_text::Allowed;
 use crate::answer::{Answer, ServeEnd};
 use crate::engine::Engine;
 use crate::lent::{Clock, Stop};
@@ -17,6 +16,7 @@ use crate::reads::PIECE_LIMIT;
 use crate::requests::Requests;
 use crate::serving::{answer, end_with, settle};
 use drop_ledger::Counter;
+use http_text::Allowed;
 use lane_queue::Port;
 use lane_seq::{Conn, Lane};
 use otlp_types::Item;
@@ -59,7 +59,7 @@ impl Exchange {
         self.engine.is_none()
     }
 
-    /// A turn that brought these bytes; `allowed`: whether packed bodies are taken, the same at each turn.
+    /// A turn that brought these bytes; `allowed`: what is allowed to the client, the same at each turn.
     pub fn came<P: Port<Item>, C: Counter, W: Write, S: Stop, K: Clock>(
         &mut self,
         alloc: Global,

@@ -1,7 +1,7 @@
 //! A row of the table.
-use http_text::Allowed;
 use crate::column::bytes_of;
 use crate::peers::Tail;
+use http_text::Allowed;
 use std::alloc::{AllocError, Global};
 
 /// How an exchange is run.
@@ -15,7 +15,7 @@ pub struct Setup {
     pub tail: Tail,
     /// `stopped`: the stop mark is set.
     pub is_stopped: bool,
-    /// `gzip`: packed bodies are taken.
+    /// `gzip`: packed bodies are taken. `never_closed`: `POST /close` isn't allowed.
     pub allowed: Allowed,
     /// `long`: it isn't cut in every two pieces, nor read a byte at a time.
     pub is_long: bool,

@@ -2,6 +2,7 @@
 use crate::peers::Tail;
 use crate::row::Setup;
 use crate::trial::{WHOLE, served};
+use http_text::Allowed;
 use otlp_json::decode;
 use std::alloc::{AllocError, Global};
 

@@ -40,7 +40,7 @@ fn field_lines(text: &[u8]) -> usize
     lines.saturating_sub(2)
 }
 
-/// What the text of a head comes to, where packed bodies are taken or aren't.
+/// What the text of a head comes to, by what is allowed.
 pub fn judge(text: &[u8], allowed: Allowed) -> Verdict
     ensures { IsVerdict allowed text.now result }
 {

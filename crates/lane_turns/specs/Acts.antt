@@ -52,7 +52,7 @@ TurnsOf ordinal c (had j before after t ∷ acts) last = MatchBool (j == ordinal
     ((c.waiting.end ≡ None) × (before ≡ c.next) × (next : Waiting) × IsTurn c.waiting t next × TurnsOf ordinal (numbered next after) acts last)
     (TurnsOf ordinal c acts last)
 
--- of these acts, those of one connection are its run: it was taken, and then had turns; the flag: whether packed bodies are taken
+-- of these acts, those of one connection are its run: it was taken, and then had turns; with this allowed to clients
 abbrev pub RunOf : (allowed : Allowed) → (ordinal : ℕ) → List Act → Numbered → Type 0
 RunOf allowed ordinal [] last = ⊥
 RunOf allowed ordinal (took j moment ∷ acts) last = MatchBool (j == ordinal) (TurnsOf ordinal (numbered (came_at allowed moment) 0) acts last) (RunOf allowed ordinal acts last)
@@ -127,7 +127,7 @@ GoesOn {P} submits allowed old_open old new_open new is_full by = (number : ℕ)
 abbrev pub AllAwait : (allowed : Allowed) → (open_at : (key : ℕ) → Option Exchange) → Type 0
 AllAwait allowed open_at = (key : ℕ) (x : Exchange) → open_at key ≡ Some x → (w : Waiting) × AwaitsBy allowed Awaits x.engine w.reading
 
--- A lane served connections until each was over, unless a count would have passed 2^64-1 (the last flag): then it served no further. The first flag says whether packed bodies are taken.
+-- A lane served connections until each was over, unless a count would have passed 2^64-1 (the last flag): then it served no further. This was allowed to clients.
 pub record ServesTurns {P : Type 0} (submits : Intake P → Submission → Intake P → Type 0) (allowed : Allowed) (old new : LaneNow P) (is_full : Bool) : Type 0 where
   pub acts : List Act
   pub open_at : (key : ℕ) → Option Exchange

@@ -12,10 +12,10 @@ ghost use Rattle.lane_turns.specs.declared.serving.Next.TheVariants.{End};
 ghost use Rattle.lane_turns.specs.declared.serving.Done.{Done};
 ghost use Rattle.http_text.specs.declared.allowed.Allowed.{Allowed};
 
-use http_text::Allowed;
 use crate::table::{Leaving, came, dismiss, leave, take, waited};
 use drop_ledger::Counter;
 use http_lane::{Clock as Moments, Exchange, PIECE_LIMIT, Requests, ServeEnd, Stop};
+use http_text::Allowed;
 use lane_queue::Port;
 use lane_seq::Lane;
 use otlp_types::Item;
@@ -186,7 +186,7 @@ fn is_full(done: &Done) -> bool
 }
 
 /// Serves connections as the driver says, until it says to end and none is open. It ends at once where a count would have
-/// passed 2^64-1, and says whether it did. `allowed`: whether packed bodies are taken.
+/// passed 2^64-1, and says whether it did. `allowed`: what is allowed to clients.
 pub fn serve_turns<D: Driver, P: Port<Item>, C: Counter, S: Stop, K: Moments, R: Wait + Clock>(
     rt: &R,
     alloc: Global,
@@ -210,8 +210,8 @@ pub fn serve_turns<D: Driver, P: Port<Item>, C: Counter, S: Stop, K: Moments, R:
             return false;
         }
         let done = turn(
-            alloc, allowed, next, moment, &piece, &mut table, &mut spare, lane, counts,
-            &mut text, stop, clock,
+            alloc, allowed, next, moment, &piece, &mut table, &mut spare, lane, counts, &mut text,
+            stop, clock,
         );
         driver.done(done, &text);
         if is_full(&done) {

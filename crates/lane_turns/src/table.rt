@@ -10,9 +10,9 @@ ghost use Rattle.lane_turns.specs.Acts.{lane_now, GoesOn, is_full_end};
 ghost use Rattle.lane_turns.specs.Driven.{AnyOne, TurnAt, TakesOne, Dismisses, coming_of};
 ghost use Rattle.http_text.specs.declared.allowed.Allowed.{Allowed};
 
-use http_text::Allowed;
 use drop_ledger::Counter;
 use http_lane::{Clock, Exchange, PIECE_LIMIT, Requests, ServeEnd, Stop};
+use http_text::Allowed;
 use lane_queue::Port;
 use lane_seq::Lane;
 use otlp_types::Item;

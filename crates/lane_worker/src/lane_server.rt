@@ -3,11 +3,11 @@ ghost use Rattle.std.specs.Prelude.{◌≡◌, ℕ, Bool};
 ghost use Rattle.lane_queue.specs.Ends.{queues};
 ghost use Rattle.lane_worker.specs.Serving.{LaneAt, lane_at};
 
-use http_text::Allowed;
 use crate::feed::Feed;
 use crate::lane_worker::serve_all;
 use drop_ledger::Counter;
 use http_lane::{Clock as MomentClock, Stop};
+use http_text::Allowed;
 use lane_queue::{Gate, Room, SenderPort};
 use lane_seq::Lane;
 use lane_turns::{Driver, serve_turns};
@@ -78,7 +78,7 @@ impl<F: Feed> LaneServer for OneByOne<F> {
 #[derive(Drop)]
 pub struct ByTurns<D> {
     pub driver: D,
-    /// Whether packed bodies are taken.
+    /// What is allowed to clients.
     pub allowed: Allowed,
 }
 
