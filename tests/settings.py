@@ -1,5 +1,5 @@
 #!/usr/bin/env python3
-"""The keys of whole numbers, as `crates/tsc_config/specs/Settings.antt` states them, which the law `settings_are_of_their_keys` ties to the program.
+"""The keys of whole numbers, of one of two texts and of truth values, as `crates/tsc_config/specs/Settings.antt` states them, which the law `settings_are_of_their_keys` ties to the program.
 
     tests/settings.py
 
@@ -44,6 +44,25 @@ def readme_numbers():
     return found
 
 
+def other_keys():
+    """Of each key of one of two texts the default and the other, and of each key of a truth value its default, as the README writes them."""
+    text = DEFINITION.read_text()
+    rows = re.findall(r'^  pub \w+ : IsChoiceAt members \(codes "(\w+)"\) \(codes "(\w+)"\) \(codes "(\w+)"\) ', text, re.M)
+    truths = re.findall(r'^  pub \w+ : IsTruthAt members \(codes "(\w+)"\) ', text, re.M)
+    return {key: (f"`{default}`", f"`{other}`") for key, default, other in rows} | {key: ("false", "true") for key in truths}
+
+
+def readme_others():
+    """What the README's table says of each of these keys: its default, and whether both of its values are told."""
+    found = {}
+    for line in (TOP / "README.md").read_text().splitlines():
+        row = re.match(r"\| `(\w+)`[^|]* \| ([^|]*) \| (`\w+`|false)[^|]* \|", line)
+        if row and row.group(1) in other_keys():
+            told = [value for value in other_keys()[row.group(1)] if value in row.group(2)]
+            found.setdefault(row.group(1), []).append((row.group(3), len(told)))
+    return found
+
+
 def differences():
     """A line for each difference."""
     wanted = top_numbers() | cache_numbers()
@@ -53,10 +72,14 @@ def differences():
     for key in sorted(wanted.keys() | said.keys()):
         if said.get(key) != [wanted.get(key)]:
             yield f"README.md has {said.get(key)} for {key}, the definition {wanted.get(key)} (default, least, greatest)"
+    for key, (default, _) in other_keys().items():
+        if readme_others().get(key) != [(default, 2)]:
+            yield f"README.md has {readme_others().get(key)} for {key}, whose default is {default} (default, values told)"
     example = tomllib.loads((TOP / "examples/every_key.toml").read_text())
     for place, keys in ((example, top_numbers()), (example.get(CACHES, {}), cache_numbers())):
         numbers = {key for key, value in place.items() if type(value) is int}
         yield from (f"examples/every_key.toml and the definition differ in {key}" for key in sorted(numbers ^ keys.keys()))
+    yield from (f"examples/every_key.toml has no {key}" for key in sorted(other_keys().keys() - example.keys()))
 
 
 if __name__ == "__main__":

@@ -1,14 +1,14 @@
 -- The faults that the walk over a table finds have a number below that of too few traces.
 -- For the contract of `answers_least_fault`.
-use Rattle.std.proofs.Common.{◌≡◌, ◌<◌, ℤ, pos, Bool, true, false, ◌⊎◌, inl, inr, arith, codes, List, [], ◌∷◌, int_le, ◌&&◌, Option, None, Some, if◌then◌else◌}
+use Rattle.std.proofs.Common.{◌≡◌, ◌<◌, ℤ, pos, Bool, true, false, ◌⊎◌, inl, inr, arith, codes, List, [], ◌∷◌, int_le, ◌&&◌, ◌||◌, Option, None, Some, if◌then◌else◌}
 use Rattle.std.specs.Str.{bytes_eq}
 use Rattle.toml.specs.Data.{Data, string, integer, float, boolean, array, table, Items, no_items, item, Members, no_members, member, get_member}
 use Rattle.tsc_config.proofs.FaultSets.{least_is_one}
 use Rattle.policy_tree.specs.declared.policy.Join.{Join}
 use Rattle.policy_tree.specs.declared.policy.Join.TheVariants as join_is
 use Rattle.tsc_config.specs.Percentages.{percentage_of}
-use Rattle.tsc_config.specs.Keys.{has_unknown_key, type_name, type_at, type_of, code_of, join_type, join_name, sub_key, join_at}
-use Rattle.tsc_config.specs.Faults.{config_fault_number, least, optional, required, unknown_fault, integer_fault, whole_fault, truth_fault, text_fault, type_fault, code_fault, percentage_fault, named_fault, items_fault, array_fault, item_fault, wanted_fault, each_setting_fault}
+use Rattle.tsc_config.specs.Keys.{ChoiceRow, choice_row, has_unknown_key, type_name, type_at, type_of, code_of, join_type, join_name, sub_key, join_at}
+use Rattle.tsc_config.specs.Faults.{config_fault_number, least, optional, required, unknown_fault, integer_fault, whole_fault, truth_fault, text_fault, choice_fault, type_fault, code_fault, percentage_fault, named_fault, items_fault, array_fault, item_fault, wanted_fault, each_setting_fault}
 use Rattle.tsc_config.specs.Faults as spec
 use Rattle.tsc_config.specs.PolicySettings.{Setting, settings as spec_settings}
 use Rattle.tsc_config.specs.declared.policy_settings.ItemKind.{ItemKind}
@@ -17,6 +17,7 @@ use Rattle.tsc_config.specs.declared.policy_settings.ValueKind.{ValueKind}
 use Rattle.tsc_config.specs.declared.policy_settings.ValueKind.TheVariants as value_is
 use Rattle.tsc_config.specs.declared.fault.ConfigFault.{ConfigFault}
 use Rattle.tsc_config.specs.declared.fault.ConfigFault.TheVariants.{UnknownKey, MissingKey, WrongType, OutOfRange}
+use Rattle.tsc_config.specs.declared.kinds.ChoiceKey.TheVariants as choice_is
 use Rattle.tsc_config.specs.declared.kinds.PolicyType.{PolicyType}
 use Rattle.tsc_config.specs.declared.kinds.PolicyType.TheVariants as type_is
 use Rattle.tsc_config.specs.declared.kinds.TableKind.{TableKind}
@@ -71,6 +72,10 @@ truths : (value : Data) → IsSmall (truth_fault value)
 truths (boolean value) = none
 truths _ = wrong
 
+choices : (row : ChoiceRow) (value : Data) → IsSmall (choice_fault row value)
+choices row (string text) = either (bytes_eq text row.default || bytes_eq text row.other) _ _ none (only OutOfRange (omega arith))
+choices row _ = wrong
+
 wholes : (value : Data) → IsSmall (whole_fault value)
 wholes (integer number) = none
 wholes _ = wrong
@@ -110,6 +115,7 @@ values value_is.Whole value = wholes value
 values value_is.Truth value = truths value
 values value_is.Text value = texts value
 values value_is.PolicyType value = types value
+values (value_is.Choice key) value = choices (choice_row key) value
 values value_is.Percentage value = percentages value
 values (value_is.Array kind) value = arrays (item_fault kind) (items kind) value
 
@@ -197,5 +203,8 @@ table_small members =
     (sizes (pos 65536) (get_member (codes "max_connections") members) (pos 1)))))
     (both _ _ (optionally text_fault texts (get_member (codes "listen") members))
     (both _ _ (optionally truth_fault truths (get_member (codes "accept_gzip") members))
+    (both _ _ (both _ _ (optionally (choice_fault (choice_row choice_is.QueueFull)) (choices (choice_row choice_is.QueueFull)) (get_member (codes "queue_full") members))
+    (both _ _ (optionally (choice_fault (choice_row choice_is.OutputFault)) (choices (choice_row choice_is.OutputFault)) (get_member (codes "output_fault") members))
+    (optionally truth_fault truths (get_member (codes "close_at_end_of_input") members))))
     (both _ _ (optionally spec.cache_fault caches (get_member (codes "decision_cache") members))
-    (requiredly spec.policies_fault policies (get_member (codes "policies") members)))))))
+    (requiredly spec.policies_fault policies (get_member (codes "policies") members))))))))

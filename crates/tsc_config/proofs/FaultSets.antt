@@ -9,7 +9,7 @@ use Rattle.policy_tree.specs.declared.policy.Join.TheVariants as join_is
 use Rattle.tsc_config.specs.Keys.{type_name, type_at, join_type, join_name, sub_key, join_at}
 use Rattle.tsc_config.specs.Faults.{config_fault_number, least, optional, required, unknown_fault, integer_fault, text_fault, truth_fault, type_fault, items_fault, array_fault, item_fault, wanted_fault, each_setting_fault}
 use Rattle.tsc_config.specs.Faults as spec
-use Rattle.tsc_config.specs.FaultSets.{IsLeastOf, OptionalHas, RequiredHas, SomeItemHas, ArrayHas, ValueHas, KeyHas, SomeSettingHas, RowsHave, SettingsHave, SettingsAtHave, TypedHas, PolicyTableHas, PoliciesHave, SomePolicyHas, PolicyHas, PartsHave, PartsSettingsHave, SubPoliciesHave, SubValueHas, CacheHas, NumbersHave, SizesHave, HasFault}
+use Rattle.tsc_config.specs.FaultSets.{IsLeastOf, OptionalHas, RequiredHas, SomeItemHas, ArrayHas, ValueHas, KeyHas, SomeSettingHas, RowsHave, SettingsHave, SettingsAtHave, TypedHas, PolicyTableHas, PoliciesHave, SomePolicyHas, PolicyHas, PartsHave, PartsSettingsHave, SubPoliciesHave, SubValueHas, CacheHas, NumbersHave, SizesHave, ChoicesHave, HasFault}
 use Rattle.tsc_config.specs.PolicySettings.{Setting, settings}
 use Rattle.tsc_config.specs.declared.policy_settings.ValueKind.{ValueKind}
 use Rattle.tsc_config.specs.declared.policy_settings.ValueKind.TheVariants as value_is
@@ -228,4 +228,5 @@ table_least members =
     (both (SizesHave members) _ _ _ (four_rows _ _ _ _)
     (both (λ fault. listen ≡ Some fault) _ _ _ (row listen)
     (both (λ fault. gzip ≡ Some fault) _ _ _ (row gzip)
-    (both (OptionalHas CacheHas (get_member (codes "decision_cache") members)) (RequiredHas PoliciesHave (get_member (codes "policies") members)) _ _ cache policies)))))
+    (both (ChoicesHave members) _ _ _ (three_rows _ _ _)
+    (both (OptionalHas CacheHas (get_member (codes "decision_cache") members)) (RequiredHas PoliciesHave (get_member (codes "policies") members)) _ _ cache policies))))))

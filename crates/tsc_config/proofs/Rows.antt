@@ -1,13 +1,14 @@
 -- The numbers of a configuration's settings, computed on the definitions: each key's default, its range, and what lies just outside.
 -- No clause needs them: they show what the words of `Values` and `Faults` say, which code and contracts follow. The table below repeats no definition.
-use Rattle.std.specs.Prelude.{◌≡◌, ℕ, ℤ, pos, negsuc, true, false, List, [], ◌∷◌, map, codes, Option, Some, None, refl}
+use Rattle.std.specs.Prelude.{◌≡◌, ℕ, ℤ, pos, negsuc, Bool, true, false, List, [], ◌∷◌, map, codes, Option, Some, None, refl}
 use lib.Ieee.{to_unsigned, of_int, mul, div, eq}
 use Rattle.std.specs.Float.{Float, nan, inf, fin, round_with}
-use Rattle.toml.specs.Data.{integer, boolean, table, Members, no_members, member}
+use Rattle.toml.specs.Data.{string, integer, boolean, table, Members, no_members, member}
 use Rattle.tsc_config.specs.Keys.{is_key, is_setting, all_types, type_name, type_named}
-use Rattle.tsc_config.specs.Faults.{least, config_fault_number, numbers_fault, sizes_fault, cache_fault, rows_fault}
+use Rattle.tsc_config.specs.Faults.{least, config_fault_number, numbers_fault, sizes_fault, choices_fault, cache_fault, rows_fault}
 use Rattle.tsc_config.specs.declared.kinds.PolicyType.{PolicyType}
 use Rattle.tsc_config.specs.declared.kinds.PolicyType.TheVariants as type_is
+use Rattle.tsc_config.specs.declared.kinds.TableKind.TheVariants as table_is
 use Rattle.tsc_config.specs.Percentages.{ten_thousandths, percentage_of}
 use Rattle.tsc_config.specs.Values.{config_of, salt_by}
 use Rattle.tsc_config.specs.declared.config.Config.{Config}
@@ -112,6 +113,47 @@ listens_by_default = refl
 takes_gzip : (config_of no_members).accept_gzip ∷ (config_of (member (codes "accept_gzip") (boolean true) no_members)).accept_gzip
     ∷ (config_of (member (codes "accept_gzip") (boolean false) no_members)).accept_gzip ∷ [] ≡ false ∷ true ∷ false ∷ []
 takes_gzip = refl
+
+-- a table with one text, a truth value, a number
+abbrev one_text : (key text : List ℕ) → Members
+one_text key text = member key (string text) no_members
+
+-- what a key does that takes one of two texts, and the one of a truth value: by default, by each of its values
+abbrev choices_of : Config → List Bool
+choices_of c = c.waits_for_room ∷ c.stops_at_output_fault ∷ c.close_at_end_of_input ∷ []
+
+chosen : map (λ members. choices_of (config_of members)) (no_members
+    ∷ one_text (codes "queue_full") (codes "partial") ∷ one_text (codes "queue_full") (codes "retry")
+    ∷ one_text (codes "output_fault") (codes "discard") ∷ one_text (codes "output_fault") (codes "stop")
+    ∷ member (codes "close_at_end_of_input") (boolean false) no_members ∷ member (codes "close_at_end_of_input") (boolean true) no_members ∷ [])
+    ≡ (false ∷ false ∷ false ∷ [])
+    ∷ (false ∷ false ∷ false ∷ []) ∷ (true ∷ false ∷ false ∷ [])
+    ∷ (false ∷ false ∷ false ∷ []) ∷ (false ∷ true ∷ false ∷ [])
+    ∷ (false ∷ false ∷ false ∷ []) ∷ (false ∷ false ∷ true ∷ []) ∷ []
+chosen = refl
+
+choices_allowed : map choices_fault (no_members
+    ∷ one_text (codes "queue_full") (codes "partial") ∷ one_text (codes "queue_full") (codes "retry")
+    ∷ one_text (codes "output_fault") (codes "discard") ∷ one_text (codes "output_fault") (codes "stop")
+    ∷ member (codes "close_at_end_of_input") (boolean false) no_members ∷ member (codes "close_at_end_of_input") (boolean true) no_members ∷ [])
+    ≡ None ∷ None ∷ None ∷ None ∷ None ∷ None ∷ None ∷ []
+choices_allowed = refl
+
+-- another text, an empty one, and one of the other key
+choices_refused : map choices_fault (one_text (codes "queue_full") (codes "Retry") ∷ one_text (codes "queue_full") [] ∷ one_text (codes "queue_full") (codes "stop")
+    ∷ one_text (codes "output_fault") (codes "stops") ∷ one_text (codes "output_fault") [] ∷ one_text (codes "output_fault") (codes "retry") ∷ [])
+    ≡ Some OutOfRange ∷ Some OutOfRange ∷ Some OutOfRange ∷ Some OutOfRange ∷ Some OutOfRange ∷ Some OutOfRange ∷ []
+choices_refused = refl
+
+-- values of another type
+choices_of_no_type : map choices_fault (member (codes "queue_full") (boolean true) no_members ∷ member (codes "output_fault") (integer (pos 1)) no_members
+    ∷ one_text (codes "close_at_end_of_input") (codes "true") ∷ member (codes "close_at_end_of_input") (integer (pos 1)) no_members ∷ [])
+    ≡ Some WrongType ∷ Some WrongType ∷ Some WrongType ∷ Some WrongType ∷ []
+choices_of_no_type = refl
+
+choice_keys : map (is_key table_is.Config) (codes "queue_full" ∷ codes "output_fault" ∷ codes "close_at_end_of_input" ∷ codes "queue" ∷ []) ≡ true ∷ true ∷ true ∷ false ∷ []
+unfolding is_key
+choice_keys = refl
 
 -- each key gives its own number
 lowest_values : numbers_of (config_of (table_of (λ r. r.lowest))) ≡ 1 ∷ 0 ∷ 1 ∷ 1 ∷ 1 ∷ 1 ∷ 1 ∷ 1 ∷ 1 ∷ 1 ∷ 0 ∷ 0 ∷ []

@@ -1,15 +1,19 @@
 -- Each setting is what stands at its key, or the key's default.
 -- For `settings_are_of_their_keys`.
-use Rattle.std.proofs.Common.{◌≡◌, ℕ, ◌<◌, ◌≤◌, pos, negsuc, zero, suc, Bool, true, false, ◌⊎◌, inl, inr, refl, arith, codes, List, Option, None, Some, Ok, Err, subst, if◌then◌else◌, nat_lt, int_le, ◌&&◌}
+use Rattle.std.proofs.Common.{◌≡◌, ℕ, ◌<◌, ◌≤◌, pos, negsuc, zero, suc, Bool, true, false, ◌⊎◌, inl, inr, refl, arith, codes, List, Option, None, Some, Ok, Err, subst, if◌then◌else◌, nat_lt, int_le, ◌&&◌, ◌||◌}
 use Rattle.std.proofs.lemmas.Bool.Decides.{nat_tests}
+use Rattle.std.proofs.lemmas.Slice.Eq.{bytes_eq-Decides}
+use Rattle.std.specs.Str.{bytes_eq}
 use Rattle.toml.specs.Data.{Data, string, integer, boolean, table, Members, get_member}
 use Rattle.toml.specs.Parse.{parse_document}
 use Rattle.policy_tree.specs.Faults.{fault_of_policies}
 use Rattle.policy_tree.specs.declared.fault.PolicyFault.{PolicyFault}
-use Rattle.tsc_config.specs.Faults.{config_fault_number, least, optional, required, unknown_fault, integer_fault, text_fault, truth_fault, cache_fault, numbers_fault, sizes_fault, policies_fault, table_fault}
+use Rattle.tsc_config.specs.Faults.{config_fault_number, least, optional, required, unknown_fault, integer_fault, text_fault, truth_fault, choice_fault, choices_fault, cache_fault, numbers_fault, sizes_fault, policies_fault, table_fault}
+use Rattle.tsc_config.specs.Keys.{ChoiceRow, choice_row}
+use Rattle.tsc_config.specs.declared.kinds.ChoiceKey.TheVariants as choice_is
 use Rattle.tsc_config.specs.Reading.{reading, reading_of, reading_unless, reading_where}
-use Rattle.tsc_config.specs.Settings.{IsTextAt, IsTruthAt, IsCacheSize, HasSettings, ReadsSettings}
-use Rattle.tsc_config.specs.Values.{config_of, positive_of, natural_of, cache_size, listen_of, truth_of}
+use Rattle.tsc_config.specs.Settings.{IsTextAt, IsTruthAt, IsChoiceAt, IsCacheSize, HasSettings, ReadsSettings}
+use Rattle.tsc_config.specs.Values.{config_of, positive_of, natural_of, cache_size, listen_of, truth_of, is_other}
 use Rattle.tsc_config.specs.declared.config.Config.{Config}
 use Rattle.tsc_config.specs.declared.fault.ConfigFault.{ConfigFault}
 use Rattle.tsc_config.specs.declared.fault.ConfigFault.TheVariants.{OutOfRange, TooFewTraces}
@@ -66,11 +70,28 @@ text given None e f = inl (e, refl)
 text given (Some (string bytes)) e f = inr e
 text given (Some _) e f = cc
 
-gzip : (given : Members) (at : Option Data) → get_member (codes "accept_gzip") given ≡ at → optional truth_fault at ≡ None
-    → IsTruthAt given (codes "accept_gzip") (truth_of at)
-gzip given None e f = inl (e, refl)
-gzip given (Some (boolean value)) e f = inr e
-gzip given (Some _) e f = cc
+truth : (key : List ℕ) (given : Members) (at : Option Data) → get_member key given ≡ at → optional truth_fault at ≡ None → IsTruthAt given key (truth_of at)
+truth key given None e f = inl (e, refl)
+truth key given (Some (boolean value)) e f = inr e
+truth key given (Some _) e f = cc
+
+first_of : (a b : Bool) → (a || b) ≡ true → b ≡ false → a ≡ true
+first_of true b e f = refl
+first_of false b e f = cc
+
+-- one of two texts
+choice : (row : ChoiceRow) (given : Members) (at : Option Data) → get_member row.name given ≡ at → optional (choice_fault row) at ≡ None
+    → IsChoiceAt given row.name row.default row.other (is_other row at)
+choice row given None e f = inl (e, refl)
+choice row given (Some (string bytes)) e f = of (bytes_eq bytes row.other) refl
+  where
+    of : (r : Bool) → bytes_eq bytes row.other ≡ r → IsChoiceAt given row.name row.default row.other r
+    of true t = let same : bytes ≡ row.other = (bytes_eq-Decides bytes row.other).0 t in inr (inr (rw (← same) e, refl))
+    of false t =
+        let first : bytes_eq bytes row.default ≡ true = first_of _ _ (allowed (bytes_eq bytes row.default || bytes_eq bytes row.other) f) t in
+        let same : bytes ≡ row.default = (bytes_eq-Decides bytes row.default).0 first in
+        inr (inl (rw (← same) e, refl))
+choice row given (Some _) e f = cc
 
 -- both sizes of the table of caches
 cache : (given : Members) (at : Option Data) → get_member (codes "decision_cache") given ≡ at → optional cache_fault at ≡ None
@@ -88,7 +109,7 @@ cache given (Some _) e f = cc
 -- each part of a table without a fault has none
 pub table_parts : (members : Members) → table_fault members ≡ None → (numbers_fault members ≡ None) × (sizes_fault members ≡ None) × (optional text_fault (get_member (codes "listen") members) ≡ None)
     × (optional cache_fault (get_member (codes "decision_cache") members) ≡ None) × (required policies_fault (get_member (codes "policies") members) ≡ None)
-    × (optional truth_fault (get_member (codes "accept_gzip") members) ≡ None)
+    × (optional truth_fault (get_member (codes "accept_gzip") members) ≡ None) × (choices_fault members ≡ None)
 unfolding table_fault
 table_parts members e =
     let t = neither (unknown_fault table_is.Config members) _ e in
@@ -96,8 +117,9 @@ table_parts members e =
     let s = neither (sizes_fault members) _ n.1 in
     let l = neither (optional text_fault (get_member (codes "listen") members)) _ s.1 in
     let g = neither (optional truth_fault (get_member (codes "accept_gzip") members)) _ l.1 in
-    let c = neither (optional cache_fault (get_member (codes "decision_cache") members)) _ g.1 in
-    (n.0, s.0, l.0, c.0, c.1, g.0)
+    let h = neither (choices_fault members) _ g.1 in
+    let c = neither (optional cache_fault (get_member (codes "decision_cache") members)) _ h.1 in
+    (n.0, s.0, l.0, c.0, c.1, g.0, h.0)
 
 -- each row of the table's numbers has no fault
 whole : (members : Members) → table_fault members ≡ None → HasSettings members (config_of members)
@@ -111,6 +133,8 @@ whole members e =
     let queue = neither (optional (integer_fault (pos 1) (pos 65536)) (get_member (codes "queue_capacity") members)) _ t.1 in
     let export = neither (optional (integer_fault (pos 1) (pos 65536)) (get_member (codes "export_capacity") members)) _ queue.1 in
     let batch = neither (optional (integer_fault (pos 1) (pos 8192)) (get_member (codes "send_batch_size") members)) _ export.1 in
+    let queue_full = neither (optional (choice_fault (choice_row choice_is.QueueFull)) (get_member (codes "queue_full") members)) _ t.6 in
+    let output = neither (optional (choice_fault (choice_row choice_is.OutputFault)) (get_member (codes "output_fault") members)) _ queue_full.1 in
     let caches = cache members (get_member (codes "decision_cache") members) refl t.3 in record {
       decision_wait = positive 30000 3600000 (get_member (codes "decision_wait_ms") members) wait.0;
       root_wait = natural 3600000 (get_member (codes "root_wait_ms") members) root.0;
@@ -125,7 +149,10 @@ whole members e =
       max_connections = positive 1024 65536 (get_member (codes "max_connections") members) batch.1;
       tick = positive 1000 60000 (get_member (codes "tick_ms") members) shards.1;
       listen = text members (get_member (codes "listen") members) refl t.2;
-      accept_gzip = gzip members (get_member (codes "accept_gzip") members) refl t.5;
+      accept_gzip = truth (codes "accept_gzip") members (get_member (codes "accept_gzip") members) refl t.5;
+      waits_for_room = choice (choice_row choice_is.QueueFull) members (get_member (codes "queue_full") members) refl queue_full.0;
+      stops_at_output_fault = choice (choice_row choice_is.OutputFault) members (get_member (codes "output_fault") members) refl output.0;
+      close_at_end_of_input = truth (codes "close_at_end_of_input") members (get_member (codes "close_at_end_of_input") members) refl output.1;
     }
 
 -- what is read as a configuration is the table's, which has no fault

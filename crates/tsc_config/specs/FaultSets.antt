@@ -8,7 +8,7 @@ use Rattle.policy_tree.specs.declared.fault.PolicyFault.{PolicyFault}
 use Rattle.policy_tree.specs.declared.policy.Join.{Join}
 use Rattle.policy_tree.specs.declared.policy.Join.TheVariants as join_is
 use Rattle.tsc_config.specs.Keys.{type_name, type_at, join_type, join_name, sub_key, join_at}
-use Rattle.tsc_config.specs.Faults.{config_fault_number, optional, required, unknown_fault, integer_fault, text_fault, truth_fault, type_fault, item_fault, wanted_fault}
+use Rattle.tsc_config.specs.Faults.{config_fault_number, optional, required, unknown_fault, integer_fault, text_fault, truth_fault, choice_fault, type_fault, item_fault, wanted_fault}
 use Rattle.tsc_config.specs.PolicySettings.{Setting, settings}
 use Rattle.tsc_config.specs.declared.policy_settings.ValueKind.{ValueKind}
 use Rattle.tsc_config.specs.declared.policy_settings.ValueKind.TheVariants as value_is
@@ -160,6 +160,17 @@ SizesHave members fault =
     ⊎ (NumberHas members (codes "send_batch_size") (pos 8192) fault
     ⊎ NumberHas members (codes "max_connections") (pos 65536) fault))
 
+-- what stands at this key is none of these two texts
+abbrev pub ChoiceHas : Members → (key default other : List ℕ) → ConfigFault → Type 0
+ChoiceHas members key default other fault = optional (choice_fault (record { name = key; default = default; other = other })) (get_member key members) ≡ Some fault
+
+-- some row of the choices has this fault
+abbrev pub ChoicesHave : Members → ConfigFault → Type 0
+ChoicesHave members fault =
+    ChoiceHas members (codes "queue_full") (codes "partial") (codes "retry") fault
+    ⊎ (ChoiceHas members (codes "output_fault") (codes "discard") (codes "stop") fault
+    ⊎ (optional truth_fault (get_member (codes "close_at_end_of_input") members) ≡ Some fault))
+
 -- the table of a configuration has this fault
 abbrev pub HasFault : Members → ConfigFault → Type 0
 HasFault members fault =
@@ -168,8 +179,9 @@ HasFault members fault =
     ⊎ (SizesHave members fault
     ⊎ ((optional text_fault (get_member (codes "listen") members) ≡ Some fault)
     ⊎ ((optional truth_fault (get_member (codes "accept_gzip") members) ≡ Some fault)
+    ⊎ (ChoicesHave members fault
     ⊎ (OptionalHas CacheHas (get_member (codes "decision_cache") members) fault
-    ⊎ RequiredHas PoliciesHave (get_member (codes "policies") members) fault)))))
+    ⊎ RequiredHas PoliciesHave (get_member (codes "policies") members) fault))))))
 
 -- the text of a configuration with this table, if it is TOML, has this fault
 abbrev pub DocumentHas : Option Members → ConfigFault → Type 0

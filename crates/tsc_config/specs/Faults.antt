@@ -1,14 +1,15 @@
 -- What is wrong with the table of a configuration: the fault of least number among those of all its rows.
-use Rattle.std.specs.Prelude.{ℕ, ℤ, pos, ◌&&◌, List, [], ◌∷◌, codes, Option, None, Some, if◌then◌else◌, int_le, nat_lt}
+use Rattle.std.specs.Prelude.{ℕ, ℤ, pos, ◌&&◌, ◌||◌, List, [], ◌∷◌, codes, Option, None, Some, if◌then◌else◌, int_le, nat_lt}
 use Rattle.std.specs.Str.{bytes_eq}
 use Rattle.toml.specs.Data.{Data, string, integer, float, boolean, array, table, Items, no_items, item, Members, no_members, member, get_member}
 use Rattle.tsc_config.specs.PolicySettings.{Setting, settings}
 use Rattle.tsc_config.specs.Percentages.{percentage_of}
-use Rattle.tsc_config.specs.Keys.{NumberRow, number_row, has_unknown_key, type_name, type_of, type_at, code_of, join_type, join_name, sub_key, join_at}
+use Rattle.tsc_config.specs.Keys.{NumberRow, number_row, ChoiceRow, choice_row, has_unknown_key, type_name, type_of, type_at, code_of, join_type, join_name, sub_key, join_at}
 use Rattle.policy_tree.specs.declared.policy.Join.{Join}
 use Rattle.policy_tree.specs.declared.policy.Join.TheVariants as join_is
 use Rattle.tsc_config.specs.declared.fault.ConfigFault.{ConfigFault}
 use Rattle.tsc_config.specs.declared.fault.ConfigFault.TheVariants.{NotToml, UnknownKey, MissingKey, WrongType, OutOfRange, TooFewTraces, Policy, NoMemory}
+use Rattle.tsc_config.specs.declared.kinds.ChoiceKey.TheVariants as choice_is
 use Rattle.tsc_config.specs.declared.kinds.NumberKey.TheVariants as number_is
 use Rattle.tsc_config.specs.declared.kinds.PolicyType.{PolicyType}
 use Rattle.tsc_config.specs.declared.kinds.PolicyType.TheVariants as type_is
@@ -69,6 +70,15 @@ abbrev pub named_fault : {A : Type 0} → Option A → Option ConfigFault
 named_fault None = Some OutOfRange
 named_fault (Some found) = None
 
+-- one of the two texts of a row is wanted
+abbrev pub choice_fault : ChoiceRow → Data → Option ConfigFault
+choice_fault row (string text) = if bytes_eq text row.default || bytes_eq text row.other then None else Some OutOfRange
+choice_fault row _ = Some WrongType
+
+-- the fault of what stands at a key of one of two texts
+abbrev pub choice_at_fault : ChoiceRow → Members → Option ConfigFault
+choice_at_fault row members = optional (choice_fault row) (get_member row.name members)
+
 -- a text that names a type of policy is wanted
 abbrev pub type_fault : Data → Option ConfigFault
 type_fault (string text) = named_fault (type_of (string text))
@@ -121,6 +131,7 @@ wanted_fault value_is.Whole = whole_fault
 wanted_fault value_is.Truth = truth_fault
 wanted_fault value_is.Text = text_fault
 wanted_fault value_is.PolicyType = type_fault
+wanted_fault (value_is.Choice key) = choice_fault (choice_row key)
 wanted_fault value_is.Percentage = percentage_fault
 wanted_fault (value_is.Array kind) = array_fault (item_fault kind)
 
@@ -231,6 +242,13 @@ sizes_fault members =
     (least (number_fault (number_row number_is.SendBatchSize) members)
     (number_fault (number_row number_is.MaxConnections) members)))
 
+-- the rows of the choices: what a full queue and a fault of the output do, and whether the end of the input closes
+abbrev pub choices_fault : Members → Option ConfigFault
+choices_fault members =
+    least (choice_at_fault (choice_row choice_is.QueueFull) members)
+    (least (choice_at_fault (choice_row choice_is.OutputFault) members)
+    (optional truth_fault (get_member (codes "close_at_end_of_input") members)))
+
 -- the rows of the whole table: a key more is a row more
 unfoldable pub table_fault : Members → Option ConfigFault
 table_fault members =
@@ -239,5 +257,6 @@ table_fault members =
     (least (sizes_fault members)
     (least (optional text_fault (get_member (codes "listen") members))
     (least (optional truth_fault (get_member (codes "accept_gzip") members))
+    (least (choices_fault members)
     (least (optional cache_fault (get_member (codes "decision_cache") members))
-    (required policies_fault (get_member (codes "policies") members)))))))
+    (required policies_fault (get_member (codes "policies") members))))))))

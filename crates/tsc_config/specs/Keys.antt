@@ -6,6 +6,8 @@ use Rattle.tsc_config.specs.PolicySettings.{Setting, settings}
 use Rattle.toml.specs.Data.{Data, as_str, Members, no_members, member, get_member}
 use Rattle.policy_tree.specs.declared.policy.Join.{Join}
 use Rattle.policy_tree.specs.declared.policy.Join.TheVariants as join_is
+use Rattle.tsc_config.specs.declared.kinds.ChoiceKey.{ChoiceKey}
+use Rattle.tsc_config.specs.declared.kinds.ChoiceKey.TheVariants as choice_is
 use Rattle.tsc_config.specs.declared.kinds.NumberKey.{NumberKey}
 use Rattle.tsc_config.specs.declared.kinds.NumberKey.TheVariants as number_is
 use Rattle.tsc_config.specs.declared.kinds.PolicyType.{PolicyType}
@@ -32,6 +34,17 @@ number_row number_is.ExportCapacity = record { name = codes "export_capacity"; d
 number_row number_is.SendBatchSize = record { name = codes "send_batch_size"; default = 512; lowest = 1; greatest = 8192 }
 number_row number_is.MaxConnections = record { name = codes "max_connections"; default = 1024; lowest = 1; greatest = 65536 }
 number_row number_is.Tick = record { name = codes "tick_ms"; default = 1000; lowest = 1; greatest = 60000 }
+
+-- what a key of one of two texts has: its name, its default, and the other text
+pub record ChoiceRow : Type 0 where
+  pub name : List ℕ
+  pub default : List ℕ
+  pub other : List ℕ
+
+-- the table of the keys of one of two texts
+abbrev pub choice_row : ChoiceKey → ChoiceRow
+choice_row choice_is.QueueFull = record { name = codes "queue_full"; default = codes "partial"; other = codes "retry" }
+choice_row choice_is.OutputFault = record { name = codes "output_fault"; default = codes "discard"; other = codes "stop" }
 
 -- the text that names a type of policy, and the key of its settings
 abbrev pub type_name : PolicyType → List ℕ
@@ -77,6 +90,7 @@ is_key table_is.Config key =
     || bytes_eq key (number_row number_is.QueueCapacity).name || bytes_eq key (number_row number_is.ExportCapacity).name
     || bytes_eq key (number_row number_is.SendBatchSize).name || bytes_eq key (number_row number_is.MaxConnections).name || bytes_eq key (number_row number_is.Tick).name
     || bytes_eq key (codes "listen") || bytes_eq key (codes "accept_gzip")
+    || bytes_eq key (choice_row choice_is.QueueFull).name || bytes_eq key (choice_row choice_is.OutputFault).name || bytes_eq key (codes "close_at_end_of_input")
 is_key table_is.DecisionCache key = bytes_eq key (codes "sampled_cache_size") || bytes_eq key (codes "non_sampled_cache_size")
 is_key (table_is.Policy kind) key = bytes_eq key (codes "name") || bytes_eq key (codes "type") || has_settings kind && bytes_eq key (type_name kind)
 is_key (table_is.Settings kind) key = is_setting kind key

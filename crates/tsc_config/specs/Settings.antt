@@ -1,5 +1,5 @@
 -- What a configuration has from its table, key by key: what stands at the key, or the key's default.
-use Rattle.std.specs.Prelude.{◌≡◌, ℕ, ◌≤◌, pos, Bool, false, List, ◌⊎◌, codes, Some, None, Ok}
+use Rattle.std.specs.Prelude.{◌≡◌, ℕ, ◌≤◌, pos, Bool, true, false, List, ◌⊎◌, codes, Some, None, Ok}
 use Rattle.toml.specs.Data.{string, integer, boolean, table, Members, get_member}
 use Rattle.toml.specs.Parse.{parse_document}
 use Rattle.tsc_config.specs.Reading.{reading}
@@ -20,6 +20,13 @@ IsTextAt members key default text =
 abbrev pub IsTruthAt : Members → (key : List ℕ) → (truth : Bool) → Type 0
 IsTruthAt members key truth =
     ((get_member key members ≡ None) × (truth ≡ false)) ⊎ (get_member key members ≡ Some (boolean truth))
+
+-- the choice of a key: not made, where it doesn't stand there or is this default; made, where it is the other text
+abbrev pub IsChoiceAt : Members → (key default other : List ℕ) → (is_other : Bool) → Type 0
+IsChoiceAt members key default other is_other =
+    ((get_member key members ≡ None) × (is_other ≡ false))
+    ⊎ (((get_member key members ≡ Some (string default)) × (is_other ≡ false))
+    ⊎ ((get_member key members ≡ Some (string other)) × (is_other ≡ true)))
 
 -- the size of a cache of decisions: 0 where there is no table of them; else that of its key there
 abbrev pub IsCacheSize : Members → (key : List ℕ) → (size : ℕ) → Type 0
@@ -43,6 +50,9 @@ pub record HasSettings (members : Members) (config : Config) : Type 0 where
   pub tick : IsNumberAt members (codes "tick_ms") 1000 1 60000 config.tick
   pub listen : IsTextAt members (codes "listen") (codes "127.0.0.1:4318") config.listen
   pub accept_gzip : IsTruthAt members (codes "accept_gzip") config.accept_gzip
+  pub waits_for_room : IsChoiceAt members (codes "queue_full") (codes "partial") (codes "retry") config.waits_for_room
+  pub stops_at_output_fault : IsChoiceAt members (codes "output_fault") (codes "discard") (codes "stop") config.stops_at_output_fault
+  pub close_at_end_of_input : IsTruthAt members (codes "close_at_end_of_input") config.close_at_end_of_input
 
 -- a text that is read as a configuration is a document with these settings
 abbrev pub ReadsSettings : Type 0

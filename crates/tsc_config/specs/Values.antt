@@ -13,7 +13,8 @@ use Rattle.policy_tree.specs.declared.policy.Leaf.TheVariants as leaf_is
 use Rattle.policy_tree.specs.declared.policy.Wanted.{Wanted}
 use Rattle.policy_tree.specs.declared.policy.Wanted.TheVariants.{StringAmong, NumberWithin, Boolean}
 use Rattle.tsc_config.specs.Percentages.{percentage_of}
-use Rattle.tsc_config.specs.Keys.{NumberRow, number_row, type_name, type_at, code_of, join_name, sub_key, join_at}
+use Rattle.tsc_config.specs.Keys.{NumberRow, number_row, ChoiceRow, choice_row, type_name, type_at, code_of, join_name, sub_key, join_at}
+use Rattle.tsc_config.specs.declared.kinds.ChoiceKey.TheVariants as choice_is
 use Rattle.tsc_config.specs.declared.kinds.NumberKey.TheVariants as number_is
 use Rattle.tsc_config.specs.declared.kinds.PolicyType.{PolicyType}
 use Rattle.tsc_config.specs.declared.kinds.PolicyType.TheVariants as type_is
@@ -67,6 +68,11 @@ text_of (Some value) = text_value value
 abbrev pub listen_of : Option Data → List ℕ
 listen_of None = codes "127.0.0.1:4318"
 listen_of (Some value) = text_value value
+
+-- the other text of a row, and not that by default, stands at a key
+abbrev pub is_other : ChoiceRow → Option Data → Bool
+is_other row (Some (string text)) = bytes_eq text row.other
+is_other row _ = false
 
 -- one element or none, before others
 abbrev pub found_before : {A : Type 0} → Option A → List A → List A
@@ -252,4 +258,7 @@ config_of members = record {
   tick = positive_by (number_row number_is.Tick) members;
   listen = listen_of (get_member (codes "listen") members);
   accept_gzip = truth_of (get_member (codes "accept_gzip") members);
+  waits_for_room = is_other (choice_row choice_is.QueueFull) (get_member (choice_row choice_is.QueueFull).name members);
+  stops_at_output_fault = is_other (choice_row choice_is.OutputFault) (get_member (choice_row choice_is.OutputFault).name members);
+  close_at_end_of_input = truth_of (get_member (codes "close_at_end_of_input") members);
 }

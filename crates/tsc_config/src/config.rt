@@ -10,9 +10,9 @@ ghost use Rattle.tsc_config.specs.declared.fault.ConfigFault.TheVariants.{NoMemo
 
 use crate::fault::ConfigFault;
 use crate::fault_walk::table_fault;
-use crate::kinds::NumberKey;
+use crate::kinds::{ChoiceKey, NumberKey};
 use crate::settings_values::{natural_at, truth_at};
-use crate::values::{cache_size_at, listen_at, policies_at, positive_by};
+use crate::values::{cache_size_at, is_other_at, listen_at, policies_at, positive_by};
 use otlp_types::Text;
 use policy_tree::Policies;
 use span_ids::Moment;
@@ -60,6 +60,14 @@ pub struct Config {
     pub listen: Text,
     /// Whether bodies that are packed by gzip are taken (RFC 9110, section 8.4.1.3; this project's option `accept_gzip`).
     pub accept_gzip: bool,
+    /// Whether a request whose spans find no room in a queue waits, in place of being answered which of them were
+    /// discarded (this project's option `queue_full`, `retry`).
+    pub waits_for_room: bool,
+    /// Whether the collector stops once its output fails, in place of discarding what comes after (this project's option
+    /// `output_fault`, `stop`).
+    pub stops_at_output_fault: bool,
+    /// Whether the end of the standard input closes the collector (this project's option `close_at_end_of_input`).
+    pub close_at_end_of_input: bool,
 }
 
 impl Config {
@@ -95,7 +103,8 @@ impl Config {
 /// `sampled_cache_size` and `non_sampled_cache_size`, each from 0 to 1000000, else 0; `policies`, a required array of policy tables with
 /// `name`, `type` and the settings of that type; `lanes` and `shards`, from 1 to 64, else 1; `queue_capacity` and
 /// `export_capacity`, from 1 to 65536, else 1024; `send_batch_size`, from 1 to 8192, else 512; `max_connections`, from 1 to 65536, else 1024; `tick_ms`, from 1 to
-/// 60000, else 1000; `listen`, a text, else `127.0.0.1:4318`; and `accept_gzip`, true or false, else false.
+/// 60000, else 1000; `listen`, a text, else `127.0.0.1:4318`; `accept_gzip` and `close_at_end_of_input`, true or false, else false; `queue_full`, `partial` or
+/// `retry`, else `partial`; and `output_fault`, `discard` or `stop`, else `discard`.
 ///
 /// `Err` is the fault of least number that the text has ([`crate::laws::answers_least_fault`]), or `NoMemory` where
 /// memory was refused. For a text of blanks and comments alone that is never so: it is answered that `policies` is
@@ -165,5 +174,8 @@ fn config_of(alloc: Global, table: &Table) -> Result<Config, ConfigFault>
         tick: positive_by(table, NumberKey::Tick),
         listen,
         accept_gzip: truth_at(table, "accept_gzip"),
+        waits_for_room: is_other_at(table, ChoiceKey::QueueFull),
+        stops_at_output_fault: is_other_at(table, ChoiceKey::OutputFault),
+        close_at_end_of_input: truth_at(table, "close_at_end_of_input"),
     })
 }

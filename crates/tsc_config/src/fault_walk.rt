@@ -3,11 +3,11 @@ ghost use Rattle.std.specs.Prelude.{◌≡◌, codes, pos};
 ghost use Rattle.toml.specs.Data.{get_member};
 ghost use Rattle.toml.specs.View.{view, table_view};
 ghost use Rattle.tsc_config.specs.Faults as spec;
-ghost use Rattle.tsc_config.specs.Keys.{number_row};
+ghost use Rattle.tsc_config.specs.Keys.{choice_row, number_row};
 
 use crate::fault::{ConfigFault, least};
 use crate::keys::{member, unknown_fault};
-use crate::kinds::{NumberKey, TableKind};
+use crate::kinds::{ChoiceKey, NumberKey, TableKind};
 use crate::policy_faults::policies_fault;
 use crate::policy_settings::ValueKind;
 use crate::settings_faults::optional_fault;
@@ -25,7 +25,7 @@ pub fn table_fault(table: &Table) -> Option<ConfigFault>
     let cache = cache_at_fault(table);
     let gzip = optional_fault(table, "accept_gzip", ValueKind::Truth);
     let tables = least(cache, required_policies_fault(table));
-    let rest = least(listen, least(gzip, tables));
+    let rest = least(listen, least(gzip, least(choices_fault(table), tables)));
     least(keys, least(numbers, least(sizes, rest)))
 }
 
@@ -52,6 +52,23 @@ fn sizes_fault(table: &Table) -> Option<ConfigFault>
     let batch = number_fault(table, NumberKey::SendBatchSize);
     let connections = number_fault(table, NumberKey::MaxConnections);
     least(queue, least(export, least(batch, connections)))
+}
+
+/// The fault of the choices: what a full queue and a fault of the output do, and whether the end of the input closes.
+fn choices_fault(table: &Table) -> Option<ConfigFault>
+    ensures { result ≡ spec.choices_fault (table_view table.now) }
+{
+    let queue = choice_at_fault(table, ChoiceKey::QueueFull);
+    let output = choice_at_fault(table, ChoiceKey::OutputFault);
+    let close = optional_fault(table, "close_at_end_of_input", ValueKind::Truth);
+    least(queue, least(output, close))
+}
+
+/// The fault of what stands at a key of one of two texts.
+fn choice_at_fault(table: &Table, key: ChoiceKey) -> Option<ConfigFault>
+    ensures { result ≡ spec.choice_at_fault (choice_row key) (table_view table.now) }
+{
+    optional_fault(table, key.row().0, ValueKind::Choice(key))
 }
 
 /// The fault of what stands at a key of a whole number.

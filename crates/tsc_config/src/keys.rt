@@ -65,6 +65,9 @@ fn is_key(kind: TableKind, key: &str) -> bool
                 | "tick_ms"
                 | "listen"
                 | "accept_gzip"
+                | "queue_full"
+                | "output_fault"
+                | "close_at_end_of_input"
         ),
         TableKind::DecisionCache => {
             matches!(key, "sampled_cache_size" | "non_sampled_cache_size")

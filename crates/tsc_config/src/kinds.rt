@@ -99,6 +99,27 @@ impl NumberKey {
     }
 }
 
+/// The keys of a configuration whose value is one of two texts.
+#[derive(Clone, Copy)]
+pub enum ChoiceKey {
+    QueueFull,
+    OutputFault,
+}
+
+impl ChoiceKey {
+    /// Its name, its default, and the other text that it takes.
+    pub fn row(self) -> (&'static str, &'static str, &'static str)
+        ensures name { result.0.now ≡ (spec.choice_row self).name }
+        ensures default { result.1.now ≡ (spec.choice_row self).default }
+        ensures other { result.2.now ≡ (spec.choice_row self).other }
+    {
+        match self {
+            ChoiceKey::QueueFull => ("queue_full", "partial", "retry"),
+            ChoiceKey::OutputFault => ("output_fault", "discard", "stop"),
+        }
+    }
+}
+
 /// The kinds of table in a configuration, each with keys of its own.
 #[derive(Clone, Copy, PartialEq, Eq)]
 pub enum TableKind {

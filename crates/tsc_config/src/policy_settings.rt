@@ -2,7 +2,7 @@
 ghost use Rattle.std.specs.Prelude.{◌≡◌, map};
 ghost use Rattle.tsc_config.specs.PolicySettings as spec;
 
-use crate::kinds::PolicyType;
+use crate::kinds::{ChoiceKey, PolicyType};
 
 /// What an item of an array is to be.
 #[derive(Clone, Copy)]
@@ -22,6 +22,8 @@ pub enum ValueKind {
     Text,
     /// A text that names a type of policy.
     PolicyType,
+    /// One of the two texts of this key.
+    Choice(ChoiceKey),
     /// A whole number from 0 to 100, or a number between with at most four decimals.
     Percentage,
     /// An array of such items.

@@ -1,13 +1,14 @@
 //! The least fault of the settings of a policy.
 ghost use Rattle.std.specs.Prelude.{◌≡◌, map};
-ghost use Rattle.toml.specs.Data.{get_member};
+ghost use Rattle.toml.specs.Data.{get_member, string};
 ghost use Rattle.toml.specs.View.{view, table_view, array_view};
 ghost use Rattle.tsc_config.specs.Faults as spec;
+ghost use Rattle.tsc_config.specs.Keys.{choice_row};
 ghost use Rattle.tsc_config.specs.PolicySettings.{setting_of};
 
 use crate::fault::{ConfigFault, least};
 use crate::keys::{code_of, member, type_of, unknown_fault};
-use crate::kinds::{PolicyType, TableKind};
+use crate::kinds::{ChoiceKey, PolicyType, TableKind};
 use crate::percentages::percentage_of;
 use crate::policy_settings::{ItemKind, Setting, ValueKind};
 use toml::value::Array;
@@ -107,6 +108,7 @@ fn value_fault(value: &Value, wanted: ValueKind) -> Option<ConfigFault>
         (ValueKind::Truth, Value::Boolean(_)) => None,
         (ValueKind::Text, Value::String(_)) => None,
         (ValueKind::Array(kind), Value::Array(items)) => items_fault(items, kind),
+        (ValueKind::Choice(key), Value::String(text)) => choice_fault(key, text.as_str()),
         (ValueKind::PolicyType, Value::String(_)) => match type_of(value) {
             Some(_) => None,
             None => Some(ConfigFault::OutOfRange),
@@ -116,5 +118,17 @@ fn value_fault(value: &Value, wanted: ValueKind) -> Option<ConfigFault>
             None => Some(ConfigFault::OutOfRange),
         },
         _ => Some(ConfigFault::WrongType),
+    }
+}
+
+/// The fault that a text is neither of the two texts of a key.
+fn choice_fault(key: ChoiceKey, text: &str) -> Option<ConfigFault>
+    ensures { result ≡ spec.choice_fault (choice_row key) (string text.now) }
+{
+    let (_, default, other) = key.row();
+    if text == default || text == other {
+        None
+    } else {
+        Some(ConfigFault::OutOfRange)
     }
 }

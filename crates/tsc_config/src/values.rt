@@ -3,12 +3,12 @@ ghost use Rattle.std.specs.Prelude.{◌≡◌, ◌<◌, ◌≤◌, IfOk, codes};
 ghost use Rattle.policy_tree.specs.declared.policy.Join.TheVariants as join_is;
 ghost use Rattle.toml.specs.Data.{get_member, table as table_data};
 ghost use Rattle.toml.specs.View.{view, table_view, array_view};
-ghost use Rattle.tsc_config.specs.Keys.{number_row, type_name};
+ghost use Rattle.tsc_config.specs.Keys.{choice_row, number_row, type_name};
 ghost use Rattle.tsc_config.specs.Values as spec;
 
 use crate::joins::{join_at, join_type, sub_key};
 use crate::keys::{member, type_at};
-use crate::kinds::{NumberKey, PolicyType};
+use crate::kinds::{ChoiceKey, NumberKey, PolicyType};
 use crate::settings_values::{kind_in, natural_at, text_at, text_of};
 use otlp_types::{List, Text};
 use policy_tree::{Join, Leaf, Policy, PolicyKind};
@@ -38,6 +38,17 @@ pub fn listen_at(alloc: Global, table: &Table) -> Result<Text, AllocError>
     match member(table, "listen") {
         Some(value) => text_of(alloc, value),
         None => Text::from_str(alloc, "127.0.0.1:4318"),
+    }
+}
+
+/// Whether the other text stands at a key of one of two, and not that by default.
+pub fn is_other_at(table: &Table, key: ChoiceKey) -> bool
+    ensures { result ≡ spec.is_other (choice_row key) (get_member (choice_row key).name (table_view table.now)) }
+{
+    let (name, _, other) = key.row();
+    match member(table, name) {
+        Some(Value::String(text)) => text.as_str() == other,
+        _ => false,
     }
 }
 
