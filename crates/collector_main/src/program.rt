@@ -209,7 +209,10 @@ fn serve_by<
         return (writer, Outcome::CannotListen);
     };
     let stop = StopMark::new();
-    let drivers = match drivers(rt, alloc, &config, &listener, &stop) {
+    let Ok(loads) = loads_of(alloc, config.lanes) else {
+        return (writer, Outcome::NoMemory);
+    };
+    let drivers = match drivers(rt, alloc, &config, &listener, &loads, &stop) {
         Ok(drivers) => drivers,
         Err(error) if error.kind() == ErrorKind::OutOfMemory => return (writer, Outcome::NoMemory),
         Err(_) => return (writer, Outcome::CannotListen),

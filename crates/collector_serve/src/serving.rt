@@ -3,12 +3,13 @@ ghost use Rattle.std.specs.Prelude.{◌≡◌, ◌<◌, ◌-◌, ◌^◌, All, I
 ghost use Rattle.pipeline.specs.Outcome.{SinkAnswers};
 ghost use Rattle.pipeline.specs.Promise.{CoreRunTells};
 ghost use Rattle.tsc_config.specs.Values.{InRange};
-ghost use Rattle.collector_serve.specs.Sharing.{share_of};
+ghost use Rattle.collector_serve.specs.Sharing.{share_of, allowed_by};
 
 use crate::board::Board;
 use crate::ticker::Ticker;
 use drop_ledger::Report;
 use http_lane::{Clock as Moments, Stop};
+use http_text::Allowed;
 use lane_driver::{Loads, TurnDriver};
 use lane_turns::Driver;
 use lane_worker::ByTurns;
@@ -80,6 +81,16 @@ fn share(connections: usize, lanes: usize) -> usize
     }
 }
 
+/// What is allowed to clients.
+fn allowed_by(config: &Config) -> Allowed
+    ensures { result ≡ allowed_by config.now }
+{
+    Allowed {
+        gzip: config.accept_gzip,
+        close: config.admin.as_str().is_empty(),
+    }
+}
+
 /// What drives each lane, and what is allowed to its clients. Each has its share of the connections that may be open at
 /// once. `Err`: there is no memory, or too many files are open for a lane to watch its connections.
 pub fn drivers<'l, P: Stop, R: Net + Clock>(
@@ -87,6 +98,7 @@ pub fn drivers<'l, P: Stop, R: Net + Clock>(
     alloc: Global,
     config: &Config,
     listener: &'l TcpListener,
+    loads: &Arc<Loads, Global>,
     stop: &'l P,
 ) -> io::Result<Vec<ByTurns<TurnDriver<'l, P>>>>
     requires { 0 < config.now.lanes }
@@ -96,18 +108,12 @@ pub fn drivers<'l, P: Stop, R: Net + Clock>(
 {
     let lanes = config.lanes as usize;
     let limit = share(config.max_connections, lanes);
-    let loads = Arc::new(alloc, Loads::new(alloc, lanes)?)?;
+    let allowed = allowed_by(config);
     let mut drivers = Vec::with_capacity(alloc, lanes)?;
     for lane in 0..lanes {
-        let loads = Arc::try_clone(&loads)?;
+        let loads = Arc::try_clone(loads)?;
         let driver = TurnDriver::new(rt, alloc, listener, stop, limit, loads, lane)?;
-        drivers.push(ByTurns {
-            driver,
-            allowed: Allowed {
-                gzip: config.accept_gzip,
-                close: true,
-            },
-        })?;
+        drivers.push(ByTurns { driver, allowed })?;
     }
     Ok(drivers)
 }

@@ -44,12 +44,12 @@ closes_ends Unwritten e = cc e
 closing : (e : Event) (cause : Cause) → e.cause ≡ cause → closes cause ≡ true → end_of e ≡ None → ⊥
 closing e cause is closes_it open_after = closes_ends e.fate (ap (end_with e.fate) (sym (ap closes is ∙ closes_it)) ∙ open_after)
 
-head_packed : (g : Bool) (v : Verdict) (rest : List ℕ) (e : Event) (next : Reading) → HeadBrings g v rest e.cause next → end_of e ≡ None → allowed_in next ≡ g
+head_packed : (g : Allowed) (v : Verdict) (rest : List ℕ) (e : Event) (next : Reading) → HeadBrings g v rest e.cause next → end_of e ≡ None → allowed_in next ≡ g
 head_packed g (Refused r is_head) rest e next h o = absurd (closing e (refusal r is_head) h refl o)
 head_packed g Close rest e next h o = absurd (closing e close_asked h refl o)
 head_packed g (Posted post) rest e next h o = ap allowed_in h.1
 
-body_packed : (g : Bool) (post : Post) (f : Found) (e : Event) (next : Reading) → BodyBrings g post f e.cause next → end_of e ≡ None → allowed_in next ≡ g
+body_packed : (g : Allowed) (post : Post) (f : Found) (e : Event) (next : Reading) → BodyBrings g post f e.cause next → end_of e ≡ None → allowed_in next ≡ g
 body_packed g post waits e next h o = absurd h
 body_packed g post (refuses r) e next h o = absurd (closing e (refusal r false) h refl o)
 body_packed g post (found body rest) e next h o = ap allowed_in h.1

@@ -77,7 +77,7 @@ turns_number k (had j before after t ∷ acts) c last h = either (j == k) (λ x.
     either true f g x = f x
     either false f g x = g x
 
-run_numbers : (g : Bool) (k : ℕ) (acts : List Act) (last : Numbered) → RunOf g k acts last → NumbersOn k 0 acts
+run_numbers : (g : Allowed) (k : ℕ) (acts : List Act) (last : Numbered) → RunOf g k acts last → NumbersOn k 0 acts
 run_numbers g k [] last h = tt
 run_numbers g k (took j moment ∷ acts) last h = go (j == k) h (λ x. turns_number k acts (numbered (came_at g moment) 0) last x) (λ x. run_numbers g k acts last x)
   where
@@ -99,7 +99,7 @@ none_numbers k next (had j before after t ∷ acts) h = subst (λ (b : Bool). Ma
 abbrev IsToCome : (allowed : Allowed) → (ordinal : ℕ) → List Act → Type 0
 IsToCome g k acts = ((last : Numbered) × RunOf g k acts last) ⊎ HasNone k acts
 
-to_come_taken : (g : Bool) (k j moment : ℕ) (acts : List Act) → (j == k) ≡ false → IsToCome g k (took j moment ∷ acts) → IsToCome g k acts
+to_come_taken : (g : Allowed) (k j moment : ℕ) (acts : List Act) → (j == k) ≡ false → IsToCome g k (took j moment ∷ acts) → IsToCome g k acts
 to_come_taken g k j moment acts ne (inl h) = inl (h.0, other_part _ _ (j == k) ne h.1)
   where
     other_part : (A B : Type 0) (b : Bool) → b ≡ false → MatchBool b A B → B
@@ -107,7 +107,7 @@ to_come_taken g k j moment acts ne (inl h) = inl (h.0, other_part _ _ (j == k) n
     other_part A B false e x = x
 to_come_taken g k j moment acts ne (inr h) = inr h.1
 
-to_come_had : (g : Bool) (k j before after : ℕ) (t : _) (acts : List Act) → IsToCome g k (had j before after t ∷ acts) → ((j == k) ≡ false) × IsToCome g k acts
+to_come_had : (g : Allowed) (k j before after : ℕ) (t : _) (acts : List Act) → IsToCome g k (had j before after t ∷ acts) → ((j == k) ≡ false) × IsToCome g k acts
 to_come_had g k j before after t acts (inl h) = go (j == k) refl h.1
   where
     go : (b : Bool) → (j == k) ≡ b → MatchBool b ⊥ (RunOf g k acts h.0) → ((j == k) ≡ false) × IsToCome g k acts
@@ -117,7 +117,7 @@ to_come_had g k j before after t acts (inr h) = (h.0, inr h.1)
 
 -- ---- turn by turn
 
-module _ (g : Bool) (capacity number : ℕ) (first : List (EndState Item)) where
+module _ (g : Allowed) (capacity number : ℕ) (first : List (EndState Item)) where
   others_same : (k j : ℕ) → (k == j) ≡ false → (ss : List Submission) (old new : Log) → old.at.conn.key ≡ key_of number k → SubmitsAll (Logs capacity) old ss new
       → on_conn (key_of number j) new.received ≡ on_conn (key_of number j) old.received
   others_same k j ne [] old new e p = ap (λ (l : Log). on_conn (key_of number j) l.received) p
