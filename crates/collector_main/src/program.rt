@@ -18,6 +18,7 @@ use span_sink::{LineSink, Sink, WriteSink};
 use std::alloc::Global;
 use std::io::{ErrorKind, Write};
 use std::net::{Net, TcpListener, TcpStream};
+use std::random::RandomSource;
 use std::rt::Files;
 use std::sync::Wait;
 use std::thread::Threads;
@@ -52,7 +53,7 @@ pub enum Outcome {
     Configuration(ConfigFault),
     /// A line of the script is refused, or can't be read.
     Script(u64),
-    /// There was no memory at the start.
+    /// There was no memory at the start, or, to serve, no random source.
     NoMemory,
     /// A count would have passed 2^64-1.
     BookFull,
@@ -62,7 +63,13 @@ pub enum Outcome {
 
 /// Runs the program with the arguments behind its own name. It gives the writer back beside the exit status.
 pub fn program<
-    T: Files + Net<Listener = TcpListener, Stream = TcpStream> + Threads + Wait + Clock + Sync,
+    T: Files
+        + Net<Listener = TcpListener, Stream = TcpStream>
+        + Threads
+        + Wait
+        + Clock
+        + RandomSource
+        + Sync,
     R: Source,
     W: Write + Drop,
 >(rt: &T, alloc: Global, arguments: &[String], reader: &mut R, writer: W) -> (W, u8)
@@ -123,7 +130,13 @@ fn exit_status(outcome: &Outcome, written: bool) -> u8
 
 /// Does what the arguments say.
 fn run<
-    T: Files + Net<Listener = TcpListener, Stream = TcpStream> + Threads + Wait + Clock + Sync,
+    T: Files
+        + Net<Listener = TcpListener, Stream = TcpStream>
+        + Threads
+        + Wait
+        + Clock
+        + RandomSource
+        + Sync,
     R: Source,
     W: Write + Drop,
 >(rt: &T, alloc: Global, arguments: &[String], reader: &mut R, writer: W) -> (W, Outcome)
@@ -189,7 +202,12 @@ fn replay_by<R: Source, W: Write>(
 
 /// Takes requests on a listener by the configuration in what was read of its file.
 fn serve_by<
-    T: Net<Listener = TcpListener, Stream = TcpStream> + Threads + Wait + Clock + Sync,
+    T: Net<Listener = TcpListener, Stream = TcpStream>
+        + Threads
+        + Wait
+        + Clock
+        + RandomSource
+        + Sync,
     W: Write + Drop,
 >(rt: &T, alloc: Global, file: Result<Vec<u8>, FileFault>, writer: W) -> (W, Outcome)
     ensures { (arguments : List (List ℕ)) → (unread : KnownReader) → Serves (record {

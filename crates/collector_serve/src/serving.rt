@@ -19,6 +19,7 @@ use std::alloc::Global;
 use std::io;
 use std::io::ErrorKind;
 use std::net::{Net, TcpListener, TcpStream, ToSocketAddrs};
+use std::random::RandomSource;
 use std::sync::{Arc, Wait};
 use std::thread::Threads;
 use std::time::Clock;
@@ -42,13 +43,14 @@ pub fn listen<R: Net<Listener = TcpListener, Stream = TcpStream>>(
 /// Runs the collector on what drives its lanes, until a request says `POST /close`, which sets the mark, or it is set
 /// otherwise. It may be set already: then what is asked on a connection that waits is refused. It gives the sink back, and the
 /// report of all spans: what the threads did is a run of the core. The board shows the counts meanwhile. `NoMemory`: there was
-/// none at the start, and no connection was taken.
+/// none at the start, or the system has no random source for the key by which trace ids are hashed, and no connection was
+/// taken.
 pub fn serve_on<
     D: Driver + Send + Drop,
     S: Sink + Drop,
     P: Stop + Sync,
     M: Moments + Sync,
-    R: Threads + Wait + Clock + Sync,
+    R: Threads + Wait + Clock + RandomSource + Sync,
 >(
     rt: &R,
     alloc: Global,
