@@ -9,7 +9,7 @@ ghost use Rattle.collector_main.specs.declared.program.Outcome.TheVariants.{NoMe
 
 use crate::configuration::{FileFault, config_of, read_file};
 use crate::validating::told_of;
-use collector_serve::{StopMark, WallClock, drivers, listen, serve_on};
+use collector_serve::{Board, StopMark, StoppingSink, WallClock, drivers, listen, serve_on};
 use drop_ledger::{Count, Report};
 use itoa::Buffer;
 use lane_seq::put;
@@ -20,6 +20,7 @@ use span_sink::{LineSink, Sink, WriteSink};
 use std::alloc::Global;
 use std::io::{ErrorKind, Write};
 use std::net::{Net, TcpListener, TcpStream};
+use std::random::RandomSource;
 use std::rt::Files;
 use std::sync::Wait;
 use std::thread::Threads;
@@ -63,7 +64,7 @@ pub enum Outcome {
     Configuration(ConfigFault),
     /// A line of the script is refused, or can't be read.
     Script(u64),
-    /// There was no memory at the start.
+    /// There was no memory at the start, or, to serve, no random source.
     NoMemory,
     /// A count would have passed 2^64-1.
     BookFull,
@@ -96,7 +97,13 @@ listened at, and 7 for a full book.
 
 /// Runs the program with the arguments behind its own name. It gives the writer back beside the exit status.
 pub fn program<
-    T: Files + Net<Listener = TcpListener, Stream = TcpStream> + Threads + Wait + Clock + Sync,
+    T: Files
+        + Net<Listener = TcpListener, Stream = TcpStream>
+        + Threads
+        + Wait
+        + Clock
+        + RandomSource
+        + Sync,
     R: Source,
     W: Write + Drop,
 >(rt: &T, alloc: Global, arguments: &[String], reader: &mut R, writer: W) -> (W, u8)
@@ -159,7 +166,13 @@ fn exit_status(outcome: &Outcome, written: bool) -> u8
 
 /// Does what the arguments say.
 fn run<
-    T: Files + Net<Listener = TcpListener, Stream = TcpStream> + Threads + Wait + Clock + Sync,
+    T: Files
+        + Net<Listener = TcpListener, Stream = TcpStream>
+        + Threads
+        + Wait
+        + Clock
+        + RandomSource
+        + Sync,
     R: Source,
     W: Write + Drop,
 >(rt: &T, alloc: Global, arguments: &[String], reader: &mut R, writer: W) -> (W, Outcome)
@@ -247,7 +260,12 @@ fn replay_by<R: Source, W: Write>(
 
 /// Takes requests on a listener by the configuration in what was read of its file.
 fn serve_by<
-    T: Net<Listener = TcpListener, Stream = TcpStream> + Threads + Wait + Clock + Sync,
+    T: Net<Listener = TcpListener, Stream = TcpStream>
+        + Threads
+        + Wait
+        + Clock
+        + RandomSource
+        + Sync,
     W: Write + Drop,
 >(rt: &T, alloc: Global, file: Result<Vec<u8>, FileFault>, writer: W) -> (W, Outcome)
     ensures { (arguments : List (List ℕ)) → (unread : KnownReader) → Serves (record {
@@ -267,15 +285,20 @@ fn serve_by<
         return (writer, Outcome::CannotListen);
     };
     let stop = StopMark::new();
-    let drivers = match drivers(rt, alloc, &config, &listener, &stop) {
+    let Ok(loads) = loads_of(alloc, config.lanes) else {
+        return (writer, Outcome::NoMemory);
+    };
+    let drivers = match drivers(rt, alloc, &config, &listener, &loads, &stop) {
         Ok(drivers) => drivers,
         Err(error) if error.kind() == ErrorKind::OutOfMemory => return (writer, Outcome::NoMemory),
         Err(_) => return (writer, Outcome::CannotListen),
     };
     let clock = WallClock::new(rt);
-    let sink = WriteSink::new(writer);
-    let (sink, answer) = serve_on(rt, alloc, config, drivers, sink, &stop, &clock);
-    (sink.end(), served_to(answer))
+    let stops = config.stops_at_output_fault;
+    let sink = StoppingSink::new(WriteSink::new(writer), &stop, stops);
+    let board = Board::new();
+    let (sink, answer) = serve_on(rt, alloc, config, drivers, sink, &board, &stop, &clock);
+    (sink.end().end(), served_to(answer))
 }
 
 fn served_to(answer: Result<Report, ServeFault>) -> Outcome

@@ -2,6 +2,7 @@
 ghost use Rattle.std.specs.Prelude.{◌≡◌, IfOk, IfSome};
 
 use http_lane::{Reads, Stop};
+use http_text::Allowed;
 use lane_worker::Feed;
 use std::net::{TcpListener, TcpStream};
 use std::sync::Wait;
@@ -23,18 +24,18 @@ const PAUSE: u64 = 2;
 pub struct Connections<'l, P: Stop> {
     listener: &'l TcpListener,
     stop: &'l P,
-    takes_gzip: bool,
+    allowed: Allowed,
 }
 
 impl<'l, P: Stop> Connections<'l, P> {
-    /// The connections of this listener, of which bodies packed by gzip are taken or aren't.
-    pub fn new(listener: &'l TcpListener, stop: &'l P, takes_gzip: bool) -> Self
-        ensures { result.takes_gzip ≡ takes_gzip }
+    /// The connections of this listener, to whose clients this is allowed.
+    pub fn new(listener: &'l TcpListener, stop: &'l P, allowed: Allowed) -> Self
+        ensures { result.allowed ≡ allowed }
     {
         Connections {
             listener,
             stop,
-            takes_gzip,
+            allowed,
         }
     }
 }
@@ -44,12 +45,12 @@ impl<'l, P: Stop> Feed for Connections<'l, P> {
 
     type Writer = TcpStream;
 
-    ghost gives = { λ old given new. (new.takes_gzip ≡ old.takes_gzip) × IfSome given (λ x. x.0.takes_gzip ≡ old.takes_gzip) };
+    ghost gives = { λ old given new. (new.allowed ≡ old.allowed) × IfSome given (λ x. x.0.allowed ≡ old.allowed) };
 
     fn next<R: Wait + Clock>(&mut self, rt: &R) -> Option<(Reads<TcpStream>, TcpStream)> {
         for _ in rt.forever() {
             if let Ok((stream, _)) = self.listener.accept() {
-                if let Ok(connection) = set_up(stream, self.takes_gzip) {
+                if let Ok(connection) = set_up(stream, self.allowed) {
                     return Some(connection);
                 }
             }
@@ -63,13 +64,13 @@ impl<'l, P: Stop> Feed for Connections<'l, P> {
 }
 
 /// Both ends of a connection: answers go out at once, and reads and writes wait only so long. What can't be set up is closed.
-fn set_up(stream: TcpStream, takes_gzip: bool) -> io::Result<(Reads<TcpStream>, TcpStream)>
-    ensures { IfOk result (λ x. x.0.takes_gzip ≡ takes_gzip) }
+fn set_up(stream: TcpStream, allowed: Allowed) -> io::Result<(Reads<TcpStream>, TcpStream)>
+    ensures { IfOk result (λ x. x.0.allowed ≡ allowed) }
 {
     stream.set_nodelay(true)?;
     stream.set_read_timeout(Some(Duration::from_millis(READ_TIMEOUT)))?;
     stream.set_write_timeout(Some(Duration::from_millis(WRITE_TIMEOUT)))?;
     let reader = stream.try_clone()?;
-    let reads = Reads { reader, takes_gzip };
+    let reads = Reads { reader, allowed };
     Ok((reads, stream))
 }

@@ -2,14 +2,18 @@
 //! the pipeline.
 #![tactic(auto)]
 
+mod board;
 mod connections;
 mod serving;
 mod stop_mark;
+mod stopping_sink;
 mod ticker;
 mod wall_clock;
 
+pub use board::Board;
 pub use connections::Connections;
 pub use serving::{drivers, listen, serve_on};
 pub use stop_mark::StopMark;
+pub use stopping_sink::StoppingSink;
 pub use ticker::Ticker;
 pub use wall_clock::WallClock;

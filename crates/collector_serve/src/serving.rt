@@ -3,13 +3,14 @@ ghost use Rattle.std.specs.Prelude.{◌≡◌, ◌<◌, ◌-◌, ◌^◌, All, I
 ghost use Rattle.pipeline.specs.Outcome.{SinkAnswers};
 ghost use Rattle.pipeline.specs.Promise.{CoreRunTells};
 ghost use Rattle.tsc_config.specs.Values.{InRange};
-ghost use Rattle.collector_serve.specs.Sharing.{share_of};
+ghost use Rattle.collector_serve.specs.Sharing.{share_of, allowed_by};
 
+use crate::board::Board;
 use crate::ticker::Ticker;
 use drop_ledger::Report;
 use http_lane::{Clock as Moments, Stop};
+use http_text::Allowed;
 use lane_driver::{Loads, TurnDriver};
-use lane_queue::OpenGate;
 use lane_turns::Driver;
 use lane_worker::ByTurns;
 use pipeline::{RunFault, run_by_turns};
@@ -18,6 +19,7 @@ use std::alloc::Global;
 use std::io;
 use std::io::ErrorKind;
 use std::net::{Net, TcpListener, TcpStream, ToSocketAddrs};
+use std::random::RandomSource;
 use std::sync::{Arc, Wait};
 use std::thread::Threads;
 use std::time::Clock;
@@ -40,20 +42,22 @@ pub fn listen<R: Net<Listener = TcpListener, Stream = TcpStream>>(
 
 /// Runs the collector on what drives its lanes, until a request says `POST /close`, which sets the mark, or it is set
 /// otherwise. It may be set already: then what is asked on a connection that waits is refused. It gives the sink back, and the
-/// report of all spans: what the threads did is a run of the core. `NoMemory`: there was none at the start, and no connection
-/// was taken.
+/// report of all spans: what the threads did is a run of the core. The board shows the counts meanwhile. `NoMemory`: there was
+/// none at the start, or the system has no random source for the key by which trace ids are hashed, and no connection was
+/// taken.
 pub fn serve_on<
     D: Driver + Send + Drop,
     S: Sink + Drop,
     P: Stop + Sync,
     M: Moments + Sync,
-    R: Threads + Wait + Clock + Sync,
+    R: Threads + Wait + Clock + RandomSource + Sync,
 >(
     rt: &R,
     alloc: Global,
     config: Config,
     drivers: Vec<ByTurns<D>>,
     sink: S,
+    board: &Board,
     stop: &P,
     clock: &M,
 ) -> (S, Result<Report, RunFault>)
@@ -64,9 +68,7 @@ pub fn serve_on<
     ensures ran { CoreRunTells config (S.taken sink) (S.failures sink) (S.taken result.0) (S.failures result.0) result.1 }
 {
     let ticks = Ticker::new(config.tick, clock, stop);
-    run_by_turns(
-        rt, alloc, config, drivers, ticks, sink, &OpenGate, stop, clock,
-    )
+    run_by_turns(rt, alloc, config, drivers, ticks, sink, board, stop, clock)
 }
 
 /// How many connections a lane may have.
@@ -81,31 +83,39 @@ fn share(connections: usize, lanes: usize) -> usize
     }
 }
 
-/// What drives each lane, and whether packed bodies are taken there. Each has its share of the connections that may be open at
+/// What is allowed to clients.
+fn allowed_by(config: &Config) -> Allowed
+    ensures { result ≡ allowed_by config.now }
+{
+    Allowed {
+        gzip: config.accept_gzip,
+        close: config.admin.as_str().is_empty(),
+    }
+}
+
+/// What drives each lane, and what is allowed to its clients. Each has its share of the connections that may be open at
 /// once. `Err`: there is no memory, or too many files are open for a lane to watch its connections.
 pub fn drivers<'l, P: Stop, R: Net + Clock>(
     rt: &R,
     alloc: Global,
     config: &Config,
     listener: &'l TcpListener,
+    loads: &Arc<Loads, Global>,
     stop: &'l P,
 ) -> io::Result<Vec<ByTurns<TurnDriver<'l, P>>>>
     requires { 0 < config.now.lanes }
     ensures lanes { IfOk result (λ drivers. vec_len drivers ≡ config.now.lanes) }
     ensures shares { IfOk result (λ drivers. All (λ it. it.driver.links.limit ≡ share_of config.now.max_connections config.now.lanes) drivers.items) }
-    ensures gzip { IfOk result (λ drivers. All (λ it. it.takes_gzip ≡ config.now.accept_gzip) drivers.items) }
+    ensures allowed { IfOk result (λ drivers. All (λ it. it.allowed ≡ allowed_by config.now) drivers.items) }
 {
     let lanes = config.lanes as usize;
     let limit = share(config.max_connections, lanes);
-    let loads = Arc::new(alloc, Loads::new(alloc, lanes)?)?;
+    let allowed = allowed_by(config);
     let mut drivers = Vec::with_capacity(alloc, lanes)?;
     for lane in 0..lanes {
-        let loads = Arc::try_clone(&loads)?;
+        let loads = Arc::try_clone(loads)?;
         let driver = TurnDriver::new(rt, alloc, listener, stop, limit, loads, lane)?;
-        drivers.push(ByTurns {
-            driver,
-            takes_gzip: config.accept_gzip,
-        })?;
+        drivers.push(ByTurns { driver, allowed })?;
     }
     Ok(drivers)
 }

@@ -5,6 +5,7 @@ use crate::traces::{Remembered, Traces};
 use span_ids::{TraceId, Verdict};
 use std::alloc::{AllocError, Global};
 use std::marker::Model;
+use trace_hash::TraceHashing;
 
 /// The traces that are remembered as sampled, and those remembered as not sampled.
 #[derive(Drop)]
@@ -25,9 +26,10 @@ impl DecisionCache {
     ghost use Rattle.decision_cache.specs.Lists.{empty_lists, is_held_in_either, Remembers, asked, after_asking};
     ghost use Rattle.decision_cache.specs.Touches.{Touch, StandsFor, touched_by, is_lost, cached_as, sizes_of};
 
-    /// Room for so many traces of each verdict. A size of 0 is off.
+    /// Room for so many traces of each verdict, which are hashed in this way. A size of 0 is off.
     pub fn new(
         alloc: Global,
+        hashing: TraceHashing,
         sampled: usize,
         not_sampled: usize,
     ) -> Result<DecisionCache, AllocError>
@@ -35,8 +37,8 @@ impl DecisionCache {
         ensures stands { IfOk result (λ cache. StandsFor cache []) }
     {
         Ok(DecisionCache {
-            sampled: Traces::new(alloc, sampled)?,
-            not_sampled: Traces::new(alloc, not_sampled)?,
+            sampled: Traces::new(alloc, hashing, sampled)?,
+            not_sampled: Traces::new(alloc, hashing, not_sampled)?,
         })
     }
 

@@ -7,6 +7,7 @@ use span_ids::TraceId;
 use std::alloc::{AllocError, Global};
 use std::marker::Model;
 use std::num::NonZeroUsize;
+use trace_hash::TraceHashing;
 
 /// What became of a put.
 #[derive(Clone, Copy, PartialEq, Eq)]
@@ -23,7 +24,7 @@ pub enum Remembered {
 #[derive(Drop)]
 pub struct Traces {
     /// None where there is room for none.
-    cache: Option<LruCache<TraceId, ()>>,
+    cache: Option<LruCache<TraceId, (), TraceHashing>>,
 }
 
 impl Model for Traces {
@@ -35,15 +36,16 @@ impl Model for Traces {
 }
 
 impl Traces {
-    pub fn new(alloc: Global, size: usize) -> Result<Traces, AllocError>
+    pub fn new(alloc: Global, hashing: TraceHashing, size: usize) -> Result<Traces, AllocError>
         ensures { IfOk result (λ t. t ≡ record { traces = []; size = size }) }
     {
-        match NonZeroUsize::new(size) {
-            None => Ok(Traces { cache: None }),
-            Some(cap) => Ok(Traces {
-                cache: Some(LruCache::sparse(alloc, cap)?),
-            }),
-        }
+        let Some(cap) = NonZeroUsize::new(size) else {
+            return Ok(Traces { cache: None });
+        };
+        // Room is taken as the cache fills, not ahead for `size` traces, as `with_hasher` would.
+        let mut cache = LruCache::unbounded_with_hasher(alloc, hashing)?;
+        cache.resize(cap);
+        Ok(Traces { cache: Some(cache) })
     }
 
     pub fn put(&mut self, trace: TraceId) -> Remembered

@@ -144,7 +144,7 @@ does_then submits t u v a b c xs ys d p = (
 pub record Serving {E L : Type 0} (stands : E → Reading → Type 0) (submits : L → Submission → L → Type 0) (old_text new_text : Option (List ℕ)) (old new : L) (old_reader new_reader : KnownReader) (engine : E) (row count : ℕ) : Type 0 where
   pub rounds : List Round
   pub last : Standing
-  pub run : Rounds (at_first old_reader.takes_gzip) rounds last
+  pub run : Rounds (at_first old_reader.allowed) rounds last
   pub goes_on : last.end ≡ None
   pub stood : stands engine last.reading
   pub rests : Rests last.reading
@@ -212,7 +212,7 @@ module _ {E L : Type 0} {stands : E → Reading → Type 0} {submits : L → Sub
   serving_more v c new e' row' turn is_stopped events reading s r stood rests told did = record {
     rounds = s.rounds ++ round_of turn is_stopped events ∷ [];
     last = standing reading row' None;
-    run = rounds_more (at_first old.takes_gzip) s.last (standing reading row' None) s.rounds (round_of turn is_stopped events) s.run s.goes_on r;
+    run = rounds_more (at_first old.allowed) s.last (standing reading row' None) s.rounds (round_of turn is_stopped events) s.run s.goes_on r;
     goes_on = refl;
     stood = stood;
     rests = rests;
@@ -230,7 +230,7 @@ module _ {E L : Type 0} {stands : E → Reading → Type 0} {submits : L → Sub
     s.rounds ++ round_of turn is_stopped events ∷ [],
     record {
       last = standing reading row' (Some why);
-      run = rounds_more (at_first old.takes_gzip) s.last (standing reading row' (Some why)) s.rounds (round_of turn is_stopped events) s.run s.goes_on r;
+      run = rounds_more (at_first old.allowed) s.last (standing reading row' (Some why)) s.rounds (round_of turn is_stopped events) s.run s.goes_on r;
       few = omega (arith, length-append s.rounds (round_of turn is_stopped events ∷ []), s.count_is);
       ends = refl;
     },
@@ -266,9 +266,9 @@ counted_text Unmade f = refl
 counted_text Unwritten f = refl
 
 -- a connection of which nothing has been read
-pub serving_first : {E L : Type 0} (awaits : E → Reading → Type 0) (submits : L → Submission → L → Type 0) (text : Option (List ℕ)) (lane : L) (reader : KnownReader) (engine : E) → awaits engine (in_head reader.takes_gzip [])
+pub serving_first : {E L : Type 0} (awaits : E → Reading → Type 0) (submits : L → Submission → L → Type 0) (text : Option (List ℕ)) (lane : L) (reader : KnownReader) (engine : E) → awaits engine (in_head reader.allowed [])
     → Serving awaits submits text text lane lane reader reader engine 0 0
-serving_first awaits submits text lane reader engine a = record { rounds = []; last = at_first reader.takes_gzip; run = refl; goes_on = refl; stood = a; rests = refl; row_is = refl; count_is = refl; turns = gives_none reader; done = does_none submits text lane }
+serving_first awaits submits text lane reader engine a = record { rounds = []; last = at_first reader.allowed; run = refl; goes_on = refl; stood = a; rests = refl; row_is = refl; count_is = refl; turns = gives_none reader; done = does_none submits text lane }
 
 -- all reads were made
 pub serving_turns : {E L : Type 0} (awaits : E → Reading → Type 0) (submits : L → Submission → L → Type 0) (t u : Option (List ℕ)) (a b : L) (old new : KnownReader) (engine : E) (row : ℕ)
@@ -284,7 +284,7 @@ serving_turns awaits submits t u a b old new engine row s = (
 pub served_nothing : {L : Type 0} (submits : L → Submission → L → Type 0) (text : Option (List ℕ)) (lane : L) (reader : KnownReader) → Served submits text text lane lane reader reader NoMemory
 served_nothing submits text lane reader = (
   [],
-  record { last = at_first reader.takes_gzip; run = refl; few = omega arith; ends = inr (refl, refl) },
+  record { last = at_first reader.allowed; run = refl; few = omega arith; ends = inr (refl, refl) },
   gives_none reader,
   does_none submits text lane,
 )

@@ -2,6 +2,7 @@
 use Rattle.std.specs.Prelude.{◌≡◌, ℕ, ◌<◌, ◌≤◌, Bool, true, false, List, [], ◌++◌, Option, Some, None, take}
 use Rattle.std.specs.Io.KnownBytes.{Appends, Consumes, IsAtEnd}
 use Rattle.std.specs.Borrow.{Bor}
+use Rattle.http_text.specs.declared.allowed.Allowed.{Allowed}
 use Rattle.http_text.specs.declared.request.Refusal.TheVariants.{NotGzip, BodyTooLarge}
 use Rattle.inflate.specs.declared.fault.GzipFault.{GzipFault}
 use Rattle.inflate.specs.declared.fault.GzipFault.TheVariants.{Broken, TooLong, NoMemory}
@@ -122,14 +123,14 @@ abbrev pub FitsPiece : ReadTurn → ℕ → Type 0
 FitsPiece (Gave n) len = (0 < n) × (n ≤ len)
 FitsPiece _ len = Unit {0}
 
--- what is known of a reader: what its reads gave so far, the bytes that it has left, and whether packed bodies are taken from it
+-- what is known of a reader: what its reads gave so far, the bytes that it has left, and what is allowed to its client
 pub record KnownReader : Type 0 where
   pub turns : Option (List Turn)
   pub left : Option (List ℕ)
-  pub takes_gzip : Bool
+  pub allowed : Allowed
 
-abbrev pub known_reader : Option (List Turn) → Option (List ℕ) → Bool → KnownReader
-known_reader turns left takes_gzip = record { turns = turns; left = left; takes_gzip = takes_gzip }
+abbrev pub known_reader : Option (List Turn) → Option (List ℕ) → Allowed → KnownReader
+known_reader turns left allowed = record { turns = turns; left = left; allowed = allowed }
 
 -- where it is known what its reads gave, these turns are more
 abbrev pub Tells : Option (List Turn) → Option (List Turn) → List Turn → Type 0
@@ -145,7 +146,7 @@ pub record Gives (old new : KnownReader) (turns : List Turn) : Type 0 where
 -- a connection was served: it has a transcript, which the reader, the writer and the lane followed
 abbrev pub Served : {L : Type 0} → (L → Submission → L → Type 0) → Option (List ℕ) → Option (List ℕ) → L → L → KnownReader → KnownReader → ServeEnd → Type 0
 Served submits old_text new_text old new old_reader new_reader end =
-    (rounds : List Round) × IsTranscript old_reader.takes_gzip rounds end × Gives old_reader new_reader (turns_of rounds) × Does submits old_text new_text old new (events_of rounds)
+    (rounds : List Round) × IsTranscript old_reader.allowed rounds end × Gives old_reader new_reader (turns_of rounds) × Does submits old_text new_text old new (events_of rounds)
 
 -- a quiet turn was dealt with, whatever lane there is
 abbrev pub Waits : Option (List ℕ) → Option (List ℕ) → Standing → ℕ → Option ServeEnd → Type 0

@@ -2,6 +2,7 @@
 -- What bytes bring is as in Connection.
 use Rattle.std.specs.Prelude.{◌≡◌, ℕ, ◌+◌, ◌<◌, ◌≤◌, ◌⊎◌, ◌||◌, Bool, true, false, List, [], ◌∷◌, length, Option, Some, None, MatchBool, if◌then◌else◌, nat_le}
 use Rattle.std.specs.List.{list_any}
+use Rattle.http_text.specs.declared.allowed.Allowed.{Allowed}
 use Rattle.http_lane.specs.declared.answer.ServeEnd.{ServeEnd}
 use Rattle.http_lane.specs.declared.answer.ServeEnd.TheVariants.{Closed, Cut, Quiet, Stopped, ReadFault, WriteFault, NoMemory}
 use Rattle.http_lane.specs.declared.turns.TheConstants.{IDLE_LIMIT, REQUEST_LIMIT}
@@ -30,9 +31,9 @@ pub record Waiting : Type 0 where
 abbrev pub waiting : Reading → ℕ → Option ServeEnd → Waiting
 waiting reading since end = record { reading = reading; since = since; end = end }
 
--- the connection came at this moment; the flag: whether packed bodies are taken
-abbrev pub came_at : (takes_gzip : Bool) → ℕ → Waiting
-came_at takes_gzip moment = waiting (in_head takes_gzip []) moment None
+-- the connection came at this moment, with this allowed to its client
+abbrev pub came_at : (allowed : Allowed) → ℕ → Waiting
+came_at allowed moment = waiting (in_head allowed []) moment None
 
 -- one turn: what it brought, its moment, what the stop mark said if it was asked, and what was done
 pub record Turned : Type 0 where
@@ -78,15 +79,15 @@ abbrev pub Turns : Waiting → List Turned → Waiting → Type 0
 Turns w [] last = last ≡ w
 Turns w (t ∷ turns) last = (w.end ≡ None) × (next : Waiting) × IsTurn w t next × Turns next turns last
 
--- whether packed bodies are taken
-abbrev pub takes_packed : Reading → Bool
-takes_packed (in_head takes_gzip bytes) = takes_gzip
-takes_packed (in_body takes_gzip post bytes) = takes_gzip
+-- what is allowed to the client
+abbrev pub allowed_in : Reading → Allowed
+allowed_in (in_head allowed bytes) = allowed
+allowed_in (in_body allowed post bytes) = allowed
 
 -- what awaits more of a reading: an engine while a request is under way, and nothing between requests
-abbrev pub AwaitsBy : {E : Type 0} → (takes_gzip : Bool) → (awaits : E → Reading → Type 0) → Option E → Reading → Type 0
-AwaitsBy takes_gzip awaits None r = r ≡ in_head takes_gzip []
-AwaitsBy takes_gzip awaits (Some engine) r = awaits engine r × (is_between r ≡ false) × (takes_packed r ≡ takes_gzip)
+abbrev pub AwaitsBy : {E : Type 0} → (allowed : Allowed) → (awaits : E → Reading → Type 0) → Option E → Reading → Type 0
+AwaitsBy allowed awaits None r = r ≡ in_head allowed []
+AwaitsBy allowed awaits (Some engine) r = awaits engine r × (is_between r ≡ false) × (allowed_in r ≡ allowed)
 
 -- the bytes came, or there was no memory for them
 abbrev pub IsTaken : List ℕ → Coming → Type 0

@@ -319,7 +319,7 @@ fn serve_turns<E: Engine, P: Port<Item>, C: Counter, R: Source, W: Write, S: Sto
     stop: &S,
     clock: &K,
 ) -> ServeEnd
-    requires { E.awaits engine.old (in_head (R.given reader.old).takes_gzip []) }
+    requires { E.awaits engine.old (in_head (R.given reader.old).allowed []) }
     ensures { Served (Submits P.takes P.refuses) (W.contents writer.old) (W.contents writer.new) (intake lane.old conn.old (C.counted counts.old)) (intake lane.new conn.new (C.counted counts.new)) (R.given reader.old) (R.given reader.new) result }
 {
     let mut piece = [0; PIECE_LIMIT];
@@ -370,7 +370,7 @@ pub fn serve<P: Port<Item>, C: Counter, R: Source, W: Write, S: Stop, K: Clock>(
         (R.given reader.old) (R.given reader.new) result }
 {
     let mut conn = lane.connect();
-    match Requests::new(alloc, reader.takes_gzip()) {
+    match Requests::new(alloc, reader.allowed()) {
         Ok(mut engine) => serve_turns(
             alloc,
             &mut engine,

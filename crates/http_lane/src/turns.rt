@@ -7,6 +7,7 @@ ghost use Rattle.http_lane.specs.declared.answer.ServeEnd.TheVariants.{Closed, C
 ghost use Rattle.http_lane.specs.Engine.{Does, IsAtRest, Settled};
 ghost use Rattle.http_lane.specs.Requests.{Awaits};
 ghost use Rattle.http_lane.specs.Turns.{Waiting, waiting, AwaitsBy, Coming, IsTaken, IsTurnBy, nothing};
+ghost use Rattle.http_text.specs.declared.allowed.Allowed.{Allowed};
 
 use crate::answer::{Answer, ServeEnd};
 use crate::engine::Engine;
@@ -15,6 +16,7 @@ use crate::reads::PIECE_LIMIT;
 use crate::requests::Requests;
 use crate::serving::{answer, end_with, settle};
 use drop_ledger::Counter;
+use http_text::Allowed;
 use lane_queue::Port;
 use lane_seq::{Conn, Lane};
 use otlp_types::Item;
@@ -52,16 +54,16 @@ impl Exchange {
 
     /// Whether no byte of a request has come.
     pub fn is_between(&self) -> bool
-        ensures { (takes_gzip : Bool) (w : Waiting) → AwaitsBy takes_gzip Awaits self.now.engine w.reading → result ≡ is_between w.reading }
+        ensures { (allowed : Allowed) (w : Waiting) → AwaitsBy allowed Awaits self.now.engine w.reading → result ≡ is_between w.reading }
     {
         self.engine.is_none()
     }
 
-    /// A turn that brought these bytes; `takes_gzip`: whether packed bodies are taken, the same at each turn.
+    /// A turn that brought these bytes; `allowed`: what is allowed to the client, the same at each turn.
     pub fn came<P: Port<Item>, C: Counter, W: Write, S: Stop, K: Clock>(
         &mut self,
         alloc: Global,
-        takes_gzip: bool,
+        allowed: Allowed,
         spare: &mut Option<Requests>,
         lane: &mut Lane<P>,
         counts: &mut C,
@@ -72,16 +74,16 @@ impl Exchange {
         moment: u64,
     ) -> Option<ServeEnd>
         requires piece { (0 < length piece.now) × (length piece.now ≤ PIECE_LIMIT) }
-        requires at { (w : Waiting) × AwaitsBy takes_gzip Awaits self.old.engine w.reading }
-        requires spare { IfSome spare.old (λ engine. Awaits engine (in_head takes_gzip [])) }
-        ensures turn { (w : Waiting) → AwaitsBy takes_gzip Awaits self.old.engine w.reading → self.old.since ≡ w.since
+        requires at { (w : Waiting) × AwaitsBy allowed Awaits self.old.engine w.reading }
+        requires spare { IfSome spare.old (λ engine. Awaits engine (in_head allowed [])) }
+        ensures turn { (w : Waiting) → AwaitsBy allowed Awaits self.old.engine w.reading → self.old.since ≡ w.since
             → (coming : Coming) × (events : List Event) × (next : Waiting) × IsTaken piece.now coming × IsTurnBy coming w moment false events next × (next.end ≡ result)
-            × (result ≡ None → AwaitsBy takes_gzip Awaits self.new.engine next.reading × (self.new.since ≡ next.since))
+            × (result ≡ None → AwaitsBy allowed Awaits self.new.engine next.reading × (self.new.since ≡ next.since))
             × Does (Submits P.takes P.refuses) (W.contents writer.old) (W.contents writer.new) (intake lane.old self.old.conn (C.counted counts.old)) (intake lane.new self.new.conn (C.counted counts.new)) events }
-        ensures spare { IfSome spare.new (λ engine. Awaits engine (in_head takes_gzip [])) }
+        ensures spare { IfSome spare.new (λ engine. Awaits engine (in_head allowed [])) }
     {
         let begins = self.is_between();
-        let Some(mut engine) = taken(alloc, takes_gzip, &mut self.engine, spare) else {
+        let Some(mut engine) = taken(alloc, allowed, &mut self.engine, spare) else {
             return Some(ServeEnd::NoMemory);
         };
         let (end, answered) = come(
@@ -116,7 +118,7 @@ impl Exchange {
         stop: &S,
         moment: u64,
     ) -> Option<ServeEnd>
-        ensures turn { (takes_gzip : Bool) (w : Waiting) → AwaitsBy takes_gzip Awaits self.now.engine w.reading → self.now.since ≡ w.since
+        ensures turn { (allowed : Allowed) (w : Waiting) → AwaitsBy allowed Awaits self.now.engine w.reading → self.now.since ≡ w.since
             → (is_stopped : Bool) × (events : List Event) × IsTurnBy nothing w moment is_stopped events (waiting w.reading w.since result)
             × (bytes : List ℕ) × Appends (W.contents writer.old) (W.contents writer.new) bytes × Writes events bytes × (submissions events ≡ []) }
     {
@@ -147,7 +149,7 @@ impl Exchange {
 
     /// How it ends at the end of its input.
     pub fn over(&self) -> ServeEnd
-        ensures { (takes_gzip : Bool) (w : Waiting) → AwaitsBy takes_gzip Awaits self.now.engine w.reading → result ≡ (if is_between w.reading then Closed else Cut) }
+        ensures { (allowed : Allowed) (w : Waiting) → AwaitsBy allowed Awaits self.now.engine w.reading → result ≡ (if is_between w.reading then Closed else Cut) }
     {
         if self.is_between() {
             ServeEnd::Closed
@@ -178,15 +180,15 @@ fn is_over(since: u64, limit: u64, moment: u64) -> bool
 /// The engine of a connection: its own, or the spare one, or a new one. `None`: there is no memory for it.
 fn taken(
     alloc: Global,
-    takes_gzip: bool,
+    allowed: Allowed,
     own: &mut Option<Requests>,
     spare: &mut Option<Requests>,
 ) -> Option<Requests>
-    requires spare { IfSome spare.old (λ engine. Awaits engine (in_head takes_gzip [])) }
-    ensures own { IfSome result (λ engine. (r : Reading) → AwaitsBy takes_gzip Awaits own.old r → Awaits engine r) }
+    requires spare { IfSome spare.old (λ engine. Awaits engine (in_head allowed [])) }
+    ensures own { IfSome result (λ engine. (r : Reading) → AwaitsBy allowed Awaits own.old r → Awaits engine r) }
     ensures none { IfNone result (own.old ≡ None) }
     ensures left { own.new ≡ None }
-    ensures spare { IfSome spare.new (λ engine. Awaits engine (in_head takes_gzip [])) }
+    ensures spare { IfSome spare.new (λ engine. Awaits engine (in_head allowed [])) }
 {
     if let Some(engine) = own.take() {
         return Some(engine);
@@ -194,7 +196,7 @@ fn taken(
     if let Some(engine) = spare.take() {
         return Some(engine);
     }
-    Requests::new(alloc, takes_gzip).ok()
+    Requests::new(alloc, allowed).ok()
 }
 
 /// Bytes came to an engine that awaits them: all is done that they bring.

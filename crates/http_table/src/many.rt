@@ -205,7 +205,7 @@ fn comes<R: Wait + Clock>(
     serve_turns(
         rt,
         alloc,
-        row.setup.takes_gzip,
+        row.setup.allowed,
         &mut deal,
         &mut lane,
         &mut report,

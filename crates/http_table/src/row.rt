@@ -1,6 +1,7 @@
 //! A row of the table.
 use crate::column::bytes_of;
 use crate::peers::Tail;
+use http_text::Allowed;
 use std::alloc::{AllocError, Global};
 
 /// How an exchange is run.
@@ -14,8 +15,8 @@ pub struct Setup {
     pub tail: Tail,
     /// `stopped`: the stop mark is set.
     pub is_stopped: bool,
-    /// `gzip`: packed bodies are taken.
-    pub takes_gzip: bool,
+    /// `gzip`: packed bodies are taken. `never_closed`: `POST /close` isn't allowed.
+    pub allowed: Allowed,
     /// `long`: it isn't cut in every two pieces, nor read a byte at a time.
     pub is_long: bool,
     /// `writes`: writes fail after each number of bytes.
@@ -104,7 +105,10 @@ fn how(column: &str) -> Setup {
         received: number(column, "received").unwrap_or(0),
         tail: tail(column),
         is_stopped: says(column, "stopped"),
-        takes_gzip: says(column, "gzip"),
+        allowed: Allowed {
+            gzip: says(column, "gzip"),
+            close: !says(column, "never_closed"),
+        },
         is_long: says(column, "long"),
         writes: says(column, "writes"),
         cuts: says(column, "cuts"),

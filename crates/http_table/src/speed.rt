@@ -2,6 +2,7 @@
 use crate::peers::Tail;
 use crate::row::Setup;
 use crate::trial::{WHOLE, served};
+use http_text::Allowed;
 use otlp_json::decode;
 use std::alloc::{AllocError, Global};
 
@@ -12,7 +13,10 @@ pub fn serve_once(alloc: Global, input: &[u8]) -> Result<u64, AllocError> {
         received: 0,
         tail: Tail::Ends,
         is_stopped: false,
-        takes_gzip: true,
+        allowed: Allowed {
+            gzip: true,
+            close: true,
+        },
         is_long: true,
         writes: false,
         cuts: false,

@@ -93,7 +93,7 @@ pub fn served(alloc: Global, setup: &Setup, input: &[u8], way: Way) -> Result<Ca
             reads: 0,
             idle: 0,
         },
-        takes_gzip: setup.takes_gzip,
+        allowed: setup.allowed,
     };
     let mut page = Page {
         bytes: Vec::with_capacity(alloc, 4096)?,

@@ -2,6 +2,7 @@
 -- They serve the definitions that `judge` and `cut_on` promise.
 use Rattle.std.proofs.Common.{◌≡◌, ◌++◌, true, false, refl, List, ℕ, Some, None, [], ◌∷◌}
 use Rattle.std.specs.Prelude.{codes}
+use Rattle.http_text.specs.declared.allowed.Allowed.{Allowed}
 use Rattle.http_text.specs.declared.lines.TheConstants.{PART_LIMIT}
 use Rattle.http_text.specs.declared.request.TheConstants.{BODY_LIMIT, FIELD_LIMIT}
 use Rattle.http_text.specs.declared.request.Verdict.{Verdict}
@@ -14,6 +15,16 @@ use Rattle.http_text.specs.Head.{fits, posted, routed, verdict_by, field_lines}
 use Rattle.httparse.specs.Grammar.{trim_ows}
 use Rattle.httparse.specs.Ascii.{crlf_bytes}
 
+-- what is allowed by default; with packed bodies; and where an address of its own closes
+abbrev by_default : Allowed
+by_default = record { gzip = false; close = true }
+
+abbrev with_gzip : Allowed
+with_gzip = record { gzip = true; close = true }
+
+abbrev never_closed : Allowed
+never_closed = record { gzip = false; close = false }
+
 abbrev line : List ℕ → List ℕ
 line text = text ++ crlf_bytes
 
@@ -24,7 +35,7 @@ get_head = refl
 get_fields : field_lines (line (codes "GET /v1/traces HTTP/1.1") ++ line (codes "Host: x") ++ crlf_bytes) ≡ 1
 get_fields = refl
 
-posted_verdict : verdict_by false (codes "POST") (codes "/v1/traces") 1 ((codes "host", codes "x") ∷ (codes "CONTENT-TYPE", codes "Application/json ; charset=utf-8") ∷ (codes "Content-Length", codes "002") ∷ [])
+posted_verdict : verdict_by by_default (codes "POST") (codes "/v1/traces") 1 ((codes "host", codes "x") ∷ (codes "CONTENT-TYPE", codes "Application/json ; charset=utf-8") ∷ (codes "Content-Length", codes "002") ∷ [])
     ≡ Posted (record { framing = Length 2; expects_continue = false; is_packed = false; says_close = false })
 unfolding trim_ows
 posted_verdict = refl
@@ -80,7 +91,7 @@ length_field = (codes "Content-Length", codes "7")
 -- a message of another version than 1.1, of no `Host` or of two, or with two lengths, is refused whatever it asks for
 verdict_of_version : ℕ → Verdict
 verdict_of_version minor =
-    verdict_by false (codes "POST") (codes "/v1/traces") minor (host_field ∷ json_field ∷ length_field ∷ [])
+    verdict_by by_default (codes "POST") (codes "/v1/traces") minor (host_field ∷ json_field ∷ length_field ∷ [])
 
 by_version : verdict_of_version 0 ∷ verdict_of_version 1 ∷ verdict_of_version 2 ∷ []
     ≡ Refused BadRequest false
@@ -89,26 +100,26 @@ by_version : verdict_of_version 0 ∷ verdict_of_version 1 ∷ verdict_of_versio
 unfolding verdict_of_version host_field json_field length_field trim_ows
 by_version = refl
 
-no_host : verdict_by false (codes "POST") (codes "/v1/traces") 1 (json_field ∷ length_field ∷ []) ≡ Refused BadRequest false
+no_host : verdict_by by_default (codes "POST") (codes "/v1/traces") 1 (json_field ∷ length_field ∷ []) ≡ Refused BadRequest false
 unfolding json_field length_field
 no_host = refl
 
-two_hosts : verdict_by false (codes "POST") (codes "/close") 1 (host_field ∷ (codes "HOST", codes "y") ∷ [])
+two_hosts : verdict_by by_default (codes "POST") (codes "/close") 1 (host_field ∷ (codes "HOST", codes "y") ∷ [])
     ≡ Refused BadRequest false
 unfolding host_field
 two_hosts = refl
 
-no_host_of_head : verdict_by false (codes "HEAD") (codes "/v1/traces") 1 [] ≡ Refused BadRequest true
+no_host_of_head : verdict_by by_default (codes "HEAD") (codes "/v1/traces") 1 [] ≡ Refused BadRequest true
 no_host_of_head = refl
 
-unframed_head : verdict_by false (codes "HEAD") (codes "/close") 1 (host_field ∷ length_field ∷ length_field ∷ [])
+unframed_head : verdict_by by_default (codes "HEAD") (codes "/close") 1 (host_field ∷ length_field ∷ length_field ∷ [])
     ≡ Refused BadRequest true
 unfolding host_field length_field
 unframed_head = refl
 
 -- by target and method: another target goes before another method, and the answer to `HEAD` has no body
 verdict_of : List ℕ → List ℕ → Verdict
-verdict_of method target = verdict_by false method target 1 (host_field ∷ [])
+verdict_of method target = verdict_by by_default method target 1 (host_field ∷ [])
 
 get_of_traces : verdict_of (codes "GET") (codes "/v1/traces") ≡ Refused MethodNotAllowed false
 unfolding verdict_of host_field
@@ -143,37 +154,47 @@ unfolding verdict_of host_field
 post_of_close = refl
 
 -- a close needs neither JSON nor a body within the limit
-close_of_anything : routed false (codes "POST") (codes "/close") [] (Length 4194306) ≡ Close
+close_of_anything : routed by_default (codes "POST") (codes "/close") [] (Length 4194306) ≡ Close
 close_of_anything = refl
 
+-- where it isn't allowed there is no such target, whatever the method
+close_not_allowed : routed never_closed (codes "POST") (codes "/close") [] (Length 5) ≡ Refused NotFound false
+close_not_allowed = refl
+
+head_of_close_not_allowed : routed never_closed (codes "HEAD") (codes "/close") [] (Length 5) ≡ Refused NotFound true
+head_of_close_not_allowed = refl
+
+traces_where_close_is_not_allowed : routed never_closed (codes "GET") (codes "/v1/traces") [] (Length 5) ≡ Refused MethodNotAllowed false
+traces_where_close_is_not_allowed = refl
+
 -- a media type that isn't JSON, or a coding of it, goes before a body beyond the limit
-text_beyond_the_limit : posted false (codes "POST") ((codes "Content-Type", codes "text/plain") ∷ []) (Length 4194305)
+text_beyond_the_limit : posted by_default (codes "POST") ((codes "Content-Type", codes "text/plain") ∷ []) (Length 4194305)
     ≡ Refused UnsupportedMediaType false
 unfolding trim_ows
 text_beyond_the_limit = refl
 
-coded_beyond_the_limit : posted false (codes "POST") (json_field ∷ (codes "Content-Encoding", codes "gzip") ∷ [])
+coded_beyond_the_limit : posted by_default (codes "POST") (json_field ∷ (codes "Content-Encoding", codes "gzip") ∷ [])
     (Length 4194305) ≡ Refused UnsupportedMediaType false
 unfolding json_field trim_ows
 coded_beyond_the_limit = refl
 
-json_beyond_the_limit : posted false (codes "POST") (json_field ∷ []) (Length 4194305) ≡ Refused BodyTooLarge false
+json_beyond_the_limit : posted by_default (codes "POST") (json_field ∷ []) (Length 4194305) ≡ Refused BodyTooLarge false
 unfolding json_field trim_ows
 json_beyond_the_limit = refl
 
-no_media_type : posted false (codes "POST") [] (Length 5) ≡ Refused UnsupportedMediaType false
+no_media_type : posted by_default (codes "POST") [] (Length 5) ≡ Refused UnsupportedMediaType false
 no_media_type = refl
 
-two_media_types : posted false (codes "POST") (json_field ∷ json_field ∷ []) (Length 5) ≡ Refused UnsupportedMediaType false
+two_media_types : posted by_default (codes "POST") (json_field ∷ json_field ∷ []) (Length 5) ≡ Refused UnsupportedMediaType false
 unfolding json_field
 two_media_types = refl
 
-json_in_chunks : posted false (codes "POST") (json_field ∷ (codes "Expect", codes "100-Continue") ∷ []) Chunked
+json_in_chunks : posted by_default (codes "POST") (json_field ∷ (codes "Expect", codes "100-Continue") ∷ []) Chunked
     ≡ Posted (record { framing = Chunked; expects_continue = true; is_packed = false; says_close = false })
 unfolding json_field trim_ows
 json_in_chunks = refl
 
-json_that_closes : posted false (codes "POST") (json_field ∷ (codes "Connection", codes "keep-alive, Close") ∷ []) (Length 3)
+json_that_closes : posted by_default (codes "POST") (json_field ∷ (codes "Connection", codes "keep-alive, Close") ∷ []) (Length 3)
     ≡ Posted (record { framing = Length 3; expects_continue = false; is_packed = false; says_close = true })
 unfolding json_field trim_ows
 json_that_closes = refl
@@ -215,22 +236,22 @@ packings : is_packed [] ∷ is_packed (gzip_field ∷ []) ∷ is_packed (x_gzip_
 unfolding gzip_field x_gzip_field identity_field
 packings = refl
 
-takings : is_taken true (gzip_field ∷ []) ∷ is_taken false (gzip_field ∷ []) ∷ is_taken true (identity_field ∷ []) ∷ is_taken false (identity_field ∷ [])
-    ∷ is_taken true (gzip_field ∷ x_gzip_field ∷ []) ∷ is_taken true [] ∷ is_taken false [] ∷ []
+takings : is_taken with_gzip (gzip_field ∷ []) ∷ is_taken by_default (gzip_field ∷ []) ∷ is_taken with_gzip (identity_field ∷ []) ∷ is_taken by_default (identity_field ∷ [])
+    ∷ is_taken with_gzip (gzip_field ∷ x_gzip_field ∷ []) ∷ is_taken with_gzip [] ∷ is_taken by_default [] ∷ []
     ≡ true ∷ false ∷ true ∷ true ∷ false ∷ true ∷ true ∷ []
 unfolding gzip_field x_gzip_field identity_field
 takings = refl
 
-gzip_taken : posted true (codes "POST") (json_field ∷ x_gzip_field ∷ (codes "Expect", codes "100-continue") ∷ []) (Length 21)
+gzip_taken : posted with_gzip (codes "POST") (json_field ∷ x_gzip_field ∷ (codes "Expect", codes "100-continue") ∷ []) (Length 21)
     ≡ Posted (record { framing = Length 21; expects_continue = true; is_packed = true; says_close = false })
 unfolding json_field x_gzip_field trim_ows
 gzip_taken = refl
 
-gzip_beyond_the_limit : posted true (codes "POST") (json_field ∷ gzip_field ∷ []) (Length 4194305) ≡ Refused BodyTooLarge false
+gzip_beyond_the_limit : posted with_gzip (codes "POST") (json_field ∷ gzip_field ∷ []) (Length 4194305) ≡ Refused BodyTooLarge false
 unfolding json_field gzip_field trim_ows
 gzip_beyond_the_limit = refl
 
-deflate_beyond_the_limit : posted true (codes "POST") (json_field ∷ (codes "Content-Encoding", codes "deflate") ∷ []) (Length 4194305)
+deflate_beyond_the_limit : posted with_gzip (codes "POST") (json_field ∷ (codes "Content-Encoding", codes "deflate") ∷ []) (Length 4194305)
     ≡ Refused UnsupportedMediaType false
 unfolding json_field trim_ows
 deflate_beyond_the_limit = refl

@@ -8,6 +8,7 @@ use Rattle.httparse.specs.Ascii.{crlf_bytes}
 use Rattle.httparse.specs.Grammar.{ReadsChunkLine, chunk_size}
 use Rattle.httparse.proofs.GrammarLemmas.{request_unique}
 use Rattle.httparse.proofs.ChunkLemmas.{chunk_line_unique}
+use Rattle.http_text.specs.declared.allowed.Allowed.{Allowed}
 use Rattle.http_text.specs.Lines.{Cut, Whole, Waits, TooLong}
 use Rattle.http_text.specs.declared.request.TheConstants.{BODY_LIMIT, FIELD_LIMIT}
 use Rattle.http_text.specs.declared.request.Verdict.{Verdict}
@@ -15,23 +16,23 @@ use Rattle.http_text.specs.Lines.{cut, head_len, trailer_len, line_len}
 use Rattle.http_text.specs.Head.{HeadBy, BeginsWithHead, IsVerdict, Judges, verdict, field_lines}
 use Rattle.http_text.specs.Body.{Found, waits, refuses, found, with_front, Chunks, StopsBy, BySize, IsCutChunk, AtTrailerBy, begins_crlf, ChunkedBody, content, GivesSize}
 
-judges_unique : (g : Bool) (text : List ℕ) (v w : Verdict) → Judges g text v → Judges g text w → v ≡ w
+judges_unique : (g : Allowed) (text : List ℕ) (v w : Verdict) → Judges g text v → Judges g text w → v ≡ w
 judges_unique g text v w (inl a) (inl b) = a.2 ∙ ap (verdict g) (request_unique text a.0 b.0 [] [] a.1.0 b.1.0).0 ∙ sym b.2
 judges_unique g text v w (inl a) (inr b) = absurd (b.0 a.0 a.1)
 judges_unique g text v w (inr a) (inl b) = absurd (a.0 b.0 b.1)
 judges_unique g text v w (inr a) (inr b) = a.1 ∙ sym b.1
 
-verdict_by_lines : (g t : Bool) (text : List ℕ) (v w : Verdict) → nat_le (field_lines text) FIELD_LIMIT ≡ t → IsVerdict g text v → IsVerdict g text w → v ≡ w
+verdict_by_lines : (g : Allowed) (t : Bool) (text : List ℕ) (v w : Verdict) → nat_le (field_lines text) FIELD_LIMIT ≡ t → IsVerdict g text v → IsVerdict g text w → v ≡ w
 verdict_by_lines g true text v w e a b = let le = leb-true (field_lines text) FIELD_LIMIT e in judges_unique g text v w (a.few le) (b.few le)
 verdict_by_lines g false text v w e a b = let lt = leb-false (field_lines text) FIELD_LIMIT e in a.many lt ∙ sym (b.many lt)
 
-head_by_unique : (g : Bool) (c : Cut) (xs : List ℕ) (v w : Verdict) (r s : List ℕ) → HeadBy g c xs v r → HeadBy g c xs w s → (v ≡ w) × (r ≡ s)
+head_by_unique : (g : Allowed) (c : Cut) (xs : List ℕ) (v w : Verdict) (r s : List ℕ) → HeadBy g c xs v r → HeadBy g c xs w s → (v ≡ w) × (r ≡ s)
 head_by_unique g (Whole n) xs v w r s a b = (verdict_by_lines g (nat_le (field_lines (take n xs)) FIELD_LIMIT) (take n xs) v w refl a.0 b.0, a.1 ∙ sym b.1)
 head_by_unique g Waits xs v w r s a b = absurd a
 head_by_unique g TooLong xs v w r s a b = (a.0 ∙ sym b.0, a.1 ∙ sym b.1)
 
 -- a stream begins with one head at most
-pub head_unique : (g : Bool) (xs : List ℕ) (v w : Verdict) (r s : List ℕ) → BeginsWithHead g xs v r → BeginsWithHead g xs w s → (v ≡ w) × (r ≡ s)
+pub head_unique : (g : Allowed) (xs : List ℕ) (v w : Verdict) (r s : List ℕ) → BeginsWithHead g xs v r → BeginsWithHead g xs w s → (v ≡ w) × (r ≡ s)
 head_unique g xs v w r s a b = head_by_unique g (cut head_len xs) xs v w r s a b
 
 pub size_unique : (line : List ℕ) (m n : ℕ) → GivesSize line m → GivesSize line n → m ≡ n

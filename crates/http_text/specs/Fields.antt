@@ -6,6 +6,7 @@ use Rattle.std.specs.Str.Parse.{digits_value}
 use Rattle.std.specs.Str.{str_eq_ignore_ascii_case}
 use Rattle.httparse.specs.Ascii.{comma, semicolon}
 use Rattle.httparse.specs.Grammar.{trim_ows}
+use Rattle.http_text.specs.declared.allowed.Allowed.{Allowed}
 use Rattle.http_text.specs.declared.request.TheConstants.{BODY_LIMIT}
 use Rattle.http_text.specs.declared.request.Framing.{Framing}
 use Rattle.http_text.specs.declared.request.Framing.TheVariants.{Length, Chunked}
@@ -76,8 +77,8 @@ abbrev pub is_packed : List Header → Bool
 is_packed headers = is_gzip_by (only (codings headers))
 
 -- a coding that is taken: none, or gzip where it is taken
-abbrev pub is_taken : Bool → List Header → Bool
-is_taken takes_gzip headers = is_plain headers || (takes_gzip && is_packed headers)
+abbrev pub is_taken : Allowed → List Header → Bool
+is_taken allowed headers = is_plain headers || (allowed.gzip && is_packed headers)
 
 -- the words of a comma list, where a word is trimmed
 abbrev pub cons_first : ℕ → List (List ℕ) → List (List ℕ)

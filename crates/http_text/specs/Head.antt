@@ -3,6 +3,7 @@ use Rattle.std.specs.Prelude.{◌≡◌, ℕ, ◌-◌, ◌<◌, ◌≤◌, ◌�
 use Rattle.httparse.specs.Ascii.{line_feed}
 use Rattle.httparse.specs.Grammar.{RequestHead, ReadsRequest}
 use Rattle.httparse.specs.Spans.{name_and_value}
+use Rattle.http_text.specs.declared.allowed.Allowed.{Allowed}
 use Rattle.http_text.specs.Lines.{Cut, Whole, Waits, TooLong}
 use Rattle.http_text.specs.declared.request.TheConstants.{BODY_LIMIT, FIELD_LIMIT}
 use Rattle.http_text.specs.declared.request.Framing.{Framing}
@@ -30,54 +31,58 @@ fits (Length n) = nat_le n BODY_LIMIT
 fits Chunked = true
 
 -- a request for the traces, by its fields
-abbrev pub posted : Bool → List ℕ → List Header → Framing → Verdict
-posted takes_gzip method headers framed =
-    if not (is_json headers && is_taken takes_gzip headers) then refused method UnsupportedMediaType
+abbrev pub posted : Allowed → List ℕ → List Header → Framing → Verdict
+posted allowed method headers framed =
+    if not (is_json headers && is_taken allowed headers) then refused method UnsupportedMediaType
     else (if not (fits framed) then refused method BodyTooLarge
     else Posted (record { framing = framed; expects_continue = expects_continue headers; is_packed = is_packed headers; says_close = says_close headers }))
 
+-- the target at which the collector is closed, where that is allowed
+abbrev pub is_close : Allowed → List ℕ → Bool
+is_close allowed target = allowed.close && bytes_eq target (codes "/close")
+
 -- where a message that is framed goes, by its target
-abbrev pub routed : Bool → List ℕ → List ℕ → List Header → Framing → Verdict
-routed takes_gzip method target headers framed =
-    if bytes_eq target (codes "/close") && is_post method then Close
-    else (if not (bytes_eq target (codes "/close") || bytes_eq target (codes "/v1/traces")) then refused method NotFound
+abbrev pub routed : Allowed → List ℕ → List ℕ → List Header → Framing → Verdict
+routed allowed method target headers framed =
+    if is_close allowed target && is_post method then Close
+    else (if not (is_close allowed target || bytes_eq target (codes "/v1/traces")) then refused method NotFound
     else (if not (is_post method) then refused method MethodNotAllowed
-    else posted takes_gzip method headers framed))
+    else posted allowed method headers framed))
 
-abbrev pub framed_or_bad : Bool → List ℕ → List ℕ → List Header → Option Framing → Verdict
-framed_or_bad takes_gzip method target headers None = refused method BadRequest
-framed_or_bad takes_gzip method target headers (Some framed) = routed takes_gzip method target headers framed
+abbrev pub framed_or_bad : Allowed → List ℕ → List ℕ → List Header → Option Framing → Verdict
+framed_or_bad allowed method target headers None = refused method BadRequest
+framed_or_bad allowed method target headers (Some framed) = routed allowed method target headers framed
 
--- the rows of the table that are about the head, in their order; `takes_gzip` is a setting
-abbrev pub verdict_by : Bool → List ℕ → List ℕ → ℕ → List Header → Verdict
-verdict_by takes_gzip method target minor headers =
+-- the rows of the table that are about the head, in their order; what is allowed is a setting
+abbrev pub verdict_by : Allowed → List ℕ → List ℕ → ℕ → List Header → Verdict
+verdict_by allowed method target minor headers =
     if (minor == 1) && (length (values_named (codes "host") headers) == 1)
-    then framed_or_bad takes_gzip method target headers (framing headers)
+    then framed_or_bad allowed method target headers (framing headers)
     else refused method BadRequest
 
-abbrev pub verdict : Bool → RequestHead → Verdict
-verdict takes_gzip h = verdict_by takes_gzip h.method h.target h.minor (map name_and_value h.fields)
+abbrev pub verdict : Allowed → RequestHead → Verdict
+verdict allowed h = verdict_by allowed h.method h.target h.minor (map name_and_value h.fields)
 
 -- the whole text is this head
 abbrev pub IsHead : List ℕ → RequestHead → Type 0
 IsHead text h = ReadsRequest text h [] × (length h.fields ≤ FIELD_LIMIT)
 
 -- what the text of a head comes to, where it has no more lines than are allowed
-abbrev pub Judges : Bool → List ℕ → Verdict → Type 0
-Judges takes_gzip text v =
-    ((h : RequestHead) × IsHead text h × (v ≡ verdict takes_gzip h))
+abbrev pub Judges : Allowed → List ℕ → Verdict → Type 0
+Judges allowed text v =
+    ((h : RequestHead) × IsHead text h × (v ≡ verdict allowed h))
     ⊎ (((h : RequestHead) → ¬ (IsHead text h)) × (v ≡ Refused BadRequest false))
 
--- what the text of a head comes to, where gzip is taken or isn't
-pub record IsVerdict (takes_gzip : Bool) (text : List ℕ) (v : Verdict) : Type 0 where
+-- what the text of a head comes to, by what is allowed
+pub record IsVerdict (allowed : Allowed) (text : List ℕ) (v : Verdict) : Type 0 where
   pub many : FIELD_LIMIT < field_lines text → v ≡ Refused HeadTooLarge false
-  pub few : field_lines text ≤ FIELD_LIMIT → Judges takes_gzip text v
+  pub few : field_lines text ≤ FIELD_LIMIT → Judges allowed text v
 
 -- the stream begins with a head that comes to this, and the rest follows it
-abbrev pub HeadBy : Bool → Cut → List ℕ → Verdict → List ℕ → Type 0
-HeadBy takes_gzip (Whole n) stream v rest = IsVerdict takes_gzip (take n stream) v × (rest ≡ drop n stream)
-HeadBy takes_gzip Waits stream v rest = ⊥
-HeadBy takes_gzip TooLong stream v rest = (v ≡ Refused HeadTooLarge false) × (rest ≡ stream)
+abbrev pub HeadBy : Allowed → Cut → List ℕ → Verdict → List ℕ → Type 0
+HeadBy allowed (Whole n) stream v rest = IsVerdict allowed (take n stream) v × (rest ≡ drop n stream)
+HeadBy allowed Waits stream v rest = ⊥
+HeadBy allowed TooLong stream v rest = (v ≡ Refused HeadTooLarge false) × (rest ≡ stream)
 
-abbrev pub BeginsWithHead : Bool → List ℕ → Verdict → List ℕ → Type 0
-BeginsWithHead takes_gzip stream v rest = HeadBy takes_gzip (cut head_len stream) stream v rest
+abbrev pub BeginsWithHead : Allowed → List ℕ → Verdict → List ℕ → Type 0
+BeginsWithHead allowed stream v rest = HeadBy allowed (cut head_len stream) stream v rest

@@ -10,6 +10,7 @@ ghost use Rattle.httparse.specs.Spans.{IsHeaderWithin, header_bytes};
 ghost use Rattle.http_text.specs.Fields.{values_named, is_number, framing, media_type, is_json, is_plain, codings, is_gzip, is_packed, is_taken, has, has_word, says_close, expects_continue};
 ghost use Rattle.http_text.specs.Named.{Seen};
 
+use crate::allowed::Allowed;
 use crate::request::{BODY_LIMIT, Framing};
 use httparse::is_space_or_tab;
 use httparse::spans::HeaderSpan;
@@ -182,11 +183,11 @@ pub fn is_packed(text: &[u8], spans: &[HeaderSpan]) -> bool
 }
 
 /// No coding, or gzip where it is taken.
-pub fn is_taken(takes_gzip: bool, text: &[u8], spans: &[HeaderSpan]) -> bool
+pub fn is_taken(allowed: Allowed, text: &[u8], spans: &[HeaderSpan]) -> bool
     requires { All (IsHeaderWithin (length text.now)) spans.now }
-    ensures { result ≡ is_taken takes_gzip (map (header_bytes text.now) spans.now) }
+    ensures { result ≡ is_taken allowed (map (header_bytes text.now) spans.now) }
 {
-    is_plain(text, spans) || (takes_gzip && is_packed(text, spans))
+    is_plain(text, spans) || (allowed.gzip && is_packed(text, spans))
 }
 
 /// `Expect` says `100-continue`.

@@ -7,6 +7,7 @@ ghost use Rattle.http_text.specs.Lines.{blank_len};
 ghost use Rattle.http_text.specs.Head.{IsHead, IsVerdict, field_lines, verdict_by, refused, routed, posted};
 ghost use Rattle.http_text.specs.Spans.{IsHeadAt};
 
+use crate::allowed::Allowed;
 use crate::fields::{
     Named, expects_continue, find_named, framing, is_json, is_packed, is_taken, says_close,
 };
@@ -39,9 +40,9 @@ fn field_lines(text: &[u8]) -> usize
     lines.saturating_sub(2)
 }
 
-/// What the text of a head comes to, where packed bodies are taken or aren't.
-pub fn judge(text: &[u8], takes_gzip: bool) -> Verdict
-    ensures { IsVerdict takes_gzip text.now result }
+/// What the text of a head comes to, by what is allowed.
+pub fn judge(text: &[u8], allowed: Allowed) -> Verdict
+    ensures { IsVerdict allowed text.now result }
 {
     if field_lines(text) > FIELD_LIMIT {
         return Verdict::Refused {
@@ -54,7 +55,7 @@ pub fn judge(text: &[u8], takes_gzip: bool) -> Verdict
         Some(head) => {
             let fields = &headers[..head.headers];
             verdict_by(
-                takes_gzip,
+                allowed,
                 head.method.of(text),
                 head.path.of(text),
                 head.version,
@@ -81,7 +82,7 @@ fn refused(method: &[u8], refusal: Refusal) -> Verdict
 
 /// What a head's parts come to, by the table.
 fn verdict_by(
-    takes_gzip: bool,
+    allowed: Allowed,
     method: &[u8],
     target: &[u8],
     minor: u8,
@@ -89,20 +90,20 @@ fn verdict_by(
     headers: &[HeaderSpan],
 ) -> Verdict
     requires { All (IsHeaderWithin (length text.now)) headers.now }
-    ensures { result ≡ verdict_by takes_gzip method.now target.now minor (map (header_bytes text.now) headers.now) }
+    ensures { result ≡ verdict_by allowed method.now target.now minor (map (header_bytes text.now) headers.now) }
 {
     if minor != 1 || !matches!(find_named(text, headers, b"host"), Named::One(_)) {
         return refused(method, Refusal::BadRequest);
     }
     match framing(text, headers) {
         None => refused(method, Refusal::BadRequest),
-        Some(framed) => routed(takes_gzip, method, target, text, headers, framed),
+        Some(framed) => routed(allowed, method, target, text, headers, framed),
     }
 }
 
 /// What a request whose body is framed comes to, by its target and method.
 fn routed(
-    takes_gzip: bool,
+    allowed: Allowed,
     method: &[u8],
     target: &[u8],
     text: &[u8],
@@ -110,10 +111,10 @@ fn routed(
     framed: Framing,
 ) -> Verdict
     requires { All (IsHeaderWithin (length text.now)) headers.now }
-    ensures { result ≡ routed takes_gzip method.now target.now (map (header_bytes text.now) headers.now) framed }
+    ensures { result ≡ routed allowed method.now target.now (map (header_bytes text.now) headers.now) framed }
 {
     let is_post = method == b"POST".as_slice();
-    let is_close = target == b"/close".as_slice();
+    let is_close = allowed.close && target == b"/close".as_slice();
     if is_close && is_post {
         return Verdict::Close;
     }
@@ -123,21 +124,21 @@ fn routed(
     if !is_post {
         return refused(method, Refusal::MethodNotAllowed);
     }
-    posted(takes_gzip, method, text, headers, framed)
+    posted(allowed, method, text, headers, framed)
 }
 
 /// What a request for traces comes to, by its other fields.
 fn posted(
-    takes_gzip: bool,
+    allowed: Allowed,
     method: &[u8],
     text: &[u8],
     headers: &[HeaderSpan],
     framed: Framing,
 ) -> Verdict
     requires { All (IsHeaderWithin (length text.now)) headers.now }
-    ensures { result ≡ posted takes_gzip method.now (map (header_bytes text.now) headers.now) framed }
+    ensures { result ≡ posted allowed method.now (map (header_bytes text.now) headers.now) framed }
 {
-    if !(is_json(text, headers) && is_taken(takes_gzip, text, headers)) {
+    if !(is_json(text, headers) && is_taken(allowed, text, headers)) {
         return refused(method, Refusal::UnsupportedMediaType);
     }
     if matches!(framed, Framing::Length(len) if len > BODY_LIMIT) {

@@ -4,6 +4,7 @@
 //! `specs/Head` and `specs/Fields`. Nothing here reads or writes: `http_lane` does.
 #![tactic(auto)]
 
+mod allowed;
 mod body;
 mod fields;
 mod head;
@@ -11,6 +12,7 @@ mod lines;
 mod request;
 mod search;
 
+pub use allowed::Allowed;
 pub use body::{is_trailer, read_size};
 pub use head::judge;
 pub use lines::PART_LIMIT;

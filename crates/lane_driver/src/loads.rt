@@ -25,6 +25,15 @@ impl Loads {
         }
     }
 
+    /// How many all lanes have.
+    pub fn sum(&self) -> u64 {
+        let mut sum: u64 = 0;
+        for it in self.counts.iter() {
+            sum = sum.saturating_add(it.load(Ordering::SeqCst));
+        }
+        sum
+    }
+
     /// The fewest that a lane has.
     pub fn least(&self) -> u64 {
         let mut least = u64::MAX;

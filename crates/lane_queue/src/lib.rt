@@ -13,6 +13,7 @@
 
 mod bell;
 mod ends;
+mod flow;
 mod gate;
 mod law;
 mod list_port;

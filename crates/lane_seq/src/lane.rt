@@ -10,7 +10,7 @@ ghost use Rattle.lane_seq.specs.Replies.{IsRefusal, OnReceived};
 ghost use Rattle.lane_seq.specs.Pushes.{LaneState, Receives};
 
 use crate::preparing::{Conn, Prepared, count_invalid, prepare};
-use crate::pushing::{push_all, reply_to};
+use crate::pushing::{lacks_room, push_all, reply_to};
 use crate::reply::{BadData, Reply};
 use lane_queue::Port;
 use otlp_types::Item;
@@ -24,6 +24,7 @@ pub struct Lane<P> {
     number: u16,
     connected: u64,
     ports: Vec<P>,
+    asks_again: bool,
 }
 
 impl<P> Model for Lane<P> {
@@ -59,7 +60,15 @@ impl<P> Lane<P> {
             number,
             connected: 0,
             ports,
+            asks_again: false,
         }
+    }
+
+    /// The lane, of which a request is answered [`Reply::Busy`] where a queue lacks room for its spans, if `asks_again`.
+    pub fn asking_again(self, asks_again: bool) -> Self
+        ensures { result ≡ self }
+    {
+        Lane { asks_again, ..self }
     }
 
     /// How many connections have come.
@@ -107,6 +116,7 @@ impl<P> Lane<P> {
             number,
             connected: _,
             ports,
+            asks_again: _,
         } = self;
         LaneEnd { number, ports }
     }
@@ -115,7 +125,8 @@ impl<P> Lane<P> {
 impl<P: Port<Item>> Lane<P> {
     /// Takes a request that came on a connection at a moment: its spans get the connection's next numbers, and each
     /// that has valid ids is pushed once, in document order, to the port of its route. After `BadData` and `Busy`
-    /// nothing was pushed and no number was used.
+    /// nothing was pushed and no number was used. A lane that is [`Lane::asking_again`] answers `Busy` where a queue lacks
+    /// room.
     pub fn submit(&mut self, alloc: Global, conn: &mut Conn, body: &[u8], moment: Moment) -> Reply
         ensures received { OnReceived result ((d : Data) × (request : Request) × IsJson body.now d
             × (request_of d ≡ Some request)
@@ -132,9 +143,24 @@ impl<P: Port<Item>> Lane<P> {
         ensures refused { IsRefusal result → (self.new ≡ self.old) × (conn.new ≡ conn.old) }
     {
         match prepare(alloc, conn, body, moment) {
-            Ok(prepared) => self.receive(conn, prepared),
+            Ok(prepared) => self.receive_if_room(conn, prepared),
             Err(refusal) => refusal,
         }
+    }
+
+    /// Pushes what a request brought, and answers it, unless a queue lacks room for it and it is to be sent again.
+    fn receive_if_room(&mut self, conn: &mut Conn, prepared: Prepared) -> Reply
+        requires { conn.old.next + length prepared.arrivals.items < 2 ^ 64 }
+        ensures pushed { OnReceived result (Receives P.takes P.refuses prepared.arrivals.items self.old.ports result self.new.ports
+            × (conn.new ≡ record conn.old { next = conn.old.next + length prepared.arrivals.items })) }
+        ensures lane { self.new ≡ record self.old { ports = self.new.ports } }
+        ensures ports { length self.new.ports ≡ length self.old.ports }
+        ensures refused { IsRefusal result → (result ≡ Reply.Busy) × (self.new ≡ self.old) × (conn.new ≡ conn.old) }
+    {
+        if self.asks_again && lacks_room(&self.ports, &prepared.arrivals) {
+            return Reply::Busy;
+        }
+        self.receive(conn, prepared)
     }
 
     /// Pushes what a request brought, and answers it.

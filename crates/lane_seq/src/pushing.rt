@@ -61,6 +61,34 @@ fn trace_of(arrival: &Arrival) -> Option<TraceId>
     }
 }
 
+/// Whether some port lacks room for the spans that go to it.
+pub fn lacks_room<P: Port<Item>>(ports: &[P], arrivals: &[Arrival]) -> bool {
+    for shard in 0..ports.len() {
+        let port = &ports[shard];
+        if !port.has_room(arrivals.len())
+            && !port.has_room(count_of(arrivals, shard, ports.len()))
+        {
+            return true;
+        }
+    }
+    false
+}
+
+/// How many of these spans go to this shard, of so many.
+fn count_of(arrivals: &[Arrival], shard: usize, shards: usize) -> usize
+    requires { 0 < shards }
+{
+    let mut count: usize = 0;
+    for arrival in arrivals {
+        if let Some(trace) = trace_of(arrival) {
+            if route(trace, shards) == shard {
+                count = count.saturating_add(1);
+            }
+        }
+    }
+    count
+}
+
 /// The reply to a request of so many spans, of which so many have invalid ids and so many found their queue full.
 pub fn reply_to(spans: u64, invalid: u64, full: u64) -> Reply
     ensures { IsReplyTo spans invalid full result }

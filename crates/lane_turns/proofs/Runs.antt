@@ -8,6 +8,7 @@ use Rattle.lane_seq.specs.declared.reply.Reply.TheVariants.{Done, Partial, BadDa
 use Rattle.lane_seq.specs.Replies.{OnReceived, IsRefusal}
 use Rattle.lane_seq.specs.Pushes.{LaneState}
 use Rattle.otlp_types.specs.declared.arrival.Item.{Item}
+use Rattle.http_text.specs.declared.allowed.Allowed.{Allowed}
 use Rattle.http_lane.specs.declared.turns.Exchange.{Exchange}
 use Rattle.http_lane.specs.Connection.{Event, Submission, SubmitsAll, submissions}
 use Rattle.http_lane.specs.Intake.{Intake, intake, Submits, connected}
@@ -71,7 +72,7 @@ turns_more k (took i m ∷ acts) c mid j after t next own ends turn r = either_w
 turns_more k (had i b a u ∷ acts) c mid j after t next own ends turn r =
     either_way (i == k) (λ x. (x.0, x.1, x.2, x.3, turns_more k acts (numbered x.2 a) mid j after t next own ends turn x.4)) (λ x. turns_more k acts c mid j after t next own ends turn x) r
 
-pub run_more : (g : Bool) → (k : ℕ) (acts : List Act) (mid : Numbered) (j after : ℕ) (t : Turned) (next : Waiting) → (j == k) ≡ true → mid.waiting.end ≡ None → IsTurn mid.waiting t next
+pub run_more : (g : Allowed) → (k : ℕ) (acts : List Act) (mid : Numbered) (j after : ℕ) (t : Turned) (next : Waiting) → (j == k) ≡ true → mid.waiting.end ≡ None → IsTurn mid.waiting t next
     → RunOf g k acts mid → RunOf g k (acts ++ had j mid.next after t ∷ []) (numbered next after)
 run_more g k [] mid j after t next own ends turn r = absurd r
 run_more g k (took i m ∷ acts) mid j after t next own ends turn r = either_way (i == k) (λ x. turns_more k acts (numbered (came_at g m) 0) mid j after t next own ends turn x) (λ x. run_more g k acts mid j after t next own ends turn x) r
@@ -84,7 +85,7 @@ turns_still k [] c mid (had j b e t) other r = of_other _ _ (j == k) other r
 turns_still k (took i m ∷ acts) c mid a other r = either_way (i == k) (λ x. x) (λ x. turns_still k acts c mid a other x) r
 turns_still k (had i b e u ∷ acts) c mid a other r = either_way (i == k) (λ x. (x.0, x.1, x.2, x.3, turns_still k acts (numbered x.2 e) mid a other x.4)) (λ x. turns_still k acts c mid a other x) r
 
-run_still : (g : Bool) → (k : ℕ) (acts : List Act) (mid : Numbered) (a : Act) → (of_act a == k) ≡ false → RunOf g k acts mid → RunOf g k (acts ++ a ∷ []) mid
+run_still : (g : Allowed) → (k : ℕ) (acts : List Act) (mid : Numbered) (a : Act) → (of_act a == k) ≡ false → RunOf g k acts mid → RunOf g k (acts ++ a ∷ []) mid
 run_still g k [] mid a other r = absurd r
 run_still g k (took i m ∷ acts) mid a other r = either_way (i == k) (λ x. turns_still k acts (numbered (came_at g m) 0) mid a other x) (λ x. run_still g k acts mid a other x) r
 run_still g k (had i b e u ∷ acts) mid a other r = either_way (i == k) (λ x. x) (λ x. run_still g k acts mid a other x) r
@@ -94,7 +95,7 @@ none_still k [] a other h = (other, tt)
 none_still k (b ∷ acts) a other h = (h.0, none_still k acts a other h.1)
 
 -- the connection was taken
-run_first : (g : Bool) → (k moment : ℕ) (acts : List Act) → HasNone k acts → RunOf g k (acts ++ took k moment ∷ []) (numbered (came_at g moment) 0)
+run_first : (g : Allowed) → (k moment : ℕ) (acts : List Act) → HasNone k acts → RunOf g k (acts ++ took k moment ∷ []) (numbered (came_at g moment) 0)
 run_first g k moment [] h = of_own _ _ (k == k) (eq-eqb k k refl) refl
 run_first g k moment (took i m ∷ acts) h = of_other _ _ (i == k) h.0 (run_first g k moment acts h.1)
 run_first g k moment (had i b a u ∷ acts) h = of_other _ _ (i == k) h.0 (run_first g k moment acts h.1)
@@ -120,7 +121,7 @@ same_or_not k key = go (k == key) refl
     go false e = inr (eqb-false k key e)
 
 -- what the turn left at the key: nothing, or the connection, which goes on
-pub record Left (g : Bool) (conn : Conn) (next : Waiting) (y : Exchange) : Type 0 where
+pub record Left (g : Allowed) (conn : Conn) (next : Waiting) (y : Exchange) : Type 0 where
   pub conn_is : y.conn ≡ conn
   pub goes_on : next.end ≡ None
   pub awaits : AwaitsBy g Awaits y.engine next.reading
@@ -128,7 +129,7 @@ pub record Left (g : Bool) (conn : Conn) (next : Waiting) (y : Exchange) : Type 
 
 -- ---- a turn of the connection at a key
 
-module _ {P : Type 0} (takes : P → Item → P → Type 0) (refuses : P → P → Type 0) (g : Bool) (number : ℕ) (first : LaneNow P) (before after : (key : ℕ) → Option Exchange) (acts : List Act) (now : LaneNow P)
+module _ {P : Type 0} (takes : P → Item → P → Type 0) (refuses : P → P → Type 0) (g : Allowed) (number : ℕ) (first : LaneNow P) (before after : (key : ℕ) → Option Exchange) (acts : List Act) (now : LaneNow P)
     (key : ℕ) (x : Exchange) (at_key : before key ≡ Some x) (others : (other : ℕ) → other ≢ key → after other ≡ before other) where
   pub fits_turn : (f : Fits (Submits takes refuses) g number first before acts now) (coming : Coming) (moment : ℕ) (is_stopped : Bool) (events : List Event) (next : Waiting) (conn : Conn) (lane : LaneState P) (counted : List ℕ)
       → IsTurnBy coming (f.each key x at_key).waiting moment is_stopped events next
@@ -227,7 +228,7 @@ module _ {P : Type 0} (takes : P → Item → P → Type 0) (refuses : P → P �
 
 -- ---- a connection is taken
 
-module _ {P : Type 0} (takes : P → Item → P → Type 0) (refuses : P → P → Type 0) (g : Bool) (number : ℕ) (first : LaneNow P) (before after : (key : ℕ) → Option Exchange) (acts : List Act) (now : LaneNow P)
+module _ {P : Type 0} (takes : P → Item → P → Type 0) (refuses : P → P → Type 0) (g : Allowed) (number : ℕ) (first : LaneNow P) (before after : (key : ℕ) → Option Exchange) (acts : List Act) (now : LaneNow P)
     (key : ℕ) (vacant : before key ≡ None) (others : (other : ℕ) → other ≢ key → after other ≡ before other) where
   pub fits_take : (f : Fits (Submits takes refuses) g number first before acts now) (moment : ℕ) (y : Exchange) → after key ≡ Some y → y ≡ record { engine = None; conn = conn_of now.lane.number now.lane.connected 0; since = moment }
       → Fits (Submits takes refuses) g number first after (acts ++ took now.lane.connected moment ∷ []) (lane_now (connected now.lane) now.counted)
@@ -307,7 +308,7 @@ module _ {P : Type 0} (takes : P → Item → P → Type 0) (refuses : P → P �
 
 -- ---- a lane that has done nothing
 
-pub fits_first : {P : Type 0} (submits : Intake P → Submission → Intake P → Type 0) (g : Bool) (lane : LaneState P) (counted : List ℕ) (open_at : (key : ℕ) → Option Exchange) → ((key : ℕ) → open_at key ≡ None)
+pub fits_first : {P : Type 0} (submits : Intake P → Submission → Intake P → Type 0) (g : Allowed) (lane : LaneState P) (counted : List ℕ) (open_at : (key : ℕ) → Option Exchange) → ((key : ℕ) → open_at key ≡ None)
     → Fits submits g lane.number (lane_now lane counted) open_at [] (lane_now lane counted)
 fits_first submits g lane counted open_at empty = record {
   did = refl;

@@ -2,6 +2,7 @@
 -- For the clauses `fits` of src/table.rt and of `turn`, and `driven` of `serve_turns`.
 use Rattle.std.proofs.Common.{◌≡◌, ◌≢◌, ◌∙◌, ℕ, suc, ◌==◌, Bool, true, false, not, List, [], ◌∷◌, ◌++◌, Option, Some, None, refl, sym, ap, subst, eq-eqb, append-nil, IsSome, IsTrue, count_by, is_some}
 use Rattle.std.specs.Prelude.{slice_index_or}
+use Rattle.http_text.specs.declared.allowed.Allowed.{Allowed}
 use Rattle.http_lane.specs.declared.turns.Exchange.{Exchange}
 use Rattle.http_lane.specs.declared.answer.ServeEnd.{ServeEnd}
 use Rattle.http_lane.specs.Connection.{Reading, is_between, Event, Submission, Writes}
@@ -15,7 +16,7 @@ use Rattle.lane_turns.proofs.Runs.{of_own, of_other, run_more}
 
 -- ---- a turn
 
-pub has_turn : (g : Bool) (acts : List Act) (x : Exchange) (moment : ℕ) (brings : Coming → Type 0) (writes : List ℕ → Type 0) (end : Option ServeEnd) (w : Waiting) (coming : Coming) (is_stopped : Bool) (events : List Event) (next : Waiting) (after : ℕ) (text : List ℕ)
+pub has_turn : (g : Allowed) (acts : List Act) (x : Exchange) (moment : ℕ) (brings : Coming → Type 0) (writes : List ℕ → Type 0) (end : Option ServeEnd) (w : Waiting) (coming : Coming) (is_stopped : Bool) (events : List Event) (next : Waiting) (after : ℕ) (text : List ℕ)
     → RunOf g x.conn.key.ordinal acts (numbered w x.conn.next) → w.end ≡ None → IsTurnBy coming w moment is_stopped events next → brings coming → next.end ≡ end → Writes events text → writes text
     → HasTurn g acts x moment brings writes end (had x.conn.key.ordinal x.conn.next after (turned coming moment is_stopped events) ∷ [])
 has_turn g acts x moment brings writes end w coming is_stopped events next after text run goes_on turn brought ends text_is written = record {
@@ -63,7 +64,7 @@ pub none_of : {T : Type 0} (slot : Option T) (b : Bool) → (IsSome slot → IsT
 none_of None b f e = refl
 none_of (Some x) b f e = absurd (let both = sym e ∙ f refl in cc)
 
-module _ {P : Type 0} (submits : Intake P → Submission → Intake P → Type 0) (g : Bool) (old : Table) (now : LaneNow P) where
+module _ {P : Type 0} (submits : Intake P → Submission → Intake P → Type 0) (g : Allowed) (old : Table) (now : LaneNow P) where
   pub nothing_more : (by : (earlier more : List Act) → Type 0) → ((earlier : List Act) → by earlier []) → GoesOn submits g old now old now false by
   nothing_more by f = λ number first acts fits. ([], subst (λ l. Fits submits g number first old l now) (sym (append-nil acts)) fits, refl, f acts)
 
@@ -73,15 +74,15 @@ module _ {P : Type 0} (submits : Intake P → Submission → Intake P → Type 0
       let went = goes number first acts fits in (went.0, went.1, went.2 ∙ sym e, f acts went.0 (λ key x at. let o = went.1.each key x at in (o.waiting, o.awaits)) went.3)
 
 -- a request is under way where there is an engine
-pub no_engine : {E : Type 0} (awaits : E → Reading → Type 0) (g : Bool) (engine : Option E) (r : Reading) → AwaitsBy g awaits engine r → is_between r ≡ true → engine ≡ None
+pub no_engine : {E : Type 0} (awaits : E → Reading → Type 0) (g : Allowed) (engine : Option E) (r : Reading) → AwaitsBy g awaits engine r → is_between r ≡ true → engine ≡ None
 no_engine awaits g None r a idle = refl
 no_engine awaits g (Some e) r a idle = absurd (let both = sym a.1 ∙ idle in cc)
 
-pub an_engine : {E : Type 0} (awaits : E → Reading → Type 0) (g : Bool) (engine : Option E) (r : Reading) → AwaitsBy g awaits engine r → is_between r ≡ false → engine ≢ None
+pub an_engine : {E : Type 0} (awaits : E → Reading → Type 0) (g : Allowed) (engine : Option E) (r : Reading) → AwaitsBy g awaits engine r → is_between r ≡ false → engine ≢ None
 an_engine awaits g None r a busy = λ e. absurd (let both = sym busy ∙ ap is_between a in cc)
 an_engine awaits g (Some x) r a busy = λ e. absurd cc
 
-pub idle_is : {E : Type 0} (awaits : E → Reading → Type 0) (g : Bool) (engine : Option E) (r : Reading) → AwaitsBy g awaits engine r → is_between r ≡ not (is_some engine)
+pub idle_is : {E : Type 0} (awaits : E → Reading → Type 0) (g : Allowed) (engine : Option E) (r : Reading) → AwaitsBy g awaits engine r → is_between r ≡ not (is_some engine)
 idle_is awaits g None r a = ap is_between a
 idle_is awaits g (Some e) r a = a.1
 
@@ -92,7 +93,7 @@ some_open [] e = absurd cc
 some_open (None ∷ slots) e = let k = some_open slots e in (suc k.0, k.1)
 some_open (Some x ∷ slots) e = (0, refl)
 
-module _ {D P : Type 0} (asks : D → Next → ℕ → List ℕ → D → Type 0) (hears : D → Done → List ℕ → D → Type 0) (submits : Intake P → Submission → Intake P → Type 0) (g : Bool) (first : LaneNow P)
+module _ {D P : Type 0} (asks : D → Next → ℕ → List ℕ → D → Type 0) (hears : D → Done → List ℕ → D → Type 0) (submits : Intake P → Submission → Intake P → Type 0) (g : Allowed) (first : LaneNow P)
     (driver : D) (open_at : Table) (acts : List Act) (now : LaneNow P) where
   -- one round more, and the rounds behind it
   pub more_rounds : (r : Round D P) (rounds : List (Round D P)) (last : D) (after : LaneNow P) (is_full : Bool) → IsRound asks hears submits g first driver open_at acts r → is_full_done r.done ≡ false

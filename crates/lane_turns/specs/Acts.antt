@@ -3,6 +3,7 @@ use Rattle.std.specs.Prelude.{◌≡◌, ◌≢◌, ℕ, ◌<◌, ◌≤◌, ◌
 use Rattle.std.specs.List.{list_any}
 use Rattle.lane_seq.specs.Pushes.{LaneState}
 use Rattle.lane_seq.specs.declared.preparing.Conn.{Conn}
+use Rattle.http_text.specs.declared.allowed.Allowed.{Allowed}
 use Rattle.http_lane.specs.declared.turns.Exchange.{Exchange}
 use Rattle.http_lane.specs.declared.answer.ServeEnd.{ServeEnd}
 use Rattle.http_lane.specs.declared.answer.ServeEnd.TheVariants.{BookFull}
@@ -51,11 +52,11 @@ TurnsOf ordinal c (had j before after t ∷ acts) last = MatchBool (j == ordinal
     ((c.waiting.end ≡ None) × (before ≡ c.next) × (next : Waiting) × IsTurn c.waiting t next × TurnsOf ordinal (numbered next after) acts last)
     (TurnsOf ordinal c acts last)
 
--- of these acts, those of one connection are its run: it was taken, and then had turns; the flag: whether packed bodies are taken
-abbrev pub RunOf : (takes_gzip : Bool) → (ordinal : ℕ) → List Act → Numbered → Type 0
-RunOf takes_gzip ordinal [] last = ⊥
-RunOf takes_gzip ordinal (took j moment ∷ acts) last = MatchBool (j == ordinal) (TurnsOf ordinal (numbered (came_at takes_gzip moment) 0) acts last) (RunOf takes_gzip ordinal acts last)
-RunOf takes_gzip ordinal (had j before after t ∷ acts) last = MatchBool (j == ordinal) ⊥ (RunOf takes_gzip ordinal acts last)
+-- of these acts, those of one connection are its run: it was taken, and then had turns; with this allowed to clients
+abbrev pub RunOf : (allowed : Allowed) → (ordinal : ℕ) → List Act → Numbered → Type 0
+RunOf allowed ordinal [] last = ⊥
+RunOf allowed ordinal (took j moment ∷ acts) last = MatchBool (j == ordinal) (TurnsOf ordinal (numbered (came_at allowed moment) 0) acts last) (RunOf allowed ordinal acts last)
+RunOf allowed ordinal (had j before after t ∷ acts) last = MatchBool (j == ordinal) ⊥ (RunOf allowed ordinal acts last)
 
 -- none of these acts is of this connection
 abbrev pub HasNone : (ordinal : ℕ) → List Act → Type 0
@@ -71,13 +72,13 @@ module _ {P : Type 0} (submits : Intake P → Submission → Intake P → Type 0
       × SubmitsAll submits (intake old.lane (conn_of number ordinal before) old.counted) (submissions t.events) (intake mid.lane (conn_of number ordinal after) mid.counted)
       × LaneDid mid acts new
 
-module _ {P : Type 0} (submits : Intake P → Submission → Intake P → Type 0) (takes_gzip : Bool) (number : ℕ) where
+module _ {P : Type 0} (submits : Intake P → Submission → Intake P → Type 0) (allowed : Allowed) (number : ℕ) where
   -- an open connection: its acts came to a reading that it awaits more of
   pub record IsOpen (acts : List Act) (now : LaneNow P) (x : Exchange) : Type 0 where
     pub waiting : Waiting
-    pub run : RunOf takes_gzip x.conn.key.ordinal acts (numbered waiting x.conn.next)
+    pub run : RunOf allowed x.conn.key.ordinal acts (numbered waiting x.conn.next)
     pub goes_on : waiting.end ≡ None
-    pub awaits : AwaitsBy takes_gzip Awaits x.engine waiting.reading
+    pub awaits : AwaitsBy allowed Awaits x.engine waiting.reading
     pub since : x.since ≡ waiting.since
     pub of_lane : x.conn ≡ conn_of number x.conn.key.ordinal x.conn.next
     pub below : x.conn.key.ordinal < now.lane.connected
@@ -85,7 +86,7 @@ module _ {P : Type 0} (submits : Intake P → Submission → Intake P → Type 0
   -- a connection that was taken has a run; where that didn't end, it is open
   pub record IsRun (open_at : (key : ℕ) → Option Exchange) (acts : List Act) (ordinal : ℕ) : Type 0 where
     pub last : Numbered
-    pub run : RunOf takes_gzip ordinal acts last
+    pub run : RunOf allowed ordinal acts last
     pub is_open : last.waiting.end ≡ None → (key : ℕ) × (x : Exchange) × (open_at key ≡ Some x) × (x.conn.key.ordinal ≡ ordinal)
 
   -- a lane and its open connections, by key, after these acts; no two have one number
@@ -118,18 +119,18 @@ is_full_done (HadTurn key end due is_idle) = is_full_end end
 is_full_done _ = false
 
 -- the lane and its open connections went on from here to there: whatever acts led here, these more led there, and `by` holds of them; the flag says whether the spans of some request of theirs found no place in the counts
-abbrev pub GoesOn : {P : Type 0} → (submits : Intake P → Submission → Intake P → Type 0) → (takes_gzip : Bool) → (old_open : (key : ℕ) → Option Exchange) → (old : LaneNow P) → (new_open : (key : ℕ) → Option Exchange) → (new : LaneNow P) → (is_full : Bool) → (by : (earlier more : List Act) → Type 0) → Type 0
-GoesOn {P} submits takes_gzip old_open old new_open new is_full by = (number : ℕ) (first : LaneNow P) (acts : List Act) → Fits submits takes_gzip number first old_open acts old
-    → (more : List Act) × Fits submits takes_gzip number first new_open (acts ++ more) new × (acts_uncounted more ≡ is_full) × by acts more
+abbrev pub GoesOn : {P : Type 0} → (submits : Intake P → Submission → Intake P → Type 0) → (allowed : Allowed) → (old_open : (key : ℕ) → Option Exchange) → (old : LaneNow P) → (new_open : (key : ℕ) → Option Exchange) → (new : LaneNow P) → (is_full : Bool) → (by : (earlier more : List Act) → Type 0) → Type 0
+GoesOn {P} submits allowed old_open old new_open new is_full by = (number : ℕ) (first : LaneNow P) (acts : List Act) → Fits submits allowed number first old_open acts old
+    → (more : List Act) × Fits submits allowed number first new_open (acts ++ more) new × (acts_uncounted more ≡ is_full) × by acts more
 
 -- each open connection awaits more of some reading
-abbrev pub AllAwait : (takes_gzip : Bool) → (open_at : (key : ℕ) → Option Exchange) → Type 0
-AllAwait takes_gzip open_at = (key : ℕ) (x : Exchange) → open_at key ≡ Some x → (w : Waiting) × AwaitsBy takes_gzip Awaits x.engine w.reading
+abbrev pub AllAwait : (allowed : Allowed) → (open_at : (key : ℕ) → Option Exchange) → Type 0
+AllAwait allowed open_at = (key : ℕ) (x : Exchange) → open_at key ≡ Some x → (w : Waiting) × AwaitsBy allowed Awaits x.engine w.reading
 
--- A lane served connections until each was over, unless a count would have passed 2^64-1 (the last flag): then it served no further. The first flag says whether packed bodies are taken.
-pub record ServesTurns {P : Type 0} (submits : Intake P → Submission → Intake P → Type 0) (takes_gzip : Bool) (old new : LaneNow P) (is_full : Bool) : Type 0 where
+-- A lane served connections until each was over, unless a count would have passed 2^64-1 (the last flag): then it served no further. This was allowed to clients.
+pub record ServesTurns {P : Type 0} (submits : Intake P → Submission → Intake P → Type 0) (allowed : Allowed) (old new : LaneNow P) (is_full : Bool) : Type 0 where
   pub acts : List Act
   pub open_at : (key : ℕ) → Option Exchange
-  pub fits : Fits submits takes_gzip old.lane.number old open_at acts new
+  pub fits : Fits submits allowed old.lane.number old open_at acts new
   pub full : acts_uncounted acts ≡ is_full
   pub all_over : is_full ≡ false → (key : ℕ) → open_at key ≡ None

@@ -1,5 +1,6 @@
 -- A lane that does what its driver says: which acts answer it, and the whole run of both.
 use Rattle.std.specs.Prelude.{◌≡◌, ◌≢◌, ◌⊎◌, ℕ, Bool, true, false, not, List, [], ◌∷◌, ◌++◌, take, Option, Some, None, IsSome, is_some, MatchBool, MatchOption, ⊤}
+use Rattle.http_text.specs.declared.allowed.Allowed.{Allowed}
 use Rattle.http_lane.specs.declared.turns.Exchange.{Exchange}
 use Rattle.http_lane.specs.declared.answer.ServeEnd.{ServeEnd}
 use Rattle.http_lane.specs.Connection.{Submission, Writes}
@@ -32,7 +33,7 @@ coming_of ReadFailed = read_failed
 coming_of WriteFailed = write_failed
 
 -- the connection had one turn, and no other had one. The turn was at this moment, brought what `brings` says, and wrote what `writes` says; the connection's run goes on by it, and ends so, if it does
-pub record HasTurn (takes_gzip : Bool) (earlier : List Act) (x : Exchange) (moment : ℕ) (brings : Coming → Type 0) (writes : List ℕ → Type 0) (end : Option ServeEnd) (acts : List Act) : Type 0 where
+pub record HasTurn (allowed : Allowed) (earlier : List Act) (x : Exchange) (moment : ℕ) (brings : Coming → Type 0) (writes : List ℕ → Type 0) (end : Option ServeEnd) (acts : List Act) : Type 0 where
   pub after : ℕ
   pub turn : Turned
   pub next : Waiting
@@ -40,7 +41,7 @@ pub record HasTurn (takes_gzip : Bool) (earlier : List Act) (x : Exchange) (mome
   pub acts_are : acts ≡ had x.conn.key.ordinal x.conn.next after turn ∷ []
   pub brought : brings turn.coming
   pub moment_is : turn.moment ≡ moment
-  pub run : RunOf takes_gzip x.conn.key.ordinal (earlier ++ acts) (numbered next after)
+  pub run : RunOf allowed x.conn.key.ordinal (earlier ++ acts) (numbered next after)
   pub end_is : next.end ≡ end
   pub text_is : Writes turn.events text
   pub written : writes text
@@ -50,9 +51,9 @@ abbrev pub StaysAt : (key : ℕ) → Exchange → Option ServeEnd → (old new :
 StaysAt key x end old new = MatchOption end ((y : Exchange) × (new key ≡ Some y) × (y.conn.key ≡ x.conn.key)) (λ why. new key ≡ None) × KeepsOthers old new key
 
 -- the connection at the key, of which `fits` holds, had the turn
-abbrev pub TurnAt : (takes_gzip : Bool) → (old new : Table) → (key moment : ℕ) → (fits : Exchange → Type 0) → (brings : Coming → Type 0) → (writes : List ℕ → Type 0) → Option ServeEnd → (earlier acts : List Act) → Type 0
-TurnAt takes_gzip old new key moment fits brings writes end earlier acts =
-    (x : Exchange) × (old key ≡ Some x) × fits x × HasTurn takes_gzip earlier x moment brings writes end acts × StaysAt key x end old new
+abbrev pub TurnAt : (allowed : Allowed) → (old new : Table) → (key moment : ℕ) → (fits : Exchange → Type 0) → (brings : Coming → Type 0) → (writes : List ℕ → Type 0) → Option ServeEnd → (earlier acts : List Act) → Type 0
+TurnAt allowed old new key moment fits brings writes end earlier acts =
+    (x : Exchange) × (old key ≡ Some x) × fits x × HasTurn allowed earlier x moment brings writes end acts × StaysAt key x end old new
 
 -- nothing was done
 abbrev pub DoesNothing : (old new : Table) → List Act → Type 0
@@ -64,9 +65,9 @@ TakesOne old new moment (Some key) acts = (x : Exchange) × (acts ≡ took x.con
 TakesOne old new moment None acts = DoesNothing old new acts
 
 -- the connection at the key ended because it had to leave, and no request was under way on it; or there is none such, and nothing was done
-abbrev pub Dismisses : (takes_gzip : Bool) → (old new : Table) → (key moment : ℕ) → Option ServeEnd → (earlier acts : List Act) → Type 0
-Dismisses takes_gzip old new key moment end earlier acts =
-    TurnAt takes_gzip old new key moment (λ x. x.engine ≡ None) (λ coming. coming ≡ dismissed) (λ text. text ≡ []) end earlier acts
+abbrev pub Dismisses : (allowed : Allowed) → (old new : Table) → (key moment : ℕ) → Option ServeEnd → (earlier acts : List Act) → Type 0
+Dismisses allowed old new key moment end earlier acts =
+    TurnAt allowed old new key moment (λ x. x.engine ≡ None) (λ coming. coming ≡ dismissed) (λ text. text ≡ []) end earlier acts
     ⊎ (((x : Exchange) → old key ≡ Some x → x.engine ≢ None) × (end ≡ None) × DoesNothing old new acts)
 
 -- whether there is a connection on which no request is under way
@@ -78,11 +79,11 @@ is_idle_at (Some x) = not (is_some x.engine)
 abbrev pub TellsTurn : (new : Table) → (key : ℕ) → Option ServeEnd → Done → Type 0
 TellsTurn new key end done = (due : ℕ) × (done ≡ HadTurn key end due (is_idle_at (new key)))
 
-module _ (takes_gzip : Bool) (old new : Table) (earlier : List Act) where
+module _ (allowed : Allowed) (old new : Table) (earlier : List Act) where
   -- the connection at the key had a turn that brought this, and what it wrote is to be sent; or there is none at the key
   abbrev pub HasTurnAt : (key moment : ℕ) → (brings : Coming → Type 0) → Done → (text : List ℕ) → (acts : List Act) → Type 0
   HasTurnAt key moment brings done text acts =
-      ((end : Option ServeEnd) × TurnAt takes_gzip old new key moment AnyOne brings (λ written. text ≡ written) end earlier acts × TellsTurn new key end done)
+      ((end : Option ServeEnd) × TurnAt allowed old new key moment AnyOne brings (λ written. text ≡ written) end earlier acts × TellsTurn new key end done)
       ⊎ ((old key ≡ None) × DoesNothing old new acts × (done ≡ Nothing) × (text ≡ []))
 
   -- these acts are what the driver said with this moment and this piece, this came of it, and this is to be sent
@@ -91,7 +92,7 @@ module _ (takes_gzip : Bool) (old new : Table) (earlier : List Act) where
   AsTold (Came key len) moment piece done text acts = HasTurnAt key moment (IsTaken (take len piece)) done text acts
   AsTold (Look key) moment piece done text acts = HasTurnAt key moment (λ coming. coming ≡ nothing) done text acts
   AsTold (Leave key how) moment piece done text acts = HasTurnAt key moment (λ coming. coming ≡ coming_of how) done text acts
-  AsTold (Dismiss key) moment piece done text acts = (end : Option ServeEnd) × Dismisses takes_gzip old new key moment end earlier acts × TellsTurn new key end done × (text ≡ [])
+  AsTold (Dismiss key) moment piece done text acts = (end : Option ServeEnd) × Dismisses allowed old new key moment end earlier acts × TellsTurn new key end done × (text ≡ [])
   AsTold End moment piece done text acts = DoesNothing old new acts × (done ≡ Nothing) × (text ≡ [])
 
 -- one round of a lane and its driver: what the driver said, and was then; what was done, and the table and the lane then; what the driver was told, and was then
@@ -107,13 +108,13 @@ pub record Round (D P : Type 0) : Type 0 where
   pub text : List ℕ
   pub told : D
 
-module _ {D P : Type 0} (asks : D → Next → ℕ → List ℕ → D → Type 0) (hears : D → Done → List ℕ → D → Type 0) (submits : Intake P → Submission → Intake P → Type 0) (takes_gzip : Bool) (first : LaneNow P) where
+module _ {D P : Type 0} (asks : D → Next → ℕ → List ℕ → D → Type 0) (hears : D → Done → List ℕ → D → Type 0) (submits : Intake P → Submission → Intake P → Type 0) (allowed : Allowed) (first : LaneNow P) where
   -- a round: the lane did what its driver said, and told it what came of that. Where the driver said to end, some connection was still open
   pub record IsRound (driver : D) (open_at : Table) (earlier : List Act) (r : Round D P) : Type 0 where
     pub said : asks driver r.next r.moment r.piece r.asked
     pub still_open : r.next ≡ End → (key : ℕ) × IsSome (open_at key)
-    pub as_told : AsTold takes_gzip open_at r.open_at earlier r.next r.moment r.piece r.done r.text r.acts
-    pub fits : Fits submits takes_gzip first.lane.number first r.open_at (earlier ++ r.acts) r.now
+    pub as_told : AsTold allowed open_at r.open_at earlier r.next r.moment r.piece r.done r.text r.acts
+    pub fits : Fits submits allowed first.lane.number first r.open_at (earlier ++ r.acts) r.now
     pub heard : hears r.asked r.done r.text r.told
 
   -- these rounds follow each other from here, up to where the driver says to end and no connection is open, or a count would have passed 2^64-1 (the last flag)
@@ -124,6 +125,6 @@ module _ {D P : Type 0} (asks : D → Next → ℕ → List ℕ → D → Type 0
       × MatchBool (is_full_done r.done) ((rounds ≡ []) × (last ≡ r.told) × (after ≡ r.now) × (is_full ≡ true)) (RunsFrom r.told r.open_at (acts ++ r.acts) r.now rounds last after is_full)
 
 -- a lane with no open connection did what its driver said, round by round, to the end
-abbrev pub IsDriven : {D P : Type 0} → (asks : D → Next → ℕ → List ℕ → D → Type 0) → (hears : D → Done → List ℕ → D → Type 0) → (submits : Intake P → Submission → Intake P → Type 0) → (takes_gzip : Bool)
+abbrev pub IsDriven : {D P : Type 0} → (asks : D → Next → ℕ → List ℕ → D → Type 0) → (hears : D → Done → List ℕ → D → Type 0) → (submits : Intake P → Submission → Intake P → Type 0) → (allowed : Allowed)
     → (driver : D) → (before : LaneNow P) → (last : D) → (after : LaneNow P) → (is_full : Bool) → Type 0
-IsDriven {D} {P} asks hears submits takes_gzip driver before last after is_full = (rounds : List (Round D P)) × RunsFrom asks hears submits takes_gzip before driver (λ key. None) [] before rounds last after is_full
+IsDriven {D} {P} asks hears submits allowed driver before last after is_full = (rounds : List (Round D P)) × RunsFrom asks hears submits allowed before driver (λ key. None) [] before rounds last after is_full

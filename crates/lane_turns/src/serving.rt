@@ -10,10 +10,12 @@ ghost use Rattle.lane_turns.specs.Driving.{FitsNext};
 ghost use Rattle.lane_turns.specs.declared.serving.Next.{Next};
 ghost use Rattle.lane_turns.specs.declared.serving.Next.TheVariants.{End};
 ghost use Rattle.lane_turns.specs.declared.serving.Done.{Done};
+ghost use Rattle.http_text.specs.declared.allowed.Allowed.{Allowed};
 
 use crate::table::{Leaving, came, dismiss, leave, take, waited};
 use drop_ledger::Counter;
 use http_lane::{Clock as Moments, Exchange, PIECE_LIMIT, Requests, ServeEnd, Stop};
+use http_text::Allowed;
 use lane_queue::Port;
 use lane_seq::Lane;
 use otlp_types::Item;
@@ -80,7 +82,7 @@ pub trait Driver {
 /// Does what is to be done next. The text is then what is to be sent.
 fn turn<P: Port<Item>, C: Counter, S: Stop, K: Moments>(
     alloc: Global,
-    takes_gzip: bool,
+    allowed: Allowed,
     next: Next,
     moment: u64,
     piece: &[u8],
@@ -94,11 +96,11 @@ fn turn<P: Port<Item>, C: Counter, S: Stop, K: Moments>(
 ) -> Done
     requires piece { length piece.now ≡ PIECE_LIMIT }
     requires next { FitsNext next PIECE_LIMIT }
-    requires at { AllAwait takes_gzip (get table.old) }
-    requires spare { IfSome spare.old (λ engine. Awaits engine (in_head takes_gzip [])) }
-    ensures fits { GoesOn (Submits P.takes P.refuses) takes_gzip (get table.old) (lane_now lane.old (C.counted counts.old)) (get table.new) (lane_now lane.new (C.counted counts.new)) (is_full_done result)
-        (λ earlier. AsTold takes_gzip (get table.old) (get table.new) earlier next moment piece.now result text.new.items) }
-    ensures spare { IfSome spare.new (λ engine. Awaits engine (in_head takes_gzip [])) }
+    requires at { AllAwait allowed (get table.old) }
+    requires spare { IfSome spare.old (λ engine. Awaits engine (in_head allowed [])) }
+    ensures fits { GoesOn (Submits P.takes P.refuses) allowed (get table.old) (lane_now lane.old (C.counted counts.old)) (get table.new) (lane_now lane.new (C.counted counts.new)) (is_full_done result)
+        (λ earlier. AsTold allowed (get table.old) (get table.new) earlier next moment piece.now result text.new.items) }
+    ensures spare { IfSome spare.new (λ engine. Awaits engine (in_head allowed [])) }
 {
     text.clear();
     match next {
@@ -109,7 +111,7 @@ fn turn<P: Port<Item>, C: Counter, S: Stop, K: Moments>(
             }
             let end = came(
                 alloc,
-                takes_gzip,
+                allowed,
                 table,
                 key,
                 spare,
@@ -148,7 +150,7 @@ fn turn<P: Port<Item>, C: Counter, S: Stop, K: Moments>(
 /// What became of the connection at this key.
 fn turned(table: &Slab<Exchange>, key: usize, end: Option<ServeEnd>) -> Done
     ensures full { is_full_done result ≡ is_full_end end }
-    ensures tells { (takes_gzip : Bool) → AllAwait takes_gzip (get table.now) → TellsTurn (get table.now) key end result }
+    ensures tells { (allowed : Allowed) → AllAwait allowed (get table.now) → TellsTurn (get table.now) key end result }
 {
     let (due, is_idle) = match table.get(key) {
         Some(exchange) => (exchange.due(), exchange.is_between()),
@@ -184,19 +186,19 @@ fn is_full(done: &Done) -> bool
 }
 
 /// Serves connections as the driver says, until it says to end and none is open. It ends at once where a count would have
-/// passed 2^64-1, and says whether it did. `takes_gzip`: whether packed bodies are taken.
+/// passed 2^64-1, and says whether it did. `allowed`: what is allowed to clients.
 pub fn serve_turns<D: Driver, P: Port<Item>, C: Counter, S: Stop, K: Moments, R: Wait + Clock>(
     rt: &R,
     alloc: Global,
-    takes_gzip: bool,
+    allowed: Allowed,
     driver: &mut D,
     lane: &mut Lane<P>,
     counts: &mut C,
     stop: &S,
     clock: &K,
 ) -> bool
-    ensures served { ServesTurns (Submits P.takes P.refuses) takes_gzip (lane_now lane.old (C.counted counts.old)) (lane_now lane.new (C.counted counts.new)) result }
-    ensures driven { IsDriven D.asks D.hears (Submits P.takes P.refuses) takes_gzip driver.old (lane_now lane.old (C.counted counts.old)) driver.new (lane_now lane.new (C.counted counts.new)) result }
+    ensures served { ServesTurns (Submits P.takes P.refuses) allowed (lane_now lane.old (C.counted counts.old)) (lane_now lane.new (C.counted counts.new)) result }
+    ensures driven { IsDriven D.asks D.hears (Submits P.takes P.refuses) allowed driver.old (lane_now lane.old (C.counted counts.old)) driver.new (lane_now lane.new (C.counted counts.new)) result }
 {
     let mut table = Slab::new(alloc);
     let mut spare = None;
@@ -208,8 +210,8 @@ pub fn serve_turns<D: Driver, P: Port<Item>, C: Counter, S: Stop, K: Moments, R:
             return false;
         }
         let done = turn(
-            alloc, takes_gzip, next, moment, &piece, &mut table, &mut spare, lane, counts,
-            &mut text, stop, clock,
+            alloc, allowed, next, moment, &piece, &mut table, &mut spare, lane, counts, &mut text,
+            stop, clock,
         );
         driver.done(done, &text);
         if is_full(&done) {

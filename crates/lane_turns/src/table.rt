@@ -8,9 +8,11 @@ ghost use Rattle.http_lane.specs.Requests.{Awaits};
 ghost use Rattle.http_lane.specs.Turns.{Waiting, AwaitsBy, IsTaken, nothing};
 ghost use Rattle.lane_turns.specs.Acts.{lane_now, GoesOn, is_full_end};
 ghost use Rattle.lane_turns.specs.Driven.{AnyOne, TurnAt, TakesOne, Dismisses, coming_of};
+ghost use Rattle.http_text.specs.declared.allowed.Allowed.{Allowed};
 
 use drop_ledger::Counter;
 use http_lane::{Clock, Exchange, PIECE_LIMIT, Requests, ServeEnd, Stop};
+use http_text::Allowed;
 use lane_queue::Port;
 use lane_seq::Lane;
 use otlp_types::Item;
@@ -21,7 +23,7 @@ use std::io::Write;
 /// The connection at this key has a turn that brought these bytes. Where that ends it, it is open no more.
 pub fn came<P: Port<Item>, C: Counter, W: Write, S: Stop, K: Clock>(
     alloc: Global,
-    takes_gzip: bool,
+    allowed: Allowed,
     open: &mut Slab<Exchange>,
     key: usize,
     spare: &mut Option<Requests>,
@@ -35,16 +37,16 @@ pub fn came<P: Port<Item>, C: Counter, W: Write, S: Stop, K: Clock>(
 ) -> Option<ServeEnd>
     requires piece { (0 < length piece.now) × (length piece.now ≤ PIECE_LIMIT) }
     requires open { ContainsKey «open».old key }
-    requires at { (x : Exchange) → get «open».old key ≡ Some x → (w : Waiting) × AwaitsBy takes_gzip Awaits x.engine w.reading }
-    requires spare { IfSome spare.old (λ engine. Awaits engine (in_head takes_gzip [])) }
-    ensures fits { GoesOn (Submits P.takes P.refuses) takes_gzip (get «open».old) (lane_now lane.old (C.counted counts.old)) (get «open».new) (lane_now lane.new (C.counted counts.new)) (is_full_end result)
-        (TurnAt takes_gzip (get «open».old) (get «open».new) key moment AnyOne (IsTaken piece.now) (Appends (W.contents writer.old) (W.contents writer.new)) result) }
+    requires at { (x : Exchange) → get «open».old key ≡ Some x → (w : Waiting) × AwaitsBy allowed Awaits x.engine w.reading }
+    requires spare { IfSome spare.old (λ engine. Awaits engine (in_head allowed [])) }
+    ensures fits { GoesOn (Submits P.takes P.refuses) allowed (get «open».old) (lane_now lane.old (C.counted counts.old)) (get «open».new) (lane_now lane.new (C.counted counts.new)) (is_full_end result)
+        (TurnAt allowed (get «open».old) (get «open».new) key moment AnyOne (IsTaken piece.now) (Appends (W.contents writer.old) (W.contents writer.new)) result) }
     ensures others { (other : ℕ) → other ≢ key → get «open».new other ≡ get «open».old other }
-    ensures spare { IfSome spare.new (λ engine. Awaits engine (in_head takes_gzip [])) }
+    ensures spare { IfSome spare.new (λ engine. Awaits engine (in_head allowed [])) }
 {
     let mut exchange = open.remove(key);
     let end = exchange.came(
-        alloc, takes_gzip, spare, lane, counts, writer, stop, clock, piece, moment,
+        alloc, allowed, spare, lane, counts, writer, stop, clock, piece, moment,
     );
     if let Some(why) = end {
         return Some(why);
@@ -76,8 +78,8 @@ pub fn waited<P: Port<Item>, C: Counter, W: Write, S: Stop>(
     moment: u64,
 ) -> Option<ServeEnd>
     requires { ContainsKey «open».old key }
-    ensures fits { (takes_gzip : Bool) → GoesOn (Submits P.takes P.refuses) takes_gzip (get «open».old) (lane_now lane.now (C.counted counts.now)) (get «open».new) (lane_now lane.now (C.counted counts.now)) (is_full_end result)
-        (TurnAt takes_gzip (get «open».old) (get «open».new) key moment AnyOne (λ coming. coming ≡ nothing) (Appends (W.contents writer.old) (W.contents writer.new)) result) }
+    ensures fits { (allowed : Allowed) → GoesOn (Submits P.takes P.refuses) allowed (get «open».old) (lane_now lane.now (C.counted counts.now)) (get «open».new) (lane_now lane.now (C.counted counts.now)) (is_full_end result)
+        (TurnAt allowed (get «open».old) (get «open».new) key moment AnyOne (λ coming. coming ≡ nothing) (Appends (W.contents writer.old) (W.contents writer.new)) result) }
     ensures others { (other : ℕ) → other ≢ key → get «open».new other ≡ get «open».old other }
 {
     let exchange = open.remove(key);
@@ -99,8 +101,8 @@ pub fn leave<P: Port<Item>, C: Counter>(
     moment: u64,
 ) -> ServeEnd
     requires { ContainsKey «open».old key }
-    ensures fits { (takes_gzip : Bool) → GoesOn (Submits P.takes P.refuses) takes_gzip (get «open».old) (lane_now lane.now (C.counted counts.now)) (get «open».new) (lane_now lane.now (C.counted counts.now)) (is_full_end (Some result))
-        (TurnAt takes_gzip (get «open».old) (get «open».new) key moment AnyOne (λ coming. coming ≡ coming_of how) (λ text. text ≡ []) (Some result)) }
+    ensures fits { (allowed : Allowed) → GoesOn (Submits P.takes P.refuses) allowed (get «open».old) (lane_now lane.now (C.counted counts.now)) (get «open».new) (lane_now lane.now (C.counted counts.now)) (is_full_end (Some result))
+        (TurnAt allowed (get «open».old) (get «open».new) key moment AnyOne (λ coming. coming ≡ coming_of how) (λ text. text ≡ []) (Some result)) }
     ensures others { (other : ℕ) → other ≢ key → get «open».new other ≡ get «open».old other }
 {
     let exchange = open.remove(key);
@@ -119,8 +121,8 @@ pub fn dismiss<P: Port<Item>, C: Counter>(
     counts: &C,
     moment: u64,
 ) -> Option<ServeEnd>
-    ensures fits { (takes_gzip : Bool) → GoesOn (Submits P.takes P.refuses) takes_gzip (get «open».old) (lane_now lane.now (C.counted counts.now)) (get «open».new) (lane_now lane.now (C.counted counts.now)) (is_full_end result)
-        (Dismisses takes_gzip (get «open».old) (get «open».new) key moment result) }
+    ensures fits { (allowed : Allowed) → GoesOn (Submits P.takes P.refuses) allowed (get «open».old) (lane_now lane.now (C.counted counts.now)) (get «open».new) (lane_now lane.now (C.counted counts.now)) (is_full_end result)
+        (Dismisses allowed (get «open».old) (get «open».new) key moment result) }
     ensures others { (other : ℕ) → other ≢ key → get «open».new other ≡ get «open».old other }
 {
     if !is_idle(open, key) {
@@ -133,7 +135,7 @@ pub fn dismiss<P: Port<Item>, C: Counter>(
 /// Whether there is a connection at this key on which no request is under way.
 fn is_idle(open: &Slab<Exchange>, key: usize) -> bool
     ensures there { IsTrue result → ContainsKey «open».now key }
-    ensures idle { (x : Exchange) → get «open».now key ≡ Some x → (takes_gzip : Bool) (w : Waiting) → AwaitsBy takes_gzip Awaits x.engine w.reading → result ≡ is_between w.reading }
+    ensures idle { (x : Exchange) → get «open».now key ≡ Some x → (allowed : Allowed) (w : Waiting) → AwaitsBy allowed Awaits x.engine w.reading → result ≡ is_between w.reading }
 {
     match open.get(key) {
         Some(exchange) => exchange.is_between(),
@@ -148,7 +150,7 @@ pub fn take<P: Port<Item>, C: Counter>(
     counts: &C,
     moment: u64,
 ) -> Option<usize>
-    ensures fits { (takes_gzip : Bool) → GoesOn (Submits P.takes P.refuses) takes_gzip (get «open».old) (lane_now lane.old (C.counted counts.now)) (get «open».new) (lane_now lane.new (C.counted counts.now)) false
+    ensures fits { (allowed : Allowed) → GoesOn (Submits P.takes P.refuses) allowed (get «open».old) (lane_now lane.old (C.counted counts.now)) (get «open».new) (lane_now lane.new (C.counted counts.now)) false
         (λ earlier. TakesOne (get «open».old) (get «open».new) moment result) }
 {
     if lane.connected() == u64::MAX {

@@ -5,6 +5,7 @@ use Rattle.otlp_types.specs.declared.arrival.Item.TheVariants.{End}
 use Rattle.lane_queue.specs.Ends.{EndState, with_item, TakesItem, IsRefused}
 use Rattle.lane_seq.specs.Pushes.{LaneState}
 use Rattle.lane_seq.specs.declared.preparing.Conn.{Conn}
+use Rattle.http_text.specs.declared.allowed.Allowed.{Allowed}
 use Rattle.http_lane.specs.declared.answer.ServeEnd.{ServeEnd}
 use Rattle.http_lane.specs.declared.answer.ServeEnd.TheVariants.{BookFull}
 use Rattle.http_lane.specs.Engine.{KnownReader, Served}
@@ -53,8 +54,8 @@ module _ {F X : Type 0} (gives : F → Option X → F → Type 0) (known : X →
   HasServed old before new after is_full = (given : List X) × ServesAll given old before new after is_full
 
 -- many connections were served at once, turn by turn, by a lane whose queues may hold so many items
-abbrev pub ServesMany : (takes_gzip : Bool) → (capacity : ℕ) → (before after : LaneAt) → (is_full : Bool) → Type 0
-ServesMany takes_gzip capacity before after is_full = ServesTurns (Submits (TakesItem capacity) (IsRefused capacity)) takes_gzip before after is_full
+abbrev pub ServesMany : (allowed : Allowed) → (capacity : ℕ) → (before after : LaneAt) → (is_full : Bool) → Type 0
+ServesMany allowed capacity before after is_full = ServesTurns (Submits (TakesItem capacity) (IsRefused capacity)) allowed before after is_full
 
 -- the end after an End of this number was pushed there
 abbrev pub with_end : (number : ℕ) → EndState Item → EndState Item

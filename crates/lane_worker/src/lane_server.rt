@@ -7,6 +7,7 @@ use crate::feed::Feed;
 use crate::lane_worker::serve_all;
 use drop_ledger::Counter;
 use http_lane::{Clock as MomentClock, Stop};
+use http_text::Allowed;
 use lane_queue::{Gate, Room, SenderPort};
 use lane_seq::Lane;
 use lane_turns::{Driver, serve_turns};
@@ -77,14 +78,14 @@ impl<F: Feed> LaneServer for OneByOne<F> {
 #[derive(Drop)]
 pub struct ByTurns<D> {
     pub driver: D,
-    /// Whether packed bodies are taken.
-    pub takes_gzip: bool,
+    /// What is allowed to clients.
+    pub allowed: Allowed,
 }
 
 impl<D: Driver> LaneServer for ByTurns<D> {
     ghost use Rattle.lane_worker.specs.Serving.{ServesMany};
 
-    ghost serves = { λ capacity old before new after is_full. ServesMany old.takes_gzip capacity before after is_full };
+    ghost serves = { λ capacity old before new after is_full. ServesMany old.allowed capacity before after is_full };
 
     fn serve_all<'r, C: Room, K: Counter, G: Gate, S: Stop, M: MomentClock, R: Wait + Clock>(
         &mut self,
@@ -100,7 +101,7 @@ impl<D: Driver> LaneServer for ByTurns<D> {
         serve_turns(
             rt,
             alloc,
-            self.takes_gzip,
+            self.allowed,
             &mut self.driver,
             lane,
             counter,

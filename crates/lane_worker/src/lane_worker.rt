@@ -142,7 +142,7 @@ fn serve_next<
     G: Gate,
     S: Stop,
     M: MomentClock,
-    R: Wait,
+    R: Wait + Clock,
 >(
     alloc: Global,
     number: u16,

@@ -4,9 +4,10 @@ ghost use Rattle.std.specs.List.{list_any};
 ghost use Rattle.lane_queue.specs.Ends.{IsNew};
 ghost use Rattle.run_weave.specs.Jobs.{ExporterDid};
 
+use crate::told::Told;
 use drop_ledger::{Report, Tally};
 use job_threads::Job;
-use lane_queue::{Receiver, Room};
+use lane_queue::{Gate, Receiver, Room};
 use otlp_types::Shipment;
 use span_exporter::Exporter;
 use span_sink::Sink;
@@ -15,10 +16,11 @@ use std::time::Clock;
 
 /// What the exporter is given.
 #[derive(Drop)]
-pub struct ExporterJob<'s, S: Sink, D: Room, R: Wait> {
+pub struct ExporterJob<'s, S: Sink, D: Room, G, R: Wait> {
     pub rt: &'s R,
     pub exporter: Exporter<S>,
     pub receiver: Receiver<Shipment, D>,
+    pub gate: &'s G,
 }
 
 /// What the exporter leaves.
@@ -34,7 +36,7 @@ pub struct ExporterLeft<S: Sink, D: Room> {
     pub is_full: bool,
 }
 
-impl<'s, S: Sink + Drop, D: Room, R: Wait + Clock> Job for ExporterJob<'s, S, D, R> {
+impl<'s, S: Sink + Drop, D: Room, G: Gate, R: Wait + Clock> Job for ExporterJob<'s, S, D, G, R> {
     ghost use Rattle.std.specs.Prelude.{◌≡◌, ◌<◌, [], All, false};
     ghost use Rattle.std.specs.List.{list_any};
     ghost use Rattle.lane_queue.specs.Ends.{IsNew};
@@ -54,13 +56,14 @@ impl<'s, S: Sink + Drop, D: Room, R: Wait + Clock> Job for ExporterJob<'s, S, D,
             rt,
             exporter,
             receiver,
+            gate,
         } = self;
-        let end = span_exporter::work(rt, exporter, receiver, Tally::new(Report::new()));
+        let end = span_exporter::work(rt, exporter, receiver, Tally::new(Told::new(gate)));
         let is_full = end.tally.is_full();
         ExporterLeft {
             exporter: end.exporter,
             receiver: end.receiver,
-            counts: end.tally.end(),
+            counts: end.tally.end().end(),
             is_full,
         }
     }

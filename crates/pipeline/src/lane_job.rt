@@ -2,6 +2,7 @@
 ghost use Rattle.std.specs.Prelude.{◌≡◌, ◌≤◌, [], length, vec_capacity};
 ghost use Rattle.run_weave.specs.Jobs.{LaneDid};
 
+use crate::told::Told;
 use drop_ledger::Report;
 use http_lane::{Clock as MomentClock, Stop};
 use job_threads::Job;
@@ -63,7 +64,7 @@ impl<'s, V: LaneServer + Drop, C: Room, G: Gate, P: Stop, M: MomentClock, R: Wai
             stop,
             clock,
         } = self;
-        let mut counts = Report::new();
+        let mut counts = Told::new(gate);
         let end = lane_worker::work(
             rt,
             alloc,
@@ -78,7 +79,7 @@ impl<'s, V: LaneServer + Drop, C: Room, G: Gate, P: Stop, M: MomentClock, R: Wai
         );
         LaneLeft {
             senders: end.senders,
-            counts,
+            counts: counts.end(),
             is_full: end.is_full,
         }
     }

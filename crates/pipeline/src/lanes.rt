@@ -11,9 +11,11 @@ use otlp_types::Item;
 use std::alloc::{AllocError, Global};
 use std::sync::Wait;
 
-/// What the lanes' threads are given: for each feed, in their order, a lane of its number over its ends.
+/// What the lanes' threads are given: for each feed, in their order, a lane of its number over its ends. `asks_again`: a
+/// request for whose spans a queue lacks room is to be sent again.
 pub fn lane_jobs<'s, F: Drop, C: Room, G, P, M, R: Wait>(
     lent: &Lent<'s, G, P, M, R>,
+    asks_again: bool,
     feeds: Vec<F>,
     columns: Vec<Vec<Sender<Item, C>>>,
 ) -> Result<Vec<LaneJob<'s, F, C, G, P, M, R>>, AllocError>
@@ -32,7 +34,7 @@ pub fn lane_jobs<'s, F: Drop, C: Room, G, P, M, R: Wait>(
     while let Some(feed) = feeds.pop() {
         let number = feeds.len() as u16;
         let senders = columns.take_last();
-        jobs.push_reserved(lane_job(lent, number, feed, senders)?);
+        jobs.push_reserved(lane_job(lent, asks_again, number, feed, senders)?);
     }
     jobs.reverse();
     Ok(jobs)
@@ -41,6 +43,7 @@ pub fn lane_jobs<'s, F: Drop, C: Room, G, P, M, R: Wait>(
 /// What a lane's thread is given.
 fn lane_job<'s, F: Drop, C: Room, G, P, M, R: Wait>(
     lent: &Lent<'s, G, P, M, R>,
+    asks_again: bool,
     number: u16,
     feed: F,
     senders: Vec<Sender<Item, C>>,
@@ -57,7 +60,7 @@ fn lane_job<'s, F: Drop, C: Room, G, P, M, R: Wait>(
         alloc: lent.alloc,
         number,
         feed,
-        lane: lane_of(lent.rt, number, senders, ports),
+        lane: lane_of(lent.rt, asks_again, number, senders, ports),
         room,
         gate: lent.gate,
         stop: lent.stop,
@@ -81,6 +84,7 @@ fn lane_lists<'s, C: Room, R: Wait>(
 /// A lane over these ends; `ports` has room for them.
 fn lane_of<'s, C: Room, R: Wait>(
     rt: &'s R,
+    asks_again: bool,
     number: u16,
     senders: Vec<Sender<Item, C>>,
     ports: Vec<SenderPort<'s, Item, C, R>>,
@@ -91,7 +95,7 @@ fn lane_of<'s, C: Room, R: Wait>(
 {
     let mut ports = ports;
     for sender in senders {
-        ports.push_reserved(SenderPort::new(rt, sender));
+        ports.push_reserved(SenderPort::new(rt, sender, asks_again));
     }
-    Lane::new(number, ports)
+    Lane::new(number, ports).asking_again(asks_again)
 }

@@ -17,6 +17,7 @@ mod running;
 mod shard_job;
 mod shards;
 mod ticker_job;
+mod told;
 
 pub use fault::RunFault;
 pub use running::{run, run_by_turns};

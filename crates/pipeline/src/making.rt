@@ -126,7 +126,7 @@ fn team_of<'s, F: Drop, T: Drop, C: Room, D: Room, G, P, M, R: Wait>(
     let mut columns = columns;
     let senders = columns.take_last();
     let third = shard_jobs(lent, config, ends)?;
-    let first = lane_jobs(lent, feeds, columns)?;
+    let first = lane_jobs(lent, config.waits_for_room, feeds, columns)?;
     Ok(Team {
         first,
         second: TickerJob {

@@ -25,9 +25,11 @@ use span_exporter::{Exporter, sink_takes_lines};
 use span_sink::{LineSink, Sink, takes_handed_lines};
 use std::alloc::{AllocError, Global};
 use std::marker::Brand;
+use std::random::RandomSource;
 use std::sync::Wait;
 use std::thread::Threads;
 use std::time::Clock;
+use trace_hash::TraceHashing;
 use tsc_config::Config;
 
 /// Runs the pipeline until every feed and the ticks have ended, and gives the sink back: a thread for each lane, each shard
@@ -43,7 +45,7 @@ pub fn run<
     G: Gate + Sync,
     P: Stop + Sync,
     M: MomentClock + Sync,
-    R: Threads + Wait + Clock + Sync,
+    R: Threads + Wait + Clock + RandomSource + Sync,
 >(
     rt: &R,
     alloc: Global,
@@ -96,7 +98,7 @@ pub fn run_by_turns<
     G: Gate + Sync,
     P: Stop + Sync,
     M: MomentClock + Sync,
-    R: Threads + Wait + Clock + Sync,
+    R: Threads + Wait + Clock + RandomSource + Sync,
 >(
     rt: &R,
     alloc: Global,
@@ -118,7 +120,7 @@ pub fn run_by_turns<
     requires drivers { vec_len drivers ≡ config.lanes }
     requires failures { S.failures sink < 2 ^ 64 - 1 }
     ensures sink { SinkAnswers (S.taken sink) (S.failures sink) (S.taken result.0) (S.failures result.0) result.1 }
-    ensures ran { RunTells (receives_by_turns (λ (s : ByTurns D). s.takes_gzip)) T.gives config drivers.items ticks (S.taken sink) (S.failures sink) (S.taken result.0) (S.failures result.0) result.1 }
+    ensures ran { RunTells (receives_by_turns (λ (s : ByTurns D). s.allowed)) T.gives config drivers.items ticks (S.taken sink) (S.failures sink) (S.taken result.0) (S.failures result.0) result.1 }
 {
     run_servers(rt, alloc, config, drivers, ticks, sink, gate, stop, clock)
 }
@@ -131,7 +133,7 @@ fn run_servers<
     G: Gate + Sync,
     P: Stop + Sync,
     M: MomentClock + Sync,
-    R: Threads + Wait + Clock + Sync,
+    R: Threads + Wait + Clock + RandomSource + Sync,
 >(
     rt: &R,
     alloc: Global,
@@ -166,7 +168,8 @@ fn run_servers<
     (exporter.end().end(), answer)
 }
 
-/// Runs the threads, and answers the report.
+/// Runs the threads, and answers the report. The key by which trace ids are hashed is taken first: where the system has no
+/// random source, nothing is run, and `NoMemory` is answered.
 fn run_in<
     V: LaneServer + Send + Drop,
     T: Ticks + Send + Drop,
@@ -176,7 +179,7 @@ fn run_in<
     M: MomentClock + Sync,
     C: Room + Send + Sync,
     D: Room + Send + Sync,
-    R: Threads + Wait + Clock + Sync,
+    R: Threads + Wait + Clock + RandomSource + Sync,
 >(
     rt: &R,
     alloc: Global,
@@ -195,9 +198,13 @@ fn run_in<
     ensures sink { SinkAnswers exporter.sink.taken exporter.sink.failures result.0.sink.taken result.0.sink.failures result.1 }
     ensures ran { WorkedTells V.serves T.gives config.now servers.items ticks exporter result.0 result.1 }
 {
+    let Ok(hashing) = TraceHashing::keyed(rt) else {
+        return (exporter, Err(RunFault::NoMemory));
+    };
     let lent = Lent {
         rt,
         alloc,
+        hashing,
         gate,
         stop,
         clock,
@@ -266,6 +273,7 @@ fn run_over<
         rt: lent.rt,
         exporter,
         receiver: shipments,
+        gate: lent.gate,
     };
     match run_team(lent.rt, lent.alloc, team, job) {
         Ok((left, last)) => {

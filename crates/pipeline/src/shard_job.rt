@@ -1,6 +1,7 @@
 //! What a shard's thread is given, does and leaves.
 ghost use Rattle.std.specs.Prelude.{◌≡◌};
 
+use crate::told::Told;
 use drop_ledger::{Report, Tally};
 use job_threads::Job;
 use lane_queue::{Gate, Receiver, Room, Sender};
@@ -60,14 +61,14 @@ impl<'s, C: Room, D: Room, G: Gate, R: Wait + Clock> Job for ShardJob<'s, C, D, 
             sender,
             gate,
         } = self;
-        let tally = Tally::new(Report::new());
+        let tally = Tally::new(Told::new(gate));
         let end = shard_worker::work(rt, number, shard, seat, receiver, sender, tally, gate);
         let is_full = end.tally.is_full();
         ShardLeft {
             seat: end.limiter,
             receiver: end.receiver,
             sender: end.sender,
-            counts: end.tally.end(),
+            counts: end.tally.end().end(),
             is_full,
         }
     }

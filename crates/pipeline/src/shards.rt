@@ -9,10 +9,11 @@ use crate::lent::Lent;
 use crate::shard_job::ShardJob;
 use lane_queue::{Receiver, Room, Sender};
 use otlp_types::{Item, Shipment, TryClone};
-use shard_core::Shard;
+use shard_core::{Shard, ShardSetup};
 use shared_budget::BudgetSeat;
 use std::alloc::{AllocError, Global};
 use std::sync::Wait;
+use trace_hash::TraceHashing;
 use tsc_config::Config;
 
 /// The ends and seats of the shards, each by shard.
@@ -41,13 +42,17 @@ pub fn shard_jobs<'s, C: Room, D: Room, G, P, M, R: Wait>(
     ensures numbers { IfOk result (λ jobs. NumberedFrom 0 (map (λ job. job.number) jobs.items)) }
     ensures new { IfOk result (λ jobs. All (λ job. HasSettings config.now job.shard) jobs.items) }
 {
-    let shards = new_shards(lent.alloc, config)?;
+    let shards = new_shards(lent.alloc, lent.hashing, config)?;
     let jobs = Vec::with_capacity(lent.alloc, config.shards)?;
     Ok(jobs_of(lent, config, shards, ends, jobs))
 }
 
 /// The shards of a configuration, which have taken nothing.
-fn new_shards(alloc: Global, config: &Config) -> Result<Vec<Shard>, AllocError>
+fn new_shards(
+    alloc: Global,
+    hashing: TraceHashing,
+    config: &Config,
+) -> Result<Vec<Shard>, AllocError>
     requires waits { 0 < config.now.decision_wait }
     requires shards { 0 < config.now.shards }
     requires traces { config.now.shards ≤ config.now.num_traces }
@@ -56,28 +61,29 @@ fn new_shards(alloc: Global, config: &Config) -> Result<Vec<Shard>, AllocError>
 {
     let mut made = Vec::with_capacity(alloc, config.shards)?;
     for _shard in 0..config.shards {
-        made.push_reserved(new_shard(alloc, config)?);
+        made.push_reserved(new_shard(alloc, hashing, config)?);
     }
     Ok(made)
 }
 
 /// A shard with its share of the traces and of the caches, whose senders are the lanes and the ticker.
-fn new_shard(alloc: Global, config: &Config) -> Result<Shard, AllocError>
+fn new_shard(alloc: Global, hashing: TraceHashing, config: &Config) -> Result<Shard, AllocError>
     requires waits { 0 < config.now.decision_wait }
     requires shards { 0 < config.now.shards }
     requires traces { config.now.shards ≤ config.now.num_traces }
     ensures { IfOk result (IsNewShard config.now) }
 {
-    Shard::new(
-        alloc,
-        config.policies.try_clone(alloc)?,
-        config.decision_wait,
-        config.root_wait,
-        config.traces_per_shard(),
-        config.sampled_cache_per_shard(),
-        config.non_sampled_cache_per_shard(),
-        config.lanes as usize + 1,
-    )
+    let policies = config.policies.try_clone(alloc)?;
+    let setup = ShardSetup {
+        hashing,
+        wait: config.decision_wait,
+        root_wait: config.root_wait,
+        limit: config.traces_per_shard(),
+        sampled: config.sampled_cache_per_shard(),
+        non_sampled: config.non_sampled_cache_per_shard(),
+        senders: config.lanes as usize + 1,
+    };
+    Shard::new(alloc, policies, setup)
 }
 
 /// What the threads of these shards are given; `jobs` has room for it.

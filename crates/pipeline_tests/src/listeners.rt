@@ -1,6 +1,7 @@
 //! The ends of feed and ticks, how long a connection waits, and when ticks are due.
 use collector_serve::{Connections, StopMark, Ticker, WallClock, listen};
 use http_lane::{Clock as Moments, Stop};
+use http_text::Allowed;
 use lane_worker::{Feed, Ticks};
 use std::alloc::{AllocError, Global};
 use std::net::TcpStream;
@@ -8,13 +9,18 @@ use std::sync::Wait;
 use std::test::Fail;
 use std::time::{Clock, Duration};
 
+/// What is allowed to clients, where packed bodies are taken or aren't.
+fn allowed(gzip: bool) -> Allowed {
+    Allowed { gzip, close: true }
+}
+
 /// Once the stop mark is set, and no connection waits, there is none any more, and no tick.
 #[test]
 fn feed_and_ticks_end(rt: HostRuntime) -> Result<(), Fail> {
     let listener = listen(&rt, "127.0.0.1:0")?;
     let stop = StopMark::new();
     stop.set();
-    let mut connections = Connections::new(&listener, &stop, false);
+    let mut connections = Connections::new(&listener, &stop, allowed(false));
     assert!(rt; connections.next(&rt).is_none());
     let clock = WallClock::new(&rt);
     let mut ticker = Ticker::new(60_000, &clock, &stop);
@@ -29,7 +35,7 @@ fn reads_and_writes_wait_only_so_long(rt: HostRuntime) -> Result<(), Fail> {
     let listener = listen(&rt, "127.0.0.1:0")?;
     let _client = TcpStream::connect(&rt, listener.local_addr()?)?;
     let stop = StopMark::new();
-    let Some((reads, writer)) = Connections::new(&listener, &stop, true).next(&rt) else {
+    let Some((reads, writer)) = Connections::new(&listener, &stop, allowed(true)).next(&rt) else {
         return Err(Fail::from("no connection"));
     };
     assert_eq!(rt;
@@ -38,7 +44,7 @@ fn reads_and_writes_wait_only_so_long(rt: HostRuntime) -> Result<(), Fail> {
     );
     assert_eq!(rt; writer.write_timeout()?, Some(Duration::from_secs(30)));
     assert!(rt; writer.nodelay()?);
-    assert!(rt; reads.takes_gzip);
+    assert!(rt; reads.allowed.gzip);
     Ok(())
 }
 

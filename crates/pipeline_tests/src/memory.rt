@@ -2,6 +2,7 @@
 ghost use Rattle.std.specs.Prelude.{◌≡◌, IfOk, None, Some};
 
 use http_lane::{Clock as MomentClock, Reads, Stop};
+use http_text::Allowed;
 use lane_worker::{Feed, Ticks};
 use span_ids::Moment;
 use span_sink::{Sink, SinkFault};
@@ -67,7 +68,10 @@ impl Feed for MemoryFeed {
         let reader = self.connections.pop()?;
         let reads = Reads {
             reader,
-            takes_gzip: false,
+            allowed: Allowed {
+                gzip: false,
+                close: true,
+            },
         };
         Some((reads, Vec::new(self.alloc)))
     }

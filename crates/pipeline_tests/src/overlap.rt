@@ -9,6 +9,7 @@ use lane_queue::{Gate, OpenGate};
 use pipeline::{RunFault, run};
 use span_ids::Reason;
 use std::alloc::{AllocError, Global};
+use std::random::RandomSource;
 use std::sync::Wait;
 use std::sync::atomic::AtomicBool;
 use std::test::Fail;
@@ -70,7 +71,7 @@ pub fn configured(alloc: Global, text: &str) -> Result<Config, Fail>
 }
 
 /// What a run answers of two lanes with one request each, and the bytes that its sink has.
-fn run_two<G: Gate + Sync, R: Threads + Wait + Clock + Sync>(
+fn run_two<G: Gate + Sync, R: Threads + Wait + Clock + RandomSource + Sync>(
     rt: &R,
     alloc: Global,
     config: &str,
@@ -122,7 +123,7 @@ fn hundred_spans_a_lane(rt: HostRuntime) -> Result<(), Fail> {
 }
 
 /// Runs two lanes with one span each, behind a gate.
-fn two_spans<G: Gate + Sync, R: Threads + Wait + Clock + Sync>(
+fn two_spans<G: Gate + Sync, R: Threads + Wait + Clock + RandomSource + Sync>(
     rt: &R,
     alloc: Global,
     config: &str,

@@ -8,6 +8,7 @@ use drop_ledger::Report;
 use lane_queue::OpenGate;
 use pipeline::{RunFault, run};
 use std::alloc::Global;
+use std::random::RandomSource;
 use std::sync::Wait;
 use std::sync::atomic::AtomicBool;
 use std::test::Fail;
@@ -31,7 +32,7 @@ fn spans_in(lines: &[u8]) -> u64 {
 
 /// What a run answers of one lane with these connections, the last one first, and its sink. Its stop mark may be set before it
 /// begins.
-fn run_one<R: Threads + Wait + Clock + Sync>(
+fn run_one<R: Threads + Wait + Clock + RandomSource + Sync>(
     rt: &R,
     alloc: Global,
     config: Config,

@@ -11,8 +11,9 @@ pub use items::{Event, event_item, span_item};
 pub use lists::{one_policy, policy_on};
 use policy_tree::PolicyKind;
 use rate_budget::Budgets;
-use shard_core::Shard;
+use shard_core::{Shard, ShardSetup};
 use std::alloc::{AllocError, Global};
+use trace_hash::TraceHashing;
 
 /// A shard that decides by one policy of this kind, when a trace has waited so many milliseconds; it has room for so many
 /// traces, and remembers no decision. Beside it the limiter of that policy. `AllocError` where the policy is refused, too.
@@ -30,6 +31,15 @@ pub fn plain_shard(
 {
     let policies = one_policy(alloc, kind)?;
     let limiter = Budgets::new(alloc, &policies)?;
-    let shard = Shard::new(alloc, policies, wait, 0, traces, 0, 0, senders)?;
+    let setup = ShardSetup {
+        hashing: TraceHashing::Fixed,
+        wait,
+        root_wait: 0,
+        limit: traces,
+        sampled: 0,
+        non_sampled: 0,
+        senders,
+    };
+    let shard = Shard::new(alloc, policies, setup)?;
     Ok((shard, limiter))
 }

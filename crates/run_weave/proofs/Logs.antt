@@ -284,7 +284,7 @@ module _ (capacity number : ℕ) (first : List (EndState Item)) where
       let served = h.3 in
       let does = served.3 in
       let all = takes_all false (log (intake (connected at.lane) (first_conn at.lane) at.counted) received) (submissions (events_of served.0)) (intake new.lane h.0 new.counted) begin does.3 in
-      let on = subst (λ (full : Bool). OnConn full (log (intake new.lane h.0 new.counted) all.0)) (full_as_uncounted c.reader.takes_gzip served.0 end served.1) all.2 in
+      let on = subst (λ (full : Bool). OnConn full (log (intake new.lane h.0 new.counted) all.0)) (full_as_uncounted c.reader.allowed served.0 end served.1) all.2 in
       (all.0, (h.0, h.1, h.2, (served.0, served.1, served.2, (does.0, does.1, does.2, all.1))), record { keeps = on.keeps; lane_is = on.lane_is; below = on.below })
     where
       begin : OnConn false (log (intake (connected at.lane) (first_conn at.lane) at.counted) received)

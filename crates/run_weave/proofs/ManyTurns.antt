@@ -12,6 +12,7 @@ use Rattle.lane_seq.specs.declared.reply.Reply.{Reply}
 use Rattle.lane_seq.specs.declared.reply.Reply.TheVariants.{Done, Partial, BadData, Busy}
 use Rattle.lane_seq.specs.Replies.{IsRefusal, OnReceived}
 use Rattle.lane_seq.specs.Pushes.{LaneState}
+use Rattle.http_text.specs.declared.allowed.Allowed.{Allowed}
 use Rattle.http_lane.specs.Connection.{Submission, SubmitsAll, submissions}
 use Rattle.http_lane.specs.Intake.{Intake, Submits, intake, connected}
 use Rattle.http_lane.specs.Turns.{came_at}
@@ -76,7 +77,7 @@ turns_number k (had j before after t ∷ acts) c last h = either (j == k) (λ x.
     either true f g x = f x
     either false f g x = g x
 
-run_numbers : (g : Bool) (k : ℕ) (acts : List Act) (last : Numbered) → RunOf g k acts last → NumbersOn k 0 acts
+run_numbers : (g : Allowed) (k : ℕ) (acts : List Act) (last : Numbered) → RunOf g k acts last → NumbersOn k 0 acts
 run_numbers g k [] last h = tt
 run_numbers g k (took j moment ∷ acts) last h = go (j == k) h (λ x. turns_number k acts (numbered (came_at g moment) 0) last x) (λ x. run_numbers g k acts last x)
   where
@@ -95,10 +96,10 @@ none_numbers k next (took j moment ∷ acts) h = none_numbers k next acts h.1
 none_numbers k next (had j before after t ∷ acts) h = subst (λ (b : Bool). MatchBool b ((before ≡ next) × NumbersOn k after acts) (NumbersOn k next acts)) (sym h.0) (none_numbers k next acts h.1)
 
 -- a connection is still to be taken, or never is
-abbrev IsToCome : (takes_gzip : Bool) → (ordinal : ℕ) → List Act → Type 0
+abbrev IsToCome : (allowed : Allowed) → (ordinal : ℕ) → List Act → Type 0
 IsToCome g k acts = ((last : Numbered) × RunOf g k acts last) ⊎ HasNone k acts
 
-to_come_taken : (g : Bool) (k j moment : ℕ) (acts : List Act) → (j == k) ≡ false → IsToCome g k (took j moment ∷ acts) → IsToCome g k acts
+to_come_taken : (g : Allowed) (k j moment : ℕ) (acts : List Act) → (j == k) ≡ false → IsToCome g k (took j moment ∷ acts) → IsToCome g k acts
 to_come_taken g k j moment acts ne (inl h) = inl (h.0, other_part _ _ (j == k) ne h.1)
   where
     other_part : (A B : Type 0) (b : Bool) → b ≡ false → MatchBool b A B → B
@@ -106,7 +107,7 @@ to_come_taken g k j moment acts ne (inl h) = inl (h.0, other_part _ _ (j == k) n
     other_part A B false e x = x
 to_come_taken g k j moment acts ne (inr h) = inr h.1
 
-to_come_had : (g : Bool) (k j before after : ℕ) (t : _) (acts : List Act) → IsToCome g k (had j before after t ∷ acts) → ((j == k) ≡ false) × IsToCome g k acts
+to_come_had : (g : Allowed) (k j before after : ℕ) (t : _) (acts : List Act) → IsToCome g k (had j before after t ∷ acts) → ((j == k) ≡ false) × IsToCome g k acts
 to_come_had g k j before after t acts (inl h) = go (j == k) refl h.1
   where
     go : (b : Bool) → (j == k) ≡ b → MatchBool b ⊥ (RunOf g k acts h.0) → ((j == k) ≡ false) × IsToCome g k acts
@@ -116,7 +117,7 @@ to_come_had g k j before after t acts (inr h) = (h.0, inr h.1)
 
 -- ---- turn by turn
 
-module _ (g : Bool) (capacity number : ℕ) (first : List (EndState Item)) where
+module _ (g : Allowed) (capacity number : ℕ) (first : List (EndState Item)) where
   others_same : (k j : ℕ) → (k == j) ≡ false → (ss : List Submission) (old new : Log) → old.at.conn.key ≡ key_of number k → SubmitsAll (Logs capacity) old ss new
       → on_conn (key_of number j) new.received ≡ on_conn (key_of number j) old.received
   others_same k j ne [] old new e p = ap (λ (l : Log). on_conn (key_of number j) l.received) p
@@ -211,25 +212,25 @@ module _ (g : Bool) (capacity number : ℕ) (first : List (EndState Item)) where
       later : (j : ℕ) → mid.lane.connected ≤ j → IsToCome g j acts
       later j past = (to_come_had g j k before after t acts (to_come j (omega (arith, past, same_connected)))).1
 
-module _ {V : Type 0} (packed_of : V → Bool) where
-  pub by_turns : IsReceived (serves_by_turns packed_of) (receives_by_turns packed_of)
+module _ {V : Type 0} (allowed_of : V → Allowed) where
+  pub by_turns : IsReceived (serves_by_turns allowed_of) (receives_by_turns allowed_of)
   by_turns capacity number ports old new last is_full h =
-      let all = goes (packed_of old) capacity number ports h.acts false (lane_at (record { number = number; connected = 0; ports = ports }) zeros) last (λ k. 0) [] (record { keeps = keeps_first capacity number ports; lane_is = refl; below = tt; next_is = λ k. refl }) numbers to_come h.fits.did in (
+      let all = goes (allowed_of old) capacity number ports h.acts false (lane_at (record { number = number; connected = 0; ports = ports }) zeros) last (λ k. 0) [] (record { keeps = keeps_first capacity number ports; lane_is = refl; below = tt; next_is = λ k. refl }) numbers to_come h.fits.did in (
         all.0,
         record { acts = h.acts; open_at = h.open_at; fits = h.fits; logged = all.1; full = h.full; all_over = h.all_over },
         subst (λ (full : Bool). Keeps capacity number ports full all.0 last.lane.ports last.counted) h.full all.2,
       )
     where
-      to_come : (k : ℕ) → 0 ≤ k → IsToCome (packed_of old) k h.acts
+      to_come : (k : ℕ) → 0 ≤ k → IsToCome (allowed_of old) k h.acts
       to_come k from = go (nat_le last.lane.connected k) refl
         where
-          go : (b : Bool) → nat_le last.lane.connected k ≡ b → IsToCome (packed_of old) k h.acts
+          go : (b : Bool) → nat_le last.lane.connected k ≡ b → IsToCome (allowed_of old) k h.acts
           go true is = inr (h.fits.fresh k (leb-true last.lane.connected k is))
           go false is = let run = h.fits.runs k (omega arith) (omega (arith, leb-false last.lane.connected k is)) in inl (run.last, run.run)
 
       numbers : (k : ℕ) → NumbersOn k 0 h.acts
       numbers k = go (to_come k (omega arith))
         where
-          go : IsToCome (packed_of old) k h.acts → NumbersOn k 0 h.acts
-          go (inl run) = run_numbers (packed_of old) k h.acts run.0 run.1
+          go : IsToCome (allowed_of old) k h.acts → NumbersOn k 0 h.acts
+          go (inl run) = run_numbers (allowed_of old) k h.acts run.0 run.1
           go (inr none) = none_numbers k 0 h.acts none

@@ -7,6 +7,7 @@ use Rattle.drop_ledger.specs.declared.count.Count.{Count}
 use Rattle.drop_ledger.specs.declared.count.Count.TheVariants.{Received, Handed, Dropped}
 use Rattle.drop_ledger.specs.Places.{Gains, Passes}
 use Rattle.lane_queue.specs.Ends.{EndState, TakesItem, IsRefused}
+use Rattle.http_text.specs.declared.allowed.Allowed.{Allowed}
 use Rattle.http_lane.specs.declared.turns.Exchange.{Exchange}
 use Rattle.http_lane.specs.Connection.{SubmitsAll, submissions}
 use Rattle.http_lane.specs.Intake.{Submits, intake, connected}
@@ -39,20 +40,20 @@ ActsLog capacity number old before (had ordinal b a t ∷ acts) new after = (mid
     × ActsLog capacity number mid between acts new after
 
 -- Many connections were served at once, and this was received of them: the turns of each follow its transcript by the clock, and number its spans on; each was served to its end, unless a count would have passed 2^64-1.
-pub record ReceivesMany (takes_gzip : Bool) (capacity : ℕ) (at : LaneAt) (before : List Arrival) (last : LaneAt) (after : List Arrival) (is_full : Bool) : Type 0 where
+pub record ReceivesMany (allowed : Allowed) (capacity : ℕ) (at : LaneAt) (before : List Arrival) (last : LaneAt) (after : List Arrival) (is_full : Bool) : Type 0 where
   pub acts : List Act
   pub open_at : (key : ℕ) → Option Exchange
-  pub fits : Fits (Submits (TakesItem capacity) (IsRefused capacity)) takes_gzip at.lane.number at open_at acts last
+  pub fits : Fits (Submits (TakesItem capacity) (IsRefused capacity)) allowed at.lane.number at open_at acts last
   pub logged : ActsLog capacity at.lane.number at before acts last after
   pub full : acts_uncounted acts ≡ is_full
   pub all_over : is_full ≡ false → (key : ℕ) → open_at key ≡ None
 
-module _ {V : Type 0} (packed_of : V → Bool) where
+module _ {V : Type 0} (allowed_of : V → Allowed) where
   abbrev pub serves_by_turns : (capacity : ℕ) → (old : V) → (before : LaneAt) → (new : V) → (after : LaneAt) → (is_full : Bool) → Type 0
-  serves_by_turns capacity old before new after is_full = ServesMany (packed_of old) capacity before after is_full
+  serves_by_turns capacity old before new after is_full = ServesMany (allowed_of old) capacity before after is_full
 
   abbrev pub receives_by_turns : (capacity : ℕ) → (old : V) → (at : LaneAt) → (before : List Arrival) → (new : V) → (last : LaneAt) → (after : List Arrival) → (is_full : Bool) → Type 0
-  receives_by_turns capacity old at before new last after is_full = ReceivesMany (packed_of old) capacity at before last after is_full
+  receives_by_turns capacity old at before new last after is_full = ReceivesMany (allowed_of old) capacity at before last after is_full
 
 -- ---- what each way of serving keeps
 

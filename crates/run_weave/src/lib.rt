@@ -25,5 +25,5 @@ pub fn workers_ran<F: Feed, T: Ticks>()
 
 /// The same where each lane serves many connections at once, turn by turn.
 pub fn workers_ran_by_turns<D: Driver, T: Ticks>()
-    ensures { WorkersRan (serves_by_turns (λ (s : ByTurns D). s.takes_gzip)) (receives_by_turns (λ (s : ByTurns D). s.takes_gzip)) T.gives }
+    ensures { WorkersRan (serves_by_turns (λ (s : ByTurns D). s.allowed)) (receives_by_turns (λ (s : ByTurns D). s.allowed)) T.gives }
 {}

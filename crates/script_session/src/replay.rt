@@ -18,10 +18,11 @@ use drop_ledger::Report;
 use lane_queue::ListPort;
 use otlp_types::{Item, TryClone};
 use rate_budget::Budgets;
-use shard_core::Shard;
+use shard_core::{Shard, ShardSetup};
 use span_exporter::Exporter;
 use span_sink::{LineSink, Sink};
 use std::alloc::{AllocError, Global};
+use trace_hash::TraceHashing;
 use tsc_config::Config;
 use tsc_script::{Source, play_script};
 
@@ -154,7 +155,8 @@ fn new_shards(alloc: Global, config: &Config, shards: usize) -> Result<Vec<Shard
     Ok(made)
 }
 
-/// A shard with its share of the traces and of the caches. Its senders are the lanes and the ticker.
+/// A shard with its share of the traces and of the caches. Its senders are the lanes and the ticker. Trace ids are hashed by a
+/// fixed function: they stand in the script.
 fn new_shard(alloc: Global, config: &Config) -> Result<Shard, AllocError>
     requires waits { 0 < config.now.decision_wait }
     requires lanes { 0 < config.now.lanes }
@@ -162,16 +164,17 @@ fn new_shard(alloc: Global, config: &Config) -> Result<Shard, AllocError>
     requires traces { config.now.shards ≤ config.now.num_traces }
     ensures { IfOk result (λ shard. IsNew config.now shard) }
 {
-    Shard::new(
-        alloc,
-        config.policies.try_clone(alloc)?,
-        config.decision_wait,
-        config.root_wait,
-        config.traces_per_shard(),
-        config.sampled_cache_per_shard(),
-        config.non_sampled_cache_per_shard(),
-        config.lanes as usize + 1,
-    )
+    let policies = config.policies.try_clone(alloc)?;
+    let setup = ShardSetup {
+        hashing: TraceHashing::Fixed,
+        wait: config.decision_wait,
+        root_wait: config.root_wait,
+        limit: config.traces_per_shard(),
+        sampled: config.sampled_cache_per_shard(),
+        non_sampled: config.non_sampled_cache_per_shard(),
+        senders: config.lanes as usize + 1,
+    };
+    Shard::new(alloc, policies, setup)
 }
 
 /// Plays a script on a session that has seen no line.

@@ -12,4 +12,4 @@ mod shard;
 
 pub use answer::{Decided, Taken};
 pub use journal_theory::laws;
-pub use shard::Shard;
+pub use shard::{Shard, ShardSetup};

@@ -21,6 +21,26 @@ use span_ids::{Moment, Reason, Verdict};
 use std::alloc::{AllocError, Global};
 use std::marker::Model;
 use trace_buffer::{Evicted, State, TraceBuffer};
+use trace_hash::TraceHashing;
+
+/// What a shard is made with, beside its policies.
+#[derive(Clone, Copy)]
+pub struct ShardSetup {
+    /// How the index of traces and the caches hash trace ids.
+    pub hashing: TraceHashing,
+    /// How long a trace waits for its decision, in milliseconds.
+    pub wait: Moment,
+    /// How long a trace waits once its first root was taken, in milliseconds; 0 is off.
+    pub root_wait: Moment,
+    /// The most traces in the buffer.
+    pub limit: usize,
+    /// The most traces that are remembered as sampled once they left the buffer; 0 is off.
+    pub sampled: usize,
+    /// The same of those that are not sampled.
+    pub non_sampled: usize,
+    /// Senders have the numbers below this one.
+    pub senders: usize,
+}
 
 /// A shard.
 ///
@@ -64,35 +84,23 @@ impl Shard {
     ghost use Rattle.journal_theory.specs.Marked.{marks_apply};
     ghost use Rattle.shard_core.specs.Holding.{held_after_tick, held_after_end, TakesSpan};
 
-    /// A shard that has taken nothing. `wait` is how long a trace waits for its decision, in milliseconds, and `root_wait`
-    /// how long after its first root was taken, where 0 is off; `limit` is on the number of traces in the buffer; the
-    /// caches have room for so many traces decided as `sampled` and as `non_sampled`, where 0 is off. Senders have the
-    /// numbers below `senders`.
-    pub fn new(
-        alloc: Global,
-        policies: Policies,
-        wait: Moment,
-        root_wait: Moment,
-        limit: usize,
-        sampled: usize,
-        non_sampled: usize,
-        senders: usize,
-    ) -> Result<Shard, AllocError>
-        requires waits { 0 < wait }
-        requires keeps_a_trace { 0 < limit }
-        requires has_senders { 0 < senders }
+    /// A shard that has taken nothing.
+    pub fn new(alloc: Global, policies: Policies, setup: ShardSetup) -> Result<Shard, AllocError>
+        requires waits { 0 < setup.wait }
+        requires keeps_a_trace { 0 < setup.limit }
+        requires has_senders { 0 < setup.senders }
         ensures stands { IfOk result (λ shard. StandsFor shard [] 0) }
         ensures policies { IfOk result (λ shard. shard.policies ≡ policies) }
-        ensures settings { IfOk result (λ shard. settings shard ≡ settings_of policies wait root_wait limit sampled non_sampled senders) }
+        ensures settings { IfOk result (λ shard. settings shard ≡ settings_of policies setup.wait setup.root_wait setup.limit setup.sampled setup.non_sampled setup.senders) }
         ensures nothing_due { IfOk result (λ shard. has_due shard ≡ false) }
         ensures running { IfOk result (λ shard. is_finished shard ≡ false) }
-        ensures ends { IfOk result (λ shard. shard.standing.ends ≡ replicate senders false) }
+        ensures ends { IfOk result (λ shard. shard.standing.ends ≡ replicate setup.senders false) }
     {
-        match nothing_held(alloc, limit, sampled, non_sampled, senders) {
+        match nothing_held(alloc, setup) {
             Ok((buffer, cache, ends)) => Ok(Shard {
                 policies,
-                wait,
-                root_wait,
+                wait: setup.wait,
+                root_wait: setup.root_wait,
                 buffer,
                 cache,
                 clock: 0,
@@ -239,19 +247,17 @@ impl Shard {
 /// The buffer and the cache of a shard that has taken nothing, and which of its senders have ended: none.
 fn nothing_held(
     alloc: Global,
-    limit: usize,
-    sampled: usize,
-    non_sampled: usize,
-    senders: usize,
+    setup: ShardSetup,
 ) -> Result<(TraceBuffer, DecisionCache, Vec<bool>), AllocError>
-    requires { 0 < limit }
-    ensures buffer { IfOk result (λ held. held.0 ≡ record { episodes = []; limit = limit }) }
-    ensures cache { IfOk result (λ held. held.1 ≡ empty_lists sampled non_sampled) }
-    ensures ends { IfOk result (λ held. held.2.items ≡ replicate senders false) }
+    requires { 0 < setup.limit }
+    ensures buffer { IfOk result (λ held. held.0 ≡ record { episodes = []; limit = setup.limit }) }
+    ensures cache { IfOk result (λ held. held.1 ≡ empty_lists setup.sampled setup.non_sampled) }
+    ensures ends { IfOk result (λ held. held.2.items ≡ replicate setup.senders false) }
 {
-    let ends = vec![in alloc; false; senders]?;
-    let cache = DecisionCache::new(alloc, sampled, non_sampled)?;
-    Ok((TraceBuffer::new(alloc, limit)?, cache, ends))
+    let ends = vec![in alloc; false; setup.senders]?;
+    let cache = DecisionCache::new(alloc, setup.hashing, setup.sampled, setup.non_sampled)?;
+    let buffer = TraceBuffer::new(alloc, setup.hashing, setup.limit)?;
+    Ok((buffer, cache, ends))
 }
 
 /// What is answered to a late span, by the verdict of its trace.

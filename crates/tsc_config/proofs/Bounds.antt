@@ -205,6 +205,7 @@ table_small members =
     (both _ _ (optionally truth_fault truths (get_member (codes "accept_gzip") members))
     (both _ _ (both _ _ (optionally (choice_fault (choice_row choice_is.QueueFull)) (choices (choice_row choice_is.QueueFull)) (get_member (codes "queue_full") members))
     (both _ _ (optionally (choice_fault (choice_row choice_is.OutputFault)) (choices (choice_row choice_is.OutputFault)) (get_member (codes "output_fault") members))
-    (optionally truth_fault truths (get_member (codes "close_at_end_of_input") members))))
+    (both _ _ (optionally truth_fault truths (get_member (codes "close_at_end_of_input") members))
+    (optionally text_fault texts (get_member (codes "admin") members)))))
     (both _ _ (optionally spec.cache_fault caches (get_member (codes "decision_cache") members))
     (requiredly spec.policies_fault policies (get_member (codes "policies") members))))))))

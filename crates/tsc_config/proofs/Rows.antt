@@ -106,6 +106,15 @@ table_of number = members_of number ranges (member (codes "decision_cache") (tab
 defaults : numbers_of (config_of no_members) ≡ 30000 ∷ 0 ∷ 50000 ∷ 1 ∷ 1 ∷ 1024 ∷ 1024 ∷ 512 ∷ 1024 ∷ 1000 ∷ 0 ∷ 0 ∷ []
 defaults = refl
 
+no_second_address_by_default : (config_of no_members).admin ≡ []
+no_second_address_by_default = refl
+
+second_address : (config_of (member (codes "admin") (string (codes "127.0.0.1:4319")) no_members)).admin ≡ codes "127.0.0.1:4319"
+second_address = refl
+
+second_address_is_a_text : choices_fault (member (codes "admin") (integer (pos 4319)) no_members) ≡ Some WrongType
+second_address_is_a_text = refl
+
 listens_by_default : (config_of no_members).listen ≡ codes "127.0.0.1:4318"
 listens_by_default = refl
 

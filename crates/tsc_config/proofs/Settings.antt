@@ -1,6 +1,6 @@
 -- Each setting is what stands at its key, or the key's default.
 -- For `settings_are_of_their_keys`.
-use Rattle.std.proofs.Common.{◌≡◌, ℕ, ◌<◌, ◌≤◌, pos, negsuc, zero, suc, Bool, true, false, ◌⊎◌, inl, inr, refl, arith, codes, List, Option, None, Some, Ok, Err, subst, if◌then◌else◌, nat_lt, int_le, ◌&&◌, ◌||◌}
+use Rattle.std.proofs.Common.{◌≡◌, [], ℕ, ◌<◌, ◌≤◌, pos, negsuc, zero, suc, Bool, true, false, ◌⊎◌, inl, inr, refl, arith, codes, List, Option, None, Some, Ok, Err, subst, if◌then◌else◌, nat_lt, int_le, ◌&&◌, ◌||◌}
 use Rattle.std.proofs.lemmas.Bool.Decides.{nat_tests}
 use Rattle.std.proofs.lemmas.Slice.Eq.{bytes_eq-Decides}
 use Rattle.std.specs.Str.{bytes_eq}
@@ -13,7 +13,7 @@ use Rattle.tsc_config.specs.Keys.{ChoiceRow, choice_row}
 use Rattle.tsc_config.specs.declared.kinds.ChoiceKey.TheVariants as choice_is
 use Rattle.tsc_config.specs.Reading.{reading, reading_of, reading_unless, reading_where}
 use Rattle.tsc_config.specs.Settings.{IsTextAt, IsTruthAt, IsChoiceAt, IsCacheSize, HasSettings, ReadsSettings}
-use Rattle.tsc_config.specs.Values.{config_of, positive_of, natural_of, cache_size, listen_of, truth_of, is_other}
+use Rattle.tsc_config.specs.Values.{config_of, positive_of, natural_of, cache_size, address_of, truth_of, is_other}
 use Rattle.tsc_config.specs.declared.config.Config.{Config}
 use Rattle.tsc_config.specs.declared.fault.ConfigFault.{ConfigFault}
 use Rattle.tsc_config.specs.declared.fault.ConfigFault.TheVariants.{OutOfRange, TooFewTraces}
@@ -64,11 +64,11 @@ natural greatest (Some (integer (pos n))) e = inr (refl, omega arith, within)
 natural greatest (Some (integer (negsuc n))) e = cc
 natural greatest (Some _) e = cc
 
-text : (given : Members) (at : Option Data) → get_member (codes "listen") given ≡ at → optional text_fault at ≡ None
-    → IsTextAt given (codes "listen") (codes "127.0.0.1:4318") (listen_of at)
-text given None e f = inl (e, refl)
-text given (Some (string bytes)) e f = inr e
-text given (Some _) e f = cc
+text : (key default : List ℕ) (given : Members) (at : Option Data) → get_member key given ≡ at → optional text_fault at ≡ None
+    → IsTextAt given key default (address_of default at)
+text key default given None e f = inl (e, refl)
+text key default given (Some (string bytes)) e f = inr e
+text key default given (Some _) e f = cc
 
 truth : (key : List ℕ) (given : Members) (at : Option Data) → get_member key given ≡ at → optional truth_fault at ≡ None → IsTruthAt given key (truth_of at)
 truth key given None e f = inl (e, refl)
@@ -135,6 +135,7 @@ whole members e =
     let batch = neither (optional (integer_fault (pos 1) (pos 8192)) (get_member (codes "send_batch_size") members)) _ export.1 in
     let queue_full = neither (optional (choice_fault (choice_row choice_is.QueueFull)) (get_member (codes "queue_full") members)) _ t.6 in
     let output = neither (optional (choice_fault (choice_row choice_is.OutputFault)) (get_member (codes "output_fault") members)) _ queue_full.1 in
+    let close = neither (optional truth_fault (get_member (codes "close_at_end_of_input") members)) _ output.1 in
     let caches = cache members (get_member (codes "decision_cache") members) refl t.3 in record {
       decision_wait = positive 30000 3600000 (get_member (codes "decision_wait_ms") members) wait.0;
       root_wait = natural 3600000 (get_member (codes "root_wait_ms") members) root.0;
@@ -148,11 +149,12 @@ whole members e =
       send_batch_size = positive 512 8192 (get_member (codes "send_batch_size") members) batch.0;
       max_connections = positive 1024 65536 (get_member (codes "max_connections") members) batch.1;
       tick = positive 1000 60000 (get_member (codes "tick_ms") members) shards.1;
-      listen = text members (get_member (codes "listen") members) refl t.2;
+      listen = text (codes "listen") (codes "127.0.0.1:4318") members (get_member (codes "listen") members) refl t.2;
+      admin = text (codes "admin") [] members (get_member (codes "admin") members) refl close.1;
       accept_gzip = truth (codes "accept_gzip") members (get_member (codes "accept_gzip") members) refl t.5;
       waits_for_room = choice (choice_row choice_is.QueueFull) members (get_member (codes "queue_full") members) refl queue_full.0;
       stops_at_output_fault = choice (choice_row choice_is.OutputFault) members (get_member (codes "output_fault") members) refl output.0;
-      close_at_end_of_input = truth (codes "close_at_end_of_input") members (get_member (codes "close_at_end_of_input") members) refl output.1;
+      close_at_end_of_input = truth (codes "close_at_end_of_input") members (get_member (codes "close_at_end_of_input") members) refl close.0;
     }
 
 -- what is read as a configuration is the table's, which has no fault

@@ -242,12 +242,13 @@ sizes_fault members =
     (least (number_fault (number_row number_is.SendBatchSize) members)
     (number_fault (number_row number_is.MaxConnections) members)))
 
--- the rows of the choices: what a full queue and a fault of the output do, and whether the end of the input closes
+-- the rows of the choices: what a full queue and a fault of the output do, whether the end of the input closes, and the second address
 abbrev pub choices_fault : Members → Option ConfigFault
 choices_fault members =
     least (choice_at_fault (choice_row choice_is.QueueFull) members)
     (least (choice_at_fault (choice_row choice_is.OutputFault) members)
-    (optional truth_fault (get_member (codes "close_at_end_of_input") members)))
+    (least (optional truth_fault (get_member (codes "close_at_end_of_input") members))
+    (optional text_fault (get_member (codes "admin") members))))
 
 -- the rows of the whole table: a key more is a row more
 unfoldable pub table_fault : Members → Option ConfigFault

@@ -64,10 +64,10 @@ abbrev pub text_of : Option Data → List ℕ
 text_of None = []
 text_of (Some value) = text_value value
 
--- the bytes of the text at `listen`
-abbrev pub listen_of : Option Data → List ℕ
-listen_of None = codes "127.0.0.1:4318"
-listen_of (Some value) = text_value value
+-- the bytes of the text at a key, or its default
+abbrev pub address_of : (default : List ℕ) → Option Data → List ℕ
+address_of default None = default
+address_of default (Some value) = text_value value
 
 -- the other text of a row, and not that by default, stands at a key
 abbrev pub is_other : ChoiceRow → Option Data → Bool
@@ -256,7 +256,8 @@ config_of members = record {
   send_batch_size = positive_by (number_row number_is.SendBatchSize) members;
   max_connections = positive_by (number_row number_is.MaxConnections) members;
   tick = positive_by (number_row number_is.Tick) members;
-  listen = listen_of (get_member (codes "listen") members);
+  listen = address_of (codes "127.0.0.1:4318") (get_member (codes "listen") members);
+  admin = address_of [] (get_member (codes "admin") members);
   accept_gzip = truth_of (get_member (codes "accept_gzip") members);
   waits_for_room = is_other (choice_row choice_is.QueueFull) (get_member (choice_row choice_is.QueueFull).name members);
   stops_at_output_fault = is_other (choice_row choice_is.OutputFault) (get_member (choice_row choice_is.OutputFault).name members);

@@ -12,7 +12,7 @@ use crate::fault::ConfigFault;
 use crate::fault_walk::table_fault;
 use crate::kinds::{ChoiceKey, NumberKey};
 use crate::settings_values::{natural_at, truth_at};
-use crate::values::{cache_size_at, is_other_at, listen_at, policies_at, positive_by};
+use crate::values::{address_at, cache_size_at, is_other_at, policies_at, positive_by};
 use otlp_types::Text;
 use policy_tree::Policies;
 use span_ids::Moment;
@@ -58,6 +58,9 @@ pub struct Config {
     /// The address on which requests are taken, as `address:port` (otlpreceiver README, `endpoint`). It is not looked
     /// at here.
     pub listen: Text,
+    /// The address at which those in charge close the collector and read its numbers, as `address:port`, or nothing: then it is
+    /// closed at the address of requests (this project's option `admin`). It is not looked at here.
+    pub admin: Text,
     /// Whether bodies that are packed by gzip are taken (RFC 9110, section 8.4.1.3; this project's option `accept_gzip`).
     pub accept_gzip: bool,
     /// Whether a request whose spans find no room in a queue waits, in place of being answered which of them were
@@ -103,7 +106,7 @@ impl Config {
 /// `sampled_cache_size` and `non_sampled_cache_size`, each from 0 to 1000000, else 0; `policies`, a required array of policy tables with
 /// `name`, `type` and the settings of that type; `lanes` and `shards`, from 1 to 64, else 1; `queue_capacity` and
 /// `export_capacity`, from 1 to 65536, else 1024; `send_batch_size`, from 1 to 8192, else 512; `max_connections`, from 1 to 65536, else 1024; `tick_ms`, from 1 to
-/// 60000, else 1000; `listen`, a text, else `127.0.0.1:4318`; `accept_gzip` and `close_at_end_of_input`, true or false, else false; `queue_full`, `partial` or
+/// 60000, else 1000; `listen`, a text, else `127.0.0.1:4318`; `admin`, a text, else nothing; `accept_gzip` and `close_at_end_of_input`, true or false, else false; `queue_full`, `partial` or
 /// `retry`, else `partial`; and `output_fault`, `discard` or `stop`, else `discard`.
 ///
 /// `Err` is the fault of least number that the text has ([`crate::laws::answers_least_fault`]), or `NoMemory` where
@@ -155,7 +158,10 @@ fn config_of(alloc: Global, table: &Table) -> Result<Config, ConfigFault>
         Ok(policies) => policies,
         Err(fault) => return Err(ConfigFault::Policy(fault)),
     };
-    let Ok(listen) = listen_at(alloc, table) else {
+    let Ok(listen) = address_at(alloc, table, "listen", "127.0.0.1:4318") else {
+        return Err(ConfigFault::NoMemory);
+    };
+    let Ok(admin) = address_at(alloc, table, "admin", "") else {
         return Err(ConfigFault::NoMemory);
     };
     Ok(Config {
@@ -173,6 +179,7 @@ fn config_of(alloc: Global, table: &Table) -> Result<Config, ConfigFault>
         max_connections: positive_by(table, NumberKey::MaxConnections) as usize,
         tick: positive_by(table, NumberKey::Tick),
         listen,
+        admin,
         accept_gzip: truth_at(table, "accept_gzip"),
         waits_for_room: is_other_at(table, ChoiceKey::QueueFull),
         stops_at_output_fault: is_other_at(table, ChoiceKey::OutputFault),

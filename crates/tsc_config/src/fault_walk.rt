@@ -54,14 +54,16 @@ fn sizes_fault(table: &Table) -> Option<ConfigFault>
     least(queue, least(export, least(batch, connections)))
 }
 
-/// The fault of the choices: what a full queue and a fault of the output do, and whether the end of the input closes.
+/// The fault of the choices: what a full queue and a fault of the output do, whether the end of the input closes, and the
+/// second address.
 fn choices_fault(table: &Table) -> Option<ConfigFault>
     ensures { result ≡ spec.choices_fault (table_view table.now) }
 {
     let queue = choice_at_fault(table, ChoiceKey::QueueFull);
     let output = choice_at_fault(table, ChoiceKey::OutputFault);
     let close = optional_fault(table, "close_at_end_of_input", ValueKind::Truth);
-    least(queue, least(output, close))
+    let admin = optional_fault(table, "admin", ValueKind::Text);
+    least(queue, least(output, least(close, admin)))
 }
 
 /// The fault of what stands at a key of one of two texts.

@@ -68,6 +68,7 @@ pub fn is_key(kind: TableKind, key: &str) -> bool
                 | "queue_full"
                 | "output_fault"
                 | "close_at_end_of_input"
+                | "admin"
         ),
         TableKind::DecisionCache => {
             matches!(key, "sampled_cache_size" | "non_sampled_cache_size")

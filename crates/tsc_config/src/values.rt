@@ -31,13 +31,18 @@ pub fn positive_by(table: &Table, key: NumberKey) -> u64
     }
 }
 
-/// The text at `listen`.
-pub fn listen_at(alloc: Global, table: &Table) -> Result<Text, AllocError>
-    ensures { IfOk result (λ text. text ≡ spec.listen_of (get_member (codes "listen") (table_view table.now))) }
+/// The text at a key, or its default.
+pub fn address_at(
+    alloc: Global,
+    table: &Table,
+    key: &str,
+    default: &str,
+) -> Result<Text, AllocError>
+    ensures { IfOk result (λ text. text ≡ spec.address_of default.now (get_member key.now (table_view table.now))) }
 {
-    match member(table, "listen") {
+    match member(table, key) {
         Some(value) => text_of(alloc, value),
-        None => Text::from_str(alloc, "127.0.0.1:4318"),
+        None => Text::from_str(alloc, default),
     }
 }
 

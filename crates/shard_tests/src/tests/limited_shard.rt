@@ -7,8 +7,9 @@ ghost use Rattle.journal_theory.specs.Journal.{has_ids};
 use otlp_types::Item;
 use policy_tree::Policies;
 use rate_budget::Budgets;
-use shard_core::{Decided, Shard, Taken};
+use shard_core::{Decided, Shard, ShardSetup, Taken};
 use std::alloc::{AllocError, Global};
+use trace_hash::TraceHashing;
 
 /// The numbers that a shard is made with: times in milliseconds, sizes in traces.
 #[derive(Clone, Copy)]
@@ -40,16 +41,16 @@ impl LimitedShard {
         numbers: Numbers,
     ) -> Result<LimitedShard, AllocError> {
         let limiter = Budgets::new(alloc, &policies)?;
-        let shard = Shard::new(
-            alloc,
-            policies,
-            numbers.wait,
-            numbers.root_wait,
-            numbers.limit,
-            numbers.sampled,
-            numbers.non_sampled,
-            numbers.senders,
-        )?;
+        let setup = ShardSetup {
+            hashing: TraceHashing::Fixed,
+            wait: numbers.wait,
+            root_wait: numbers.root_wait,
+            limit: numbers.limit,
+            sampled: numbers.sampled,
+            non_sampled: numbers.non_sampled,
+            senders: numbers.senders,
+        };
+        let shard = Shard::new(alloc, policies, setup)?;
         Ok(LimitedShard { shard, limiter })
     }
 

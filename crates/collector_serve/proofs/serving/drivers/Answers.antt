@@ -6,8 +6,8 @@ use Rattle.collector_serve.proofs.serving.drivers.Goals as goal
 pub loop-lane-preserved : goal.loop-lane-preserved
 loop-lane-preserved g c = (
   omega (arith, c.in_ok-push.ensures.len, c.loop-lane.invariant.0),
-  All-same (λ it. it.takes_gzip ≡ c.args.config.now.accept_gzip) c.push.new.self.items _ c.in_ok-push.ensures.items
-      (All-push (λ it. it.takes_gzip ≡ c.args.config.now.accept_gzip) c.loop-lane.drivers.items _ c.loop-lane.invariant.1 refl),
+  All-same (λ it. it.allowed ≡ c.args.config.now.accept_gzip) c.push.new.self.items _ c.in_ok-push.ensures.items
+      (All-push (λ it. it.allowed ≡ c.args.config.now.accept_gzip) c.loop-lane.drivers.items _ c.loop-lane.invariant.1 refl),
   All-same (λ it. it.driver.links.limit ≡ share_of c.args.config.now.max_connections c.args.config.now.lanes) c.push.new.self.items _ c.in_ok-push.ensures.items
       (All-push (λ it. it.driver.links.limit ≡ share_of c.args.config.now.max_connections c.args.config.now.lanes) c.loop-lane.drivers.items _ c.loop-lane.invariant.2 (c.in_ok-driver.ensures ∙ c.share-limit.ensures)),
 )

@@ -19,11 +19,11 @@ loop-init g c =
       tt,
       tt,
       [],
-      fits_first submits c.args.takes_gzip c.args.lane.now (g.C.Counter.counted c.args.counts.now) (get c.new-table.result) empty,
+      fits_first submits c.args.allowed c.args.lane.now (g.C.Counter.counted c.args.counts.now) (get c.new-table.result) empty,
       refl,
       λ rounds last after is_full run. (
         rounds,
-        subst (λ (o : Table). RunsFrom g.D.Driver.asks g.D.Driver.hears submits c.args.takes_gzip first c.args.driver.now o [] first rounds last after is_full) (λ i key. empty key i) run,
+        subst (λ (o : Table). RunsFrom g.D.Driver.asks g.D.Driver.hears submits c.args.allowed first c.args.driver.now o [] first rounds last after is_full) (λ i key. empty key i) run,
       ),
     )
 
@@ -63,7 +63,7 @@ returns-then-is_full-clause-driven g c =
       text = c.turn-done.new.text.items;
       told = c.done.new.self;
     } in
-    let is_round : IsRound g.D.Driver.asks g.D.Driver.hears submits c.args.takes_gzip first c.loop.driver (get c.loop.table) acts round = record {
+    let is_round : IsRound g.D.Driver.asks g.D.Driver.hears submits c.args.allowed first c.loop.driver (get c.loop.table) acts round = record {
       said = c.next-next.ensures.said;
       still_open = c.is_over.ensures.goes_on c.if-is_over.false;
       as_told = went.3;
@@ -71,7 +71,7 @@ returns-then-is_full-clause-driven g c =
       heard = subst (λ (text : List ℕ). g.D.Driver.hears c.next-next.new.self c.turn-done.result text c.done.new.self) c.deref.ensures.value c.done.ensures;
     } in
     c.loop.invariant.6 (round ∷ []) c.done.new.self then true
-    (last_round g.D.Driver.asks g.D.Driver.hears submits c.args.takes_gzip first c.loop.driver (get c.loop.table) acts now round is_round (sym c.is_full.ensures ∙ c.if-is_full.true))
+    (last_round g.D.Driver.asks g.D.Driver.hears submits c.args.allowed first c.loop.driver (get c.loop.table) acts now round is_round (sym c.is_full.ensures ∙ c.if-is_full.true))
 
 pub loop-preserved : goal.loop-preserved
 loop-preserved g c =
@@ -93,7 +93,7 @@ loop-preserved g c =
       text = c.turn-done.new.text.items;
       told = c.done.new.self;
     } in
-    let is_round : IsRound g.D.Driver.asks g.D.Driver.hears submits c.args.takes_gzip first c.loop.driver (get c.loop.table) acts round = record {
+    let is_round : IsRound g.D.Driver.asks g.D.Driver.hears submits c.args.allowed first c.loop.driver (get c.loop.table) acts round = record {
       said = c.next-next.ensures.said;
       still_open = c.is_over.ensures.goes_on c.if-is_over.false;
       as_told = went.3;
@@ -108,5 +108,5 @@ loop-preserved g c =
       went.1,
       acts_more acts went.0 c.loop.invariant.5 ∙ (went.2 ∙ goes_on),
       λ rounds last after is_full run. c.loop.invariant.6 (round ∷ rounds) last after is_full
-          (more_rounds g.D.Driver.asks g.D.Driver.hears submits c.args.takes_gzip first c.loop.driver (get c.loop.table) acts now round rounds last after is_full is_round goes_on run),
+          (more_rounds g.D.Driver.asks g.D.Driver.hears submits c.args.allowed first c.loop.driver (get c.loop.table) acts now round rounds last after is_full is_round goes_on run),
     )

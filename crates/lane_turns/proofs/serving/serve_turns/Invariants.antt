@@ -11,9 +11,9 @@ use Rattle.lane_turns.proofs.serving.serve_turns.Given as goal
 abbrev pub invariant-loop : goal.invariant-loop
 invariant-loop g l =
     (goal.iterator-loop g).can_next l.iterator' × (goal.iterator-loop g).is_finite l.iterator'
-    × IfSome l.spare (λ engine. Awaits engine (in_head l.takes_gzip []))
-    × (acts : List Act) × Fits (Submits g.P.Port.takes g.P.Port.refuses) l.takes_gzip l.fn.lane.number (lane_now l.fn.lane (g.C.Counter.counted l.fn.counts)) (get l.table) acts (lane_now l.lane (g.C.Counter.counted l.counts))
+    × IfSome l.spare (λ engine. Awaits engine (in_head l.allowed []))
+    × (acts : List Act) × Fits (Submits g.P.Port.takes g.P.Port.refuses) l.allowed l.fn.lane.number (lane_now l.fn.lane (g.C.Counter.counted l.fn.counts)) (get l.table) acts (lane_now l.lane (g.C.Counter.counted l.counts))
     × (acts_uncounted acts ≡ false)
     × ((rounds : List (Round g.row.D.Denot g.row.P.Denot)) (last : g.row.D.Denot) (after : LaneNow g.row.P.Denot) (is_full : Bool)
-    → RunsFrom g.D.Driver.asks g.D.Driver.hears (Submits g.P.Port.takes g.P.Port.refuses) l.takes_gzip (lane_now l.fn.lane (g.C.Counter.counted l.fn.counts)) l.driver (get l.table) acts (lane_now l.lane (g.C.Counter.counted l.counts)) rounds last after is_full
-    → IsDriven g.D.Driver.asks g.D.Driver.hears (Submits g.P.Port.takes g.P.Port.refuses) l.takes_gzip l.fn.driver (lane_now l.fn.lane (g.C.Counter.counted l.fn.counts)) last after is_full)
+    → RunsFrom g.D.Driver.asks g.D.Driver.hears (Submits g.P.Port.takes g.P.Port.refuses) l.allowed (lane_now l.fn.lane (g.C.Counter.counted l.fn.counts)) l.driver (get l.table) acts (lane_now l.lane (g.C.Counter.counted l.counts)) rounds last after is_full
+    → IsDriven g.D.Driver.asks g.D.Driver.hears (Submits g.P.Port.takes g.P.Port.refuses) l.allowed l.fn.driver (lane_now l.fn.lane (g.C.Counter.counted l.fn.counts)) last after is_full)

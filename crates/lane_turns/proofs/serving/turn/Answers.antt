@@ -13,24 +13,24 @@ pub returns-then-not-contains-clause-fits : goal.returns-then-not-contains-claus
 returns-then-not-contains-clause-fits g c =
     let old = get c.args.table.now in
     let now = lane_now c.args.lane.now (g.C.Counter.counted c.args.counts.now) in
-    nothing_more (Submits g.P.Port.takes g.P.Port.refuses) c.args.takes_gzip old now (λ earlier more. AsTold c.args.takes_gzip old old earlier c.args.next c.args.moment c.args.piece.now Nothing c.clear.new.self.items more)
-    (λ earlier. subst (λ said. AsTold c.args.takes_gzip old old earlier said c.args.moment c.args.piece.now Nothing c.clear.new.self.items []) (sym c.in-Came.is)
+    nothing_more (Submits g.P.Port.takes g.P.Port.refuses) c.args.allowed old now (λ earlier more. AsTold c.args.allowed old old earlier c.args.next c.args.moment c.args.piece.now Nothing c.clear.new.self.items more)
+    (λ earlier. subst (λ said. AsTold c.args.allowed old old earlier said c.args.moment c.args.piece.now Nothing c.clear.new.self.items []) (sym c.in-Came.is)
     (inr (none_of (old c.in-Came.key) c.contains.result c.contains.ensures.1 c.if-not-contains.true, (refl, λ key. refl), refl, c.clear.ensures.items)))
 
 pub returns-then-not-contains-2-clause-fits : goal.returns-then-not-contains-2-clause-fits
 returns-then-not-contains-2-clause-fits g c =
     let old = get c.args.table.now in
     let now = lane_now c.args.lane.now (g.C.Counter.counted c.args.counts.now) in
-    nothing_more (Submits g.P.Port.takes g.P.Port.refuses) c.args.takes_gzip old now (λ earlier more. AsTold c.args.takes_gzip old old earlier c.args.next c.args.moment c.args.piece.now Nothing c.clear.new.self.items more)
-    (λ earlier. subst (λ said. AsTold c.args.takes_gzip old old earlier said c.args.moment c.args.piece.now Nothing c.clear.new.self.items []) (sym c.in-Look.is)
+    nothing_more (Submits g.P.Port.takes g.P.Port.refuses) c.args.allowed old now (λ earlier more. AsTold c.args.allowed old old earlier c.args.next c.args.moment c.args.piece.now Nothing c.clear.new.self.items more)
+    (λ earlier. subst (λ said. AsTold c.args.allowed old old earlier said c.args.moment c.args.piece.now Nothing c.clear.new.self.items []) (sym c.in-Look.is)
     (inr (none_of (old c.in-Look.key) c.contains-in-Look.result c.contains-in-Look.ensures.1 c.if-not-contains-2.true, (refl, λ key. refl), refl, c.clear.ensures.items)))
 
 pub returns-then-not-contains-3-clause-fits : goal.returns-then-not-contains-3-clause-fits
 returns-then-not-contains-3-clause-fits g c =
     let old = get c.args.table.now in
     let now = lane_now c.args.lane.now (g.C.Counter.counted c.args.counts.now) in
-    nothing_more (Submits g.P.Port.takes g.P.Port.refuses) c.args.takes_gzip old now (λ earlier more. AsTold c.args.takes_gzip old old earlier c.args.next c.args.moment c.args.piece.now Nothing c.clear.new.self.items more)
-    (λ earlier. subst (λ said. AsTold c.args.takes_gzip old old earlier said c.args.moment c.args.piece.now Nothing c.clear.new.self.items []) (sym c.in-Leave.is)
+    nothing_more (Submits g.P.Port.takes g.P.Port.refuses) c.args.allowed old now (λ earlier more. AsTold c.args.allowed old old earlier c.args.next c.args.moment c.args.piece.now Nothing c.clear.new.self.items more)
+    (λ earlier. subst (λ said. AsTold c.args.allowed old old earlier said c.args.moment c.args.piece.now Nothing c.clear.new.self.items []) (sym c.in-Leave.is)
     (inr (none_of (old c.in-Leave.key) c.contains-in-Leave.result c.contains-in-Leave.ensures.1 c.if-not-contains-3.true, (refl, λ key. refl), refl, c.clear.ensures.items)))
 
 pub returns-in-Take-clause-fits : goal.returns-in-Take-clause-fits
@@ -38,11 +38,11 @@ returns-in-Take-clause-fits g c =
     let old = get c.args.table.now in
     let new = get c.take.new.open in
     let now = lane_now c.args.lane.now (g.C.Counter.counted c.args.counts.now) in
-    goes_by (Submits g.P.Port.takes g.P.Port.refuses) c.args.takes_gzip old now new (lane_now c.take.new.lane (g.C.Counter.counted c.args.counts.now)) false false
+    goes_by (Submits g.P.Port.takes g.P.Port.refuses) c.args.allowed old now new (lane_now c.take.new.lane (g.C.Counter.counted c.args.counts.now)) false false
     (λ earlier. TakesOne old new c.args.moment c.take.result)
-    (λ earlier more. AsTold c.args.takes_gzip old new earlier c.args.next c.args.moment c.args.piece.now (Took c.take.result) c.clear.new.self.items more)
-    (c.take.ensures.fits c.args.takes_gzip) refl
-    (λ earlier more waits h. subst (λ said. AsTold c.args.takes_gzip old new earlier said c.args.moment c.args.piece.now (Took c.take.result) c.clear.new.self.items more) (sym c.in-Take.is)
+    (λ earlier more. AsTold c.args.allowed old new earlier c.args.next c.args.moment c.args.piece.now (Took c.take.result) c.clear.new.self.items more)
+    (c.take.ensures.fits c.args.allowed) refl
+    (λ earlier more waits h. subst (λ said. AsTold c.args.allowed old new earlier said c.args.moment c.args.piece.now (Took c.take.result) c.clear.new.self.items more) (sym c.in-Take.is)
     (c.take.result, h, refl, c.clear.ensures.items))
 
 pub returns-else-not-contains-clause-fits : goal.returns-else-not-contains-clause-fits
@@ -50,45 +50,45 @@ returns-else-not-contains-clause-fits g c =
     let old = get c.args.table.now in
     let new = get c.came-end.new.open in
     let now = lane_now c.args.lane.now (g.C.Counter.counted c.args.counts.now) in
-    goes_by (Submits g.P.Port.takes g.P.Port.refuses) c.args.takes_gzip old now new (lane_now c.came-end.new.lane (g.C.Counter.counted c.came-end.new.counts)) (is_full_end c.came-end.result) (is_full_done c.turned.result)
-    (TurnAt c.args.takes_gzip old new c.in-Came.key c.args.moment AnyOne (IsTaken (take c.in-Came.len c.args.piece.now)) (Appends (Some c.clear.new.self.items) (Some c.came-end.new.writer.items)) c.came-end.result)
-    (λ earlier more. AsTold c.args.takes_gzip old new earlier c.args.next c.args.moment c.args.piece.now c.turned.result c.came-end.new.writer.items more)
+    goes_by (Submits g.P.Port.takes g.P.Port.refuses) c.args.allowed old now new (lane_now c.came-end.new.lane (g.C.Counter.counted c.came-end.new.counts)) (is_full_end c.came-end.result) (is_full_done c.turned.result)
+    (TurnAt c.args.allowed old new c.in-Came.key c.args.moment AnyOne (IsTaken (take c.in-Came.len c.args.piece.now)) (Appends (Some c.clear.new.self.items) (Some c.came-end.new.writer.items)) c.came-end.result)
+    (λ earlier more. AsTold c.args.allowed old new earlier c.args.next c.args.moment c.args.piece.now c.turned.result c.came-end.new.writer.items more)
     c.came-end.ensures.fits c.turned.ensures.full
-    (λ earlier more waits h. subst (λ said. AsTold c.args.takes_gzip old new earlier said c.args.moment c.args.piece.now c.turned.result c.came-end.new.writer.items more) (sym c.in-Came.is)
-    (inl (c.came-end.result, sent (Appends (Some c.clear.new.self.items) (Some c.came-end.new.writer.items)) (λ text. c.came-end.new.writer.items ≡ text) (λ text a. all_of c.clear.new.self.items c.came-end.new.writer.items text c.clear.ensures.items a) h, c.turned.ensures.tells c.args.takes_gzip waits)))
+    (λ earlier more waits h. subst (λ said. AsTold c.args.allowed old new earlier said c.args.moment c.args.piece.now c.turned.result c.came-end.new.writer.items more) (sym c.in-Came.is)
+    (inl (c.came-end.result, sent (Appends (Some c.clear.new.self.items) (Some c.came-end.new.writer.items)) (λ text. c.came-end.new.writer.items ≡ text) (λ text a. all_of c.clear.new.self.items c.came-end.new.writer.items text c.clear.ensures.items a) h, c.turned.ensures.tells c.args.allowed waits)))
 
 pub returns-else-not-contains-2-clause-fits : goal.returns-else-not-contains-2-clause-fits
 returns-else-not-contains-2-clause-fits g c =
     let old = get c.args.table.now in
     let new = get c.waited-end.new.open in
     let now = lane_now c.args.lane.now (g.C.Counter.counted c.args.counts.now) in
-    goes_by (Submits g.P.Port.takes g.P.Port.refuses) c.args.takes_gzip old now new (lane_now c.args.lane.now (g.C.Counter.counted c.args.counts.now)) (is_full_end c.waited-end.result) (is_full_done c.turned-in-Look.result)
-    (TurnAt c.args.takes_gzip old new c.in-Look.key c.args.moment AnyOne (λ coming. coming ≡ nothing) (Appends (Some c.clear.new.self.items) (Some c.waited-end.new.writer.items)) c.waited-end.result)
-    (λ earlier more. AsTold c.args.takes_gzip old new earlier c.args.next c.args.moment c.args.piece.now c.turned-in-Look.result c.waited-end.new.writer.items more)
-    (c.waited-end.ensures.fits c.args.takes_gzip) c.turned-in-Look.ensures.full
-    (λ earlier more waits h. subst (λ said. AsTold c.args.takes_gzip old new earlier said c.args.moment c.args.piece.now c.turned-in-Look.result c.waited-end.new.writer.items more) (sym c.in-Look.is)
-    (inl (c.waited-end.result, sent (Appends (Some c.clear.new.self.items) (Some c.waited-end.new.writer.items)) (λ text. c.waited-end.new.writer.items ≡ text) (λ text a. all_of c.clear.new.self.items c.waited-end.new.writer.items text c.clear.ensures.items a) h, c.turned-in-Look.ensures.tells c.args.takes_gzip waits)))
+    goes_by (Submits g.P.Port.takes g.P.Port.refuses) c.args.allowed old now new (lane_now c.args.lane.now (g.C.Counter.counted c.args.counts.now)) (is_full_end c.waited-end.result) (is_full_done c.turned-in-Look.result)
+    (TurnAt c.args.allowed old new c.in-Look.key c.args.moment AnyOne (λ coming. coming ≡ nothing) (Appends (Some c.clear.new.self.items) (Some c.waited-end.new.writer.items)) c.waited-end.result)
+    (λ earlier more. AsTold c.args.allowed old new earlier c.args.next c.args.moment c.args.piece.now c.turned-in-Look.result c.waited-end.new.writer.items more)
+    (c.waited-end.ensures.fits c.args.allowed) c.turned-in-Look.ensures.full
+    (λ earlier more waits h. subst (λ said. AsTold c.args.allowed old new earlier said c.args.moment c.args.piece.now c.turned-in-Look.result c.waited-end.new.writer.items more) (sym c.in-Look.is)
+    (inl (c.waited-end.result, sent (Appends (Some c.clear.new.self.items) (Some c.waited-end.new.writer.items)) (λ text. c.waited-end.new.writer.items ≡ text) (λ text a. all_of c.clear.new.self.items c.waited-end.new.writer.items text c.clear.ensures.items a) h, c.turned-in-Look.ensures.tells c.args.allowed waits)))
 
 pub returns-else-not-contains-3-clause-fits : goal.returns-else-not-contains-3-clause-fits
 returns-else-not-contains-3-clause-fits g c =
     let old = get c.args.table.now in
     let new = get c.leave-end.new.open in
     let now = lane_now c.args.lane.now (g.C.Counter.counted c.args.counts.now) in
-    goes_by (Submits g.P.Port.takes g.P.Port.refuses) c.args.takes_gzip old now new (lane_now c.args.lane.now (g.C.Counter.counted c.args.counts.now)) (is_full_end (Some c.leave-end.result)) (is_full_done c.turned-in-Leave.result)
-    (TurnAt c.args.takes_gzip old new c.in-Leave.key c.args.moment AnyOne (λ coming. coming ≡ coming_of c.in-Leave.how) (λ text. text ≡ []) (Some c.leave-end.result))
-    (λ earlier more. AsTold c.args.takes_gzip old new earlier c.args.next c.args.moment c.args.piece.now c.turned-in-Leave.result c.clear.new.self.items more)
-    (c.leave-end.ensures.fits c.args.takes_gzip) (c.turned-in-Leave.ensures.full)
-    (λ earlier more waits h. subst (λ said. AsTold c.args.takes_gzip old new earlier said c.args.moment c.args.piece.now c.turned-in-Leave.result c.clear.new.self.items more) (sym c.in-Leave.is)
-    (inl (Some c.leave-end.result, sent (λ text. text ≡ []) (λ text. c.clear.new.self.items ≡ text) (λ text e. c.clear.ensures.items ∙ sym e) h, c.turned-in-Leave.ensures.tells c.args.takes_gzip waits)))
+    goes_by (Submits g.P.Port.takes g.P.Port.refuses) c.args.allowed old now new (lane_now c.args.lane.now (g.C.Counter.counted c.args.counts.now)) (is_full_end (Some c.leave-end.result)) (is_full_done c.turned-in-Leave.result)
+    (TurnAt c.args.allowed old new c.in-Leave.key c.args.moment AnyOne (λ coming. coming ≡ coming_of c.in-Leave.how) (λ text. text ≡ []) (Some c.leave-end.result))
+    (λ earlier more. AsTold c.args.allowed old new earlier c.args.next c.args.moment c.args.piece.now c.turned-in-Leave.result c.clear.new.self.items more)
+    (c.leave-end.ensures.fits c.args.allowed) (c.turned-in-Leave.ensures.full)
+    (λ earlier more waits h. subst (λ said. AsTold c.args.allowed old new earlier said c.args.moment c.args.piece.now c.turned-in-Leave.result c.clear.new.self.items more) (sym c.in-Leave.is)
+    (inl (Some c.leave-end.result, sent (λ text. text ≡ []) (λ text. c.clear.new.self.items ≡ text) (λ text e. c.clear.ensures.items ∙ sym e) h, c.turned-in-Leave.ensures.tells c.args.allowed waits)))
 
 pub returns-in-Dismiss-clause-fits : goal.returns-in-Dismiss-clause-fits
 returns-in-Dismiss-clause-fits g c =
     let old = get c.args.table.now in
     let new = get c.dismiss-end.new.open in
     let now = lane_now c.args.lane.now (g.C.Counter.counted c.args.counts.now) in
-    goes_by (Submits g.P.Port.takes g.P.Port.refuses) c.args.takes_gzip old now new (lane_now c.args.lane.now (g.C.Counter.counted c.args.counts.now)) (is_full_end c.dismiss-end.result) (is_full_done c.turned-in-Dismiss.result)
-    (Dismisses c.args.takes_gzip old new c.in-Dismiss.key c.args.moment c.dismiss-end.result)
-    (λ earlier more. AsTold c.args.takes_gzip old new earlier c.args.next c.args.moment c.args.piece.now c.turned-in-Dismiss.result c.clear.new.self.items more)
-    (c.dismiss-end.ensures.fits c.args.takes_gzip) (c.turned-in-Dismiss.ensures.full)
-    (λ earlier more waits h. subst (λ said. AsTold c.args.takes_gzip old new earlier said c.args.moment c.args.piece.now c.turned-in-Dismiss.result c.clear.new.self.items more) (sym c.in-Dismiss.is)
-    (c.dismiss-end.result, h, c.turned-in-Dismiss.ensures.tells c.args.takes_gzip waits, c.clear.ensures.items))
+    goes_by (Submits g.P.Port.takes g.P.Port.refuses) c.args.allowed old now new (lane_now c.args.lane.now (g.C.Counter.counted c.args.counts.now)) (is_full_end c.dismiss-end.result) (is_full_done c.turned-in-Dismiss.result)
+    (Dismisses c.args.allowed old new c.in-Dismiss.key c.args.moment c.dismiss-end.result)
+    (λ earlier more. AsTold c.args.allowed old new earlier c.args.next c.args.moment c.args.piece.now c.turned-in-Dismiss.result c.clear.new.self.items more)
+    (c.dismiss-end.ensures.fits c.args.allowed) (c.turned-in-Dismiss.ensures.full)
+    (λ earlier more waits h. subst (λ said. AsTold c.args.allowed old new earlier said c.args.moment c.args.piece.now c.turned-in-Dismiss.result c.clear.new.self.items more) (sym c.in-Dismiss.is)
+    (c.dismiss-end.result, h, c.turned-in-Dismiss.ensures.tells c.args.allowed waits, c.clear.ensures.items))

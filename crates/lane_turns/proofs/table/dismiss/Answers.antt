@@ -10,38 +10,38 @@ use Rattle.lane_turns.proofs.Told.{has_turn, no_engine, an_engine}
 use Rattle.lane_turns.proofs.table.dismiss.Goals as goal
 
 pub returns-then-not-is_idle-clause-fits : goal.returns-then-not-is_idle-clause-fits
-returns-then-not-is_idle-clause-fits g c = λ takes_gzip number first acts f.
+returns-then-not-is_idle-clause-fits g c = λ allowed number first acts f.
     let now = lane_now c.args.lane.now (g.C.Counter.counted c.args.counts.now) in (
       [],
-      subst (λ l. Fits (Submits g.P.Port.takes g.P.Port.refuses) takes_gzip number first (get c.args.open.now) l now) (sym (append-nil acts)) f,
+      subst (λ l. Fits (Submits g.P.Port.takes g.P.Port.refuses) allowed number first (get c.args.open.now) l now) (sym (append-nil acts)) f,
       refl,
       inr (
         λ x at.
             let o = f.each c.args.key x at in
-            an_engine Awaits takes_gzip x.engine o.waiting.reading o.awaits (sym (c.is_idle.ensures.idle x at takes_gzip o.waiting o.awaits) ∙ c.if-not-is_idle.true),
+            an_engine Awaits allowed x.engine o.waiting.reading o.awaits (sym (c.is_idle.ensures.idle x at allowed o.waiting o.awaits) ∙ c.if-not-is_idle.true),
         refl,
         (refl, λ key. refl),
       ),
     )
 
 pub returns-clause-fits : goal.returns-clause-fits
-returns-clause-fits g c = λ takes_gzip number first acts f.
+returns-clause-fits g c = λ allowed number first acts f.
     let x = c.remove.result in
     let at = c.remove.ensures.value in
     let o = f.each c.args.key x at in
-    let idle = sym (c.is_idle.ensures.idle x at takes_gzip o.waiting o.awaits) ∙ c.if-not-is_idle.false in
+    let idle = sym (c.is_idle.ensures.idle x at allowed o.waiting o.awaits) ∙ c.if-not-is_idle.false in
     let next = waiting o.waiting.reading o.waiting.since (Some Quiet) in
     let gone = c.remove.ensures.updates.changed in (
       had x.conn.key.ordinal x.conn.next x.conn.next (turned dismissed c.args.moment false []) ∷ [],
-      fits_turn g.P.Port.takes g.P.Port.refuses takes_gzip number first (get c.args.open.now) (get c.remove.new.self) acts (lane_now c.args.lane.now (g.C.Counter.counted c.args.counts.now)) c.args.key x at
+      fits_turn g.P.Port.takes g.P.Port.refuses allowed number first (get c.args.open.now) (get c.remove.new.self) acts (lane_now c.args.lane.now (g.C.Counter.counted c.args.counts.now)) c.args.key x at
           c.remove.ensures.updates.others f dismissed c.args.moment false [] next x.conn c.args.lane.now (g.C.Counter.counted c.args.counts.now) (idle, refl, refl) refl
           (λ y e. absurd (let none = sym gone ∙ e in cc)) (λ e. absurd cc),
       refl,
       inl (
         x,
         at,
-        no_engine Awaits takes_gzip x.engine o.waiting.reading o.awaits idle,
-        has_turn takes_gzip acts x c.args.moment (λ coming. coming ≡ dismissed) (λ text. text ≡ []) (Some Quiet) o.waiting dismissed false [] next x.conn.next []
+        no_engine Awaits allowed x.engine o.waiting.reading o.awaits idle,
+        has_turn allowed acts x c.args.moment (λ coming. coming ≡ dismissed) (λ text. text ≡ []) (Some Quiet) o.waiting dismissed false [] next x.conn.next []
             o.run o.goes_on (idle, refl, refl) refl refl refl refl,
         (gone, c.remove.ensures.updates.others),
       ),

@@ -14,7 +14,7 @@ returns-in_default-clause-turn g c = λ w at since. (
   [],
   waiting w.reading w.since (Some NoMemory),
   inr refl,
-  (none_between c.args.takes_gzip Awaits c.args.self.now.engine w.reading at c.in_default.ensures.none, refl, refl),
+  (none_between c.args.allowed Awaits c.args.self.now.engine w.reading at c.in_default.ensures.none, refl, refl),
   refl,
   (λ e. absurd cc),
   does_none (Submits g.P.Port.takes g.P.Port.refuses) (g.W.Write.contents c.args.writer.now) (intake c.args.lane.now c.args.self.now.conn (g.C.Counter.counted c.args.counts.now)),
@@ -37,7 +37,7 @@ pub returns-then-is_between-clause-turn : goal.returns-then-is_between-clause-tu
 returns-then-is_between-clause-turn g c = λ w at since.
     let s = c.come-end.ensures w.reading (c.in-Some.ensures.own w.reading at) in
     let awaits = s.3 c.in_default-end.is in
-    let packed = still_packed c.args.takes_gzip w.reading c.args.piece.now s.0 s.1 (awaits_packed c.args.takes_gzip Awaits c.args.self.now.engine w.reading at) (subst (λ end. Settles (grown w.reading c.args.piece.now) s.0 end s.1) c.in_default-end.is s.2) in
+    let packed = still_packed c.args.allowed w.reading c.args.piece.now s.0 s.1 (awaits_packed c.args.allowed Awaits c.args.self.now.engine w.reading at) (subst (λ end. Settles (grown w.reading c.args.piece.now) s.0 end s.1) c.in_default-end.is s.2) in
     let rests = sym (c.is_between-is_between.ensures s.1 awaits) ∙ c.if-is_between.true in (
       came c.args.piece.now,
       s.0,
@@ -46,8 +46,8 @@ returns-then-is_between-clause-turn g c = λ w at since.
       (c.requires.piece.0, subst (λ end. Settles (grown w.reading c.args.piece.now) s.0 end s.1) c.in_default-end.is s.2, λ e. refl),
       refl,
       (λ e. (
-        subst (λ o. AwaitsBy c.args.takes_gzip Awaits o s.1) (sym c.taken.ensures.left) (between_head c.args.takes_gzip s.1 rests packed),
-        c.since_after-self.ensures ∙ since_same _ _ _ _ _ _ c.args.moment _ _ (c.is_between-is_between.ensures s.1 awaits) (c.is_between-begins.ensures c.args.takes_gzip w at) s.5 since,
+        subst (λ o. AwaitsBy c.args.allowed Awaits o s.1) (sym c.taken.ensures.left) (between_head c.args.allowed s.1 rests packed),
+        c.since_after-self.ensures ∙ since_same _ _ _ _ _ _ c.args.moment _ _ (c.is_between-is_between.ensures s.1 awaits) (c.is_between-begins.ensures c.args.allowed w at) s.5 since,
       )),
       s.4,
     )
@@ -58,15 +58,15 @@ returns-then-is_between-clause-spare g c =
     let at = c.requires.at.1 in
     let s = c.come-end.ensures w.reading (c.in-Some.ensures.own w.reading at) in
     let awaits = s.3 c.in_default-end.is in
-    let packed = still_packed c.args.takes_gzip w.reading c.args.piece.now s.0 s.1 (awaits_packed c.args.takes_gzip Awaits c.args.self.now.engine w.reading at) (subst (λ end. Settles (grown w.reading c.args.piece.now) s.0 end s.1) c.in_default-end.is s.2) in
+    let packed = still_packed c.args.allowed w.reading c.args.piece.now s.0 s.1 (awaits_packed c.args.allowed Awaits c.args.self.now.engine w.reading at) (subst (λ end. Settles (grown w.reading c.args.piece.now) s.0 end s.1) c.in_default-end.is s.2) in
     let rests = sym (c.is_between-is_between.ensures s.1 awaits) ∙ c.if-is_between.true in
-    subst (λ r. Awaits c.come-end.new.engine r) (between_head c.args.takes_gzip s.1 rests packed) awaits
+    subst (λ r. Awaits c.come-end.new.engine r) (between_head c.args.allowed s.1 rests packed) awaits
 
 pub returns-clause-turn : goal.returns-clause-turn
 returns-clause-turn g c = λ w at since.
     let s = c.come-end.ensures w.reading (c.in-Some.ensures.own w.reading at) in
     let awaits = s.3 c.in_default-end.is in
-    let packed = still_packed c.args.takes_gzip w.reading c.args.piece.now s.0 s.1 (awaits_packed c.args.takes_gzip Awaits c.args.self.now.engine w.reading at) (subst (λ end. Settles (grown w.reading c.args.piece.now) s.0 end s.1) c.in_default-end.is s.2) in (
+    let packed = still_packed c.args.allowed w.reading c.args.piece.now s.0 s.1 (awaits_packed c.args.allowed Awaits c.args.self.now.engine w.reading at) (subst (λ end. Settles (grown w.reading c.args.piece.now) s.0 end s.1) c.in_default-end.is s.2) in (
       came c.args.piece.now,
       s.0,
       waiting s.1 (since_after w c.args.moment s.0 s.1) None,
@@ -75,7 +75,7 @@ returns-clause-turn g c = λ w at since.
       refl,
       (λ e. (
         (awaits, sym (c.is_between-is_between.ensures s.1 awaits) ∙ c.if-is_between.false, packed),
-        c.since_after-self.ensures ∙ since_same _ _ _ _ _ _ c.args.moment _ _ (c.is_between-is_between.ensures s.1 awaits) (c.is_between-begins.ensures c.args.takes_gzip w at) s.5 since,
+        c.since_after-self.ensures ∙ since_same _ _ _ _ _ _ c.args.moment _ _ (c.is_between-is_between.ensures s.1 awaits) (c.is_between-begins.ensures c.args.allowed w at) s.5 since,
       )),
       s.4,
     )

@@ -9,10 +9,10 @@ use Rattle.http_lane.proofs.turns.Exchange.waited.Goals as goal
 
 pub returns-then-is_over-2 : goal.returns-then-is_over-2
 returns-then-is_over-2 g c = record {
-  turn = λ takes_gzip w at since.
+  turn = λ allowed w at since.
       let e = one timed_out c.answer.result in
       let end = c.end_with.result in
-      let within = sym (c.is_between.ensures takes_gzip w at) ∙ c.if-is_between.false in
+      let within = sym (c.is_between.ensures allowed w at) ∙ c.if-is_between.false in
       let puts = c.answer.ensures.puts in
       let over : w.since + REQUEST_LIMIT ≤ c.args.moment = leb-true (w.since + REQUEST_LIMIT) c.args.moment (ap (λ n. nat_le (n + REQUEST_LIMIT) c.args.moment) (sym since) ∙ (sym c.is_over-2.ensures ∙ c.if-is_over-2.true)) in
       let late : IsLate w.since c.args.moment (e ∷ []) end = inl (over, e, refl, refl, can_text c.answer.result timed_out c.answer.ensures.fate refl, c.end_with.ensures) in (

@@ -1,0 +1,81 @@
+//! What all threads of a run have counted, for readers while it runs.
+use drop_ledger::{Count, Report};
+use lane_queue::{Gate, Place};
+use span_ids::Reason;
+use std::sync::atomic::{AtomicU64, Ordering};
+
+/// The nine counts, as they grow. Each addition of a thread is added here when it was made, so a number that is read never
+/// goes down, and is that of the report once all threads have ended. No contract says so: a thread that reads is in no run.
+#[derive(Drop)]
+pub struct Board {
+    received: AtomicU64,
+    handed: AtomicU64,
+    invalid_id: AtomicU64,
+    queue_full: AtomicU64,
+    no_memory: AtomicU64,
+    evicted: AtomicU64,
+    not_sampled: AtomicU64,
+    late_not_sampled: AtomicU64,
+    exporter_down: AtomicU64,
+}
+
+impl Board {
+    /// Nothing was counted.
+    pub fn new() -> Self {
+        Board {
+            received: AtomicU64::new(0),
+            handed: AtomicU64::new(0),
+            invalid_id: AtomicU64::new(0),
+            queue_full: AtomicU64::new(0),
+            no_memory: AtomicU64::new(0),
+            evicted: AtomicU64::new(0),
+            not_sampled: AtomicU64::new(0),
+            late_not_sampled: AtomicU64::new(0),
+            exporter_down: AtomicU64::new(0),
+        }
+    }
+
+    /// The counts as they are now.
+    pub fn report(&self) -> Report {
+        let mut report = Report::new();
+        for count in [
+            Count::Received,
+            Count::Handed,
+            Count::Dropped(Reason::InvalidId),
+            Count::Dropped(Reason::QueueFull),
+            Count::Dropped(Reason::NoMemory),
+            Count::Dropped(Reason::Evicted),
+            Count::Dropped(Reason::NotSampled),
+            Count::Dropped(Reason::LateNotSampled),
+            Count::Dropped(Reason::ExporterDown),
+        ] {
+            let number = self.cell(count.place()).load(Ordering::Relaxed);
+            // The report's counts are 0 before.
+            let _ = report.add(count, number);
+        }
+        report
+    }
+
+    /// The cell of the count that has this place in a report.
+    fn cell(&self, place: usize) -> &AtomicU64 {
+        match place {
+            0 => &self.received,
+            1 => &self.handed,
+            2 => &self.invalid_id,
+            3 => &self.queue_full,
+            4 => &self.no_memory,
+            5 => &self.evicted,
+            6 => &self.not_sampled,
+            7 => &self.late_not_sampled,
+            _ => &self.exporter_down,
+        }
+    }
+}
+
+impl Gate for Board {
+    fn reach(&self, _place: Place) {}
+
+    fn counted(&self, place: usize, spans: u64) {
+        self.cell(place).fetch_add(spans, Ordering::Relaxed);
+    }
+}

@@ -1,0 +1,53 @@
+//! A sink that stops the collector where a write fails.
+ghost use Rattle.std.specs.Prelude.{◌≡◌};
+
+use http_lane::Stop;
+use span_sink::{Sink, SinkFault};
+
+/// A sink over another one. Where a write fails it sets a mark to stop, if it is told to; what it takes and what it answers are
+/// those of the other.
+#[derive(Drop)]
+pub struct StoppingSink<'s, S, P> {
+    sink: S,
+    stop: &'s P,
+    stops: bool,
+}
+
+impl<'s, S: Sink, P: Stop> StoppingSink<'s, S, P> {
+    /// A sink over this one; `stops`: a write that fails sets the mark.
+    pub fn new(sink: S, stop: &'s P, stops: bool) -> Self
+        ensures { result.sink ≡ sink }
+    {
+        StoppingSink { sink, stop, stops }
+    }
+
+    /// Gives the other sink back.
+    pub fn end(self) -> S
+        ensures { result ≡ self.sink }
+    {
+        let StoppingSink {
+            sink,
+            stop: _,
+            stops: _,
+        } = self;
+        sink
+    }
+}
+
+impl<'s, S: Sink, P: Stop> Sink for StoppingSink<'s, S, P> {
+    ghost taken = { λ s. S.taken s.sink };
+
+    ghost failures = { λ s. S.failures s.sink };
+
+    fn write(&mut self, bytes: &[u8]) -> Result<usize, SinkFault> {
+        let answer = self.sink.write(bytes);
+        if self.stops && answer.is_err() {
+            self.stop.set();
+        }
+        answer
+    }
+
+    fn failures(&self) -> u64 {
+        self.sink.failures()
+    }
+}

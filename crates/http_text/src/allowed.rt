@@ -1,0 +1,10 @@
+//! What is allowed to clients, by the settings of a collector.
+
+/// What is allowed to clients.
+#[derive(Clone, Copy, PartialEq, Eq)]
+pub struct Allowed {
+    /// Bodies packed by gzip are taken.
+    pub gzip: bool,
+    /// `POST /close` closes the collector; else there is no such target.
+    pub close: bool,
+}
