@@ -2,4 +2,4 @@
 pub mod Asked
 pub mod Texts
 
--- pub mod Serving
+pub mod Serving
