@@ -3,6 +3,7 @@ use Rattle.std.specs.Prelude.{◌≡◌, ℕ, Bool, false, List, Option, Some, N
 use Rattle.httparse.specs.Grammar.{RequestHead}
 use Rattle.http_text.specs.Lines.{Cut, Whole, Waits, TooLong, cut, head_len}
 use Rattle.http_text.specs.Head.{IsHead, IsVerdict}
+use Rattle.http_text.specs.declared.allowed.Allowed.{Allowed}
 use Rattle.http_text.specs.declared.request.Verdict.{Verdict}
 use Rattle.http_text.specs.declared.request.Verdict.TheVariants.{Refused}
 use Rattle.http_text.specs.declared.request.Refusal.TheVariants.{BadRequest, HeadTooLarge}
@@ -48,9 +49,13 @@ abbrev pub AskedAs : (text : List ℕ) → Option Asked → Asked → Type 0
 AskedAs text (Some refused) a = a ≡ refused
 AskedAs text None a = (h : RequestHead) × IsHead text h × (a ≡ asked_by h.method h.target)
 
+-- what is allowed at the address of the traces makes no difference here
+abbrev pub nothing : Allowed
+nothing = record { gzip = false; close = false }
+
 -- what the text of a head asks for
 abbrev pub IsAsked : (text : List ℕ) → Asked → Type 0
-IsAsked text a = (v : Verdict) × IsVerdict false text v × AskedAs text (refused_as v) a
+IsAsked text a = (v : Verdict) × IsVerdict nothing text v × AskedAs text (refused_as v) a
 
 -- what was read so far asks for this, or its head isn't whole yet
 abbrev pub HeardBy : Cut → (read : List ℕ) → Option Asked → Type 0

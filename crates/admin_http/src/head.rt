@@ -7,9 +7,15 @@ ghost use Rattle.http_text.specs.Spans.{IsHeadAt};
 ghost use Rattle.admin_http.specs.Asked.{IsAsked, IsHeard, asked_by, only_by, refused_as, routed};
 
 use crate::asked::{Asked, Method, Route};
-use http_text::{Cutting, FIELD_LIMIT, Place, Refusal, Search, Verdict, cut_on, judge};
+use http_text::{Allowed, Cutting, FIELD_LIMIT, Place, Refusal, Search, Verdict, cut_on, judge};
 use httparse::Status;
 use httparse::spans::{EMPTY_HEADER_SPAN, HeaderSpan, RequestSpans, parse_request};
+
+/// What is allowed makes no difference: a verdict only tells whether the text is a head.
+const NOTHING: Allowed = Allowed {
+    gzip: false,
+    close: false,
+};
 
 /// Where the parts of a head are, if the whole text is one.
 fn read_head(text: &[u8], headers: &mut [HeaderSpan]) -> Option<RequestSpans>
@@ -107,7 +113,7 @@ fn refused_as(verdict: Verdict) -> Option<Asked>
 fn asked_in(text: &[u8]) -> Asked
     ensures { IsAsked text.now result }
 {
-    match refused_as(judge(text, false)) {
+    match refused_as(judge(text, NOTHING)) {
         Some(refused) => refused,
         None => asked_by_head(text),
     }

@@ -42,22 +42,11 @@ fn answer_from<A: Admin>(alloc: Global, admin: &A, asked: Asked) -> Result<Strin
         Route::Metrics => admin.metrics(alloc)?,
         _ => String::new(alloc),
     };
-    answer(
-        alloc,
-        asked,
-        is_stopping,
-        metrics.as_str(),
-        admin.config(),
-    )
+    answer(alloc, asked, is_stopping, metrics.as_str(), admin.config())
 }
 
 /// Answers a request. Where it asks the collector to close, that is done before any byte of the answer is written.
-fn respond<W: Write, A: Admin>(
-    alloc: Global,
-    writer: &mut W,
-    admin: &mut A,
-    asked: Asked,
-) -> Sent
+fn respond<W: Write, A: Admin>(alloc: Global, writer: &mut W, admin: &mut A, asked: Asked) -> Sent
     ensures responds { Responds (A.stops admin.new) (A.tells admin.new) (A.configuration admin.new) (W.contents writer.old) (W.contents writer.new) asked result }
     ensures closed { closes asked.route ≡ true → A.is_closed admin.new ≡ true }
     ensures kept { closes asked.route ≡ false → admin.new ≡ admin.old }

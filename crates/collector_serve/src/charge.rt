@@ -8,13 +8,12 @@ use http_lane::Stop;
 use lane_driver::Loads;
 use metrics_text::{Metrics, metrics_text};
 use std::alloc::{AllocError, Global};
-use std::io;
 use std::io::Read;
 use std::net::{Net, TcpListener, TcpStream};
 use std::sync::{Arc, Wait};
-use std::thread;
 use std::thread::Threads;
 use std::time::{Clock, Duration, Instant};
+use std::{io, thread};
 
 /// How long a read waits for one in charge, in milliseconds.
 const READ_TIMEOUT: u64 = 100;
@@ -88,12 +87,7 @@ pub fn start_admin<
         + Copy
         + Send
         + 'static,
->(
-    rt: &R,
-    alloc: Global,
-    address: &str,
-    charge: Arc<Charge, Global>,
-) -> io::Result<()> {
+>(rt: &R, alloc: Global, address: &str, charge: Arc<Charge, Global>) -> io::Result<()> {
     let listener = TcpListener::bind(rt, address)?;
     let own = *rt;
     let _runs_on = thread::spawn(rt, move || answer_all(&own, alloc, &listener, &charge))?;
@@ -152,7 +146,7 @@ pub fn close_at_end<I: Read + Send + Drop + 'static, R: Threads + Wait + Copy + 
 }
 
 /// Reads to the end, and then sets the mark.
-fn read_to_end<I: Read, R: Wait>(rt: &R, input: I, charge: &Charge) {
+fn read_to_end<I: Read + Drop, R: Wait>(rt: &R, input: I, charge: &Charge) {
     let mut input = input;
     let mut piece = [0; 4096];
     for _ in rt.forever() {
