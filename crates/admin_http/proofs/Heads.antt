@@ -1,6 +1,6 @@
 -- A text that isn't refused is a head, and what a search from the start says.
 -- For the contracts of `asked_in` and `heard`.
-use Rattle.std.proofs.Common.{◌≡◌, ◌+◌, ◌≤◌, ◌++◌, ℕ, Bool, true, false, List, Option, Some, None, ap, arith, sym, ◌∙◌, inl, inr, length, take, refl, subst}
+use Rattle.std.proofs.Common.{◌≡◌, ◌+◌, ℕ, Bool, true, false, List, Option, Some, None, ap, arith, sym, inl, inr, refl, subst}
 use Rattle.std.specs.Prelude.{nat_le}
 use Rattle.std.specs.Option.{option_map}
 use borrow.Author.Tests.{leb-true, leb-false}
@@ -11,7 +11,7 @@ use Rattle.http_text.specs.Search.{Searched}
 use Rattle.http_text.specs.declared.request.TheConstants.{FIELD_LIMIT}
 use Rattle.http_text.specs.declared.request.Verdict.{Verdict}
 use Rattle.http_text.specs.declared.search.Place.TheVariants.{Blank}
-use Rattle.admin_http.specs.declared.asked.Asked.{Asked}
+use Rattle.admin_http.specs.declared.asked.AdminRequest.{AdminRequest}
 use Rattle.admin_http.specs.Asked.{HeardBy, IsHeard, refused_as, nothing}
 
 judged_head : (text : List ℕ) (v : Verdict) → refused_as v ≡ None → Judges false text v → (h : RequestHead) × IsHead text h
@@ -34,5 +34,5 @@ pub from_blank : (read : List ℕ) → Searched head_len (record { at = 0; place
 from_blank read = (omega arith, λ ys. none_more (head_len ys))
 
 -- what was heard, by where the head ends
-pub heard_at : (read : List ℕ) (c : Cut) (heard : Option Asked) → cut head_len read ≡ c → HeardBy c read heard → IsHeard read heard
+pub heard_at : (read : List ℕ) (c : Cut) (heard : Option AdminRequest) → cut head_len read ≡ c → HeardBy c read heard → IsHeard read heard
 heard_at read c heard e h = subst (λ k. HeardBy k read heard) (sym e) h

@@ -1,11 +1,10 @@
 -- What several reads and writes came to.
 -- For the contracts of `write_text` and `hear`.
-use Rattle.std.proofs.Common.{◌≡◌, ◌+◌, ◌++◌, ℕ, List, [], Option, Some, None, append-nil, sym, ◌∙◌, subst, take, drop, refl}
+use Rattle.std.proofs.Common.{◌≡◌, ◌+◌, ◌++◌, ℕ, List, [], Option, None, append-nil, sym, ◌∙◌, subst, take, drop, refl}
 use Rattle.std.proofs.Math.Seq.{take-add}
 use Rattle.std.specs.Io.KnownBytes.{Consumes}
 use Rattle.std.proofs.KnownBytes.{Consumes-trans}
 use Rattle.http_text.specs.Lines.{Cut, Whole, Waits, TooLong, cut, head_len}
-use Rattle.admin_http.specs.declared.asked.Asked.{Asked}
 use Rattle.admin_http.specs.Asked.{HeardBy, IsHeard}
 
 pub take_then : (i n : ℕ) (xs : List ℕ) → take i xs ++ take n (drop i xs) ≡ take (i + n) xs

@@ -1,5 +1,5 @@
 -- What the head at the front of a stream asks for (RFC 9112, sections 2 to 3), by what `http_text` says of heads.
-use Rattle.std.specs.Prelude.{◌≡◌, ℕ, Bool, false, List, Option, Some, None, take, codes, bytes_eq, if◌then◌else◌}
+use Rattle.std.specs.Prelude.{◌≡◌, ℕ, Bool, false, List, ◌++◌, Option, Some, None, take, codes, bytes_eq, if◌then◌else◌}
 use Rattle.httparse.specs.Grammar.{RequestHead}
 use Rattle.http_text.specs.Lines.{Cut, Whole, Waits, TooLong, cut, head_len}
 use Rattle.http_text.specs.Head.{IsHead, IsVerdict}
@@ -11,7 +11,7 @@ use Rattle.admin_http.specs.declared.asked.Method.{Method}
 use Rattle.admin_http.specs.declared.asked.Method.TheVariants.{Get, Post}
 use Rattle.admin_http.specs.declared.asked.Route.{Route}
 use Rattle.admin_http.specs.declared.asked.Route.TheVariants.{Close, Metrics, Health, Config, NotFound, WrongMethod, Bad, TooLarge}
-use Rattle.admin_http.specs.declared.asked.Asked.{Asked}
+use Rattle.admin_http.specs.declared.asked.AdminRequest.{AdminRequest}
 
 -- the word of a method
 abbrev pub method_word : Method → List ℕ
@@ -32,20 +32,20 @@ routed method target =
     else NotFound)))
 
 -- the answer to `HEAD` has no body
-abbrev pub asked : Route → (is_head : Bool) → Asked
+abbrev pub asked : Route → (is_head : Bool) → AdminRequest
 asked route is_head = record { route = route; is_head = is_head }
 
-abbrev pub asked_by : (method target : List ℕ) → Asked
+abbrev pub asked_by : (method target : List ℕ) → AdminRequest
 asked_by method target = asked (routed method target) (bytes_eq method (codes "HEAD"))
 
 -- a text that is refused as no head, or as too large a one, at the address of the traces is so here
-abbrev pub refused_as : Verdict → Option Asked
+abbrev pub refused_as : Verdict → Option AdminRequest
 refused_as (Refused HeadTooLarge is_head) = Some (asked TooLarge is_head)
 refused_as (Refused BadRequest is_head) = Some (asked Bad is_head)
 refused_as _ = None
 
 -- any other text is a head, which asks by its method and its target
-abbrev pub AskedAs : (text : List ℕ) → Option Asked → Asked → Type 0
+abbrev pub AskedAs : (text : List ℕ) → Option AdminRequest → AdminRequest → Type 0
 AskedAs text (Some refused) a = a ≡ refused
 AskedAs text None a = (h : RequestHead) × IsHead text h × (a ≡ asked_by h.method h.target)
 
@@ -54,11 +54,11 @@ abbrev pub nothing : Allowed
 nothing = record { gzip = false; close = false }
 
 -- what the text of a head asks for
-abbrev pub IsAsked : (text : List ℕ) → Asked → Type 0
+abbrev pub IsAsked : (text : List ℕ) → AdminRequest → Type 0
 IsAsked text a = (v : Verdict) × IsVerdict nothing text v × AskedAs text (refused_as v) a
 
 -- what was read so far asks for this, or its head isn't whole yet
-abbrev pub HeardBy : Cut → (read : List ℕ) → Option Asked → Type 0
+abbrev pub HeardBy : Cut → (read : List ℕ) → Option AdminRequest → Type 0
 HeardBy (Whole n) read (Some a) = IsAsked (take n read) a
 HeardBy (Whole n) read None = ⊥
 HeardBy TooLong read (Some a) = a ≡ asked TooLarge false
@@ -66,5 +66,13 @@ HeardBy TooLong read None = ⊥
 HeardBy Waits read (Some a) = ⊥
 HeardBy Waits read None = Unit {0}
 
-abbrev pub IsHeard : (read : List ℕ) → Option Asked → Type 0
+abbrev pub IsHeard : (read : List ℕ) → Option AdminRequest → Type 0
 IsHeard read heard = HeardBy (cut head_len read) read heard
+
+-- the bytes that were read ask for one thing only
+abbrev pub OneRequest : Type 0
+OneRequest = (read : List ℕ) (a b : Option AdminRequest) → IsHeard read a → IsHeard read b → a ≡ b
+
+-- what was heard stays, whatever bytes follow
+abbrev pub StaysHeard : Type 0
+StaysHeard = (read more : List ℕ) (a : AdminRequest) → IsHeard read (Some a) → IsHeard (read ++ more) (Some a)

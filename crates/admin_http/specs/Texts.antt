@@ -3,39 +3,38 @@ use Rattle.std.specs.Prelude.{ℕ, Bool, List, [], ◌++◌, length, if◌then�
 use Rattle.admin_http.specs.declared.asked.Method.TheVariants.{Get, Post}
 use Rattle.admin_http.specs.declared.asked.Route.{Route}
 use Rattle.admin_http.specs.declared.asked.Route.TheVariants.{Close, Metrics, Health, Config, NotFound, WrongMethod, Bad, TooLarge}
-use Rattle.admin_http.specs.declared.asked.Asked.{Asked}
-use Rattle.admin_http.specs.Asked.{method_word}
+use Rattle.admin_http.specs.declared.asked.AdminRequest.{AdminRequest}
 
 -- what an answer tells of: whether the collector is closing, the text of its numbers, and that of its configuration
-pub record State : Type 0 where
+pub record AdminState : Type 0 where
   pub is_stopping : Bool
   pub metrics : List ℕ
   pub config : List ℕ
 
-abbrev pub state : (is_stopping : Bool) (metrics config : List ℕ) → State
+abbrev pub state : (is_stopping : Bool) (metrics config : List ℕ) → AdminState
 state is_stopping metrics config = record { is_stopping = is_stopping; metrics = metrics; config = config }
 
 -- the status, its reason phrase, the media type and the body
-pub record Page : Type 0 where
+pub record AdminPage : Type 0 where
   pub status : ℕ
   pub reason : List ℕ
   pub media : List ℕ
   pub body : List ℕ
 
-abbrev pub page : ℕ → (reason media body : List ℕ) → Page
+abbrev pub page : ℕ → (reason media body : List ℕ) → AdminPage
 page status reason media body = record { status = status; reason = reason; media = media; body = body }
 
 -- a body of JSON
-abbrev pub json : ℕ → (reason body : List ℕ) → Page
+abbrev pub json : ℕ → (reason body : List ℕ) → AdminPage
 json status reason body = page status reason (codes "application/json") body
 
-abbrev pub health_page : (is_stopping : Bool) → Page
+abbrev pub health_page : (is_stopping : Bool) → AdminPage
 health_page is_stopping =
     if is_stopping then page 503 (codes "Service Unavailable") (codes "text/plain") (codes "closing\n")
     else page 200 (codes "OK") (codes "text/plain") (codes "ok\n")
 
 -- what each route is answered
-abbrev pub page_of : Route → State → Page
+abbrev pub page_of : Route → AdminState → AdminPage
 page_of Close s = json 200 (codes "OK") (codes "{}")
 page_of Metrics s = page 200 (codes "OK") (codes "text/plain; version=0.0.4; charset=utf-8") s.metrics
 page_of Health s = health_page s.is_stopping
@@ -63,9 +62,9 @@ abbrev pub sent_of : (is_head : Bool) → (body : List ℕ) → List ℕ
 sent_of is_head body = if is_head then [] else body
 
 -- a page as an answer, with such a field
-abbrev pub page_text : Page → (allow : List ℕ) → (is_head : Bool) → List ℕ
+abbrev pub page_text : AdminPage → (allow : List ℕ) → (is_head : Bool) → List ℕ
 page_text p allow is_head = joined p.status p.reason p.media (length p.body) allow (sent_of is_head p.body)
 
 -- the whole answer
-abbrev pub answer_of : Asked → State → List ℕ
+abbrev pub answer_of : AdminRequest → AdminState → List ℕ
 answer_of a s = page_text (page_of a.route s) (allow_line a.route) a.is_head

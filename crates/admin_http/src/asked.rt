@@ -32,7 +32,7 @@ pub enum Route {
 
 /// What a request asks for.
 #[derive(Clone, Copy, PartialEq, Eq)]
-pub struct Asked {
+pub struct AdminRequest {
     /// Where it goes.
     pub route: Route,
     /// It is a `HEAD`, whose answer has no body.

@@ -1,11 +1,11 @@
 //! How a connection ends.
-use crate::asked::Asked;
+use crate::asked::AdminRequest;
 
 /// A read gives so many bytes at most.
 pub const PIECE_LIMIT: usize = 4096;
 
 /// So many reads are made of a connection.
-pub const READ_LIMIT: u64 = 4096;
+pub const READ_LIMIT: u64 = 1024;
 
 /// So many reads that give nothing for now end a connection.
 pub const QUIET_LIMIT: u64 = 50;
@@ -14,14 +14,14 @@ pub const QUIET_LIMIT: u64 = 50;
 #[derive(Clone, Copy, PartialEq, Eq)]
 pub enum AdminEnd {
     /// A request was heard; how much of its answer was written.
-    Heard(Asked, Sent),
+    Heard(AdminRequest, Portion),
     /// No request was heard, and nothing was written.
     Unheard(Silence),
 }
 
 /// How much of an answer was written.
 #[derive(Clone, Copy, PartialEq, Eq)]
-pub enum Sent {
+pub enum Portion {
     /// All of it.
     Whole,
     /// A first part: a write failed or took no byte.
@@ -49,7 +49,7 @@ pub enum Silence {
 
 /// What a read brought.
 #[derive(Clone, Copy, PartialEq, Eq)]
-pub enum Came {
+pub enum PieceRead {
     /// Some bytes.
     More,
     /// Nothing for now: it would block or timed out.

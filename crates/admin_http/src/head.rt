@@ -6,7 +6,7 @@ ghost use Rattle.http_text.specs.Head.{IsHead};
 ghost use Rattle.http_text.specs.Spans.{IsHeadAt};
 ghost use Rattle.admin_http.specs.Asked.{IsAsked, IsHeard, asked_by, only_by, refused_as, routed};
 
-use crate::asked::{Asked, Method, Route};
+use crate::asked::{AdminRequest, Method, Route};
 use http_text::{Allowed, Cutting, FIELD_LIMIT, Place, Refusal, Search, Verdict, cut_on, judge};
 use httparse::Status;
 use httparse::spans::{EMPTY_HEADER_SPAN, HeaderSpan, RequestSpans, parse_request};
@@ -65,7 +65,7 @@ fn routed(method: &[u8], target: &[u8]) -> Route
 }
 
 /// What is asked for by a text that is a head.
-fn asked_by_head(text: &[u8]) -> Asked
+fn asked_by_head(text: &[u8]) -> AdminRequest
     requires { (h : RequestHead) × IsHead text.now h }
     ensures { (h : RequestHead) × IsHead text.now h × (result ≡ asked_by h.method h.target) }
 {
@@ -77,31 +77,31 @@ fn asked_by_head(text: &[u8]) -> Asked
 }
 
 /// What is asked for by a method and a target.
-fn asked_by(method: &[u8], target: &[u8]) -> Asked
+fn asked_by(method: &[u8], target: &[u8]) -> AdminRequest
     ensures { result ≡ asked_by method.now target.now }
 {
-    Asked {
+    AdminRequest {
         route: routed(method, target),
         is_head: method == b"HEAD".as_slice(),
     }
 }
 
 /// What a text asks for that is no head, or too large a one.
-fn refused_as(verdict: Verdict) -> Option<Asked>
+fn refused_as(verdict: Verdict) -> Option<AdminRequest>
     ensures { result ≡ refused_as verdict }
 {
     match verdict {
         Verdict::Refused {
             refusal: Refusal::HeadTooLarge,
             is_head,
-        } => Some(Asked {
+        } => Some(AdminRequest {
             route: Route::TooLarge,
             is_head,
         }),
         Verdict::Refused {
             refusal: Refusal::BadRequest,
             is_head,
-        } => Some(Asked {
+        } => Some(AdminRequest {
             route: Route::Bad,
             is_head,
         }),
@@ -110,7 +110,7 @@ fn refused_as(verdict: Verdict) -> Option<Asked>
 }
 
 /// What the text of a head asks for.
-fn asked_in(text: &[u8]) -> Asked
+fn asked_in(text: &[u8]) -> AdminRequest
     ensures { IsAsked text.now result }
 {
     match refused_as(judge(text, NOTHING)) {
@@ -120,7 +120,7 @@ fn asked_in(text: &[u8]) -> Asked
 }
 
 /// What the bytes ask for that were read so far; `None`: their head isn't whole yet.
-pub fn heard(read: &[u8]) -> Option<Asked>
+pub fn heard(read: &[u8]) -> Option<AdminRequest>
     ensures { IsHeard read.now result }
 {
     let search = Search {
@@ -130,7 +130,7 @@ pub fn heard(read: &[u8]) -> Option<Asked>
     match cut_on(read, search) {
         Cutting::Whole(n) => Some(asked_in(&read[..n])),
         Cutting::Waits(_) => None,
-        Cutting::TooLong => Some(Asked {
+        Cutting::TooLong => Some(AdminRequest {
             route: Route::TooLarge,
             is_head: false,
         }),

@@ -8,12 +8,14 @@ mod admin;
 mod asked;
 mod ends;
 mod head;
+mod law;
 mod serving;
 mod texts;
 
 pub use admin::Admin;
-pub use asked::{Asked, Method, Route};
-pub use ends::{AdminEnd, PIECE_LIMIT, QUIET_LIMIT, READ_LIMIT, Sent, Silence};
+pub use asked::{AdminRequest, Method, Route};
+pub use ends::{AdminEnd, PIECE_LIMIT, Portion, QUIET_LIMIT, READ_LIMIT, Silence};
 pub use head::heard;
+pub use law::heard_in_any_pieces;
 pub use serving::serve;
 pub use texts::answer;

@@ -3,15 +3,15 @@ ghost use Rattle.std.specs.Prelude.{◌≡◌, ◌<◌, ◌≤◌, ℕ, List, Bo
 ghost use Rattle.admin_http.specs.Serving.{Answers, Hears, IsMade, Puts, Responds, Served, Takes, asked_to_close, closes};
 
 use crate::admin::Admin;
-use crate::asked::{Asked, Route};
-use crate::ends::{AdminEnd, Came, PIECE_LIMIT, QUIET_LIMIT, READ_LIMIT, Sent, Silence};
+use crate::asked::{AdminRequest, Route};
+use crate::ends::{AdminEnd, PIECE_LIMIT, PieceRead, Portion, QUIET_LIMIT, READ_LIMIT, Silence};
 use crate::head::heard;
 use crate::texts::answer;
 use std::alloc::{AllocError, Global};
 use std::io::{ErrorKind, Read, Write};
 
 /// Writes the whole text, unless a write fails.
-fn write_text<W: Write>(writer: &mut W, text: &[u8]) -> Sent
+fn write_text<W: Write>(writer: &mut W, text: &[u8]) -> Portion
     ensures puts { Puts (W.contents writer.old) (W.contents writer.new) text.now result }
     ensures made { IsMade result }
 {
@@ -19,10 +19,10 @@ fn write_text<W: Write>(writer: &mut W, text: &[u8]) -> Sent
     while at < text.len() {
         match writer.write(&text[at..]) {
             Ok(n) if n > 0 => at += n,
-            _ => return Sent::Part,
+            _ => return Portion::Part,
         }
     }
-    Sent::Whole
+    Portion::Whole
 }
 
 /// Whether a route asks the collector to close.
@@ -33,7 +33,11 @@ fn closes(route: Route) -> bool
 }
 
 /// The answer to a request. To one that asks the collector to close, that it was asked to.
-fn answer_from<A: Admin>(alloc: Global, admin: &A, asked: Asked) -> Result<String, AllocError>
+fn answer_from<A: Admin>(
+    alloc: Global,
+    admin: &A,
+    asked: AdminRequest,
+) -> Result<String, AllocError>
     requires { closes asked.route ≡ true → A.is_closed admin.now ≡ true }
     ensures { IfOk result (λ text. Answers (A.stops admin.now) (A.tells admin.now) (A.configuration admin.now) asked (string_bytes text)) }
 {
@@ -46,7 +50,12 @@ fn answer_from<A: Admin>(alloc: Global, admin: &A, asked: Asked) -> Result<Strin
 }
 
 /// Answers a request. Where it asks the collector to close, that is done before any byte of the answer is written.
-fn respond<W: Write, A: Admin>(alloc: Global, writer: &mut W, admin: &mut A, asked: Asked) -> Sent
+fn respond<W: Write, A: Admin>(
+    alloc: Global,
+    writer: &mut W,
+    admin: &mut A,
+    asked: AdminRequest,
+) -> Portion
     ensures responds { Responds (A.stops admin.new) (A.tells admin.new) (A.configuration admin.new) (W.contents writer.old) (W.contents writer.new) asked result }
     ensures closed { closes asked.route ≡ true → A.is_closed admin.new ≡ true }
     ensures kept { closes asked.route ≡ false → admin.new ≡ admin.old }
@@ -56,46 +65,50 @@ fn respond<W: Write, A: Admin>(alloc: Global, writer: &mut W, admin: &mut A, ask
     }
     match answer_from(alloc, admin, asked) {
         Ok(text) => write_text(writer, text.as_bytes()),
-        Err(_) => Sent::Nothing,
+        Err(_) => Portion::Nothing,
     }
 }
 
 /// Puts what a read gives behind what was read so far.
-fn take_piece<R: Read>(reader: &mut R, read: &mut Vec<u8>) -> Came
+fn take_piece<R: Read>(reader: &mut R, read: &mut Vec<u8>) -> PieceRead
     ensures { Takes (R.remaining reader.old) (R.remaining reader.new) read.old.items read.new.items result }
 {
     let mut piece = [0; PIECE_LIMIT];
     match reader.read(&mut piece) {
-        Ok(0) => Came::End,
+        Ok(0) => PieceRead::End,
         Ok(n) => {
             if read.extend_from_slice(&piece[..n]).is_ok() {
-                Came::More
+                PieceRead::More
             } else {
-                Came::NoRoom
+                PieceRead::NoRoom
             }
         }
         Err(error) => match error.kind() {
-            ErrorKind::WouldBlock | ErrorKind::TimedOut => Came::Nothing,
-            ErrorKind::Interrupted => Came::Interrupted,
-            _ => Came::Failed,
+            ErrorKind::WouldBlock | ErrorKind::TimedOut => PieceRead::Nothing,
+            ErrorKind::Interrupted => PieceRead::Interrupted,
+            _ => PieceRead::Failed,
         },
     }
 }
 
 /// Reads until a head is whole.
-fn hear<R: Read, A: Admin>(alloc: Global, reader: &mut R, admin: &A) -> Result<Asked, Silence>
+fn hear<R: Read, A: Admin>(
+    alloc: Global,
+    reader: &mut R,
+    admin: &A,
+) -> Result<AdminRequest, Silence>
     ensures { Hears (R.remaining reader.old) (R.remaining reader.new) result }
 {
     let mut read = Vec::new(alloc);
     let mut quiet = 0;
     for _ in 0..READ_LIMIT {
         match take_piece(reader, &mut read) {
-            Came::More => {
+            PieceRead::More => {
                 if let Some(asked) = heard(&read) {
                     return Ok(asked);
                 }
             }
-            Came::Nothing => {
+            PieceRead::Nothing => {
                 if admin.is_stopping() {
                     return Err(Silence::Stopped);
                 }
@@ -104,10 +117,10 @@ fn hear<R: Read, A: Admin>(alloc: Global, reader: &mut R, admin: &A) -> Result<A
                     return Err(Silence::Quiet);
                 }
             }
-            Came::Interrupted => {}
-            Came::Failed => return Err(Silence::ReadFault),
-            Came::End => return Err(Silence::Cut),
-            Came::NoRoom => return Err(Silence::NoMemory),
+            PieceRead::Interrupted => {}
+            PieceRead::Failed => return Err(Silence::ReadFault),
+            PieceRead::End => return Err(Silence::Cut),
+            PieceRead::NoRoom => return Err(Silence::NoMemory),
         }
     }
     Err(Silence::Reads)

@@ -1,13 +1,13 @@
 //! The bytes of answers.
 ghost use Rattle.std.specs.Prelude.{◌≡◌, ℕ, List, [], Bool, IfOk, length, string_bytes, if◌then◌else◌, codes};
-ghost use Rattle.admin_http.specs.Texts.{State, allow_line, answer_of, health_page, joined, page, page_of, page_text, sent_of, state};
+ghost use Rattle.admin_http.specs.Texts.{AdminState, allow_line, answer_of, health_page, joined, page, page_of, page_text, sent_of, state};
 
-use crate::asked::{Asked, Method, Route};
+use crate::asked::{AdminRequest, Method, Route};
 use std::alloc::{AllocError, Global};
 
 /// What is answered: a status, its reason phrase, the media type of the body, and the body.
 #[derive(Clone, Copy)]
-struct Page<'a> {
+struct AdminPage<'a> {
     status: u16,
     reason: &'static str,
     media: &'static str,
@@ -18,7 +18,7 @@ struct Page<'a> {
 /// of its configuration.
 pub fn answer(
     alloc: Global,
-    asked: Asked,
+    asked: AdminRequest,
     is_stopping: bool,
     metrics: &str,
     config: &str,
@@ -30,19 +30,19 @@ pub fn answer(
 }
 
 /// What a route is answered.
-fn page_of<'a>(route: Route, is_stopping: bool, metrics: &'a str, config: &'a str) -> Page<'a>
+fn page_of<'a>(route: Route, is_stopping: bool, metrics: &'a str, config: &'a str) -> AdminPage<'a>
     ensures { page result.status result.reason.now result.media.now result.body.now ≡ page_of route (state is_stopping metrics.now config.now) }
 {
     match route {
         Route::Close => json(200, "OK", "{}"),
-        Route::Metrics => Page {
+        Route::Metrics => AdminPage {
             status: 200,
             reason: "OK",
             media: "text/plain; version=0.0.4; charset=utf-8",
             body: metrics,
         },
         Route::Health => health_page(is_stopping),
-        Route::Config => Page {
+        Route::Config => AdminPage {
             status: 200,
             reason: "OK",
             media: "application/toml",
@@ -64,10 +64,10 @@ fn page_of<'a>(route: Route, is_stopping: bool, metrics: &'a str, config: &'a st
 }
 
 /// A body of JSON.
-fn json(status: u16, reason: &'static str, body: &'static str) -> Page<'static>
+fn json(status: u16, reason: &'static str, body: &'static str) -> AdminPage<'static>
     ensures { page result.status result.reason.now result.media.now result.body.now ≡ page status reason.now (codes "application/json") body.now }
 {
-    Page {
+    AdminPage {
         status,
         reason,
         media: "application/json",
@@ -76,18 +76,18 @@ fn json(status: u16, reason: &'static str, body: &'static str) -> Page<'static>
 }
 
 /// Whether the collector takes requests.
-fn health_page(is_stopping: bool) -> Page<'static>
+fn health_page(is_stopping: bool) -> AdminPage<'static>
     ensures { page result.status result.reason.now result.media.now result.body.now ≡ health_page is_stopping }
 {
     if is_stopping {
-        return Page {
+        return AdminPage {
             status: 503,
             reason: "Service Unavailable",
             media: "text/plain",
             body: "closing\n",
         };
     }
-    Page {
+    AdminPage {
         status: 200,
         reason: "OK",
         media: "text/plain",
@@ -109,7 +109,7 @@ fn allow_line(route: Route) -> &'static str
 /// A page as an answer, without its body to `HEAD`.
 fn page_text(
     alloc: Global,
-    shown: &Page<'_>,
+    shown: &AdminPage<'_>,
     allow: &str,
     is_head: bool,
 ) -> Result<String, AllocError>

@@ -7,8 +7,8 @@ use Rattle.drop_ledger.specs.Places.{place_of}
 use Rattle.drop_ledger.specs.declared.count.Count.{Count}
 use Rattle.drop_ledger.specs.declared.count.Count.TheVariants.{Received, Handed, Dropped}
 use Rattle.metrics_text.specs.declared.metrics.Metrics.{Metrics}
-use Rattle.metrics_text.specs.declared.kind.Kind.{Kind}
-use Rattle.metrics_text.specs.declared.kind.Kind.TheVariants.{Counter, Gauge}
+use Rattle.metrics_text.specs.declared.kind.FamilyKind.{FamilyKind}
+use Rattle.metrics_text.specs.declared.kind.FamilyKind.TheVariants.{Counter, Gauge}
 use Rattle.metrics_text.specs.declared.text.TheConstants.{VERSION}
 
 -- a number beside its labels, which stand in braces where there are any
@@ -20,11 +20,11 @@ pub record Sample : Type 0 where
 pub record Family : Type 0 where
   pub name : List ℕ
   pub help : List ℕ
-  pub kind : Kind
+  pub kind : FamilyKind
   pub samples : List Sample
 
 -- the word of a kind
-abbrev pub word_of : Kind → List ℕ
+abbrev pub word_of : FamilyKind → List ℕ
 word_of Counter = codes "counter"
 word_of Gauge = codes "gauge"
 
@@ -45,7 +45,7 @@ family_text family = head_lines family.name family.help (word_of family.kind) ++
 abbrev pub sample : (labels : List ℕ) → (value : ℕ) → Sample
 sample labels value = record { labels = labels; value = value }
 
-abbrev pub family : (name help : List ℕ) → Kind → List Sample → Family
+abbrev pub family : (name help : List ℕ) → FamilyKind → List Sample → Family
 family name help kind samples = record { name = name; help = help; kind = kind; samples = samples }
 
 -- the number of a count in a report

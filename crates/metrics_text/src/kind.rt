@@ -4,21 +4,21 @@ ghost use Rattle.metrics_text.specs.Families.{word_of};
 
 /// What a family's numbers do.
 #[derive(Clone, Copy, PartialEq, Eq)]
-pub enum Kind {
+pub enum FamilyKind {
     /// They grow from 0, until the collector ends.
     Counter,
     /// They go up and down.
     Gauge,
 }
 
-impl Kind {
+impl FamilyKind {
     /// The word for it.
     pub fn word(self) -> &'static str
         ensures { result.now ≡ word_of self }
     {
         match self {
-            Kind::Counter => "counter",
-            Kind::Gauge => "gauge",
+            FamilyKind::Counter => "counter",
+            FamilyKind::Gauge => "gauge",
         }
     }
 }

@@ -3,7 +3,7 @@ ghost use Rattle.std.specs.Prelude.{◌≡◌, ◌++◌, ℕ, List, [], ◌∷�
 ghost use Rattle.metrics_text.specs.Families.{build, connections, dropped, dropped_sample, family, family_text, handed, head_lines, labelled, metrics_text, number_of, reason_word, received, sample, sample_line, uptime, word_of};
 ghost use Rattle.drop_ledger.specs.declared.count.Count.TheVariants.{Dropped};
 
-use crate::kind::Kind;
+use crate::kind::FamilyKind;
 use crate::metrics::Metrics;
 use drop_ledger::{Count, Report};
 use span_ids::Reason;
@@ -13,7 +13,7 @@ use std::alloc::{AllocError, Global};
 pub const VERSION: &str = "0.1.0";
 
 /// Appends the two lines in front of a family's samples.
-fn put_head(text: &mut String, name: &str, help: &str, kind: Kind) -> Result<(), AllocError>
+fn put_head(text: &mut String, name: &str, help: &str, kind: FamilyKind) -> Result<(), AllocError>
     ensures { OnOk result (string_bytes text.new ≡ string_bytes text.old ++ head_lines name.now help.now (word_of kind)) }
 {
     let word = kind.word();
@@ -32,7 +32,7 @@ fn put_single(
     text: &mut String,
     name: &str,
     help: &str,
-    kind: Kind,
+    kind: FamilyKind,
     labels: &str,
     value: u64,
 ) -> Result<(), AllocError>
@@ -90,7 +90,7 @@ fn put_all_dropped(text: &mut String, report: &Report) -> Result<(), AllocError>
 {
     let name = "tsc_spans_dropped_total";
     let help = "Spans that were given up, by the reason.";
-    put_head(text, name, help, Kind::Counter)?;
+    put_head(text, name, help, FamilyKind::Counter)?;
     let reasons = [
         Reason::InvalidId,
         Reason::QueueFull,
@@ -114,10 +114,10 @@ fn put_count(
     report: &Report,
     count: Count,
 ) -> Result<(), AllocError>
-    ensures { OnOk result (string_bytes text.new ≡ string_bytes text.old ++ family_text (family name.now help.now Kind.Counter (sample [] (number_of report.now count) ∷ []))) }
+    ensures { OnOk result (string_bytes text.new ≡ string_bytes text.old ++ family_text (family name.now help.now FamilyKind.Counter (sample [] (number_of report.now count) ∷ []))) }
 {
     let number = report.number(count);
-    put_single(text, name, help, Kind::Counter, "", number)
+    put_single(text, name, help, FamilyKind::Counter, "", number)
 }
 
 /// Appends the families of the spans that were received and handed over.
@@ -148,7 +148,7 @@ fn put_collector(text: &mut String, metrics: &Metrics) -> Result<(), AllocError>
         text,
         "tsc_connections_open",
         "Connections that are open.",
-        Kind::Gauge,
+        FamilyKind::Gauge,
         "",
         metrics.open_connections,
     )?;
@@ -156,7 +156,7 @@ fn put_collector(text: &mut String, metrics: &Metrics) -> Result<(), AllocError>
         text,
         "tsc_uptime_seconds",
         "Seconds since the collector began.",
-        Kind::Gauge,
+        FamilyKind::Gauge,
         "",
         metrics.uptime_seconds,
     )?;
@@ -169,7 +169,7 @@ fn put_build(text: &mut String) -> Result<(), AllocError>
 {
     let name = "tsc_build_info";
     let help = "The version of the collector, as a label.";
-    put_head(text, name, help, Kind::Gauge)?;
+    put_head(text, name, help, FamilyKind::Gauge)?;
     put_labelled(text, name, "version", VERSION, 1)
 }
 

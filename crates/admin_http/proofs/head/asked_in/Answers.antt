@@ -1,5 +1,4 @@
-use Rattle.std.proofs.Common.{sym, ap, subst, Some, ◌∙◌}
-use Rattle.admin_http.specs.Asked.{AskedAs}
+use Rattle.std.proofs.Common.{sym}
 use Rattle.admin_http.proofs.Heads.{head_there}
 use Rattle.admin_http.proofs.head.asked_in.Goals as goal
 

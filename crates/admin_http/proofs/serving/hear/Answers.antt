@@ -1,6 +1,6 @@
 use Rattle.std.proofs.Common.{◌∙◌, ◌<◌, ℕ, sym, subst, Some, None, ap, refl}
 use Rattle.std.proofs.KnownBytes.{Consumes-trans}
-use Rattle.http_text.specs.Lines.{Waits, cut, head_len}
+use Rattle.http_text.specs.Lines.{cut, head_len}
 use Rattle.admin_http.specs.Asked.{IsHeard}
 use Rattle.admin_http.proofs.Pieces.{read_on, read_still, unheard_waits}
 use Rattle.admin_http.specs.declared.ends.TheConstants.{QUIET_LIMIT}
