@@ -78,7 +78,7 @@ none : IsLeastOf (λ fault. ⊥) None
 none = record { is_one = λ fault e. cc; is_least = λ fault h. elim h [ ] }
 
 -- of the same set, said otherwise
-as_well : (P Q : ConfigFault → Type 0) (a : Option ConfigFault) → ((fault : ConfigFault) → P fault → Q fault) → ((fault : ConfigFault) → Q fault → P fault) → IsLeastOf P a → IsLeastOf Q a
+pub as_well : (P Q : ConfigFault → Type 0) (a : Option ConfigFault) → ((fault : ConfigFault) → P fault → Q fault) → ((fault : ConfigFault) → Q fault → P fault) → IsLeastOf P a → IsLeastOf Q a
 as_well P Q a there back p = record { is_one = λ fault e. there fault (p.is_one fault e); is_least = λ fault h. p.is_least fault (back fault h) }
 
 -- of a value that is looked at only where a key has this value

@@ -3,6 +3,8 @@ mod Blank
 mod FaultSets
 mod Bounds
 mod Whole
+mod FaultLists
+mod FaultRows
 mod Rows
 mod Settings
 mod SettingKeys

@@ -1,5 +1,6 @@
--- To be read in this order: Percentages, PolicySettings, Keys, Faults, Values, Reading (what a text is read as); Settings and PolicyKeys (of each key, without the reading); FaultSets (for provers).
+-- To be read in this order: Percentages, PolicySettings, Keys, Faults, Values, Reading (what a text is read as); Settings and PolicyKeys (of each key, without the reading); FaultSets (for provers); FaultLists (all faults of a text).
 pub mod FaultSets
+pub mod FaultLists
 pub mod Faults
 pub mod Percentages
 pub mod PolicySettings

@@ -45,7 +45,7 @@ fn has_key(settings: &[Setting], key: &str) -> bool
 
 /// Whether a table of this kind has this key.
 #[tactic(auto, unfolding(crate::specs::Keys::is_key))]
-fn is_key(kind: TableKind, key: &str) -> bool
+pub fn is_key(kind: TableKind, key: &str) -> bool
     ensures { result ≡ spec.is_key kind key.now }
 {
     match kind {

@@ -10,16 +10,23 @@
 mod config;
 mod fault;
 mod fault_walk;
+mod finding_texts;
+mod findings;
 mod joins;
 mod keys;
 mod kinds;
 pub mod laws;
 mod percentages;
 mod policy_faults;
+mod policy_findings;
 mod policy_settings;
 mod settings_faults;
+mod settings_findings;
 mod settings_values;
+mod table_findings;
 mod values;
 
 pub use config::{Config, read};
 pub use fault::ConfigFault;
+pub use findings::Finding;
+pub use table_findings::faults;

@@ -54,6 +54,25 @@ impl Setting {
             Setting::Required(name, _) | Setting::Optional(name, _) => name,
         }
     }
+
+    /// What its value is to be.
+    pub fn value(self) -> ValueKind
+        ensures { result ≡ (spec.setting_of self).value }
+    {
+        match self {
+            Setting::Required(_, value) | Setting::Optional(_, value) => value,
+        }
+    }
+
+    /// Whether it has to stand there.
+    pub fn is_required(self) -> bool
+        ensures { result ≡ (spec.setting_of self).is_required }
+    {
+        match self {
+            Setting::Required(..) => true,
+            Setting::Optional(..) => false,
+        }
+    }
 }
 
 impl PolicyType {

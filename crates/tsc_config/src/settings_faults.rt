@@ -80,7 +80,8 @@ fn items_fault(items: &Array, kind: ItemKind) -> Option<ConfigFault>
     fault
 }
 
-fn item_fault(item: &Value, kind: ItemKind) -> Option<ConfigFault>
+/// The fault of an item.
+pub fn item_fault(item: &Value, kind: ItemKind) -> Option<ConfigFault>
     ensures { result ≡ spec.item_fault kind (view item.now) }
 {
     match (kind, item) {
@@ -93,7 +94,8 @@ fn item_fault(item: &Value, kind: ItemKind) -> Option<ConfigFault>
     }
 }
 
-fn value_fault(value: &Value, wanted: ValueKind) -> Option<ConfigFault>
+/// The fault of a value.
+pub fn value_fault(value: &Value, wanted: ValueKind) -> Option<ConfigFault>
     ensures { result ≡ spec.wanted_fault wanted (view value.now) }
 {
     match (wanted, value) {

@@ -1,0 +1,368 @@
+-- The list of the faults of a text has each fault that the text has, and no other.
+-- For the contract of `lists_each_fault`.
+use Rattle.std.proofs.Common.{◌≡◌, ◌≢◌, ◌↔◌, ◌++◌, ℕ, zero, suc, ◌<◌, ◌≤◌, pos, Bool, true, false, not, ◌||◌, ◌⊎◌, inl, inr, refl, sym, ap, subst, ◌∙◌, arith, append_assoc, append-nil, codes, List, [], ◌∷◌, Contains, Option, None, Some, Result, Ok, Err, IsOk, if◌then◌else◌, nat_lt}
+use Rattle.std.proofs.lemmas.Bool.Decides.{nat_tests}
+use Rattle.std.proofs.lemmas.List.Elements.{Contains-append_left, Contains-append_right, Contains-append_cases}
+use Rattle.std.specs.Result.{result_err}
+use Rattle.std.specs.Str.{bytes_eq}
+use Rattle.toml.specs.Data.{Data, array, table, Items, no_items, item, Members, no_members, member, get_member}
+use Rattle.toml.specs.Parse.{parse_document}
+use Rattle.policy_tree.specs.Faults.{fault_of_policies}
+use Rattle.policy_tree.specs.declared.fault.PolicyFault.{PolicyFault}
+use Rattle.policy_tree.specs.declared.policy.Join.{Join}
+use Rattle.policy_tree.specs.declared.policy.Join.TheVariants as join_is
+use Rattle.tsc_config.specs.Keys.{has_unknown_key, is_key, type_name, type_at, join_type, join_name, sub_key, join_at}
+use Rattle.tsc_config.specs.Faults.{config_fault_number, optional, required, unknown_fault, integer_fault, text_fault, truth_fault, type_fault, item_fault, wanted_fault}
+use Rattle.tsc_config.specs.FaultSets.{IsLeastOf, OptionalHas, RequiredHas, SomeItemHas, ValueHas, KeyHas, SomeSettingHas, RowsHave, SettingsHave, SettingsAtHave, TypedHas, PolicyTableHas, PoliciesHave, SomePolicyHas, PolicyHas, PartsHave, PartsSettingsHave, SubPoliciesHave, SubValueHas, CacheHas, NumbersHave, SizesHave, ChoicesHave, HasFault, DocumentHas, TextHas}
+use Rattle.tsc_config.specs.FaultLists as spec
+use Rattle.tsc_config.specs.FaultLists.{ListsAll, listed, unknown_faults, items_faults, value_faults, optional_faults, required_faults, setting_faults, rows_faults, settings_faults, head_settings, is_joined, typed_faults, own_faults, policy_table_faults, number_settings, size_settings, other_settings, top_settings, cache_settings, table_faults, of_policies, given_faults, document_faults, text_faults}
+use Rattle.tsc_config.specs.PolicySettings.{Setting, settings}
+use Rattle.tsc_config.specs.Reading.{reading}
+use Rattle.tsc_config.specs.Values.{config_of}
+use Rattle.tsc_config.proofs.FaultSets.{as_well}
+use Rattle.tsc_config.proofs.Whole.{text_least}
+use Rattle.tsc_config.specs.declared.config.Config.{Config}
+use Rattle.tsc_config.specs.declared.fault.ConfigFault.{ConfigFault}
+use Rattle.tsc_config.specs.declared.fault.ConfigFault.TheVariants.{NotToml, UnknownKey, MissingKey, WrongType, TooFewTraces, Policy}
+use Rattle.tsc_config.specs.declared.kinds.ChoiceKey.TheVariants as choice_is
+use Rattle.tsc_config.specs.declared.kinds.PolicyType.{PolicyType}
+use Rattle.tsc_config.specs.declared.kinds.PolicyType.TheVariants as type_is
+use Rattle.tsc_config.specs.declared.kinds.TableKind.{TableKind}
+use Rattle.tsc_config.specs.declared.kinds.TableKind.TheVariants as table_is
+use Rattle.tsc_config.specs.declared.policy_settings.ValueKind.{ValueKind}
+use Rattle.tsc_config.specs.declared.policy_settings.ValueKind.TheVariants as value_is
+
+-- ---- lists of one fault, of several sets
+
+empty : (fault : ConfigFault) → Contains [] fault → ⊥
+empty fault (k, h, e) = absurd (omega (arith, h))
+
+none : ListsAll (λ fault. ⊥) []
+none fault = (λ c. empty fault c, λ h. elim h [ ])
+
+-- one fault alone
+one : (found : ConfigFault) → ListsAll (λ fault. fault ≡ found) (found ∷ [])
+one found fault = (there, λ e. (0, omega arith, sym e))
+  where
+    there : Contains (found ∷ []) fault → fault ≡ found
+    there (zero, h, e) = sym e
+    there (suc n, h, e) = absurd (omega (arith, h))
+
+-- a row with one fault at most
+row : (a : Option ConfigFault) → ListsAll (λ fault. a ≡ Some fault) (listed a)
+row None fault = (λ c. absurd (empty fault c), λ e. cc)
+row (Some found) fault = (λ c. ap Some (sym ((one found fault).0 c)), λ e. (one found fault).1 (cc e))
+
+-- two lists have what either has
+both : (P Q : ConfigFault → Type 0) (xs ys : List ConfigFault) → ListsAll P xs → ListsAll Q ys → ListsAll (λ fault. P fault ⊎ Q fault) (xs ++ ys)
+both P Q xs ys p q fault = (λ c. there (Contains-append_cases xs ys fault c), back)
+  where
+    there : Contains xs fault ⊎ Contains ys fault → P fault ⊎ Q fault
+    there (inl c) = inl ((p fault).0 c)
+    there (inr c) = inr ((q fault).0 c)
+
+    back : P fault ⊎ Q fault → Contains (xs ++ ys) fault
+    back (inl h) = Contains-append_left xs ys fault ((p fault).1 h)
+    back (inr h) = Contains-append_right xs ys fault ((q fault).1 h)
+
+-- the same set, said otherwise
+same : (P Q : ConfigFault → Type 0) (xs : List ConfigFault) → ((fault : ConfigFault) → P fault → Q fault) → ((fault : ConfigFault) → Q fault → P fault) → ListsAll P xs → ListsAll Q xs
+same P Q xs there back p fault = (λ c. there fault ((p fault).0 c), λ h. (p fault).1 (back fault h))
+
+-- the same list, written otherwise
+written : (P : ConfigFault → Type 0) (xs ys : List ConfigFault) → xs ≡ ys → ListsAll P xs → ListsAll P ys
+written P xs ys e p = subst (λ (zs : List ConfigFault). ListsAll P zs) e p
+
+ended : (P : ConfigFault → Type 0) (xs : List ConfigFault) → ListsAll P xs → ListsAll P (xs ++ [])
+ended P xs p = written P xs (xs ++ []) (sym (append-nil xs)) p
+
+-- a value that is looked at only where a key has this value
+branch : (P Q : ConfigFault → Type 0) (r : Bool) (xs ys : List ConfigFault) → ListsAll P xs → ListsAll Q ys
+    → ListsAll (λ fault. ((r ≡ true) × P fault) ⊎ ((r ≡ false) × Q fault)) (if r then xs else ys)
+branch P Q true xs ys p q = same P _ xs (λ fault h. inl (refl, h)) taken p
+  where
+    taken : (fault : ConfigFault) → ((true ≡ true) × P fault) ⊎ ((true ≡ false) × Q fault) → P fault
+    taken fault (inl (e, h)) = h
+    taken fault (inr (e, h)) = cc
+branch P Q false xs ys p q = same Q _ ys (λ fault h. inr (refl, h)) taken q
+  where
+    taken : (fault : ConfigFault) → ((false ≡ true) × P fault) ⊎ ((false ≡ false) × Q fault) → Q fault
+    taken fault (inl (e, h)) = cc
+    taken fault (inr (e, h)) = h
+
+-- ---- keys and values
+
+unknown_is : (r : Bool) (fault : ConfigFault) → (if r then Some UnknownKey else None) ≡ Some fault → Some UnknownKey ≡ Some fault
+unknown_is true fault e = e
+unknown_is false fault e = cc
+
+-- one key more
+unknown_one : (kind : TableKind) (rest : Members) (r : Bool) → ListsAll (λ fault. unknown_fault kind rest ≡ Some fault) (unknown_faults kind rest)
+    → ListsAll (λ fault. (if not r || has_unknown_key kind rest then Some UnknownKey else None) ≡ Some fault) (if r then unknown_faults kind rest else UnknownKey ∷ unknown_faults kind rest)
+unknown_one kind rest true others = others
+unknown_one kind rest false others =
+    same (λ fault. (Some UnknownKey ≡ Some fault) ⊎ (unknown_fault kind rest ≡ Some fault)) (λ fault. Some UnknownKey ≡ Some fault) (UnknownKey ∷ unknown_faults kind rest) first (λ fault e. inl e)
+    (both (λ fault. Some UnknownKey ≡ Some fault) (λ fault. unknown_fault kind rest ≡ Some fault) (listed (Some UnknownKey)) (unknown_faults kind rest) (row (Some UnknownKey)) others)
+  where
+    first : (fault : ConfigFault) → (Some UnknownKey ≡ Some fault) ⊎ (unknown_fault kind rest ≡ Some fault) → Some UnknownKey ≡ Some fault
+    first fault (inl e) = e
+    first fault (inr e) = unknown_is (has_unknown_key kind rest) fault e
+
+unknown_all : (kind : TableKind) (members : Members) → ListsAll (λ fault. unknown_fault kind members ≡ Some fault) (unknown_faults kind members)
+unknown_all kind no_members = row None
+unknown_all kind (member key value rest) = unknown_one kind rest (is_key kind key) (unknown_all kind rest)
+
+optional_all : (Has : Data → ConfigFault → Type 0) (f : Data → List ConfigFault) → ((value : Data) → ListsAll (Has value) (f value)) → (at : Option Data) → ListsAll (OptionalHas Has at) (optional_faults f at)
+optional_all Has f each None = none
+optional_all Has f each (Some value) = each value
+
+required_all : (Has : Data → ConfigFault → Type 0) (f : Data → List ConfigFault) → ((value : Data) → ListsAll (Has value) (f value)) → (at : Option Data) → ListsAll (RequiredHas Has at) (required_faults f at)
+required_all Has f each None = one MissingKey
+required_all Has f each (Some value) = each value
+
+items_all : (f : Data → Option ConfigFault) (items : Items) → ListsAll (SomeItemHas f items) (items_faults f items)
+items_all f no_items = none
+items_all f (item value rest) = both (λ fault. f value ≡ Some fault) (SomeItemHas f rest) _ _ (row (f value)) (items_all f rest)
+
+value_all : (kind : ValueKind) (value : Data) → ListsAll (ValueHas kind value) (value_faults kind value)
+value_all (value_is.Array kind) (array items) = items_all (item_fault kind) items
+value_all (value_is.Array kind) _ = one WrongType
+value_all kind value = row (wanted_fault kind value)
+
+key_all : (r : Bool) (kind : ValueKind) (at : Option Data) → ListsAll (KeyHas r kind at) (if r then required_faults (value_faults kind) at else optional_faults (value_faults kind) at)
+key_all true kind at = required_all (ValueHas kind) (value_faults kind) (value_all kind) at
+key_all false kind at = optional_all (ValueHas kind) (value_faults kind) (value_all kind) at
+
+rows_all : (rows : List Setting) (members : Members) → ListsAll (SomeSettingHas rows members) (rows_faults rows members)
+rows_all [] members = none
+rows_all (s ∷ rest) members =
+    both (KeyHas s.is_required s.value (get_member s.name members)) (SomeSettingHas rest members) _ _ (key_all s.is_required s.value (get_member s.name members)) (rows_all rest members)
+
+-- a row whose value has one fault at most
+single : (f : Data → Option ConfigFault) (at : Option Data) → ListsAll (λ fault. optional f at ≡ Some fault) (optional_faults (λ value. listed (f value)) at)
+single f None = row None
+single f (Some value) = row (f value)
+
+single_required : (f : Data → Option ConfigFault) (at : Option Data) → ListsAll (λ fault. required f at ≡ Some fault) (required_faults (λ value. listed (f value)) at)
+single_required f None = row (Some MissingKey)
+single_required f (Some value) = row (f value)
+
+-- ---- policies
+
+settings_all : (kind : PolicyType) (value : Data) → ListsAll (SettingsHave kind value) (settings_faults (table_is.Settings kind) (settings kind) value)
+settings_all kind (table members) = both (λ fault. unknown_fault (table_is.Settings kind) members ≡ Some fault) (RowsHave kind members) _ _ (unknown_all (table_is.Settings kind) members) (rows_all (settings kind) members)
+settings_all kind _ = one WrongType
+
+-- a policy table beside `name` and `type`
+typed_all : (found : Option PolicyType) (members : Members) (Nested : ConfigFault → Type 0) (nested : List ConfigFault) → ListsAll Nested nested
+    → ListsAll (TypedHas found members Nested) (typed_faults found members ++ (if is_joined found then nested else []))
+typed_all None members Nested nested n = none
+typed_all (Some kind) members Nested nested n =
+    let keys = unknown_faults (table_is.Policy kind) members in
+    let own = own_faults kind members in
+    let deeper : List ConfigFault = if is_joined (Some kind) then nested else [] in
+    written (TypedHas (Some kind) members Nested) (keys ++ (own ++ deeper)) ((keys ++ own) ++ deeper) (sym (append_assoc keys own deeper))
+    (both (λ fault. unknown_fault (table_is.Policy kind) members ≡ Some fault) (SettingsAtHave kind members Nested) keys (own ++ deeper) (unknown_all (table_is.Policy kind) members) (of kind))
+  where
+    of : (k : PolicyType) → ListsAll (SettingsAtHave k members Nested) (own_faults k members ++ (if is_joined (Some k) then nested else []))
+    of type_is.AlwaysSample = none
+    of type_is.And = n
+    of type_is.Not = n
+    of type_is.Drop = n
+    of k =
+        ended (RequiredHas (SettingsHave k) (get_member (type_name k) members)) (required_faults (settings_faults (table_is.Settings k) (settings k)) (get_member (type_name k) members))
+        (required_all (SettingsHave k) (settings_faults (table_is.Settings k) (settings k)) (settings_all k) (get_member (type_name k) members))
+
+head_all : (members : Members) → ListsAll (λ fault. (required text_fault (get_member (codes "name") members) ≡ Some fault) ⊎ (required type_fault (get_member (codes "type") members) ≡ Some fault)) (rows_faults head_settings members)
+head_all members =
+    let name = get_member (codes "name") members in
+    let kind = get_member (codes "type") members in
+    both (λ fault. required text_fault name ≡ Some fault) (λ fault. required type_fault kind ≡ Some fault) _ _ (single_required text_fault name)
+    (ended (λ fault. required type_fault kind ≡ Some fault) _ (single_required type_fault kind))
+
+policy_table_all : (members : Members) (Nested : ConfigFault → Type 0) (nested : List ConfigFault) → ListsAll Nested nested → ListsAll (PolicyTableHas members Nested) (policy_table_faults members nested)
+policy_table_all members Nested nested n =
+    let head = rows_faults head_settings members in
+    let rest = typed_faults (type_at members) members in
+    let deeper : List ConfigFault = if is_joined (type_at members) then nested else [] in
+    written (PolicyTableHas members Nested) (head ++ (rest ++ deeper)) ((head ++ rest) ++ deeper) (sym (append_assoc head rest deeper))
+    (both (λ fault. (required text_fault (get_member (codes "name") members) ≡ Some fault) ⊎ (required type_fault (get_member (codes "type") members) ≡ Some fault))
+    (TypedHas (type_at members) members Nested) head (rest ++ deeper) (head_all members) (typed_all (type_at members) members Nested nested n))
+
+mutual
+  policies_all : (value : Data) → ListsAll (PoliciesHave value) (spec.policies_faults value)
+  policies_all (array items) = policy_items_all items
+  policies_all _ = one WrongType
+
+  policy_items_all : (items : Items) → ListsAll (SomePolicyHas items) (spec.policy_items_faults items)
+  policy_items_all no_items = none
+  policy_items_all (item value rest) = both (PolicyHas value) (SomePolicyHas rest) _ _ (policy_all value) (policy_items_all rest)
+
+  policy_all : (value : Data) → ListsAll (PolicyHas value) (spec.policy_faults value)
+  policy_all (table members) =
+      policy_table_all members (PartsHave (join_at members) members) (spec.parts_faults (join_at members) members) (parts_all (join_at members) members)
+  policy_all _ = one WrongType
+
+  parts_all : (join : Join) (members : Members) → ListsAll (PartsHave join members) (spec.parts_faults join members)
+  parts_all join no_members = one MissingKey
+  parts_all join (member key value rest) =
+      branch (PartsSettingsHave join value) (PartsHave join rest) (bytes_eq key (join_name join)) _ _ (parts_settings_all join value) (parts_all join rest)
+
+  parts_settings_all : (join : Join) (value : Data) → ListsAll (PartsSettingsHave join value) (spec.parts_settings_faults join value)
+  parts_settings_all join (table members) =
+      both (λ fault. unknown_fault (table_is.Settings (join_type join)) members ≡ Some fault) (SubPoliciesHave join members) _ _ (unknown_all (table_is.Settings (join_type join)) members) (sub_policies_all join members)
+  parts_settings_all join _ = one WrongType
+
+  sub_policies_all : (join : Join) (members : Members) → ListsAll (SubPoliciesHave join members) (spec.sub_policies_faults join members)
+  sub_policies_all join no_members = one MissingKey
+  sub_policies_all join (member key value rest) =
+      branch (SubValueHas join value) (SubPoliciesHave join rest) (bytes_eq key (sub_key join)) _ _ (sub_value_all join value) (sub_policies_all join rest)
+
+  sub_value_all : (join : Join) (value : Data) → ListsAll (SubValueHas join value) (spec.sub_value_faults join value)
+  sub_value_all join_is.And (array items) = policy_items_all items
+  sub_value_all join_is.Not (table members) =
+      policy_table_all members (PartsHave (join_at members) members) (spec.parts_faults (join_at members) members) (parts_all (join_at members) members)
+  sub_value_all join_is.Drop (array items) = policy_items_all items
+  sub_value_all _ _ = one WrongType
+
+-- ---- the whole text
+
+cache_all : (value : Data) → ListsAll (CacheHas value) (settings_faults table_is.DecisionCache cache_settings value)
+cache_all (table members) =
+    let f = integer_fault (pos 0) (pos 1000000) in
+    let sampled = get_member (codes "sampled_cache_size") members in
+    let other = get_member (codes "non_sampled_cache_size") members in
+    both (λ fault. unknown_fault table_is.DecisionCache members ≡ Some fault) _ _ _ (unknown_all table_is.DecisionCache members)
+    (both (λ fault. optional f sampled ≡ Some fault) (λ fault. optional f other ≡ Some fault) _ _ (single f sampled) (ended (λ fault. optional f other ≡ Some fault) _ (single f other)))
+cache_all _ = one WrongType
+
+-- rows, one or more
+last_row : (f : Data → Option ConfigFault) (at : Option Data) → ListsAll (λ fault. optional f at ≡ Some fault) (optional_faults (λ value. listed (f value)) at ++ [])
+last_row f at = ended (λ fault. optional f at ≡ Some fault) (optional_faults (λ value. listed (f value)) at) (single f at)
+
+next_row : (f : Data → Option ConfigFault) (at : Option Data) (Q : ConfigFault → Type 0) (ys : List ConfigFault) → ListsAll Q ys
+    → ListsAll (λ fault. (optional f at ≡ Some fault) ⊎ Q fault) (optional_faults (λ value. listed (f value)) at ++ ys)
+next_row f at Q ys q = both (λ fault. optional f at ≡ Some fault) Q (optional_faults (λ value. listed (f value)) at) ys (single f at) q
+
+numbers_all : (members : Members) → ListsAll (NumbersHave members) (rows_faults number_settings members)
+numbers_all members =
+    next_row (integer_fault (pos 1) (pos 3600000)) (get_member (codes "decision_wait_ms") members) _ _
+    (next_row (integer_fault (pos 0) (pos 3600000)) (get_member (codes "root_wait_ms") members) _ _
+    (next_row (integer_fault (pos 1) (pos 1000000)) (get_member (codes "num_traces") members) _ _
+    (next_row (integer_fault (pos 1) (pos 64)) (get_member (codes "lanes") members) _ _
+    (next_row (integer_fault (pos 1) (pos 64)) (get_member (codes "shards") members) _ _
+    (last_row (integer_fault (pos 1) (pos 60000)) (get_member (codes "tick_ms") members))))))
+
+sizes_all : (members : Members) → ListsAll (SizesHave members) (rows_faults size_settings members)
+sizes_all members =
+    next_row (integer_fault (pos 1) (pos 65536)) (get_member (codes "queue_capacity") members) _ _
+    (next_row (integer_fault (pos 1) (pos 65536)) (get_member (codes "export_capacity") members) _ _
+    (next_row (integer_fault (pos 1) (pos 8192)) (get_member (codes "send_batch_size") members) _ _
+    (last_row (integer_fault (pos 1) (pos 65536)) (get_member (codes "max_connections") members))))
+
+-- what is no number
+abbrev Listens : Members → ConfigFault → Type 0
+Listens members fault = optional text_fault (get_member (codes "listen") members) ≡ Some fault
+
+abbrev Gzip : Members → ConfigFault → Type 0
+Gzip members fault = optional truth_fault (get_member (codes "accept_gzip") members) ≡ Some fault
+
+abbrev Others : Members → ConfigFault → Type 0
+Others members fault = Listens members fault ⊎ (Gzip members fault ⊎ ChoicesHave members fault)
+
+others_all : (members : Members) → ListsAll (Others members) (rows_faults other_settings members)
+others_all members =
+    next_row text_fault (get_member (codes "listen") members) _ _
+    (next_row truth_fault (get_member (codes "accept_gzip") members) _ _
+    (next_row (wanted_fault (value_is.Choice choice_is.QueueFull)) (get_member (codes "queue_full") members) _ _
+    (next_row (wanted_fault (value_is.Choice choice_is.OutputFault)) (get_member (codes "output_fault") members) _ _
+    (last_row truth_fault (get_member (codes "close_at_end_of_input") members)))))
+
+-- the rows of some settings and of others
+rows_append : (xs ys : List Setting) (members : Members) → rows_faults (xs ++ ys) members ≡ rows_faults xs members ++ rows_faults ys members
+rows_append [] ys members = refl
+rows_append (s ∷ rest) ys members =
+    ap (λ (zs : List ConfigFault). setting_faults s members ++ zs) (rows_append rest ys members) ∙ sym (append_assoc (setting_faults s members) (rows_faults rest members) (rows_faults ys members))
+
+abbrev Top : Members → ConfigFault → Type 0
+Top members fault = NumbersHave members fault ⊎ (SizesHave members fault ⊎ Others members fault)
+
+top_all : (members : Members) → ListsAll (Top members) (rows_faults top_settings members)
+top_all members =
+    written (Top members) (rows_faults number_settings members ++ (rows_faults size_settings members ++ rows_faults other_settings members)) (rows_faults top_settings members)
+    (sym (rows_append number_settings (size_settings ++ other_settings) members ∙ ap (λ (zs : List ConfigFault). rows_faults number_settings members ++ zs) (rows_append size_settings other_settings members)))
+    (both (NumbersHave members) (λ fault. SizesHave members fault ⊎ Others members fault) _ _ (numbers_all members) (both (SizesHave members) (Others members) _ _ (sizes_all members) (others_all members)))
+
+abbrev Tables : Members → ConfigFault → Type 0
+Tables members fault = OptionalHas CacheHas (get_member (codes "decision_cache") members) fault ⊎ RequiredHas PoliciesHave (get_member (codes "policies") members) fault
+
+abbrev Grouped : Members → ConfigFault → Type 0
+Grouped members fault = (unknown_fault table_is.Config members ≡ Some fault) ⊎ (Top members fault ⊎ Tables members fault)
+
+ungrouped : (members : Members) (fault : ConfigFault) → Grouped members fault → HasFault members fault
+ungrouped members fault (inl h) = inl h
+ungrouped members fault (inr (inl (inl h))) = inr (inl h)
+ungrouped members fault (inr (inl (inr (inl h)))) = inr (inr (inl h))
+ungrouped members fault (inr (inl (inr (inr (inl h))))) = inr (inr (inr (inl h)))
+ungrouped members fault (inr (inl (inr (inr (inr (inl h)))))) = inr (inr (inr (inr (inl h))))
+ungrouped members fault (inr (inl (inr (inr (inr (inr h)))))) = inr (inr (inr (inr (inr (inl h)))))
+ungrouped members fault (inr (inr h)) = inr (inr (inr (inr (inr (inr h)))))
+
+grouped : (members : Members) (fault : ConfigFault) → HasFault members fault → Grouped members fault
+grouped members fault (inl h) = inl h
+grouped members fault (inr (inl h)) = inr (inl (inl h))
+grouped members fault (inr (inr (inl h))) = inr (inl (inr (inl h)))
+grouped members fault (inr (inr (inr (inl h)))) = inr (inl (inr (inr (inl h))))
+grouped members fault (inr (inr (inr (inr (inl h))))) = inr (inl (inr (inr (inr (inl h)))))
+grouped members fault (inr (inr (inr (inr (inr (inl h)))))) = inr (inl (inr (inr (inr (inr h)))))
+grouped members fault (inr (inr (inr (inr (inr (inr h)))))) = inr (inr h)
+
+table_all : (members : Members) → ListsAll (HasFault members) (table_faults members)
+table_all members =
+    same (Grouped members) (HasFault members) (table_faults members) (ungrouped members) (grouped members)
+    (both (λ fault. unknown_fault table_is.Config members ≡ Some fault) (λ fault. Top members fault ⊎ Tables members fault) _ _ (unknown_all table_is.Config members)
+    (both (Top members) (Tables members) _ _ (top_all members)
+    (both (OptionalHas CacheHas (get_member (codes "decision_cache") members)) (RequiredHas PoliciesHave (get_member (codes "policies") members)) _ _
+    (optional_all CacheHas (settings_faults table_is.DecisionCache cache_settings) cache_all (get_member (codes "decision_cache") members))
+    (required_all PoliciesHave spec.policies_faults policies_all (get_member (codes "policies") members)))))
+
+few_all : (few : Type 0) (r : Bool) → (r ≡ true → few) → (few → r ≡ true) → ListsAll (λ fault. (fault ≡ TooFewTraces) × few) (if r then TooFewTraces ∷ [] else [])
+few_all few true to from fault = (λ c. ((one TooFewTraces fault).0 c, to refl), λ h. (one TooFewTraces fault).1 h.0)
+few_all few false to from fault = (λ c. absurd (empty fault c), λ h. let wrong : false ≡ true = from h.1 in cc)
+
+of_policies_all : (found : Option PolicyFault) → ListsAll (λ fault. (p : PolicyFault) × (found ≡ Some p) × (fault ≡ Policy p)) (of_policies found)
+of_policies_all None fault = (λ c. absurd (empty fault c), λ h. let wrong : None ≡ Some h.0 = h.1 in cc)
+of_policies_all (Some p) fault = (λ c. (p, refl, (one (Policy p) fault).0 c), back)
+  where
+    back : (q : PolicyFault) × (Some p ≡ Some q) × (fault ≡ Policy q) → Contains (Policy p ∷ []) fault
+    back (q, e, f) = let here : p ≡ q = cc in (one (Policy p) fault).1 (rw here f)
+
+given_all : (config : Config) → ListsAll (λ fault. ((fault ≡ TooFewTraces) × (config.num_traces < config.shards))
+    ⊎ ((p : PolicyFault) × (fault_of_policies config.policies ≡ Some p) × (fault ≡ Policy p))) (given_faults config)
+given_all config =
+    both (λ fault. (fault ≡ TooFewTraces) × (config.num_traces < config.shards)) (λ fault. (p : PolicyFault) × (fault_of_policies config.policies ≡ Some p) × (fault ≡ Policy p)) _ _
+    (few_all (config.num_traces < config.shards) (nat_lt config.num_traces config.shards) (λ e. grind (arith, nat_tests)) (λ e. grind (arith, nat_tests)))
+    (of_policies_all (fault_of_policies config.policies))
+
+document_all : (document : Option Members) → ListsAll (DocumentHas document) (document_faults document)
+document_all None = one NotToml
+document_all (Some members) =
+    both (HasFault members) (λ fault. ((fault ≡ TooFewTraces) × ((config_of members).num_traces < (config_of members).shards))
+    ⊎ ((p : PolicyFault) × (fault_of_policies (config_of members).policies ≡ Some p) × (fault ≡ Policy p))) _ _ (table_all members) (given_all (config_of members))
+
+pub text_all : (text : List ℕ) → ListsAll (TextHas text) (text_faults text)
+text_all text = document_all (parse_document text)
+
+-- ---- what follows of the text's reading
+
+pub least_listed : (text : List ℕ) → IsLeastOf (Contains (text_faults text)) (result_err (reading text))
+least_listed text = as_well (TextHas text) (Contains (text_faults text)) (result_err (reading text)) (λ fault h. (text_all text fault).1 h) (λ fault c. (text_all text fault).0 c) (text_least text)
+
+no_fault : (faults : List ConfigFault) (answer : Result Config ConfigFault) → IsLeastOf (Contains faults) (result_err answer) → (faults ≡ []) ↔ IsOk answer
+no_fault [] (Ok config) least = (λ e. refl, λ h. refl)
+no_fault [] (Err fault) least = (λ e. absurd (empty fault (least.is_one fault refl)), λ h. cc)
+no_fault (first ∷ rest) (Ok config) least = (λ e. cc, λ h. let f = least.is_least first (0, omega arith, refl) in let wrong : None ≡ Some f.0 = f.1 in cc)
+no_fault (first ∷ rest) (Err fault) least = (λ e. cc, λ h. cc)
+
+pub none_listed : (text : List ℕ) → (text_faults text ≡ []) ↔ IsOk (reading text)
+none_listed text = no_fault (text_faults text) (reading text) (least_listed text)

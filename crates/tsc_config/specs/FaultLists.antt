@@ -1,0 +1,232 @@
+-- Every fault of a configuration: a list with one for each place that has one, in the order of the rows.
+use Rattle.std.specs.Prelude.{◌≡◌, ◌++◌, ◌↔◌, ℕ, pos, Bool, true, false, List, [], ◌∷◌, codes, Option, None, Some, Ok, Result, if◌then◌else◌, nat_lt, map}
+use Rattle.std.specs.List.{Contains}
+use Rattle.std.specs.Result.{result_err}
+use Rattle.std.specs.Str.{bytes_eq}
+use Rattle.toml.specs.Data.{Data, array, table, Items, no_items, item, Members, no_members, member, get_member}
+use Rattle.toml.specs.Parse.{parse_document}
+use Rattle.policy_tree.specs.Faults.{fault_of_policies}
+use Rattle.policy_tree.specs.declared.fault.PolicyFault.{PolicyFault}
+use Rattle.policy_tree.specs.declared.policy.Join.{Join}
+use Rattle.policy_tree.specs.declared.policy.Join.TheVariants as join_is
+use Rattle.tsc_config.specs.PolicySettings.{Setting, required, optional, settings}
+use Rattle.tsc_config.specs.Keys.{NumberRow, number_row, ChoiceRow, choice_row, is_key, type_name, type_at, join_type, join_name, sub_key, join_at}
+use Rattle.tsc_config.specs.Faults.{item_fault, wanted_fault}
+use Rattle.tsc_config.specs.FaultSets.{IsLeastOf, TextHas}
+use Rattle.tsc_config.specs.Reading.{reading}
+use Rattle.tsc_config.specs.Values.{config_of}
+use Rattle.tsc_config.specs.declared.config.Config.{Config}
+use Rattle.tsc_config.specs.declared.fault.ConfigFault.{ConfigFault}
+use Rattle.tsc_config.specs.declared.fault.ConfigFault.TheVariants.{NotToml, UnknownKey, MissingKey, WrongType, TooFewTraces, Policy}
+use Rattle.tsc_config.specs.declared.findings.Finding.{Finding}
+use Rattle.tsc_config.specs.declared.kinds.ChoiceKey.{ChoiceKey}
+use Rattle.tsc_config.specs.declared.kinds.ChoiceKey.TheVariants as choice_is
+use Rattle.tsc_config.specs.declared.kinds.NumberKey.{NumberKey}
+use Rattle.tsc_config.specs.declared.kinds.NumberKey.TheVariants as number_is
+use Rattle.tsc_config.specs.declared.kinds.PolicyType.{PolicyType}
+use Rattle.tsc_config.specs.declared.kinds.PolicyType.TheVariants as type_is
+use Rattle.tsc_config.specs.declared.kinds.TableKind.{TableKind}
+use Rattle.tsc_config.specs.declared.kinds.TableKind.TheVariants as table_is
+use Rattle.tsc_config.specs.declared.policy_settings.ValueKind.{ValueKind}
+use Rattle.tsc_config.specs.declared.policy_settings.ValueKind.TheVariants as value_is
+
+-- the faults of findings, in order
+abbrev pub faults_in : List Finding → List ConfigFault
+faults_in findings = map (λ (f : Finding). f.fault) findings
+
+-- a fault, where there is one
+abbrev pub listed : Option ConfigFault → List ConfigFault
+listed None = []
+listed (Some fault) = fault ∷ []
+
+-- one for each key that tables of this kind don't have
+abbrev pub unknown_faults : TableKind → Members → List ConfigFault
+unknown_faults kind no_members = []
+unknown_faults kind (member key value rest) = if is_key kind key then unknown_faults kind rest else UnknownKey ∷ unknown_faults kind rest
+
+-- one for each item that has one
+abbrev pub items_faults : (Data → Option ConfigFault) → Items → List ConfigFault
+items_faults fault_of no_items = []
+items_faults fault_of (item value rest) = listed (fault_of value) ++ items_faults fault_of rest
+
+-- those of a value of this kind
+abbrev pub value_faults : ValueKind → Data → List ConfigFault
+value_faults (value_is.Array kind) (array items) = items_faults (item_fault kind) items
+value_faults kind value = listed (wanted_fault kind value)
+
+-- those of what stands at a key that may be missing
+abbrev pub optional_faults : (Data → List ConfigFault) → Option Data → List ConfigFault
+optional_faults faults_of None = []
+optional_faults faults_of (Some value) = faults_of value
+
+-- those of what stands at a required key
+abbrev pub required_faults : (Data → List ConfigFault) → Option Data → List ConfigFault
+required_faults faults_of None = MissingKey ∷ []
+required_faults faults_of (Some value) = faults_of value
+
+-- those of the row of one setting
+abbrev pub setting_faults : Setting → Members → List ConfigFault
+setting_faults s members =
+    if s.is_required then required_faults (value_faults s.value) (get_member s.name members) else optional_faults (value_faults s.value) (get_member s.name members)
+
+-- those of the rows of these settings
+abbrev pub rows_faults : List Setting → Members → List ConfigFault
+rows_faults [] given = []
+rows_faults (s ∷ rest) given = setting_faults s given ++ rows_faults rest given
+
+-- those of a table of this kind with these settings
+abbrev pub settings_faults : TableKind → List Setting → Data → List ConfigFault
+settings_faults kind rows (table members) = unknown_faults kind members ++ rows_faults rows members
+settings_faults kind rows _ = WrongType ∷ []
+
+-- ---- policies
+
+-- what every policy table has to have
+abbrev pub head_settings : List Setting
+head_settings = required (codes "name") value_is.Text ∷ required (codes "type") value_is.PolicyType ∷ []
+
+-- a type is made of other policies
+abbrev pub is_joined : Option PolicyType → Bool
+is_joined (Some type_is.And) = true
+is_joined (Some type_is.Not) = true
+is_joined (Some type_is.Drop) = true
+is_joined _ = false
+
+-- those of the settings of a policy table of this type, where it isn't made of others
+abbrev pub own_faults : PolicyType → Members → List ConfigFault
+own_faults type_is.AlwaysSample _ = []
+own_faults type_is.And _ = []
+own_faults type_is.Not _ = []
+own_faults type_is.Drop _ = []
+own_faults kind members = required_faults (settings_faults (table_is.Settings kind) (settings kind)) (get_member (type_name kind) members)
+
+-- those of a policy table beside `name`, `type` and the policies that it is made of: only where its type is known
+abbrev pub typed_faults : Option PolicyType → Members → List ConfigFault
+typed_faults None _ = []
+typed_faults (Some kind) members = unknown_faults (table_is.Policy kind) members ++ own_faults kind members
+
+-- those of a policy table but for the policies that it is made of
+abbrev pub head_faults : Members → List ConfigFault
+head_faults members = rows_faults head_settings members ++ typed_faults (type_at members) members
+
+-- those of a policy table: `nested` are those of the settings of a type that is made of others
+abbrev pub policy_table_faults : Members → (nested : List ConfigFault) → List ConfigFault
+policy_table_faults members nested = head_faults members ++ (if is_joined (type_at members) then nested else [])
+
+abbrev mutual
+  -- an array of policy tables is wanted
+  pub policies_faults : Data → List ConfigFault
+  policies_faults (array items) = policy_items_faults items
+  policies_faults _ = WrongType ∷ []
+
+  -- those of some policies
+  pub policy_items_faults : Items → List ConfigFault
+  policy_items_faults no_items = []
+  policy_items_faults (item value rest) = policy_faults value ++ policy_items_faults rest
+
+  -- a policy table is wanted
+  pub policy_faults : Data → List ConfigFault
+  policy_faults (table members) = policy_table_faults members (parts_faults (join_at members) members)
+  policy_faults _ = WrongType ∷ []
+
+  -- in a policy table the settings of a policy that is joined so are wanted
+  pub parts_faults : Join → Members → List ConfigFault
+  parts_faults join no_members = MissingKey ∷ []
+  parts_faults join (member key value rest) = if bytes_eq key (join_name join) then parts_settings_faults join value else parts_faults join rest
+
+  -- the settings of such a policy are wanted
+  pub parts_settings_faults : Join → Data → List ConfigFault
+  parts_settings_faults join (table members) = unknown_faults (table_is.Settings (join_type join)) members ++ sub_policies_faults join members
+  parts_settings_faults join _ = WrongType ∷ []
+
+  -- in its settings the policies that are joined are wanted
+  pub sub_policies_faults : Join → Members → List ConfigFault
+  sub_policies_faults join no_members = MissingKey ∷ []
+  sub_policies_faults join (member key value rest) = if bytes_eq key (sub_key join) then sub_value_faults join value else sub_policies_faults join rest
+
+  -- an array of policy tables is wanted, or of a `not` one policy table
+  pub sub_value_faults : Join → Data → List ConfigFault
+  sub_value_faults join_is.And (array items) = policy_items_faults items
+  sub_value_faults join_is.Not (table members) = policy_table_faults members (parts_faults (join_at members) members)
+  sub_value_faults join_is.Drop (array items) = policy_items_faults items
+  sub_value_faults _ _ = WrongType ∷ []
+
+-- ---- the whole text
+
+-- the setting of a key of a whole number, and of one of two texts
+abbrev pub number_setting : NumberKey → Setting
+number_setting key = optional (number_row key).name (value_is.Integer (pos (number_row key).lowest) (pos (number_row key).greatest))
+
+abbrev pub choice_setting : ChoiceKey → Setting
+choice_setting key = optional (choice_row key).name (value_is.Choice key)
+
+-- how many traces, lanes and shards there are, and for how long they wait
+abbrev pub number_settings : List Setting
+number_settings =
+    number_setting number_is.DecisionWait
+    ∷ number_setting number_is.RootWait
+    ∷ number_setting number_is.NumTraces
+    ∷ number_setting number_is.Lanes
+    ∷ number_setting number_is.Shards
+    ∷ number_setting number_is.Tick
+    ∷ []
+
+-- the sizes of queues and batches, and how many connections may be open
+abbrev pub size_settings : List Setting
+size_settings =
+    number_setting number_is.QueueCapacity
+    ∷ number_setting number_is.ExportCapacity
+    ∷ number_setting number_is.SendBatchSize
+    ∷ number_setting number_is.MaxConnections
+    ∷ []
+
+-- those that are no numbers
+abbrev pub other_settings : List Setting
+other_settings =
+    optional (codes "listen") value_is.Text
+    ∷ optional (codes "accept_gzip") value_is.Truth
+    ∷ choice_setting choice_is.QueueFull
+    ∷ choice_setting choice_is.OutputFault
+    ∷ optional (codes "close_at_end_of_input") value_is.Truth
+    ∷ []
+
+-- the settings of a configuration that are no tables
+abbrev pub top_settings : List Setting
+top_settings = number_settings ++ (size_settings ++ other_settings)
+
+-- those of the caches of decisions
+abbrev pub cache_settings : List Setting
+cache_settings =
+    optional (codes "sampled_cache_size") (value_is.Integer (pos 0) (pos 1000000)) ∷ optional (codes "non_sampled_cache_size") (value_is.Integer (pos 0) (pos 1000000)) ∷ []
+
+-- the faults of the tables at the keys of tables
+abbrev pub tables_faults : Members → List ConfigFault
+tables_faults members =
+    optional_faults (settings_faults table_is.DecisionCache cache_settings) (get_member (codes "decision_cache") members)
+    ++ required_faults policies_faults (get_member (codes "policies") members)
+
+-- the faults of the table of a configuration
+abbrev pub table_faults : Members → List ConfigFault
+table_faults members = unknown_faults table_is.Config members ++ (rows_faults top_settings members ++ tables_faults members)
+
+-- the fault of policies
+abbrev pub of_policies : Option PolicyFault → List ConfigFault
+of_policies None = []
+of_policies (Some fault) = Policy fault ∷ []
+
+-- those of what the table gives: a shard without a trace, and the policies' own
+abbrev pub given_faults : Config → List ConfigFault
+given_faults config = (if nat_lt config.num_traces config.shards then TooFewTraces ∷ [] else []) ++ of_policies (fault_of_policies config.policies)
+
+-- those of a document, where there is one
+abbrev pub document_faults : Option Members → List ConfigFault
+document_faults None = NotToml ∷ []
+document_faults (Some members) = table_faults members ++ given_faults (config_of members)
+
+-- those of a text
+abbrev pub text_faults : List ℕ → List ConfigFault
+text_faults text = document_faults (parse_document text)
+
+-- the list has the faults of the set, and no others
+abbrev pub ListsAll : (Has : ConfigFault → Type 0) → List ConfigFault → Type 0
+ListsAll Has faults = (fault : ConfigFault) → Contains faults fault ↔ Has fault

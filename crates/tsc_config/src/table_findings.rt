@@ -1,0 +1,130 @@
+//! Every fault of the text of a configuration.
+ghost use Rattle.std.specs.Prelude.{◌≡◌, ◌++◌, Some, IfOk, OnOk, map};
+ghost use Rattle.toml.specs.View.{table_view};
+ghost use Rattle.tsc_config.specs.FaultLists as spec;
+ghost use Rattle.tsc_config.specs.PolicySettings.{setting_of};
+ghost use Rattle.tsc_config.specs.Values.{config_of};
+
+use crate::fault::ConfigFault;
+use crate::finding_texts::policy_fault_text;
+use crate::findings::{Finding, Findings};
+use crate::keys::member;
+use crate::kinds::{ChoiceKey, NumberKey, TableKind};
+use crate::policy_findings::add_policies;
+use crate::policy_settings::{Setting, ValueKind};
+use crate::settings_findings::{add_rows, add_settings, add_unknown};
+use crate::values::{policies_at, positive_by};
+use policy_tree::Policies;
+use std::alloc::{AllocError, Global};
+use toml::Table;
+
+/// Every fault of the text of a configuration, as [`crate::read`] reads it: those of its keys and values, a line for each
+/// place that has one, and then those of what they give, where a value with a fault counts as its key's default. There is
+/// none exactly where `read` gives a configuration, and else `read` refuses for that of least number
+/// ([`crate::laws::lists_each_fault`]). `Err` only where memory was refused.
+pub fn faults(alloc: Global, text: &str) -> Result<Vec<Finding>, AllocError>
+    ensures { IfOk result (λ found. spec.faults_in found.items ≡ spec.text_faults text.now) }
+{
+    let mut findings = Findings::new(alloc);
+    match toml::table_from_str(alloc, text) {
+        Ok(table) => add_table(alloc, &table, &mut findings)?,
+        Err(error) if error.is_memory() => return Err(AllocError),
+        Err(_) => findings.add(ConfigFault::NotToml, String::from_str(alloc, "not TOML")?)?,
+    }
+    Ok(findings.into_vec())
+}
+
+/// Adds the faults of the table of a configuration, and of what it gives.
+fn add_table(alloc: Global, table: &Table, findings: &mut Findings) -> Result<(), AllocError>
+    ensures { OnOk result (findings.new ≡ findings.old ++ spec.document_faults (Some (table_view table.now))) }
+{
+    add_unknown(alloc, "", TableKind::Config, table, findings)?;
+    add_rows(alloc, "", &top_settings(), table, findings)?;
+    add_tables(alloc, table, findings)?;
+    add_given(alloc, table, findings)
+}
+
+/// The settings of a configuration that are no tables.
+fn top_settings() -> [Setting; 15]
+    ensures { map setting_of result ≡ spec.top_settings }
+{
+    [
+        number_setting(NumberKey::DecisionWait),
+        number_setting(NumberKey::RootWait),
+        number_setting(NumberKey::NumTraces),
+        number_setting(NumberKey::Lanes),
+        number_setting(NumberKey::Shards),
+        number_setting(NumberKey::Tick),
+        number_setting(NumberKey::QueueCapacity),
+        number_setting(NumberKey::ExportCapacity),
+        number_setting(NumberKey::SendBatchSize),
+        number_setting(NumberKey::MaxConnections),
+        Setting::Optional("listen", ValueKind::Text),
+        Setting::Optional("accept_gzip", ValueKind::Truth),
+        choice_setting(ChoiceKey::QueueFull),
+        choice_setting(ChoiceKey::OutputFault),
+        Setting::Optional("close_at_end_of_input", ValueKind::Truth),
+    ]
+}
+
+fn number_setting(key: NumberKey) -> Setting
+    ensures { setting_of result ≡ spec.number_setting key }
+{
+    let (name, _, lowest, greatest) = key.row();
+    Setting::Optional(name, ValueKind::Integer(lowest, greatest))
+}
+
+fn choice_setting(key: ChoiceKey) -> Setting
+    ensures { setting_of result ≡ spec.choice_setting key }
+{
+    Setting::Optional(key.row().0, ValueKind::Choice(key))
+}
+
+/// The settings of the caches of decisions.
+fn cache_settings() -> &'static [Setting]
+    ensures { map setting_of result.now ≡ spec.cache_settings }
+{
+    &[
+        Setting::Optional("sampled_cache_size", ValueKind::Integer(0, 1_000_000)),
+        Setting::Optional("non_sampled_cache_size", ValueKind::Integer(0, 1_000_000)),
+    ]
+}
+
+/// Adds the faults of the tables at the keys of tables.
+fn add_tables(alloc: Global, table: &Table, findings: &mut Findings) -> Result<(), AllocError>
+    ensures { OnOk result (findings.new ≡ findings.old ++ spec.tables_faults (table_view table.now)) }
+{
+    if let Some(value) = member(table, "decision_cache") {
+        let kind = TableKind::DecisionCache;
+        add_settings(
+            alloc,
+            "decision_cache",
+            kind,
+            cache_settings(),
+            value,
+            findings,
+        )?;
+    }
+    match member(table, "policies") {
+        Some(value) => add_policies(alloc, value, findings),
+        None => findings.add_missing(alloc, "policies"),
+    }
+}
+
+/// Adds the faults of what the table gives.
+fn add_given(alloc: Global, table: &Table, findings: &mut Findings) -> Result<(), AllocError>
+    ensures { OnOk result (findings.new ≡ findings.old ++ spec.given_faults (config_of (table_view table.now))) }
+{
+    let traces = positive_by(table, NumberKey::NumTraces);
+    if traces < positive_by(table, NumberKey::Shards) {
+        let said = String::from_str(alloc, "num_traces: fewer than shards")?;
+        findings.add(ConfigFault::TooFewTraces, said)?;
+    }
+    match Policies::new(alloc, policies_at(alloc, table)?) {
+        Ok(_) => Ok(()),
+        Err(fault) => {
+            let said = policy_fault_text(alloc, fault)?;
+            findings.add(ConfigFault::Policy(fault), said)
+        }
+    }
+}
