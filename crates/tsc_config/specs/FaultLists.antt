@@ -188,6 +188,7 @@ other_settings =
     ∷ choice_setting choice_is.QueueFull
     ∷ choice_setting choice_is.OutputFault
     ∷ optional (codes "close_at_end_of_input") value_is.Truth
+    ∷ optional (codes "admin") value_is.Text
     ∷ []
 
 -- the settings of a configuration that are no tables

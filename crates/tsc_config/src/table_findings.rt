@@ -45,7 +45,7 @@ fn add_table(alloc: Global, table: &Table, findings: &mut Findings) -> Result<()
 }
 
 /// The settings of a configuration that are no tables.
-fn top_settings() -> [Setting; 15]
+fn top_settings() -> [Setting; 16]
     ensures { map setting_of result ≡ spec.top_settings }
 {
     [
@@ -64,6 +64,7 @@ fn top_settings() -> [Setting; 15]
         choice_setting(ChoiceKey::QueueFull),
         choice_setting(ChoiceKey::OutputFault),
         Setting::Optional("close_at_end_of_input", ValueKind::Truth),
+        Setting::Optional("admin", ValueKind::Text),
     ]
 }
 
