@@ -94,7 +94,7 @@ class Client:
 class Collector:
     """A running `tsc serve`, whose output goes to a file."""
 
-    def __init__(self, program, settings, output=None, limits=()):
+    def __init__(self, program, settings, output=None, limits=(), stdin=subprocess.DEVNULL):
         with socket.socket() as probe:
             probe.bind(("127.0.0.1", 0))
             self.port = probe.getsockname()[1]
@@ -106,7 +106,7 @@ class Collector:
         self.file = open(self.printed, "wb") if output is None else None
         self.process = subprocess.Popen(
             [program, "serve", config],
-            stdin=subprocess.DEVNULL,
+            stdin=stdin,
             stdout=self.file if output is None else output,
             stderr=subprocess.PIPE,
             preexec_fn=lambda: [resource.setrlimit(which, (most, most)) for which, most in limits],
@@ -186,8 +186,8 @@ class Starter:
         self.program = program
         self.started = []
 
-    def __call__(self, settings, output=None, limits=()):
-        collector = Collector(self.program, settings, output, limits)
+    def __call__(self, settings, output=None, limits=(), stdin=subprocess.DEVNULL):
+        collector = Collector(self.program, settings, output, limits, stdin)
         self.started.append(collector)
         return collector
 

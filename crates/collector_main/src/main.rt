@@ -4,6 +4,7 @@
 #![tactic(auto)]
 
 mod configuration;
+mod opening;
 mod program;
 mod validating;
 
@@ -18,10 +19,17 @@ use tsc_script::Reads;
 fn main(rt: HostRuntime) -> ExitCode {
     let mut input = Reads { reader: rt.stdin() };
     let (_, status) = match arguments(&rt) {
-        Ok(arguments) => program(&rt, rt.alloc(), &arguments, &mut input, rt.stdout()),
+        Ok(arguments) => program(
+            &rt,
+            rt.alloc(),
+            &arguments,
+            &mut input,
+            rt.stdin(),
+            rt.stdout(),
+        ),
         Err(error) if error.kind() == ErrorKind::OutOfMemory => (without_memory(rt.stdout()), 5),
         // One isn't UTF-8.
-        Err(_) => program(&rt, rt.alloc(), &[], &mut input, rt.stdout()),
+        Err(_) => program(&rt, rt.alloc(), &[], &mut input, rt.stdin(), rt.stdout()),
     };
     ExitCode::from(status)
 }

@@ -8,8 +8,9 @@ ghost use Rattle.collector_main.specs.Validating.{fault_number};
 ghost use Rattle.collector_main.specs.declared.program.Outcome.TheVariants.{NoMemory};
 
 use crate::configuration::{FileFault, config_of, read_file};
+use crate::opening::{charge_of, copy_of, opened};
+use collector_serve::{StoppingSink, WallClock, drivers, serve_on};
 use crate::validating::told_of;
-use collector_serve::{Board, StopMark, StoppingSink, WallClock, drivers, listen, serve_on};
 use drop_ledger::{Count, Report};
 use itoa::Buffer;
 use lane_seq::put;
@@ -18,7 +19,7 @@ use script_session::{RunFault, replay_run};
 use span_ids::Reason;
 use span_sink::{LineSink, Sink, WriteSink};
 use std::alloc::Global;
-use std::io::{ErrorKind, Write};
+use std::io::{ErrorKind, Read, Write};
 use std::net::{Net, TcpListener, TcpStream};
 use std::random::RandomSource;
 use std::rt::Files;
@@ -95,7 +96,8 @@ arguments, 3 for a refused configuration, 4 for a refused script, 5 for no memor
 listened at, and 7 for a full book.
 ";
 
-/// Runs the program with the arguments behind its own name. It gives the writer back beside the exit status.
+/// Runs the program with the arguments behind its own name. `reader` gives a script; `input` is the same standard input, for a
+/// collector that is closed at its end. It gives the writer back beside the exit status.
 pub fn program<
     T: Files
         + Net<Listener = TcpListener, Stream = TcpStream>
@@ -103,16 +105,20 @@ pub fn program<
         + Wait
         + Clock
         + RandomSource
-        + Sync,
+        + Sync
+        + Copy
+        + Send
+        + 'static,
     R: Source,
+    I: Read + Send + Drop + 'static,
     W: Write + Drop,
->(rt: &T, alloc: Global, arguments: &[String], reader: &mut R, writer: W) -> (W, u8)
+>(rt: &T, alloc: Global, arguments: &[String], reader: &mut R, input: I, writer: W) -> (W, u8)
     ensures { Ends (map string_bytes arguments.now) (R.given reader.old) (R.given reader.new) (W.contents writer) (W.contents result.0) result.1 }
 {
     let Ok(mut text) = Vec::with_capacity(alloc, TEXT_ROOM) else {
         return (without_memory(writer), 5);
     };
-    let (writer, outcome) = run(rt, alloc, arguments, reader, writer);
+    let (writer, outcome) = run(rt, alloc, arguments, reader, input, writer);
     finish(writer, &mut text, outcome)
 }
 
@@ -172,10 +178,14 @@ fn run<
         + Wait
         + Clock
         + RandomSource
-        + Sync,
+        + Sync
+        + Copy
+        + Send
+        + 'static,
     R: Source,
+    I: Read + Send + Drop + 'static,
     W: Write + Drop,
->(rt: &T, alloc: Global, arguments: &[String], reader: &mut R, writer: W) -> (W, Outcome)
+>(rt: &T, alloc: Global, arguments: &[String], reader: &mut R, input: I, writer: W) -> (W, Outcome)
     ensures { (file : Result (List ℕ) FileFault) × CameTo (record {
       arguments = map string_bytes arguments.now;
       file = file;
@@ -190,7 +200,7 @@ fn run<
     };
     match command {
         Command::Replay => replay_by(alloc, read_file(rt, alloc, path), reader, writer),
-        Command::Serve => serve_by(rt, alloc, read_file(rt, alloc, path), writer),
+        Command::Serve => serve_by(rt, alloc, read_file(rt, alloc, path), input, writer),
         Command::Validate => (writer, told_of(alloc, read_file(rt, alloc, path))),
         Command::Help => (writer, Outcome::Help),
         Command::Version => (writer, Outcome::Version),
@@ -258,16 +268,21 @@ fn replay_by<R: Source, W: Write>(
     (sink.end(), outcome_of(answer))
 }
 
-/// Takes requests on a listener by the configuration in what was read of its file.
+/// Takes requests on a listener by the configuration in what was read of its file. The end of `input` closes the collector,
+/// where the configuration says so.
 fn serve_by<
     T: Net<Listener = TcpListener, Stream = TcpStream>
         + Threads
         + Wait
         + Clock
         + RandomSource
-        + Sync,
+        + Sync
+        + Copy
+        + Send
+        + 'static,
+    I: Read + Send + Drop + 'static,
     W: Write + Drop,
->(rt: &T, alloc: Global, file: Result<Vec<u8>, FileFault>, writer: W) -> (W, Outcome)
+>(rt: &T, alloc: Global, file: Result<Vec<u8>, FileFault>, input: I, writer: W) -> (W, Outcome)
     ensures { (arguments : List (List ℕ)) → (unread : KnownReader) → Serves (record {
       arguments = arguments;
       file = file_of (λ v. v.items) file;
@@ -277,28 +292,38 @@ fn serve_by<
       taken_after = W.contents result.0;
     }) result.1 }
 {
+    let copy = copy_of(alloc, &file);
     let config = match config_of(alloc, file) {
         Ok(config) => config,
         Err(outcome) => return (writer, outcome),
     };
-    let Ok(listener) = listen(rt, config.listen.as_str()) else {
-        return (writer, Outcome::CannotListen);
-    };
-    let stop = StopMark::new();
-    let Ok(loads) = loads_of(alloc, config.lanes) else {
+    let Ok(charge) = charge_of(alloc, copy, config.lanes) else {
         return (writer, Outcome::NoMemory);
     };
-    let drivers = match drivers(rt, alloc, &config, &listener, &loads, &stop) {
+    let Ok(listener) = opened(rt, alloc, &config, &charge, input) else {
+        return (writer, Outcome::CannotListen);
+    };
+    let drivers = match drivers(rt, alloc, &config, &listener, &charge.loads, &charge.stop) {
         Ok(drivers) => drivers,
         Err(error) if error.kind() == ErrorKind::OutOfMemory => return (writer, Outcome::NoMemory),
         Err(_) => return (writer, Outcome::CannotListen),
     };
     let clock = WallClock::new(rt);
     let stops = config.stops_at_output_fault;
-    let sink = StoppingSink::new(WriteSink::new(writer), &stop, stops);
-    let board = Board::new();
-    let (sink, answer) = serve_on(rt, alloc, config, drivers, sink, &board, &stop, &clock);
-    (sink.end().end(), served_to(answer))
+    let written = WriteSink::new(writer);
+    let sink = StoppingSink::new(written, &charge.stop, stops);
+    let (sink, answer) = serve_on(
+        rt,
+        alloc,
+        config,
+        drivers,
+        sink,
+        &charge.board,
+        &charge.stop,
+        &clock,
+    );
+    let written = sink.end();
+    (written.end(), served_to(answer))
 }
 
 fn served_to(answer: Result<Report, ServeFault>) -> Outcome

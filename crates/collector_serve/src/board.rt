@@ -56,6 +56,11 @@ impl Board {
         report
     }
 
+    /// Whether a span was given up because the output failed.
+    pub fn is_down(&self) -> bool {
+        self.exporter_down.load(Ordering::Relaxed) > 0
+    }
+
     /// The cell of the count that has this place in a report.
     fn cell(&self, place: usize) -> &AtomicU64 {
         match place {

@@ -3,6 +3,7 @@
 #![tactic(auto)]
 
 mod board;
+mod charge;
 mod connections;
 mod serving;
 mod stop_mark;
@@ -11,6 +12,7 @@ mod ticker;
 mod wall_clock;
 
 pub use board::Board;
+pub use charge::{Charge, close_at_end, start_admin};
 pub use connections::Connections;
 pub use serving::{drivers, listen, serve_on};
 pub use stop_mark::StopMark;

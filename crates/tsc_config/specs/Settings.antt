@@ -1,5 +1,5 @@
 -- What a configuration has from its table, key by key: what stands at the key, or the key's default.
-use Rattle.std.specs.Prelude.{◌≡◌, ℕ, ◌≤◌, pos, Bool, true, false, List, ◌⊎◌, codes, Some, None, Ok}
+use Rattle.std.specs.Prelude.{[], ◌≡◌, ℕ, ◌≤◌, pos, Bool, true, false, List, ◌⊎◌, codes, Some, None, Ok}
 use Rattle.toml.specs.Data.{string, integer, boolean, table, Members, get_member}
 use Rattle.toml.specs.Parse.{parse_document}
 use Rattle.tsc_config.specs.Reading.{reading}

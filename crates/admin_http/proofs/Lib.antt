@@ -1,0 +1,4 @@
+pub mod Heads
+pub mod Pieces
+pub mod Laws
+pub mod Rows

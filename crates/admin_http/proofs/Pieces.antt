@@ -1,0 +1,28 @@
+-- What several reads and writes came to.
+-- For the contracts of `write_text` and `hear`.
+use Rattle.std.proofs.Common.{◌≡◌, ◌+◌, ◌++◌, ℕ, List, [], Option, None, append-nil, sym, ◌∙◌, subst, take, drop, refl}
+use Rattle.std.proofs.Math.Seq.{take-add}
+use Rattle.std.specs.Io.KnownBytes.{Consumes}
+use Rattle.std.proofs.KnownBytes.{Consumes-trans}
+use Rattle.http_text.specs.Lines.{Cut, Whole, Waits, TooLong, cut, head_len}
+use Rattle.admin_http.specs.Asked.{HeardBy, IsHeard}
+
+pub take_then : (i n : ℕ) (xs : List ℕ) → take i xs ++ take n (drop i xs) ≡ take (i + n) xs
+take_then i n xs = sym (take-add i n xs)
+
+-- more was read
+pub read_on : (a b c : Option (List ℕ)) (read more now : List ℕ) → Consumes a b read → Consumes b c more → now ≡ read ++ more → Consumes a c now
+read_on a b c read more now x y e = subst (Consumes a c) (sym e) (Consumes-trans a b c read more x y)
+
+-- a read gave nothing
+pub read_still : (a b c : Option (List ℕ)) (read now : List ℕ) → Consumes a b read → Consumes b c [] → now ≡ read → Consumes a c now
+read_still a b c read now x y e = subst (Consumes a c) (append-nil read ∙ sym e) (Consumes-trans a b c read [] x y)
+
+waits_by : (c : Cut) (read : List ℕ) → HeardBy c read None → c ≡ Waits
+waits_by (Whole n) read h = absurd h
+waits_by Waits read h = refl
+waits_by TooLong read h = absurd h
+
+-- nothing was heard, so that the head isn't whole
+pub unheard_waits : (read : List ℕ) → IsHeard read None → cut head_len read ≡ Waits
+unheard_waits read h = waits_by (cut head_len read) read h

@@ -1,0 +1,145 @@
+-- Worked rows, computed: where each request goes, and its answer, whole.
+-- They serve the definitions that `heard`, `answer` and `serve` promise.
+use Rattle.std.proofs.Common.{◌≡◌, true, false, refl, List, ℕ, [], ◌∷◌, Some, None}
+use Rattle.std.specs.Prelude.{codes, map}
+use Rattle.std.specs.Fmt.{digits}
+use Rattle.http_text.specs.Lines.{Whole, Waits, cut, head_len}
+use Rattle.http_text.specs.declared.request.Refusal.TheVariants.{BadRequest, HeadTooLarge, MethodNotAllowed, NotFound as NotFoundThere}
+use Rattle.http_text.specs.declared.request.Verdict.{Verdict}
+use Rattle.http_text.specs.declared.request.Verdict.TheVariants.{Refused, Close as CloseThere}
+use Rattle.http_text.specs.Fields.{Header}
+use Rattle.http_text.specs.Head.{verdict_by}
+use Rattle.admin_http.specs.declared.asked.Method.TheVariants.{Get, Post}
+use Rattle.admin_http.specs.declared.asked.Route.TheVariants.{Close, Metrics, Health, Config, NotFound, WrongMethod, Bad, TooLarge}
+use Rattle.admin_http.specs.declared.ends.TheConstants.{PIECE_LIMIT, QUIET_LIMIT, READ_LIMIT}
+use Rattle.admin_http.specs.Asked.{asked, asked_by, refused_as, routed}
+use Rattle.admin_http.specs.Texts.{AdminState, answer_of, state}
+
+-- the four targets, each by its method
+close_asked : routed (codes "POST") (codes "/close") ≡ Close
+close_asked = refl
+
+metrics_asked : routed (codes "GET") (codes "/metrics") ≡ Metrics
+metrics_asked = refl
+
+health_asked : routed (codes "GET") (codes "/healthz") ≡ Health
+health_asked = refl
+
+config_asked : routed (codes "GET") (codes "/config") ≡ Config
+config_asked = refl
+
+-- by another method; a method is told by its case, and `HEAD` is another method than `GET`
+other_methods : routed (codes "GET") (codes "/close") ∷ routed (codes "POST") (codes "/metrics") ∷ routed (codes "PUT") (codes "/healthz") ∷ routed (codes "DELETE") (codes "/config") ∷ []
+    ≡ WrongMethod Post ∷ WrongMethod Get ∷ WrongMethod Get ∷ WrongMethod Get ∷ []
+other_methods = refl
+
+near_methods : routed (codes "get") (codes "/metrics") ∷ routed (codes "GETS") (codes "/metrics") ∷ routed (codes "Post") (codes "/close") ∷ routed (codes "HEAD") (codes "/healthz") ∷ []
+    ≡ WrongMethod Get ∷ WrongMethod Get ∷ WrongMethod Post ∷ WrongMethod Get ∷ []
+near_methods = refl
+
+-- by `GET`, another target: with a query, with a slash more or less, in capitals, in absolute form, of the traces
+near_targets : map (routed (codes "GET"))
+    (codes "/metrics?x" ∷ codes "/metrics/" ∷ codes "metrics" ∷ codes "/Metrics" ∷ codes "//metrics" ∷ codes "http://x/metrics" ∷ codes "/" ∷ codes "*" ∷ codes "/health" ∷ codes "/%6detrics" ∷ [])
+    ≡ NotFound ∷ NotFound ∷ NotFound ∷ NotFound ∷ NotFound ∷ NotFound ∷ NotFound ∷ NotFound ∷ NotFound ∷ NotFound ∷ []
+near_targets = refl
+
+traces_there : routed (codes "POST") (codes "/v1/traces") ∷ routed (codes "POST") (codes "/close/") ∷ routed (codes "POST") (codes "/close?now") ∷ []
+    ≡ NotFound ∷ NotFound ∷ NotFound ∷ []
+traces_there = refl
+
+-- the answer to `HEAD` has no body, whatever it asks for
+heads : asked_by (codes "HEAD") (codes "/metrics") ∷ asked_by (codes "HEAD") (codes "/other") ∷ asked_by (codes "GET") (codes "/other") ∷ []
+    ≡ asked (WrongMethod Get) true ∷ asked NotFound true ∷ asked NotFound false ∷ []
+heads = refl
+
+-- what is refused at the address of the traces: only a bad head, and one that is too large, is so here
+refusals : refused_as (Refused BadRequest true) ∷ refused_as (Refused HeadTooLarge false) ∷ refused_as (Refused NotFoundThere false) ∷ refused_as (Refused MethodNotAllowed false) ∷ refused_as CloseThere ∷ []
+    ≡ Some (asked Bad true) ∷ Some (asked TooLarge false) ∷ None ∷ None ∷ None ∷ []
+refusals = refl
+
+-- a head of HTTP/1.0, one without `Host` and one with two; and one that is as it should be
+host : Header
+host = (codes "Host", codes "x")
+
+refused_for : ℕ → List Header → Verdict
+refused_for minor headers = verdict_by false (codes "GET") (codes "/metrics") minor headers
+
+bad_heads : refused_as (refused_for 0 (host ∷ [])) ∷ refused_as (refused_for 1 []) ∷ refused_as (refused_for 1 (host ∷ host ∷ [])) ∷ refused_as (refused_for 1 (host ∷ [])) ∷ []
+    ≡ Some (asked Bad false) ∷ Some (asked Bad false) ∷ Some (asked Bad false) ∷ None ∷ []
+unfolding host refused_for
+bad_heads = refl
+
+-- a head that is whole, and a byte behind it; one that isn't
+whole_head : cut head_len (codes "GET /metrics HTTP/1.1\r\nHost: x\r\n\r\nG") ≡ Whole 34
+whole_head = refl
+
+part_of_head : cut head_len (codes "GET /metrics HTTP/1.1\r\nHost: x\r\n") ≡ Waits
+part_of_head = refl
+
+-- the answers
+open_state : AdminState
+open_state = state false (codes "m 1\n") (codes "lanes = 2\n")
+
+closing_state : AdminState
+closing_state = state true (codes "m 22\n") (codes "lanes = 3\n")
+
+close_text : answer_of (asked Close false) closing_state
+    ≡ codes "HTTP/1.1 200 OK\r\nContent-Type: application/json\r\nContent-Length: 2\r\nConnection: close\r\n\r\n{}"
+unfolding digits
+close_text = refl
+
+metrics_text : answer_of (asked Metrics false) open_state
+    ≡ codes "HTTP/1.1 200 OK\r\nContent-Type: text/plain; version=0.0.4; charset=utf-8\r\nContent-Length: 4\r\nConnection: close\r\n\r\nm 1\n"
+unfolding digits open_state
+metrics_text = refl
+
+-- the numbers are told, too, while the collector closes
+metrics_while_closing : answer_of (asked Metrics false) closing_state
+    ≡ codes "HTTP/1.1 200 OK\r\nContent-Type: text/plain; version=0.0.4; charset=utf-8\r\nContent-Length: 5\r\nConnection: close\r\n\r\nm 22\n"
+unfolding digits closing_state
+metrics_while_closing = refl
+
+healthy : answer_of (asked Health false) open_state
+    ≡ codes "HTTP/1.1 200 OK\r\nContent-Type: text/plain\r\nContent-Length: 3\r\nConnection: close\r\n\r\nok\n"
+unfolding digits open_state
+healthy = refl
+
+unhealthy : answer_of (asked Health false) closing_state
+    ≡ codes "HTTP/1.1 503 Service Unavailable\r\nContent-Type: text/plain\r\nContent-Length: 8\r\nConnection: close\r\n\r\nclosing\n"
+unfolding digits closing_state
+unhealthy = refl
+
+config_text : answer_of (asked Config false) open_state
+    ≡ codes "HTTP/1.1 200 OK\r\nContent-Type: application/toml\r\nContent-Length: 10\r\nConnection: close\r\n\r\nlanes = 2\n"
+unfolding digits open_state
+config_text = refl
+
+not_found : answer_of (asked NotFound false) open_state
+    ≡ codes "HTTP/1.1 404 Not Found\r\nContent-Type: application/json\r\nContent-Length: 23\r\nConnection: close\r\n\r\n{\"message\":\"not found\"}"
+unfolding digits
+not_found = refl
+
+wrong_method : answer_of (asked (WrongMethod Get) false) open_state
+    ≡ codes "HTTP/1.1 405 Method Not Allowed\r\nContent-Type: application/json\r\nContent-Length: 32\r\nAllow: GET\r\nConnection: close\r\n\r\n{\"message\":\"method not allowed\"}"
+unfolding digits
+wrong_method = refl
+
+-- the length is that of the body which `GET` would have had
+wrong_method_of_head : answer_of (asked (WrongMethod Post) true) open_state
+    ≡ codes "HTTP/1.1 405 Method Not Allowed\r\nContent-Type: application/json\r\nContent-Length: 32\r\nAllow: POST\r\nConnection: close\r\n\r\n"
+unfolding digits
+wrong_method_of_head = refl
+
+bad : answer_of (asked Bad false) open_state
+    ≡ codes "HTTP/1.1 400 Bad Request\r\nContent-Type: application/json\r\nContent-Length: 25\r\nConnection: close\r\n\r\n{\"message\":\"bad request\"}"
+unfolding digits
+bad = refl
+
+too_large : answer_of (asked TooLarge false) open_state
+    ≡ codes "HTTP/1.1 431 Request Header Fields Too Large\r\nContent-Type: application/json\r\nContent-Length: 28\r\nConnection: close\r\n\r\n{\"message\":\"head too large\"}"
+unfolding digits
+too_large = refl
+
+-- how many bytes a read gives at most, how many reads are made, and how many may give nothing
+limits : PIECE_LIMIT ∷ READ_LIMIT ∷ QUIET_LIMIT ∷ [] ≡ 4096 ∷ 1024 ∷ 50 ∷ []
+limits = refl

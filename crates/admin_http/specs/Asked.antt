@@ -1,0 +1,78 @@
+-- What the head at the front of a stream asks for (RFC 9112, sections 2 to 3), by what `http_text` says of heads.
+use Rattle.std.specs.Prelude.{◌≡◌, ℕ, Bool, false, List, ◌++◌, Option, Some, None, take, codes, bytes_eq, if◌then◌else◌}
+use Rattle.httparse.specs.Grammar.{RequestHead}
+use Rattle.http_text.specs.Lines.{Cut, Whole, Waits, TooLong, cut, head_len}
+use Rattle.http_text.specs.Head.{IsHead, IsVerdict}
+use Rattle.http_text.specs.declared.allowed.Allowed.{Allowed}
+use Rattle.http_text.specs.declared.request.Verdict.{Verdict}
+use Rattle.http_text.specs.declared.request.Verdict.TheVariants.{Refused}
+use Rattle.http_text.specs.declared.request.Refusal.TheVariants.{BadRequest, HeadTooLarge}
+use Rattle.admin_http.specs.declared.asked.Method.{Method}
+use Rattle.admin_http.specs.declared.asked.Method.TheVariants.{Get, Post}
+use Rattle.admin_http.specs.declared.asked.Route.{Route}
+use Rattle.admin_http.specs.declared.asked.Route.TheVariants.{Close, Metrics, Health, Config, NotFound, WrongMethod, Bad, TooLarge}
+use Rattle.admin_http.specs.declared.asked.AdminRequest.{AdminRequest}
+
+-- the word of a method
+abbrev pub method_word : Method → List ℕ
+method_word Get = codes "GET"
+method_word Post = codes "POST"
+
+-- a target that has one method
+abbrev pub only_by : Method → (method : List ℕ) → Route → Route
+only_by allowed method route = if bytes_eq method (method_word allowed) then route else WrongMethod allowed
+
+-- where a request goes, by its method and its target, byte for byte
+abbrev pub routed : (method target : List ℕ) → Route
+routed method target =
+    if bytes_eq target (codes "/close") then only_by Post method Close
+    else (if bytes_eq target (codes "/metrics") then only_by Get method Metrics
+    else (if bytes_eq target (codes "/healthz") then only_by Get method Health
+    else (if bytes_eq target (codes "/config") then only_by Get method Config
+    else NotFound)))
+
+-- the answer to `HEAD` has no body
+abbrev pub asked : Route → (is_head : Bool) → AdminRequest
+asked route is_head = record { route = route; is_head = is_head }
+
+abbrev pub asked_by : (method target : List ℕ) → AdminRequest
+asked_by method target = asked (routed method target) (bytes_eq method (codes "HEAD"))
+
+-- a text that is refused as no head, or as too large a one, at the address of the traces is so here
+abbrev pub refused_as : Verdict → Option AdminRequest
+refused_as (Refused HeadTooLarge is_head) = Some (asked TooLarge is_head)
+refused_as (Refused BadRequest is_head) = Some (asked Bad is_head)
+refused_as _ = None
+
+-- any other text is a head, which asks by its method and its target
+abbrev pub AskedAs : (text : List ℕ) → Option AdminRequest → AdminRequest → Type 0
+AskedAs text (Some refused) a = a ≡ refused
+AskedAs text None a = (h : RequestHead) × IsHead text h × (a ≡ asked_by h.method h.target)
+
+-- what is allowed at the address of the traces makes no difference here
+abbrev pub nothing : Allowed
+nothing = record { gzip = false; close = false }
+
+-- what the text of a head asks for
+abbrev pub IsAsked : (text : List ℕ) → AdminRequest → Type 0
+IsAsked text a = (v : Verdict) × IsVerdict nothing text v × AskedAs text (refused_as v) a
+
+-- what was read so far asks for this, or its head isn't whole yet
+abbrev pub HeardBy : Cut → (read : List ℕ) → Option AdminRequest → Type 0
+HeardBy (Whole n) read (Some a) = IsAsked (take n read) a
+HeardBy (Whole n) read None = ⊥
+HeardBy TooLong read (Some a) = a ≡ asked TooLarge false
+HeardBy TooLong read None = ⊥
+HeardBy Waits read (Some a) = ⊥
+HeardBy Waits read None = Unit {0}
+
+abbrev pub IsHeard : (read : List ℕ) → Option AdminRequest → Type 0
+IsHeard read heard = HeardBy (cut head_len read) read heard
+
+-- the bytes that were read ask for one thing only
+abbrev pub OneRequest : Type 0
+OneRequest = (read : List ℕ) (a b : Option AdminRequest) → IsHeard read a → IsHeard read b → a ≡ b
+
+-- what was heard stays, whatever bytes follow
+abbrev pub StaysHeard : Type 0
+StaysHeard = (read more : List ℕ) (a : AdminRequest) → IsHeard read (Some a) → IsHeard (read ++ more) (Some a)

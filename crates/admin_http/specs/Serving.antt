@@ -1,0 +1,86 @@
+-- What one connection does: it reads until a head is whole, answers it once, and ends.
+use Rattle.std.specs.Prelude.{◌≡◌, ℕ, ◌<◌, Bool, true, false, List, [], ◌++◌, length, take, Option, Some, Result, Ok, Err}
+use Rattle.std.specs.Io.KnownBytes.{Appends, Consumes, IsAtEnd}
+use Rattle.http_text.specs.Lines.{Waits, cut, head_len}
+use Rattle.admin_http.specs.declared.asked.AdminRequest.{AdminRequest}
+use Rattle.admin_http.specs.declared.asked.Route.{Route}
+use Rattle.admin_http.specs.declared.asked.Route.TheVariants.{Close, Metrics}
+use Rattle.admin_http.specs.declared.ends.AdminEnd.{AdminEnd}
+use Rattle.admin_http.specs.declared.ends.AdminEnd.TheVariants.{Heard, Unheard}
+use Rattle.admin_http.specs.declared.ends.Portion.{Portion}
+use Rattle.admin_http.specs.declared.ends.Portion.TheVariants.{Whole, Part, Nothing}
+use Rattle.admin_http.specs.declared.ends.Silence.{Silence}
+use Rattle.admin_http.specs.declared.ends.Silence.TheVariants.{Cut, NoMemory}
+use Rattle.admin_http.specs.declared.ends.PieceRead.{PieceRead}
+use Rattle.admin_http.specs.declared.ends.PieceRead.TheVariants.{More, End, NoRoom}
+use Rattle.admin_http.specs.Asked.{IsHeard}
+use Rattle.admin_http.specs.Texts.{AdminState, answer_of}
+
+-- what an answer tells of is what the collector said: whether it is closing, what its configuration is, and, where they are asked for, its numbers
+pub record IsStateOf (stops : Bool → Type 0) (tells : List ℕ → Type 0) (configuration : List ℕ) (route : Route) (s : AdminState) : Type 0 where
+  pub is_stopping : stops s.is_stopping
+  pub config : s.config ≡ configuration
+  pub metrics : route ≡ Metrics → tells s.metrics
+
+-- this is the answer to a request
+abbrev pub Answers : (stops : Bool → Type 0) (tells : List ℕ → Type 0) (configuration : List ℕ) → AdminRequest → (text : List ℕ) → Type 0
+Answers stops tells configuration asked text = (s : AdminState) × IsStateOf stops tells configuration asked.route s × (text ≡ answer_of asked s)
+
+-- what was written of a text
+abbrev pub WrittenBy : Portion → (text bytes : List ℕ) → Type 0
+WrittenBy Whole text bytes = bytes ≡ text
+WrittenBy Part text bytes = (n : ℕ) × (n < length text) × (bytes ≡ take n text)
+WrittenBy Nothing text bytes = bytes ≡ []
+
+-- what that did to a writer
+abbrev pub Puts : (old new : Option (List ℕ)) → (text : List ℕ) → Portion → Type 0
+Puts old new text sent = (bytes : List ℕ) × Appends old new bytes × WrittenBy sent text bytes
+
+-- a text was made
+abbrev pub IsMade : Portion → Type 0
+IsMade Nothing = ⊥
+IsMade _ = Unit {0}
+
+-- a request was answered, unless there was no memory for the answer
+abbrev pub Responds : (stops : Bool → Type 0) (tells : List ℕ → Type 0) (configuration : List ℕ) (old new : Option (List ℕ)) → AdminRequest → Portion → Type 0
+Responds stops tells configuration old new asked Nothing = new ≡ old
+Responds stops tells configuration old new asked sent = (text : List ℕ) × Answers stops tells configuration asked text × Puts old new text sent
+
+-- what one read added to what was read so far
+abbrev pub Takes : (left left_after : Option (List ℕ)) → (read read_after : List ℕ) → PieceRead → Type 0
+Takes left left_after read read_after More = (more : List ℕ) × Consumes left left_after more × (read_after ≡ read ++ more)
+Takes left left_after read read_after NoRoom = (more : List ℕ) × Consumes left left_after more
+Takes left left_after read read_after End = Consumes left left_after [] × (read_after ≡ read) × IsAtEnd left_after
+Takes left left_after read read_after _ = Consumes left left_after [] × (read_after ≡ read)
+
+-- no request was heard: the head isn't whole
+abbrev pub IsSilent : (left : Option (List ℕ)) → (read : List ℕ) → Silence → Type 0
+IsSilent left read NoMemory = Unit {0}
+IsSilent left read Cut = (cut head_len read ≡ Waits) × IsAtEnd left
+IsSilent left read _ = cut head_len read ≡ Waits
+
+-- what was heard in the bytes that were read
+abbrev pub HearsIn : (left : Option (List ℕ)) → (read : List ℕ) → Result AdminRequest Silence → Type 0
+HearsIn left read (Ok asked) = IsHeard read (Some asked)
+HearsIn left read (Err silence) = IsSilent left read silence
+
+abbrev pub Hears : (left left_after : Option (List ℕ)) → Result AdminRequest Silence → Type 0
+Hears left left_after heard = (read : List ℕ) × Consumes left left_after read × HearsIn left_after read heard
+
+-- the end of a connection in which this was read: a request was answered, or none was heard and nothing was written
+abbrev pub EndsWith : (stops : Bool → Type 0) (tells : List ℕ → Type 0) (configuration : List ℕ) (left_after old new : Option (List ℕ)) → (read : List ℕ) → AdminEnd → Type 0
+EndsWith stops tells configuration left_after old new read (Heard asked sent) = IsHeard read (Some asked) × Responds stops tells configuration old new asked sent
+EndsWith stops tells configuration left_after old new read (Unheard silence) = IsSilent left_after read silence × (new ≡ old)
+
+abbrev pub Served : (stops : Bool → Type 0) (tells : List ℕ → Type 0) (configuration : List ℕ) (left left_after old new : Option (List ℕ)) → AdminEnd → Type 0
+Served stops tells configuration left left_after old new end =
+    (read : List ℕ) × Consumes left left_after read × EndsWith stops tells configuration left_after old new read end
+
+-- the request asked the collector to close
+abbrev pub closes : Route → Bool
+closes Close = true
+closes _ = false
+
+abbrev pub asked_to_close : AdminEnd → Bool
+asked_to_close (Heard asked sent) = closes asked.route
+asked_to_close (Unheard silence) = false

@@ -1,0 +1,35 @@
+//! What is asked of a collector at this address.
+ghost use Rattle.std.specs.Prelude.{◌≡◌, ℕ, List, Bool, true, IfOk, string_bytes};
+
+use std::alloc::{AllocError, Global};
+
+/// A collector, as those in charge of it see it.
+pub trait Admin {
+    /// It was asked to close.
+    ghost is_closed: { Self → Bool };
+
+    /// It may say this of whether it is closing.
+    ghost stops: { Self → Bool → Type 0 };
+
+    /// It may tell its numbers by this text.
+    ghost tells: { Self → List ℕ → Type 0 };
+
+    /// The text of its configuration.
+    ghost configuration: { Self → List ℕ };
+
+    /// Asks it to close, for good: it takes no request from then on, and ends once what it holds is dealt with.
+    fn close(&mut self)
+        ensures { is_closed self.new ≡ true };
+
+    /// Whether it was asked to close, here or elsewhere.
+    fn is_stopping(&self) -> bool
+        ensures { stops self.now result };
+
+    /// Its numbers, as Prometheus reads them.
+    fn metrics(&self, alloc: Global) -> Result<String, AllocError>
+        ensures { IfOk result (λ text. tells self.now (string_bytes text)) };
+
+    /// Its configuration, in TOML.
+    fn config(&self) -> &str
+        ensures { result.now ≡ configuration self.now };
+}

@@ -1,0 +1,40 @@
+//! What a request asks for.
+
+/// The methods that a target may have (RFC 9110, section 9.3).
+#[derive(Clone, Copy, PartialEq, Eq)]
+pub enum Method {
+    /// `GET`.
+    Get,
+    /// `POST`.
+    Post,
+}
+
+/// Where a request goes.
+#[derive(Clone, Copy, PartialEq, Eq)]
+pub enum Route {
+    /// `POST /close`: the collector is to close.
+    Close,
+    /// `GET /metrics`: its numbers, as Prometheus reads them.
+    Metrics,
+    /// `GET /healthz`: whether it takes requests.
+    Health,
+    /// `GET /config`: its configuration, as it stands.
+    Config,
+    /// 404: another target.
+    NotFound,
+    /// 405: one of these targets, which has only this method.
+    WrongMethod(Method),
+    /// 400: no head of HTTP/1.1, not one `Host`, or no one way to frame the body.
+    Bad,
+    /// 431: no end of the head within its limit, or too many fields.
+    TooLarge,
+}
+
+/// What a request asks for.
+#[derive(Clone, Copy, PartialEq, Eq)]
+pub struct AdminRequest {
+    /// Where it goes.
+    pub route: Route,
+    /// It is a `HEAD`, whose answer has no body.
+    pub is_head: bool,
+}

@@ -1,0 +1,147 @@
+//! One connection.
+ghost use Rattle.std.specs.Prelude.{◌≡◌, ◌<◌, ◌≤◌, ℕ, List, Bool, true, false, IfOk, length, string_bytes};
+ghost use Rattle.admin_http.specs.Serving.{Answers, Hears, IsMade, Puts, Responds, Served, Takes, asked_to_close, closes};
+
+use crate::admin::Admin;
+use crate::asked::{AdminRequest, Route};
+use crate::ends::{AdminEnd, PIECE_LIMIT, PieceRead, Portion, QUIET_LIMIT, READ_LIMIT, Silence};
+use crate::head::heard;
+use crate::texts::answer;
+use std::alloc::{AllocError, Global};
+use std::io::{ErrorKind, Read, Write};
+
+/// Writes the whole text, unless a write fails.
+fn write_text<W: Write>(writer: &mut W, text: &[u8]) -> Portion
+    ensures puts { Puts (W.contents writer.old) (W.contents writer.new) text.now result }
+    ensures made { IsMade result }
+{
+    let mut at = 0;
+    while at < text.len() {
+        match writer.write(&text[at..]) {
+            Ok(n) if n > 0 => at += n,
+            _ => return Portion::Part,
+        }
+    }
+    Portion::Whole
+}
+
+/// Whether a route asks the collector to close.
+fn closes(route: Route) -> bool
+    ensures { result ≡ closes route }
+{
+    matches!(route, Route::Close)
+}
+
+/// The answer to a request. To one that asks the collector to close, that it was asked to.
+fn answer_from<A: Admin>(
+    alloc: Global,
+    admin: &A,
+    asked: AdminRequest,
+) -> Result<String, AllocError>
+    requires { closes asked.route ≡ true → A.is_closed admin.now ≡ true }
+    ensures { IfOk result (λ text. Answers (A.stops admin.now) (A.tells admin.now) (A.configuration admin.now) asked (string_bytes text)) }
+{
+    let is_stopping = admin.is_stopping();
+    let metrics = match asked.route {
+        Route::Metrics => admin.metrics(alloc)?,
+        _ => String::new(alloc),
+    };
+    answer(alloc, asked, is_stopping, metrics.as_str(), admin.config())
+}
+
+/// Answers a request. Where it asks the collector to close, that is done before any byte of the answer is written.
+fn respond<W: Write, A: Admin>(
+    alloc: Global,
+    writer: &mut W,
+    admin: &mut A,
+    asked: AdminRequest,
+) -> Portion
+    ensures responds { Responds (A.stops admin.new) (A.tells admin.new) (A.configuration admin.new) (W.contents writer.old) (W.contents writer.new) asked result }
+    ensures closed { closes asked.route ≡ true → A.is_closed admin.new ≡ true }
+    ensures kept { closes asked.route ≡ false → admin.new ≡ admin.old }
+{
+    if closes(asked.route) {
+        admin.close();
+    }
+    match answer_from(alloc, admin, asked) {
+        Ok(text) => write_text(writer, text.as_bytes()),
+        Err(_) => Portion::Nothing,
+    }
+}
+
+/// Puts what a read gives behind what was read so far.
+fn take_piece<R: Read>(reader: &mut R, read: &mut Vec<u8>) -> PieceRead
+    ensures { Takes (R.remaining reader.old) (R.remaining reader.new) read.old.items read.new.items result }
+{
+    let mut piece = [0; PIECE_LIMIT];
+    match reader.read(&mut piece) {
+        Ok(0) => PieceRead::End,
+        Ok(n) => {
+            if read.extend_from_slice(&piece[..n]).is_ok() {
+                PieceRead::More
+            } else {
+                PieceRead::NoRoom
+            }
+        }
+        Err(error) => match error.kind() {
+            ErrorKind::WouldBlock | ErrorKind::TimedOut => PieceRead::Nothing,
+            ErrorKind::Interrupted => PieceRead::Interrupted,
+            _ => PieceRead::Failed,
+        },
+    }
+}
+
+/// Reads until a head is whole.
+fn hear<R: Read, A: Admin>(
+    alloc: Global,
+    reader: &mut R,
+    admin: &A,
+) -> Result<AdminRequest, Silence>
+    ensures { Hears (R.remaining reader.old) (R.remaining reader.new) result }
+{
+    let mut read = Vec::new(alloc);
+    let mut quiet = 0;
+    for _ in 0..READ_LIMIT {
+        match take_piece(reader, &mut read) {
+            PieceRead::More => {
+                if let Some(asked) = heard(&read) {
+                    return Ok(asked);
+                }
+            }
+            PieceRead::Nothing => {
+                if admin.is_stopping() {
+                    return Err(Silence::Stopped);
+                }
+                quiet += 1;
+                if quiet >= QUIET_LIMIT {
+                    return Err(Silence::Quiet);
+                }
+            }
+            PieceRead::Interrupted => {}
+            PieceRead::Failed => return Err(Silence::ReadFault),
+            PieceRead::End => return Err(Silence::Cut),
+            PieceRead::NoRoom => return Err(Silence::NoMemory),
+        }
+    }
+    Err(Silence::Reads)
+}
+
+/// Serves one connection: reads until the head of a request is whole, answers it once, by one write where the writer takes
+/// it whole, and ends. Where no head gets whole nothing is written. A request to close is passed to `admin` before its
+/// answer is written, and also where that can't be written.
+pub fn serve<R: Read, W: Write, A: Admin>(
+    alloc: Global,
+    reader: &mut R,
+    writer: &mut W,
+    admin: &mut A,
+) -> AdminEnd
+    ensures served { Served (A.stops admin.new) (A.tells admin.new) (A.configuration admin.new)
+        (R.remaining reader.old) (R.remaining reader.new) (W.contents writer.old) (W.contents writer.new) result }
+    ensures closed { asked_to_close result ≡ true → A.is_closed admin.new ≡ true }
+    ensures kept { asked_to_close result ≡ false → admin.new ≡ admin.old }
+{
+    match hear(alloc, reader, admin) {
+        Ok(asked) => AdminEnd::Heard(asked, respond(alloc, writer, admin, asked)),
+        Err(silence) => AdminEnd::Unheard(silence),
+    }
+}

@@ -1,0 +1,67 @@
+//! What a collector opens before it runs: its addresses, and what is shared with those in charge.
+use crate::configuration::FileFault;
+use collector_serve::{Board, Charge, StopMark, close_at_end, listen, start_admin};
+use lane_driver::Loads;
+use std::alloc::{AllocError, Global};
+use std::io;
+use std::io::Read;
+use std::net::{Net, TcpListener, TcpStream};
+use std::sync::{Arc, Wait};
+use std::thread::Threads;
+use std::time::Clock;
+use tsc_config::Config;
+
+/// A copy of what was read of the configuration's file, for those in charge, and nothing where it wasn't read.
+pub fn copy_of(alloc: Global, file: &Result<Vec<u8>, FileFault>) -> Result<String, AllocError> {
+    let mut copy = Vec::new(alloc);
+    if let Ok(bytes) = file {
+        copy.extend_from_slice(bytes)?;
+    }
+    match String::from_utf8(copy) {
+        Ok(text) => Ok(text),
+        Err(_) => Ok(String::new(alloc)),
+    }
+}
+
+/// What is shared with those in charge of a collector with so many lanes.
+pub fn charge_of(
+    alloc: Global,
+    configuration: Result<String, AllocError>,
+    lanes: u16,
+) -> Result<Arc<Charge, Global>, AllocError> {
+    let charge = Charge {
+        stop: StopMark::new(),
+        board: Board::new(),
+        loads: Arc::new(alloc, Loads::new(alloc, lanes as usize)?)?,
+        configuration: configuration?,
+    };
+    Ok(Arc::new(alloc, charge)?)
+}
+
+/// Listens at the address of requests, and, as the configuration says, at that for those in charge, and to the end of the input.
+pub fn opened<
+    T: Net<Listener = TcpListener, Stream = TcpStream>
+        + Threads
+        + Wait
+        + Clock
+        + Copy
+        + Send
+        + 'static,
+    I: Read + Send + Drop + 'static,
+>(
+    rt: &T,
+    alloc: Global,
+    config: &Config,
+    charge: &Arc<Charge, Global>,
+    input: I,
+) -> io::Result<TcpListener> {
+    let listener = listen(rt, config.listen.as_str())?;
+    let admin = config.admin.as_str();
+    if !admin.is_empty() {
+        start_admin(rt, alloc, admin, Arc::try_clone(charge)?)?;
+    }
+    if config.close_at_end_of_input {
+        close_at_end(rt, input, Arc::try_clone(charge)?)?;
+    }
+    Ok(listener)
+}

@@ -1,0 +1,11 @@
+//! The numbers of a collector as a text that Prometheus reads (its text format, version 0.0.4).
+//!
+//! [`metrics_text`] is the whole of it; its bytes are those of `specs/Families`.
+#![tactic(auto)]
+
+mod kind;
+mod metrics;
+mod text;
+
+pub use metrics::Metrics;
+pub use text::{VERSION, metrics_text};

@@ -1,0 +1,230 @@
+"""Checks of `tsc serve` for those in charge of it: the second address, a full queue that is to be asked again, an output that fails, the end of the input."""
+
+import os
+import socket
+import subprocess
+import threading
+import time
+
+from collector import ALL, ERROR_SPAN, Client, Failure, body_of, post, spans_of, want
+from serve_limits import at_most, side_by_side, spans_by_number
+
+COUNTS = ["tsc_spans_received_total", "tsc_spans_handed_total"] + [
+    f'tsc_spans_dropped_total{{reason="{reason}"}}'
+    for reason in ("invalid_id", "queue_full", "no_memory", "evicted", "not_sampled", "late_not_sampled", "exporter_down")
+]
+
+
+def free_port():
+    """A port that nobody listens at."""
+    with socket.socket() as probe:
+        probe.bind(("127.0.0.1", 0))
+        return probe.getsockname()[1]
+
+
+def get(path, method="GET"):
+    """The bytes of a request without a body."""
+    return f"{method} {path} HTTP/1.1\r\nHost: collector\r\n\r\n".encode()
+
+
+def asked(port, data, has_body=True):
+    """One request on a connection of its own, which ends behind the answer."""
+    client = Client(port)
+    client.send(data)
+    answer = client.answer(has_body)
+    want("what follows the answer", client.rest(), b"")
+    client.close()
+    return answer
+
+
+def scrape(port):
+    """The numbers that the text of `/metrics` tells, by their names."""
+    status, fields, text = asked(port, get("/metrics"))
+    want("the status of /metrics", (status, fields["content-type"]), (200, "text/plain; version=0.0.4; charset=utf-8"))
+    samples = [line for line in text.split("\n") if line and not line.startswith("#")]
+    return {name: int(value) for name, value in (line.rsplit(" ", 1) for line in samples)}
+
+
+def in_charge(start):
+    """The second address tells health, numbers and configuration, and closes; the first one doesn't close any more."""
+    admin = free_port()
+    collector = start(f'admin = "127.0.0.1:{admin}"\ndecision_wait_ms = 50\ntick_ms = 50\n' + ALL)
+    want("health", asked(admin, get("/healthz"))[::2], (200, "ok\n"))
+    with open(os.path.join(collector.folder.name, "config.toml"), encoding="utf-8") as file:
+        want("the configuration", asked(admin, get("/config"))[::2], (200, file.read()))
+    want("the numbers at the start", [scrape(admin)[name] for name in COUNTS], [0] * 9)
+    want("/close at the first address", collector.ask(post(b"", "/close"))[::2], (404, '{"message":"not found"}'))
+    bad = {"traceId": "x", "spanId": "y"}
+    want("the answer", collector.ask(post(body_of([ERROR_SPAN, bad])))[0], 200)
+    for _ in range(400):
+        numbers = scrape(admin)
+        if numbers["tsc_spans_handed_total"]:
+            break
+        time.sleep(0.05)
+    want("the numbers", [numbers[name] for name in COUNTS], [2, 1, 1, 0, 0, 0, 0, 0, 0])
+    if numbers["tsc_uptime_seconds"] > 60 or numbers['tsc_build_info{version="0.1.0"}'] != 1:
+        raise Failure(f"the other numbers: {numbers}")
+    waits = [collector.client() for _ in range(3)]
+    for client in waits:
+        client.send(post(body_of([])))
+        client.answer()
+    want("open connections", scrape(admin)["tsc_connections_open"], 3)
+    want("the answer to /close", asked(admin, post(b"", "/close"))[::2], (200, "{}"))
+    lines, report = collector.end()
+    want("the spans", len(spans_of(lines)), 1)
+    want("the report", report, [2, 1, 1, 0, 0, 0, 0, 0, 0])
+
+
+def odd_questions(start):
+    """What those in charge are answered to what they can't ask, and that one who says nothing doesn't hold another for long."""
+    admin = free_port()
+    collector = start(f'admin = "127.0.0.1:{admin}"\n' + ALL)
+    for data, status, allow in [
+        (get("/close"), 405, "post"),
+        (post(b"", "/metrics"), 405, "get"),
+        (get("/metrics", "HEAD"), 405, "get"),
+        (get("/"), 404, None),
+        (post(body_of([ERROR_SPAN])), 404, None),
+        (b"what\r\n\r\n", 400, None),
+        (b"GET /healthz HTTP/1.0\r\nHost: x\r\n\r\n", 400, None),
+        (get("/" + "x" * 40000), 431, None),
+    ]:
+        got = asked(admin, data, not data.startswith(b"HEAD"))
+        want(f"the answer to {data[:20]!r}", (got[0], got[1].get("allow")), (status, allow))
+    silent = Client(admin)
+    began = time.monotonic()
+    want("health behind a silent one", asked(admin, get("/healthz"))[0], 200)
+    at_most("the wait behind a silent one", 30, began)
+    silent.close()
+    want("the answer to /close", asked(admin, post(b"", "/close"))[::2], (200, "{}"))
+    want("the report", collector.end()[1], [0] * 9)
+
+
+def counts_only_rise(start):
+    """The numbers that are read under load never go down, and end at the report."""
+    admin = free_port()
+    collector = start(f'admin = "127.0.0.1:{admin}"\nlanes = 4\nshards = 2\ndecision_wait_ms = 200\ntick_ms = 50\n' + ALL)
+    seen, done = [], threading.Event()
+
+    def reads():
+        while not done.is_set():
+            seen.append([scrape(admin)[name] for name in COUNTS])
+
+    reader = threading.Thread(target=reads)
+    reader.start()
+
+    def asks(at):
+        client = collector.client()
+        for number in range(200):
+            client.send(post(body_of(spans_by_number(10000 * at + 10 * number, 10))))
+            want("the answer", client.answer()[0], 200)
+        client.close()
+
+    side_by_side(asks, range(4))
+    for _ in range(400):
+        now = [scrape(admin)[name] for name in COUNTS]
+        if now[0] == sum(now[1:]) == 8000:
+            break
+        time.sleep(0.05)
+    done.set()
+    reader.join()
+    for before, after in zip(seen, seen[1:]):
+        if any(later < earlier for earlier, later in zip(before, after)):
+            raise Failure(f"a number went down: {before} and then {after}")
+    asked(admin, post(b"", "/close"))
+    want("the last numbers", now, collector.end()[1])
+
+
+def taken_addresses(start):
+    """A second address that is taken: it can't listen, and ends with status 6."""
+    collector = start(ALL)
+    other = os.path.join(collector.folder.name, "other.toml")
+    with open(other, "w", encoding="utf-8") as file:
+        file.write(f'listen = "127.0.0.1:0"\nadmin = "127.0.0.1:{collector.port}"\n' + ALL)
+    ran = subprocess.run([start.program, "serve", other], stdin=subprocess.DEVNULL, capture_output=True, timeout=60, check=False)
+    want("the end", (ran.returncode, ran.stdout), (6, b"tsc: cannot listen\n"))
+    collector.close()
+
+
+def full_queues_are_asked_again(start):
+    """Ten thousand requests from eight clients on queues of four, each sent again where it was answered 503: nothing is lost."""
+    collector = start('queue_full = "retry"\nqueue_capacity = 4\nexport_capacity = 4\nlanes = 4\nshards = 2\n' + ALL)
+    again = []
+
+    def asks(at):
+        client = collector.client()
+        for number in range(1250):
+            trace = f"{8 * number + at + 1:032x}"
+            body = post(body_of([{"traceId": trace, "spanId": f"{span + 1:016x}"} for span in range(4)]))
+            for _ in range(100000):
+                client.send(body)
+                status, fields, text = client.answer()
+                if status == 200:
+                    want("the body", text, "{}")
+                    break
+                want("the refusal", (status, fields["retry-after"], text), (503, "1", '{"message":"busy"}'))
+                again.append(at)
+        client.close()
+
+    side_by_side(asks, range(8))
+    lines, numbers = collector.close()
+    want("the report", numbers, [40000, 40000, 0, 0, 0, 0, 0, 0, 0])
+    want("the spans", len(spans_of(lines)), 40000)
+
+
+def more_than_a_queue_holds(start):
+    """A request of more spans than its queue can hold is taken whole where a full queue is to be asked again."""
+    collector = start('queue_full = "retry"\nqueue_capacity = 4\n' + ALL)
+    spans = [{"traceId": f"{7:032x}", "spanId": f"{span + 1:016x}"} for span in range(1000)]
+    want("the answer", collector.ask(post(body_of(spans)))[::2], (200, "{}"))
+    lines, numbers = collector.close()
+    want("the report", numbers, [1000, 1000, 0, 0, 0, 0, 0, 0, 0])
+    want("the spans in order", [span["spanId"] for span in spans_of(lines)], [span["spanId"] for span in spans])
+
+
+def output_that_fails(start):
+    """An output whose reader is gone stops the collector, where it is told to: nothing is answered 200 behind that, and it ends with status 1."""
+    reader, writer = os.pipe()
+    collector = start('output_fault = "stop"\ndecision_wait_ms = 1\ntick_ms = 10\n' + ALL, output=writer)
+    os.close(writer)
+    want("the first answer", collector.ask(post(body_of(spans_by_number(0, 1))))[0], 200)
+    if not os.read(reader, 65536):
+        raise Failure("no line came")
+    os.close(reader)
+    began = time.monotonic()
+    last = None
+    for number in range(1, 100000):
+        try:
+            last = collector.ask(post(body_of(spans_by_number(number, 1))))[::2]
+        except (Failure, OSError):
+            break
+        if last[0] != 200:
+            want("the refusal", last, (503, '{"message":"closing"}'))
+    want("the status", collector.process.wait(timeout=60), 1)
+    at_most("the end", 30, began)
+    want("the last answer is no acceptance", last[0] if last else 503, 503)
+
+
+def end_of_input(start):
+    """The end of the input closes the collector, where it is told to."""
+    collector = start("close_at_end_of_input = true\n" + ALL, stdin=subprocess.PIPE)
+    want("the answer", collector.ask(post(body_of([ERROR_SPAN])))[0], 200)
+    collector.process.stdin.write(b"any words\n")
+    collector.process.stdin.flush()
+    time.sleep(0.5)
+    want("it still runs", collector.process.poll(), None)
+    collector.process.stdin.close()
+    lines, numbers = collector.end()
+    want("the report", numbers, [1, 1, 0, 0, 0, 0, 0, 0, 0])
+
+
+CHECKS = [
+    in_charge,
+    odd_questions,
+    counts_only_rise,
+    taken_addresses,
+    full_queues_are_asked_again,
+    more_than_a_queue_holds,
+    output_that_fails,
+    end_of_input,
+]
