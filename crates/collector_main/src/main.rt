@@ -3,6 +3,7 @@
 //! they keep as lines of JSON, and a report of every span's end; a replay prints its replies, too.
 #![tactic(auto)]
 
+mod asking;
 mod configuration;
 mod opening;
 mod program;

@@ -3,14 +3,15 @@ ghost use Rattle.std.specs.Prelude.{◌≡◌, ◌+◌, ◌≤◌, ◌<◌, ◌+
 ghost use Rattle.tsc_script.specs.Reads.{KnownReader};
 ghost use Rattle.collector_main.specs.Configuration.{file_of};
 ghost use Rattle.collector_main.specs.Outcomes.{outcome_of, served_to, exit_status};
-ghost use Rattle.collector_main.specs.Ending.{WritesText, HandsText, Finishes, AsksFor, AsksNothing, asked_alone, asked_by, CameTo, Replays, Serves, Ends, text_of, name_of, report_text};
+ghost use Rattle.collector_main.specs.Ending.{WritesText, HandsText, Finishes, CameTo, Replays, Serves, Ends, text_of, name_of, report_text};
 ghost use Rattle.collector_main.specs.Validating.{fault_number};
 ghost use Rattle.collector_main.specs.declared.program.Outcome.TheVariants.{NoMemory};
 
+use crate::asking::{HELP, VERSION, asked};
 use crate::configuration::{FileFault, config_of, read_file};
 use crate::opening::{charge_of, copy_of, opened};
-use collector_serve::{StoppingSink, WallClock, drivers, serve_on};
 use crate::validating::told_of;
+use collector_serve::{StoppingSink, WallClock, drivers, serve_on};
 use drop_ledger::{Count, Report};
 use itoa::Buffer;
 use lane_seq::put;
@@ -31,9 +32,6 @@ use tsc_script::Source;
 
 /// Room for a line of the report or of a refusal, in bytes.
 pub const TEXT_ROOM: usize = 128;
-
-/// The program's version.
-pub const VERSION: &str = "0.1.0";
 
 /// What the program is asked to do.
 #[derive(Clone, Copy, PartialEq, Eq)]
@@ -80,21 +78,6 @@ pub enum Outcome {
     /// The version was told.
     Version,
 }
-
-/// What can be asked for.
-const HELP: &[u8] = b"\
-tsc: a tail-sampling trace collector
-
-  tsc serve CONFIG     takes requests until POST /close, and prints the spans that it keeps and a report
-  tsc replay CONFIG    runs a script of requests from standard input, and prints the same and its replies
-  tsc validate CONFIG  prints ok, or a line for each fault of the configuration
-  tsc help             prints this text
-  tsc version          prints the version
-
-CONFIG is the path of a TOML file. The exit status is 0 where all was done, 1 where a write failed, 2 for wrong
-arguments, 3 for a refused configuration, 4 for a refused script, 5 for no memory, 6 where the address can't be
-listened at, and 7 for a full book.
-";
 
 /// Runs the program with the arguments behind its own name. `reader` gives a script; `input` is the same standard input, for a
 /// collector that is closed at its end. It gives the writer back beside the exit status.
@@ -204,43 +187,6 @@ fn run<
         Command::Validate => (writer, told_of(alloc, read_file(rt, alloc, path))),
         Command::Help => (writer, Outcome::Help),
         Command::Version => (writer, Outcome::Version),
-    }
-}
-
-/// What the arguments ask for, and the path of the configuration, if there is one.
-fn asked(arguments: &[String]) -> Option<(Command, &str)>
-    ensures some { IfSome result (λ asked. AsksFor (map string_bytes arguments.now) asked.0) }
-    ensures none { IfNone result (AsksNothing (map string_bytes arguments.now)) }
-{
-    if let [word] = arguments {
-        return Some((asked_alone(word.as_str())?, ""));
-    }
-    let [word, path] = arguments else {
-        return None;
-    };
-    Some((asked_by(word.as_str())?, path.as_str()))
-}
-
-/// What a word asks for that stands alone.
-fn asked_alone(word: &str) -> Option<Command>
-    ensures { result ≡ asked_alone word.now }
-{
-    match word {
-        "help" => Some(Command::Help),
-        "version" => Some(Command::Version),
-        _ => None,
-    }
-}
-
-/// What a word asks for that stands before the path of a configuration.
-fn asked_by(word: &str) -> Option<Command>
-    ensures { result ≡ asked_by word.now }
-{
-    match word {
-        "replay" => Some(Command::Replay),
-        "serve" => Some(Command::Serve),
-        "validate" => Some(Command::Validate),
-        _ => None,
     }
 }
 
