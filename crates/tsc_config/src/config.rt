@@ -12,7 +12,7 @@ use crate::fault::ConfigFault;
 use crate::fault_walk::table_fault;
 use crate::kinds::{ChoiceKey, NumberKey};
 use crate::settings_values::{natural_at, truth_at};
-use crate::values::{address_at, cache_size_at, is_other_at, policies_at, positive_by};
+use crate::values::{addresses_at, cache_size_at, is_other_at, policies_at, positive_by};
 use otlp_types::Text;
 use policy_tree::Policies;
 use span_ids::Moment;
@@ -158,10 +158,7 @@ fn config_of(alloc: Global, table: &Table) -> Result<Config, ConfigFault>
         Ok(policies) => policies,
         Err(fault) => return Err(ConfigFault::Policy(fault)),
     };
-    let Ok(listen) = address_at(alloc, table, "listen", "127.0.0.1:4318") else {
-        return Err(ConfigFault::NoMemory);
-    };
-    let Ok(admin) = address_at(alloc, table, "admin", "") else {
+    let Ok((listen, admin)) = addresses_at(alloc, table) else {
         return Err(ConfigFault::NoMemory);
     };
     Ok(Config {
