@@ -1,5 +1,5 @@
 //! What a table without a fault gives.
-ghost use Rattle.std.specs.Prelude.{◌≡◌, ◌<◌, ◌≤◌, IfOk, codes};
+ghost use Rattle.std.specs.Prelude.{◌≡◌, ◌<◌, ◌≤◌, IfOk, codes, []};
 ghost use Rattle.policy_tree.specs.declared.policy.Join.TheVariants as join_is;
 ghost use Rattle.toml.specs.Data.{get_member, table as table_data};
 ghost use Rattle.toml.specs.View.{view, table_view, array_view};
@@ -31,13 +31,18 @@ pub fn positive_by(table: &Table, key: NumberKey) -> u64
     }
 }
 
+/// The two addresses: that of requests, and that for those in charge.
+pub fn addresses_at(alloc: Global, table: &Table) -> Result<(Text, Text), AllocError>
+    ensures listen { IfOk result (λ addresses. addresses.0 ≡ spec.address_of (codes "127.0.0.1:4318") (get_member (codes "listen") (table_view table.now))) }
+    ensures admin { IfOk result (λ addresses. addresses.1 ≡ spec.address_of [] (get_member (codes "admin") (table_view table.now))) }
+{
+    let listen = address_at(alloc, table, "listen", "127.0.0.1:4318")?;
+    let admin = address_at(alloc, table, "admin", "")?;
+    Ok((listen, admin))
+}
+
 /// The text at a key, or its default.
-pub fn address_at(
-    alloc: Global,
-    table: &Table,
-    key: &str,
-    default: &str,
-) -> Result<Text, AllocError>
+fn address_at(alloc: Global, table: &Table, key: &str, default: &str) -> Result<Text, AllocError>
     ensures { IfOk result (λ text. text ≡ spec.address_of default.now (get_member key.now (table_view table.now))) }
 {
     match member(table, key) {
