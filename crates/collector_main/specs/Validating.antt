@@ -20,7 +20,7 @@ fault_number fault = decimal (config_fault_number fault)
 
 -- the line of a finding: what is said of it, and the number of the fault
 abbrev pub line_of : Finding → List ℕ
-line_of finding = string_bytes finding.said ++ codes " (fault " ++ fault_number finding.fault ++ codes ")\n"
+line_of finding = string_bytes finding.said ++ (codes " (fault " ++ (fault_number finding.fault ++ codes ")\n"))
 
 -- the lines of findings
 abbrev pub lines_of : List Finding → List ℕ

@@ -37,6 +37,7 @@ pub fn asked(arguments: &[String]) -> Option<(Command, &str)>
 }
 
 /// What a word asks for that stands alone.
+#[tactic(auto, unfolding(crate::specs::Ending::asked_alone))]
 fn asked_alone(word: &str) -> Option<Command>
     ensures { result ≡ asked_alone word.now }
 {
@@ -48,6 +49,7 @@ fn asked_alone(word: &str) -> Option<Command>
 }
 
 /// What a word asks for that stands before the path of a configuration.
+#[tactic(auto, unfolding(crate::specs::Ending::asked_by))]
 fn asked_by(word: &str) -> Option<Command>
     ensures { result ≡ asked_by word.now }
 {

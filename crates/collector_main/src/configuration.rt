@@ -69,13 +69,17 @@ pub fn config_of(alloc: Global, file: Result<Vec<u8>, FileFault>) -> Result<Conf
 
 /// The text in these bytes, unless they aren't UTF-8 or too many.
 pub fn text_in(bytes: Vec<u8>) -> Option<String>
-    ensures some { IfSome result (λ text. IsText bytes.items × (string_bytes text ≡ bytes.items)) }
+    ensures same { IfSome result (λ text. string_bytes text ≡ bytes.items) }
+    ensures some { IfSome result (λ text. IsText bytes.items) }
     ensures none { IfNone result (¬ IsText bytes.items) }
 {
     if MAX_CONFIG_LEN < bytes.len() {
         return None;
     }
-    String::from_utf8(bytes).ok()
+    match String::from_utf8(bytes) {
+        Ok(text) => Some(text),
+        Err(_) => None,
+    }
 }
 
 /// The configuration in these bytes: `Unreadable` where they aren't UTF-8 or too many, a fault where the text has it, and

@@ -1,7 +1,7 @@
 //! Every fault of a configuration, in lines.
 ghost use Rattle.std.specs.Prelude.{◌≡◌, IfOk, string_bytes};
 ghost use Rattle.collector_main.specs.Configuration.{file_of};
-ghost use Rattle.collector_main.specs.Validating.{FileTells, line_of, lines_of};
+ghost use Rattle.collector_main.specs.Validating.{FileTells, fault_number, line_of, lines_of};
 
 use crate::configuration::{FileFault, text_in};
 use crate::program::Outcome;
@@ -48,15 +48,23 @@ fn lines_of(alloc: Global, findings: &[Finding]) -> Result<String, AllocError>
 fn line_of(alloc: Global, finding: &Finding) -> Result<String, AllocError>
     ensures { IfOk result (λ line. string_bytes line ≡ line_of finding.now) }
 {
+    let number = number_text(alloc, finding.fault)?;
     let said = finding.said.as_str();
-    match finding.fault {
+    format!(in alloc; "{said} (fault {number})\n")
+}
+
+/// The number of a fault, and of a fault of the policies `7.P`.
+fn number_text(alloc: Global, fault: ConfigFault) -> Result<String, AllocError>
+    ensures { IfOk result (λ text. string_bytes text ≡ fault_number fault) }
+{
+    match fault {
         ConfigFault::Policy(policy) => {
             let number = policy.number();
-            format!(in alloc; "{said} (fault 7.{number})\n")
+            format!(in alloc; "7.{number}")
         }
-        fault => {
+        _ => {
             let number = fault.number();
-            format!(in alloc; "{said} (fault {number})\n")
+            format!(in alloc; "{number}")
         }
     }
 }
