@@ -144,12 +144,12 @@ fn answer_one(alloc: Global, stream: TcpStream, in_charge: &mut InCharge<'_>) ->
 /// Reads what is still sent, for a while and so many pieces at most, so that the answer isn't taken back.
 fn linger(reader: &mut TcpStream) {
     let mut piece = [0; 4096];
-    let mut quiet = 0;
+    let mut quiet: u32 = 0;
     for _ in 0..LINGER_PIECES {
         match reader.read(&mut piece) {
             Ok(n) if n > 0 => quiet = 0,
             Err(error) if error.kind() == io::ErrorKind::WouldBlock => {
-                quiet += 1;
+                quiet = quiet.saturating_add(1);
                 if quiet > LINGER_WAITS {
                     return;
                 }
