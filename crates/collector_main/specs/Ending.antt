@@ -1,5 +1,5 @@
 -- The last text and the exit status, and how each outcome arises.
-use Rattle.std.specs.Prelude.{◌≡◌, ◌⊎◌, ◌++◌, ◌<◌, ℕ, Bool, true, false, not, List, [], ◌∷◌, map, length, slice_index, Option, Result, codes, decimal}
+use Rattle.std.specs.Prelude.{◌≡◌, ◌⊎◌, ◌++◌, ◌<◌, ℕ, Bool, true, false, not, List, [], ◌∷◌, map, length, slice_index, Option, Some, None, Result, codes, decimal, string_bytes, if◌then◌else◌}
 use Rattle.std.specs.List.{concat}
 use Rattle.std.specs.Io.KnownBytes.{Appends}
 use Rattle.std.specs.Str.{bytes_eq}
@@ -9,18 +9,16 @@ use Rattle.drop_ledger.specs.Places.{place_of}
 use Rattle.drop_ledger.specs.declared.count.Count.{Count}
 use Rattle.drop_ledger.specs.declared.count.Count.TheVariants.{Received, Handed, Dropped}
 use Rattle.drop_ledger.specs.declared.report.Report.{Report}
-use Rattle.policy_tree.specs.Faults.{policy_fault_number}
-use Rattle.tsc_config.specs.Faults.{config_fault_number}
 use Rattle.tsc_config.specs.declared.config.Config.{Config}
-use Rattle.tsc_config.specs.declared.fault.ConfigFault.{ConfigFault}
-use Rattle.tsc_config.specs.declared.fault.ConfigFault.TheVariants.{Policy}
 use Rattle.script_session.specs.declared.fault.RunFault.{RunFault}
 use Rattle.collector_main.specs.declared.program.Outcome.{Outcome}
-use Rattle.collector_main.specs.declared.program.Outcome.TheVariants.{Done, SinkDown, Usage, Unreadable, Configuration, Script, NoMemory, BookFull, CannotListen}
+use Rattle.collector_main.specs.declared.program.Outcome.TheVariants.{Done, SinkDown, Usage, Unreadable, Configuration, Script, NoMemory, BookFull, CannotListen, Valid, Faulty}
+use Rattle.collector_main.specs.declared.program.Outcome.TheVariants as is
 use Rattle.collector_main.specs.declared.program.Command.{Command}
-use Rattle.collector_main.specs.declared.program.Command.TheVariants.{Replay, Serve}
+use Rattle.collector_main.specs.declared.program.Command.TheVariants.{Replay, Serve, Validate, Help, Version}
 use Rattle.collector_main.specs.Outcomes.{outcome_of, served_to, exit_status}
 use Rattle.collector_main.specs.Configuration.{FileFails, IsConfigOf}
+use Rattle.collector_main.specs.Validating.{FileTells, fault_number}
 use Rattle.collector_main.specs.declared.configuration.FileFault.{FileFault}
 use Rattle.script_session.specs.Replay.{Run, RunEnds, settings_by}
 use Rattle.pipeline.specs.declared.fault.RunFault.{RunFault as ServeFault}
@@ -64,10 +62,20 @@ count_line report count = name_of count ++ decimal (slice_index report (place_of
 abbrev pub report_text : (report : List ℕ) → List ℕ
 report_text report = concat (map (count_line report) counts)
 
--- a fault of the configuration by its number, and a fault of its policies as `7.P`
-abbrev pub fault_number : ConfigFault → List ℕ
-fault_number (Policy fault) = codes "7." ++ decimal (policy_fault_number fault)
-fault_number fault = decimal (config_fault_number fault)
+-- what can be asked for
+abbrev pub help_text : List ℕ
+help_text =
+    codes "tsc: a tail-sampling trace collector\n"
+    ++ codes "\n"
+    ++ codes "  tsc serve CONFIG     takes requests until POST /close, and prints the spans that it keeps and a report\n"
+    ++ codes "  tsc replay CONFIG    runs a script of requests from standard input, and prints the same and its replies\n"
+    ++ codes "  tsc validate CONFIG  prints ok, or a line for each fault of the configuration\n"
+    ++ codes "  tsc help             prints this text\n"
+    ++ codes "  tsc version          prints the version\n"
+    ++ codes "\n"
+    ++ codes "CONFIG is the path of a TOML file. The exit status is 0 where all was done, 1 where a write failed, 2 for wrong\n"
+    ++ codes "arguments, 3 for a refused configuration, 4 for a refused script, 5 for no memory, 6 where the address can't be\n"
+    ++ codes "listened at, and 7 for a full book.\n"
 
 -- the last text of each outcome: nothing once a write of the run failed
 abbrev pub text_of : Outcome → List ℕ
@@ -80,6 +88,10 @@ text_of (Script line) = codes "tsc: script refused: line " ++ decimal line ++ co
 text_of NoMemory = codes "tsc: no memory\n"
 text_of BookFull = codes "tsc: book full\n"
 text_of CannotListen = codes "tsc: cannot listen\n"
+text_of Valid = codes "ok\n"
+text_of (Faulty lines) = string_bytes lines
+text_of is.Help = help_text
+text_of is.Version = codes "tsc 0.1.0\n"
 
 -- the first part of a text was taken; it was written exactly where nothing is missing
 pub record WritesText (before : Option (List ℕ)) (text : List ℕ) (written : Bool) (after : Option (List ℕ)) : Type 0 where
@@ -108,27 +120,31 @@ pub record Course : Type 0 where
   pub taken : Option (List ℕ)
   pub taken_after : Option (List ℕ)
 
--- there are two arguments, and the first is this word
-abbrev pub asks : (word : List ℕ) → (arguments : List (List ℕ)) → Bool
-asks word (first ∷ path ∷ []) = bytes_eq first word
-asks word _ = false
+-- what a word asks for that stands alone
+unfoldable pub asked_alone : (word : List ℕ) → Option Command
+asked_alone word = if bytes_eq word (codes "help") then Some Help else if bytes_eq word (codes "version") then Some Version else None
 
--- a script is to be run
-abbrev pub asks_replay : (arguments : List (List ℕ)) → Bool
-asks_replay arguments = asks (codes "replay") arguments
+-- what a word asks for that stands before the path of a configuration
+unfoldable pub asked_by : (word : List ℕ) → Option Command
+asked_by word =
+    if bytes_eq word (codes "replay") then Some Replay
+    else if bytes_eq word (codes "serve") then Some Serve
+    else if bytes_eq word (codes "validate") then Some Validate
+    else None
 
--- requests are to be taken on a listener
-abbrev pub asks_serve : (arguments : List (List ℕ)) → Bool
-asks_serve arguments = asks (codes "serve") arguments
+-- what the arguments ask for
+abbrev pub asked : (arguments : List (List ℕ)) → Option Command
+asked (word ∷ []) = asked_alone word
+asked (word ∷ path ∷ []) = asked_by word
+asked _ = None
 
 -- this is asked for
 abbrev pub AsksFor : (arguments : List (List ℕ)) → Command → Type 0
-AsksFor arguments Replay = asks_replay arguments ≡ true
-AsksFor arguments Serve = asks_serve arguments ≡ true
+AsksFor arguments command = asked arguments ≡ Some command
 
 -- nothing that there is is asked for
 abbrev pub AsksNothing : (arguments : List (List ℕ)) → Type 0
-AsksNothing arguments = (asks_replay arguments ≡ false) × (asks_serve arguments ≡ false)
+AsksNothing arguments = asked arguments ≡ None
 
 -- nothing was read of the script, and nothing was written
 abbrev pub NothingDone : Course → Type 0
@@ -196,6 +212,9 @@ Serves course outcome = ServedTo course outcome
 abbrev pub Does : Course → Command → Outcome → Type 0
 Does course Replay outcome = Replays course outcome
 Does course Serve outcome = Serves course outcome
+Does course Validate outcome = FileTells course.file outcome × NothingDone course
+Does course Help outcome = (outcome ≡ is.Help) × NothingDone course
+Does course Version outcome = (outcome ≡ is.Version) × NothingDone course
 
 -- how an outcome arises: the arguments are wrong exactly where they ask for nothing that there is, and then nothing is done
 abbrev pub CameTo : Course → Outcome → Type 0

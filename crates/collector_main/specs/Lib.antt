@@ -1,3 +1,4 @@
 pub mod Outcomes
 pub mod Configuration
+pub mod Validating
 pub mod Ending

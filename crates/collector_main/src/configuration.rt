@@ -1,8 +1,8 @@
 //! The configuration: what is read of its file, and what that is read as.
-ghost use Rattle.std.specs.Prelude.{◌≡◌, ◌≢◌, Ok, Err, IfOk, IfErr};
+ghost use Rattle.std.specs.Prelude.{◌≡◌, ◌≢◌, Ok, Err, IfOk, IfErr, IfSome, IfNone, string_bytes};
 ghost use Rattle.std.specs.IoError.{error_kind};
 ghost use Rattle.tsc_config.specs.Values.{InRange};
-ghost use Rattle.collector_main.specs.Configuration.{BytesFail, FileFails, IsConfigIn, IsConfigOf, IsStart, file_of};
+ghost use Rattle.collector_main.specs.Configuration.{BytesFail, FileFails, IsConfigIn, IsConfigOf, IsStart, IsText, file_of};
 
 use crate::program::Outcome;
 use std::alloc::Global;
@@ -67,6 +67,17 @@ pub fn config_of(alloc: Global, file: Result<Vec<u8>, FileFault>) -> Result<Conf
     }
 }
 
+/// The text in these bytes, unless they aren't UTF-8 or too many.
+pub fn text_in(bytes: Vec<u8>) -> Option<String>
+    ensures some { IfSome result (λ text. IsText bytes.items × (string_bytes text ≡ bytes.items)) }
+    ensures none { IfNone result (¬ IsText bytes.items) }
+{
+    if MAX_CONFIG_LEN < bytes.len() {
+        return None;
+    }
+    String::from_utf8(bytes).ok()
+}
+
 /// The configuration in these bytes: `Unreadable` where they aren't UTF-8 or too many, a fault where the text has it, and
 /// the fault of no memory where there was none to read it.
 pub fn config_in(alloc: Global, bytes: Vec<u8>) -> Result<Config, Outcome>
@@ -74,10 +85,7 @@ pub fn config_in(alloc: Global, bytes: Vec<u8>) -> Result<Config, Outcome>
     ensures is_read { IfOk result (IsConfigIn bytes.items) }
     ensures fails { IfErr result (BytesFail bytes.items) }
 {
-    if MAX_CONFIG_LEN < bytes.len() {
-        return Err(Outcome::Unreadable);
-    }
-    let Ok(text) = String::from_utf8(bytes) else {
+    let Some(text) = text_in(bytes) else {
         return Err(Outcome::Unreadable);
     };
     match read(alloc, text.as_str()) {

@@ -3,9 +3,11 @@
 //! they keep as lines of JSON, and a report of every span's end; a replay prints its replies, too.
 #![tactic(auto)]
 
+mod asking;
 mod configuration;
 mod opening;
 mod program;
+mod validating;
 
 use crate::program::{program, without_memory};
 use std::alloc::{Alloc, Global};

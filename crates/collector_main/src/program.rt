@@ -3,11 +3,14 @@ ghost use Rattle.std.specs.Prelude.{◌≡◌, ◌+◌, ◌≤◌, ◌<◌, ◌+
 ghost use Rattle.tsc_script.specs.Reads.{KnownReader};
 ghost use Rattle.collector_main.specs.Configuration.{file_of};
 ghost use Rattle.collector_main.specs.Outcomes.{outcome_of, served_to, exit_status};
-ghost use Rattle.collector_main.specs.Ending.{WritesText, HandsText, Finishes, AsksFor, AsksNothing, CameTo, Replays, Serves, Ends, text_of, name_of, report_text, fault_number};
+ghost use Rattle.collector_main.specs.Ending.{WritesText, HandsText, Finishes, CameTo, Replays, Serves, Ends, text_of, name_of, report_text};
+ghost use Rattle.collector_main.specs.Validating.{fault_number};
 ghost use Rattle.collector_main.specs.declared.program.Outcome.TheVariants.{NoMemory};
 
+use crate::asking::{HELP, VERSION, asked};
 use crate::configuration::{FileFault, config_of, read_file};
 use crate::opening::{charge_of, copy_of, opened};
+use crate::validating::told_of;
 use collector_serve::{StoppingSink, WallClock, drivers, serve_on};
 use drop_ledger::{Count, Report};
 use itoa::Buffer;
@@ -37,10 +40,16 @@ pub enum Command {
     Replay,
     /// To take requests on a listener.
     Serve,
+    /// To tell every fault of a configuration.
+    Validate,
+    /// To tell what can be asked for.
+    Help,
+    /// To tell its version.
+    Version,
 }
 
 /// How the program ended.
-#[derive(Clone, Copy, PartialEq, Eq)]
+#[derive(Drop)]
 pub enum Outcome {
     /// The script was run to its end, or the collector was closed.
     Done(Report),
@@ -60,6 +69,14 @@ pub enum Outcome {
     BookFull,
     /// The address can't be listened at, or too many files are open for a lane to watch its connections.
     CannotListen,
+    /// The configuration has no fault.
+    Valid,
+    /// The configuration has the faults that these lines tell.
+    Faulty(String),
+    /// It was told what can be asked for.
+    Help,
+    /// The version was told.
+    Version,
 }
 
 /// Runs the program with the arguments behind its own name. `reader` gives a script; `input` is the same standard input, for a
@@ -131,6 +148,8 @@ fn exit_status(outcome: &Outcome, written: bool) -> u8
         Outcome::NoMemory => 5,
         Outcome::BookFull => 7,
         Outcome::CannotListen => 6,
+        Outcome::Faulty(_) => 3,
+        Outcome::Valid | Outcome::Help | Outcome::Version => { if written { 0 } else { 1 } }
     }
 }
 
@@ -162,28 +181,13 @@ fn run<
     let Some((command, path)) = asked(arguments) else {
         return (writer, Outcome::Usage);
     };
-    let file = read_file(rt, alloc, path);
     match command {
-        Command::Replay => replay_by(alloc, file, reader, writer),
-        Command::Serve => serve_by(rt, alloc, file, input, writer),
+        Command::Replay => replay_by(alloc, read_file(rt, alloc, path), reader, writer),
+        Command::Serve => serve_by(rt, alloc, read_file(rt, alloc, path), input, writer),
+        Command::Validate => (writer, told_of(alloc, read_file(rt, alloc, path))),
+        Command::Help => (writer, Outcome::Help),
+        Command::Version => (writer, Outcome::Version),
     }
-}
-
-/// What the arguments ask for, and the path of the configuration.
-fn asked(arguments: &[String]) -> Option<(Command, &str)>
-    ensures some { IfSome result (λ asked. AsksFor (map string_bytes arguments.now) asked.0) }
-    ensures none { IfNone result (AsksNothing (map string_bytes arguments.now)) }
-{
-    let [command, path] = arguments else {
-        return None;
-    };
-    if command.as_str() == "replay" {
-        return Some((Command::Replay, path.as_str()));
-    }
-    if command.as_str() == "serve" {
-        return Some((Command::Serve, path.as_str()));
-    }
-    None
 }
 
 /// Runs the script by the configuration in what was read of its file.
@@ -318,7 +322,25 @@ fn say<S: Sink>(lines: &mut LineSink<S>, text: &mut Vec<u8>, outcome: &Outcome) 
         Outcome::NoMemory => hand_line(lines, b"tsc: no memory\n"),
         Outcome::BookFull => hand_line(lines, b"tsc: book full\n"),
         Outcome::CannotListen => hand_line(lines, b"tsc: cannot listen\n"),
+        Outcome::Valid => hand_line(lines, b"ok\n"),
+        Outcome::Faulty(told) => say_told(lines, told.as_str()),
+        Outcome::Help => hand_line(lines, HELP),
+        Outcome::Version => {
+            text.clear();
+            put(text, b"tsc ");
+            put(text, VERSION.as_bytes());
+            put(text, b"\n");
+            hand_line(lines, text)
+        }
     }
+}
+
+/// Writes lines, if there are some.
+fn say_told<S: Sink>(lines: &mut LineSink<S>, told: &str) -> bool
+    requires { lines.old.is_down ≡ false }
+    ensures { HandsText lines.old told.now result lines.new }
+{
+    told.is_empty() || hand_line(lines, told.as_bytes())
 }
 
 /// Writes a fault of the configuration by its number, and a fault of its policies as `7.P`.

@@ -15,7 +15,7 @@ use Rattle.tsc_config.specs.Keys.{has_unknown_key, is_key, type_name, type_at, j
 use Rattle.tsc_config.specs.Faults.{config_fault_number, optional, required, unknown_fault, integer_fault, text_fault, truth_fault, type_fault, item_fault, wanted_fault}
 use Rattle.tsc_config.specs.FaultSets.{IsLeastOf, OptionalHas, RequiredHas, SomeItemHas, ValueHas, KeyHas, SomeSettingHas, RowsHave, SettingsHave, SettingsAtHave, TypedHas, PolicyTableHas, PoliciesHave, SomePolicyHas, PolicyHas, PartsHave, PartsSettingsHave, SubPoliciesHave, SubValueHas, CacheHas, NumbersHave, SizesHave, ChoicesHave, HasFault, DocumentHas, TextHas}
 use Rattle.tsc_config.specs.FaultLists as spec
-use Rattle.tsc_config.specs.FaultLists.{ListsAll, listed, unknown_faults, items_faults, value_faults, optional_faults, required_faults, setting_faults, rows_faults, settings_faults, head_settings, is_joined, typed_faults, own_faults, policy_table_faults, number_settings, size_settings, other_settings, top_settings, cache_settings, table_faults, of_policies, given_faults, document_faults, text_faults}
+use Rattle.tsc_config.specs.FaultLists.{faults_in, ListsAll, listed, unknown_faults, items_faults, value_faults, optional_faults, required_faults, setting_faults, rows_faults, settings_faults, head_settings, is_joined, typed_faults, own_faults, policy_table_faults, number_settings, size_settings, other_settings, top_settings, cache_settings, table_faults, of_policies, given_faults, document_faults, text_faults}
 use Rattle.tsc_config.specs.PolicySettings.{Setting, settings}
 use Rattle.tsc_config.specs.Reading.{reading}
 use Rattle.tsc_config.specs.Values.{config_of}
@@ -24,6 +24,7 @@ use Rattle.tsc_config.proofs.Whole.{text_least}
 use Rattle.tsc_config.specs.declared.config.Config.{Config}
 use Rattle.tsc_config.specs.declared.fault.ConfigFault.{ConfigFault}
 use Rattle.tsc_config.specs.declared.fault.ConfigFault.TheVariants.{NotToml, UnknownKey, MissingKey, WrongType, TooFewTraces, Policy}
+use Rattle.tsc_config.specs.declared.findings.Finding.{Finding}
 use Rattle.tsc_config.specs.declared.kinds.ChoiceKey.TheVariants as choice_is
 use Rattle.tsc_config.specs.declared.kinds.PolicyType.{PolicyType}
 use Rattle.tsc_config.specs.declared.kinds.PolicyType.TheVariants as type_is
@@ -367,3 +368,8 @@ no_fault (first ∷ rest) (Err fault) least = (λ e. cc, λ h. cc)
 
 pub none_listed : (text : List ℕ) → (text_faults text ≡ []) ↔ IsOk (reading text)
 none_listed text = no_fault (text_faults text) (reading text) (least_listed text)
+
+-- of findings with these faults there is none exactly where the text is read as a configuration
+pub none_found : (findings : List Finding) (text : List ℕ) → faults_in findings ≡ text_faults text → (findings ≡ []) ↔ IsOk (reading text)
+none_found [] text e = (λ same. (none_listed text).0 (sym e), λ read. refl)
+none_found (first ∷ rest) text e = (λ same. cc, λ read. let wrong : faults_in (first ∷ rest) ≡ [] = e ∙ (none_listed text).1 read in cc)

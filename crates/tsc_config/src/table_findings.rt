@@ -1,8 +1,9 @@
 //! Every fault of the text of a configuration.
-ghost use Rattle.std.specs.Prelude.{◌≡◌, ◌++◌, Some, IfOk, OnOk, map};
+ghost use Rattle.std.specs.Prelude.{◌≡◌, ◌↔◌, ◌++◌, [], Some, IfOk, IsOk, OnOk, map};
 ghost use Rattle.toml.specs.View.{table_view};
 ghost use Rattle.tsc_config.specs.FaultLists as spec;
 ghost use Rattle.tsc_config.specs.PolicySettings.{setting_of};
+ghost use Rattle.tsc_config.specs.Reading.{reading};
 ghost use Rattle.tsc_config.specs.Values.{config_of};
 
 use crate::fault::ConfigFault;
@@ -22,8 +23,10 @@ use toml::Table;
 /// place that has one, and then those of what they give, where a value with a fault counts as its key's default. There is
 /// none exactly where `read` gives a configuration, and else `read` refuses for that of least number
 /// ([`crate::laws::lists_each_fault`]). `Err` only where memory was refused.
+#[tactic(auto, using(crate::proofs::FaultLists::none_found))]
 pub fn faults(alloc: Global, text: &str) -> Result<Vec<Finding>, AllocError>
-    ensures { IfOk result (λ found. spec.faults_in found.items ≡ spec.text_faults text.now) }
+    ensures faults { IfOk result (λ found. spec.faults_in found.items ≡ spec.text_faults text.now) }
+    ensures none { IfOk result (λ found. (found.items ≡ []) ↔ IsOk (reading text.now)) }
 {
     let mut findings = Findings::new(alloc);
     match toml::table_from_str(alloc, text) {
