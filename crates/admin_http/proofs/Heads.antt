@@ -14,7 +14,7 @@ use Rattle.http_text.specs.declared.search.Place.TheVariants.{Blank}
 use Rattle.admin_http.specs.declared.asked.AdminRequest.{AdminRequest}
 use Rattle.admin_http.specs.Asked.{HeardBy, IsHeard, refused_as, nothing}
 
-judged_head : (text : List ℕ) (v : Verdict) → refused_as v ≡ None → Judges false text v → (h : RequestHead) × IsHead text h
+judged_head : (text : List ℕ) (v : Verdict) → refused_as v ≡ None → Judges nothing text v → (h : RequestHead) × IsHead text h
 judged_head text v e (inl found) = (found.0, found.1)
 judged_head text v e (inr none) = let bad = ap refused_as none.1 in absurd (cc)
 

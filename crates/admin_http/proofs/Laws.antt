@@ -13,7 +13,7 @@ use Rattle.http_text.proofs.CutLemmas.{cut_within, head_stable, head_within, too
 use Rattle.admin_http.specs.declared.asked.AdminRequest.{AdminRequest}
 use Rattle.admin_http.specs.Asked.{AskedAs, HeardBy, IsAsked, IsHeard, OneRequest, StaysHeard, asked_by, refused_as, nothing}
 
-judged_once : (text : List ℕ) (v w : Verdict) → Judges false text v → Judges false text w → v ≡ w
+judged_once : (text : List ℕ) (v w : Verdict) → Judges nothing text v → Judges nothing text w → v ≡ w
 judged_once text v w (inl a) (inl b) = a.2 ∙ ap (verdict nothing) (request_unique text a.0 b.0 [] [] a.1.0 b.1.0).0 ∙ sym b.2
 judged_once text v w (inl a) (inr b) = absurd (b.0 a.0 a.1)
 judged_once text v w (inr a) (inl b) = absurd (a.0 b.0 b.1)

@@ -12,7 +12,7 @@ use Rattle.http_text.specs.Head.{verdict_by}
 use Rattle.admin_http.specs.declared.asked.Method.TheVariants.{Get, Post}
 use Rattle.admin_http.specs.declared.asked.Route.TheVariants.{Close, Metrics, Health, Config, NotFound, WrongMethod, Bad, TooLarge}
 use Rattle.admin_http.specs.declared.ends.TheConstants.{PIECE_LIMIT, QUIET_LIMIT, READ_LIMIT}
-use Rattle.admin_http.specs.Asked.{asked, asked_by, refused_as, routed}
+use Rattle.admin_http.specs.Asked.{asked, asked_by, refused_as, routed, nothing}
 use Rattle.admin_http.specs.Texts.{AdminState, answer_of, state}
 
 -- the four targets, each by its method
@@ -62,7 +62,7 @@ host : Header
 host = (codes "Host", codes "x")
 
 refused_for : ℕ → List Header → Verdict
-refused_for minor headers = verdict_by false (codes "GET") (codes "/metrics") minor headers
+refused_for minor headers = verdict_by nothing (codes "GET") (codes "/metrics") minor headers
 
 bad_heads : refused_as (refused_for 0 (host ∷ [])) ∷ refused_as (refused_for 1 []) ∷ refused_as (refused_for 1 (host ∷ host ∷ [])) ∷ refused_as (refused_for 1 (host ∷ [])) ∷ []
     ≡ Some (asked Bad false) ∷ Some (asked Bad false) ∷ Some (asked Bad false) ∷ None ∷ []

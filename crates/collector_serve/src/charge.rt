@@ -9,7 +9,7 @@ use lane_driver::Loads;
 use metrics_text::{Metrics, metrics_text};
 use std::alloc::{AllocError, Global};
 use std::io::Read;
-use std::net::{Net, TcpListener, TcpStream};
+use std::net::{Net, Shutdown, TcpListener, TcpStream};
 use std::sync::{Arc, Wait};
 use std::thread::Threads;
 use std::time::{Clock, Duration, Instant};
@@ -20,6 +20,11 @@ const READ_TIMEOUT: u64 = 100;
 
 /// How long a write waits for one in charge, and how long it is waited where no connection can be taken, in milliseconds.
 const WRITE_TIMEOUT: u64 = 1_000;
+
+/// So many pieces of 4,096 bytes are read behind an answer at most, and so often it is waited for one.
+const LINGER_PIECES: u32 = 1024;
+
+const LINGER_WAITS: u32 = 5;
 
 /// What a collector shares with those in charge of it.
 #[derive(Drop)]
@@ -131,7 +136,27 @@ fn answer_one(alloc: Global, stream: TcpStream, in_charge: &mut InCharge<'_>) ->
     let mut reader = stream.try_clone()?;
     let mut writer = stream;
     let _ = serve(alloc, &mut reader, &mut writer, in_charge);
+    writer.shutdown(Shutdown::Write)?;
+    linger(&mut reader);
     Ok(())
+}
+
+/// Reads what is still sent, for a while and so many pieces at most, so that the answer isn't taken back.
+fn linger(reader: &mut TcpStream) {
+    let mut piece = [0; 4096];
+    let mut quiet: u32 = 0;
+    for _ in 0..LINGER_PIECES {
+        match reader.read(&mut piece) {
+            Ok(n) if n > 0 => quiet = 0,
+            Err(error) if error.kind() == io::ErrorKind::WouldBlock => {
+                quiet = quiet.saturating_add(1);
+                if quiet > LINGER_WAITS {
+                    return;
+                }
+            }
+            _ => return,
+        }
+    }
 }
 
 /// Starts a thread that sets the mark to stop at the end of an input, or where a read of it fails. It ends with the program.

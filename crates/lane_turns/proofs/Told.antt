@@ -34,7 +34,7 @@ has_turn g acts x moment brings writes end w coming is_stopped events next after
 }
 
 -- what was written is to be sent
-pub sent : {g : Bool} {old new : Table} {key moment : ℕ} {fits : Exchange → Type 0} {brings : Coming → Type 0} (writes sends : List ℕ → Type 0) {end : Option ServeEnd} {earlier acts : List Act}
+pub sent : {g : Allowed} {old new : Table} {key moment : ℕ} {fits : Exchange → Type 0} {brings : Coming → Type 0} (writes sends : List ℕ → Type 0) {end : Option ServeEnd} {earlier acts : List Act}
     → ((text : List ℕ) → writes text → sends text) → TurnAt g old new key moment fits brings writes end earlier acts → TurnAt g old new key moment fits brings sends end earlier acts
 sent writes sends f t = (
   t.0,

@@ -4,8 +4,10 @@
 #![tactic(auto)]
 
 mod kind;
+mod law;
 mod metrics;
 mod text;
 
+pub use law::tells_all;
 pub use metrics::Metrics;
 pub use text::{VERSION, metrics_text};

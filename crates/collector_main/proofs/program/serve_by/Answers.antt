@@ -1,4 +1,4 @@
-use Rattle.std.proofs.Common.{◌≡◌, ℕ, List, Option, Err, refl, sym, subst}
+use Rattle.std.proofs.Common.{◌≡◌, ◌∙◌, ℕ, List, Option, Err, refl, ap, sym, subst}
 use Rattle.span_sink.specs.Sinks.{SinkState}
 use Rattle.pipeline.specs.Outcome.{SinkAnswers}
 use Rattle.pipeline.specs.Promise.{CoreRunTells}
@@ -20,13 +20,15 @@ returns g c = λ arguments unread.
       taken_after = after;
     } in
     let answer = c.serve_on-sink.result.1 in
-    let after = c.serve_on-sink.result.0 in
+    let after = c.serve_on-sink.result.0.sink in
+    let begins = c.new-sink.ensures ∙ c.new-written.ensures in
+    let ends = sym (c.end.ensures ∙ ap (λ (s : SinkState). s.taken) c.end-written.ensures) in
     let From : SinkState → Type 0 = λ first. SinkAnswers first.taken first.failures after.taken after.failures answer in
     let To : Option (List ℕ) → Type 0 = λ taken. SinkAnswers (g.W.Write.contents c.args.writer) 0 taken after.failures answer in
-    let tells = subst To (sym c.end.ensures) (subst From c.new-sink.ensures c.serve_on-sink.ensures.sink) in
+    let tells = subst To ends (subst From begins c.serve_on-sink.ensures.sink) in
     let RanFrom : SinkState → Type 0 = λ first. CoreRunTells c.in-Ok.config first.taken first.failures after.taken after.failures answer in
     let RanTo : Option (List ℕ) → Type 0 = λ taken. CoreRunTells c.in-Ok.config (g.W.Write.contents c.args.writer) 0 taken after.failures answer in
-    let ran = subst RanTo (sym c.end.ensures) (subst RanFrom c.new-sink.ensures c.serve_on-sink.ensures.ran) in
+    let ran = subst RanTo ends (subst RanFrom begins c.serve_on-sink.ensures.ran) in
     let now = course (g.W.Write.contents c.args.writer) (g.W.Write.contents c.end.result) in
     let P : Outcome → Type 0 = λ outcome. Serves now outcome in
     subst P (sym c.served_to.ensures) (Serves-ran now c.in-Ok.config after.failures answer c.in-Ok.ensures.is_read refl tells ran)

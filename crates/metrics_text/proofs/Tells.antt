@@ -1,0 +1,127 @@
+-- The text tells each number.
+-- For the clause of `tells_all`.
+use Rattle.std.proofs.Common.{◌≡◌, ◌≢◌, ◌+◌, ◌^◌, ◌<◌, ◌%◌, ◌++◌, ◌∷◌, ℕ, List, [], ap, sym, ◌∙◌, append_assoc, append-nil, arith, drop, length, refl}
+use Rattle.std.specs.Prelude.{codes, decimal, map}
+use Rattle.std.specs.List.{concat}
+use Rattle.std.proofs.Math.Seq.{drop-append_seam}
+use Rattle.std.proofs.lemmas.Fmt.{decimal_by_steps, decimal_injective}
+use Rattle.span_ids.specs.declared.outcome.Reason.{Reason}
+use Rattle.span_ids.specs.declared.outcome.Reason.TheVariants.{InvalidId, QueueFull, NoMemory, Evicted, NotSampled, LateNotSampled, ExporterDown}
+use Rattle.drop_ledger.specs.Sums.{Fits}
+use Rattle.drop_ledger.specs.declared.count.Count.{Count}
+use Rattle.drop_ledger.specs.declared.count.Count.TheVariants.{Received, Handed, Dropped}
+use Rattle.metrics_text.specs.declared.kind.FamilyKind.{FamilyKind}
+use Rattle.metrics_text.specs.declared.kind.FamilyKind.TheVariants.{Counter, Gauge}
+use Rattle.metrics_text.specs.declared.metrics.Metrics.{Metrics}
+use Rattle.metrics_text.specs.Families.{TellsAll, build, connections, dropped, dropped_sample, family, family_text, handed, head_lines, labelled, number_of, reason_word, reasons, sample, sample_line, uptime, word_of}
+
+-- ---- a number, and a line feed behind it
+
+-- no byte is a line feed
+abbrev NoFeed : List ℕ → Type 0
+NoFeed [] = Unit {0}
+NoFeed (b ∷ bytes) = (b ≢ 10) × NoFeed bytes
+
+no_feed_more : (xs : List ℕ) (b : ℕ) → NoFeed xs → b ≢ 10 → NoFeed (xs ++ (b ∷ []))
+no_feed_more [] b h n = (n, tt)
+no_feed_more (x ∷ xs) b h n = (h.0, no_feed_more xs b h.1 n)
+
+no_feed : (n : ℕ) → n < 2 ^ 64 → NoFeed (decimal n)
+no_feed n small =
+    decimal_by_steps (λ n ds. NoFeed ds) (λ n le. (omega arith, tt)) (λ n ds le h. no_feed_more ds (48 + n % 10) h (omega arith)) n small
+
+-- two texts up to their first line feeds
+cut_at_feed : (xs ys us vs : List ℕ) → NoFeed xs → NoFeed ys → xs ++ (10 ∷ us) ≡ ys ++ (10 ∷ vs) → (xs ≡ ys) × (us ≡ vs)
+cut_at_feed [] [] us vs h k e = (refl, ap (drop 1) e)
+cut_at_feed [] (y ∷ ys) us vs h k e = let same : y ≡ 10 = cc in absurd (k.0 same)
+cut_at_feed (x ∷ xs) [] us vs h k e = let same : x ≡ 10 = cc in absurd (h.0 same)
+cut_at_feed (x ∷ xs) (y ∷ ys) us vs h k e =
+    let first : x ≡ y = cc in
+    let rest = cut_at_feed xs ys us vs h.1 k.1 (ap (drop 1) e) in
+    let tail : xs ≡ ys = rest.0 in (cc, rest.1)
+
+-- the number that stands in front of a line feed
+number_told : (m n : ℕ) (us vs : List ℕ) → m < 2 ^ 64 → n < 2 ^ 64 → decimal m ++ (10 ∷ us) ≡ decimal n ++ (10 ∷ vs) → (m ≡ n) × (us ≡ vs)
+number_told m n us vs a b e =
+    let cut = cut_at_feed (decimal m) (decimal n) us vs (no_feed m a) (no_feed n b) e in (decimal_injective m n a b cut.0, cut.1)
+
+-- the same text in front
+strip : (front us vs : List ℕ) → front ++ us ≡ front ++ vs → us ≡ vs
+strip front us vs e = sym (drop-append_seam front us) ∙ ap (drop (length front)) e ∙ drop-append_seam front vs
+
+-- ---- samples and families
+
+line_is : (name labels : List ℕ) (n : ℕ) (rest : List ℕ) → sample_line name (sample labels n) ++ rest ≡ (name ++ (labels ++ codes " ")) ++ (decimal n ++ (10 ∷ rest))
+line_is name labels n rest = simp append_assoc
+
+line_told : (name labels : List ℕ) (m n : ℕ) (us vs : List ℕ) → m < 2 ^ 64 → n < 2 ^ 64
+    → sample_line name (sample labels m) ++ us ≡ sample_line name (sample labels n) ++ vs → (m ≡ n) × (us ≡ vs)
+line_told name labels m n us vs a b e =
+    number_told m n us vs a b (strip (name ++ (labels ++ codes " ")) _ _ (sym (line_is name labels m us) ∙ e ∙ line_is name labels n vs))
+
+single_is : (head line rest : List ℕ) → (head ++ (line ++ [])) ++ rest ≡ head ++ (line ++ rest)
+single_is head line rest = simp (append_assoc, append-nil)
+
+single_told : (name help labels : List ℕ) (kind : FamilyKind) (m n : ℕ) (us vs : List ℕ) → m < 2 ^ 64 → n < 2 ^ 64
+    → family_text (family name help kind (sample labels m ∷ [])) ++ us ≡ family_text (family name help kind (sample labels n ∷ [])) ++ vs → (m ≡ n) × (us ≡ vs)
+single_told name help labels kind m n us vs a b e =
+    let head : List ℕ = head_lines name help (word_of kind) in
+    line_told name labels m n us vs a b (strip head _ _ (sym (single_is head (sample_line name (sample labels m)) us) ∙ e ∙ single_is head (sample_line name (sample labels n)) vs))
+
+-- the numbers of these reasons are the same
+abbrev SameFor : List Reason → (a b : List ℕ) → Type 0
+SameFor [] a b = Unit {0}
+SameFor (reason ∷ rest) a b = (number_of a (Dropped reason) ≡ number_of b (Dropped reason)) × SameFor rest a b
+
+abbrev lines_for : (name report : List ℕ) → List Reason → List ℕ
+lines_for name report rs = concat (map (sample_line name) (map (dropped_sample report) rs))
+
+lines_told : (name a b : List ℕ) (rs : List Reason) (us vs : List ℕ) → Fits a → Fits b
+    → lines_for name a rs ++ us ≡ lines_for name b rs ++ vs → SameFor rs a b × (us ≡ vs)
+lines_told name a b [] us vs f g e = (tt, e)
+lines_told name a b (reason ∷ rest) us vs f g e =
+    let lines : List ℕ = sample_line name (dropped_sample a reason) in
+    let others : List ℕ = sample_line name (dropped_sample b reason) in
+    let one = line_told name (labelled (codes "reason") (reason_word reason)) (number_of a (Dropped reason)) (number_of b (Dropped reason)) (lines_for name a rest ++ us) (lines_for name b rest ++ vs)
+    (f (Dropped reason)) (g (Dropped reason)) (sym (append_assoc lines (lines_for name a rest) us) ∙ e ∙ append_assoc others (lines_for name b rest) vs) in
+    let more = lines_told name a b rest us vs f g one.1 in ((one.0, more.0), more.1)
+
+dropped_told : (a b us vs : List ℕ) → Fits a → Fits b → family_text (dropped a) ++ us ≡ family_text (dropped b) ++ vs → SameFor reasons a b × (us ≡ vs)
+dropped_told a b us vs f g e =
+    let name : List ℕ = codes "tsc_spans_dropped_total" in
+    let head : List ℕ = head_lines name (codes "Spans that were given up, by the reason.") (codes "counter") in
+    lines_told name a b reasons us vs f g (strip head _ _ (sym (append_assoc head (lines_for name a reasons) us) ∙ e ∙ append_assoc head (lines_for name b reasons) vs))
+
+same_for : (a b : List ℕ) → SameFor reasons a b → (reason : Reason) → number_of a (Dropped reason) ≡ number_of b (Dropped reason)
+same_for a b s InvalidId = s.0
+same_for a b s QueueFull = s.1.0
+same_for a b s NoMemory = s.1.1.0
+same_for a b s Evicted = s.1.1.1.0
+same_for a b s NotSampled = s.1.1.1.1.0
+same_for a b s LateNotSampled = s.1.1.1.1.1.0
+same_for a b s ExporterDown = s.1.1.1.1.1.1.0
+
+same_counts : (a b : List ℕ) → number_of a Received ≡ number_of b Received → number_of a Handed ≡ number_of b Handed → SameFor reasons a b → (count : Count) → number_of a count ≡ number_of b count
+same_counts a b r h s Received = r
+same_counts a b r h s Handed = h
+same_counts a b r h s (Dropped reason) = same_for a b s reason
+
+-- what stands behind the family of the spans that were given up, and behind that of the connections
+abbrev from_connections : Metrics → List ℕ
+from_connections m = concat (map family_text (connections m ∷ uptime m ∷ build ∷ []))
+
+abbrev from_uptime : Metrics → List ℕ
+from_uptime m = concat (map family_text (uptime m ∷ build ∷ []))
+
+pub all_told : TellsAll
+all_told a b x y e =
+    let end : List ℕ = family_text build ++ [] in
+    let r = single_told (codes "tsc_spans_received_total") (codes "Spans of requests that were read.") [] Counter (number_of a.report Received) (number_of b.report Received)
+    (family_text (handed a.report) ++ (family_text (dropped a.report) ++ from_connections a)) (family_text (handed b.report) ++ (family_text (dropped b.report) ++ from_connections b))
+    (x.counts Received) (y.counts Received) e in
+    let h = single_told (codes "tsc_spans_handed_total") (codes "Spans whose line the sink took whole.") [] Counter (number_of a.report Handed) (number_of b.report Handed)
+    (family_text (dropped a.report) ++ from_connections a) (family_text (dropped b.report) ++ from_connections b) (x.counts Handed) (y.counts Handed) r.1 in
+    let d = dropped_told a.report b.report (from_connections a) (from_connections b) x.counts y.counts h.1 in
+    let o = single_told (codes "tsc_connections_open") (codes "Connections that are open.") [] Gauge a.open_connections b.open_connections (from_uptime a) (from_uptime b) x.open_connections y.open_connections d.1 in
+    let u = single_told (codes "tsc_uptime_seconds") (codes "Seconds since the collector began.") [] Gauge a.uptime_seconds b.uptime_seconds end end x.uptime_seconds y.uptime_seconds o.1 in
+    record { counts = same_counts a.report b.report r.0 h.0 d.0; open_connections = o.0; uptime_seconds = u.0 }

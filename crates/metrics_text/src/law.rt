@@ -1,0 +1,7 @@
+//! What the text tells.
+ghost use Rattle.metrics_text.specs.Families.{TellsAll};
+
+/// The text tells each number: where two texts are the same, all numbers are.
+pub fn tells_all()
+    ensures { TellsAll }
+{}
