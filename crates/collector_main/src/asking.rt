@@ -11,7 +11,7 @@ pub const VERSION: &str = "0.1.0";
 pub const HELP: &[u8] = b"\
 tsc: a tail-sampling trace collector
 
-  tsc serve CONFIG     takes requests until POST /close, and prints the spans that it keeps and a report
+  tsc serve CONFIG     takes requests until it is closed, and prints the spans that it keeps and a report
   tsc replay CONFIG    runs a script of requests from standard input, and prints the same and its replies
   tsc validate CONFIG  prints ok, or a line for each fault of the configuration
   tsc help             prints this text
