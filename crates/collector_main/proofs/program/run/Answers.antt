@@ -3,7 +3,7 @@ use Rattle.std.specs.Prelude.{Err, string_bytes}
 use Rattle.collector_main.specs.Configuration.{file_of}
 use Rattle.collector_main.specs.Ending.{AsksFor}
 use Rattle.collector_main.specs.declared.configuration.FileFault.TheVariants.{Unreadable}
-use Rattle.collector_main.specs.declared.program.Command.TheVariants.{Replay, Serve, Validate, Help, Version}
+use Rattle.collector_main.specs.declared.program.Command.TheVariants.{Replay, Serve, Validate, Close, Help, Version}
 use Rattle.collector_main.proofs.Courses.{CameTo-does}
 use Rattle.collector_main.proofs.program.run.Goals as goal
 
@@ -27,6 +27,12 @@ returns-in-Validate g c =
     let arguments = map string_bytes c.args.arguments.now in
     let asked = subst (λ command. AsksFor arguments command) c.in-Validate.is c.in-Some.ensures.some in
     (file_of (λ v. v.items) c.read_file-in-Validate.result, CameTo-does _ Validate c.told_of.result asked (c.told_of.ensures, (refl, refl)))
+
+pub returns-in-Close : goal.returns-in-Close
+returns-in-Close g c =
+    let arguments = map string_bytes c.args.arguments.now in
+    let asked = subst (λ command. AsksFor arguments command) c.in-Close.is c.in-Some.ensures.some in
+    (file_of (λ v. v.items) c.read_file-in-Close.result, CameTo-does _ Close c.close_by.result asked (c.close_by.ensures, (refl, refl)))
 
 pub returns-in-Help : goal.returns-in-Help
 returns-in-Help g c =
