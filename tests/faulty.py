@@ -49,6 +49,7 @@ ROWS = [
         EMPTY,
     ]),
     ("texts of two", f'queue_full = "wait"\noutput_fault = ""\n{POLICIES}', ['queue_full: "wait" is none of partial, retry (fault 5)', 'output_fault: "" is none of discard, stop (fault 5)']),
+    ("a text of two lines", f'queue_full = "a\\nb"\n{POLICIES}', ['queue_full: "a\\nb" is none of partial, retry (fault 5)']),
     ("caches", f"decision_cache = {{ sampled_cache_size = 1000001, non_sampled_cache_size = \"1\", sampled = 1 }}\n{POLICIES}", [
         "decision_cache.sampled: no such key (fault 2)",
         "decision_cache.sampled_cache_size: 1000001 is not from 0 to 1000000 (fault 5)",

@@ -19,17 +19,32 @@ trap 'rm -rf "$work"' EXIT
 passed=0
 failed=0
 
-# Compares one run: its name, the status and the file of output that are wanted, the file of its input, and the command.
+# Compares one run of a script: its name, the status and the file of output that are wanted, the file of its input, and the command.
 check() {
-    local name=$1 status=$2 expected=$3 input=$4 got wrong=""
-    shift 4
+    local name=$1 got wrong=""
+    shift
+    compare "$@"
+    [ "$got" -ne 0 ] || adds_up "$work/out" || wrong="$wrong; received is not the sum of the other counts"
+    tell "$name" "$wrong"
+}
+
+# The same of a command that ends with no report.
+check_text() {
+    local name=$1 got wrong=""
+    shift
+    compare "$@"
+    tell "$name" "$wrong"
+}
+
+# Runs a command; the status that it had is put into got, and what is wrong with it into wrong.
+compare() {
+    local status=$1 expected=$2 input=$3
+    shift 3
     timeout 60 "$@" < "$input" > "$work/out" 2> "$work/err"
     got=$?
     [ "$got" -eq "$status" ] || wrong="$wrong; status $got and not $status"
     cmp -s "$expected" "$work/out" || wrong="$wrong; $(difference "$expected" "$work/out")"
     [ ! -s "$work/err" ] || wrong="$wrong; it wrote to standard error"
-    [ "$got" -ne 0 ] || adds_up "$work/out" || wrong="$wrong; received is not the sum of the other counts"
-    tell "$name" "$wrong"
 }
 
 # Counts a check, and prints a line where something is wrong with it.
@@ -219,6 +234,48 @@ usage() {
     check "a configuration's name that isn't UTF-8" 2 "$work/expected" /dev/null "$program" replay $'\377'
 }
 
+# Help, the version, and words that stand alone or don't.
+texts() {
+    check_text "help" 0 "$top/tests/help.txt" /dev/null "$program" help
+    printf 'tsc 0.1.0\n' > "$work/expected"
+    check_text "the version" 0 "$work/expected" /dev/null "$program" version
+    printf 'tsc: usage: tsc replay CONFIG or tsc serve CONFIG\n' > "$work/expected"
+    check_text "help on something" 2 "$work/expected" /dev/null "$program" help serve
+    check_text "the version of something" 2 "$work/expected" /dev/null "$program" version "$top/examples/errors.toml"
+    check_text "nothing to validate" 2 "$work/expected" /dev/null "$program" validate
+    check_text "two to validate" 2 "$work/expected" /dev/null "$program" validate "$top/examples/errors.toml" "$top/examples/errors.toml"
+    check_full "help to a full device" 1 /dev/null help
+    check_full "the version to a full device" 1 /dev/null version
+}
+
+# What is told of configurations: of each example, of those that tests/faulty.py makes, of files that can't be read, aren't UTF-8 or are too long, and of a long list.
+validated() {
+    local config name status number
+    echo ok > "$work/expected"
+    for config in "$top"/examples/*.toml "$top"/bench/*.toml; do
+        [ ! -e "$config" ] || check_text "$(basename "$config") is valid" 0 "$work/expected" /dev/null "$program" validate "$config"
+    done
+    check_full "a valid configuration to a full device" 1 /dev/null validate "$top/examples/errors.toml"
+    check_full "a faulty configuration to a full device" 3 /dev/null validate "$top/tests/rows/refused_no_policies/config.toml"
+    while read -r name; do
+        status=0
+        [ ! -e "$work/$name.status" ] || status=$(cat "$work/$name.status")
+        check_text "$name" "$status" "$work/$name.expected" /dev/null "$program" validate "$work/$name.toml"
+    done < "$work/faulty"
+    printf 'tsc: configuration refused: unreadable\n' > "$work/expected"
+    check_text "no such configuration to validate" 3 "$work/expected" /dev/null "$program" validate "$work/none.toml"
+    { cat "$top/examples/errors.toml" && printf '# \377\n'; } > "$work/config.toml"
+    check_text "a configuration to validate that isn't UTF-8" 3 "$work/expected" /dev/null "$program" validate "$work/config.toml"
+    cp "$top/examples/errors.toml" "$work/config.toml"
+    spaces $((1048577 - $(wc -c < "$work/config.toml"))) >> "$work/config.toml"
+    check_text "a configuration of 1048577 bytes to validate" 3 "$work/expected" /dev/null "$program" validate "$work/config.toml"
+    { printf 'policies = [' && for number in {1..20000}; do printf '%s,' "$number"; done && printf ']\n'; } > "$work/config.toml"
+    { for number in {0..19999}; do echo "policies[$number]: a table is wanted (fault 4)"; done && echo 'policies: a list of policies is empty (fault 7.1)'; } > "$work/expected"
+    check_text "20000 faults" 3 "$work/expected" /dev/null "$program" validate "$work/config.toml"
+    printf 'tsc: no memory\n' > "$work/expected"
+    check_within 8192 "no memory for 20000 faults" 5 "$work/expected" /dev/null "$program" validate "$work/config.toml"
+}
+
 # A collector whose configuration is refused, and one whose address is none.
 refused_before_it_listens() {
     printf 'tsc: configuration refused: 7.1\n' > "$work/expected"
@@ -314,6 +371,7 @@ fi
 for runs in limits policies configurations; do
     PYTHONDONTWRITEBYTECODE=1 "$top/tests/$runs.py" "$work" >> "$work/names" || give_up "no $runs"
 done
+PYTHONDONTWRITEBYTECODE=1 "$top/tests/faulty.py" "$work" > "$work/faulty" || give_up "no faulty configurations"
 for program in "$@"; do
     [ -x "$program" ] || give_up "$program is no program"
     program=$(realpath "$program")
@@ -325,6 +383,8 @@ for program in "$@"; do
     long_lines
     script_lines
     usage
+    texts
+    validated
     refused_before_it_listens
     unreadable
     no_room

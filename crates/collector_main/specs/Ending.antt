@@ -15,10 +15,11 @@ use Rattle.collector_main.specs.declared.program.Outcome.{Outcome}
 use Rattle.collector_main.specs.declared.program.Outcome.TheVariants.{Done, SinkDown, Usage, Unreadable, Configuration, Script, NoMemory, BookFull, CannotListen, Valid, Faulty}
 use Rattle.collector_main.specs.declared.program.Outcome.TheVariants as is
 use Rattle.collector_main.specs.declared.program.Command.{Command}
-use Rattle.collector_main.specs.declared.program.Command.TheVariants.{Replay, Serve, Validate, Help, Version}
+use Rattle.collector_main.specs.declared.program.Command.TheVariants.{Replay, Serve, Validate, Close, Help, Version}
 use Rattle.collector_main.specs.Outcomes.{outcome_of, served_to, exit_status}
 use Rattle.collector_main.specs.Configuration.{FileFails, IsConfigOf}
 use Rattle.collector_main.specs.Validating.{FileTells, fault_number}
+use Rattle.collector_main.specs.Closing.{FileCloses}
 use Rattle.collector_main.specs.declared.configuration.FileFault.{FileFault}
 use Rattle.script_session.specs.Replay.{Run, RunEnds, settings_by}
 use Rattle.pipeline.specs.declared.fault.RunFault.{RunFault as ServeFault}
@@ -64,7 +65,7 @@ report_text report = concat (map (count_line report) counts)
 
 -- what can be asked for
 abbrev pub help_text : List ℕ
-help_text = codes "tsc: a tail-sampling trace collector\n\n  tsc serve CONFIG     takes requests until POST /close, and prints the spans that it keeps and a report\n  tsc replay CONFIG    runs a script of requests from standard input, and prints the same and its replies\n  tsc validate CONFIG  prints ok, or a line for each fault of the configuration\n  tsc help             prints this text\n  tsc version          prints the version\n\nCONFIG is the path of a TOML file. The exit status is 0 where all was done, 1 where a write failed, 2 for wrong\narguments, 3 for a refused configuration, 4 for a refused script, 5 for no memory, 6 where the address can't be\nlistened at, and 7 for a full book.\n"
+help_text = codes "tsc: a tail-sampling trace collector\n\n  tsc serve CONFIG     takes requests until it is closed, and prints the spans that it keeps and a report\n  tsc replay CONFIG    runs a script of requests from standard input, and prints the same and its replies\n  tsc validate CONFIG  prints ok, or a line for each fault of the configuration\n  tsc close CONFIG     asks the collector that runs by the configuration to close, and waits for its answer\n  tsc help             prints this text\n  tsc version          prints the version\n\nCONFIG is the path of a TOML file. The exit status is 0 where all was done, 1 where a write failed, 2 for wrong\narguments, 3 for a refused configuration, 4 for a refused script, 5 for no memory, 6 where the address can't be\nlistened at or the collector doesn't answer that it closes, and 7 for a full book.\n"
 
 -- the last text of each outcome: nothing once a write of the run failed
 abbrev pub text_of : Outcome → List ℕ
@@ -80,6 +81,8 @@ text_of CannotListen = codes "tsc: cannot listen\n"
 text_of Valid = codes "ok\n"
 text_of (Faulty lines) = string_bytes lines
 text_of is.Help = help_text
+text_of is.Closed = []
+text_of is.CannotClose = codes "tsc: cannot close\n"
 text_of is.Version = codes "tsc 0.1.0\n"
 
 -- the first part of a text was taken; it was written exactly where nothing is missing
@@ -119,6 +122,7 @@ asked_by word =
     if bytes_eq word (codes "replay") then Some Replay
     else if bytes_eq word (codes "serve") then Some Serve
     else if bytes_eq word (codes "validate") then Some Validate
+    else if bytes_eq word (codes "close") then Some Close
     else None
 
 -- what the arguments ask for
@@ -202,6 +206,7 @@ abbrev pub Does : Course → Command → Outcome → Type 0
 Does course Replay outcome = Replays course outcome
 Does course Serve outcome = Serves course outcome
 Does course Validate outcome = FileTells course.file outcome × NothingDone course
+Does course Close outcome = FileCloses course.file outcome × NothingDone course
 Does course Help outcome = (outcome ≡ is.Help) × NothingDone course
 Does course Version outcome = (outcome ≡ is.Version) × NothingDone course
 

@@ -1,4 +1,5 @@
 pub mod Outcomes
 pub mod Configuration
 pub mod Validating
+pub mod Closing
 pub mod Ending

@@ -6,7 +6,7 @@ use Rattle.script_session.specs.declared.fault.RunFault.TheVariants.{NoMemory as
 use Rattle.pipeline.specs.declared.fault.RunFault.{RunFault as ServeFault}
 use Rattle.pipeline.specs.declared.fault.RunFault.TheVariants as serve_is
 use Rattle.collector_main.specs.declared.program.Outcome.{Outcome}
-use Rattle.collector_main.specs.declared.program.Outcome.TheVariants.{Done, SinkDown, Usage, Unreadable, Configuration, Script, NoMemory, BookFull, CannotListen, Valid, Faulty, Help, Version}
+use Rattle.collector_main.specs.declared.program.Outcome.TheVariants.{Done, SinkDown, Usage, Unreadable, Configuration, Script, NoMemory, BookFull, CannotListen, Valid, Faulty, Help, Version, Closed, CannotClose}
 
 -- how the program ends after a script's run with this answer
 abbrev pub outcome_of : Result Report RunFault → Outcome
@@ -36,6 +36,8 @@ exit_status NoMemory written = 5
 exit_status BookFull written = 7
 exit_status CannotListen written = 6
 exit_status (Faulty lines) written = 3
+exit_status Closed written = 0
+exit_status CannotClose written = 6
 exit_status Valid written = if written then 0 else 1
 exit_status Help written = if written then 0 else 1
 exit_status Version written = if written then 0 else 1

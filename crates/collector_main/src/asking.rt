@@ -11,15 +11,16 @@ pub const VERSION: &str = "0.1.0";
 pub const HELP: &[u8] = b"\
 tsc: a tail-sampling trace collector
 
-  tsc serve CONFIG     takes requests until POST /close, and prints the spans that it keeps and a report
+  tsc serve CONFIG     takes requests until it is closed, and prints the spans that it keeps and a report
   tsc replay CONFIG    runs a script of requests from standard input, and prints the same and its replies
   tsc validate CONFIG  prints ok, or a line for each fault of the configuration
+  tsc close CONFIG     asks the collector that runs by the configuration to close, and waits for its answer
   tsc help             prints this text
   tsc version          prints the version
 
 CONFIG is the path of a TOML file. The exit status is 0 where all was done, 1 where a write failed, 2 for wrong
 arguments, 3 for a refused configuration, 4 for a refused script, 5 for no memory, 6 where the address can't be
-listened at, and 7 for a full book.
+listened at or the collector doesn't answer that it closes, and 7 for a full book.
 ";
 
 /// What the arguments ask for, and the path of the configuration, if there is one.
@@ -57,6 +58,7 @@ fn asked_by(word: &str) -> Option<Command>
         "replay" => Some(Command::Replay),
         "serve" => Some(Command::Serve),
         "validate" => Some(Command::Validate),
+        "close" => Some(Command::Close),
         _ => None,
     }
 }

@@ -1,9 +1,12 @@
 //! `tsc`: a tail-sampling trace collector. `tsc serve CONFIG` takes requests on a listener until `POST /close`;
 //! `tsc replay CONFIG` runs a script of requests and moments from standard input in one thread. Both print the spans that
-//! they keep as lines of JSON, and a report of every span's end; a replay prints its replies, too.
+//! they keep as lines of JSON, and a report of every span's end; a replay prints its replies, too. `tsc validate CONFIG` prints
+//! a line for each fault of a configuration; `tsc close CONFIG` asks a running collector to close; `tsc help` and `tsc version`
+//! print what they say.
 #![tactic(auto)]
 
 mod asking;
+mod closing;
 mod configuration;
 mod opening;
 mod program;

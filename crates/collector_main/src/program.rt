@@ -8,6 +8,7 @@ ghost use Rattle.collector_main.specs.Validating.{fault_number};
 ghost use Rattle.collector_main.specs.declared.program.Outcome.TheVariants.{NoMemory};
 
 use crate::asking::{HELP, VERSION, asked};
+use crate::closing::close_by;
 use crate::configuration::{FileFault, config_of, read_file};
 use crate::opening::{charge_of, copy_of, opened};
 use crate::validating::told_of;
@@ -42,6 +43,8 @@ pub enum Command {
     Serve,
     /// To tell every fault of a configuration.
     Validate,
+    /// To ask a running collector to close.
+    Close,
     /// To tell what can be asked for.
     Help,
     /// To tell its version.
@@ -73,6 +76,10 @@ pub enum Outcome {
     Valid,
     /// The configuration has the faults that these lines tell.
     Faulty(String),
+    /// A running collector answered that it closes.
+    Closed,
+    /// It didn't, or there is none.
+    CannotClose,
     /// It was told what can be asked for.
     Help,
     /// The version was told.
@@ -149,6 +156,8 @@ fn exit_status(outcome: &Outcome, written: bool) -> u8
         Outcome::BookFull => 7,
         Outcome::CannotListen => 6,
         Outcome::Faulty(_) => 3,
+        Outcome::Closed => 0,
+        Outcome::CannotClose => 6,
         Outcome::Valid | Outcome::Help | Outcome::Version => { if written { 0 } else { 1 } }
     }
 }
@@ -185,6 +194,7 @@ fn run<
         Command::Replay => replay_by(alloc, read_file(rt, alloc, path), reader, writer),
         Command::Serve => serve_by(rt, alloc, read_file(rt, alloc, path), input, writer),
         Command::Validate => (writer, told_of(alloc, read_file(rt, alloc, path))),
+        Command::Close => (writer, close_by(rt, alloc, read_file(rt, alloc, path))),
         Command::Help => (writer, Outcome::Help),
         Command::Version => (writer, Outcome::Version),
     }
@@ -324,6 +334,8 @@ fn say<S: Sink>(lines: &mut LineSink<S>, text: &mut Vec<u8>, outcome: &Outcome) 
         Outcome::CannotListen => hand_line(lines, b"tsc: cannot listen\n"),
         Outcome::Valid => hand_line(lines, b"ok\n"),
         Outcome::Faulty(told) => say_told(lines, told.as_str()),
+        Outcome::Closed => true,
+        Outcome::CannotClose => hand_line(lines, b"tsc: cannot close\n"),
         Outcome::Help => hand_line(lines, HELP),
         Outcome::Version => {
             text.clear();

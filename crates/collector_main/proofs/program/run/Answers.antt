@@ -3,7 +3,7 @@ use Rattle.std.specs.Prelude.{Err, string_bytes}
 use Rattle.collector_main.specs.Configuration.{file_of}
 use Rattle.collector_main.specs.Ending.{AsksFor}
 use Rattle.collector_main.specs.declared.configuration.FileFault.TheVariants.{Unreadable}
-use Rattle.collector_main.specs.declared.program.Command.TheVariants.{Replay, Serve}
+use Rattle.collector_main.specs.declared.program.Command.TheVariants.{Replay, Serve, Validate, Close, Help, Version}
 use Rattle.collector_main.proofs.Courses.{CameTo-does}
 use Rattle.collector_main.proofs.program.run.Goals as goal
 
@@ -14,10 +14,34 @@ pub returns-in-Replay : goal.returns-in-Replay
 returns-in-Replay g c =
     let arguments = map string_bytes c.args.arguments.now in
     let asked = subst (λ command. AsksFor arguments command) c.in-Replay.is c.in-Some.ensures.some in
-    (file_of (λ v. v.items) c.read_file-file.result, CameTo-does _ Replay c.replay_by.result.1 asked (c.replay_by.ensures arguments))
+    (file_of (λ v. v.items) c.read_file.result, CameTo-does _ Replay c.replay_by.result.1 asked (c.replay_by.ensures arguments))
 
 pub returns-in-Serve : goal.returns-in-Serve
 returns-in-Serve g c =
     let arguments = map string_bytes c.args.arguments.now in
     let asked = subst (λ command. AsksFor arguments command) c.in-Serve.is c.in-Some.ensures.some in
-    (file_of (λ v. v.items) c.read_file-file.result, CameTo-does _ Serve c.serve_by.result.1 asked (c.serve_by.ensures arguments (g.R.Source.given c.args.reader.now)))
+    (file_of (λ v. v.items) c.read_file-in-Serve.result, CameTo-does _ Serve c.serve_by.result.1 asked (c.serve_by.ensures arguments (g.R.Source.given c.args.reader.now)))
+
+pub returns-in-Validate : goal.returns-in-Validate
+returns-in-Validate g c =
+    let arguments = map string_bytes c.args.arguments.now in
+    let asked = subst (λ command. AsksFor arguments command) c.in-Validate.is c.in-Some.ensures.some in
+    (file_of (λ v. v.items) c.read_file-in-Validate.result, CameTo-does _ Validate c.told_of.result asked (c.told_of.ensures, (refl, refl)))
+
+pub returns-in-Close : goal.returns-in-Close
+returns-in-Close g c =
+    let arguments = map string_bytes c.args.arguments.now in
+    let asked = subst (λ command. AsksFor arguments command) c.in-Close.is c.in-Some.ensures.some in
+    (file_of (λ v. v.items) c.read_file-in-Close.result, CameTo-does _ Close c.close_by.result asked (c.close_by.ensures, (refl, refl)))
+
+pub returns-in-Help : goal.returns-in-Help
+returns-in-Help g c =
+    let arguments = map string_bytes c.args.arguments.now in
+    let asked = subst (λ command. AsksFor arguments command) c.in-Help.is c.in-Some.ensures.some in
+    (Err Unreadable, (Help, asked, (refl, (refl, refl))))
+
+pub returns-in-Version : goal.returns-in-Version
+returns-in-Version g c =
+    let arguments = map string_bytes c.args.arguments.now in
+    let asked = subst (λ command. AsksFor arguments command) c.in-Version.is c.in-Some.ensures.some in
+    (Err Unreadable, (Version, asked, (refl, (refl, refl))))

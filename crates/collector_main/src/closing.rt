@@ -1,0 +1,57 @@
+//! Asks a running collector to close.
+ghost use Rattle.collector_main.specs.Closing.{FileCloses};
+ghost use Rattle.collector_main.specs.Configuration.{file_of};
+
+use crate::configuration::{FileFault, config_of};
+use crate::program::Outcome;
+use std::alloc::Global;
+use std::io;
+use std::io::{Read, Write};
+use std::net::{Net, TcpListener, TcpStream};
+use std::time::Duration;
+use tsc_config::Config;
+
+/// The request that closes a collector.
+const CLOSE: &[u8] =
+    b"POST /close HTTP/1.1\r\nHost: tsc\r\nContent-Length: 0\r\nConnection: close\r\n\r\n";
+
+/// How an answer to it begins, where the collector closes (RFC 9112, section 4).
+const CLOSES: &[u8] = b"HTTP/1.1 200";
+
+/// For how many seconds an answer is waited for.
+const PATIENCE: u64 = 60;
+
+/// Asks the collector that runs by the configuration in what was read of its file to close.
+pub fn close_by<T: Net<Listener = TcpListener, Stream = TcpStream>>(
+    rt: &T,
+    alloc: Global,
+    file: Result<Vec<u8>, FileFault>,
+) -> Outcome
+    ensures { FileCloses (file_of (λ v. v.items) file) result }
+{
+    match config_of(alloc, file) {
+        Ok(config) => match is_closing(rt, &config) {
+            Ok(true) => Outcome::Closed,
+            _ => Outcome::CannotClose,
+        },
+        Err(outcome) => outcome,
+    }
+}
+
+/// Asks at the address for those in charge, or where there is none at that of requests, and answers whether it was said
+/// that the collector closes. An `Err`: there is nobody, or no answer within a minute.
+fn is_closing<T: Net<Listener = TcpListener, Stream = TcpStream>>(
+    rt: &T,
+    config: &Config,
+) -> io::Result<bool> {
+    let mut address = config.admin.as_str();
+    if address.is_empty() {
+        address = config.listen.as_str();
+    }
+    let mut stream = TcpStream::connect(rt, address)?;
+    stream.set_read_timeout(Some(Duration::from_secs(PATIENCE)))?;
+    stream.write_all(CLOSE)?;
+    let mut start = [0u8; 12];
+    stream.read_exact(&mut start)?;
+    Ok(start.as_slice() == CLOSES)
+}
