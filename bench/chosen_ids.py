@@ -22,11 +22,12 @@ import tempfile
 import time
 
 SPANS_OF_A_REQUEST = 1000
+REQUESTS_AT_ONCE = 50  # (so many spans as the queue takes)
 WAIT_MS = 1000
 SETTINGS = """listen = "127.0.0.1:{port}"
 decision_wait_ms = {wait}
 num_traces = {traces}
-queue_capacity = 1048576
+queue_capacity = 65536
 policies = [{{ name = "slow", type = "latency", latency = {{ threshold_ms = 1000000 }} }}]
 
 [decision_cache]
@@ -125,15 +126,23 @@ class Collector:
             answer = self.connection.getresponse()
             said = answer.read()
             assert answer.status == 200 and b"rejected" not in said, (answer.status, said)
+            if (first // SPANS_OF_A_REQUEST + 1) % REQUESTS_AT_ONCE == 0:
+                self.rest()
 
     def settle(self):
         """Waits until all that waits is decided and it does nothing more."""
+        self.rest()
         time.sleep(WAIT_MS / 1000 + 0.5)
+        self.rest()
+
+    def rest(self):
+        """Waits until it does nothing more. That may take longer than a silent connection is kept: the next request comes on a new one."""
+        self.connection.close()
         took = self.cpu()
-        time.sleep(0.5)
-        while self.cpu() - took > 0.05:
+        time.sleep(0.2)
+        while self.cpu() - took > 0.02:
             took = self.cpu()
-            time.sleep(0.5)
+            time.sleep(0.2)
 
     def close(self):
         """Says `POST /close`, and returns the report."""
