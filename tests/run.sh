@@ -243,6 +243,7 @@ texts() {
     check_text "help on something" 2 "$work/expected" /dev/null "$program" help serve
     check_text "the version of something" 2 "$work/expected" /dev/null "$program" version "$top/examples/errors.toml"
     check_text "nothing to validate" 2 "$work/expected" /dev/null "$program" validate
+    check_text "nothing to close" 2 "$work/expected" /dev/null "$program" close
     check_text "two to validate" 2 "$work/expected" /dev/null "$program" validate "$top/examples/errors.toml" "$top/examples/errors.toml"
     check_full "help to a full device" 1 /dev/null help
     check_full "the version to a full device" 1 /dev/null version

@@ -1,0 +1,80 @@
+"""What `tsc close` does: by both addresses, where nobody listens, and where somebody else does."""
+
+import os
+import socket
+import subprocess
+import tempfile
+import threading
+
+from collector import ALL, ERROR_SPAN, body_of, post, want
+from serve_admin import free_port
+
+CANNOT = (6, b"tsc: cannot close\n", b"")
+
+
+def said(start, config):
+    """The end of `tsc close` by a file: its status and what it wrote."""
+    done = subprocess.run([start.program, "close", config], stdin=subprocess.DEVNULL, capture_output=True, timeout=120, check=False)
+    return done.returncode, done.stdout, done.stderr
+
+
+def said_by(start, text):
+    """The same by a configuration."""
+    with tempfile.TemporaryDirectory() as folder:
+        config = os.path.join(folder, "config.toml")
+        with open(config, "w", encoding="utf-8") as file:
+            file.write(text)
+        return said(start, config)
+
+
+def closed_by_close(start):
+    """A collector that is asked to close by its own configuration prints what it has and ends; then there is nobody to ask."""
+    for second in ("", f'admin = "127.0.0.1:{free_port()}"\n'):
+        collector = start(second + ALL)
+        want("the answer", collector.ask(post(body_of([ERROR_SPAN])))[::2], (200, "{}"))
+        config = os.path.join(collector.folder.name, "config.toml")
+        want("the end of close", said(start, config), (0, b"", b""))
+        want("the report", collector.end()[1], [1, 1, 0, 0, 0, 0, 0, 0, 0])
+        want("the end of a second close", said(start, config), CANNOT)
+
+
+def not_closed_at_requests(start):
+    """A collector with a second address isn't closed by a configuration that doesn't name it, and goes on."""
+    collector = start(f'admin = "127.0.0.1:{free_port()}"\n' + ALL)
+    want("the end of close", said_by(start, f'listen = "127.0.0.1:{collector.port}"\n' + ALL), CANNOT)
+    want("the answer", collector.ask(post(body_of([ERROR_SPAN])))[::2], (200, "{}"))
+    want("the end of close by the own one", said(start, os.path.join(collector.folder.name, "config.toml")), (0, b"", b""))
+    want("the report", collector.end()[1], [1, 1, 0, 0, 0, 0, 0, 0, 0])
+
+
+def nothing_to_close(start):
+    """An address that is none, and a configuration that is refused or can't be read."""
+    want("no address", said_by(start, 'listen = "x"\n' + ALL), CANNOT)
+    want("no policies", said_by(start, "policies = []"), (3, b"tsc: configuration refused: 7.1\n", b""))
+    want("no file", said(start, "/nowhere/config.toml"), (3, b"tsc: configuration refused: unreadable\n", b""))
+
+
+def answers_otherwise(start):
+    """One who listens and answers otherwise, in part, or nothing before it ends the connection: it isn't said that a collector closes."""
+    for answer in (b"HTTP/1.1 404 Not Found\r\n\r\n", b"HTTP/1.1 20", b""):
+        with socket.create_server(("127.0.0.1", 0)) as server:
+            asked = []
+
+            def serve():
+                connection, _ = server.accept()
+                with connection:
+                    data = b""
+                    while not data.endswith(b"\r\n\r\n"):
+                        data += connection.recv(4096)
+                    asked.append(data)
+                    connection.sendall(answer)
+
+            thread = threading.Thread(target=serve)
+            thread.start()
+            end = said_by(start, f'listen = "127.0.0.1:{server.getsockname()[1]}"\n' + ALL)
+            thread.join()
+            want(f"the end of close after {answer!r}", end, CANNOT)
+            want("the request", asked, [b"POST /close HTTP/1.1\r\nHost: tsc\r\nContent-Length: 0\r\nConnection: close\r\n\r\n"])
+
+
+CHECKS = [closed_by_close, not_closed_at_requests, nothing_to_close, answers_otherwise]
