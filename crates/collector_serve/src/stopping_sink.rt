@@ -23,7 +23,7 @@ impl<'s, S: Sink, P: Stop> StoppingSink<'s, S, P> {
 
     /// Gives the other sink back.
     pub fn end(self) -> S
-        ensures { result ≡ self.sink }
+        ensures { result ≡ self.entry.sink }
     {
         let StoppingSink {
             sink,

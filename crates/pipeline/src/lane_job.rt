@@ -77,9 +77,10 @@ impl<'s, V: LaneServer + Drop, C: Room, G: Gate, P: Stop, M: MomentClock, R: Wai
             stop,
             clock,
         );
+        let report = counts.end();
         LaneLeft {
             senders: end.senders,
-            counts: counts.end(),
+            counts: report,
             is_full: end.is_full,
         }
     }

@@ -24,7 +24,7 @@ impl<'g, G: Gate> Told<'g, G> {
 
     /// Gives the report.
     pub fn end(self) -> Report
-        ensures { result ≡ self.report }
+        ensures { result ≡ self.entry.report }
     {
         self.report
     }
