@@ -205,6 +205,19 @@ def output_that_fails(start):
     want("the last answer is no acceptance", last[0] if last else 503, 503)
 
 
+def closed_by_its_configuration(start):
+    """`tsc close` asks the collector of a configuration to close, at its second address or else at its first; where there is none, it says so."""
+    for settings in (ALL, f'admin = "127.0.0.1:{free_port()}"\n' + ALL):
+        collector = start(settings)
+        want("the answer", collector.ask(post(body_of([ERROR_SPAN])))[0], 200)
+        command = [start.program, "close", os.path.join(collector.folder.name, "config.toml")]
+        ran = subprocess.run(command, stdin=subprocess.DEVNULL, capture_output=True, timeout=60, check=False)
+        want("what it says", (ran.returncode, ran.stdout, ran.stderr), (0, b"", b""))
+        want("the report", collector.end()[1], [1, 1, 0, 0, 0, 0, 0, 0, 0])
+        ran = subprocess.run(command, stdin=subprocess.DEVNULL, capture_output=True, timeout=60, check=False)
+        want("what it says where there is none", (ran.returncode, ran.stdout), (6, b"tsc: cannot close\n"))
+
+
 def end_of_input(start):
     """The end of the input closes the collector, where it is told to."""
     collector = start("close_at_end_of_input = true\n" + ALL, stdin=subprocess.PIPE)
@@ -226,5 +239,6 @@ CHECKS = [
     full_queues_are_asked_again,
     more_than_a_queue_holds,
     output_that_fails,
+    closed_by_its_configuration,
     end_of_input,
 ]

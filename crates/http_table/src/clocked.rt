@@ -9,6 +9,7 @@ use crate::peers::{Mark, Ticks};
 use crate::trial::name_of;
 use drop_ledger::Report;
 use http_lane::{ServeEnd, Stop};
+use http_text::Allowed;
 use lane_queue::ListPort;
 use lane_seq::Lane;
 use lane_turns::{Done, Driver, Leaving, Next, serve_turns};
@@ -17,6 +18,12 @@ use std::alloc::{AllocError, Global};
 use std::cell::Cell;
 use std::sync::Wait;
 use std::time::Clock;
+
+/// What is allowed to clients by default.
+const PLAIN: Allowed = Allowed {
+    gzip: false,
+    close: true,
+};
 
 /// One step.
 #[derive(Drop)]
@@ -149,7 +156,7 @@ pub fn holds<R: Wait + Clock>(rt: &R, alloc: Global, line: &str) -> Result<bool,
     serve_turns(
         rt,
         alloc,
-        false,
+        PLAIN,
         &mut script,
         &mut lane,
         &mut report,

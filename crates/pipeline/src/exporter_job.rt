@@ -4,7 +4,7 @@ ghost use Rattle.std.specs.List.{list_any};
 ghost use Rattle.lane_queue.specs.Ends.{IsNew};
 ghost use Rattle.run_weave.specs.Jobs.{ExporterDid};
 
-use crate::told::Told;
+use crate::telling::Told;
 use drop_ledger::{Report, Tally};
 use job_threads::Job;
 use lane_queue::{Gate, Receiver, Room};

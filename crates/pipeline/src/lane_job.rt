@@ -2,7 +2,7 @@
 ghost use Rattle.std.specs.Prelude.{◌≡◌, ◌≤◌, [], length, vec_capacity};
 ghost use Rattle.run_weave.specs.Jobs.{LaneDid};
 
-use crate::told::Told;
+use crate::telling::Told;
 use drop_ledger::Report;
 use http_lane::{Clock as MomentClock, Stop};
 use job_threads::Job;

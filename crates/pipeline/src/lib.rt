@@ -16,8 +16,8 @@ mod making;
 mod running;
 mod shard_job;
 mod shards;
+mod telling;
 mod ticker_job;
-mod told;
 
 pub use fault::RunFault;
 pub use running::{run, run_by_turns};

@@ -1,7 +1,7 @@
 //! What a shard's thread is given, does and leaves.
 ghost use Rattle.std.specs.Prelude.{◌≡◌};
 
-use crate::told::Told;
+use crate::telling::Told;
 use drop_ledger::{Report, Tally};
 use job_threads::Job;
 use lane_queue::{Gate, Receiver, Room, Sender};
