@@ -1,4 +1,4 @@
-"""What `tsc close` does: by both addresses, where nobody listens, and where somebody else does."""
+"""What `tsc close` does by the wrong address, where nobody listens, and where somebody else does. (serve_admin.py has the close itself.)"""
 
 import os
 import socket
@@ -25,17 +25,6 @@ def said_by(start, text):
         with open(config, "w", encoding="utf-8") as file:
             file.write(text)
         return said(start, config)
-
-
-def closed_by_close(start):
-    """A collector that is asked to close by its own configuration prints what it has and ends; then there is nobody to ask."""
-    for second in ("", f'admin = "127.0.0.1:{free_port()}"\n'):
-        collector = start(second + ALL)
-        want("the answer", collector.ask(post(body_of([ERROR_SPAN])))[::2], (200, "{}"))
-        config = os.path.join(collector.folder.name, "config.toml")
-        want("the end of close", said(start, config), (0, b"", b""))
-        want("the report", collector.end()[1], [1, 1, 0, 0, 0, 0, 0, 0, 0])
-        want("the end of a second close", said(start, config), CANNOT)
 
 
 def not_closed_at_requests(start):
@@ -77,4 +66,4 @@ def answers_otherwise(start):
             want("the request", asked, [b"POST /close HTTP/1.1\r\nHost: tsc\r\nContent-Length: 0\r\nConnection: close\r\n\r\n"])
 
 
-CHECKS = [closed_by_close, not_closed_at_requests, nothing_to_close, answers_otherwise]
+CHECKS = [not_closed_at_requests, nothing_to_close, answers_otherwise]

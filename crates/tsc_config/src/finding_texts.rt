@@ -49,6 +49,17 @@ pub fn wrong_text(alloc: Global, place: &str, wanted: &str) -> Result<String, Al
     format!(in alloc; "{place}: {wanted} is wanted")
 }
 
+/// A value as it could stand in the file, in one line.
+fn shown(alloc: Global, value: &Value) -> Result<String, AllocError> {
+    match value {
+        Value::String(text) => {
+            let text = text.as_str();
+            format!(in alloc; "{text:?}")
+        }
+        _ => format!(in alloc; "{value}"),
+    }
+}
+
 /// What is said of a value that has this fault where a value of this kind is wanted.
 pub fn value_text(
     alloc: Global,
@@ -60,6 +71,7 @@ pub fn value_text(
     if fault == ConfigFault::WrongType {
         return wrong_text(alloc, place, type_text(wanted));
     }
+    let value = shown(alloc, value)?;
     match wanted {
         ValueKind::Integer(0, i64::MAX) => format!(in alloc; "{place}: {value} is below 0"),
         ValueKind::Integer(lowest, greatest) => {
@@ -110,6 +122,7 @@ pub fn item_text(
 ) -> Result<String, AllocError> {
     match (kind, fault) {
         (ItemKind::StatusCode, ConfigFault::OutOfRange) => {
+            let item = shown(alloc, item)?;
             format!(in alloc; "{place}: {item} is none of OK, ERROR, UNSET")
         }
         _ => wrong_text(alloc, place, "a text"),
