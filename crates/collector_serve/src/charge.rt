@@ -75,7 +75,8 @@ impl<'c> Admin for InCharge<'c> {
             open_connections: self.charge.loads.sum(),
             uptime_seconds: self.uptime_seconds,
         };
-        metrics_text(alloc, &metrics)
+        let text = metrics_text(alloc, &metrics)?;
+        Ok(text)
     }
 
     fn config(&self) -> &str {
