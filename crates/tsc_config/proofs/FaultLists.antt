@@ -1,6 +1,6 @@
 -- The list of the faults of a text has each fault that the text has, and no other.
 -- For the contract of `lists_each_fault`.
-use Rattle.std.proofs.Common.{◌≡◌, ◌≢◌, ◌↔◌, ◌++◌, ℕ, zero, suc, ◌<◌, ◌≤◌, pos, Bool, true, false, not, ◌||◌, ◌⊎◌, inl, inr, refl, sym, ap, subst, ◌∙◌, arith, append_assoc, append-nil, codes, List, [], ◌∷◌, Contains, Option, None, Some, Result, Ok, Err, IsOk, if◌then◌else◌, nat_lt}
+use Rattle.std.proofs.Common.{◌≡◌, ◌↔◌, ◌++◌, ℕ, zero, suc, ◌<◌, pos, Bool, true, false, not, ◌||◌, ◌⊎◌, inl, inr, refl, sym, ap, subst, ◌∙◌, arith, append_assoc, append-nil, codes, List, [], ◌∷◌, Contains, Option, None, Some, Result, Ok, Err, IsOk, if◌then◌else◌, nat_lt}
 use Rattle.std.proofs.lemmas.Bool.Decides.{nat_tests}
 use Rattle.std.proofs.lemmas.List.Elements.{Contains-append_left, Contains-append_right, Contains-append_cases}
 use Rattle.std.specs.Result.{result_err}
@@ -12,7 +12,7 @@ use Rattle.policy_tree.specs.declared.fault.PolicyFault.{PolicyFault}
 use Rattle.policy_tree.specs.declared.policy.Join.{Join}
 use Rattle.policy_tree.specs.declared.policy.Join.TheVariants as join_is
 use Rattle.tsc_config.specs.Keys.{has_unknown_key, is_key, type_name, type_at, join_type, join_name, sub_key, join_at}
-use Rattle.tsc_config.specs.Faults.{config_fault_number, optional, required, unknown_fault, integer_fault, text_fault, truth_fault, type_fault, item_fault, wanted_fault}
+use Rattle.tsc_config.specs.Faults.{optional, required, unknown_fault, integer_fault, text_fault, truth_fault, type_fault, item_fault, wanted_fault}
 use Rattle.tsc_config.specs.FaultSets.{IsLeastOf, OptionalHas, RequiredHas, SomeItemHas, ValueHas, KeyHas, SomeSettingHas, RowsHave, SettingsHave, SettingsAtHave, TypedHas, PolicyTableHas, PoliciesHave, SomePolicyHas, PolicyHas, PartsHave, PartsSettingsHave, SubPoliciesHave, SubValueHas, CacheHas, NumbersHave, SizesHave, ChoicesHave, HasFault, DocumentHas, TextHas}
 use Rattle.tsc_config.specs.FaultLists as spec
 use Rattle.tsc_config.specs.FaultLists.{faults_in, ListsAll, listed, unknown_faults, items_faults, value_faults, optional_faults, required_faults, setting_faults, rows_faults, settings_faults, head_settings, is_joined, typed_faults, own_faults, policy_table_faults, number_settings, size_settings, other_settings, top_settings, cache_settings, table_faults, of_policies, given_faults, document_faults, text_faults}

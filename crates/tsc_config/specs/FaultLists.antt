@@ -1,7 +1,6 @@
 -- Every fault of a configuration: a list with one for each place that has one, in the order of the rows.
-use Rattle.std.specs.Prelude.{◌≡◌, ◌++◌, ◌↔◌, ℕ, pos, Bool, true, false, List, [], ◌∷◌, codes, Option, None, Some, Ok, Result, if◌then◌else◌, nat_lt, map}
+use Rattle.std.specs.Prelude.{◌++◌, ◌↔◌, ℕ, pos, Bool, true, false, List, [], ◌∷◌, codes, Option, None, Some, if◌then◌else◌, nat_lt, map}
 use Rattle.std.specs.List.{Contains}
-use Rattle.std.specs.Result.{result_err}
 use Rattle.std.specs.Str.{bytes_eq}
 use Rattle.toml.specs.Data.{Data, array, table, Items, no_items, item, Members, no_members, member, get_member}
 use Rattle.toml.specs.Parse.{parse_document}
@@ -10,10 +9,8 @@ use Rattle.policy_tree.specs.declared.fault.PolicyFault.{PolicyFault}
 use Rattle.policy_tree.specs.declared.policy.Join.{Join}
 use Rattle.policy_tree.specs.declared.policy.Join.TheVariants as join_is
 use Rattle.tsc_config.specs.PolicySettings.{Setting, required, optional, settings}
-use Rattle.tsc_config.specs.Keys.{NumberRow, number_row, ChoiceRow, choice_row, is_key, type_name, type_at, join_type, join_name, sub_key, join_at}
+use Rattle.tsc_config.specs.Keys.{number_row, choice_row, is_key, type_name, type_at, join_type, join_name, sub_key, join_at}
 use Rattle.tsc_config.specs.Faults.{item_fault, wanted_fault}
-use Rattle.tsc_config.specs.FaultSets.{IsLeastOf, TextHas}
-use Rattle.tsc_config.specs.Reading.{reading}
 use Rattle.tsc_config.specs.Values.{config_of}
 use Rattle.tsc_config.specs.declared.config.Config.{Config}
 use Rattle.tsc_config.specs.declared.fault.ConfigFault.{ConfigFault}

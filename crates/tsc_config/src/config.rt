@@ -4,7 +4,7 @@ ghost use Rattle.toml.specs.Errors.{IsBlank};
 ghost use Rattle.toml.specs.View.{table_view};
 ghost use Rattle.tsc_config.specs.Faults.{table_fault};
 ghost use Rattle.tsc_config.specs.Reading.{reading, reading_of_table};
-ghost use Rattle.tsc_config.specs.Values.{InRange};
+ghost use Rattle.tsc_config.specs.Values.{InRange, config_of};
 ghost use Rattle.tsc_config.specs.declared.fault.ConfigFault.{ConfigFault};
 ghost use Rattle.tsc_config.specs.declared.fault.ConfigFault.TheVariants.{NoMemory};
 
@@ -16,7 +16,7 @@ use crate::values::{addresses_at, cache_size_at, is_other_at, policies_at, posit
 use otlp_types::Text;
 use policy_tree::Policies;
 use span_ids::Moment;
-use std::alloc::Global;
+use std::alloc::{AllocError, Global};
 use toml::Table;
 
 /// What a collector does with what it receives.
@@ -146,9 +146,7 @@ fn config_of(alloc: Global, table: &Table) -> Result<Config, ConfigFault>
     if let Some(fault) = table_fault(table) {
         return Err(fault);
     }
-    let num_traces = positive_by(table, NumberKey::NumTraces) as usize;
-    let shards = positive_by(table, NumberKey::Shards) as usize;
-    if num_traces < shards {
+    if positive_by(table, NumberKey::NumTraces) < positive_by(table, NumberKey::Shards) {
         return Err(ConfigFault::TooFewTraces);
     }
     let Ok(list) = policies_at(alloc, table) else {
@@ -158,18 +156,27 @@ fn config_of(alloc: Global, table: &Table) -> Result<Config, ConfigFault>
         Ok(policies) => policies,
         Err(fault) => return Err(ConfigFault::Policy(fault)),
     };
-    let Ok((listen, admin)) = addresses_at(alloc, table) else {
-        return Err(ConfigFault::NoMemory);
-    };
+    match given_by(alloc, table, policies) {
+        Ok(config) => Ok(config),
+        Err(_) => Err(ConfigFault::NoMemory),
+    }
+}
+
+/// What the table gives, with these policies.
+fn given_by(alloc: Global, table: &Table, policies: Policies) -> Result<Config, AllocError>
+    ensures config { IfOk result (λ config. config ≡ record (config_of (table_view table.now)) { policies = policies }) }
+    ensures ranges { IfOk result (λ config. config.shards ≤ config.num_traces → InRange config) }
+{
+    let (listen, admin) = addresses_at(alloc, table)?;
     Ok(Config {
         decision_wait: positive_by(table, NumberKey::DecisionWait),
         root_wait: natural_at(table, NumberKey::RootWait.row().0),
-        num_traces,
+        num_traces: positive_by(table, NumberKey::NumTraces) as usize,
         sampled_cache_size: cache_size_at(table, "sampled_cache_size"),
         non_sampled_cache_size: cache_size_at(table, "non_sampled_cache_size"),
         policies,
         lanes: positive_by(table, NumberKey::Lanes) as u16,
-        shards,
+        shards: positive_by(table, NumberKey::Shards) as usize,
         queue_capacity: positive_by(table, NumberKey::QueueCapacity) as usize,
         export_capacity: positive_by(table, NumberKey::ExportCapacity) as usize,
         send_batch_size: positive_by(table, NumberKey::SendBatchSize) as usize,
