@@ -1,5 +1,5 @@
 -- What is told of a configuration that is validated.
-use Rattle.std.specs.Prelude.{◌≡◌, ◌++◌, ℕ, List, [], ◌∷◌, map, Result, Ok, Err, IsOk, IsErr, codes, decimal, string_bytes, ⊤}
+use Rattle.std.specs.Prelude.{◌≡◌, ◌++◌, ℕ, List, map, Result, Ok, Err, IsOk, IsErr, codes, decimal, string_bytes, ⊤}
 use Rattle.std.specs.List.{concat}
 use Rattle.policy_tree.specs.Faults.{policy_fault_number}
 use Rattle.tsc_config.specs.Faults.{config_fault_number}

@@ -1,5 +1,5 @@
 //! The program: its arguments, its configuration, its texts and its exit status.
-ghost use Rattle.std.specs.Prelude.{◌≡◌, ◌+◌, ◌≤◌, ◌<◌, ◌++◌, ℕ, List, Option, Result, IfSome, IfNone, map, false, vec_capacity, vec_len, length, decimal, codes, string_bytes};
+ghost use Rattle.std.specs.Prelude.{◌≡◌, ◌+◌, ◌≤◌, ◌<◌, ◌++◌, ℕ, List, Option, Result, map, false, vec_capacity, vec_len, length, decimal, codes, string_bytes};
 ghost use Rattle.tsc_script.specs.Reads.{KnownReader};
 ghost use Rattle.collector_main.specs.Configuration.{file_of};
 ghost use Rattle.collector_main.specs.Outcomes.{outcome_of, served_to, exit_status};
