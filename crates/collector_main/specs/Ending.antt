@@ -187,6 +187,13 @@ pub record ServedTo (course : Course) (outcome : Outcome) : Type 0 where
   pub unread : course.unread_after ≡ course.unread
   pub outcome_is : outcome ≡ served_to answer
 
+-- by a configuration requests were taken, and the run had an answer of this outcome; or it couldn't be listened, and nothing was done
+abbrev pub RunsTo : Config → (taken taken_after : Option (List ℕ)) → Outcome → Type 0
+RunsTo config taken taken_after outcome =
+    ((taken_after ≡ taken) × (outcome ≡ CannotListen))
+    ⊎ ((failures : ℕ) × (answer : Result Report ServeFault) × SinkAnswers taken 0 taken_after failures answer × CoreRunTells config taken 0 taken_after failures answer
+    × (outcome ≡ served_to answer))
+
 -- a configuration was read, and nothing was done by it
 abbrev pub OnlyRead : Course → Type 0
 OnlyRead course = (config : Config) × IsConfigOf course.file config × NothingDone course

@@ -10,6 +10,7 @@ mod closing;
 mod configuration;
 mod opening;
 mod program;
+mod running;
 mod validating;
 
 use crate::program::{program, without_memory};

@@ -2,7 +2,7 @@
 ghost use Rattle.std.specs.Prelude.{◌≡◌, ◌+◌, ◌≤◌, ◌<◌, ◌++◌, ℕ, List, Option, Result, map, false, vec_capacity, vec_len, length, decimal, codes, string_bytes};
 ghost use Rattle.tsc_script.specs.Reads.{KnownReader};
 ghost use Rattle.collector_main.specs.Configuration.{file_of};
-ghost use Rattle.collector_main.specs.Outcomes.{outcome_of, served_to, exit_status};
+ghost use Rattle.collector_main.specs.Outcomes.{outcome_of, exit_status};
 ghost use Rattle.collector_main.specs.Ending.{WritesText, HandsText, Finishes, CameTo, Replays, Serves, Ends, text_of, name_of, report_text};
 ghost use Rattle.collector_main.specs.Validating.{fault_number};
 ghost use Rattle.collector_main.specs.declared.program.Outcome.TheVariants.{NoMemory};
@@ -11,17 +11,16 @@ use crate::asking::{HELP, VERSION, asked};
 use crate::closing::close_by;
 use crate::configuration::{FileFault, config_of, read_file};
 use crate::opening::{charge_of, copy_of, opened};
+use crate::running::serve_with;
 use crate::validating::told_of;
-use collector_serve::{StoppingSink, WallClock, drivers, serve_on};
 use drop_ledger::{Count, Report};
 use itoa::Buffer;
 use lane_seq::put;
-use pipeline::RunFault as ServeFault;
 use script_session::{RunFault, replay_run};
 use span_ids::Reason;
 use span_sink::{LineSink, Sink, WriteSink};
 use std::alloc::Global;
-use std::io::{ErrorKind, Read, Write};
+use std::io::{Read, Write};
 use std::net::{Net, TcpListener, TcpStream};
 use std::random::RandomSource;
 use std::rt::Files;
@@ -259,38 +258,7 @@ fn serve_by<
     let Ok(listener) = opened(rt, alloc, &config, &charge, input) else {
         return (writer, Outcome::CannotListen);
     };
-    let drivers = match drivers(rt, alloc, &config, &listener, &charge.loads, &charge.stop) {
-        Ok(drivers) => drivers,
-        Err(error) if error.kind() == ErrorKind::OutOfMemory => return (writer, Outcome::NoMemory),
-        Err(_) => return (writer, Outcome::CannotListen),
-    };
-    let clock = WallClock::new(rt);
-    let stops = config.stops_at_output_fault;
-    let written = WriteSink::new(writer);
-    let sink = StoppingSink::new(written, &charge.stop, stops);
-    let (sink, answer) = serve_on(
-        rt,
-        alloc,
-        config,
-        drivers,
-        sink,
-        &charge.board,
-        &charge.stop,
-        &clock,
-    );
-    let written = sink.end();
-    (written.end(), served_to(answer))
-}
-
-fn served_to(answer: Result<Report, ServeFault>) -> Outcome
-    ensures { result ≡ served_to answer }
-{
-    match answer {
-        Ok(report) => Outcome::Done(report),
-        Err(ServeFault::NoMemory) => Outcome::NoMemory,
-        Err(ServeFault::BookFull) => Outcome::BookFull,
-        Err(ServeFault::SinkDown(_)) => Outcome::SinkDown,
-    }
+    serve_with(rt, alloc, config, &listener, &charge, writer)
 }
 
 fn outcome_of(answer: Result<Report, RunFault>) -> Outcome
