@@ -274,7 +274,7 @@ validated() {
     { for number in {0..19999}; do echo "policies[$number]: a table is wanted (fault 4)"; done && echo 'policies: a list of policies is empty (fault 7.1)'; } > "$work/expected"
     check_text "20000 faults" 3 "$work/expected" /dev/null "$program" validate "$work/config.toml"
     printf 'tsc: no memory\n' > "$work/expected"
-    check_within 8192 "no memory for 20000 faults" 5 "$work/expected" /dev/null "$program" validate "$work/config.toml"
+    check_within 6144 "no memory for 20000 faults" 5 "$work/expected" /dev/null "$program" validate "$work/config.toml"
 }
 
 # A collector whose configuration is refused, and one whose address is none.
