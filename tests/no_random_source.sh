@@ -2,7 +2,7 @@
 # Runs the program where the system gives no random bytes (a `getentropy` that fails, loaded ahead of the C library): `tsc serve` must end with
 # status 5 and say that there is no memory before it takes a connection, and `tsc replay`, which takes none, must go on as ever.
 #     tests/no_random_source.sh [PROGRAM ..]      (crates/collector_main/out/collector_main, if none is named)
-# It needs a C compiler. The gate doesn't run it. Its last line is 'N passed, M failed'.
+# It needs a C compiler. Its last line is 'N passed, M failed'.
 top=$(cd "$(dirname "$0")/.." && pwd)
 [ $# -gt 0 ] || set -- "$top/crates/collector_main/out/collector_main"
 work=$(mktemp -d) || exit 2
