@@ -68,7 +68,12 @@ def in_charge(start):
     for client in waits:
         client.send(post(body_of([])))
         client.answer()
-    want("open connections", scrape(admin)["tsc_connections_open"], 3)
+    for _ in range(400):
+        if scrape(admin)["tsc_connections_open"] == 3:
+            break
+        time.sleep(0.05)
+    else:
+        raise Failure("three connections are open, and another number is told")
     want("the answer to /close", asked(admin, post(b"", "/close"))[::2], (200, "{}"))
     lines, report = collector.end()
     want("the spans", len(spans_of(lines)), 1)
@@ -192,17 +197,19 @@ def output_that_fails(start):
         raise Failure("no line came")
     os.close(reader)
     began = time.monotonic()
-    last = None
+    is_refused = False
     for number in range(1, 100000):
         try:
-            last = collector.ask(post(body_of(spans_by_number(number, 1))))[::2]
+            answer = collector.ask(post(body_of(spans_by_number(number, 1))))[::2]
         except (Failure, OSError):
             break
-        if last[0] != 200:
-            want("the refusal", last, (503, '{"message":"closing"}'))
+        if answer[0] == 200:
+            want("it was refused before", is_refused, False)
+        else:
+            want("the refusal", answer, (503, '{"message":"closing"}'))
+            is_refused = True
     want("the status", collector.process.wait(timeout=60), 1)
     at_most("the end", 30, began)
-    want("the last answer is no acceptance", last[0] if last else 503, 503)
 
 
 def closed_by_its_configuration(start):
