@@ -10,8 +10,12 @@ use std::alloc::Global;
 use std::collections::VecDeque;
 use std::sync::Arc;
 
-/// So long a lane that has more connections than others leaves a new one to them at most, in milliseconds.
+/// So long a lane leaves a new connection to the others for each connection that it has more than they, in milliseconds: they may
+/// be kept from looking at once by what else the processors do.
 const PATIENCE: u64 = 8;
+
+/// And so long at most.
+const MOST_PATIENCE: u64 = 32;
 
 /// The sockets of the connections that are served, and of those whose last answer is under way, each at its place.
 #[derive(Drop)]
@@ -72,7 +76,7 @@ impl Links {
         let least = self.loads.least();
         let fewest = least.saturating_add(least / 8);
         let more = (self.slab.len() as u64).saturating_sub(fewest);
-        now.saturating_add(more.min(PATIENCE))
+        now.saturating_add(more.saturating_mul(PATIENCE).min(MOST_PATIENCE))
     }
 
     /// Whether more are open than may be.
