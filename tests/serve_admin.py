@@ -2,7 +2,9 @@
 
 import os
 import socket
+import stat
 import subprocess
+import tempfile
 import threading
 import time
 
@@ -78,6 +80,46 @@ def in_charge(start):
     lines, report = collector.end()
     want("the spans", len(spans_of(lines)), 1)
     want("the report", report, [2, 1, 1, 0, 0, 0, 0, 0, 0])
+
+
+def asked_at_a_socket(path, data):
+    """The answer to one request at a socket's file, and what follows."""
+    with socket.socket(socket.AF_UNIX) as peer:
+        peer.settimeout(60)
+        peer.connect(path)
+        peer.sendall(data)
+        got = b""
+        while more := peer.recv(65536):
+            got += more
+    head, body = got.split(b"\r\n\r\n", 1)
+    return int(head.split(b" ")[1]), body
+
+
+def in_charge_by_a_socket(start):
+    """A socket's file in place of a second port: only its owner may use it, one that was left is replaced, one that is in use isn't, and it is removed at the end."""
+    with tempfile.TemporaryDirectory() as folder:
+        path = os.path.join(folder, "admin.sock")
+        with socket.socket(socket.AF_UNIX) as left:
+            left.bind(path)
+        collector = start(f'admin = "unix:{path}"\n' + ALL)
+        want("the file's mode", oct(os.stat(path).st_mode), oct(stat.S_IFSOCK | 0o600))
+        want("what else is there", os.listdir(folder), ["admin.sock"])
+        want("health", asked_at_a_socket(path, get("/healthz")), (200, b"ok\n"))
+        want("/close at the first address", collector.ask(post(b"", "/close"))[0], 404)
+        other = os.path.join(folder, "other.toml")
+        with open(other, "w", encoding="utf-8") as file:
+            file.write(f'listen = "127.0.0.1:0"\nadmin = "unix:{path}"\n' + ALL)
+        ran = subprocess.run([start.program, "serve", other], stdin=subprocess.DEVNULL, capture_output=True, timeout=60, check=False)
+        want("a second one there", (ran.returncode, ran.stdout), (6, b"tsc: cannot listen\n"))
+        want("health behind it", asked_at_a_socket(path, get("/healthz")), (200, b"ok\n"))
+        want("the answer", collector.ask(post(body_of([ERROR_SPAN])))[0], 200)
+        command = [start.program, "close", os.path.join(collector.folder.name, "config.toml")]
+        ran = subprocess.run(command, stdin=subprocess.DEVNULL, capture_output=True, timeout=60, check=False)
+        want("what `tsc close` says", (ran.returncode, ran.stdout, ran.stderr), (0, b"", b""))
+        want("the report", collector.end()[1], [1, 1, 0, 0, 0, 0, 0, 0, 0])
+        want("what is left", sorted(os.listdir(folder)), ["other.toml"])
+        ran = subprocess.run(command, stdin=subprocess.DEVNULL, capture_output=True, timeout=60, check=False)
+        want("`tsc close` where there is none", (ran.returncode, ran.stdout), (6, b"tsc: cannot close\n"))
 
 
 def odd_questions(start):
@@ -240,6 +282,7 @@ def end_of_input(start):
 
 CHECKS = [
     in_charge,
+    in_charge_by_a_socket,
     odd_questions,
     counts_only_rise,
     taken_addresses,

@@ -4,10 +4,12 @@ ghost use Rattle.collector_main.specs.Configuration.{file_of};
 
 use crate::configuration::{FileFault, config_of};
 use crate::program::Outcome;
+use collector_serve::socket_path;
 use std::alloc::Global;
 use std::io;
 use std::io::{Read, Write};
 use std::net::{Net, TcpListener, TcpStream};
+use std::os::unix::net::UnixStream;
 use std::time::Duration;
 use tsc_config::Config;
 
@@ -48,8 +50,24 @@ fn is_closing<T: Net<Listener = TcpListener, Stream = TcpStream>>(
     if address.is_empty() {
         address = config.listen.as_str();
     }
-    let mut stream = TcpStream::connect(rt, address)?;
-    stream.set_read_timeout(Some(Duration::from_secs(PATIENCE)))?;
+    let patience = Some(Duration::from_secs(PATIENCE));
+    match socket_path(address) {
+        Some(path) => {
+            let stream = UnixStream::connect(rt, path)?;
+            stream.set_read_timeout(patience)?;
+            answers_close(stream)
+        }
+        None => {
+            let stream = TcpStream::connect(rt, address)?;
+            stream.set_read_timeout(patience)?;
+            answers_close(stream)
+        }
+    }
+}
+
+/// Asks on this connection, and answers whether it was said that the collector closes.
+fn answers_close<S: Read + Write + Drop>(stream: S) -> io::Result<bool> {
+    let mut stream = stream;
     stream.write_all(CLOSE)?;
     let mut start = [0u8; 12];
     stream.read_exact(&mut start)?;

@@ -1,11 +1,15 @@
 //! What a collector opens before it runs: its addresses, and what is shared with those in charge.
 use crate::configuration::FileFault;
-use collector_serve::{Board, Charge, StopMark, close_at_end, listen, start_admin};
+use collector_serve::{
+    Board, Charge, StopMark, close_at_end, listen, start_admin, start_memory_watch,
+};
 use lane_driver::Loads;
+use otlp_types::TryClone;
 use std::alloc::{AllocError, Global};
 use std::io;
 use std::io::Read;
 use std::net::{Net, TcpListener, TcpStream};
+use std::rt::Files;
 use std::sync::{Arc, Wait};
 use std::thread::Threads;
 use std::time::Clock;
@@ -23,24 +27,38 @@ pub fn copy_of(alloc: Global, file: &Result<Vec<u8>, FileFault>) -> Result<Strin
     }
 }
 
-/// What is shared with those in charge of a collector with so many lanes.
+/// What is shared with those in charge of a collector, whose configuration's file has this text.
 pub fn charge_of(
     alloc: Global,
-    configuration: Result<String, AllocError>,
-    lanes: u16,
+    text: Result<String, AllocError>,
+    config: &Config,
 ) -> Result<Arc<Charge, Global>, AllocError> {
     let charge = Charge {
         stop: StopMark::new(),
         board: Board::new(),
-        loads: Arc::new(alloc, Loads::new(alloc, lanes as usize)?)?,
-        configuration: configuration?,
+        loads: Arc::new(alloc, Loads::new(alloc, config.lanes as usize)?)?,
+        configuration: text?,
+        admin: config.admin.try_clone(alloc)?,
     };
     Ok(Arc::new(alloc, charge)?)
+}
+
+/// Refuses requests while the process takes more memory than the configuration says, if it says something of it.
+pub fn watches_memory<T: Files + Threads + Wait + Clock + Copy + Send + 'static>(
+    rt: &T,
+    config: &Config,
+    charge: &Arc<Charge, Global>,
+) -> io::Result<()> {
+    if config.memory_limit_mib > 0 {
+        start_memory_watch(rt, config.memory_limit_mib, Arc::try_clone(charge)?)?;
+    }
+    Ok(())
 }
 
 /// Listens at the address of requests, and, as the configuration says, at that for those in charge, and to the end of the input.
 pub fn opened<
     T: Net<Listener = TcpListener, Stream = TcpStream>
+        + Files
         + Threads
         + Wait
         + Clock

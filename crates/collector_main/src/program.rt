@@ -10,9 +10,10 @@ ghost use Rattle.collector_main.specs.declared.program.Outcome.TheVariants.{NoMe
 use crate::asking::{HELP, VERSION, asked};
 use crate::closing::close_by;
 use crate::configuration::{FileFault, config_of, read_file};
-use crate::opening::{charge_of, copy_of, opened};
+use crate::opening::{charge_of, copy_of, opened, watches_memory};
 use crate::running::serve_with;
 use crate::validating::told_of;
+use collector_serve::end_admin;
 use drop_ledger::{Count, Report};
 use itoa::Buffer;
 use lane_seq::put;
@@ -65,7 +66,8 @@ pub enum Outcome {
     Configuration(ConfigFault),
     /// A line of the script is refused, or can't be read.
     Script(u64),
-    /// There was no memory at the start, or, to serve, no random source.
+    /// There was no memory at the start, or, to serve, no random source, or nothing that tells how much memory the process takes
+    /// where that is limited.
     NoMemory,
     /// A count would have passed 2^64-1.
     BookFull,
@@ -227,6 +229,7 @@ fn replay_by<R: Source, W: Write>(
 /// where the configuration says so.
 fn serve_by<
     T: Net<Listener = TcpListener, Stream = TcpStream>
+        + Files
         + Threads
         + Wait
         + Clock
@@ -252,13 +255,18 @@ fn serve_by<
         Ok(config) => config,
         Err(outcome) => return (writer, outcome),
     };
-    let Ok(charge) = charge_of(alloc, copy, config.lanes) else {
+    let Ok(charge) = charge_of(alloc, copy, &config) else {
         return (writer, Outcome::NoMemory);
     };
+    if watches_memory(rt, &config, &charge).is_err() {
+        return (writer, Outcome::NoMemory);
+    }
     let Ok(listener) = opened(rt, alloc, &config, &charge, input) else {
         return (writer, Outcome::CannotListen);
     };
-    serve_with(rt, alloc, config, &listener, &charge, writer)
+    let ended = serve_with(rt, alloc, config, &listener, &charge, writer);
+    end_admin(rt, charge.admin.as_str());
+    ended
 }
 
 fn outcome_of(answer: Result<Report, RunFault>) -> Outcome

@@ -1,8 +1,11 @@
 //! What all threads of a run have counted, for readers while it runs.
 use drop_ledger::{Count, Report};
-use lane_queue::{Gate, Place};
+use lane_queue::{Brake, Gate, Place};
 use span_ids::Reason;
 use std::sync::atomic::{AtomicU64, Ordering};
+
+/// So many counts a report has.
+const PLACES: usize = 9;
 
 /// The nine counts, as they grow. Each addition of a thread is added here when it was made, so a number that is read never
 /// goes down, and is that of the report once all threads have ended. No contract says so: a thread that reads is in no run.
@@ -17,10 +20,11 @@ pub struct Board {
     not_sampled: AtomicU64,
     late_not_sampled: AtomicU64,
     exporter_down: AtomicU64,
+    brake: Brake,
 }
 
 impl Board {
-    /// Nothing was counted.
+    /// Nothing was counted, and requests are taken.
     pub fn new() -> Self {
         Board {
             received: AtomicU64::new(0),
@@ -32,6 +36,7 @@ impl Board {
             not_sampled: AtomicU64::new(0),
             late_not_sampled: AtomicU64::new(0),
             exporter_down: AtomicU64::new(0),
+            brake: Brake::new(),
         }
     }
 
@@ -54,6 +59,20 @@ impl Board {
             let _ = report.add(count, number);
         }
         report
+    }
+
+    /// How many spans wait: those that were received, and were neither handed over nor given up.
+    pub fn waiting(&self) -> u64 {
+        let mut ended: u64 = 0;
+        for place in 1..PLACES {
+            ended = ended.saturating_add(self.cell(place).load(Ordering::Relaxed));
+        }
+        self.received.load(Ordering::Relaxed).saturating_sub(ended)
+    }
+
+    /// What refuses requests while memory is short.
+    pub fn brake(&self) -> &Brake {
+        &self.brake
     }
 
     /// Whether a span was given up because the output failed.
@@ -79,6 +98,10 @@ impl Board {
 
 impl Gate for Board {
     fn reach(&self, _place: Place) {}
+
+    fn brake(&self) -> Option<&Brake> {
+        Some(&self.brake)
+    }
 
     fn counted(&self, place: usize, spans: u64) {
         self.cell(place).fetch_add(spans, Ordering::Relaxed);

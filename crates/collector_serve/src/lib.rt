@@ -2,18 +2,24 @@
 //! the pipeline.
 #![tactic(auto)]
 
+mod admin_thread;
 mod board;
 mod charge;
 mod connections;
+mod memory_rule;
+mod memory_watch;
 mod serving;
 mod stop_mark;
 mod stopping_sink;
 mod ticker;
 mod wall_clock;
 
+pub use admin_thread::{end_admin, socket_path, start_admin};
 pub use board::Board;
-pub use charge::{Charge, close_at_end, start_admin};
+pub use charge::{Charge, close_at_end};
 pub use connections::Connections;
+pub use memory_rule::MemoryRule;
+pub use memory_watch::start_memory_watch;
 pub use serving::{drivers, listen, serve_on};
 pub use stop_mark::StopMark;
 pub use stopping_sink::StoppingSink;

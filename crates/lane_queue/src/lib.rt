@@ -12,6 +12,7 @@
 #![tactic(auto)]
 
 mod bell;
+mod brake;
 mod ends;
 mod flow;
 mod gate;
@@ -23,6 +24,7 @@ mod receiver;
 mod rule;
 mod sender_port;
 
+pub use brake::Brake;
 pub use ends::Sender;
 pub use gate::{Gate, OpenGate, Place};
 pub use law::{popped_then_held_is_pushed, pops_take_turns};

@@ -5,15 +5,15 @@ ghost use Rattle.pipeline.specs.Made.{NumberedFrom};
 
 use crate::lane_job::LaneJob;
 use crate::lent::Lent;
-use lane_queue::{Room, Sender, SenderPort};
+use lane_queue::{Brake, Gate, Room, Sender, SenderPort};
 use lane_seq::Lane;
 use otlp_types::Item;
 use std::alloc::{AllocError, Global};
 use std::sync::Wait;
 
 /// What the lanes' threads are given: for each feed, in their order, a lane of its number over its ends. `asks_again`: a
-/// request for whose spans a queue lacks room is to be sent again.
-pub fn lane_jobs<'s, F: Drop, C: Room, G, P, M, R: Wait>(
+/// request for whose spans a queue lacks room is to be sent again. One that comes while the gate's brake is on is in any case.
+pub fn lane_jobs<'s, F: Drop, C: Room, G: Gate, P, M, R: Wait>(
     lent: &Lent<'s, G, P, M, R>,
     asks_again: bool,
     feeds: Vec<F>,
@@ -41,7 +41,7 @@ pub fn lane_jobs<'s, F: Drop, C: Room, G, P, M, R: Wait>(
 }
 
 /// What a lane's thread is given.
-fn lane_job<'s, F: Drop, C: Room, G, P, M, R: Wait>(
+fn lane_job<'s, F: Drop, C: Room, G: Gate, P, M, R: Wait>(
     lent: &Lent<'s, G, P, M, R>,
     asks_again: bool,
     number: u16,
@@ -55,12 +55,13 @@ fn lane_job<'s, F: Drop, C: Room, G, P, M, R: Wait>(
     ensures feed { IfOk result (λ job. job.feed ≡ feed) }
 {
     let (ports, room) = lane_lists(lent.alloc, senders.len())?;
+    let brake = lent.gate.brake();
     Ok(LaneJob {
         rt: lent.rt,
         alloc: lent.alloc,
         number,
         feed,
-        lane: lane_of(lent.rt, asks_again, number, senders, ports),
+        lane: lane_of(lent.rt, asks_again, brake, number, senders, ports),
         room,
         gate: lent.gate,
         stop: lent.stop,
@@ -85,6 +86,7 @@ fn lane_lists<'s, C: Room, R: Wait>(
 fn lane_of<'s, C: Room, R: Wait>(
     rt: &'s R,
     asks_again: bool,
+    brake: Option<&'s Brake>,
     number: u16,
     senders: Vec<Sender<Item, C>>,
     ports: Vec<SenderPort<'s, Item, C, R>>,
@@ -95,7 +97,7 @@ fn lane_of<'s, C: Room, R: Wait>(
 {
     let mut ports = ports;
     for sender in senders {
-        ports.push_reserved(SenderPort::new(rt, sender, asks_again));
+        ports.push_reserved(SenderPort::new(rt, sender, asks_again, brake));
     }
-    Lane::new(number, ports).asking_again(asks_again)
+    Lane::new(number, ports).asking_again(asks_again || brake.is_some())
 }

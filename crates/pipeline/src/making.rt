@@ -15,7 +15,7 @@ use crate::shards::{ShardEnds, shard_jobs};
 use crate::ticker_job::TickerJob;
 use drop_ledger::Report;
 use job_threads::Team;
-use lane_queue::{LaneQueue, Receiver, Room, Sender};
+use lane_queue::{Gate, LaneQueue, Receiver, Room, Sender};
 use otlp_types::{Item, Shipment};
 use queue_grid::{QueueGrid, new_grid};
 use shared_budget::{SharedBudget, new_seats_have_nodes};
@@ -48,7 +48,7 @@ pub struct Rooms<'s, C: Room, D: Room, R: Wait> {
 }
 
 /// Makes all that the threads of a run are given.
-pub fn make<'s, F: Drop, T: Drop, C: Room, D: Room, G, P, M, R: Wait>(
+pub fn make<'s, F: Drop, T: Drop, C: Room, D: Room, G: Gate, P, M, R: Wait>(
     lent: &Lent<'s, G, P, M, R>,
     config: &Config,
     feeds: Vec<F>,
@@ -93,7 +93,7 @@ pub fn make<'s, F: Drop, T: Drop, C: Room, D: Room, G, P, M, R: Wait>(
 }
 
 /// What the threads of a run are given: the lanes, the ticker and the shards.
-fn team_of<'s, F: Drop, T: Drop, C: Room, D: Room, G, P, M, R: Wait>(
+fn team_of<'s, F: Drop, T: Drop, C: Room, D: Room, G: Gate, P, M, R: Wait>(
     lent: &Lent<'s, G, P, M, R>,
     config: &Config,
     feeds: Vec<F>,

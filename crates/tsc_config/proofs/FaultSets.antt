@@ -225,7 +225,7 @@ table_least members =
     let policies : IsLeastOf (RequiredHas PoliciesHave (get_member (codes "policies") members)) (required spec.policies_fault (get_member (codes "policies") members)) = required_least PoliciesHave spec.policies_fault policies_least (get_member (codes "policies") members) in
     both (λ fault. keys ≡ Some fault) _ _ _ (row keys)
     (both (NumbersHave members) _ _ _ (six_rows _ _ _ _ _ _)
-    (both (SizesHave members) _ _ _ (four_rows _ _ _ _)
+    (both (SizesHave members) _ _ _ (five_rows _ _ _ _ _)
     (both (λ fault. listen ≡ Some fault) _ _ _ (row listen)
     (both (λ fault. gzip ≡ Some fault) _ _ _ (row gzip)
     (both (ChoicesHave members) _ _ _ (four_rows _ _ _ _)

@@ -168,13 +168,14 @@ number_settings =
     ∷ number_setting number_is.Tick
     ∷ []
 
--- the sizes of queues and batches, and how many connections may be open
+-- the sizes of queues and batches, how many connections may be open, and the limit of memory
 abbrev pub size_settings : List Setting
 size_settings =
     number_setting number_is.QueueCapacity
     ∷ number_setting number_is.ExportCapacity
     ∷ number_setting number_is.SendBatchSize
     ∷ number_setting number_is.MaxConnections
+    ∷ number_setting number_is.MemoryLimit
     ∷ []
 
 -- those that are no numbers

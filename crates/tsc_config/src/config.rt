@@ -52,6 +52,9 @@ pub struct Config {
     /// How many connections are open at once at most, over all lanes, from 1 to 65536 (this project's option
     /// `max_connections`).
     pub max_connections: usize,
+    /// Mebibytes that the process may take before requests are refused, from 0 to 1048576, where 0 is off (this project's option
+    /// `memory_limit_mib`).
+    pub memory_limit_mib: u64,
     /// The time between two ticks, at which it is looked for what is due, in milliseconds, from 1 to 60000 (this
     /// project's option `tick_ms`).
     pub tick: u64,
@@ -63,7 +66,7 @@ pub struct Config {
     pub admin: Text,
     /// Whether bodies that are packed by gzip are taken (RFC 9110, section 8.4.1.3; this project's option `accept_gzip`).
     pub accept_gzip: bool,
-    /// Whether a request whose spans find no room in a queue waits, in place of being answered which of them were
+    /// Whether a request for whose spans a queue lacks room is to be sent again, in place of being answered how many of them were
     /// discarded (this project's option `queue_full`, `retry`).
     pub waits_for_room: bool,
     /// Whether the collector stops once its output fails, in place of discarding what comes after (this project's option
@@ -105,7 +108,8 @@ impl Config {
 /// `root_wait_ms`, from 0 to 3600000, else 0; `num_traces`, from 1 to 1000000, else 50000; `decision_cache`, a table of
 /// `sampled_cache_size` and `non_sampled_cache_size`, each from 0 to 1000000, else 0; `policies`, a required array of policy tables with
 /// `name`, `type` and the settings of that type; `lanes` and `shards`, from 1 to 64, else 1; `queue_capacity` and
-/// `export_capacity`, from 1 to 65536, else 1024; `send_batch_size`, from 1 to 8192, else 512; `max_connections`, from 1 to 65536, else 1024; `tick_ms`, from 1 to
+/// `export_capacity`, from 1 to 65536, else 1024; `send_batch_size`, from 1 to 8192, else 512; `max_connections`, from 1 to 65536, else 1024; `memory_limit_mib`, from 0
+/// to 1048576, else 0; `tick_ms`, from 1 to
 /// 60000, else 1000; `listen`, a text, else `127.0.0.1:4318`; `admin`, a text, else nothing; `accept_gzip` and `close_at_end_of_input`, true or false, else false; `queue_full`, `partial` or
 /// `retry`, else `partial`; and `output_fault`, `discard` or `stop`, else `discard`.
 ///
@@ -181,6 +185,7 @@ fn given_by(alloc: Global, table: &Table, policies: Policies) -> Result<Config, 
         export_capacity: positive_by(table, NumberKey::ExportCapacity) as usize,
         send_batch_size: positive_by(table, NumberKey::SendBatchSize) as usize,
         max_connections: positive_by(table, NumberKey::MaxConnections) as usize,
+        memory_limit_mib: natural_at(table, NumberKey::MemoryLimit.row().0),
         tick: positive_by(table, NumberKey::Tick),
         listen,
         admin,

@@ -43,7 +43,7 @@ fn numbers_fault(table: &Table) -> Option<ConfigFault>
     least(wait, least(root_wait, counts))
 }
 
-/// The fault of the sizes of queues and batches, and of how many connections may be open.
+/// The fault of the sizes of queues and batches, of how many connections may be open, and of the limit of memory.
 fn sizes_fault(table: &Table) -> Option<ConfigFault>
     ensures { result ≡ spec.sizes_fault (table_view table.now) }
 {
@@ -51,7 +51,11 @@ fn sizes_fault(table: &Table) -> Option<ConfigFault>
     let export = number_fault(table, NumberKey::ExportCapacity);
     let batch = number_fault(table, NumberKey::SendBatchSize);
     let connections = number_fault(table, NumberKey::MaxConnections);
-    least(queue, least(export, least(batch, connections)))
+    let memory = number_fault(table, NumberKey::MemoryLimit);
+    least(
+        queue,
+        least(export, least(batch, least(connections, memory))),
+    )
 }
 
 /// The fault of the choices: what a full queue and a fault of the output do, whether the end of the input closes, and the

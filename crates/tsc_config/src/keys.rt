@@ -62,6 +62,7 @@ pub fn is_key(kind: TableKind, key: &str) -> bool
                 | "export_capacity"
                 | "send_batch_size"
                 | "max_connections"
+                | "memory_limit_mib"
                 | "tick_ms"
                 | "listen"
                 | "accept_gzip"

@@ -73,6 +73,7 @@ pub enum NumberKey {
     ExportCapacity,
     SendBatchSize,
     MaxConnections,
+    MemoryLimit,
     Tick,
 }
 
@@ -94,6 +95,7 @@ impl NumberKey {
             NumberKey::ExportCapacity => ("export_capacity", 1024, 1, 65_536),
             NumberKey::SendBatchSize => ("send_batch_size", 512, 1, 8192),
             NumberKey::MaxConnections => ("max_connections", 1024, 1, 65_536),
+            NumberKey::MemoryLimit => ("memory_limit_mib", 0, 0, 1_048_576),
             NumberKey::Tick => ("tick_ms", 1000, 1, 60_000),
         }
     }

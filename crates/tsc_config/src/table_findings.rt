@@ -48,7 +48,7 @@ fn add_table(alloc: Global, table: &Table, findings: &mut Findings) -> Result<()
 }
 
 /// The settings of a configuration that are no tables.
-fn top_settings() -> [Setting; 16]
+fn top_settings() -> [Setting; 17]
     ensures { map setting_of result ≡ spec.top_settings }
 {
     [
@@ -62,6 +62,7 @@ fn top_settings() -> [Setting; 16]
         number_setting(NumberKey::ExportCapacity),
         number_setting(NumberKey::SendBatchSize),
         number_setting(NumberKey::MaxConnections),
+        number_setting(NumberKey::MemoryLimit),
         Setting::Optional("listen", ValueKind::Text),
         Setting::Optional("accept_gzip", ValueKind::Truth),
         choice_setting(ChoiceKey::QueueFull),

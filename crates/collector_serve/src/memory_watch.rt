@@ -1,0 +1,92 @@
+//! The thread that refuses requests while the process takes too much memory.
+use crate::charge::Charge;
+use crate::memory_rule::MemoryRule;
+use std::alloc::Global;
+use std::io::Read;
+use std::rt::Files;
+use std::sync::{Arc, Wait};
+use std::thread::Threads;
+use std::time::{Clock, Duration};
+use std::{fs, io, thread};
+
+/// The system's account of the process, whose second number tells how many pages it takes (proc(5)).
+const ACCOUNT: &str = "/proc/self/statm";
+
+/// The bytes of a page.
+const PAGE: u64 = 4096;
+
+/// A mebibyte.
+const MEBIBYTE: u64 = 1_048_576;
+
+/// So long lies between two looks at most, and at least, in milliseconds.
+const MOST_PAUSE: u64 = 100;
+
+const LEAST_PAUSE: u64 = 2;
+
+/// Starts a thread that refuses requests while the process takes more mebibytes than this. It ends with the program. `Err`: the
+/// system doesn't tell what the process takes, or there can be no thread.
+pub fn start_memory_watch<R: Files + Threads + Wait + Clock + Copy + Send + 'static>(
+    rt: &R,
+    limit_mib: u64,
+    charge: Arc<Charge, Global>,
+) -> io::Result<()> {
+    let limit = limit_mib.saturating_mul(MEBIBYTE);
+    let _can_be_read = bytes_taken(rt)?;
+    let own = *rt;
+    let _runs_on = thread::spawn(rt, move || watch(&own, limit, &charge))?;
+    Ok(())
+}
+
+/// Looks again and again.
+fn watch<R: Files + Wait + Clock>(rt: &R, limit: u64, charge: &Charge) {
+    let mut rule = MemoryRule::new(limit);
+    for _ in rt.forever() {
+        let mut pause = MOST_PAUSE;
+        if let Ok(taken) = bytes_taken(rt) {
+            let is_short = rule.is_short(taken, charge.board.waiting());
+            charge.board.brake().set(is_short);
+            pause = pause_before(limit, taken);
+        }
+        thread::sleep(rt, Duration::from_millis(pause));
+    }
+}
+
+/// How long it takes until the next look: the shorter the less may still be taken. A process doesn't grow by more than two
+/// mebibytes in a millisecond.
+fn pause_before(limit: u64, taken: u64) -> u64 {
+    let left = limit.saturating_sub(taken) / MEBIBYTE / 2;
+    left.max(LEAST_PAUSE).min(MOST_PAUSE)
+}
+
+/// The bytes of memory that the process takes.
+fn bytes_taken<R: Files>(rt: &R) -> io::Result<u64> {
+    let mut file = fs::open(rt, ACCOUNT)?;
+    let mut text = [0; 128];
+    let len = file.read(&mut text)?;
+    match second_number(&text[..len]) {
+        Some(pages) => Ok(pages.saturating_mul(PAGE)),
+        None => Err(io::ErrorKind::InvalidData.into()),
+    }
+}
+
+/// The second of the numbers in a line.
+fn second_number(line: &[u8]) -> Option<u64> {
+    let mut spaces = 0;
+    let mut number: Option<u64> = None;
+    for byte in line {
+        match *byte {
+            b' ' if spaces == 1 => return number,
+            b' ' => spaces = 1,
+            digit if spaces == 1 && digit.is_ascii_digit() => {
+                let before = number.unwrap_or(0);
+                number = Some(
+                    before
+                        .saturating_mul(10)
+                        .saturating_add((digit - b'0') as u64),
+                );
+            }
+            _ => {}
+        }
+    }
+    None
+}

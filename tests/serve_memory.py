@@ -1,0 +1,115 @@
+"""Checks of `tsc serve` with `memory_limit_mib`: floods of one trace and of many, and what is taken again behind them."""
+
+import resource
+import threading
+import time
+
+from collector import ALL, Failure, body_of, post, want
+from serve_limits import side_by_side
+
+LIMIT = 200
+MOST = 250
+SPANS = 500
+NONE = 'policies = [{ name = "none", type = "latency", latency = { threshold_ms = 60000 } }]\n'
+
+
+def flood_span(trace, number):
+    """A span of about a kilobyte."""
+    attributes = [{"key": f"http.request.header.x-{i:02}", "value": {"stringValue": "abcdefghij" * 4}} for i in range(8)]
+    return {"traceId": f"{trace + 1:032x}", "spanId": f"{number + 1:016x}", "name": "GET /orders", "attributes": attributes}
+
+
+def mebibytes(collector):
+    """What the process takes, and the most that it took."""
+    with open(f"/proc/{collector.process.pid}/status", encoding="utf-8") as file:
+        rows = dict(line.split(":", 1) for line in file)
+    return int(rows["VmRSS"].split()[0]) >> 10, int(rows["VmHWM"].split()[0]) >> 10
+
+
+def flood(collector, trace_of, requests):
+    """So many requests by four clients, none sent again. Gives how many were answered 200, and how many 503."""
+    taken, refused = [], []
+
+    def asks(at):
+        client = collector.client()
+        for number in range(requests // 4):
+            first = (requests // 4 * at + number) * SPANS
+            client.send(post(body_of([flood_span(trace_of(first + i), first + i) for i in range(SPANS)])))
+            status, fields, text = client.answer()
+            if status == 200:
+                want("the body", text, "{}")
+                taken.append(at)
+            else:
+                want("the refusal", (status, fields["retry-after"], text), (503, "1", '{"message":"busy"}'))
+                refused.append(at)
+        client.close()
+
+    side_by_side(asks, range(4))
+    return len(taken), len(refused)
+
+
+def held_within_its_limit(start, trace_of):
+    """A flood that waits is refused once the process takes its limit, and nothing of what was taken is lost."""
+    settings = f"memory_limit_mib = {LIMIT}\nlanes = 4\nshards = 2\nnum_traces = 1000000\nqueue_capacity = 8192\ndecision_wait_ms = 3600000\n"
+    collector = start(settings + NONE, limits=[(resource.RLIMIT_AS, (8 << 30))])
+    taken, refused = flood(collector, trace_of, 600)
+    if not refused or taken < 100:
+        raise Failure(f"{taken} requests were taken, and {refused} refused")
+    most = mebibytes(collector)[1]
+    if most > MOST:
+        raise Failure(f"it took {most} MiB")
+    want("the report", collector.close()[1], [SPANS * taken, 0, 0, 0, 0, 0, SPANS * taken, 0, 0])
+
+
+def one_trace(start):
+    """A flood of one trace."""
+    held_within_its_limit(start, lambda number: 0)
+
+
+def many_traces(start):
+    """A flood of traces of one span."""
+    held_within_its_limit(start, lambda number: number)
+
+
+def takes_again(start):
+    """Behind a flood that was decided requests are taken again, and a client that sends again loses nothing."""
+    settings = f"memory_limit_mib = {LIMIT}\nlanes = 4\nshards = 2\nnum_traces = 1000000\nqueue_capacity = 8192\ndecision_wait_ms = 500\ntick_ms = 50\n"
+    collector = start(settings + ALL)
+    again, most = [], []
+    done = threading.Event()
+
+    def looks():
+        while not done.is_set():
+            most.append(mebibytes(collector)[0])
+            time.sleep(0.02)
+
+    watcher = threading.Thread(target=looks)
+    watcher.start()
+
+    def asks(at):
+        client = collector.client()
+        for number in range(150):
+            first = (150 * at + number) * SPANS
+            data = post(body_of([flood_span(first + i, first + i) for i in range(SPANS)]))
+            for _ in range(6000):
+                client.send(data)
+                if client.answer()[0] == 200:
+                    break
+                again.append(at)
+                time.sleep(0.01)
+            else:
+                raise Failure("it takes nothing any more")
+        client.close()
+
+    try:
+        side_by_side(asks, range(4))
+    finally:
+        done.set()
+        watcher.join()
+    if max(most) > MOST:
+        raise Failure(f"it took {max(most)} MiB")
+    spans = 600 * SPANS
+    want("the report", collector.close()[1], [spans, spans, 0, 0, 0, 0, 0, 0, 0])
+
+
+CHECKS = [one_trace, many_traces, takes_again]
