@@ -55,17 +55,24 @@ def in_charge(start):
     with open(os.path.join(collector.folder.name, "config.toml"), encoding="utf-8") as file:
         want("the configuration", asked(admin, get("/config"))[::2], (200, file.read()))
     want("the numbers at the start", [scrape(admin)[name] for name in COUNTS], [0] * 9)
-    want("/close at the first address", collector.ask(post(b"", "/close"))[::2], (404, '{"message":"not found"}'))
-    bad = {"traceId": "x", "spanId": "y"}
-    want("the answer", collector.ask(post(body_of([ERROR_SPAN, bad])))[0], 200)
+    requests = [post(b"", "/close"), post(body_of([ERROR_SPAN, {"traceId": "x", "spanId": "y"}]))]
+    want("/close at the first address", collector.ask(requests[0])[::2], (404, '{"message":"not found"}'))
+    want("the answer", collector.ask(requests[1])[0], 200)
     for _ in range(400):
         numbers = scrape(admin)
         if numbers["tsc_spans_handed_total"]:
             break
         time.sleep(0.05)
     want("the numbers", [numbers[name] for name in COUNTS], [2, 1, 1, 0, 0, 0, 0, 0, 0])
-    if numbers["tsc_uptime_seconds"] > 60 or numbers['tsc_build_info{version="0.1.0"}'] != 1:
+    codes = ["200", "400", "404", "405", "408", "413", "415", "431", "503"]
+    want("the answers", [numbers[f'tsc_requests_total{{code="{code}"}}'] for code in codes], [1, 0, 1, 0, 0, 0, 0, 0, 0])
+    want("the bytes that came", numbers["tsc_received_bytes_total"], sum(len(data) for data in requests))
+    want("the output", [numbers["tsc_lines_total"], numbers["tsc_output_bytes_total"]], [1, os.path.getsize(collector.printed)])
+    want("what waits", numbers["tsc_spans_waiting"], 0)
+    if numbers["tsc_uptime_seconds"] > 60 or numbers['tsc_build_info{version="0.1.0"}'] != 1 or not 100 < numbers["tsc_sent_bytes_total"] < 1000:
         raise Failure(f"the other numbers: {numbers}")
+    if not 1 << 20 < numbers["process_resident_memory_bytes"] < 1 << 30:
+        raise Failure(f"the memory that it takes: {numbers}")
     waits = [collector.client() for _ in range(3)]
     for client in waits:
         client.send(post(body_of([])))

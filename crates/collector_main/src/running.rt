@@ -38,7 +38,7 @@ pub fn serve_with<'s, T: Net + Threads + Wait + Clock + RandomSource + Sync, W: 
     let clock = WallClock::new(rt);
     let stops = config.stops_at_output_fault;
     let written = WriteSink::new(writer);
-    let sink = StoppingSink::new(written, &shared.stop, stops);
+    let sink = StoppingSink::new(written, &shared.stop, stops, &shared.board);
     let (sink, answer) = serve_on(
         rt,
         alloc,

@@ -1,5 +1,6 @@
 //! The thread that answers those in charge of a collector.
 use crate::charge::{Charge, InCharge};
+use crate::memory_watch::bytes_taken;
 use admin_http::serve;
 use std::alloc::Global;
 use std::fs::Permissions;
@@ -124,24 +125,26 @@ pub fn end_admin<R: Files>(rt: &R, address: &str) {
     }
 }
 
-fn start<D: Door + Send + Drop + 'static, R: Threads + Wait + Clock + Copy + Send + 'static>(
-    rt: &R,
-    alloc: Global,
-    door: D,
-    charge: Arc<Charge, Global>,
-) -> io::Result<()> {
+fn start<
+    D: Door + Send + Drop + 'static,
+    R: Files + Threads + Wait + Clock + Copy + Send + 'static,
+>(rt: &R, alloc: Global, door: D, charge: Arc<Charge, Global>) -> io::Result<()> {
     let own = *rt;
     let _runs_on = thread::spawn(rt, move || answer_all(&own, alloc, &door, &charge))?;
     Ok(())
 }
 
 /// Answers one connection after the other.
-fn answer_all<D: Door, R: Wait + Clock>(rt: &R, alloc: Global, door: &D, charge: &Charge) {
+fn answer_all<D: Door, R: Files + Wait + Clock>(rt: &R, alloc: Global, door: &D, charge: &Charge) {
     let began = Instant::now(rt).ok();
     for _ in rt.forever() {
         match door.next() {
             Ok((reader, writer)) => {
-                let mut in_charge = InCharge::new(charge, seconds_since(rt, began));
+                let mut in_charge = InCharge::new(
+                    charge,
+                    seconds_since(rt, began),
+                    bytes_taken(rt).unwrap_or(0),
+                );
                 // One that can't be answered is closed.
                 let _ = answer_one::<D>(alloc, reader, writer, &mut in_charge);
             }

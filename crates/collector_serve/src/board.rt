@@ -21,6 +21,8 @@ pub struct Board {
     late_not_sampled: AtomicU64,
     exporter_down: AtomicU64,
     brake: Brake,
+    lines: AtomicU64,
+    output_bytes: AtomicU64,
 }
 
 impl Board {
@@ -37,6 +39,8 @@ impl Board {
             late_not_sampled: AtomicU64::new(0),
             exporter_down: AtomicU64::new(0),
             brake: Brake::new(),
+            lines: AtomicU64::new(0),
+            output_bytes: AtomicU64::new(0),
         }
     }
 
@@ -68,6 +72,21 @@ impl Board {
             ended = ended.saturating_add(self.cell(place).load(Ordering::Relaxed));
         }
         self.received.load(Ordering::Relaxed).saturating_sub(ended)
+    }
+
+    /// The output took these bytes, which may end a line.
+    pub fn wrote(&self, bytes: &[u8]) {
+        self.output_bytes
+            .fetch_add(bytes.len() as u64, Ordering::Relaxed);
+        if bytes.ends_with(b"\n") {
+            self.lines.fetch_add(1, Ordering::Relaxed);
+        }
+    }
+
+    /// How many lines the output took whole, and how many bytes.
+    pub fn written(&self) -> (u64, u64) {
+        let lines = self.lines.load(Ordering::Relaxed);
+        (lines, self.output_bytes.load(Ordering::Relaxed))
     }
 
     /// What refuses requests while memory is short.

@@ -29,20 +29,50 @@ pub struct Charge {
     pub admin: Text,
 }
 
+impl Charge {
+    /// The numbers now, of a collector that has been at work for so many seconds and takes so many bytes of memory.
+    fn metrics(&self, uptime_seconds: u64, memory_bytes: u64) -> Metrics {
+        let traffic = &self.loads.traffic;
+        let (lines, output_bytes) = self.board.written();
+        Metrics {
+            report: self.board.report(),
+            open_connections: self.loads.sum(),
+            uptime_seconds,
+            spans_waiting: self.board.waiting(),
+            received_bytes: traffic.received(),
+            sent_bytes: traffic.sent(),
+            lines,
+            output_bytes,
+            memory_bytes,
+            answered_200: traffic.answered(200),
+            answered_400: traffic.answered(400),
+            answered_404: traffic.answered(404),
+            answered_405: traffic.answered(405),
+            answered_408: traffic.answered(408),
+            answered_413: traffic.answered(413),
+            answered_415: traffic.answered(415),
+            answered_431: traffic.answered(431),
+            answered_503: traffic.answered(503),
+        }
+    }
+}
+
 /// A collector, as one in charge of it sees it.
 #[derive(Drop)]
 pub struct InCharge<'c> {
     charge: &'c Charge,
     uptime_seconds: u64,
+    memory_bytes: u64,
     is_closed: bool,
 }
 
 impl<'c> InCharge<'c> {
-    /// A collector that has been at work for so many seconds, and that was not asked to close.
-    pub fn new(charge: &'c Charge, uptime_seconds: u64) -> Self {
+    /// A collector that has been at work for so many seconds, that takes so many bytes of memory, and that was not asked to close.
+    pub fn new(charge: &'c Charge, uptime_seconds: u64, memory_bytes: u64) -> Self {
         InCharge {
             charge,
             uptime_seconds,
+            memory_bytes,
             is_closed: false,
         }
     }
@@ -50,7 +80,7 @@ impl<'c> InCharge<'c> {
 
 impl<'c> Admin for InCharge<'c> {
     ghost use Rattle.std.specs.Prelude.{◌≡◌, ⊤, string_bytes};
-    ghost use Rattle.metrics_text.specs.Families.{metrics_text};
+    ghost use Rattle.metrics_text.specs.Text.{metrics_text};
     ghost use Rattle.metrics_text.specs.declared.metrics.Metrics.{Metrics};
 
     ghost is_closed = { λ a. a.is_closed };
@@ -71,11 +101,7 @@ impl<'c> Admin for InCharge<'c> {
     }
 
     fn metrics(&self, alloc: Global) -> Result<String, AllocError> {
-        let metrics = Metrics {
-            report: self.charge.board.report(),
-            open_connections: self.charge.loads.sum(),
-            uptime_seconds: self.uptime_seconds,
-        };
+        let metrics = self.charge.metrics(self.uptime_seconds, self.memory_bytes);
         let text = metrics_text(alloc, &metrics)?;
         Ok(text)
     }

@@ -59,7 +59,7 @@ fn pause_before(limit: u64, taken: u64) -> u64 {
 }
 
 /// The bytes of memory that the process takes.
-fn bytes_taken<R: Files>(rt: &R) -> io::Result<u64> {
+pub fn bytes_taken<R: Files>(rt: &R) -> io::Result<u64> {
     let mut file = fs::open(rt, ACCOUNT)?;
     let mut text = [0; 128];
     let len = file.read(&mut text)?;

@@ -1,24 +1,31 @@
-//! A sink that stops the collector where a write fails.
+//! A sink that stops the collector where a write fails, and tells what it took.
 ghost use Rattle.std.specs.Prelude.{◌≡◌};
 
+use crate::board::Board;
 use http_lane::Stop;
 use span_sink::{Sink, SinkFault};
 
-/// A sink over another one. Where a write fails it sets a mark to stop, if it is told to; what it takes and what it answers are
-/// those of the other.
+/// A sink over another one. Where a write fails it sets a mark to stop, if it is told to, and what was taken is told to a board; what
+/// it takes and what it answers are those of the other.
 #[derive(Drop)]
 pub struct StoppingSink<'s, S, P> {
     sink: S,
     stop: &'s P,
     stops: bool,
+    board: &'s Board,
 }
 
 impl<'s, S: Sink, P: Stop> StoppingSink<'s, S, P> {
     /// A sink over this one; `stops`: a write that fails sets the mark.
-    pub fn new(sink: S, stop: &'s P, stops: bool) -> Self
+    pub fn new(sink: S, stop: &'s P, stops: bool, board: &'s Board) -> Self
         ensures { result.sink ≡ sink }
     {
-        StoppingSink { sink, stop, stops }
+        StoppingSink {
+            sink,
+            stop,
+            stops,
+            board,
+        }
     }
 
     /// Gives the other sink back.
@@ -29,6 +36,7 @@ impl<'s, S: Sink, P: Stop> StoppingSink<'s, S, P> {
             sink,
             stop: _,
             stops: _,
+            board: _,
         } = self;
         sink
     }
@@ -41,8 +49,10 @@ impl<'s, S: Sink, P: Stop> Sink for StoppingSink<'s, S, P> {
 
     fn write(&mut self, bytes: &[u8]) -> Result<usize, SinkFault> {
         let answer = self.sink.write(bytes);
-        if self.stops && answer.is_err() {
-            self.stop.set();
+        match answer {
+            Ok(n) => self.board.wrote(bytes.get(..n).unwrap_or(b"")),
+            Err(_) if self.stops => self.stop.set(),
+            Err(_) => {}
         }
         answer
     }

@@ -165,6 +165,7 @@ impl<'l, P: Stop> TurnDriver<'l, P> {
         ensures { result ≡ Follows.Do (Next.Came key len) }
     {
         self.reads = self.reads.saturating_sub(1);
+        self.links.traffic().came(len);
         self.told = place;
         Follows::Do(Next::Came { key, len })
     }
@@ -389,6 +390,7 @@ impl<'l, P: Stop> TurnDriver<'l, P> {
     /// The connection of the link at the place that was told had a turn.
     fn turned(&mut self, end: Option<ServeEnd>, due: u64, is_idle: bool, text: &[u8]) {
         let (place, now) = (self.told, self.now);
+        self.links.traffic().went(text);
         let Some(link) = self.links.get_mut(place) else {
             return;
         };

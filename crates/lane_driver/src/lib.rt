@@ -13,9 +13,11 @@ mod links;
 mod loads;
 mod outgoing;
 mod readiness;
+mod traffic;
 mod walk;
 
 pub use driver::TurnDriver;
 pub use link::{LINGER_BYTES, LINGER_LIMIT, WRITE_LIMIT};
 pub use loads::Loads;
 pub use outgoing::{Outgoing, Sent};
+pub use traffic::Traffic;

@@ -5,6 +5,7 @@ ghost use Rattle.slab.specs.Slab.{slab_len};
 use crate::link::{Link, Phase};
 use crate::loads::Loads;
 use crate::readiness::NAP;
+use crate::traffic::Traffic;
 use slab::Slab;
 use std::alloc::Global;
 use std::collections::VecDeque;
@@ -57,6 +58,11 @@ impl Links {
     /// Whether there is none.
     pub fn is_empty(&self) -> bool {
         self.slab.is_empty()
+    }
+
+    /// What came and went on the connections of all lanes.
+    pub fn traffic(&self) -> &Traffic {
+        &self.loads.traffic
     }
 
     /// Whether as many as may be are open, or more.

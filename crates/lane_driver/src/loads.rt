@@ -1,4 +1,5 @@
-//! How many connections each lane has, so that a new one goes to the lane that has the fewest.
+//! How many connections each lane has, so that a new one goes to the lane that has the fewest, and what came and went on them.
+use crate::traffic::Traffic;
 use std::alloc::{AllocError, Global};
 use std::sync::atomic::{AtomicU64, Ordering};
 
@@ -6,6 +7,8 @@ use std::sync::atomic::{AtomicU64, Ordering};
 #[derive(Drop)]
 pub struct Loads {
     counts: Vec<AtomicU64>,
+    /// What came and went on all connections.
+    pub traffic: Traffic,
 }
 
 impl Loads {
@@ -15,7 +18,10 @@ impl Loads {
         for _ in 0..lanes {
             counts.push(AtomicU64::new(0))?;
         }
-        Ok(Loads { counts })
+        Ok(Loads {
+            counts,
+            traffic: Traffic::new(),
+        })
     }
 
     /// The lane has so many now.

@@ -31,9 +31,25 @@ lines-next name report text new whole passed some so e =
     ∙ ap (λ rs. text ++ concat (map (sample_line name) (map (dropped_sample report) rs))) (sym (drop-cons reasons passed InvalidId some))
     ∙ so)
 
--- the six families
-pub six-families : (a b c d e f none spans dropped whole : List ℕ) → none ≡ [] → spans ≡ none ++ (a ++ b) → dropped ≡ spans ++ c → whole ≡ dropped ++ (d ++ (e ++ f))
-    → whole ≡ concat (a ∷ b ∷ c ∷ d ∷ e ∷ f ∷ [])
-six-families a b c d e f none spans dropped whole n s t u =
-    u ∙ ap (λ (x : List ℕ). x ++ (d ++ (e ++ f))) (t ∙ ap (λ (x : List ℕ). x ++ c) (s ∙ ap (λ (x : List ℕ). x ++ (a ++ b)) n))
-    ∙ simp (append_assoc, append-nil)
+-- the texts of these items are there, and those of the others are left
+pub items-begin : (old text lines : List ℕ) → text ≡ old → text ++ lines ≡ old ++ lines
+items-begin old text lines e = ap (λ (x : List ℕ). x ++ lines) e
+
+-- one item's text more is there, and one less is left
+pub items-next : {A : Type 0} (f : A → List ℕ) (xs : List A) (default : A) (text new whole : List ℕ) (passed : ℕ) → passed < length xs → text ++ concat (map f (drop passed xs)) ≡ whole
+    → new ≡ text ++ f (get_or xs passed default) → new ++ concat (map f (drop (passed + 1) xs)) ≡ whole
+items-next f xs default text new whole passed some so e =
+    rw add-one
+    (let line : List ℕ = f (get_or xs passed default) in
+    ap (λ (x : List ℕ). x ++ concat (map f (drop (suc passed) xs))) e
+    ∙ append_assoc text line (concat (map f (drop (suc passed) xs)))
+    ∙ ap (λ rs. text ++ concat (map f rs)) (sym (drop-cons xs passed default some))
+    ∙ so)
+
+-- the six families, and the figures
+pub six-families : (a b c d e f figures none spans dropped whole text : List ℕ) → none ≡ [] → spans ≡ none ++ (a ++ b) → dropped ≡ spans ++ c → whole ≡ dropped ++ (d ++ (e ++ f))
+    → text ≡ whole ++ figures → text ≡ concat (a ∷ b ∷ c ∷ d ∷ e ∷ f ∷ []) ++ figures
+six-families a b c d e f figures none spans dropped whole text n s t u v =
+    v ∙ ap (λ (x : List ℕ). x ++ figures)
+    (u ∙ ap (λ (x : List ℕ). x ++ (d ++ (e ++ f))) (t ∙ ap (λ (x : List ℕ). x ++ c) (s ∙ ap (λ (x : List ℕ). x ++ (a ++ b)) n))
+    ∙ simp (append_assoc, append-nil))

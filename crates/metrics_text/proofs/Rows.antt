@@ -3,10 +3,10 @@
 use Rattle.std.proofs.Common.{◌≡◌, ◌++◌, refl, replicate, [], ◌∷◌}
 use Rattle.std.specs.Prelude.{codes}
 use Rattle.std.specs.Fmt.{digits}
-use Rattle.metrics_text.specs.Families.{metrics_text}
+use Rattle.metrics_text.specs.Text.{metrics_text}
 
 -- nothing was counted
-all_zero : metrics_text (record { report = replicate 9 0; open_connections = 0; uptime_seconds = 0 })
+all_zero : metrics_text (record { report = replicate 9 0; open_connections = 0; uptime_seconds = 0; spans_waiting = 0; received_bytes = 0; sent_bytes = 0; lines = 0; output_bytes = 0; memory_bytes = 0; answered_200 = 0; answered_400 = 0; answered_404 = 0; answered_405 = 0; answered_408 = 0; answered_413 = 0; answered_415 = 0; answered_431 = 0; answered_503 = 0 })
     ≡ codes "# HELP tsc_spans_received_total Spans of requests that were read.\n"
     ++ codes "# TYPE tsc_spans_received_total counter\n"
     ++ codes "tsc_spans_received_total 0\n"
@@ -31,11 +31,40 @@ all_zero : metrics_text (record { report = replicate 9 0; open_connections = 0; 
     ++ codes "# HELP tsc_build_info The version of the collector, as a label.\n"
     ++ codes "# TYPE tsc_build_info gauge\n"
     ++ codes "tsc_build_info{version=\"0.1.0\"} 1\n"
+    ++ codes "# HELP tsc_spans_waiting Spans that were received, and neither handed over nor given up.\n"
+    ++ codes "# TYPE tsc_spans_waiting gauge\n"
+    ++ codes "tsc_spans_waiting 0\n"
+    ++ codes "# HELP tsc_received_bytes_total Bytes that came from clients.\n"
+    ++ codes "# TYPE tsc_received_bytes_total counter\n"
+    ++ codes "tsc_received_bytes_total 0\n"
+    ++ codes "# HELP tsc_sent_bytes_total Bytes of answers.\n"
+    ++ codes "# TYPE tsc_sent_bytes_total counter\n"
+    ++ codes "tsc_sent_bytes_total 0\n"
+    ++ codes "# HELP tsc_lines_total Lines that the output took whole.\n"
+    ++ codes "# TYPE tsc_lines_total counter\n"
+    ++ codes "tsc_lines_total 0\n"
+    ++ codes "# HELP tsc_output_bytes_total Bytes that the output took.\n"
+    ++ codes "# TYPE tsc_output_bytes_total counter\n"
+    ++ codes "tsc_output_bytes_total 0\n"
+    ++ codes "# HELP process_resident_memory_bytes Memory that the process takes, in bytes.\n"
+    ++ codes "# TYPE process_resident_memory_bytes gauge\n"
+    ++ codes "process_resident_memory_bytes 0\n"
+    ++ codes "# HELP tsc_requests_total Answers to requests, by their status.\n"
+    ++ codes "# TYPE tsc_requests_total counter\n"
+    ++ codes "tsc_requests_total{code=\"200\"} 0\n"
+    ++ codes "tsc_requests_total{code=\"400\"} 0\n"
+    ++ codes "tsc_requests_total{code=\"404\"} 0\n"
+    ++ codes "tsc_requests_total{code=\"405\"} 0\n"
+    ++ codes "tsc_requests_total{code=\"408\"} 0\n"
+    ++ codes "tsc_requests_total{code=\"413\"} 0\n"
+    ++ codes "tsc_requests_total{code=\"415\"} 0\n"
+    ++ codes "tsc_requests_total{code=\"431\"} 0\n"
+    ++ codes "tsc_requests_total{code=\"503\"} 0\n"
 unfolding digits
 all_zero = refl
 
 -- no two numbers are the same, and the greatest is among them
-all_distinct : metrics_text (record { report = 18446744073709551615 ∷ 21 ∷ 302 ∷ 43 ∷ 5004 ∷ 65 ∷ 706 ∷ 87 ∷ 908 ∷ []; open_connections = 19; uptime_seconds = 86400 })
+all_distinct : metrics_text (record { report = 18446744073709551615 ∷ 21 ∷ 302 ∷ 43 ∷ 5004 ∷ 65 ∷ 706 ∷ 87 ∷ 908 ∷ []; open_connections = 19; uptime_seconds = 86400; spans_waiting = 18; received_bytes = 33; sent_bytes = 44; lines = 5; output_bytes = 16; memory_bytes = 27; answered_200 = 108; answered_400 = 29; answered_404 = 30; answered_405 = 111; answered_408 = 12; answered_413 = 73; answered_415 = 14; answered_431 = 35; answered_503 = 36 })
     ≡ codes "# HELP tsc_spans_received_total Spans of requests that were read.\n"
     ++ codes "# TYPE tsc_spans_received_total counter\n"
     ++ codes "tsc_spans_received_total 18446744073709551615\n"
@@ -60,5 +89,34 @@ all_distinct : metrics_text (record { report = 18446744073709551615 ∷ 21 ∷ 3
     ++ codes "# HELP tsc_build_info The version of the collector, as a label.\n"
     ++ codes "# TYPE tsc_build_info gauge\n"
     ++ codes "tsc_build_info{version=\"0.1.0\"} 1\n"
+    ++ codes "# HELP tsc_spans_waiting Spans that were received, and neither handed over nor given up.\n"
+    ++ codes "# TYPE tsc_spans_waiting gauge\n"
+    ++ codes "tsc_spans_waiting 18\n"
+    ++ codes "# HELP tsc_received_bytes_total Bytes that came from clients.\n"
+    ++ codes "# TYPE tsc_received_bytes_total counter\n"
+    ++ codes "tsc_received_bytes_total 33\n"
+    ++ codes "# HELP tsc_sent_bytes_total Bytes of answers.\n"
+    ++ codes "# TYPE tsc_sent_bytes_total counter\n"
+    ++ codes "tsc_sent_bytes_total 44\n"
+    ++ codes "# HELP tsc_lines_total Lines that the output took whole.\n"
+    ++ codes "# TYPE tsc_lines_total counter\n"
+    ++ codes "tsc_lines_total 5\n"
+    ++ codes "# HELP tsc_output_bytes_total Bytes that the output took.\n"
+    ++ codes "# TYPE tsc_output_bytes_total counter\n"
+    ++ codes "tsc_output_bytes_total 16\n"
+    ++ codes "# HELP process_resident_memory_bytes Memory that the process takes, in bytes.\n"
+    ++ codes "# TYPE process_resident_memory_bytes gauge\n"
+    ++ codes "process_resident_memory_bytes 27\n"
+    ++ codes "# HELP tsc_requests_total Answers to requests, by their status.\n"
+    ++ codes "# TYPE tsc_requests_total counter\n"
+    ++ codes "tsc_requests_total{code=\"200\"} 108\n"
+    ++ codes "tsc_requests_total{code=\"400\"} 29\n"
+    ++ codes "tsc_requests_total{code=\"404\"} 30\n"
+    ++ codes "tsc_requests_total{code=\"405\"} 111\n"
+    ++ codes "tsc_requests_total{code=\"408\"} 12\n"
+    ++ codes "tsc_requests_total{code=\"413\"} 73\n"
+    ++ codes "tsc_requests_total{code=\"415\"} 14\n"
+    ++ codes "tsc_requests_total{code=\"431\"} 35\n"
+    ++ codes "tsc_requests_total{code=\"503\"} 36\n"
 unfolding digits
 all_distinct = refl

@@ -13,7 +13,11 @@ use Rattle.drop_ledger.specs.declared.count.Count.TheVariants.{Received, Handed,
 use Rattle.metrics_text.specs.declared.kind.FamilyKind.{FamilyKind}
 use Rattle.metrics_text.specs.declared.kind.FamilyKind.TheVariants.{Counter, Gauge}
 use Rattle.metrics_text.specs.declared.metrics.Metrics.{Metrics}
-use Rattle.metrics_text.specs.Families.{TellsAll, build, connections, dropped, dropped_sample, family, family_text, handed, head_lines, labelled, number_of, reason_word, reasons, sample, sample_line, uptime, word_of}
+use Rattle.metrics_text.specs.declared.figure.Figure.{Figure}
+use Rattle.metrics_text.specs.declared.figure.Figure.TheVariants.{SpansWaiting, ReceivedBytes, SentBytes, Lines, OutputBytes, Memory, Answered200, Answered400, Answered404, Answered405, Answered408, Answered413, Answered415, Answered431, Answered503}
+use Rattle.metrics_text.specs.Figures.{all_figures, figure_row, figure_text, figure_value, figures_text, head_of}
+use Rattle.metrics_text.specs.Text.{TellsAll}
+use Rattle.metrics_text.specs.Families.{build, connections, dropped, dropped_sample, families, family, family_text, handed, head_lines, labelled, number_of, reason_word, reasons, received, sample, sample_line, uptime, word_of}
 
 -- ---- a number, and a line feed behind it
 
@@ -106,22 +110,65 @@ same_counts a b r h s Received = r
 same_counts a b r h s Handed = h
 same_counts a b r h s (Dropped reason) = same_for a b s reason
 
--- what stands behind the family of the spans that were given up, and behind that of the connections
-abbrev from_connections : Metrics → List ℕ
-from_connections m = concat (map family_text (connections m ∷ uptime m ∷ build ∷ []))
+-- the values of these figures are the same
+abbrev SameValues : List Figure → (a b : Metrics) → Type 0
+SameValues [] a b = Unit {0}
+SameValues (f ∷ rest) a b = (figure_value a f ≡ figure_value b f) × SameValues rest a b
 
+abbrev texts_of : Metrics → List Figure → List ℕ
+texts_of m fs = concat (map (figure_text m) fs)
+
+figures_told : (a b : Metrics) (fs : List Figure) → ((f : Figure) → figure_value a f < 2 ^ 64) → ((f : Figure) → figure_value b f < 2 ^ 64) → texts_of a fs ≡ texts_of b fs → SameValues fs a b
+figures_told a b [] x y e = tt
+figures_told a b (f ∷ rest) x y e =
+    let head : List ℕ = head_of (figure_row f) in
+    let line : List ℕ = sample_line (figure_row f).name (sample (figure_row f).labels (figure_value a f)) in
+    let other : List ℕ = sample_line (figure_row f).name (sample (figure_row f).labels (figure_value b f)) in
+    let one = line_told (figure_row f).name (figure_row f).labels (figure_value a f) (figure_value b f) (texts_of a rest) (texts_of b rest) (x f) (y f)
+    (strip head _ _ (sym (append_assoc head line (texts_of a rest)) ∙ e ∙ append_assoc head other (texts_of b rest))) in
+    (one.0, figures_told a b rest x y one.1)
+
+same_values : (a b : Metrics) → SameValues all_figures a b → (f : Figure) → figure_value a f ≡ figure_value b f
+same_values a b s SpansWaiting = s.0
+same_values a b s ReceivedBytes = s.1.0
+same_values a b s SentBytes = s.1.1.0
+same_values a b s Lines = s.1.1.1.0
+same_values a b s OutputBytes = s.1.1.1.1.0
+same_values a b s Memory = s.1.1.1.1.1.0
+same_values a b s Answered200 = s.1.1.1.1.1.1.0
+same_values a b s Answered400 = s.1.1.1.1.1.1.1.0
+same_values a b s Answered404 = s.1.1.1.1.1.1.1.1.0
+same_values a b s Answered405 = s.1.1.1.1.1.1.1.1.1.0
+same_values a b s Answered408 = s.1.1.1.1.1.1.1.1.1.1.0
+same_values a b s Answered413 = s.1.1.1.1.1.1.1.1.1.1.1.0
+same_values a b s Answered415 = s.1.1.1.1.1.1.1.1.1.1.1.1.0
+same_values a b s Answered431 = s.1.1.1.1.1.1.1.1.1.1.1.1.1.0
+same_values a b s Answered503 = s.1.1.1.1.1.1.1.1.1.1.1.1.1.1.0
+
+-- what stands behind the family of the spans that were given up, and behind that of the connections
 abbrev from_uptime : Metrics → List ℕ
-from_uptime m = concat (map family_text (uptime m ∷ build ∷ []))
+from_uptime m = family_text (uptime m) ++ (family_text build ++ figures_text m)
+
+abbrev from_connections : Metrics → List ℕ
+from_connections m = family_text (connections m) ++ from_uptime m
+
+six_then : (r h d c u b f : List ℕ) → (r ++ (h ++ (d ++ (c ++ (u ++ (b ++ [])))))) ++ f ≡ r ++ (h ++ (d ++ (c ++ (u ++ (b ++ f)))))
+six_then r h d c u b f = simp (append_assoc, append-nil)
+
+whole_is : (m : Metrics) → concat (map family_text (families m)) ++ figures_text m
+    ≡ family_text (received m.report) ++ (family_text (handed m.report) ++ (family_text (dropped m.report) ++ from_connections m))
+whole_is m =
+    six_then (family_text (received m.report)) (family_text (handed m.report)) (family_text (dropped m.report)) (family_text (connections m)) (family_text (uptime m)) (family_text build) (figures_text m)
 
 pub all_told : TellsAll
 all_told a b x y e =
-    let end : List ℕ = family_text build ++ [] in
     let r = single_told (codes "tsc_spans_received_total") (codes "Spans of requests that were read.") [] Counter (number_of a.report Received) (number_of b.report Received)
     (family_text (handed a.report) ++ (family_text (dropped a.report) ++ from_connections a)) (family_text (handed b.report) ++ (family_text (dropped b.report) ++ from_connections b))
-    (x.counts Received) (y.counts Received) e in
+    (x.counts Received) (y.counts Received) (sym (whole_is a) ∙ e ∙ whole_is b) in
     let h = single_told (codes "tsc_spans_handed_total") (codes "Spans whose line the sink took whole.") [] Counter (number_of a.report Handed) (number_of b.report Handed)
     (family_text (dropped a.report) ++ from_connections a) (family_text (dropped b.report) ++ from_connections b) (x.counts Handed) (y.counts Handed) r.1 in
     let d = dropped_told a.report b.report (from_connections a) (from_connections b) x.counts y.counts h.1 in
     let o = single_told (codes "tsc_connections_open") (codes "Connections that are open.") [] Gauge a.open_connections b.open_connections (from_uptime a) (from_uptime b) x.open_connections y.open_connections d.1 in
-    let u = single_told (codes "tsc_uptime_seconds") (codes "Seconds since the collector began.") [] Gauge a.uptime_seconds b.uptime_seconds end end x.uptime_seconds y.uptime_seconds o.1 in
-    record { counts = same_counts a.report b.report r.0 h.0 d.0; open_connections = o.0; uptime_seconds = u.0 }
+    let u = single_told (codes "tsc_uptime_seconds") (codes "Seconds since the collector began.") [] Gauge a.uptime_seconds b.uptime_seconds (family_text build ++ figures_text a) (family_text build ++ figures_text b) x.uptime_seconds y.uptime_seconds o.1 in
+    let f = figures_told a b all_figures x.figures y.figures (strip (family_text build) (figures_text a) (figures_text b) u.1) in
+    record { counts = same_counts a.report b.report r.0 h.0 d.0; open_connections = o.0; uptime_seconds = u.0; figures = same_values a b f }

@@ -1,10 +1,9 @@
 -- The text of the numbers, as Prometheus reads it (the text format, version 0.0.4): families of samples, a line each.
-use Rattle.std.specs.Prelude.{◌≡◌, ◌^◌, ◌<◌, ℕ, List, [], ◌∷◌, ◌++◌, map, slice_index, codes, decimal}
+use Rattle.std.specs.Prelude.{ℕ, List, [], ◌∷◌, ◌++◌, map, slice_index, codes, decimal}
 use Rattle.std.specs.List.{concat}
 use Rattle.span_ids.specs.declared.outcome.Reason.{Reason}
 use Rattle.span_ids.specs.declared.outcome.Reason.TheVariants.{InvalidId, QueueFull, NoMemory, Evicted, NotSampled, LateNotSampled, ExporterDown}
 use Rattle.drop_ledger.specs.Places.{place_of}
-use Rattle.drop_ledger.specs.Sums.{Fits}
 use Rattle.drop_ledger.specs.declared.count.Count.{Count}
 use Rattle.drop_ledger.specs.declared.count.Count.TheVariants.{Received, Handed, Dropped}
 use Rattle.metrics_text.specs.declared.metrics.Metrics.{Metrics}
@@ -105,23 +104,3 @@ build =
 abbrev pub families : Metrics → List Family
 families metrics =
     received metrics.report ∷ handed metrics.report ∷ dropped metrics.report ∷ connections metrics ∷ uptime metrics ∷ build ∷ []
-
--- the whole text
-abbrev pub metrics_text : Metrics → List ℕ
-metrics_text metrics = concat (map family_text (families metrics))
-
--- the numbers of what was measured
-pub record AreNumbers (metrics : Metrics) : Type 0 where
-  pub counts : Fits metrics.report
-  pub open_connections : metrics.open_connections < 2 ^ 64
-  pub uptime_seconds : metrics.uptime_seconds < 2 ^ 64
-
--- the same numbers
-pub record SameNumbers (a b : Metrics) : Type 0 where
-  pub counts : (count : Count) → number_of a.report count ≡ number_of b.report count
-  pub open_connections : a.open_connections ≡ b.open_connections
-  pub uptime_seconds : a.uptime_seconds ≡ b.uptime_seconds
-
--- the text tells each number: numbers that differ have texts that differ
-abbrev pub TellsAll : Type 0
-TellsAll = (a b : Metrics) → AreNumbers a → AreNumbers b → metrics_text a ≡ metrics_text b → SameNumbers a b

@@ -1,5 +1,5 @@
 //! What the text tells.
-ghost use Rattle.metrics_text.specs.Families.{TellsAll};
+ghost use Rattle.metrics_text.specs.Text.{TellsAll};
 
 /// The text tells each number: where two texts are the same, all numbers are.
 pub fn tells_all()

@@ -3,6 +3,7 @@
 //! [`metrics_text`] is the whole of it; its bytes are those of `specs/Families`.
 #![tactic(auto)]
 
+mod figure;
 mod kind;
 mod law;
 mod metrics;

@@ -10,4 +10,34 @@ pub struct Metrics {
     pub open_connections: u64,
     /// For how many seconds the collector has been at work.
     pub uptime_seconds: u64,
+    /// How many spans wait: they were received, and were neither handed over nor given up.
+    pub spans_waiting: u64,
+    /// How many bytes came from clients.
+    pub received_bytes: u64,
+    /// How many bytes of answers there were.
+    pub sent_bytes: u64,
+    /// How many lines the output took whole.
+    pub lines: u64,
+    /// How many bytes the output took.
+    pub output_bytes: u64,
+    /// How much memory the process takes, in bytes.
+    pub memory_bytes: u64,
+    /// How many requests were answered 200.
+    pub answered_200: u64,
+    /// How many requests were answered 400.
+    pub answered_400: u64,
+    /// How many requests were answered 404.
+    pub answered_404: u64,
+    /// How many requests were answered 405.
+    pub answered_405: u64,
+    /// How many requests were answered 408.
+    pub answered_408: u64,
+    /// How many requests were answered 413.
+    pub answered_413: u64,
+    /// How many requests were answered 415.
+    pub answered_415: u64,
+    /// How many requests were answered 431.
+    pub answered_431: u64,
+    /// How many requests were answered 503.
+    pub answered_503: u64,
 }

@@ -1,8 +1,11 @@
 //! The text.
 ghost use Rattle.std.specs.Prelude.{◌≡◌, ◌++◌, ℕ, List, [], ◌∷◌, IfOk, OnOk, codes, decimal, string_bytes};
-ghost use Rattle.metrics_text.specs.Families.{build, connections, dropped, dropped_sample, family, family_text, handed, head_lines, labelled, metrics_text, number_of, reason_word, received, sample, sample_line, uptime, word_of};
+ghost use Rattle.metrics_text.specs.Families.{build, connections, dropped, dropped_sample, family, family_text, handed, head_lines, labelled, number_of, reason_word, received, sample, sample_line, uptime, word_of};
+ghost use Rattle.metrics_text.specs.Figures.{figure_text, figures_text};
+ghost use Rattle.metrics_text.specs.Text.{metrics_text};
 ghost use Rattle.drop_ledger.specs.declared.count.Count.TheVariants.{Dropped};
 
+use crate::figure::Figure;
 use crate::kind::FamilyKind;
 use crate::metrics::Metrics;
 use drop_ledger::{Count, Report};
@@ -173,7 +176,46 @@ fn put_build(text: &mut String) -> Result<(), AllocError>
     put_labelled(text, name, "version", VERSION, 1)
 }
 
-/// The text of these numbers: a few lines for each family, in the order of `families`. Each line ends with a line feed.
+/// Appends the lines of a number beside the report.
+fn put_figure(text: &mut String, metrics: &Metrics, figure: Figure) -> Result<(), AllocError>
+    ensures { OnOk result (string_bytes text.new ≡ string_bytes text.old ++ figure_text metrics.now figure) }
+{
+    let (name, help, kind, labels) = figure.row();
+    if !help.is_empty() {
+        put_head(text, name, help, kind)?;
+    }
+    put_sample(text, name, labels, figure.value(metrics))
+}
+
+/// Appends the lines of all numbers beside the report.
+fn put_figures(text: &mut String, metrics: &Metrics) -> Result<(), AllocError>
+    ensures { OnOk result (string_bytes text.new ≡ string_bytes text.old ++ figures_text metrics.now) }
+{
+    let figures = [
+        Figure::SpansWaiting,
+        Figure::ReceivedBytes,
+        Figure::SentBytes,
+        Figure::Lines,
+        Figure::OutputBytes,
+        Figure::Memory,
+        Figure::Answered200,
+        Figure::Answered400,
+        Figure::Answered404,
+        Figure::Answered405,
+        Figure::Answered408,
+        Figure::Answered413,
+        Figure::Answered415,
+        Figure::Answered431,
+        Figure::Answered503,
+    ];
+    for figure in figures {
+        put_figure(text, metrics, figure)?;
+    }
+    Ok(())
+}
+
+/// The text of these numbers: a few lines for each family, in the order of `families` and then of `all_figures`. Each line ends
+/// with a line feed.
 pub fn metrics_text(alloc: Global, metrics: &Metrics) -> Result<String, AllocError>
     ensures { IfOk result (λ text. string_bytes text ≡ metrics_text metrics.now) }
 {
@@ -181,5 +223,6 @@ pub fn metrics_text(alloc: Global, metrics: &Metrics) -> Result<String, AllocErr
     put_spans(&mut text, &metrics.report)?;
     put_all_dropped(&mut text, &metrics.report)?;
     put_collector(&mut text, metrics)?;
+    put_figures(&mut text, metrics)?;
     Ok(text)
 }

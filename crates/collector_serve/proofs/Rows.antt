@@ -1,0 +1,36 @@
+-- Worked rows, computed: a process that may take 800 bytes.
+-- They serve the definition that `MemoryRule` promises.
+use Rattle.std.specs.Prelude.{◌≡◌, ℕ, Bool, true, false, [], ◌∷◌, map, refl}
+use Rattle.collector_serve.specs.Memory.{MemoryState, is_short, memory_after}
+
+abbrev state : (most release : ℕ) → MemoryState
+state most release = record { limit = 800; most = most; release = release }
+
+-- at its limit it takes requests
+at_the_limit : memory_after (state 800 0) 800 1000 ≡ state 800 0
+at_the_limit = refl
+
+taken_at_the_limit : is_short (state 800 0) 800 1000 ≡ false
+taken_at_the_limit = refl
+
+-- a byte more while 80 spans wait: 70 may wait again
+beyond : memory_after (state 800 0) 801 80 ≡ state 801 70
+beyond = refl
+
+until_an_eighth_is_gone : map (is_short (state 801 70) 801) (80 ∷ 71 ∷ 70 ∷ 0 ∷ []) ≡ true ∷ true ∷ false ∷ false ∷ []
+until_an_eighth_is_gone = refl
+
+-- it doesn't grow: nothing changes, however many wait
+no_growth : memory_after (state 801 70) 801 1000 ≡ state 801 70
+no_growth = refl
+
+-- an eighth beyond its limit, and a byte more than that
+an_eighth_beyond : memory_after (state 801 70) 900 80 ≡ state 900 70
+an_eighth_beyond = refl
+
+more_than_an_eighth : memory_after (state 801 70) 901 80 ≡ state 901 40
+more_than_an_eighth = refl
+
+-- it takes what it may again: all is as at the start
+back : memory_after (state 901 40) 799 80 ≡ state 800 0
+back = refl

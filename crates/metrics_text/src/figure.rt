@@ -1,0 +1,167 @@
+//! The numbers beside the report, a row for each.
+ghost use Rattle.std.specs.Prelude.{◌≡◌};
+ghost use Rattle.metrics_text.specs.Figures as spec;
+
+use crate::kind::FamilyKind;
+use crate::metrics::Metrics;
+
+/// A number beside the report.
+#[derive(Clone, Copy, PartialEq, Eq)]
+pub enum Figure {
+    /// Spans that wait.
+    SpansWaiting,
+    /// Bytes that came.
+    ReceivedBytes,
+    /// Bytes of answers.
+    SentBytes,
+    /// Lines of output.
+    Lines,
+    /// Bytes of output.
+    OutputBytes,
+    /// The process's memory.
+    Memory,
+    /// Requests that were answered 200.
+    Answered200,
+    /// Requests that were answered 400.
+    Answered400,
+    /// Requests that were answered 404.
+    Answered404,
+    /// Requests that were answered 405.
+    Answered405,
+    /// Requests that were answered 408.
+    Answered408,
+    /// Requests that were answered 413.
+    Answered413,
+    /// Requests that were answered 415.
+    Answered415,
+    /// Requests that were answered 431.
+    Answered431,
+    /// Requests that were answered 503.
+    Answered503,
+}
+
+impl Figure {
+    /// Its name, the help of its family, where it is the first of it and else nothing, the family's kind, and its labels.
+    pub fn row(self) -> (&'static str, &'static str, FamilyKind, &'static str)
+        ensures name { result.0.now ≡ (spec.figure_row self).name }
+        ensures help { result.1.now ≡ (spec.figure_row self).help }
+        ensures kind { result.2 ≡ (spec.figure_row self).kind }
+        ensures labels { result.3.now ≡ (spec.figure_row self).labels }
+    {
+        match self {
+            Figure::SpansWaiting => (
+                "tsc_spans_waiting",
+                "Spans that were received, and neither handed over nor given up.",
+                FamilyKind::Gauge,
+                "",
+            ),
+            Figure::ReceivedBytes => (
+                "tsc_received_bytes_total",
+                "Bytes that came from clients.",
+                FamilyKind::Counter,
+                "",
+            ),
+            Figure::SentBytes => (
+                "tsc_sent_bytes_total",
+                "Bytes of answers.",
+                FamilyKind::Counter,
+                "",
+            ),
+            Figure::Lines => (
+                "tsc_lines_total",
+                "Lines that the output took whole.",
+                FamilyKind::Counter,
+                "",
+            ),
+            Figure::OutputBytes => (
+                "tsc_output_bytes_total",
+                "Bytes that the output took.",
+                FamilyKind::Counter,
+                "",
+            ),
+            Figure::Memory => (
+                "process_resident_memory_bytes",
+                "Memory that the process takes, in bytes.",
+                FamilyKind::Gauge,
+                "",
+            ),
+            Figure::Answered200 => (
+                "tsc_requests_total",
+                "Answers to requests, by their status.",
+                FamilyKind::Counter,
+                "{code=\"200\"}",
+            ),
+            Figure::Answered400 => (
+                "tsc_requests_total",
+                "",
+                FamilyKind::Counter,
+                "{code=\"400\"}",
+            ),
+            Figure::Answered404 => (
+                "tsc_requests_total",
+                "",
+                FamilyKind::Counter,
+                "{code=\"404\"}",
+            ),
+            Figure::Answered405 => (
+                "tsc_requests_total",
+                "",
+                FamilyKind::Counter,
+                "{code=\"405\"}",
+            ),
+            Figure::Answered408 => (
+                "tsc_requests_total",
+                "",
+                FamilyKind::Counter,
+                "{code=\"408\"}",
+            ),
+            Figure::Answered413 => (
+                "tsc_requests_total",
+                "",
+                FamilyKind::Counter,
+                "{code=\"413\"}",
+            ),
+            Figure::Answered415 => (
+                "tsc_requests_total",
+                "",
+                FamilyKind::Counter,
+                "{code=\"415\"}",
+            ),
+            Figure::Answered431 => (
+                "tsc_requests_total",
+                "",
+                FamilyKind::Counter,
+                "{code=\"431\"}",
+            ),
+            Figure::Answered503 => (
+                "tsc_requests_total",
+                "",
+                FamilyKind::Counter,
+                "{code=\"503\"}",
+            ),
+        }
+    }
+
+    /// Its value.
+    pub fn value(self, metrics: &Metrics) -> u64
+        ensures { result ≡ spec.figure_value metrics.now self }
+    {
+        match self {
+            Figure::SpansWaiting => metrics.spans_waiting,
+            Figure::ReceivedBytes => metrics.received_bytes,
+            Figure::SentBytes => metrics.sent_bytes,
+            Figure::Lines => metrics.lines,
+            Figure::OutputBytes => metrics.output_bytes,
+            Figure::Memory => metrics.memory_bytes,
+            Figure::Answered200 => metrics.answered_200,
+            Figure::Answered400 => metrics.answered_400,
+            Figure::Answered404 => metrics.answered_404,
+            Figure::Answered405 => metrics.answered_405,
+            Figure::Answered408 => metrics.answered_408,
+            Figure::Answered413 => metrics.answered_413,
+            Figure::Answered415 => metrics.answered_415,
+            Figure::Answered431 => metrics.answered_431,
+            Figure::Answered503 => metrics.answered_503,
+        }
+    }
+}
