@@ -16,8 +16,9 @@ use std::net::{Net, TcpListener};
 use std::sync::{Arc, Wait};
 use std::time::Clock;
 
-/// So many reads a connection has at a turn.
-const READS: usize = 4;
+/// So many reads a connection has at a turn: a request of a hundred kilobytes that is there is read at one turn, so that its
+/// memory serves the next one.
+const READS: usize = 16;
 
 /// One that has been idle for less isn't closed because too many files are open, in milliseconds.
 const GRACE: u64 = 1_000;
