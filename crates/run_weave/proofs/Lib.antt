@@ -7,6 +7,7 @@ pub mod ManyTurns
 pub mod LaneFacts
 pub mod ShardFacts
 pub mod ExporterFacts
+pub mod RanLists
 pub mod Rans
 pub mod Ties
 pub mod WrongRuns
