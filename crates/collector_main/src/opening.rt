@@ -6,13 +6,14 @@ use collector_serve::{
 use lane_driver::Loads;
 use otlp_types::TryClone;
 use std::alloc::{AllocError, Global};
-use std::io;
+use std::fs::File;
 use std::io::Read;
 use std::net::{Net, TcpListener, TcpStream};
 use std::rt::Files;
 use std::sync::{Arc, Wait};
 use std::thread::Threads;
 use std::time::Clock;
+use std::{fs, io};
 use tsc_config::Config;
 
 /// A copy of what was read of the configuration's file, for those in charge, and nothing where it wasn't read.
@@ -43,16 +44,22 @@ pub fn charge_of(
     Ok(Arc::new(alloc, charge)?)
 }
 
-/// Refuses requests while the process takes more memory than the configuration says, if it says something of it.
-pub fn watches_memory<T: Files + Threads + Wait + Clock + Copy + Send + 'static>(
+/// Looks at what memory the process takes, for those in charge, and refuses requests while it is more than the configuration says.
+pub fn watches_memory<T: Files<File = File> + Threads + Wait + Clock + Copy + Send + 'static>(
     rt: &T,
     config: &Config,
     charge: &Arc<Charge, Global>,
 ) -> io::Result<()> {
-    if config.memory_limit_mib > 0 {
-        start_memory_watch(rt, config.memory_limit_mib, Arc::try_clone(charge)?)?;
+    if config.memory_limit_mib == 0 && config.admin.as_str().is_empty() {
+        return Ok(());
     }
-    Ok(())
+    let account = fs::open(rt, MEMORY_ACCOUNT)?;
+    start_memory_watch(
+        rt,
+        config.memory_limit_mib,
+        account,
+        Arc::try_clone(charge)?,
+    )
 }
 
 /// Listens at the address of requests, and, as the configuration says, at that for those in charge, and to the end of the input.

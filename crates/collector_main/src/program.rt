@@ -21,6 +21,7 @@ use script_session::{RunFault, replay_run};
 use span_ids::Reason;
 use span_sink::{LineSink, Sink, WriteSink};
 use std::alloc::Global;
+use std::fs::File;
 use std::io::{Read, Write};
 use std::net::{Net, TcpListener, TcpStream};
 use std::random::RandomSource;
@@ -90,7 +91,7 @@ pub enum Outcome {
 /// Runs the program with the arguments behind its own name. `reader` gives a script; `input` is the same standard input, for a
 /// collector that is closed at its end. It gives the writer back beside the exit status.
 pub fn program<
-    T: Files
+    T: Files<File = File>
         + Net<Listener = TcpListener, Stream = TcpStream>
         + Threads
         + Wait
@@ -165,7 +166,7 @@ fn exit_status(outcome: &Outcome, written: bool) -> u8
 
 /// Does what the arguments say.
 fn run<
-    T: Files
+    T: Files<File = File>
         + Net<Listener = TcpListener, Stream = TcpStream>
         + Threads
         + Wait
@@ -229,7 +230,7 @@ fn replay_by<R: Source, W: Write>(
 /// where the configuration says so.
 fn serve_by<
     T: Net<Listener = TcpListener, Stream = TcpStream>
-        + Files
+        + Files<File = File>
         + Threads
         + Wait
         + Clock

@@ -1,6 +1,6 @@
 -- Worked rows, computed: a process that may take 800 bytes.
 -- They serve the definition that `MemoryRule` promises.
-use Rattle.std.specs.Prelude.{◌≡◌, ℕ, Bool, true, false, [], ◌∷◌, map, refl}
+use Rattle.std.specs.Prelude.{◌≡◌, ℕ, true, false, [], ◌∷◌, map, refl}
 use Rattle.collector_serve.specs.Memory.{MemoryState, is_short, memory_after}
 
 abbrev state : (most release : ℕ) → MemoryState

@@ -1,10 +1,9 @@
 //! The thread that answers those in charge of a collector.
 use crate::charge::{Charge, InCharge};
-use crate::memory_watch::bytes_taken;
 use admin_http::serve;
 use std::alloc::Global;
 use std::fs::Permissions;
-use std::io::{Read, Write};
+use std::io::Read;
 use std::net::{Net, Shutdown, TcpListener, TcpStream};
 use std::os::unix::fs::PermissionsExt;
 use std::os::unix::net::{UnixListener, UnixStream};
@@ -31,45 +30,59 @@ const LINGER_PIECES: u32 = 1024;
 
 const LINGER_WAITS: u32 = 5;
 
-/// Takes connections.
-trait Door {
-    /// A connection.
-    type Peer: Read + Write + Drop;
-
-    /// The next connection, each end on its own; reads and writes wait only so long.
-    fn next(&self) -> io::Result<(Self::Peer, Self::Peer)>;
-
-    /// Nothing more comes on this connection.
-    fn end(peer: &Self::Peer) -> io::Result<()>;
+/// What takes connections.
+#[derive(Drop)]
+enum Door {
+    Port(TcpListener),
+    Path(UnixListener),
 }
 
-impl Door for TcpListener {
-    type Peer = TcpStream;
+/// An end of a connection.
+#[derive(Drop)]
+enum Peer {
+    OfPort(TcpStream),
+    OfPath(UnixStream),
+}
 
-    fn next(&self) -> io::Result<(TcpStream, TcpStream)> {
-        let (stream, _) = self.accept()?;
-        stream.set_read_timeout(Some(Duration::from_millis(READ_TIMEOUT)))?;
-        stream.set_write_timeout(Some(Duration::from_millis(WRITE_TIMEOUT)))?;
-        Ok((stream.try_clone()?, stream))
-    }
-
-    fn end(peer: &TcpStream) -> io::Result<()> {
-        peer.shutdown(Shutdown::Write)
+impl Door {
+    /// The next connection, once to be read and once to be written; both wait only so long.
+    fn next(&self) -> io::Result<(Peer, Peer)> {
+        let read_limit = Some(Duration::from_millis(READ_TIMEOUT));
+        let write_limit = Some(Duration::from_millis(WRITE_TIMEOUT));
+        match self {
+            Door::Port(listener) => {
+                let (stream, _) = listener.accept()?;
+                stream.set_read_timeout(read_limit)?;
+                stream.set_write_timeout(write_limit)?;
+                Ok((Peer::OfPort(stream.try_clone()?), Peer::OfPort(stream)))
+            }
+            Door::Path(listener) => {
+                let (stream, _) = listener.accept()?;
+                stream.set_read_timeout(read_limit)?;
+                stream.set_write_timeout(write_limit)?;
+                Ok((Peer::OfPath(stream.try_clone()?), Peer::OfPath(stream)))
+            }
+        }
     }
 }
 
-impl Door for UnixListener {
-    type Peer = UnixStream;
-
-    fn next(&self) -> io::Result<(UnixStream, UnixStream)> {
-        let (stream, _) = self.accept()?;
-        stream.set_read_timeout(Some(Duration::from_millis(READ_TIMEOUT)))?;
-        stream.set_write_timeout(Some(Duration::from_millis(WRITE_TIMEOUT)))?;
-        Ok((stream.try_clone()?, stream))
-    }
-
-    fn end(peer: &UnixStream) -> io::Result<()> {
-        peer.shutdown(Shutdown::Write)
+impl Peer {
+    /// Answers on this connection, which was cloned to be read, and ends it.
+    fn answer(self, reader: Peer, alloc: Global, in_charge: &mut InCharge<'_>) -> io::Result<()> {
+        match (reader, self) {
+            (Peer::OfPort(mut reader), Peer::OfPort(mut writer)) => {
+                let _ = serve(alloc, &mut reader, &mut writer, in_charge);
+                writer.shutdown(Shutdown::Write)?;
+                linger(&mut reader);
+            }
+            (Peer::OfPath(mut reader), Peer::OfPath(mut writer)) => {
+                let _ = serve(alloc, &mut reader, &mut writer, in_charge);
+                writer.shutdown(Shutdown::Write)?;
+                linger(&mut reader);
+            }
+            _ => {}
+        }
+        Ok(())
     }
 }
 
@@ -93,11 +106,11 @@ pub fn start_admin<
     match socket_path(address) {
         Some(path) => {
             let listener = bind_socket(rt, alloc, path)?;
-            start(rt, alloc, listener, charge)
+            start(rt, alloc, Door::Path(listener), charge)
         }
         None => {
             let listener = TcpListener::bind(rt, address)?;
-            start(rt, alloc, listener, charge)
+            start(rt, alloc, Door::Port(listener), charge)
         }
     }
 }
@@ -125,28 +138,26 @@ pub fn end_admin<R: Files>(rt: &R, address: &str) {
     }
 }
 
-fn start<
-    D: Door + Send + Drop + 'static,
-    R: Files + Threads + Wait + Clock + Copy + Send + 'static,
->(rt: &R, alloc: Global, door: D, charge: Arc<Charge, Global>) -> io::Result<()> {
+fn start<R: Threads + Wait + Clock + Copy + Send + 'static>(
+    rt: &R,
+    alloc: Global,
+    door: Door,
+    charge: Arc<Charge, Global>,
+) -> io::Result<()> {
     let own = *rt;
     let _runs_on = thread::spawn(rt, move || answer_all(&own, alloc, &door, &charge))?;
     Ok(())
 }
 
 /// Answers one connection after the other.
-fn answer_all<D: Door, R: Files + Wait + Clock>(rt: &R, alloc: Global, door: &D, charge: &Charge) {
+fn answer_all<R: Wait + Clock>(rt: &R, alloc: Global, door: &Door, charge: &Charge) {
     let began = Instant::now(rt).ok();
     for _ in rt.forever() {
         match door.next() {
             Ok((reader, writer)) => {
-                let mut in_charge = InCharge::new(
-                    charge,
-                    seconds_since(rt, began),
-                    bytes_taken(rt).unwrap_or(0),
-                );
+                let mut in_charge = InCharge::new(charge, seconds_since(rt, began));
                 // One that can't be answered is closed.
-                let _ = answer_one::<D>(alloc, reader, writer, &mut in_charge);
+                let _ = writer.answer(reader, alloc, &mut in_charge);
             }
             Err(_) => thread::sleep(rt, Duration::from_millis(WRITE_TIMEOUT)),
         }
@@ -162,21 +173,6 @@ fn seconds_since<R: Clock>(rt: &R, began: Option<Instant>) -> u64 {
         Ok(since) => since.as_secs(),
         Err(_) => 0,
     }
-}
-
-/// Answers one connection.
-fn answer_one<D: Door>(
-    alloc: Global,
-    reader: D::Peer,
-    writer: D::Peer,
-    in_charge: &mut InCharge<'_>,
-) -> io::Result<()> {
-    let mut reader = reader;
-    let mut writer = writer;
-    let _ = serve(alloc, &mut reader, &mut writer, in_charge);
-    D::end(&writer)?;
-    linger(&mut reader);
-    Ok(())
 }
 
 /// Reads what is still sent, for a while and so many pieces at most, so that the answer isn't taken back.

@@ -23,6 +23,7 @@ pub struct Board {
     brake: Brake,
     lines: AtomicU64,
     output_bytes: AtomicU64,
+    memory_bytes: AtomicU64,
 }
 
 impl Board {
@@ -41,6 +42,7 @@ impl Board {
             brake: Brake::new(),
             lines: AtomicU64::new(0),
             output_bytes: AtomicU64::new(0),
+            memory_bytes: AtomicU64::new(0),
         }
     }
 
@@ -87,6 +89,16 @@ impl Board {
     pub fn written(&self) -> (u64, u64) {
         let lines = self.lines.load(Ordering::Relaxed);
         (lines, self.output_bytes.load(Ordering::Relaxed))
+    }
+
+    /// The process takes so many bytes of memory.
+    pub fn takes(&self, bytes: u64) {
+        self.memory_bytes.store(bytes, Ordering::Relaxed);
+    }
+
+    /// How many bytes of memory the process took when it was last looked at, or 0.
+    pub fn taken(&self) -> u64 {
+        self.memory_bytes.load(Ordering::Relaxed)
     }
 
     /// What refuses requests while memory is short.

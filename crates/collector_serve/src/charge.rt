@@ -30,8 +30,8 @@ pub struct Charge {
 }
 
 impl Charge {
-    /// The numbers now, of a collector that has been at work for so many seconds and takes so many bytes of memory.
-    fn metrics(&self, uptime_seconds: u64, memory_bytes: u64) -> Metrics {
+    /// The numbers now, of a collector that has been at work for so many seconds.
+    fn metrics(&self, uptime_seconds: u64) -> Metrics {
         let traffic = &self.loads.traffic;
         let (lines, output_bytes) = self.board.written();
         Metrics {
@@ -43,7 +43,7 @@ impl Charge {
             sent_bytes: traffic.sent(),
             lines,
             output_bytes,
-            memory_bytes,
+            memory_bytes: self.board.taken(),
             answered_200: traffic.answered(200),
             answered_400: traffic.answered(400),
             answered_404: traffic.answered(404),
@@ -62,17 +62,15 @@ impl Charge {
 pub struct InCharge<'c> {
     charge: &'c Charge,
     uptime_seconds: u64,
-    memory_bytes: u64,
     is_closed: bool,
 }
 
 impl<'c> InCharge<'c> {
-    /// A collector that has been at work for so many seconds, that takes so many bytes of memory, and that was not asked to close.
-    pub fn new(charge: &'c Charge, uptime_seconds: u64, memory_bytes: u64) -> Self {
+    /// A collector that has been at work for so many seconds, and that was not asked to close.
+    pub fn new(charge: &'c Charge, uptime_seconds: u64) -> Self {
         InCharge {
             charge,
             uptime_seconds,
-            memory_bytes,
             is_closed: false,
         }
     }
@@ -101,7 +99,7 @@ impl<'c> Admin for InCharge<'c> {
     }
 
     fn metrics(&self, alloc: Global) -> Result<String, AllocError> {
-        let metrics = self.charge.metrics(self.uptime_seconds, self.memory_bytes);
+        let metrics = self.charge.metrics(self.uptime_seconds);
         let text = metrics_text(alloc, &metrics)?;
         Ok(text)
     }

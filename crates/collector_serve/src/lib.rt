@@ -19,7 +19,7 @@ pub use board::Board;
 pub use charge::{Charge, close_at_end};
 pub use connections::Connections;
 pub use memory_rule::MemoryRule;
-pub use memory_watch::start_memory_watch;
+pub use memory_watch::{MEMORY_ACCOUNT, start_memory_watch};
 pub use serving::{drivers, listen, serve_on};
 pub use stop_mark::StopMark;
 pub use stopping_sink::StoppingSink;

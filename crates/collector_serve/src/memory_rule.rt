@@ -1,6 +1,6 @@
 //! When requests are refused since the process takes too much memory.
 ghost use Rattle.std.specs.Prelude.{◌≡◌};
-ghost use Rattle.collector_serve.specs.Memory.{is_short, memory_after};
+ghost use Rattle.collector_serve.specs.Memory.{is_short, memory_after, release_of};
 
 use std::marker::Model;
 
@@ -53,7 +53,7 @@ impl MemoryRule {
 
 /// So many spans may wait again, of so many that waited when the process grew to this size.
 fn release_of(limit: u64, taken: u64, waiting: u64) -> u64
-    ensures { result ≡ spec.release_of limit taken waiting }
+    ensures { result ≡ release_of limit taken waiting }
 {
     if taken <= limit.saturating_add(limit / 8) {
         return waiting - waiting / 8;

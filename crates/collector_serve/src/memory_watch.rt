@@ -1,16 +1,15 @@
-//! The thread that refuses requests while the process takes too much memory.
+//! The thread that looks at what memory the process takes, and refuses requests while it is too much.
 use crate::charge::Charge;
 use crate::memory_rule::MemoryRule;
 use std::alloc::Global;
-use std::io::Read;
-use std::rt::Files;
+use std::io::{Read, Seek, SeekFrom};
 use std::sync::{Arc, Wait};
 use std::thread::Threads;
 use std::time::{Clock, Duration};
-use std::{fs, io, thread};
+use std::{io, thread};
 
 /// The system's account of the process, whose second number tells how many pages it takes (proc(5)).
-const ACCOUNT: &str = "/proc/self/statm";
+pub const MEMORY_ACCOUNT: &str = "/proc/self/statm";
 
 /// The bytes of a page.
 const PAGE: u64 = 4096;
@@ -23,26 +22,31 @@ const MOST_PAUSE: u64 = 100;
 
 const LEAST_PAUSE: u64 = 2;
 
-/// Starts a thread that refuses requests while the process takes more mebibytes than this. It ends with the program. `Err`: the
-/// system doesn't tell what the process takes, or there can be no thread.
-pub fn start_memory_watch<R: Files + Threads + Wait + Clock + Copy + Send + 'static>(
-    rt: &R,
-    limit_mib: u64,
-    charge: Arc<Charge, Global>,
-) -> io::Result<()> {
-    let limit = limit_mib.saturating_mul(MEBIBYTE);
-    let _can_be_read = bytes_taken(rt)?;
+/// Starts a thread that tells what the process takes by this account, and refuses requests while it is more than so many mebibytes,
+/// where 0 is no limit. It ends with the program. `Err`: the account can't be read, or there can be no thread.
+pub fn start_memory_watch<
+    F: Read + Seek + Send + Drop + 'static,
+    R: Threads + Wait + Clock + Copy + Send + 'static,
+>(rt: &R, limit_mib: u64, account: F, charge: Arc<Charge, Global>) -> io::Result<()> {
+    let mut account = account;
+    let limit = match limit_mib {
+        0 => u64::MAX,
+        mebibytes => mebibytes.saturating_mul(MEBIBYTE),
+    };
+    charge.board.takes(bytes_taken(&mut account)?);
     let own = *rt;
-    let _runs_on = thread::spawn(rt, move || watch(&own, limit, &charge))?;
+    let _runs_on = thread::spawn(rt, move || watch(&own, limit, account, &charge))?;
     Ok(())
 }
 
 /// Looks again and again.
-fn watch<R: Files + Wait + Clock>(rt: &R, limit: u64, charge: &Charge) {
+fn watch<F: Read + Seek + Drop, R: Wait + Clock>(rt: &R, limit: u64, account: F, charge: &Charge) {
+    let mut account = account;
     let mut rule = MemoryRule::new(limit);
     for _ in rt.forever() {
         let mut pause = MOST_PAUSE;
-        if let Ok(taken) = bytes_taken(rt) {
+        if let Ok(taken) = bytes_taken(&mut account) {
+            charge.board.takes(taken);
             let is_short = rule.is_short(taken, charge.board.waiting());
             charge.board.brake().set(is_short);
             pause = pause_before(limit, taken);
@@ -58,12 +62,12 @@ fn pause_before(limit: u64, taken: u64) -> u64 {
     left.max(LEAST_PAUSE).min(MOST_PAUSE)
 }
 
-/// The bytes of memory that the process takes.
-pub fn bytes_taken<R: Files>(rt: &R) -> io::Result<u64> {
-    let mut file = fs::open(rt, ACCOUNT)?;
+/// The bytes of memory that the process takes, by this account.
+fn bytes_taken<F: Read + Seek>(account: &mut F) -> io::Result<u64> {
+    account.seek(SeekFrom::Start(0))?;
     let mut text = [0; 128];
-    let len = file.read(&mut text)?;
-    match second_number(&text[..len]) {
+    let len = account.read(&mut text)?;
+    match second_number(text.get(..len).unwrap_or(b"")) {
         Some(pages) => Ok(pages.saturating_mul(PAGE)),
         None => Err(io::ErrorKind::InvalidData.into()),
     }

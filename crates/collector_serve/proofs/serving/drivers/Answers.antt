@@ -1,4 +1,4 @@
-use Rattle.std.proofs.Common.{◌≡◌, ◌∙◌, refl, arith}
+use Rattle.std.proofs.Common.{◌≡◌, ◌∙◌, arith}
 use Rattle.std.proofs.lemmas.List.Elements.{All-same, All-push}
 use Rattle.collector_serve.specs.Sharing.{share_of, allowed_by}
 use Rattle.collector_serve.proofs.serving.drivers.Goals as goal
