@@ -1,7 +1,7 @@
 //! What a collector opens before it runs: its addresses, and what is shared with those in charge.
 use crate::configuration::FileFault;
 use collector_serve::{
-    Board, Charge, StopMark, close_at_end, listen, start_admin, start_memory_watch,
+    Board, Charge, MEMORY_ACCOUNT, StopMark, close_at_end, listen, start_admin, start_memory_watch,
 };
 use lane_driver::Loads;
 use otlp_types::TryClone;
