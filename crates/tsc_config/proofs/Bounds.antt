@@ -132,6 +132,7 @@ settings kind _ = wrong
 
 settings_at : (kind : PolicyType) (members : Members) (nested : Option ConfigFault) → IsSmall nested → IsSmall (spec.settings_at_fault kind members nested)
 settings_at type_is.AlwaysSample _ nested n = none
+settings_at type_is.TraceFlags _ nested n = none
 settings_at type_is.And _ nested n = n
 settings_at type_is.Not _ nested n = n
 settings_at type_is.Drop _ nested n = n

@@ -167,6 +167,7 @@ typed_all (Some kind) members Nested nested n =
   where
     of : (k : PolicyType) → ListsAll (SettingsAtHave k members Nested) (own_faults k members ++ (if is_joined (Some k) then nested else []))
     of type_is.AlwaysSample = none
+    of type_is.TraceFlags = none
     of type_is.And = n
     of type_is.Not = n
     of type_is.Drop = n

@@ -134,6 +134,7 @@ settings_least kind _ = alone WrongType
 
 settings_at_least : (kind : PolicyType) (members : Members) (Nested : ConfigFault → Type 0) (nested : Option ConfigFault) → IsLeastOf Nested nested → IsLeastOf (SettingsAtHave kind members Nested) (spec.settings_at_fault kind members nested)
 settings_at_least type_is.AlwaysSample members Nested nested n = none
+settings_at_least type_is.TraceFlags members Nested nested n = none
 settings_at_least type_is.And members Nested nested n = n
 settings_at_least type_is.Not members Nested nested n = n
 settings_at_least type_is.Drop members Nested nested n = n

@@ -206,6 +206,7 @@ own =
     ∷ record { kind = type_is.SpanCount; keys = codes "min_spans" ∷ codes "max_spans" ∷ []; other = codes "spans" }
     ∷ record { kind = type_is.RateLimiting; keys = codes "spans_per_second" ∷ []; other = codes "limit" }
     ∷ record { kind = type_is.Probabilistic; keys = codes "hash_salt" ∷ codes "sampling_percentage" ∷ []; other = codes "percentage" }
+    ∷ record { kind = type_is.TraceState; keys = codes "key" ∷ codes "values" ∷ []; other = codes "invert_match" }
     ∷ record { kind = type_is.And; keys = codes "and_sub_policy" ∷ []; other = codes "policies" }
     ∷ record { kind = type_is.Not; keys = codes "not_sub_policy" ∷ []; other = codes "and_sub_policy" }
     ∷ record { kind = type_is.Drop; keys = codes "drop_sub_policy" ∷ []; other = codes "not_sub_policy" }
@@ -219,7 +220,7 @@ other_keys = refl
 
 -- where a policy has no settings, a key is missing of each type that has a required one
 missing_settings : map (λ (kind : PolicyType). rows_fault kind no_members) all_types
-    ≡ None ∷ Some MissingKey ∷ Some MissingKey ∷ Some MissingKey ∷ Some MissingKey ∷ Some MissingKey ∷ Some MissingKey ∷ Some MissingKey ∷ Some MissingKey ∷ None ∷ None ∷ None ∷ []
+    ≡ None ∷ Some MissingKey ∷ Some MissingKey ∷ Some MissingKey ∷ Some MissingKey ∷ Some MissingKey ∷ Some MissingKey ∷ Some MissingKey ∷ Some MissingKey ∷ Some MissingKey ∷ None ∷ None ∷ None ∷ None ∷ []
 missing_settings = refl
 
 -- each type by its name

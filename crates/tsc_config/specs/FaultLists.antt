@@ -92,6 +92,7 @@ is_joined _ = false
 -- those of the settings of a policy table of this type, where it isn't made of others
 abbrev pub own_faults : PolicyType → Members → List ConfigFault
 own_faults type_is.AlwaysSample _ = []
+own_faults type_is.TraceFlags _ = []
 own_faults type_is.And _ = []
 own_faults type_is.Not _ = []
 own_faults type_is.Drop _ = []

@@ -73,6 +73,7 @@ SettingsHave kind _ fault = fault ≡ WrongType
 -- the settings of a policy table of this type have this fault, where those of a type that is made of others have the nested ones
 abbrev pub SettingsAtHave : PolicyType → Members → (Nested : ConfigFault → Type 0) → ConfigFault → Type 0
 SettingsAtHave type_is.AlwaysSample _ Nested fault = ⊥
+SettingsAtHave type_is.TraceFlags _ Nested fault = ⊥
 SettingsAtHave type_is.And _ Nested fault = Nested fault
 SettingsAtHave type_is.Not _ Nested fault = Nested fault
 SettingsAtHave type_is.Drop _ Nested fault = Nested fault

@@ -157,6 +157,7 @@ settings_fault kind _ = Some WrongType
 -- the settings of a policy table of this type: `nested` is the fault of those of a type that is made of others
 abbrev pub settings_at_fault : PolicyType → Members → (nested : Option ConfigFault) → Option ConfigFault
 settings_at_fault type_is.AlwaysSample _ nested = None
+settings_at_fault type_is.TraceFlags _ nested = None
 settings_at_fault type_is.And _ nested = nested
 settings_at_fault type_is.Not _ nested = nested
 settings_at_fault type_is.Drop _ nested = nested

@@ -57,6 +57,8 @@ type_name type_is.BooleanAttribute = codes "boolean_attribute"
 type_name type_is.SpanCount = codes "span_count"
 type_name type_is.RateLimiting = codes "rate_limiting"
 type_name type_is.Probabilistic = codes "probabilistic"
+type_name type_is.TraceState = codes "trace_state"
+type_name type_is.TraceFlags = codes "trace_flags"
 type_name type_is.And = codes "and"
 type_name type_is.Not = codes "not"
 type_name type_is.Drop = codes "drop"
@@ -64,6 +66,7 @@ type_name type_is.Drop = codes "drop"
 -- a policy of this type has settings
 abbrev pub has_settings : PolicyType → Bool
 has_settings type_is.AlwaysSample = false
+has_settings type_is.TraceFlags = false
 has_settings _ = true
 
 -- the key of the policies that a policy of this type is made of
@@ -105,7 +108,7 @@ has_unknown_key kind (member key value rest) = not (is_key kind key) || has_unkn
 abbrev pub all_types : List PolicyType
 all_types =
     type_is.AlwaysSample ∷ type_is.Latency ∷ type_is.StatusCode ∷ type_is.StringAttribute ∷ type_is.NumericAttribute ∷ type_is.BooleanAttribute ∷ type_is.SpanCount
-    ∷ type_is.RateLimiting ∷ type_is.Probabilistic ∷ type_is.And ∷ type_is.Not ∷ type_is.Drop ∷ []
+    ∷ type_is.RateLimiting ∷ type_is.Probabilistic ∷ type_is.TraceState ∷ type_is.TraceFlags ∷ type_is.And ∷ type_is.Not ∷ type_is.Drop ∷ []
 
 -- the first of these types that a text names
 abbrev pub type_among : List PolicyType → List ℕ → Option PolicyType

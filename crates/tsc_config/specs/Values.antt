@@ -147,6 +147,7 @@ leaf_in type_is.NumericAttribute members = attribute members (number_wanted memb
 leaf_in type_is.BooleanAttribute members = attribute members (Boolean (truth_of (get_member (codes "value") members)))
 leaf_in type_is.SpanCount members = leaf_is.SpanCount (natural_of (get_member (codes "min_spans") members)) (natural_of (get_member (codes "max_spans") members))
 leaf_in type_is.Probabilistic members = leaf_is.Probabilistic (salt_by (text_of (get_member (codes "hash_salt") members))) (percentage_at (get_member (codes "sampling_percentage") members))
+leaf_in type_is.TraceState members = leaf_is.TraceState (text_of (get_member (codes "key") members)) (texts_of (get_member (codes "values") members))
 leaf_in _ _ = leaf_is.AlwaysSample
 
 -- what a policy of this type samples by its settings
@@ -174,6 +175,7 @@ kind_typed None _ nested = always
 kind_typed (Some type_is.And) _ nested = kind_is.Joined join_is.And nested
 kind_typed (Some type_is.Not) _ nested = kind_is.Joined join_is.Not nested
 kind_typed (Some type_is.Drop) _ nested = kind_is.Joined join_is.Drop nested
+kind_typed (Some type_is.TraceFlags) _ nested = kind_is.Leaf leaf_is.TraceFlags
 kind_typed (Some kind) members nested = kind_by kind (get_member (type_name kind) members)
 
 -- the policy of a table, with these policies where it is made of others

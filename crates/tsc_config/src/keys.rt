@@ -85,7 +85,7 @@ fn has_settings(kind: PolicyType) -> bool
     ensures { result ≡ spec.has_settings kind }
 {
     match kind {
-        PolicyType::AlwaysSample => false,
+        PolicyType::AlwaysSample | PolicyType::TraceFlags => false,
         _ => true,
     }
 }

@@ -208,6 +208,7 @@ fn kind_typed(
             join: Join::Drop,
             policies: nested,
         }),
+        Some(PolicyType::TraceFlags) => Ok(PolicyKind::Leaf(Leaf::TraceFlags)),
         Some(kind) => kind_by(alloc, kind, table),
     }
 }
