@@ -45,6 +45,11 @@ FAULTS = [
 LINES = [
     ("root_wait_ms = 0.5", WRONG_TYPE),
     ("root_wait = 0", UNKNOWN_KEY),
+    ("decision_wait_after_root_received_ms = 0.5", WRONG_TYPE),
+    ("decision_wait_after_root_received = 0", UNKNOWN_KEY),
+    ("decision_wait_after_root_received_ms = 5\nroot_wait_ms = 5", UNKNOWN_KEY),
+    ("decision_wait_after_root_received_ms = 0\nroot_wait_ms = 0", UNKNOWN_KEY),
+    ("root_wait_ms = true\ndecision_wait_after_root_received_ms = -1", UNKNOWN_KEY),
     ('listen = ""', TAKEN),
     ('listen = "[::1]:0"', TAKEN),
     ("listen = 4318", WRONG_TYPE),

@@ -26,6 +26,8 @@ pub record NumberRow : Type 0 where
 abbrev pub number_row : NumberKey → NumberRow
 number_row number_is.DecisionWait = record { name = codes "decision_wait_ms"; default = 30000; lowest = 1; greatest = 3600000 }
 number_row number_is.RootWait = record { name = codes "root_wait_ms"; default = 0; lowest = 0; greatest = 3600000 }
+-- another name of the one before
+number_row number_is.RootReceived = record { name = codes "decision_wait_after_root_received_ms"; default = 0; lowest = 0; greatest = 3600000 }
 number_row number_is.NumTraces = record { name = codes "num_traces"; default = 50000; lowest = 1; greatest = 1000000 }
 number_row number_is.Lanes = record { name = codes "lanes"; default = 1; lowest = 1; greatest = 64 }
 number_row number_is.Shards = record { name = codes "shards"; default = 1; lowest = 1; greatest = 64 }
@@ -87,7 +89,7 @@ is_setting kind key = has_key (settings kind) key || is_sub_key kind key
 -- the keys of a table of this kind
 unfoldable pub is_key : TableKind → List ℕ → Bool
 is_key table_is.Config key =
-    bytes_eq key (number_row number_is.DecisionWait).name || bytes_eq key (number_row number_is.RootWait).name || bytes_eq key (number_row number_is.NumTraces).name
+    bytes_eq key (number_row number_is.DecisionWait).name || bytes_eq key (number_row number_is.RootWait).name || bytes_eq key (number_row number_is.RootReceived).name || bytes_eq key (number_row number_is.NumTraces).name
     || bytes_eq key (codes "decision_cache") || bytes_eq key (codes "policies")
     || bytes_eq key (number_row number_is.Lanes).name || bytes_eq key (number_row number_is.Shards).name
     || bytes_eq key (number_row number_is.QueueCapacity).name || bytes_eq key (number_row number_is.ExportCapacity).name

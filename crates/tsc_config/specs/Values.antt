@@ -44,6 +44,11 @@ abbrev pub natural_of : Option Data → ℕ
 natural_of None = 0
 natural_of (Some value) = natural_value value
 
+-- what stands at the first of two keys, and where nothing does, at the second
+abbrev pub first_found : Option Data → Option Data → Option Data
+first_found None second = second
+first_found (Some value) second = Some value
+
 -- the size at a key of a table of sizes
 abbrev pub size_in : (key : List ℕ) → Data → ℕ
 size_in key (table members) = natural_of (get_member key members)
@@ -246,7 +251,7 @@ InRange config = record {
 abbrev pub config_of : Members → Config
 config_of members = record {
   decision_wait = positive_by (number_row number_is.DecisionWait) members;
-  root_wait = natural_of (get_member (number_row number_is.RootWait).name members);
+  root_wait = natural_of (first_found (get_member (number_row number_is.RootWait).name members) (get_member (number_row number_is.RootReceived).name members));
   num_traces = positive_by (number_row number_is.NumTraces) members;
   sampled_cache_size = cache_size (codes "sampled_cache_size") (get_member (codes "decision_cache") members);
   non_sampled_cache_size = cache_size (codes "non_sampled_cache_size") (get_member (codes "decision_cache") members);

@@ -72,6 +72,8 @@ impl PolicyType {
 pub enum NumberKey {
     DecisionWait,
     RootWait,
+    /// Another name of `RootWait`.
+    RootReceived,
     NumTraces,
     Lanes,
     Shards,
@@ -93,6 +95,7 @@ impl NumberKey {
         match self {
             NumberKey::DecisionWait => ("decision_wait_ms", 30_000, 1, 3_600_000),
             NumberKey::RootWait => ("root_wait_ms", 0, 0, 3_600_000),
+            NumberKey::RootReceived => ("decision_wait_after_root_received_ms", 0, 0, 3_600_000),
             NumberKey::NumTraces => ("num_traces", 50_000, 1, 1_000_000),
             NumberKey::Lanes => ("lanes", 1, 1, 64),
             NumberKey::Shards => ("shards", 1, 1, 64),
