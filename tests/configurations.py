@@ -35,6 +35,9 @@ FAULTS = [
     ('policies = [{ name = "a", type = "none", status_code = 1 }]', OUT_OF_RANGE),
     (f'policies = [{{ name = "a", type = "not", and = {{ and_sub_policy = [{ALL}] }} }}]', UNKNOWN_KEY),
     ('policies = [{ name = "a", type = "drop" }]', MISSING_KEY),
+    ('policies = [{ name = "a", type = "trace_state" }]', MISSING_KEY),
+    ('policies = [{ name = "a", type = "trace_flags" }]', TAKEN),
+    ('policies = [{ name = "a", type = "trace_flags", trace_flags = {} }]', UNKNOWN_KEY),
     ('policies = [{ name = "a", type = "status_code", status_code = { status_codes = ["error"] } }]', OUT_OF_RANGE),
 ]
 
@@ -42,6 +45,11 @@ FAULTS = [
 LINES = [
     ("root_wait_ms = 0.5", WRONG_TYPE),
     ("root_wait = 0", UNKNOWN_KEY),
+    ("decision_wait_after_root_received_ms = 0.5", WRONG_TYPE),
+    ("decision_wait_after_root_received = 0", UNKNOWN_KEY),
+    ("decision_wait_after_root_received_ms = 5\nroot_wait_ms = 5", UNKNOWN_KEY),
+    ("decision_wait_after_root_received_ms = 0\nroot_wait_ms = 0", UNKNOWN_KEY),
+    ("root_wait_ms = true\ndecision_wait_after_root_received_ms = -1", UNKNOWN_KEY),
     ('listen = ""', TAKEN),
     ('listen = "[::1]:0"', TAKEN),
     ("listen = 4318", WRONG_TYPE),
@@ -172,6 +180,17 @@ SETTINGS = {
         ('hash_salt = "", sampling_percentage = 10', TAKEN),
         ("hash_salt = 1, sampling_percentage = 10", WRONG_TYPE),
         ("sampling_percentage = 10, mode = 1", UNKNOWN_KEY),
+    ],
+    "trace_state": [
+        ('key = "k", values = ["v"]', TAKEN),
+        ('key = "", values = ["", "v"]', TAKEN),
+        ('key = "k", values = []', NO_VALUES),
+        ('key = "k", values = "v"', WRONG_TYPE),
+        ('key = "k", values = [1]', WRONG_TYPE),
+        ('key = 1, values = ["v"]', WRONG_TYPE),
+        ('key = "k"', MISSING_KEY),
+        ('values = ["v"]', MISSING_KEY),
+        ('key = "k", values = ["v"], invert_match = true', UNKNOWN_KEY),
     ],
     "and": [
         ("and_sub_policy = []", EMPTY_LIST),

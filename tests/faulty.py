@@ -15,7 +15,7 @@ POLICIES = f"policies = [{ALL}]\n"
 EMPTY = "policies: a list of policies is empty (fault 7.1)"
 NO_VALUES = "policies: the values or status codes of a policy are an empty list (fault 7.6)"
 SAME_NAME = "policies: two policies of one list have the same name (fault 7.4)"
-TYPES = "always_sample, latency, status_code, string_attribute, numeric_attribute, boolean_attribute, span_count, rate_limiting, probabilistic, and, not, drop"
+TYPES = "always_sample, latency, status_code, string_attribute, numeric_attribute, boolean_attribute, span_count, rate_limiting, probabilistic, trace_state, trace_flags, and, not, drop"
 
 # A name, a text, and its lines; of a text without a fault there is none.
 ROWS = [
@@ -26,6 +26,11 @@ ROWS = [
     ("a key twice", f"lanes = 1\nlanes = 2\n{POLICIES}", ["not TOML (fault 1)"]),
     ("unknown keys", f"queue = 1\nPolicies = 2\n\"a b\" = 3\n\"\" = 4\n{POLICIES}", ['"": no such key (fault 2)', "Policies: no such key (fault 2)", '"a b": no such key (fault 2)', "queue: no such key (fault 2)"]),
     ("a key of two lines", f"\"a\\nb\" = 1\n{POLICIES}", ['"a\\nb": no such key (fault 2)']),
+    ("two names of one setting", f"decision_wait_after_root_received_ms = -1\nroot_wait_ms = 2\nwait = 3\n{POLICIES}", [
+        "wait: no such key (fault 2)",
+        "decision_wait_after_root_received_ms: another name of root_wait_ms, which stands there too (fault 2)",
+        "decision_wait_after_root_received_ms: -1 is not from 0 to 3600000 (fault 5)",
+    ]),
     ("numbers out of range", f"shards = 0\nlanes = 65\nroot_wait_ms = -1\nqueue_capacity = 65537\ntick_ms = 60001\n{POLICIES}", [
         "root_wait_ms: -1 is not from 0 to 3600000 (fault 5)",
         "lanes: 65 is not from 1 to 64 (fault 5)",

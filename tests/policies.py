@@ -141,6 +141,30 @@ def percentages(folder):
             one_run(folder, f"{count} ten-thousandths of a percent by salt {number}", [("probabilistic", ", ".join(settings))], [(one, None)], count >= least)
 
 
+def trace_states(folder):
+    """The trace state of the second of two spans: its members are cut at commas, the white space around each is left out, and its key ends at its first `=`."""
+    rows = [
+        ("k=v", True), ("k=w", True), ("k=v,k=x", True), ("k=x,k=v", True), ("a=1,k=v,b=2", True), ("a=1, k=v", True), ("a=1,\tk=v \t,b", True), (" k=v", True),
+        ("k=u=v", True), ("k=", False), ("k", False), ("", False), (",", False), ("v", False), ("=v", False), ("k=v2", False), ("kk=v", False), ("K=v", False), ("k=V", False),
+        ("k =v", False), ("k= v", False), ("k=v;k=v", False), ("v=k", False), ("k\n=v", False), ("k=v\n", False), ("a" * 70000 + ",k=v", True),
+    ]  # fmt: skip
+    settings = 'key = "k", values = ["v", "w", "u=v"]'
+    for number, (state, is_kept) in enumerate(rows):
+        told = {"traceState": state} if state else {}
+        one_run(folder, f"trace state {number}", [("trace_state", settings)], [(span(1), None), (span(2, **told), None)], is_kept)
+    one_run(folder, "trace state of no value", [("trace_state", 'key = "k", values = [""]')], [(span(1, traceState="k="), None)], True)
+    one_run(folder, "trace state of no key", [("trace_state", 'key = "", values = ["v"]')], [(span(1, traceState="a=v,=v"), None)], True)
+    one_run(folder, "trace state of a key with a sign", [("trace_state", 'key = "k=u", values = ["v"]')], [(span(1, traceState="k=u=v"), None)], False)
+
+
+def trace_flags(folder):
+    """The flags of the first and the last of three spans: the lowest bit of one of them has to be set."""
+    rows = [(0, 0, False), (1, 0, True), (0, 1, True), (2, 2, False), (2, 3, True), (256, 512, False), (257, 2**32 - 2, True), (2**32 - 1, 0, True), (2**32 - 2, 2**31, False)]
+    for first, last, is_kept in rows:
+        spans = [span(number, **({"flags": flags} if flags else {})) for number, flags in enumerate((first, 0, last), 1)]
+        one_run(folder, f"flags {first} and {last}", [("trace_flags", None)], [(one, None) for one in spans], is_kept)
+
+
 def policies_together(folder):
     """An inverted match against a trace wins over policies that sample it, but not from within an `and`; one for it samples only where no policy is against it."""
     inverted = ("string_attribute", 'key = "env", values = ["prod2", "dev"], invert_match = true')
@@ -168,6 +192,8 @@ def policies_of_policies(folder):
     never = ("span_count", "min_spans = 9")
     against = ("string_attribute", 'key = "env", values = ["dev"], invert_match = true')
     in_favour = ("string_attribute", 'key = "env", values = ["prod"], invert_match = true')
+    flagged = ("trace_flags", None)
+    stated, unstated = (("trace_state", f'key = "k", values = ["{value}"]') for value in "vw")
     one, two = (("rate_limiting", f"spans_per_second = {limit}") for limit in (1, 2))
     rows = [
         ([joined("not", ALWAYS)], False), ([joined("not", never)], True), ([joined("not", ALWAYS), ALWAYS], True), ([joined("not", never), never], True),
@@ -178,11 +204,14 @@ def policies_of_policies(folder):
         ([in_favour], True), ([in_favour, joined("drop", never)], False), ([in_favour, joined("drop", ALWAYS)], False), ([against, joined("drop", never), ALWAYS], False),
         ([joined("and", joined("drop", ALWAYS)), ALWAYS], True), ([joined("not", joined("drop", ALWAYS))], True), ([joined("drop", joined("drop", ALWAYS)), ALWAYS], True),
         ([joined("drop", joined("not", never)), ALWAYS], False), ([joined("drop", one), ALWAYS], True), ([joined("drop", two), ALWAYS], False),
+        ([flagged, never], True), ([flagged, against], False), ([joined("not", flagged)], False), ([joined("and", flagged, stated)], True), ([joined("and", flagged, unstated)], False),
+        ([joined("drop", stated), flagged], False), ([joined("drop", unstated), flagged], True), ([joined("not", joined("and", stated, unstated))], True), ([in_favour, unstated], False),
     ]  # fmt: skip
     for number, (kinds, is_kept) in enumerate(rows):
-        one_run(folder, f"policies of policies {number}", kinds, [(span(n, attributes=[attribute("env", stringValue="dev")]), None) for n in (1, 2)], is_kept)
+        spans = [span(n, attributes=[attribute("env", stringValue="dev")], flags=1, traceState="k=v") for n in (1, 2)]
+        one_run(folder, f"policies of policies {number}", kinds, [(one_span, None) for one_span in spans], is_kept)
 
 
 if __name__ == "__main__":
-    for write in (latencies, times_at_the_top, status_codes, span_counts, rates, attributes, percentages, policies_together, policies_of_policies):
+    for write in (latencies, times_at_the_top, status_codes, span_counts, rates, attributes, percentages, trace_states, trace_flags, policies_together, policies_of_policies):
         write(sys.argv[1])

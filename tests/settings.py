@@ -22,8 +22,13 @@ def bounds(text):
 
 def top_numbers():
     """Of each key at the top the default, the least and the greatest."""
-    rows = re.findall(r'^  pub \w+ : IsNumberAt members \(codes "(\w+)"\) (\d+ \d+ \d+) ', DEFINITION.read_text(), re.M)
-    return {key: bounds(row) for key, row in rows}
+    rows = re.findall(r'^  pub \w+ : IsNumberAt(?:Either)? members ((?:\(codes "\w+"\) )+)(\d+ \d+ \d+) ', DEFINITION.read_text(), re.M)
+    return {key: bounds(row) for names, row in rows for key in re.findall(r'"(\w+)"', names)}
+
+
+def other_names():
+    """Of each setting with two names the second one, which doesn't stand beside the first."""
+    return set(re.findall(r'^  pub \w+ : IsNumberAtEither members \(codes "\w+"\) \(codes "(\w+)"\) ', DEFINITION.read_text(), re.M))
 
 
 def cache_numbers():
@@ -78,7 +83,7 @@ def differences():
     example = tomllib.loads((TOP / "examples/every_key.toml").read_text())
     for place, keys in ((example, top_numbers()), (example.get(CACHES, {}), cache_numbers())):
         numbers = {key for key, value in place.items() if type(value) is int}
-        yield from (f"examples/every_key.toml and the definition differ in {key}" for key in sorted(numbers ^ keys.keys()))
+        yield from (f"examples/every_key.toml and the definition differ in {key}" for key in sorted(numbers ^ (keys.keys() - other_names())))
     yield from (f"examples/every_key.toml has no {key}" for key in sorted(other_keys().keys() - example.keys()))
 
 

@@ -1,5 +1,6 @@
 pub mod Verdicts
 pub mod Turns
 pub mod GivenTurns
+pub mod Members
 mod Rows
 mod GivenRows

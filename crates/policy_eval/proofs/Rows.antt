@@ -6,9 +6,10 @@ use Rattle.policy_tree.specs.declared.policy.Join.{Join}
 use Rattle.policy_tree.specs.declared.policy.Join.TheVariants.{And, Not, Drop}
 use Rattle.policy_tree.specs.Tree.{Policy, Policies, no_more, one_more, leaf, joined, and_policy, rate_limiting}
 use Rattle.policy_tree.specs.declared.policy.Leaf.{Leaf}
-use Rattle.policy_tree.specs.declared.policy.Leaf.TheVariants.{AlwaysSample, Latency, StatusCode, Attribute, SpanCount, Probabilistic}
+use Rattle.policy_tree.specs.declared.policy.Leaf.TheVariants.{AlwaysSample, Latency, StatusCode, Attribute, SpanCount, Probabilistic, TraceState, TraceFlags}
 use Rattle.policy_tree.specs.declared.policy.Wanted.TheVariants.{StringAmong, NumberWithin, Boolean}
 use Rattle.policy_eval.specs.Probabilistic.{fnv_1a, threshold, trace_of, is_chosen}
+use Rattle.policy_eval.specs.TraceState.{split_commas, trimmed, is_member}
 use Rattle.policy_eval.specs.Policies.{sample, not_sample, inverted_sample, inverted_not_sample, dropped, leaf_answer, is_slow, is_within, answers, verdict, verdict_of_answers, asked_nodes}
 use Rattle.otlp_types.specs.declared.arrival.Arrival.{Arrival}
 use Rattle.otlp_types.specs.declared.value.AnyValue.{AnyValue}
@@ -184,3 +185,29 @@ percentages = refl
 pub all_and_none : map (λ (p : ℕ). leaf_answer (Probabilistic (codes "other") p) of_trace) (1000000 ∷ 0 ∷ []) ≡ sample ∷ not_sample ∷ []
 unfolding is_chosen
 all_and_none = refl
+
+-- ---- the trace state and the flags of a span
+
+pub members_of_a_state : map split_commas ([] ∷ codes "a=1" ∷ codes "a=1, b=2" ∷ codes ",a" ∷ []) ≡ ([] ∷ []) ∷ (codes "a=1" ∷ []) ∷ (codes "a=1" ∷ codes " b=2" ∷ []) ∷ ([] ∷ codes "a" ∷ []) ∷ []
+members_of_a_state = refl
+
+pub blanks_around : map trimmed (codes " \ta=1 \t" ∷ codes "a = 1" ∷ codes "  " ∷ []) ≡ codes "a=1" ∷ codes "a = 1" ∷ [] ∷ []
+unfolding trimmed
+blanks_around = refl
+
+-- of a key, another key, a longer one, without `=`, with a second `=`, and with nothing before it
+pub members_by_their_key : map (is_member (codes "a") (codes "1" ∷ codes "b=1" ∷ [])) (codes "a=1" ∷ codes "b=1" ∷ codes "ab=1" ∷ codes "a" ∷ codes "a=b=1" ∷ codes "=1" ∷ []) ≡ true ∷ false ∷ false ∷ false ∷ true ∷ false ∷ []
+members_by_their_key = refl
+
+-- a span with this trace state and these flags
+abbrev stated : (trace_state : List ℕ) → (flags : ℕ) → Arrival
+stated trace_state flags = record (arrival 0 0 0 [] []) { rec = record (plain_record None 0 0 0) { span = record (plain_span None 0 0 0) { trace_state = trace_state; flags = flags } } }
+
+-- of the second member of the second span, and no value that is longer
+pub states : map (λ (value : List ℕ). leaf_answer (TraceState (codes "b") (codes "9" ∷ value ∷ [])) (stated [] 0 ∷ stated (codes "a=1 ,\tb=23") 0 ∷ [])) (codes "23" ∷ codes "2" ∷ []) ≡ sample ∷ not_sample ∷ []
+unfolding trimmed
+states = refl
+
+-- the flags of the last of two spans: none, sampled, random, both, and one of the upper ones with and without
+pub flags : map (λ (n : ℕ). leaf_answer TraceFlags (stated [] 2 ∷ stated [] n ∷ [])) (0 ∷ 1 ∷ 2 ∷ 3 ∷ 256 ∷ 4294967295 ∷ []) ≡ not_sample ∷ sample ∷ not_sample ∷ sample ∷ not_sample ∷ sample ∷ []
+flags = refl

@@ -1,8 +1,9 @@
 -- What policies mean on the spans of a trace (tailsamplingprocessor README, "Policies").
-use Rattle.std.specs.Prelude.{ℕ, ◌+◌, ◌-◌, ◌/◌, min, max, ℤ, Bool, true, false, not, ◌&&◌, ◌||◌, if◌then◌else◌, ◌==◌, nat_lt, nat_le, List, [], ◌∷◌, ◌++◌, length, bytes_eq, int_le}
+use Rattle.std.specs.Prelude.{ℕ, ◌+◌, ◌-◌, ◌/◌, ◌%◌, min, max, ℤ, Bool, true, false, not, ◌&&◌, ◌||◌, if◌then◌else◌, ◌==◌, nat_lt, nat_le, List, [], ◌∷◌, ◌++◌, length, bytes_eq, int_le}
 use Rattle.std.specs.List.{list_any}
 use Rattle.std.specs.Ordering.{int_eq}
 use Rattle.policy_eval.specs.Probabilistic.{trace_of, is_chosen}
+use Rattle.policy_eval.specs.TraceState.{has_member}
 use Rattle.policy_tree.specs.declared.policy.Leaf.{Leaf}
 use Rattle.policy_tree.specs.declared.policy.Leaf.TheVariants as leaf_is
 use Rattle.policy_tree.specs.declared.policy.Wanted.{Wanted}
@@ -78,6 +79,14 @@ matches key wanted spans = list_any (λ (a : Arrival). has_wanted key wanted a.r
 abbrev pub has_status : List ℤ → List Arrival → Bool
 has_status codes spans = list_any (λ (a : Arrival). list_any (λ c. int_eq c a.rec.span.status.code) codes) spans
 
+-- the trace state of some span has a member of that key with one of the values
+abbrev pub has_state : (key : List ℕ) → (values : List (List ℕ)) → List Arrival → Bool
+has_state key values spans = list_any (λ (a : Arrival). has_member key values a.rec.span.trace_state) spans
+
+-- some span was flagged as sampled: the lowest bit of its flags is set (trace.proto v1, Span.flags)
+abbrev pub is_flagged : List Arrival → Bool
+is_flagged spans = list_any (λ (a : Arrival). a.rec.span.flags % 2 == 1) spans
+
 -- without `invert_match`
 abbrev pub plain : Bool → Answer
 plain holds = if holds then sample else not_sample
@@ -94,6 +103,8 @@ leaf_answer (leaf_is.StatusCode codes) spans = plain (has_status codes spans)
 leaf_answer (leaf_is.Attribute key wanted invert) spans = if invert then inverted (matches key wanted spans) else plain (matches key wanted spans)
 leaf_answer (leaf_is.SpanCount least most) spans = plain (is_within least most (length spans))
 leaf_answer (leaf_is.Probabilistic salt ten_thousandths) spans = plain (is_chosen salt ten_thousandths (trace_of spans))
+leaf_answer (leaf_is.TraceState key values) spans = plain (has_state key values spans)
+leaf_answer leaf_is.TraceFlags spans = plain (is_flagged spans)
 
 -- ---- answers: `granted` is the limiter's answer at each node
 

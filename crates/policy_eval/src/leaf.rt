@@ -1,13 +1,14 @@
 //! The answers of policies that have no parts and ask no limiter.
 ghost use Rattle.std.specs.Prelude.{◌≡◌};
-ghost use Rattle.policy_eval.specs.Policies.{has_status, leaf_answer};
+ghost use Rattle.policy_eval.specs.Policies.{has_status, has_state, is_flagged, leaf_answer};
 ghost use Rattle.policy_eval.specs.Meaning.{answer_of};
 
 use crate::answer::Answer;
 use crate::attribute::matches;
 use crate::latency::{is_slow, is_within};
 use crate::probabilistic::is_chosen;
-use otlp_types::Arrival;
+use crate::trace_state::has_member;
+use otlp_types::{Arrival, Text};
 use policy_tree::Leaf;
 
 /// What such a policy answers for the spans of a trace.
@@ -34,6 +35,10 @@ pub fn leaf_answer(leaf: &Leaf, spans: &[Arrival]) -> Answer
             hash_salt,
             ten_thousandths,
         } => Answer::plain(is_chosen(hash_salt.as_str(), *ten_thousandths, spans)),
+        Leaf::TraceState { key, values } => {
+            Answer::plain(has_state(key.as_str(), values.as_slice(), spans))
+        }
+        Leaf::TraceFlags => Answer::plain(is_flagged(spans)),
     }
 }
 
@@ -43,4 +48,16 @@ fn has_status(codes: &[i32], spans: &[Arrival]) -> bool
     spans
         .iter()
         .any(|arrival| codes.contains(&arrival.rec.span.status.code))
+}
+
+fn has_state(key: &str, values: &[Text], spans: &[Arrival]) -> bool
+    ensures { result ≡ has_state key.now values.now spans.now }
+{
+    spans.iter().any(|arrival| has_member(key, values, arrival.rec.span.trace_state.as_str()))
+}
+
+fn is_flagged(spans: &[Arrival]) -> bool
+    ensures { result ≡ is_flagged spans.now }
+{
+    spans.iter().any(|arrival| arrival.rec.span.flags % 2 == 1)
 }

@@ -11,6 +11,7 @@ mod latency;
 mod laws;
 mod leaf;
 mod probabilistic;
+mod trace_state;
 mod verdict;
 
 pub use answer_list::{judge, verdict_given};

@@ -4,7 +4,7 @@ use Rattle.std.specs.Prelude.{true, false, pos, [], ◌∷◌, map, ◌≡◌, r
 use Rattle.policy_tree.specs.Tree.{Policies, no_more, one_more, leaf, rate_limiting, joined, and_policy, limiters}
 use Rattle.policy_tree.specs.declared.policy.Join.{Join}
 use Rattle.policy_tree.specs.declared.policy.Join.TheVariants.{And, Not, Drop}
-use Rattle.policy_tree.specs.declared.policy.Leaf.TheVariants.{AlwaysSample, Latency, StatusCode, Attribute, SpanCount, Probabilistic}
+use Rattle.policy_tree.specs.declared.policy.Leaf.TheVariants.{AlwaysSample, Latency, StatusCode, Attribute, SpanCount, Probabilistic, TraceState, TraceFlags}
 use Rattle.policy_tree.specs.declared.policy.Wanted.TheVariants.{StringAmong, NumberWithin, Boolean}
 use Rattle.policy_tree.specs.Faults.{has_crossed_bounds, has_no_values}
 
@@ -22,6 +22,10 @@ numbers = refl
 
 pub values : map has_no_values (StatusCode [] ∷ StatusCode (pos 2 ∷ []) ∷ Attribute [] (StringAmong []) false ∷ Attribute [] (StringAmong ([] ∷ [])) false ∷ Attribute [] (Boolean false) false ∷ AlwaysSample ∷ Probabilistic [] 0 ∷ []) ≡ true ∷ false ∷ true ∷ false ∷ false ∷ false ∷ false ∷ []
 values = refl
+
+-- of a trace state no value is looked for, one is, and of the flags none has to be
+pub values_of_a_trace : map has_no_values (TraceState (107 ∷ []) [] ∷ TraceState [] ([] ∷ []) ∷ TraceFlags ∷ []) ≡ true ∷ false ∷ false ∷ []
+values_of_a_trace = refl
 
 -- an `and` of a policy that always samples and a limit of 3; a limit of 4; and an `and` of an `and` of a limit of 5
 abbrev limited : Policies

@@ -74,6 +74,7 @@ wants_none (wanted_is.Boolean value) = false
 abbrev pub has_no_values : Leaf → Bool
 has_no_values (leaf_is.StatusCode codes) = length codes == 0
 has_no_values (leaf_is.Attribute key wanted invert) = wants_none wanted
+has_no_values (leaf_is.TraceState key values) = length values == 0
 has_no_values _ = false
 
 -- a value is to be within bounds that leave nothing

@@ -52,6 +52,7 @@ fn leaf_has_fault(leaf: &Leaf, fault: LeafFault) -> bool
             },
             LeafFault::NoValues,
         ) => values.is_empty(),
+        (Leaf::TraceState { values, .. }, LeafFault::NoValues) => values.is_empty(),
         _ => false,
     }
 }

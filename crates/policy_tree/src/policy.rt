@@ -69,6 +69,15 @@ pub enum Leaf {
         hash_salt: Text,
         ten_thousandths: u32,
     },
+    /// A trace with a span whose trace state has a member of this key with one of these values (W3C Trace Context,
+    /// section 3.3; `trace_state`: `key`, `values`).
+    TraceState {
+        key: Text,
+        values: List<Text>,
+    },
+    /// A trace with a span that was flagged as sampled: the lowest bit of its flags is set (`trace.proto` v1,
+    /// `Span.flags`; `trace_flags`).
+    TraceFlags,
 }
 
 /// What the value of an attribute is to be (tailsamplingprocessor README, `string_attribute`, `numeric_attribute`,
@@ -175,6 +184,11 @@ impl TryClone for Leaf {
                 hash_salt: hash_salt.try_clone(alloc)?,
                 ten_thousandths: *ten_thousandths,
             }),
+            Leaf::TraceState { key, values } => Ok(Leaf::TraceState {
+                key: key.try_clone(alloc)?,
+                values: values.try_clone(alloc)?,
+            }),
+            Leaf::TraceFlags => Ok(Leaf::TraceFlags),
         }
     }
 }

@@ -4,7 +4,7 @@ use Rattle.std.proofs.Common.{◌≡◌, ℕ, Some, List, refl, sym, ◌∙◌}
 use Rattle.toml.specs.Data.{Members, no_members}
 use Rattle.toml.specs.Errors.{IsBlank}
 use Rattle.toml.specs.Parse.{parse_document, lines}
-use Rattle.tsc_config.specs.Faults.{table_fault}
+use Rattle.tsc_config.specs.Faults.{table_fault, keys_fault, twice_fault}
 use Rattle.tsc_config.specs.declared.fault.ConfigFault.{ConfigFault}
 use Rattle.tsc_config.specs.declared.fault.ConfigFault.TheVariants.{MissingKey, NoMemory}
 
@@ -15,7 +15,7 @@ blank_document text h = rw h
 
 -- the empty table has no policies
 empty_fault : table_fault no_members ≡ Some MissingKey
-unfolding table_fault
+unfolding table_fault keys_fault twice_fault
 empty_fault = refl
 
 pub blank_has_fault : (text : List ℕ) (members : Members) (fault : ConfigFault) → parse_document text ≡ Some members → ((found : ConfigFault) → table_fault members ≡ Some found → fault ≡ found) → fault ≡ NoMemory → IsBlank text → ⊥

@@ -10,6 +10,7 @@ use Rattle.tsc_config.specs.Percentages.{percentage_of}
 use Rattle.tsc_config.specs.Keys.{ChoiceRow, choice_row, has_unknown_key, type_name, type_at, type_of, code_of, join_type, join_name, sub_key, join_at}
 use Rattle.tsc_config.specs.Faults.{config_fault_number, least, optional, required, unknown_fault, integer_fault, whole_fault, truth_fault, text_fault, choice_fault, type_fault, code_fault, percentage_fault, named_fault, items_fault, array_fault, item_fault, wanted_fault, each_setting_fault}
 use Rattle.tsc_config.specs.Faults as spec
+use Rattle.std.specs.Option.{is_some}
 use Rattle.tsc_config.specs.PolicySettings.{Setting, settings as spec_settings}
 use Rattle.tsc_config.specs.declared.policy_settings.ItemKind.{ItemKind}
 use Rattle.tsc_config.specs.declared.policy_settings.ItemKind.TheVariants as item_is
@@ -51,6 +52,11 @@ either false a b p q = q
 
 unknown : (kind : TableKind) (members : Members) → IsSmall (unknown_fault kind members)
 unknown kind members = either (has_unknown_key kind members) _ _ (only UnknownKey (omega arith)) none
+
+twice : (members : Members) → IsSmall (spec.twice_fault members)
+unfolding spec.twice_fault
+twice members =
+    either (is_some (get_member (codes "root_wait_ms") members) && is_some (get_member (codes "decision_wait_after_root_received_ms") members)) _ _ (only UnknownKey (omega arith)) none
 
 optionally : (f : Data → Option ConfigFault) → ((value : Data) → IsSmall (f value)) → (at : Option Data) → IsSmall (optional f at)
 optionally f each None = none
@@ -132,6 +138,7 @@ settings kind _ = wrong
 
 settings_at : (kind : PolicyType) (members : Members) (nested : Option ConfigFault) → IsSmall nested → IsSmall (spec.settings_at_fault kind members nested)
 settings_at type_is.AlwaysSample _ nested n = none
+settings_at type_is.TraceFlags _ nested n = none
 settings_at type_is.And _ nested n = n
 settings_at type_is.Not _ nested n = n
 settings_at type_is.Drop _ nested n = n
@@ -188,15 +195,16 @@ caches (table members) =
 caches _ = wrong
 
 pub table_small : (members : Members) → IsSmall (spec.table_fault members)
-unfolding spec.table_fault
+unfolding spec.table_fault spec.keys_fault
 table_small members =
-    both _ _ (unknown table_is.Config members)
+    both _ _ (both _ _ (unknown table_is.Config members) (twice members))
     (both _ _ (both _ _ (sizes (pos 3600000) (get_member (codes "decision_wait_ms") members) (pos 1))
     (both _ _ (sizes (pos 3600000) (get_member (codes "root_wait_ms") members) (pos 0))
+    (both _ _ (sizes (pos 3600000) (get_member (codes "decision_wait_after_root_received_ms") members) (pos 0))
     (both _ _ (sizes (pos 1000000) (get_member (codes "num_traces") members) (pos 1))
     (both _ _ (sizes (pos 64) (get_member (codes "lanes") members) (pos 1))
     (both _ _ (sizes (pos 64) (get_member (codes "shards") members) (pos 1))
-    (sizes (pos 60000) (get_member (codes "tick_ms") members) (pos 1)))))))
+    (sizes (pos 60000) (get_member (codes "tick_ms") members) (pos 1))))))))
     (both _ _ (both _ _ (sizes (pos 65536) (get_member (codes "queue_capacity") members) (pos 1))
     (both _ _ (sizes (pos 65536) (get_member (codes "export_capacity") members) (pos 1))
     (both _ _ (sizes (pos 8192) (get_member (codes "send_batch_size") members) (pos 1))

@@ -12,7 +12,7 @@ use Rattle.policy_tree.specs.declared.fault.PolicyFault.{PolicyFault}
 use Rattle.policy_tree.specs.declared.policy.Join.{Join}
 use Rattle.policy_tree.specs.declared.policy.Join.TheVariants as join_is
 use Rattle.tsc_config.specs.Keys.{has_unknown_key, is_key, type_name, type_at, join_type, join_name, sub_key, join_at}
-use Rattle.tsc_config.specs.Faults.{optional, required, unknown_fault, integer_fault, text_fault, truth_fault, type_fault, item_fault, wanted_fault}
+use Rattle.tsc_config.specs.Faults.{optional, required, unknown_fault, integer_fault, text_fault, truth_fault, type_fault, item_fault, wanted_fault, twice_fault}
 use Rattle.tsc_config.specs.FaultSets.{IsLeastOf, OptionalHas, RequiredHas, SomeItemHas, ValueHas, KeyHas, SomeSettingHas, RowsHave, SettingsHave, SettingsAtHave, TypedHas, PolicyTableHas, PoliciesHave, SomePolicyHas, PolicyHas, PartsHave, PartsSettingsHave, SubPoliciesHave, SubValueHas, CacheHas, NumbersHave, SizesHave, ChoicesHave, HasFault, DocumentHas, TextHas}
 use Rattle.tsc_config.specs.FaultLists as spec
 use Rattle.tsc_config.specs.FaultLists.{faults_in, ListsAll, listed, unknown_faults, items_faults, value_faults, optional_faults, required_faults, setting_faults, rows_faults, settings_faults, head_settings, is_joined, typed_faults, own_faults, policy_table_faults, number_settings, size_settings, other_settings, top_settings, cache_settings, table_faults, of_policies, given_faults, document_faults, text_faults}
@@ -167,6 +167,7 @@ typed_all (Some kind) members Nested nested n =
   where
     of : (k : PolicyType) → ListsAll (SettingsAtHave k members Nested) (own_faults k members ++ (if is_joined (Some k) then nested else []))
     of type_is.AlwaysSample = none
+    of type_is.TraceFlags = none
     of type_is.And = n
     of type_is.Not = n
     of type_is.Drop = n
@@ -249,10 +250,11 @@ numbers_all : (members : Members) → ListsAll (NumbersHave members) (rows_fault
 numbers_all members =
     next_row (integer_fault (pos 1) (pos 3600000)) (get_member (codes "decision_wait_ms") members) _ _
     (next_row (integer_fault (pos 0) (pos 3600000)) (get_member (codes "root_wait_ms") members) _ _
+    (next_row (integer_fault (pos 0) (pos 3600000)) (get_member (codes "decision_wait_after_root_received_ms") members) _ _
     (next_row (integer_fault (pos 1) (pos 1000000)) (get_member (codes "num_traces") members) _ _
     (next_row (integer_fault (pos 1) (pos 64)) (get_member (codes "lanes") members) _ _
     (next_row (integer_fault (pos 1) (pos 64)) (get_member (codes "shards") members) _ _
-    (last_row (integer_fault (pos 1) (pos 60000)) (get_member (codes "tick_ms") members))))))
+    (last_row (integer_fault (pos 1) (pos 60000)) (get_member (codes "tick_ms") members)))))))
 
 sizes_all : (members : Members) → ListsAll (SizesHave members) (rows_faults size_settings members)
 sizes_all members =
@@ -299,8 +301,11 @@ top_all members =
 abbrev Tables : Members → ConfigFault → Type 0
 Tables members fault = OptionalHas CacheHas (get_member (codes "decision_cache") members) fault ⊎ RequiredHas PoliciesHave (get_member (codes "policies") members) fault
 
+abbrev Keys : Members → ConfigFault → Type 0
+Keys members fault = (unknown_fault table_is.Config members ≡ Some fault) ⊎ (twice_fault members ≡ Some fault)
+
 abbrev Grouped : Members → ConfigFault → Type 0
-Grouped members fault = (unknown_fault table_is.Config members ≡ Some fault) ⊎ (Top members fault ⊎ Tables members fault)
+Grouped members fault = Keys members fault ⊎ (Top members fault ⊎ Tables members fault)
 
 ungrouped : (members : Members) (fault : ConfigFault) → Grouped members fault → HasFault members fault
 ungrouped members fault (inl h) = inl h
@@ -323,7 +328,8 @@ grouped members fault (inr (inr (inr (inr (inr (inr h)))))) = inr (inr h)
 table_all : (members : Members) → ListsAll (HasFault members) (table_faults members)
 table_all members =
     same (Grouped members) (HasFault members) (table_faults members) (ungrouped members) (grouped members)
-    (both (λ fault. unknown_fault table_is.Config members ≡ Some fault) (λ fault. Top members fault ⊎ Tables members fault) _ _ (unknown_all table_is.Config members)
+    (both (Keys members) (λ fault. Top members fault ⊎ Tables members fault) _ _
+    (both (λ fault. unknown_fault table_is.Config members ≡ Some fault) (λ fault. twice_fault members ≡ Some fault) _ _ (unknown_all table_is.Config members) (row (twice_fault members)))
     (both (Top members) (Tables members) _ _ (top_all members)
     (both (OptionalHas CacheHas (get_member (codes "decision_cache") members)) (RequiredHas PoliciesHave (get_member (codes "policies") members)) _ _
     (optional_all CacheHas (settings_faults table_is.DecisionCache cache_settings) cache_all (get_member (codes "decision_cache") members))

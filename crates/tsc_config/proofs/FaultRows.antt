@@ -3,6 +3,7 @@ use Rattle.std.specs.Prelude.{◌≡◌, ℕ, pos, true, List, [], ◌∷◌, co
 use Rattle.toml.specs.Data.{Data, string, integer, boolean, array, table, no_items, item, Members, no_members, member}
 use Rattle.policy_tree.specs.declared.fault.PolicyFault.TheVariants.{EmptyList}
 use Rattle.tsc_config.specs.FaultLists.{policies_faults, table_faults, given_faults, document_faults}
+use Rattle.tsc_config.specs.Faults.{twice_fault}
 use Rattle.tsc_config.specs.Keys.{is_key, code_named}
 use Rattle.tsc_config.specs.Values.{config_of}
 use Rattle.tsc_config.specs.declared.fault.ConfigFault.TheVariants.{NotToml, UnknownKey, MissingKey, WrongType, OutOfRange, TooFewTraces, Policy}
@@ -27,12 +28,12 @@ top_table : table_faults (member (codes "lanes") (integer (pos 65))
     (member (codes "decision_cache") (table (member (codes "sampled") (integer (pos 1)) (member (codes "sampled_cache_size") (boolean true) no_members)))
     (member (codes "policies") (array (item (integer (pos 1)) (item all (item (string []) no_items)))) no_members)))))))
     ≡ UnknownKey ∷ OutOfRange ∷ WrongType ∷ OutOfRange ∷ WrongType ∷ UnknownKey ∷ WrongType ∷ WrongType ∷ WrongType ∷ []
-unfolding is_key
+unfolding is_key twice_fault
 top_table = refl
 
 -- a missing key, and the empty list that the table gives
 empty_table : document_faults (Some no_members) ≡ MissingKey ∷ Policy EmptyList ∷ []
-unfolding is_key
+unfolding is_key twice_fault
 empty_table = refl
 
 -- policies: a name of another type beside an unknown type, of which nothing more is looked at; two codes that are none, and a number; settings that are missing

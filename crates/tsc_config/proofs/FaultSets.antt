@@ -7,7 +7,7 @@ use Rattle.toml.specs.Data.{Data, array, table, Items, no_items, item, Members, 
 use Rattle.policy_tree.specs.declared.policy.Join.{Join}
 use Rattle.policy_tree.specs.declared.policy.Join.TheVariants as join_is
 use Rattle.tsc_config.specs.Keys.{type_name, type_at, join_type, join_name, sub_key, join_at}
-use Rattle.tsc_config.specs.Faults.{config_fault_number, least, optional, required, unknown_fault, integer_fault, text_fault, truth_fault, type_fault, items_fault, array_fault, item_fault, wanted_fault, each_setting_fault}
+use Rattle.tsc_config.specs.Faults.{config_fault_number, least, optional, required, unknown_fault, integer_fault, text_fault, truth_fault, type_fault, items_fault, array_fault, item_fault, wanted_fault, each_setting_fault, twice_fault}
 use Rattle.tsc_config.specs.Faults as spec
 use Rattle.tsc_config.specs.FaultSets.{IsLeastOf, OptionalHas, RequiredHas, SomeItemHas, ArrayHas, ValueHas, KeyHas, SomeSettingHas, RowsHave, SettingsHave, SettingsAtHave, TypedHas, PolicyTableHas, PoliciesHave, SomePolicyHas, PolicyHas, PartsHave, PartsSettingsHave, SubPoliciesHave, SubValueHas, CacheHas, NumbersHave, SizesHave, ChoicesHave, HasFault}
 use Rattle.tsc_config.specs.PolicySettings.{Setting, settings}
@@ -134,6 +134,7 @@ settings_least kind _ = alone WrongType
 
 settings_at_least : (kind : PolicyType) (members : Members) (Nested : ConfigFault → Type 0) (nested : Option ConfigFault) → IsLeastOf Nested nested → IsLeastOf (SettingsAtHave kind members Nested) (spec.settings_at_fault kind members nested)
 settings_at_least type_is.AlwaysSample members Nested nested n = none
+settings_at_least type_is.TraceFlags members Nested nested n = none
 settings_at_least type_is.And members Nested nested n = n
 settings_at_least type_is.Not members Nested nested n = n
 settings_at_least type_is.Drop members Nested nested n = n
@@ -215,16 +216,23 @@ six_rows : (a b c d e f : Option ConfigFault)
 six_rows a b c d e f =
     both (λ fault. a ≡ Some fault) (λ fault. (b ≡ Some fault) ⊎ ((c ≡ Some fault) ⊎ ((d ≡ Some fault) ⊎ ((e ≡ Some fault) ⊎ (f ≡ Some fault))))) _ _ (row a) (five_rows b c d e f)
 
+seven_rows : (a b c d e f g : Option ConfigFault)
+    → IsLeastOf (λ fault. (a ≡ Some fault) ⊎ ((b ≡ Some fault) ⊎ ((c ≡ Some fault) ⊎ ((d ≡ Some fault) ⊎ ((e ≡ Some fault) ⊎ ((f ≡ Some fault) ⊎ (g ≡ Some fault)))))))
+    (least a (least b (least c (least d (least e (least f g))))))
+seven_rows a b c d e f g =
+    both (λ fault. a ≡ Some fault) (λ fault. (b ≡ Some fault) ⊎ ((c ≡ Some fault) ⊎ ((d ≡ Some fault) ⊎ ((e ≡ Some fault) ⊎ ((f ≡ Some fault) ⊎ (g ≡ Some fault)))))) _ _ (row a) (six_rows b c d e f g)
+
 pub table_least : (members : Members) → IsLeastOf (HasFault members) (spec.table_fault members)
-unfolding spec.table_fault
+unfolding spec.table_fault spec.keys_fault
 table_least members =
     let keys : Option ConfigFault = unknown_fault table_is.Config members in
+    let twice : Option ConfigFault = twice_fault members in
     let listen : Option ConfigFault = optional text_fault (get_member (codes "listen") members) in
     let gzip : Option ConfigFault = optional truth_fault (get_member (codes "accept_gzip") members) in
     let cache : IsLeastOf (OptionalHas CacheHas (get_member (codes "decision_cache") members)) (optional spec.cache_fault (get_member (codes "decision_cache") members)) = optional_least CacheHas spec.cache_fault cache_least (get_member (codes "decision_cache") members) in
     let policies : IsLeastOf (RequiredHas PoliciesHave (get_member (codes "policies") members)) (required spec.policies_fault (get_member (codes "policies") members)) = required_least PoliciesHave spec.policies_fault policies_least (get_member (codes "policies") members) in
-    both (λ fault. keys ≡ Some fault) _ _ _ (row keys)
-    (both (NumbersHave members) _ _ _ (six_rows _ _ _ _ _ _)
+    both (λ fault. (keys ≡ Some fault) ⊎ (twice ≡ Some fault)) _ _ _ (rows keys twice)
+    (both (NumbersHave members) _ _ _ (seven_rows _ _ _ _ _ _ _)
     (both (SizesHave members) _ _ _ (five_rows _ _ _ _ _)
     (both (λ fault. listen ≡ Some fault) _ _ _ (row listen)
     (both (λ fault. gzip ≡ Some fault) _ _ _ (row gzip)

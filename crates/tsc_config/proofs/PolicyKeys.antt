@@ -229,6 +229,11 @@ kind_keys type_is.Probabilistic members named e = by_settings type_is.Probabilis
     (λ settings typed f.
     let n = two (optional text_fault (get_member (codes "hash_salt") settings)) (required percentage_fault (get_member (codes "sampling_percentage") settings)) f in
     is_leaf members _ (settings, typed, salt_keys settings (get_member (codes "hash_salt") settings) refl n.0, percentage_keys settings (get_member (codes "sampling_percentage") settings) refl n.1)) named e
+kind_keys type_is.TraceState members named e = by_settings type_is.TraceState members
+    (λ settings typed f.
+    let n = two (required text_fault (get_member (codes "key") settings)) (required (array_fault text_fault) (get_member (codes "values") settings)) f in
+    is_leaf members _ (settings, typed, text_keys (get_member (codes "key") settings) n.0, texts_keys (get_member (codes "values") settings) n.1)) named e
+kind_keys type_is.TraceFlags members named e = is_leaf members leaf_is.TraceFlags named
 kind_keys type_is.RateLimiting members named e = by_settings type_is.RateLimiting members
     (λ settings typed f. is_layer members _ (PolicyKind-F.RateLimiting _) (rolls-RateLimiting _)
     (settings, typed, natural_keys (get_member (codes "spans_per_second") settings) (one (required natural_fault (get_member (codes "spans_per_second") settings)) f))) named e
@@ -313,6 +318,7 @@ parts_typed None members e = inl (none_in leaf_is.AlwaysSample)
 parts_typed (Some type_is.And) members e = inr (joined_parts type_is.And join_is.And members e refl)
 parts_typed (Some type_is.Not) members e = inr (joined_parts type_is.Not join_is.Not members e refl)
 parts_typed (Some type_is.Drop) members e = inr (joined_parts type_is.Drop join_is.Drop members e refl)
+parts_typed (Some type_is.TraceFlags) members e = inl (none_in leaf_is.TraceFlags)
 parts_typed (Some kind) members e = inl (no_parts kind (get_member (type_name kind) members))
 
 parts_sound : (members : Members) → policy_fault (table members) ≡ None → HasParts (type_at members) members (policy_of members (parts_of_table members)).kind

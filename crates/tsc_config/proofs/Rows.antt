@@ -5,7 +5,7 @@ use lib.Ieee.{to_unsigned, of_int, mul, div, eq}
 use Rattle.std.specs.Float.{Float, nan, inf, fin, round_with}
 use Rattle.toml.specs.Data.{string, integer, boolean, table, Members, no_members, member}
 use Rattle.tsc_config.specs.Keys.{is_key, is_setting, all_types, type_name, type_named}
-use Rattle.tsc_config.specs.Faults.{least, config_fault_number, numbers_fault, sizes_fault, choices_fault, cache_fault, rows_fault}
+use Rattle.tsc_config.specs.Faults.{least, config_fault_number, numbers_fault, sizes_fault, choices_fault, cache_fault, rows_fault, twice_fault}
 use Rattle.tsc_config.specs.declared.kinds.PolicyType.{PolicyType}
 use Rattle.tsc_config.specs.declared.kinds.PolicyType.TheVariants as type_is
 use Rattle.tsc_config.specs.declared.kinds.TableKind.TheVariants as table_is
@@ -28,6 +28,7 @@ abbrev ranges : List Range
 ranges =
     record { key = codes "decision_wait_ms"; below = pos 0; lowest = 1; greatest = 3600000; above = 3600001 }
     ∷ record { key = codes "root_wait_ms"; below = negsuc 0; lowest = 0; greatest = 3600000; above = 3600001 }
+    ∷ record { key = codes "decision_wait_after_root_received_ms"; below = negsuc 0; lowest = 0; greatest = 3600000; above = 3600001 }
     ∷ record { key = codes "num_traces"; below = pos 0; lowest = 1; greatest = 1000000; above = 1000001 }
     ∷ record { key = codes "lanes"; below = pos 0; lowest = 1; greatest = 64; above = 65 }
     ∷ record { key = codes "shards"; below = pos 0; lowest = 1; greatest = 64; above = 65 }
@@ -190,6 +191,18 @@ own_numbers =
 own_values : numbers_of (config_of own_numbers) ≡ 2 ∷ 3 ∷ 5 ∷ 7 ∷ 11 ∷ 13 ∷ 17 ∷ 19 ∷ 37 ∷ 41 ∷ 23 ∷ 29 ∷ 31 ∷ []
 own_values = refl
 
+-- the wait from a root on by each of its two names, and by neither
+abbrev root_waits : List Members
+root_waits = one_key (codes "root_wait_ms") (pos 7) ∷ one_key (codes "decision_wait_after_root_received_ms") (pos 5) ∷ no_members ∷ []
+
+root_waits_by_name : map (λ (members : Members). (config_of members).root_wait) root_waits ≡ 7 ∷ 5 ∷ 0 ∷ []
+root_waits_by_name = refl
+
+-- and both names at once
+both_names_refused : map twice_fault (member (codes "decision_wait_after_root_received_ms") (integer (pos 5)) (one_key (codes "root_wait_ms") (pos 7)) ∷ root_waits) ≡ Some UnknownKey ∷ None ∷ None ∷ None ∷ []
+unfolding twice_fault
+both_names_refused = refl
+
 -- ---- settings of a policy
 
 -- a type, its settings, and a key that is none of them
@@ -208,6 +221,7 @@ own =
     ∷ record { kind = type_is.SpanCount; keys = codes "min_spans" ∷ codes "max_spans" ∷ []; other = codes "spans" }
     ∷ record { kind = type_is.RateLimiting; keys = codes "spans_per_second" ∷ []; other = codes "limit" }
     ∷ record { kind = type_is.Probabilistic; keys = codes "hash_salt" ∷ codes "sampling_percentage" ∷ []; other = codes "percentage" }
+    ∷ record { kind = type_is.TraceState; keys = codes "key" ∷ codes "values" ∷ []; other = codes "invert_match" }
     ∷ record { kind = type_is.And; keys = codes "and_sub_policy" ∷ []; other = codes "policies" }
     ∷ record { kind = type_is.Not; keys = codes "not_sub_policy" ∷ []; other = codes "and_sub_policy" }
     ∷ record { kind = type_is.Drop; keys = codes "drop_sub_policy" ∷ []; other = codes "not_sub_policy" }
@@ -221,7 +235,7 @@ other_keys = refl
 
 -- where a policy has no settings, a key is missing of each type that has a required one
 missing_settings : map (λ (kind : PolicyType). rows_fault kind no_members) all_types
-    ≡ None ∷ Some MissingKey ∷ Some MissingKey ∷ Some MissingKey ∷ Some MissingKey ∷ Some MissingKey ∷ Some MissingKey ∷ Some MissingKey ∷ Some MissingKey ∷ None ∷ None ∷ None ∷ []
+    ≡ None ∷ Some MissingKey ∷ Some MissingKey ∷ Some MissingKey ∷ Some MissingKey ∷ Some MissingKey ∷ Some MissingKey ∷ Some MissingKey ∷ Some MissingKey ∷ Some MissingKey ∷ None ∷ None ∷ None ∷ None ∷ []
 missing_settings = refl
 
 -- each type by its name

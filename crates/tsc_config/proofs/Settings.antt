@@ -1,22 +1,23 @@
 -- Each setting is what stands at its key, or the key's default.
 -- For `settings_are_of_their_keys`.
-use Rattle.std.proofs.Common.{◌≡◌, [], ℕ, ◌<◌, ◌≤◌, pos, negsuc, zero, suc, Bool, true, false, ◌⊎◌, inl, inr, refl, arith, codes, List, Option, None, Some, Ok, Err, subst, if◌then◌else◌, nat_lt, int_le, ◌&&◌, ◌||◌}
+use Rattle.std.proofs.Common.{◌≡◌, [], ℕ, ◌<◌, ◌≤◌, pos, negsuc, zero, suc, Bool, true, false, ◌⊎◌, inl, inr, refl, sym, arith, codes, List, Option, None, Some, Ok, Err, subst, if◌then◌else◌, nat_lt, int_le, ◌&&◌, ◌||◌}
 use Rattle.std.proofs.lemmas.Bool.Decides.{nat_tests}
 use Rattle.std.proofs.lemmas.Slice.Eq.{bytes_eq-Decides}
+use Rattle.std.specs.Option.{is_some}
 use Rattle.std.specs.Str.{bytes_eq}
 use Rattle.toml.specs.Data.{Data, string, integer, boolean, table, Members, get_member}
 use Rattle.toml.specs.Parse.{parse_document}
 use Rattle.policy_tree.specs.Faults.{fault_of_policies}
 use Rattle.policy_tree.specs.declared.fault.PolicyFault.{PolicyFault}
-use Rattle.tsc_config.specs.Faults.{config_fault_number, least, optional, required, unknown_fault, integer_fault, text_fault, truth_fault, choice_fault, choices_fault, cache_fault, numbers_fault, sizes_fault, policies_fault, table_fault}
+use Rattle.tsc_config.specs.Faults.{config_fault_number, least, optional, required, unknown_fault, integer_fault, text_fault, truth_fault, choice_fault, choices_fault, cache_fault, numbers_fault, sizes_fault, policies_fault, table_fault, keys_fault, twice_fault}
 use Rattle.tsc_config.specs.Keys.{ChoiceRow, choice_row}
 use Rattle.tsc_config.specs.declared.kinds.ChoiceKey.TheVariants as choice_is
 use Rattle.tsc_config.specs.Reading.{reading, reading_of, reading_unless, reading_where}
-use Rattle.tsc_config.specs.Settings.{IsTextAt, IsTruthAt, IsChoiceAt, IsCacheSize, HasSettings, ReadsSettings}
-use Rattle.tsc_config.specs.Values.{config_of, positive_of, natural_of, cache_size, address_of, truth_of, is_other}
+use Rattle.tsc_config.specs.Settings.{IsNumberAtEither, IsTextAt, IsTruthAt, IsChoiceAt, IsCacheSize, HasSettings, ReadsSettings}
+use Rattle.tsc_config.specs.Values.{config_of, positive_of, natural_of, first_found, cache_size, address_of, truth_of, is_other}
 use Rattle.tsc_config.specs.declared.config.Config.{Config}
 use Rattle.tsc_config.specs.declared.fault.ConfigFault.{ConfigFault}
-use Rattle.tsc_config.specs.declared.fault.ConfigFault.TheVariants.{OutOfRange, TooFewTraces}
+use Rattle.tsc_config.specs.declared.fault.ConfigFault.TheVariants.{OutOfRange, TooFewTraces, UnknownKey}
 use Rattle.tsc_config.specs.declared.kinds.TableKind.TheVariants as table_is
 
 -- no fault among two
@@ -64,6 +65,21 @@ natural greatest (Some (integer (pos n))) e = inr (refl, omega arith, within)
 natural greatest (Some (integer (negsuc n))) e = cc
 natural greatest (Some _) e = cc
 
+not_twice : (members : Members) → twice_fault members ≡ None
+    → (if is_some (get_member (codes "root_wait_ms") members) && is_some (get_member (codes "decision_wait_after_root_received_ms") members) then Some UnknownKey else None) ≡ None
+unfolding twice_fault
+not_twice members e = e
+
+-- of a number with two names one stands there at most
+natural_at_either : (members : Members) (key other : List ℕ) (at at_other : Option Data) → get_member key members ≡ at → get_member other members ≡ at_other
+    → optional (integer_fault (pos 0) (pos 3600000)) at ≡ None → optional (integer_fault (pos 0) (pos 3600000)) at_other ≡ None
+    → (if is_some at && is_some at_other then Some UnknownKey else None) ≡ None → IsNumberAtEither members key other 0 0 3600000 (natural_of (first_found at at_other))
+natural_at_either members key other None at_other a b f g t =
+    let P : Option Data → Type 0 = λ o. NumberOf o 0 0 3600000 (natural_of at_other) in inr (a, subst P (sym b) (natural 3600000 at_other g))
+natural_at_either members key other (Some value) None a b f g t =
+    let P : Option Data → Type 0 = λ o. NumberOf o 0 0 3600000 (natural_of (Some value)) in inl (b, subst P (sym a) (natural 3600000 (Some value) f))
+natural_at_either members key other (Some value) (Some another) a b f g t = absurd (cc t)
+
 text : (key default : List ℕ) (given : Members) (at : Option Data) → get_member key given ≡ at → optional text_fault at ≡ None
     → IsTextAt given key default (address_of default at)
 text key default given None e f = inl (e, refl)
@@ -109,17 +125,17 @@ cache given (Some _) e f = cc
 -- each part of a table without a fault has none
 pub table_parts : (members : Members) → table_fault members ≡ None → (numbers_fault members ≡ None) × (sizes_fault members ≡ None) × (optional text_fault (get_member (codes "listen") members) ≡ None)
     × (optional cache_fault (get_member (codes "decision_cache") members) ≡ None) × (required policies_fault (get_member (codes "policies") members) ≡ None)
-    × (optional truth_fault (get_member (codes "accept_gzip") members) ≡ None) × (choices_fault members ≡ None)
-unfolding table_fault
+    × (optional truth_fault (get_member (codes "accept_gzip") members) ≡ None) × (choices_fault members ≡ None) × (twice_fault members ≡ None)
+unfolding table_fault keys_fault
 table_parts members e =
-    let t = neither (unknown_fault table_is.Config members) _ e in
+    let t = neither (least (unknown_fault table_is.Config members) (twice_fault members)) _ e in
     let n = neither (numbers_fault members) _ t.1 in
     let s = neither (sizes_fault members) _ n.1 in
     let l = neither (optional text_fault (get_member (codes "listen") members)) _ s.1 in
     let g = neither (optional truth_fault (get_member (codes "accept_gzip") members)) _ l.1 in
     let h = neither (choices_fault members) _ g.1 in
     let c = neither (optional cache_fault (get_member (codes "decision_cache") members)) _ h.1 in
-    (n.0, s.0, l.0, c.0, c.1, g.0, h.0)
+    (n.0, s.0, l.0, c.0, c.1, g.0, h.0, (neither (unknown_fault table_is.Config members) (twice_fault members) t.0).1)
 
 -- each row of the table's numbers has no fault
 whole : (members : Members) → table_fault members ≡ None → HasSettings members (config_of members)
@@ -127,7 +143,8 @@ whole members e =
     let t = table_parts members e in
     let wait = neither (optional (integer_fault (pos 1) (pos 3600000)) (get_member (codes "decision_wait_ms") members)) _ t.0 in
     let root = neither (optional (integer_fault (pos 0) (pos 3600000)) (get_member (codes "root_wait_ms") members)) _ wait.1 in
-    let traces = neither (optional (integer_fault (pos 1) (pos 1000000)) (get_member (codes "num_traces") members)) _ root.1 in
+    let received = neither (optional (integer_fault (pos 0) (pos 3600000)) (get_member (codes "decision_wait_after_root_received_ms") members)) _ root.1 in
+    let traces = neither (optional (integer_fault (pos 1) (pos 1000000)) (get_member (codes "num_traces") members)) _ received.1 in
     let lanes = neither (optional (integer_fault (pos 1) (pos 64)) (get_member (codes "lanes") members)) _ traces.1 in
     let shards = neither (optional (integer_fault (pos 1) (pos 64)) (get_member (codes "shards") members)) _ lanes.1 in
     let queue = neither (optional (integer_fault (pos 1) (pos 65536)) (get_member (codes "queue_capacity") members)) _ t.1 in
@@ -139,7 +156,8 @@ whole members e =
     let close = neither (optional truth_fault (get_member (codes "close_at_end_of_input") members)) _ output.1 in
     let caches = cache members (get_member (codes "decision_cache") members) refl t.3 in record {
       decision_wait = positive 30000 3600000 (get_member (codes "decision_wait_ms") members) wait.0;
-      root_wait = natural 3600000 (get_member (codes "root_wait_ms") members) root.0;
+      root_wait = natural_at_either members (codes "root_wait_ms") (codes "decision_wait_after_root_received_ms") (get_member (codes "root_wait_ms") members)
+          (get_member (codes "decision_wait_after_root_received_ms") members) refl refl root.0 received.0 (not_twice members t.7);
       num_traces = positive 50000 1000000 (get_member (codes "num_traces") members) traces.0;
       sampled_cache_size = caches.0;
       non_sampled_cache_size = caches.1;

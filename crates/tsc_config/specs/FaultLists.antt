@@ -10,7 +10,7 @@ use Rattle.policy_tree.specs.declared.policy.Join.{Join}
 use Rattle.policy_tree.specs.declared.policy.Join.TheVariants as join_is
 use Rattle.tsc_config.specs.PolicySettings.{Setting, required, optional, settings}
 use Rattle.tsc_config.specs.Keys.{number_row, choice_row, is_key, type_name, type_at, join_type, join_name, sub_key, join_at}
-use Rattle.tsc_config.specs.Faults.{item_fault, wanted_fault}
+use Rattle.tsc_config.specs.Faults.{item_fault, wanted_fault, twice_fault}
 use Rattle.tsc_config.specs.Values.{config_of}
 use Rattle.tsc_config.specs.declared.config.Config.{Config}
 use Rattle.tsc_config.specs.declared.fault.ConfigFault.{ConfigFault}
@@ -92,6 +92,7 @@ is_joined _ = false
 -- those of the settings of a policy table of this type, where it isn't made of others
 abbrev pub own_faults : PolicyType → Members → List ConfigFault
 own_faults type_is.AlwaysSample _ = []
+own_faults type_is.TraceFlags _ = []
 own_faults type_is.And _ = []
 own_faults type_is.Not _ = []
 own_faults type_is.Drop _ = []
@@ -162,6 +163,7 @@ abbrev pub number_settings : List Setting
 number_settings =
     number_setting number_is.DecisionWait
     ∷ number_setting number_is.RootWait
+    ∷ number_setting number_is.RootReceived
     ∷ number_setting number_is.NumTraces
     ∷ number_setting number_is.Lanes
     ∷ number_setting number_is.Shards
@@ -206,7 +208,7 @@ tables_faults members =
 
 -- the faults of the table of a configuration
 abbrev pub table_faults : Members → List ConfigFault
-table_faults members = unknown_faults table_is.Config members ++ (rows_faults top_settings members ++ tables_faults members)
+table_faults members = (unknown_faults table_is.Config members ++ listed (twice_fault members)) ++ (rows_faults top_settings members ++ tables_faults members)
 
 -- the fault of policies
 abbrev pub of_policies : Option PolicyFault → List ConfigFault

@@ -8,7 +8,7 @@ use Rattle.policy_tree.specs.declared.fault.PolicyFault.{PolicyFault}
 use Rattle.policy_tree.specs.declared.policy.Join.{Join}
 use Rattle.policy_tree.specs.declared.policy.Join.TheVariants as join_is
 use Rattle.tsc_config.specs.Keys.{type_name, type_at, join_type, join_name, sub_key, join_at}
-use Rattle.tsc_config.specs.Faults.{config_fault_number, optional, required, unknown_fault, integer_fault, text_fault, truth_fault, choice_fault, type_fault, item_fault, wanted_fault}
+use Rattle.tsc_config.specs.Faults.{config_fault_number, optional, required, unknown_fault, integer_fault, text_fault, truth_fault, choice_fault, type_fault, item_fault, wanted_fault, twice_fault}
 use Rattle.tsc_config.specs.PolicySettings.{Setting, settings}
 use Rattle.tsc_config.specs.declared.policy_settings.ValueKind.{ValueKind}
 use Rattle.tsc_config.specs.declared.policy_settings.ValueKind.TheVariants as value_is
@@ -73,6 +73,7 @@ SettingsHave kind _ fault = fault ≡ WrongType
 -- the settings of a policy table of this type have this fault, where those of a type that is made of others have the nested ones
 abbrev pub SettingsAtHave : PolicyType → Members → (Nested : ConfigFault → Type 0) → ConfigFault → Type 0
 SettingsAtHave type_is.AlwaysSample _ Nested fault = ⊥
+SettingsAtHave type_is.TraceFlags _ Nested fault = ⊥
 SettingsAtHave type_is.And _ Nested fault = Nested fault
 SettingsAtHave type_is.Not _ Nested fault = Nested fault
 SettingsAtHave type_is.Drop _ Nested fault = Nested fault
@@ -147,10 +148,11 @@ abbrev pub NumbersHave : Members → ConfigFault → Type 0
 NumbersHave members fault =
     NumberHas members (codes "decision_wait_ms") (pos 3600000) fault
     ⊎ ((optional (integer_fault (pos 0) (pos 3600000)) (get_member (codes "root_wait_ms") members) ≡ Some fault)
+    ⊎ ((optional (integer_fault (pos 0) (pos 3600000)) (get_member (codes "decision_wait_after_root_received_ms") members) ≡ Some fault)
     ⊎ (NumberHas members (codes "num_traces") (pos 1000000) fault
     ⊎ (NumberHas members (codes "lanes") (pos 64) fault
     ⊎ (NumberHas members (codes "shards") (pos 64) fault
-    ⊎ NumberHas members (codes "tick_ms") (pos 60000) fault))))
+    ⊎ NumberHas members (codes "tick_ms") (pos 60000) fault)))))
 
 -- some row of the sizes has this fault
 abbrev pub SizesHave : Members → ConfigFault → Type 0
@@ -176,7 +178,7 @@ ChoicesHave members fault =
 -- the table of a configuration has this fault
 abbrev pub HasFault : Members → ConfigFault → Type 0
 HasFault members fault =
-    (unknown_fault table_is.Config members ≡ Some fault)
+    ((unknown_fault table_is.Config members ≡ Some fault) ⊎ (twice_fault members ≡ Some fault))
     ⊎ (NumbersHave members fault
     ⊎ (SizesHave members fault
     ⊎ ((optional text_fault (get_member (codes "listen") members) ≡ Some fault)

@@ -1,5 +1,6 @@
 -- What is wrong with the table of a configuration: the fault of least number among those of all its rows.
 use Rattle.std.specs.Prelude.{ℕ, ℤ, pos, ◌&&◌, ◌||◌, List, [], ◌∷◌, codes, Option, None, Some, if◌then◌else◌, int_le, nat_lt}
+use Rattle.std.specs.Option.{is_some}
 use Rattle.std.specs.Str.{bytes_eq}
 use Rattle.toml.specs.Data.{Data, string, integer, float, boolean, array, table, Items, no_items, item, Members, no_members, member, get_member}
 use Rattle.tsc_config.specs.PolicySettings.{Setting, settings}
@@ -157,6 +158,7 @@ settings_fault kind _ = Some WrongType
 -- the settings of a policy table of this type: `nested` is the fault of those of a type that is made of others
 abbrev pub settings_at_fault : PolicyType → Members → (nested : Option ConfigFault) → Option ConfigFault
 settings_at_fault type_is.AlwaysSample _ nested = None
+settings_at_fault type_is.TraceFlags _ nested = None
 settings_at_fault type_is.And _ nested = nested
 settings_at_fault type_is.Not _ nested = nested
 settings_at_fault type_is.Drop _ nested = nested
@@ -224,15 +226,25 @@ cache_fault (table members) =
     (optional (integer_fault (pos 0) (pos 1000000)) (get_member (codes "non_sampled_cache_size") members)))
 cache_fault _ = Some WrongType
 
+-- both names of the wait from a trace's root on stand there
+unfoldable pub twice_fault : Members → Option ConfigFault
+twice_fault members =
+    if is_some (get_member (number_row number_is.RootWait).name members) && is_some (get_member (number_row number_is.RootReceived).name members) then Some UnknownKey else None
+
+-- the fault of the names of the keys: one that the table of a configuration doesn't have, or two of one setting
+unfoldable pub keys_fault : Members → Option ConfigFault
+keys_fault members = least (unknown_fault table_is.Config members) (twice_fault members)
+
 -- the rows of the numbers: how many traces, lanes and shards there are, and for how long they wait
 abbrev pub numbers_fault : Members → Option ConfigFault
 numbers_fault members =
     least (number_fault (number_row number_is.DecisionWait) members)
     (least (number_fault (number_row number_is.RootWait) members)
+    (least (number_fault (number_row number_is.RootReceived) members)
     (least (number_fault (number_row number_is.NumTraces) members)
     (least (number_fault (number_row number_is.Lanes) members)
     (least (number_fault (number_row number_is.Shards) members)
-    (number_fault (number_row number_is.Tick) members)))))
+    (number_fault (number_row number_is.Tick) members))))))
 
 -- the rows of the sizes of queues and batches, of how many connections may be open, and of the limit of memory
 abbrev pub sizes_fault : Members → Option ConfigFault
@@ -251,14 +263,15 @@ choices_fault members =
     (least (optional truth_fault (get_member (codes "close_at_end_of_input") members))
     (optional text_fault (get_member (codes "admin") members))))
 
--- the rows of the whole table: a key more is a row more
-unfoldable pub table_fault : Members → Option ConfigFault
-table_fault members =
-    least (unknown_fault table_is.Config members)
-    (least (numbers_fault members)
-    (least (sizes_fault members)
-    (least (optional text_fault (get_member (codes "listen") members))
+-- the rows of what is no number, tables too
+abbrev pub others_fault : Members → Option ConfigFault
+others_fault members =
+    least (optional text_fault (get_member (codes "listen") members))
     (least (optional truth_fault (get_member (codes "accept_gzip") members))
     (least (choices_fault members)
     (least (optional cache_fault (get_member (codes "decision_cache") members))
-    (required policies_fault (get_member (codes "policies") members))))))))
+    (required policies_fault (get_member (codes "policies") members)))))
+
+-- the rows of the whole table: a key more is a row more
+unfoldable pub table_fault : Members → Option ConfigFault
+table_fault members = least (keys_fault members) (least (numbers_fault members) (least (sizes_fault members) (others_fault members)))

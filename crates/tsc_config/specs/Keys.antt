@@ -26,6 +26,8 @@ pub record NumberRow : Type 0 where
 abbrev pub number_row : NumberKey → NumberRow
 number_row number_is.DecisionWait = record { name = codes "decision_wait_ms"; default = 30000; lowest = 1; greatest = 3600000 }
 number_row number_is.RootWait = record { name = codes "root_wait_ms"; default = 0; lowest = 0; greatest = 3600000 }
+-- another name of the one before
+number_row number_is.RootReceived = record { name = codes "decision_wait_after_root_received_ms"; default = 0; lowest = 0; greatest = 3600000 }
 number_row number_is.NumTraces = record { name = codes "num_traces"; default = 50000; lowest = 1; greatest = 1000000 }
 number_row number_is.Lanes = record { name = codes "lanes"; default = 1; lowest = 1; greatest = 64 }
 number_row number_is.Shards = record { name = codes "shards"; default = 1; lowest = 1; greatest = 64 }
@@ -58,6 +60,8 @@ type_name type_is.BooleanAttribute = codes "boolean_attribute"
 type_name type_is.SpanCount = codes "span_count"
 type_name type_is.RateLimiting = codes "rate_limiting"
 type_name type_is.Probabilistic = codes "probabilistic"
+type_name type_is.TraceState = codes "trace_state"
+type_name type_is.TraceFlags = codes "trace_flags"
 type_name type_is.And = codes "and"
 type_name type_is.Not = codes "not"
 type_name type_is.Drop = codes "drop"
@@ -65,6 +69,7 @@ type_name type_is.Drop = codes "drop"
 -- a policy of this type has settings
 abbrev pub has_settings : PolicyType → Bool
 has_settings type_is.AlwaysSample = false
+has_settings type_is.TraceFlags = false
 has_settings _ = true
 
 -- the key of the policies that a policy of this type is made of
@@ -85,7 +90,7 @@ is_setting kind key = has_key (settings kind) key || is_sub_key kind key
 -- the keys of a table of this kind
 unfoldable pub is_key : TableKind → List ℕ → Bool
 is_key table_is.Config key =
-    bytes_eq key (number_row number_is.DecisionWait).name || bytes_eq key (number_row number_is.RootWait).name || bytes_eq key (number_row number_is.NumTraces).name
+    bytes_eq key (number_row number_is.DecisionWait).name || bytes_eq key (number_row number_is.RootWait).name || bytes_eq key (number_row number_is.RootReceived).name || bytes_eq key (number_row number_is.NumTraces).name
     || bytes_eq key (codes "decision_cache") || bytes_eq key (codes "policies")
     || bytes_eq key (number_row number_is.Lanes).name || bytes_eq key (number_row number_is.Shards).name
     || bytes_eq key (number_row number_is.QueueCapacity).name || bytes_eq key (number_row number_is.ExportCapacity).name
@@ -107,7 +112,7 @@ has_unknown_key kind (member key value rest) = not (is_key kind key) || has_unkn
 abbrev pub all_types : List PolicyType
 all_types =
     type_is.AlwaysSample ∷ type_is.Latency ∷ type_is.StatusCode ∷ type_is.StringAttribute ∷ type_is.NumericAttribute ∷ type_is.BooleanAttribute ∷ type_is.SpanCount
-    ∷ type_is.RateLimiting ∷ type_is.Probabilistic ∷ type_is.And ∷ type_is.Not ∷ type_is.Drop ∷ []
+    ∷ type_is.RateLimiting ∷ type_is.Probabilistic ∷ type_is.TraceState ∷ type_is.TraceFlags ∷ type_is.And ∷ type_is.Not ∷ type_is.Drop ∷ []
 
 -- the first of these types that a text names
 abbrev pub type_among : List PolicyType → List ℕ → Option PolicyType

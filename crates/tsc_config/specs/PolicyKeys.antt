@@ -122,6 +122,10 @@ IsLeaf members (leaf_is.SpanCount least most) =
 IsLeaf members (leaf_is.Probabilistic salt ten_thousandths) =
     (settings : Members) × IsTyped members (codes "probabilistic") settings × IsSaltAt settings (codes "hash_salt") salt
     × IsPercentage settings (codes "sampling_percentage") ten_thousandths
+IsLeaf members (leaf_is.TraceState key values) =
+    (settings : Members) × IsTyped members (codes "trace_state") settings × IsText settings (codes "key") key
+    × ((items : Items) × (get_member (codes "values") settings ≡ Some (array items)) × AreTexts items values)
+IsLeaf members leaf_is.TraceFlags = IsText members (codes "type") (codes "trace_flags")
 
 -- the policies that are joined are as many as the items of an array, and of a `not` there is one
 abbrev pub ArePartsAt : Join → Option Data → (parts : List Policy) → Type 0

@@ -40,4 +40,5 @@ settings type_is.BooleanAttribute = required (codes "key") value_is.Text ∷ req
 settings type_is.SpanCount = required (codes "min_spans") natural ∷ optional (codes "max_spans") natural ∷ []
 settings type_is.RateLimiting = required (codes "spans_per_second") natural ∷ []
 settings type_is.Probabilistic = optional (codes "hash_salt") value_is.Text ∷ required (codes "sampling_percentage") value_is.Percentage ∷ []
+settings type_is.TraceState = required (codes "key") value_is.Text ∷ required (codes "values") (value_is.Array item_is.Text) ∷ []
 settings _ = []

@@ -11,6 +11,12 @@ IsNumberAt members key default lowest greatest number =
     ((get_member key members ≡ None) × (number ≡ default))
     ⊎ ((get_member key members ≡ Some (integer (pos number))) × (lowest ≤ number) × (number ≤ greatest))
 
+-- the number of a setting with two names, of which at most one stands there
+abbrev pub IsNumberAtEither : Members → (key other : List ℕ) → (default lowest greatest : ℕ) → (number : ℕ) → Type 0
+IsNumberAtEither members key other default lowest greatest number =
+    ((get_member other members ≡ None) × IsNumberAt members key default lowest greatest number)
+    ⊎ ((get_member key members ≡ None) × IsNumberAt members other default lowest greatest number)
+
 -- the text of a key: its default, where it doesn't stand there; else the text there
 abbrev pub IsTextAt : Members → (key : List ℕ) → (default text : List ℕ) → Type 0
 IsTextAt members key default text =
@@ -37,7 +43,7 @@ IsCacheSize members key size =
 -- each key of a table: its default, its least and greatest number, and the setting that has its value
 pub record HasSettings (members : Members) (config : Config) : Type 0 where
   pub decision_wait : IsNumberAt members (codes "decision_wait_ms") 30000 1 3600000 config.decision_wait
-  pub root_wait : IsNumberAt members (codes "root_wait_ms") 0 0 3600000 config.root_wait
+  pub root_wait : IsNumberAtEither members (codes "root_wait_ms") (codes "decision_wait_after_root_received_ms") 0 0 3600000 config.root_wait
   pub num_traces : IsNumberAt members (codes "num_traces") 50000 1 1000000 config.num_traces
   pub sampled_cache_size : IsCacheSize members (codes "sampled_cache_size") config.sampled_cache_size
   pub non_sampled_cache_size : IsCacheSize members (codes "non_sampled_cache_size") config.non_sampled_cache_size

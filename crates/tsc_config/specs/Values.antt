@@ -44,6 +44,11 @@ abbrev pub natural_of : Option Data → ℕ
 natural_of None = 0
 natural_of (Some value) = natural_value value
 
+-- what stands at the first of two keys, and where nothing does, at the second
+abbrev pub first_found : Option Data → Option Data → Option Data
+first_found None second = second
+first_found (Some value) second = Some value
+
 -- the size at a key of a table of sizes
 abbrev pub size_in : (key : List ℕ) → Data → ℕ
 size_in key (table members) = natural_of (get_member key members)
@@ -147,6 +152,7 @@ leaf_in type_is.NumericAttribute members = attribute members (number_wanted memb
 leaf_in type_is.BooleanAttribute members = attribute members (Boolean (truth_of (get_member (codes "value") members)))
 leaf_in type_is.SpanCount members = leaf_is.SpanCount (natural_of (get_member (codes "min_spans") members)) (natural_of (get_member (codes "max_spans") members))
 leaf_in type_is.Probabilistic members = leaf_is.Probabilistic (salt_by (text_of (get_member (codes "hash_salt") members))) (percentage_at (get_member (codes "sampling_percentage") members))
+leaf_in type_is.TraceState members = leaf_is.TraceState (text_of (get_member (codes "key") members)) (texts_of (get_member (codes "values") members))
 leaf_in _ _ = leaf_is.AlwaysSample
 
 -- what a policy of this type samples by its settings
@@ -174,6 +180,7 @@ kind_typed None _ nested = always
 kind_typed (Some type_is.And) _ nested = kind_is.Joined join_is.And nested
 kind_typed (Some type_is.Not) _ nested = kind_is.Joined join_is.Not nested
 kind_typed (Some type_is.Drop) _ nested = kind_is.Joined join_is.Drop nested
+kind_typed (Some type_is.TraceFlags) _ nested = kind_is.Leaf leaf_is.TraceFlags
 kind_typed (Some kind) members nested = kind_by kind (get_member (type_name kind) members)
 
 -- the policy of a table, with these policies where it is made of others
@@ -244,7 +251,7 @@ InRange config = record {
 abbrev pub config_of : Members → Config
 config_of members = record {
   decision_wait = positive_by (number_row number_is.DecisionWait) members;
-  root_wait = natural_of (get_member (number_row number_is.RootWait).name members);
+  root_wait = natural_of (first_found (get_member (number_row number_is.RootWait).name members) (get_member (number_row number_is.RootReceived).name members));
   num_traces = positive_by (number_row number_is.NumTraces) members;
   sampled_cache_size = cache_size (codes "sampled_cache_size") (get_member (codes "decision_cache") members);
   non_sampled_cache_size = cache_size (codes "non_sampled_cache_size") (get_member (codes "decision_cache") members);

@@ -11,8 +11,10 @@ ghost use Rattle.tsc_config.specs.declared.fault.ConfigFault.TheVariants.{NoMemo
 use crate::fault::ConfigFault;
 use crate::fault_walk::table_fault;
 use crate::kinds::{ChoiceKey, NumberKey};
-use crate::settings_values::{natural_at, truth_at};
-use crate::values::{addresses_at, cache_size_at, is_other_at, policies_at, positive_by};
+use crate::settings_values::truth_at;
+use crate::values::{
+    addresses_at, cache_size_at, is_other_at, policies_at, positive_by, root_wait_at,
+};
 use otlp_types::Text;
 use policy_tree::Policies;
 use span_ids::Moment;
@@ -26,7 +28,8 @@ pub struct Config {
     /// (tailsamplingprocessor README, `decision_wait`).
     pub decision_wait: Moment,
     /// How long after its first span without a parent a trace is decided, where that is sooner, in milliseconds, from 0 to
-    /// 3600000, where 0 is off (this project's option `root_wait_ms`).
+    /// 3600000, where 0 is off (this project's option `root_wait_ms`, or tailsamplingprocessor README,
+    /// `decision_wait_after_root_received`).
     pub root_wait: Moment,
     /// How many traces are kept in memory at most, from 1 to 1000000 (tailsamplingprocessor README, `num_traces`).
     pub num_traces: usize,
@@ -105,7 +108,7 @@ impl Config {
 }
 
 /// Reads a configuration from a TOML text: `decision_wait_ms`, a whole number from 1 to 3600000, else 30000;
-/// `root_wait_ms`, from 0 to 3600000, else 0; `num_traces`, from 1 to 1000000, else 50000; `decision_cache`, a table of
+/// `root_wait_ms`, or by its other name `decision_wait_after_root_received_ms`, from 0 to 3600000, else 0; `num_traces`, from 1 to 1000000, else 50000; `decision_cache`, a table of
 /// `sampled_cache_size` and `non_sampled_cache_size`, each from 0 to 1000000, else 0; `policies`, a required array of policy tables with
 /// `name`, `type` and the settings of that type; `lanes` and `shards`, from 1 to 64, else 1; `queue_capacity` and
 /// `export_capacity`, from 1 to 65536, else 1024; `send_batch_size`, from 1 to 8192, else 512; `max_connections`, from 1 to 65536, else 1024; `memory_limit_mib`, from 0
@@ -174,7 +177,7 @@ fn given_by(alloc: Global, table: &Table, policies: Policies) -> Result<Config, 
     let (listen, admin) = addresses_at(alloc, table)?;
     Ok(Config {
         decision_wait: positive_by(table, NumberKey::DecisionWait),
-        root_wait: natural_at(table, NumberKey::RootWait.row().0),
+        root_wait: root_wait_at(table),
         num_traces: positive_by(table, NumberKey::NumTraces) as usize,
         sampled_cache_size: cache_size_at(table, "sampled_cache_size"),
         non_sampled_cache_size: cache_size_at(table, "non_sampled_cache_size"),

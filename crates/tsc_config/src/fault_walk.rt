@@ -18,15 +18,43 @@ use toml::{Table, Value};
 pub fn table_fault(table: &Table) -> Option<ConfigFault>
     ensures { result ≡ spec.table_fault (table_view table.now) }
 {
-    let keys = unknown_fault(TableKind::Config, table);
+    let keys = keys_fault(table);
     let numbers = numbers_fault(table);
     let sizes = sizes_fault(table);
+    least(keys, least(numbers, least(sizes, others_fault(table))))
+}
+
+/// The fault of what is no number, tables too.
+fn others_fault(table: &Table) -> Option<ConfigFault>
+    ensures { result ≡ spec.others_fault (table_view table.now) }
+{
     let listen = optional_fault(table, "listen", ValueKind::Text);
     let cache = cache_at_fault(table);
     let gzip = optional_fault(table, "accept_gzip", ValueKind::Truth);
     let tables = least(cache, required_policies_fault(table));
-    let rest = least(listen, least(gzip, least(choices_fault(table), tables)));
-    least(keys, least(numbers, least(sizes, rest)))
+    least(listen, least(gzip, least(choices_fault(table), tables)))
+}
+
+/// The fault of the names of the keys: one that the table of a configuration doesn't have, or two of one setting.
+#[tactic(auto, unfolding(crate::specs::Faults::keys_fault))]
+fn keys_fault(table: &Table) -> Option<ConfigFault>
+    ensures { result ≡ spec.keys_fault (table_view table.now) }
+{
+    least(unknown_fault(TableKind::Config, table), twice_fault(table))
+}
+
+/// The fault that both names of the wait from a trace's root on stand there.
+#[tactic(auto, unfolding(crate::specs::Faults::twice_fault))]
+pub fn twice_fault(table: &Table) -> Option<ConfigFault>
+    ensures { result ≡ spec.twice_fault (table_view table.now) }
+{
+    let (name, ..) = NumberKey::RootWait.row();
+    let (other_name, ..) = NumberKey::RootReceived.row();
+    if member(table, name).is_some() && member(table, other_name).is_some() {
+        Some(ConfigFault::UnknownKey)
+    } else {
+        None
+    }
 }
 
 /// The fault of how many traces, lanes and shards there are, and of how long they wait.
@@ -35,12 +63,13 @@ fn numbers_fault(table: &Table) -> Option<ConfigFault>
 {
     let wait = number_fault(table, NumberKey::DecisionWait);
     let root_wait = number_fault(table, NumberKey::RootWait);
+    let received = number_fault(table, NumberKey::RootReceived);
     let traces = number_fault(table, NumberKey::NumTraces);
     let lanes = number_fault(table, NumberKey::Lanes);
     let shards = number_fault(table, NumberKey::Shards);
     let tick = number_fault(table, NumberKey::Tick);
     let counts = least(traces, least(lanes, least(shards, tick)));
-    least(wait, least(root_wait, counts))
+    least(wait, least(root_wait, least(received, counts)))
 }
 
 /// The fault of the sizes of queues and batches, of how many connections may be open, and of the limit of memory.

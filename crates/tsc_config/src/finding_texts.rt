@@ -33,6 +33,11 @@ pub fn unknown_text(alloc: Global, place: &str, key: &str) -> Result<String, All
     format!(in alloc; "{here}: no such key")
 }
 
+/// The text that a key stands beside another name of the same setting.
+pub fn twice_text(alloc: Global, key: &str, other: &str) -> Result<String, AllocError> {
+    format!(in alloc; "{key}: another name of {other}, which stands there too")
+}
+
 /// Whether a key can stand without quotation marks (TOML 1.0, "Keys").
 fn is_bare(key: &str) -> bool {
     !key.is_empty()

@@ -53,6 +53,7 @@ pub fn is_key(kind: TableKind, key: &str) -> bool
             key,
             "decision_wait_ms"
                 | "root_wait_ms"
+                | "decision_wait_after_root_received_ms"
                 | "num_traces"
                 | "decision_cache"
                 | "policies"
@@ -86,7 +87,7 @@ fn has_settings(kind: PolicyType) -> bool
     ensures { result ≡ spec.has_settings kind }
 {
     match kind {
-        PolicyType::AlwaysSample => false,
+        PolicyType::AlwaysSample | PolicyType::TraceFlags => false,
         _ => true,
     }
 }

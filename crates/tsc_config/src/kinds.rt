@@ -14,6 +14,8 @@ pub enum PolicyType {
     SpanCount,
     RateLimiting,
     Probabilistic,
+    TraceState,
+    TraceFlags,
     And,
     Not,
     Drop,
@@ -34,6 +36,8 @@ impl PolicyType {
             PolicyType::SpanCount,
             PolicyType::RateLimiting,
             PolicyType::Probabilistic,
+            PolicyType::TraceState,
+            PolicyType::TraceFlags,
             PolicyType::And,
             PolicyType::Not,
             PolicyType::Drop,
@@ -54,6 +58,8 @@ impl PolicyType {
             PolicyType::SpanCount => "span_count",
             PolicyType::RateLimiting => "rate_limiting",
             PolicyType::Probabilistic => "probabilistic",
+            PolicyType::TraceState => "trace_state",
+            PolicyType::TraceFlags => "trace_flags",
             PolicyType::And => "and",
             PolicyType::Not => "not",
             PolicyType::Drop => "drop",
@@ -66,6 +72,8 @@ impl PolicyType {
 pub enum NumberKey {
     DecisionWait,
     RootWait,
+    /// Another name of `RootWait`.
+    RootReceived,
     NumTraces,
     Lanes,
     Shards,
@@ -88,6 +96,7 @@ impl NumberKey {
         match self {
             NumberKey::DecisionWait => ("decision_wait_ms", 30_000, 1, 3_600_000),
             NumberKey::RootWait => ("root_wait_ms", 0, 0, 3_600_000),
+            NumberKey::RootReceived => ("decision_wait_after_root_received_ms", 0, 0, 3_600_000),
             NumberKey::NumTraces => ("num_traces", 50_000, 1, 1_000_000),
             NumberKey::Lanes => ("lanes", 1, 1, 64),
             NumberKey::Shards => ("shards", 1, 1, 64),

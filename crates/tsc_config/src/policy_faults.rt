@@ -128,7 +128,7 @@ fn settings_at_fault(
     ensures { result ≡ spec.settings_at_fault kind (table_view table.now) nested }
 {
     match kind {
-        PolicyType::AlwaysSample => None,
+        PolicyType::AlwaysSample | PolicyType::TraceFlags => None,
         PolicyType::And | PolicyType::Not | PolicyType::Drop => nested,
         _ => required_settings_fault(kind, table),
     }

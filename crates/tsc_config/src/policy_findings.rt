@@ -209,7 +209,11 @@ fn add_own(
     ensures { OnOk result (findings.new ≡ findings.old ++ spec.own_faults kind (table_view table.now)) }
 {
     match kind {
-        PolicyType::AlwaysSample | PolicyType::And | PolicyType::Not | PolicyType::Drop => Ok(()),
+        PolicyType::AlwaysSample
+        | PolicyType::TraceFlags
+        | PolicyType::And
+        | PolicyType::Not
+        | PolicyType::Drop => Ok(()),
         _ => {
             let here = key_place(alloc, place, kind.name())?;
             let settings = TableKind::Settings(kind);

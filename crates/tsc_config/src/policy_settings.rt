@@ -111,7 +111,15 @@ impl PolicyType {
                 Setting::Optional("hash_salt", ValueKind::Text),
                 Setting::Required("sampling_percentage", ValueKind::Percentage),
             ],
-            PolicyType::AlwaysSample | PolicyType::And | PolicyType::Not | PolicyType::Drop => &[],
+            PolicyType::TraceState => &[
+                Setting::Required("key", ValueKind::Text),
+                Setting::Required("values", ValueKind::Array(ItemKind::Text)),
+            ],
+            PolicyType::AlwaysSample
+            | PolicyType::TraceFlags
+            | PolicyType::And
+            | PolicyType::Not
+            | PolicyType::Drop => &[],
         }
     }
 }

@@ -54,7 +54,12 @@ fn leaf_in(alloc: Global, kind: PolicyType, settings: &Table) -> Result<Leaf, Al
             hash_salt: salt_at(alloc, settings)?,
             ten_thousandths: percentage_at(settings, "sampling_percentage"),
         }),
+        PolicyType::TraceState => Ok(Leaf::TraceState {
+            key: text_at(alloc, settings, "key")?,
+            values: item_texts(alloc, items_at(settings, "values"))?,
+        }),
         PolicyType::AlwaysSample
+        | PolicyType::TraceFlags
         | PolicyType::RateLimiting
         | PolicyType::And
         | PolicyType::Not

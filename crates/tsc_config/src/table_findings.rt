@@ -2,12 +2,14 @@
 ghost use Rattle.std.specs.Prelude.{◌≡◌, ◌↔◌, ◌++◌, [], Some, IfOk, IsOk, OnOk, map};
 ghost use Rattle.toml.specs.View.{table_view};
 ghost use Rattle.tsc_config.specs.FaultLists as spec;
+ghost use Rattle.tsc_config.specs.Faults.{twice_fault};
 ghost use Rattle.tsc_config.specs.PolicySettings.{setting_of};
 ghost use Rattle.tsc_config.specs.Reading.{reading};
 ghost use Rattle.tsc_config.specs.Values.{config_of};
 
 use crate::fault::ConfigFault;
-use crate::finding_texts::policy_fault_text;
+use crate::fault_walk::twice_fault;
+use crate::finding_texts::{policy_fault_text, twice_text};
 use crate::findings::{Finding, Findings};
 use crate::keys::member;
 use crate::kinds::{ChoiceKey, NumberKey, TableKind};
@@ -42,9 +44,23 @@ fn add_table(alloc: Global, table: &Table, findings: &mut Findings) -> Result<()
     ensures { OnOk result (findings.new ≡ findings.old ++ spec.document_faults (Some (table_view table.now))) }
 {
     add_unknown(alloc, "", TableKind::Config, table, findings)?;
+    add_twice(alloc, table, findings)?;
     add_rows(alloc, "", &top_settings(), table, findings)?;
     add_tables(alloc, table, findings)?;
     add_given(alloc, table, findings)
+}
+
+/// Adds the fault that both names of one setting stand there.
+fn add_twice(alloc: Global, table: &Table, findings: &mut Findings) -> Result<(), AllocError>
+    ensures { OnOk result (findings.new ≡ findings.old ++ spec.listed (twice_fault (table_view table.now))) }
+{
+    match twice_fault(table) {
+        Some(fault) => {
+            let name = NumberKey::RootReceived.row().0;
+            findings.add(fault, twice_text(alloc, name, NumberKey::RootWait.row().0)?)
+        }
+        None => Ok(()),
+    }
 }
 
 /// The settings of a configuration that are no tables.
@@ -54,6 +70,7 @@ fn top_settings() -> [Setting; 17]
     [
         number_setting(NumberKey::DecisionWait),
         number_setting(NumberKey::RootWait),
+        number_setting(NumberKey::RootReceived),
         number_setting(NumberKey::NumTraces),
         number_setting(NumberKey::Lanes),
         number_setting(NumberKey::Shards),

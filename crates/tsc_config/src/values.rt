@@ -5,6 +5,7 @@ ghost use Rattle.toml.specs.Data.{get_member, table as table_data};
 ghost use Rattle.toml.specs.View.{view, table_view, array_view};
 ghost use Rattle.tsc_config.specs.Keys.{choice_row, number_row, type_name};
 ghost use Rattle.tsc_config.specs.Values as spec;
+ghost use Rattle.tsc_config.specs.declared.kinds.NumberKey.TheVariants as number_is;
 
 use crate::joins::{join_at, join_type, sub_key};
 use crate::keys::{member, type_at};
@@ -28,6 +29,18 @@ pub fn positive_by(table: &Table, key: NumberKey) -> u64
     match member(table, name) {
         Some(Value::Integer(number)) if 1 <= *number && *number <= greatest => *number as u64,
         _ => default,
+    }
+}
+
+/// The wait from a trace's root on, at whichever of its two names it stands, and 0 where there is none.
+pub fn root_wait_at(table: &Table) -> u64
+    ensures { result ≡ spec.natural_of (spec.first_found (get_member (number_row number_is.RootWait).name (table_view table.now)) (get_member (number_row number_is.RootReceived).name (table_view table.now))) }
+{
+    let (name, ..) = NumberKey::RootWait.row();
+    let (other_name, ..) = NumberKey::RootReceived.row();
+    match member(table, name) {
+        Some(_) => natural_at(table, name),
+        None => natural_at(table, other_name),
     }
 }
 
@@ -208,6 +221,7 @@ fn kind_typed(
             join: Join::Drop,
             policies: nested,
         }),
+        Some(PolicyType::TraceFlags) => Ok(PolicyKind::Leaf(Leaf::TraceFlags)),
         Some(kind) => kind_by(alloc, kind, table),
     }
 }
