@@ -107,7 +107,8 @@ def questions_by_jq(here):
     want("traces", len(traces), 5001)
     want("the spans of one trace", [json.loads(it)["spanId"] for it in of_one], [f"{at:016x}" for at in (2, 3)])
     want("errors", [it.split() for it in errors], [[str(counts["errors"]), "shop"]])
-    want("the slowest", [float(it.split("\t")[0]) for it in slowest], [float(10000 - at) for at in range(10)])
+    # jq's numbers are floats, so nanoseconds since 1970 are exact to a quarter of a microsecond.
+    want("the slowest", [round(float(it.split("\t")[0]), 2) for it in slowest], [float(10000 - at) for at in range(10)])
     want("values", sorted(it.split() for it in values), [["3333", "/0"], ["3333", "/2"], ["3334", "/1"]])
 
 
