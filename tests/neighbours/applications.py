@@ -10,7 +10,7 @@ import sys
 import threading
 import time
 
-from running import RECIPES, SETTINGS, Failure, Neighbour, all_came_back, free_port, ids_of, send_from_many, spans_of, want
+from running import RECIPES, SETTINGS, TOP, Failure, Neighbour, all_came_back, free_port, ids_of, send_from_many, spans_of, want
 
 GZIP = "accept_gzip = true\n"
 CODEC = "usr/lib/python3/dist-packages"
@@ -86,6 +86,41 @@ def ten_thousand_between_two_pipelines(here):
         backend.end()
 
 
+def the_second_tier(here):
+    """The configuration of the second tier as docs/OPERATING.md has it, behind a Collector that speaks gRPC to it, as the first tier does."""
+    page = (TOP / "docs" / "OPERATING.md").read_text("utf-8")
+    block = page.split("on each machine of the second tier")[1].split("\n\n")[1]
+    collector = here.start(SETTINGS)
+    ports = {4317: free_port(), 4328: collector.port}
+    for before, now in ports.items():
+        want(f"the page has :{before}", block.count(f":{before}"), 1)
+        block = block.replace(f":{before}", f":{now}")
+    lines = [it[4:] for it in block.split("\n")]
+    second, first = here.folder / "second.yaml", here.folder / "first.yaml"
+    quiet = "  telemetry: { metrics: { level: none } }\n"
+    second.write_text("\n".join(lines).replace("service:\n", "service:\n" + quiet) + "\n", "utf-8")
+    listens = free_port()
+    first.write_text(
+        f"receivers: {{ otlp: {{ protocols: {{ http: {{ endpoint: 127.0.0.1:{listens} }} }} }} }}\n"
+        f"exporters: {{ otlp: {{ endpoint: '127.0.0.1:{ports[4317]}', tls: {{ insecure: true }} }} }}\n"
+        f"service:\n{quiet}  pipelines: {{ traces: {{ receivers: [otlp], exporters: [otlp] }} }}\n",
+        "utf-8",
+    )
+    core = str(here.fetched / "collector" / "otelcore")
+    behind = Neighbour(here, [core, "--config", str(second)], ports[4317])
+    before = Neighbour(here, [core, "--config", str(first)], listens)
+    sent = send_from_many(lambda: http.client.HTTPConnection("127.0.0.1", listens, timeout=30), 100, 10, 10)
+    before.end()
+    behind.end()
+    all_came_back(collector, sent)
+
+
+def the_documented_example_is_read(here):
+    """The example of the tail_sampling processor's documentation, as it is written for tsc, has no fault."""
+    told = subprocess.run([here.program, "validate", str(RECIPES / "tail_sampling.toml")], capture_output=True, text=True)
+    want("what validate says", (told.stdout, told.returncode), ("ok\n", 0))
+
+
 def ten_thousand_of_the_sdk(here):
     """The C++ SDK exports 5,000 traces of two spans by its batch processor."""
     collector = here.start(SETTINGS)
@@ -154,4 +189,7 @@ def a_collector_that_is_away(here):
         raise Failure(f"{len(sent)} spans were sent, {len(spans_of(lines))} came")
 
 
-CHECKS = [ten_thousand_between_two_pipelines, a_collector_that_is_away, ten_thousand_of_the_sdk, equal_by_the_codec]
+CHECKS = [
+    ten_thousand_between_two_pipelines, a_collector_that_is_away, the_second_tier, the_documented_example_is_read, ten_thousand_of_the_sdk,
+    equal_by_the_codec,
+]

@@ -1,5 +1,5 @@
 #!/usr/bin/env bash
-# Builds FOLDER/otelcore: the OpenTelemetry Collector's own core (receiver otlp, processor batch, exporters otlphttp and debug) of Debian's packages of
+# Builds FOLDER/otelcore: the OpenTelemetry Collector's own core (receiver otlp, processor batch, exporters otlp, otlphttp and debug) of Debian's packages of
 # the suite sid. It takes some minutes and 2.5 GB.
 #     collector.sh FOLDER
 set -eu

@@ -1,4 +1,4 @@
-// The OpenTelemetry Collector's core: a receiver, a processor and two exporters, as its builder would put them together.
+// The OpenTelemetry Collector's core: a receiver, a processor and three exporters, as its builder would put them together.
 package main
 
 import (
@@ -9,6 +9,7 @@ import (
 	"go.opentelemetry.io/collector/confmap/provider/fileprovider"
 	"go.opentelemetry.io/collector/exporter"
 	"go.opentelemetry.io/collector/exporter/debugexporter"
+	"go.opentelemetry.io/collector/exporter/otlpexporter"
 	"go.opentelemetry.io/collector/exporter/otlphttpexporter"
 	"go.opentelemetry.io/collector/otelcol"
 	"go.opentelemetry.io/collector/processor"
@@ -27,7 +28,8 @@ func factories() (otelcol.Factories, error) {
 	if all.Processors, err = otelcol.MakeFactoryMap[processor.Factory](batchprocessor.NewFactory()); err != nil {
 		return all, err
 	}
-	if all.Exporters, err = otelcol.MakeFactoryMap[exporter.Factory](otlphttpexporter.NewFactory(), debugexporter.NewFactory()); err != nil {
+	exporters := []exporter.Factory{otlpexporter.NewFactory(), otlphttpexporter.NewFactory(), debugexporter.NewFactory()}
+	if all.Exporters, err = otelcol.MakeFactoryMap[exporter.Factory](exporters...); err != nil {
 		return all, err
 	}
 	all.Telemetry = otelconftelemetry.NewFactory()
