@@ -72,7 +72,7 @@ def main():
             of = sizes(rate, span_bytes, seconds)
             print(
                 f"| {rate:,} | {span_bytes:,} | {seconds} | {of['lanes']} | {of['shards']} | {of['num_traces']} | {of['queue_capacity']} "
-                f"| {of['processors']:.1f} | {of['memory']:,.0f} MiB | {of['most'] / 1024:g}G |"
+                f"| {of['processors']:.2f} | {of['memory']:,.0f} MiB | {of['most'] / 1024:g}G |"
             )
         return 0
     if not 3 <= len(words) <= 5 or (len(words) == 5 and words[4] != "gzip"):
@@ -83,7 +83,7 @@ def main():
     members, of = members_for(rate, *others)
     if members > 1:
         print(f"# {members} collectors, each for {rate / members:,.0f} spans a second in the mean; plan for the fullest (docs/OPERATING.md, More than one machine)")
-    print(f"# {of['processors']:.1f} processors and {of['memory']:,.0f} MiB; of a service MemoryMax={of['most']}M")
+    print(f"# {of['processors']:.2f} processors and {of['memory']:,.0f} MiB; of a service MemoryMax={of['most']}M")
     print(f"decision_wait_ms = {seconds * 1000:.0f}")
     for key in ("lanes", "shards", "num_traces", "queue_capacity", "export_capacity"):
         print(f"{key} = {of[key]}")
