@@ -75,12 +75,14 @@ UNIT
 mkdir -p "$room/root/etc/systemd/system/default.target.wants"
 ln -s /etc/systemd/system/inside.service "$room/root/etc/systemd/system/default.target.wants/inside.service"
 timeout 300 systemd-nspawn --quiet --register=no --keep-unit --private-network -D "$room/root" -b < /dev/null > "$room/boot" 2>&1 || true
-if [ -s "$room/root/packages/said" ]; then
-    cat "$room/root/packages/said" | grep -v ' passed, '
+said=$room/root/packages/said
+[ ! -s "$said" ] || grep -v ' passed, ' "$said"
+if [[ $(tail -n 1 "$said" 2> /dev/null) =~ ^([0-9]+)\ passed,\ ([0-9]+)\ failed$ ]]; then
+    passed=$((passed + BASH_REMATCH[1]))
+    failed=$((failed + BASH_REMATCH[2]))
 else
     failed=$((failed + 1))
-    echo "FAILED the clean system didn't come up: $(tail -n 20 "$room/boot")"
+    echo "FAILED what runs in the clean system didn't end: $(tail -n 20 "$room/boot")"
 fi
-read -r more lost < <(sed -n 's/^\([0-9]*\) passed, \([0-9]*\) failed$/\1 \2/p' "$room/root/packages/said" 2> /dev/null || true) || { more=0 lost=1; }
-echo "$((passed + more)) passed, $((failed + lost)) failed"
-[ $((failed + lost)) -eq 0 ]
+echo "$passed passed, $failed failed"
+[ "$failed" -eq 0 ]

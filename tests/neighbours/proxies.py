@@ -92,11 +92,11 @@ def haproxy_limits_each_client(here):
 
 
 def load_by_wrk(here, collector, proxy, scheme):
-    """200 clients of wrk for five seconds, over four lanes: no error, no answer takes ten seconds, and as many spans as answers."""
+    """200 clients of wrk for fifteen seconds, over four lanes: no error, no answer takes ten seconds, and as many spans as answers."""
     script = here.folder / "post.lua"
     fields = f'wrk.headers["Content-Type"] = "application/json"\nwrk.headers["Authorization"] = "Bearer {TOKEN}"\n'
     script.write_text(f'wrk.method = "POST"\n{fields}wrk.body = [[{body_of(spans_for(0, 0, 1)).decode()}]]\n')
-    words = [f"{here.packages}/usr/bin/wrk", "-t2", "-c200", "-d5s", "--timeout", "10s", "-s", str(script), f"{scheme}://127.0.0.1:{proxy.port}/v1/traces"]
+    words = [f"{here.packages}/usr/bin/wrk", "-t2", "-c200", "-d15s", "--timeout", "10s", "-s", str(script), f"{scheme}://127.0.0.1:{proxy.port}/v1/traces"]
     said = subprocess.run(words, env={**os.environ, "LD_LIBRARY_PATH": here.libraries}, capture_output=True, text=True, check=True).stdout
     want("what wrk tells of errors", [it for it in said.split("\n") if "Socket errors" in it or "Non-2xx" in it], [])
     answers = int(re.search(r"(\d+) requests in", said)[1])
@@ -106,7 +106,7 @@ def load_by_wrk(here, collector, proxy, scheme):
     numbers = collector.close()[1]
     # What wrk had sent when its time was over was taken too, one request of each client at most.
     want("spans beside answers", answers <= numbers[0] <= answers + 200, True)
-    print(f"    {answers} answers to 200 clients in five seconds")
+    print(f"    {answers} answers to 200 clients in fifteen seconds")
 
 
 def ten_thousand_through_nginx(here):
