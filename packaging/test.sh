@@ -53,8 +53,8 @@ cat "$room/said"
 
 if [ ! -e "$kept/root.tar" ]; then
     mkdir -p "$kept"
-    mmdebstrap --quiet --variant=minbase --include=systemd,systemd-sysv,libgcc-s1,curl,man-db,mawk bookworm "$kept/root.tar.part"
-    mv "$kept/root.tar.part" "$kept/root.tar"
+    mmdebstrap --quiet --variant=minbase --include=systemd,systemd-sysv,libgcc-s1,curl,man-db,mawk bookworm "$kept/part.tar"
+    mv "$kept/part.tar" "$kept/root.tar"
 fi
 mkdir "$room/root"
 tar -C "$room/root" -xf "$kept/root.tar"
