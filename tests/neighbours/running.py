@@ -12,9 +12,10 @@ from pathlib import Path
 TOP = Path(__file__).resolve().parent.parent.parent
 sys.path.insert(0, str(TOP / "tests"))
 from collector import ALL, Failure, Starter, body_of, spans_of, want  # noqa: E402
+from collector import post as request_of  # noqa: E402
 
 RECIPES = TOP / "examples" / "neighbours"
-SETTINGS = "lanes = 4\nshards = 2\nqueue_capacity = 65536\nexport_capacity = 65536\ndecision_wait_ms = 1000\ntick_ms = 100\n" + ALL
+SETTINGS = "lanes = 4\nshards = 2\nqueue_capacity = 8192\nexport_capacity = 8192\ndecision_wait_ms = 1000\ntick_ms = 100\n" + ALL
 
 
 def free_port():
@@ -59,12 +60,16 @@ def ids_of(spans):
     return sorted(it["spanId"] for it in spans)
 
 
-def post(connection, spans, fields=()):
-    """Posts spans over an open connection and returns the answer's status."""
+def answer_to(connection, spans, fields=()):
+    """Posts spans over an open connection and returns the answer's status and text."""
     connection.request("POST", "/v1/traces", body_of(spans), {"Content-Type": "application/json", **dict(fields)})
     answer = connection.getresponse()
-    answer.read()
-    return answer.status
+    return answer.status, answer.read().decode()
+
+
+def post(connection, spans, fields=()):
+    """Posts spans over an open connection and returns the answer's status."""
+    return answer_to(connection, spans, fields)[0]
 
 
 def send_from_many(connect, clients, requests, per_request, fields=()):
@@ -76,7 +81,8 @@ def send_from_many(connect, clients, requests, per_request, fields=()):
             connection = connect()
             for request in range(requests):
                 spans = spans_for(client, request, per_request)
-                want("the status", post(connection, spans, fields), 200)
+                status, text = answer_to(connection, spans, fields)
+                want(f"the status, with {text[:200]}", status, 200)
                 with lock:
                     sent.extend(spans)
             connection.close()
@@ -107,10 +113,16 @@ class Here:
         self.packages = self.fetched / "packages"
         self.libraries = f"{self.packages}/usr/lib/x86_64-linux-gnu:{self.packages}/lib/x86_64-linux-gnu"
         self.program = program
-        self.start, self.neighbours = Starter(program), []
+        self.starter, self.neighbours = Starter(program), []
+
+    def start(self, settings):
+        """Starts a collector, and waits until it answers: it listens before its queues are laid out, which takes a program with checks seconds."""
+        collector = self.starter(settings)
+        want("the first answer", collector.ask(request_of(b"{}"))[0], 200)
+        return collector
 
     def stop(self):
         for it in self.neighbours:
             it.end()
-        for collector in self.start.started:
+        for collector in self.starter.started:
             collector.stop()
