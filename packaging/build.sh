@@ -1,0 +1,35 @@
+#!/usr/bin/env bash
+# Makes the Debian package tsc_VERSION-REVISION_amd64.deb of the proved program, by Debian's own tools (apt-get install build-essential debhelper).
+#     packaging/build.sh [--program PATH] [--revision N] [FOLDER]
+# PATH is a program in place of the proved one, which ./build leaves at crates/collector_main/out/collector_main; FOLDER gets the package
+# (default: packaging/out). The version is what the program prints, and must be the newest one of CHANGELOG.md.
+set -eu -o pipefail
+here=$(cd "$(dirname "$0")" && pwd)
+top=$(dirname "$here")
+program=$top/crates/collector_main/out/collector_main
+revision=1
+folder=$here/out
+while [ $# -gt 0 ]; do
+    case $1 in
+        --program) program=$(realpath "$2"); shift 2 ;;
+        --revision) revision=$2; shift 2 ;;
+        *) folder=$1; shift ;;
+    esac
+done
+[ -x "$program" ] || { echo "packaging/build.sh: $program isn't there: ./build makes it" >&2; exit 2; }
+"$here/pages.py" --check
+version=$("$program" version)
+version=${version#tsc }
+room=$(mktemp -d)
+trap 'rm -rf "$room"' EXIT
+tree=$room/tsc
+mkdir -p "$tree" "$folder"
+cp -R "$here/debian" "$here/pages" "$top/docs" "$top/examples" "$top/README.md" "$top/CHANGELOG.md" "$tree"
+cp "$top/examples/serve.toml" "$tree/serve.toml"
+install -m 755 "$program" "$tree/tsc"
+"$here/pages.py" --changelog "$revision" > "$tree/debian/changelog"
+named=$(dpkg-parsechangelog -l "$tree/debian/changelog" -S Version)
+[ "$named" = "$version-$revision" ] || { echo "packaging/build.sh: the program says version $version, CHANGELOG.md ${named%-*}" >&2; exit 2; }
+(cd "$tree" && dpkg-buildpackage -b --no-sign) > "$room/log" 2>&1 || { tail -n 40 "$room/log" >&2; exit 1; }
+cp "$room/tsc_${named}_amd64.deb" "$folder"
+echo "$folder/tsc_${named}_amd64.deb"
