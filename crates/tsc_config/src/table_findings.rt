@@ -64,7 +64,7 @@ fn add_twice(alloc: Global, table: &Table, findings: &mut Findings) -> Result<()
 }
 
 /// The settings of a configuration that are no tables.
-fn top_settings() -> [Setting; 17]
+fn top_settings() -> [Setting; 18]
     ensures { map setting_of result ≡ spec.top_settings }
 {
     [
