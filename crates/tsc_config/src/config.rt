@@ -11,7 +11,7 @@ ghost use Rattle.tsc_config.specs.declared.fault.ConfigFault.TheVariants.{NoMemo
 use crate::fault::ConfigFault;
 use crate::fault_walk::table_fault;
 use crate::kinds::{ChoiceKey, NumberKey};
-use crate::settings_values::truth_at;
+use crate::settings_values::{natural_at, truth_at};
 use crate::values::{
     addresses_at, cache_size_at, is_other_at, policies_at, positive_by, root_wait_at,
 };
