@@ -13,12 +13,24 @@ returns g c = λ arguments unread.
       unread = unread;
       unread_after = unread;
       taken = g.W.Write.contents c.args.writer;
-      taken_after = g.W.Write.contents c.serve_with.result.0;
+      taken_after = g.W.Write.contents c.serve_with-ended.result.0;
     } in
-    Serves-runs now c.in-Ok.config c.serve_with.result.1 c.in-Ok.ensures.is_read refl c.serve_with.ensures
+    Serves-runs now c.in-Ok.config c.serve_with-ended.result.1 c.in-Ok.ensures.is_read refl c.serve_with-ended.ensures
 
 pub returns-in_default : goal.returns-in_default
 returns-in_default g c = λ arguments unread.
+    let now : Course = record {
+      arguments = arguments;
+      file = file_of (λ v. v.items) c.args.file;
+      unread = unread;
+      unread_after = unread;
+      taken = g.W.Write.contents c.args.writer;
+      taken_after = g.W.Write.contents c.args.writer;
+    } in
+    Serves-ran now c.in-Ok.config 0 (Err NoMemory) c.in-Ok.ensures.is_read refl (refl, refl) tt
+
+pub returns-then-is_err : goal.returns-then-is_err
+returns-then-is_err g c = λ arguments unread.
     let now : Course = record {
       arguments = arguments;
       file = file_of (λ v. v.items) c.args.file;
