@@ -60,8 +60,13 @@ def prometheus_and_the_dashboard(here):
     for first in range(0, 10000, 100):
         spans = [{"traceId": f"{at:032x}", "spanId": f"{at:016x}"} for at in range(first + 1, first + 101)]
         want("the answer", collector.ask(post(body_of(spans)))[0], 200)
-    time.sleep(4)
-    want("what Prometheus has", [it["value"][1] for it in asked_of(prometheus, "tsc_spans_received_total")], ["10000"])
+    for _ in range(60):
+        read = [it["value"][1] for it in asked_of(prometheus, "tsc_spans_received_total")]
+        if read == ["10000"]:
+            break
+        time.sleep(0.5)
+    want("what Prometheus has", read, ["10000"])
+    time.sleep(4)  # (so that rates have two readings)
     dashboard = json.loads((RECIPES / "grafana.json").read_text("utf-8"))
     for expression in queries_of(dashboard):
         want(f"an answer to {expression}", bool(asked_of(prometheus, expression)), True)
