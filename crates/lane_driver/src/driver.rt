@@ -386,6 +386,7 @@ impl<'l, P: Stop> TurnDriver<'l, P> {
         }
         self.watch_deadline(place);
         self.links.list(place);
+        self.take_from = self.take_from.max(self.links.patience(self.now));
     }
 
     /// The connection of the link at the place that was told had a turn.
