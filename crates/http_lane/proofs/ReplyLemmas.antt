@@ -39,7 +39,7 @@ as_many k l n m i j (r ∷ rs) = ap suc (as_many k l (n + 1) (m + 1) i j rs)
 
 -- the body was read, and this is a reply to its spans
 abbrev Reads : List ℕ → Reply → Type 0
-Reads body reply = (d : Data) × (request : Request) × IsJson body d × (request_of d ≡ Some request)
+Reads body reply = (d : Data) × (request : Request) × IsJson body d × (request_of false d ≡ Some request)
     × (k : ConnKey) × (n : ℕ) × (i : ℕ) × (refused : ℕ)
     × IsReplyTo (length (arrivals_from k n i (records_of request))) (length (filter is_invalid (arrivals_from k n i (records_of request)))) refused reply
 
@@ -48,11 +48,11 @@ abbrev Tells : List ℕ → Reply → Type 0
 Tells body (Done n) = Reads body (Done n)
 Tells body (Partial n i f) = Reads body (Partial n i f)
 Tells body (BadData Json) = (d : Data) → IsJson body d → ⊥
-Tells body (BadData Shape) = (d : Data) × IsJson body d × (request_of d ≡ None)
+Tells body (BadData Shape) = (d : Data) × IsJson body d × (request_of false d ≡ None)
 Tells body Busy = Unit {0}
 
 told : (body : List ℕ) (reply : Reply) (A : Type 0) → OnReceived reply A → (A → Reads body reply)
-    → (reply ≡ BadData Json → (d : Data) → IsJson body d → ⊥) → (reply ≡ BadData Shape → (d : Data) × IsJson body d × (request_of d ≡ None)) → Tells body reply
+    → (reply ≡ BadData Json → (d : Data) → IsJson body d → ⊥) → (reply ≡ BadData Shape → (d : Data) × IsJson body d × (request_of false d ≡ None)) → Tells body reply
 told body (Done n) A received f json shape = f received
 told body (Partial n i k) A received f json shape = f received
 told body (BadData Json) A received f json shape = json refl
@@ -62,12 +62,12 @@ told body Busy A received f json shape = tt
 value_same : (body : List ℕ) (d e : Data) → IsJson body d → IsJson body e → d ≡ e
 value_same body d e h g = let both : Some d ≡ Some e = sym h.1 ∙ g.1 in cc
 
-request_same : (body : List ℕ) (d e : Data) (r q : Request) → IsJson body d → IsJson body e → request_of d ≡ Some r → request_of e ≡ Some q → r ≡ q
-request_same body d e r q h g x y = let both : Some r ≡ Some q = sym x ∙ (ap request_of (value_same body d e h g) ∙ y) in cc
+request_same : (body : List ℕ) (d e : Data) (r q : Request) → IsJson body d → IsJson body e → request_of false d ≡ Some r → request_of false e ≡ Some q → r ≡ q
+request_same body d e r q h g x y = let both : Some r ≡ Some q = sym x ∙ (ap (request_of false) (value_same body d e h g) ∙ y) in cc
 
 -- no body is read and has the wrong shape
-not_both : (body : List ℕ) (d e : Data) (r : Request) → IsJson body d → IsJson body e → request_of d ≡ Some r → request_of e ≡ None → ⊥
-not_both body d e r h g x y = let both : Some r ≡ None = sym x ∙ (ap request_of (value_same body d e h g) ∙ y) in cc
+not_both : (body : List ℕ) (d e : Data) (r : Request) → IsJson body d → IsJson body e → request_of false d ≡ Some r → request_of false e ≡ None → ⊥
+not_both body d e r h g x y = let both : Some r ≡ None = sym x ∙ (ap (request_of false) (value_same body d e h g) ∙ y) in cc
 
 -- replies to the same spans, of which as many were refused
 reply_same : (spans invalid refused others : ℕ) (p q : Reply) → IsReplyTo spans invalid refused p → IsReplyTo spans invalid others q → said_by p ≡ said_by q → p ≡ q

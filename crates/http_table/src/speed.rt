@@ -29,7 +29,7 @@ pub fn serve_once(alloc: Global, input: &[u8]) -> Result<u64, AllocError> {
 pub fn decode_many(alloc: Global, body: &[u8], times: u32) -> u64 {
     let mut resources: u64 = 0;
     for _ in 0..times {
-        if let Ok(request) = decode(alloc, body) {
+        if let Ok(request) = decode(alloc, false, body) {
             resources = resources.saturating_add(request.resource_spans.len() as u64);
         }
     }

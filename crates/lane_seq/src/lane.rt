@@ -1,5 +1,5 @@
 //! A lane: the one place at which the spans of its connections are numbered, routed and pushed.
-ghost use Rattle.std.specs.Prelude.{◌≡◌, ℕ, ◌+◌, ◌-◌, ◌^◌, ◌<◌, ◌≤◌, Some, length, slice_get, IsTrue};
+ghost use Rattle.std.specs.Prelude.{◌≡◌, ℕ, ◌+◌, ◌-◌, ◌^◌, ◌<◌, ◌≤◌, false, Some, length, slice_get, IsTrue};
 ghost use Rattle.serde_json.specs.Data.{Data};
 ghost use Rattle.otlp_reading.specs.Decoding.{IsJson, IsNoJson, IsNoRequest};
 ghost use Rattle.otlp_reading.specs.Reading.{request_of};
@@ -129,7 +129,7 @@ impl<P: Port<Item>> Lane<P> {
     /// room.
     pub fn submit(&mut self, alloc: Global, conn: &mut Conn, body: &[u8], moment: Moment) -> Reply
         ensures received { OnReceived result ((d : Data) × (request : Request) × IsJson body.now d
-            × (request_of d ≡ Some request)
+            × (request_of false d ≡ Some request)
             × Receives P.takes P.refuses (arrivals_from conn.old.key conn.old.next moment (records_of request))
             self.old.ports result self.new.ports
             × (conn.new ≡ record conn.old {
@@ -139,10 +139,10 @@ impl<P: Port<Item>> Lane<P> {
         ensures lane { self.new ≡ record self.old { ports = self.new.ports } }
         ensures ports { length self.new.ports ≡ length self.old.ports }
         ensures json { result ≡ Reply.BadData BadData.Json → IsNoJson body.now }
-        ensures shape { result ≡ Reply.BadData BadData.Shape → IsNoRequest body.now }
+        ensures shape { result ≡ Reply.BadData BadData.Shape → IsNoRequest false body.now }
         ensures refused { IsRefusal result → (self.new ≡ self.old) × (conn.new ≡ conn.old) }
     {
-        match prepare(alloc, conn, body, moment) {
+        match prepare(alloc, false, conn, body, moment) {
             Ok(prepared) => self.receive_if_room(conn, prepared),
             Err(refusal) => refusal,
         }

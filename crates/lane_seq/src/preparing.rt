@@ -37,15 +37,21 @@ pub struct Prepared {
 ///
 /// The reply of a refusal is `BadData` where the body is no request, or `Busy` where memory was refused or the
 /// connection's numbers would pass 2^64-1.
-pub fn prepare(alloc: Global, conn: &Conn, body: &[u8], moment: Moment) -> Result<Prepared, Reply>
-    ensures read { IfOk result (λ prepared. (d : Data) × (request : Request) × IsJson body.now d × (request_of d ≡ Some request)
+pub fn prepare(
+    alloc: Global,
+    keeps_doubles: bool,
+    conn: &Conn,
+    body: &[u8],
+    moment: Moment,
+) -> Result<Prepared, Reply>
+    ensures read { IfOk result (λ prepared. (d : Data) × (request : Request) × IsJson body.now d × (request_of keeps_doubles d ≡ Some request)
         × (prepared.arrivals.items ≡ arrivals_from conn.now.key conn.now.next moment (records_of request))) }
     ensures numbers { IfOk result (λ prepared. conn.now.next + length prepared.arrivals.items < 2 ^ 64) }
     ensures json { IsErrOf result (Reply.BadData BadData.Json) → IsNoJson body.now }
-    ensures shape { IsErrOf result (Reply.BadData BadData.Shape) → IsNoRequest body.now }
+    ensures shape { IsErrOf result (Reply.BadData BadData.Shape) → IsNoRequest keeps_doubles body.now }
     ensures refusal { IfErr result IsRefusal }
 {
-    let request = match decode(alloc, body) {
+    let request = match decode(alloc, keeps_doubles, body) {
         Ok(request) => request,
         Err(Bad::Json) => return Err(Reply::BadData(BadData::Json)),
         Err(Bad::Shape) => return Err(Reply::BadData(BadData::Shape)),

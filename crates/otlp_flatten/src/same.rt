@@ -2,6 +2,7 @@
 ghost use Rattle.std.specs.Prelude.{◌≡◌, ◌↔◌, IsTrue};
 
 use otlp_types::{AnyValue, KeyValue, List, Resource, Scope, Text};
+use std::num::f64_to_bits_with_nan;
 
 /// A test of equality, which takes no memory.
 pub trait Same {
@@ -47,12 +48,20 @@ impl Same for AnyValue {
             (AnyValue::Str(a), AnyValue::Str(b)) => a.same(b),
             (AnyValue::Bool(a), AnyValue::Bool(b)) => *a == *b,
             (AnyValue::Int(a), AnyValue::Int(b)) => *a == *b,
+            (AnyValue::Double(a), AnyValue::Double(b)) => same_float(a.get(), b.get()),
             (AnyValue::Array(a), AnyValue::Array(b)) => a.same(b),
             (AnyValue::KvList(a), AnyValue::KvList(b)) => a.same(b),
             (AnyValue::Bytes(a), AnyValue::Bytes(b)) => a.same(b),
             _ => false,
         }
     }
+}
+
+/// Whether both are one float, bit for bit: -0.0 isn't 0.0, and NaN is NaN.
+fn same_float(x: f64, y: f64) -> bool
+    ensures { IsTrue result ↔ (x ≡ y) }
+{
+    f64_to_bits_with_nan(x) == f64_to_bits_with_nan(y)
 }
 
 impl Same for Resource {

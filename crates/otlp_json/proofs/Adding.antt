@@ -7,7 +7,7 @@ use Rattle.json.specs.Tree.{items_tokens}
 use Rattle.json.specs.Written.{Written}
 use Rattle.serde_json.specs.Data.{Data, Members, object}
 use Rattle.serde_json.specs.View.{items_of}
-use Rattle.serde_json.specs.Written.{items_outline}
+use Rattle.otlp_json.specs.Outline.{items_outline}
 use Rattle.otlp_types.specs.declared.span.Span.{Span}
 use Rattle.otlp_json.specs.Tokens.{Adds, AddsField, AddsObject, value_tokens, field_tokens, objects_tokens, span_counts, span_head, span_tail}
 use Rattle.otlp_json.specs.Writing.{fields, text_field, u32_field, u64_field, enum_field, message_field, list_field, attributes_field, trace_field, span_field, parent_field, status_fields, event_fields, link_fields, span_fields, span_table, Table}

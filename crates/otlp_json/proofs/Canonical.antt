@@ -7,7 +7,7 @@ use Rattle.std.specs.declared.cmp.Ordering.TheVariants.{Greater}
 use Rattle.json.specs.Tree as tree
 use Rattle.serde_json.specs.Data.{Data, null, boolean, number, string, array, object, Items, no_items, item, Members, no_members, member, put, depth, items_depth, members_depth}
 use Rattle.serde_json.specs.Read.{of_json, of_items, of_members}
-use Rattle.serde_json.specs.Written.{outline, items_outline, members_outline}
+use Rattle.otlp_json.specs.Outline.{outline, items_outline, members_outline}
 use Rattle.otlp_json.specs.Canonical.{KeysAfter, IsCanonical, AreCanonical, MembersCanonical}
 
 -- ---- members, one after the other

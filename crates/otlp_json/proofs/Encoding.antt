@@ -9,8 +9,7 @@ use Rattle.json.specs.Written.{Written}
 use Rattle.json.proofs.Printed.Trees.{value-json_tokens}
 use Rattle.serde_json.specs.Data.{Data, depth}
 use Rattle.serde_json.specs.Read.{read}
-use Rattle.serde_json.specs.Written.{outline, compact_text}
-use Rattle.serde_json.proofs.Texts.{print-outline}
+use Rattle.otlp_json.specs.Outline.{outline, text_of}
 use Rattle.otlp_json.specs.Canonical.{IsCanonical}
 use Rattle.otlp_json.specs.Tokens.{Adds, value_tokens}
 use Rattle.otlp_json.proofs.Canonical.{outline-reads, outline-depth}
@@ -19,8 +18,8 @@ use Rattle.otlp_json.proofs.Canonical.{outline-reads, outline-depth}
 all-tokens : (d : Data) (a b : Written) → a.tokens ≡ [] → Adds a b (value_tokens d) → b.tokens ≡ value_tokens d
 all-tokens d a b none h = h.1 ∙ ap (λ ts. ts ++ value_tokens d) none
 
-pub encoded : (d : Data) (a b : Written) → a.before ≡ [] → a.tokens ≡ [] → Adds a b (value_tokens d) → b.before ++ print b.tokens ≡ compact_text d
-encoded d a b before none h = ap (λ (bytes : List ℕ). bytes ++ print b.tokens) (h.0 ∙ before) ∙ ap print (all-tokens d a b none h) ∙ print-outline d
+pub encoded : (d : Data) (a b : Written) → a.before ≡ [] → a.tokens ≡ [] → Adds a b (value_tokens d) → b.before ++ print b.tokens ≡ text_of d
+encoded d a b before none h = ap (λ (bytes : List ℕ). bytes ++ print b.tokens) (h.0 ∙ before) ∙ ap print (all-tokens d a b none h)
 
 read-written : (d : Data) (bytes : List ℕ) → tokens bytes ≡ value_tokens d → IsCanonical d → depth d ≤ 127 → read bytes ≡ Some d
 read-written d bytes same canonical shallow =

@@ -12,7 +12,8 @@ use Rattle.otlp_json.specs.Canonical.{MembersCanonical}
 use Rattle.serde_json.proofs.Numbers.{number_of-decimal, number_of-negative}
 use Rattle.otlp_types.specs.declared.value.KeyValue.{KeyValue}
 use Rattle.otlp_reading.specs.Kinds.{field, u32, list_of, message, inner}
-use Rattle.otlp_reading.specs.Reading.{discarded, any_value, key_value, attributes}
+use Rattle.otlp_reading.specs.Reading.{discarded, key_value}
+use Rattle.otlp_json.specs.Kept.{any_value, attributes}
 use Rattle.otlp_json.specs.Writing.{Table, fields, u32_field, u64_field, enum_field, message_field, list_field, attributes_field, pair_fields}
 use Rattle.otlp_json.specs.ReadsBack.{PairReadsBack, ReadsBack}
 use Rattle.otlp_json.proofs.NumbersBack.{u32-back}

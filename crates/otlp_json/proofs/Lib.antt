@@ -9,3 +9,4 @@ pub mod MessagesBack
 pub mod Adding
 pub mod Encoding
 pub mod Depth
+mod Names

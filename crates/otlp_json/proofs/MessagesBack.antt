@@ -21,7 +21,8 @@ use Rattle.otlp_types.specs.declared.request.ResourceSpans.{ResourceSpans}
 use Rattle.otlp_types.specs.declared.request.Request.{Request}
 use Rattle.span_ids.specs.Id.{id_of, id_text}
 use Rattle.otlp_reading.specs.Kinds.{field, text, u32, u64, enum, list_of, message, inner}
-use Rattle.otlp_reading.specs.Reading.{attributes, parent_of, valid_ids, ids, status, event, link, span, resource, scope, scope_spans, resource_spans, request}
+use Rattle.otlp_reading.specs.Reading.{parent_of, valid_ids, ids, status}
+use Rattle.otlp_json.specs.Kept.{attributes, event, link, span, resource, scope, scope_spans, resource_spans, request}
 use Rattle.otlp_json.specs.Writing.{Table, fields, text_field, u32_field, u64_field, enum_field, trace_field, span_field, parent_field, status_fields, event_fields, link_fields, span_fields, resource_fields, scope_fields, scope_spans_fields, resource_spans_fields, request_fields, status_table, event_table, link_table, span_table, resource_table, scope_table, scope_spans_table, resource_spans_table, request_table}
 use Rattle.otlp_json.specs.ReadsBack.{PairReadsBack, ReadsBack, StatusReadsBack, EventReadsBack, LinkReadsBack, TraceReadsBack, IdReadsBack, OptionalIdReadsBack, ParentReadsBack, CountsReadBack, HeadReadsBack, TailReadsBack}
 use Rattle.otlp_reading.proofs.Spans.{SpanFields, span_of}
@@ -222,7 +223,7 @@ span-is s counts head tail = (
   ),
 )
 
-span_fields-are : (s : Span) → CountsReadBack s → HeadReadsBack s → TailReadsBack s → depth (object (fields (span_table s))) ≤ 127 → SpanFields s (fields (span_table s))
+span_fields-are : (s : Span) → CountsReadBack s → HeadReadsBack s → TailReadsBack s → depth (object (fields (span_table s))) ≤ 127 → SpanFields true s (fields (span_table s))
 span_fields-are s counts head tail h =
     let t : IsTable (span_table s) = span-is s counts head tail in
     record {
@@ -242,7 +243,7 @@ span_fields-are s counts head tail h =
     }
 
 pub span-back : (s : Span) → CountsReadBack s → HeadReadsBack s → TailReadsBack s → ReadsBack span_fields span s
-span-back s counts head tail = reads-back span_fields span s (span_table s) refl refl (span-is s counts head tail) (λ _ h. span_of s (fields (span_table s)) (span_fields-are s counts head tail h))
+span-back s counts head tail = reads-back span_fields span s (span_table s) refl refl (span-is s counts head tail) (λ _ h. span_of true s (fields (span_table s)) (span_fields-are s counts head tail h))
 
 -- ---- the request
 

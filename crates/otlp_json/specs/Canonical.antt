@@ -5,7 +5,7 @@ use Rattle.std.specs.Ordering.{nat_cmp}
 use Rattle.std.specs.declared.cmp.Ordering.TheVariants.{Greater}
 use Rattle.serde_json.specs.Data.{Data, null, boolean, number, string, array, object, Items, no_items, item, Members, no_members, member}
 use Rattle.serde_json.specs.Read.{number_of}
-use Rattle.serde_json.specs.Written.{number_text}
+use Rattle.otlp_json.specs.Outline.{number_text}
 
 -- the members' keys come behind this one
 abbrev pub KeysAfter : List ℕ → Members → Type 0

@@ -4,7 +4,7 @@ use Rattle.json.specs.Token.{Token, key}
 use Rattle.json.specs.Tree.{json_tokens}
 use Rattle.json.specs.Written.{Written}
 use Rattle.serde_json.specs.Data.{Data, object, Members}
-use Rattle.serde_json.specs.Written.{outline}
+use Rattle.otlp_json.specs.Outline.{outline}
 use Rattle.otlp_types.specs.declared.span.Span.{Span}
 use Rattle.otlp_json.specs.Writing.{text_field, u32_field, u64_field, enum_field, message_field, list_field, attributes_field, trace_field, span_field, parent_field, status_fields, event_fields, link_fields}
 

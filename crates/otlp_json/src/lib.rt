@@ -6,7 +6,7 @@
 //! call both so.
 #![tactic(auto)]
 
-ghost use Rattle.std.specs.Prelude.{◌≡◌, ◌≤◌, IfOk, IsErrOf, Some};
+ghost use Rattle.std.specs.Prelude.{◌≡◌, ◌≤◌, true, IfOk, IsErrOf, Some};
 ghost use Rattle.serde_json.specs.Data.{depth};
 ghost use Rattle.otlp_reading.specs.Reading.{request_of};
 ghost use Rattle.otlp_reading.specs.Decoding.{IsJson, IsRequest, IsNoJson, IsNoRequest};
@@ -29,29 +29,29 @@ use writing::Written;
 const ROOM: usize = 4096;
 
 /// The request that the bytes write: JSON in UTF-8, nesting at most 127 deep, read as the JSON encoding of OTLP 1.x
-/// says.
+/// says. Doubles are kept, or an attribute that holds one is discarded and counted.
 ///
 /// `Json` where the bytes are no such text, `Shape` where some field of the value has another shape than its kind.
-pub fn decode(alloc: Global, bytes: &[u8]) -> Result<Request, Bad>
-    ensures ok { IfOk result (IsRequest bytes.now) }
+pub fn decode(alloc: Global, keeps_doubles: bool, bytes: &[u8]) -> Result<Request, Bad>
+    ensures ok { IfOk result (IsRequest keeps_doubles bytes.now) }
     ensures json { IsErrOf result Bad.Json → IsNoJson bytes.now }
-    ensures shape { IsErrOf result Bad.Shape → IsNoRequest bytes.now }
+    ensures shape { IsErrOf result Bad.Shape → IsNoRequest keeps_doubles bytes.now }
 {
-    match plain_request(alloc, bytes)? {
+    match plain_request(alloc, keeps_doubles, bytes)? {
         Some(request) => Ok(request),
-        None => otlp_reading::decode(alloc, bytes),
+        None => otlp_reading::decode(alloc, keeps_doubles, bytes),
     }
 }
 
 /// The canonical text of a request: no white space, the names of each object in order, and no field that has its
 /// default. `Err` only where memory was refused.
 ///
-/// A request that nests at most 127 deep as JSON is read again from its text.
+/// A request that nests at most 127 deep as JSON is read again from its text, where doubles are kept.
 pub fn encode(alloc: Global, request: &Request) -> Result<Vec<u8>, AllocError>
     ensures text { IfOk result (λ bytes. bytes.items ≡ canonical_text request.now) }
     ensures back { IfOk result (λ bytes. depth (data_of request.now) ≤ 127
         → IsJson bytes.items (data_of request.now)
-        × (request_of (data_of request.now) ≡ Some request.now)) }
+        × (request_of true (data_of request.now) ≡ Some request.now)) }
 {
     let mut out = Writer::new(Vec::with_capacity(alloc, ROOM)?);
     request.write(alloc, &mut out)?;

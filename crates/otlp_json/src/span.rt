@@ -1,6 +1,7 @@
 //! Spans and what they hold, written.
 ghost use Rattle.std.specs.Prelude.{◌≡◌, IfOk, OnOk, codes};
-ghost use Rattle.otlp_reading.specs.Reading.{status, event, link, span};
+ghost use Rattle.otlp_reading.specs.Reading.{status};
+ghost use Rattle.otlp_json.specs.Kept.{span};
 ghost use Rattle.otlp_json.specs.Tokens.{Adds, AddsField, span_counts, span_head, span_tail};
 ghost use Rattle.otlp_json.specs.Writing.{trace_field, span_field, parent_field, status_fields, event_fields, link_fields, span_fields, message_field};
 ghost use Rattle.otlp_json.specs.ReadsBack.{ReadsBack, StatusReadsBack, EventReadsBack, LinkReadsBack, TraceReadsBack, IdReadsBack, ParentReadsBack, CountsReadBack, HeadReadsBack, TailReadsBack};

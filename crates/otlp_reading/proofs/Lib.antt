@@ -3,3 +3,4 @@ pub mod Held
 pub mod Each
 pub mod Levels
 pub mod Spans
+mod Doubles

@@ -1,13 +1,17 @@
 -- The request that a JSON value is, field by field (OTLP 1.x, the JSON encoding of `ExportTraceServiceRequest`).
 -- The outer Option is the reading: None is a value of another shape. An Option inside is part of what is read: a discarded
 -- value, a root, invalid ids.
-use Rattle.std.specs.Prelude.{◌≡◌, ℕ, zero, suc, ◌≤◌, ◌+◌, ◌-◌, ◌^◌, min, List, [], ◌∷◌, ◌++◌, length, codes, ◌==◌, ◌||◌, if◌then◌else◌, count_by, is_none, Option, Some, None, option_map}
+use Rattle.std.specs.Prelude.{◌≡◌, ℕ, zero, suc, ◌≤◌, ◌+◌, ◌-◌, ◌^◌, min, List, [], ◌∷◌, ◌++◌, length, codes, ◌==◌, ◌||◌, if◌then◌else◌, count_by, is_none, Bool, true, false, Option, Some, None, option_map, Bool}
+use Rattle.std.specs.Float.{Float}
+use Rattle.std.specs.Float.Ieee.{nan, inf}
 use Rattle.std.specs.List.{filter_map}
 use Rattle.std.specs.Option.{option_to_list}
 use Rattle.std.specs.Str.{bytes_eq}
-use Rattle.serde_json.specs.Data.{Data, Members, no_members, member, depth}
-use Rattle.serde_json.specs.Find.{as_bool, as_str}
-use Rattle.otlp_types.specs.declared.value.AnyValue.{AnyValue, Empty, Str, Bool as Truth, Int, Array, KvList, Bytes}
+use Rattle.serde_json.specs.Data.{Data, null, boolean, number, string, array, object, Members, no_members, member, depth}
+use Rattle.serde_json.specs.Read.{number_of}
+use Rattle.serde_json.specs.Find.{as_bool, as_str, to_float}
+use Rattle.otlp_types.specs.declared.value.AnyValue.{AnyValue, Empty, Str, Bool as Truth, Int, Double, Array, KvList, Bytes}
+use Rattle.otlp_types.specs.Doubles.{is_number, is_kept}
 use Rattle.otlp_types.specs.declared.value.KeyValue.{KeyValue}
 use Rattle.otlp_types.specs.declared.span.Ids.{Ids}
 use Rattle.otlp_types.specs.declared.span.Status.{Status}
@@ -26,7 +30,7 @@ use Rattle.otlp_reading.specs.Kinds.{◌>>=◌, field, unless_null, read_or, tex
 
 -- ---- values
 
--- None: it holds a double at some depth, so its attribute is discarded, and that is no fault
+-- None: it holds a double that is not kept at some depth, so its attribute is discarded, and that is no fault
 abbrev pub OrDiscarded : Type 0 → Type 0
 OrDiscarded A = Option A
 
@@ -73,6 +77,32 @@ at_most_one [] = Some None
 at_most_one (x ∷ []) = Some (Some x)
 at_most_one (x ∷ y ∷ xs) = None
 
+-- the double that a text names or writes (protobuf's JSON mapping)
+abbrev pub double_of_text : List ℕ → Option Float
+double_of_text s =
+    if bytes_eq s (codes "NaN") then Some nan
+    else if bytes_eq s (codes "Infinity") then Some (inf false)
+    else if bytes_eq s (codes "-Infinity") then Some (inf true)
+    else if is_number s then option_map to_float (number_of s)
+    else None
+
+-- the double that is nearest to a number, or that a text is
+abbrev pub double_of : Data → Option Float
+double_of null = None
+double_of (boolean b) = None
+double_of (number n) = Some (to_float n)
+double_of (string s) = double_of_text s
+double_of (array ds) = None
+double_of (object ms) = None
+
+-- a double, if it is kept
+abbrev pub kept_double : Float → OrDiscarded AnyValue
+kept_double x = if is_kept x then Some (Double x) else None
+
+-- a double, whatever stands there where doubles are discarded
+abbrev pub double_value : Bool → Data → Option (OrDiscarded AnyValue)
+double_value keeps_doubles d = if keeps_doubles then option_map kept_double (double_of d) else Some None
+
 -- `value` reads the values inside
 module _ (value : Data → Option (OrDiscarded AnyValue)) where
   -- a pair whose value is absent has the empty value
@@ -91,41 +121,41 @@ module _ (value : Data → Option (OrDiscarded AnyValue)) where
   pairs ms = option_map all_kept (list_of (message key_value) (field (codes "values") ms))
 
   -- what is held under a value key
-  abbrev pub value_by : ValueKey → Data → Option (OrDiscarded AnyValue)
-  value_by key.Str d = option_map (λ s. Some (Str s)) (as_str d)
-  value_by key.Bool d = option_map (λ b. Some (Truth b)) (as_bool d)
-  value_by key.Int d = option_map (λ n. Some (Int n)) (i64_value d)
-  value_by key.Double d = Some None
-  value_by key.Array d = option_map (option_map Array) (message values d)
-  value_by key.KvList d = option_map (option_map KvList) (message pairs d)
-  value_by key.Bytes d = option_map (λ s. Some (Bytes s)) (as_str d)
+  abbrev pub value_by : Bool → ValueKey → Data → Option (OrDiscarded AnyValue)
+  value_by keeps_doubles key.Str d = option_map (λ s. Some (Str s)) (as_str d)
+  value_by keeps_doubles key.Bool d = option_map (λ b. Some (Truth b)) (as_bool d)
+  value_by keeps_doubles key.Int d = option_map (λ n. Some (Int n)) (i64_value d)
+  value_by keeps_doubles key.Double d = double_value keeps_doubles d
+  value_by keeps_doubles key.Array d = option_map (option_map Array) (message values d)
+  value_by keeps_doubles key.KvList d = option_map (option_map KvList) (message pairs d)
+  value_by keeps_doubles key.Bytes d = option_map (λ s. Some (Bytes s)) (as_str d)
 
   -- an AnyValue with no value key is empty
-  abbrev pub value_of_member : Option (ValueKey × Data) → Option (OrDiscarded AnyValue)
-  value_of_member None = Some (Some Empty)
-  value_of_member (Some h) = value_by h.0 h.1
+  abbrev pub value_of_member : Bool → Option (ValueKey × Data) → Option (OrDiscarded AnyValue)
+  value_of_member keeps_doubles None = Some (Some Empty)
+  value_of_member keeps_doubles (Some h) = value_by keeps_doubles h.0 h.1
 
   -- an `AnyValue`
-  abbrev pub value_in : Members → Option (OrDiscarded AnyValue)
-  value_in ms = at_most_one (value_members ms) >>= value_of_member
+  abbrev pub value_in : Bool → Members → Option (OrDiscarded AnyValue)
+  value_in keeps_doubles ms = at_most_one (value_members ms) >>= value_of_member keeps_doubles
 
 -- a value that nests at most so many levels deep
-unfoldable pub value_to : ℕ → Data → Option (OrDiscarded AnyValue)
-value_to zero d = None
-value_to (suc levels) d = message (value_in (value_to levels)) d
+unfoldable pub value_to : Bool → ℕ → Data → Option (OrDiscarded AnyValue)
+value_to keeps_doubles zero d = None
+value_to keeps_doubles (suc levels) d = message (value_in (value_to keeps_doubles levels) keeps_doubles) d
 
 -- how many levels are allowed makes no difference to a value that nests within them
 abbrev pub LevelsSuffice : Type 0
-LevelsSuffice = (n m : ℕ) (d : Data) → depth d ≤ n → depth d ≤ m → value_to n d ≡ value_to m d
+LevelsSuffice = (keeps_doubles : Bool) (n m : ℕ) (d : Data) → depth d ≤ n → depth d ≤ m → value_to keeps_doubles n d ≡ value_to keeps_doubles m d
 
 -- `serde_json` reads no text that nests deeper than 127, and each level here takes one of those.
-abbrev pub any_value : Data → Option (OrDiscarded AnyValue)
-any_value = value_to 127
+abbrev pub any_value : Bool → Data → Option (OrDiscarded AnyValue)
+any_value keeps_doubles = value_to keeps_doubles 127
 
 -- the attributes that are kept, and how many were dropped: those already counted, and those discarded
-abbrev pub attributes : Members → Option (List KeyValue × ℕ)
-attributes ms = do
-  all ← list_of (message (key_value any_value)) (field (codes "attributes") ms)
+abbrev pub attributes : Bool → Members → Option (List KeyValue × ℕ)
+attributes keeps_doubles ms = do
+  all ← list_of (message (key_value (any_value keeps_doubles))) (field (codes "attributes") ms)
   dropped ← u32 (field (codes "droppedAttributesCount") ms)
   Some (kept all, min (dropped + discarded all) (2 ^ 32 - 1))
 
@@ -159,26 +189,26 @@ status ms = do
   Some (record { message = message; code = code })
 
 -- a `Span.Event`
-abbrev pub event : Members → Option Event
-event ms = do
+abbrev pub event : Bool → Members → Option Event
+event keeps_doubles ms = do
   time ← u64 (field (codes "timeUnixNano") ms)
   name ← text (field (codes "name") ms)
-  a ← attributes ms
+  a ← attributes keeps_doubles ms
   Some (record { time_unix_nano = time; name = name; attributes = a.0; dropped_attributes_count = a.1 })
 
 -- a `Span.Link`: its ids are kept as the text that came
-abbrev pub link : Members → Option Link
-link ms = do
+abbrev pub link : Bool → Members → Option Link
+link keeps_doubles ms = do
   trace_id ← text (field (codes "traceId") ms)
   span_id ← text (field (codes "spanId") ms)
   trace_state ← text (field (codes "traceState") ms)
-  a ← attributes ms
+  a ← attributes keeps_doubles ms
   flags ← u32 (field (codes "flags") ms)
   Some (record { trace_id = trace_id; span_id = span_id; trace_state = trace_state; attributes = a.0; dropped_attributes_count = a.1; flags = flags })
 
 -- a `Span`
-abbrev pub span : Members → Option Span
-span ms = do
+abbrev pub span : Bool → Members → Option Span
+span keeps_doubles ms = do
   ids ← ids ms
   trace_state ← text (field (codes "traceState") ms)
   flags ← u32 (field (codes "flags") ms)
@@ -186,10 +216,10 @@ span ms = do
   kind ← enum (field (codes "kind") ms)
   start ← u64 (field (codes "startTimeUnixNano") ms)
   end ← u64 (field (codes "endTimeUnixNano") ms)
-  a ← attributes ms
-  events ← list_of (message event) (field (codes "events") ms)
+  a ← attributes keeps_doubles ms
+  events ← list_of (message (event keeps_doubles)) (field (codes "events") ms)
   dropped_events ← u32 (field (codes "droppedEventsCount") ms)
-  links ← list_of (message link) (field (codes "links") ms)
+  links ← list_of (message (link keeps_doubles)) (field (codes "links") ms)
   dropped_links ← u32 (field (codes "droppedLinksCount") ms)
   status ← inner status (field (codes "status") ms)
   Some (record {
@@ -212,15 +242,15 @@ span ms = do
 -- ---- the request
 
 -- a `Resource`
-abbrev pub resource : Members → Option Resource
-resource ms = option_map (λ a. record { attributes = a.0; dropped_attributes_count = a.1 }) (attributes ms)
+abbrev pub resource : Bool → Members → Option Resource
+resource keeps_doubles ms = option_map (λ a. record { attributes = a.0; dropped_attributes_count = a.1 }) (attributes keeps_doubles ms)
 
 -- an `InstrumentationScope`
-abbrev pub scope : Members → Option Scope
-scope ms = do
+abbrev pub scope : Bool → Members → Option Scope
+scope keeps_doubles ms = do
   name ← text (field (codes "name") ms)
   version ← text (field (codes "version") ms)
-  a ← attributes ms
+  a ← attributes keeps_doubles ms
   Some (record { name = name; version = version; attributes = a.0; dropped_attributes_count = a.1 })
 
 -- a message that all of a group share, the messages of the group, and the URL of their schema
@@ -232,17 +262,17 @@ grouped read_shared read_one shared list ms = do
   Some (s, all, url)
 
 -- a `ScopeSpans`
-abbrev pub scope_spans : Members → Option ScopeSpans
-scope_spans ms = option_map (λ g. record { scope = g.0; spans = g.1; schema_url = g.2 }) (grouped scope span (codes "scope") (codes "spans") ms)
+abbrev pub scope_spans : Bool → Members → Option ScopeSpans
+scope_spans keeps_doubles ms = option_map (λ g. record { scope = g.0; spans = g.1; schema_url = g.2 }) (grouped (scope keeps_doubles) (span keeps_doubles) (codes "scope") (codes "spans") ms)
 
 -- a `ResourceSpans`
-abbrev pub resource_spans : Members → Option ResourceSpans
-resource_spans ms = option_map (λ g. record { resource = g.0; scope_spans = g.1; schema_url = g.2 }) (grouped resource scope_spans (codes "resource") (codes "scopeSpans") ms)
+abbrev pub resource_spans : Bool → Members → Option ResourceSpans
+resource_spans keeps_doubles ms = option_map (λ g. record { resource = g.0; scope_spans = g.1; schema_url = g.2 }) (grouped (resource keeps_doubles) (scope_spans keeps_doubles) (codes "resource") (codes "scopeSpans") ms)
 
 -- an `ExportTraceServiceRequest`
-abbrev pub request : Members → Option Request
-request ms = option_map (λ all. record { resource_spans = all }) (list_of (message resource_spans) (field (codes "resourceSpans") ms))
+abbrev pub request : Bool → Members → Option Request
+request keeps_doubles ms = option_map (λ all. record { resource_spans = all }) (list_of (message (resource_spans keeps_doubles)) (field (codes "resourceSpans") ms))
 
 -- the request that a JSON value is, if it is one
-abbrev pub request_of : Data → Option Request
-request_of = message request
+abbrev pub request_of : Bool → Data → Option Request
+request_of keeps_doubles = message (request keeps_doubles)

@@ -1,5 +1,5 @@
 -- Parts of a span. For private clauses.
-use Rattle.std.specs.Prelude.{ℕ, ℤ, codes, Option, Some}
+use Rattle.std.specs.Prelude.{ℕ, ℤ, Bool, codes, Option, Some}
 use Rattle.serde_json.specs.Data.{Members}
 use Rattle.otlp_reading.specs.declared.span.SpanContext.{SpanContext}
 use Rattle.otlp_reading.specs.declared.span.HeldFields.{HeldFields}
@@ -23,11 +23,11 @@ kind_and_times ms = do
   Some (kind, start, end)
 
 -- what it holds, but for its attributes
-abbrev pub held_fields : Members → Option HeldFields
-held_fields ms = do
-  events ← list_of (message event) (field (codes "events") ms)
+abbrev pub held_fields : Bool → Members → Option HeldFields
+held_fields keeps_doubles ms = do
+  events ← list_of (message (event keeps_doubles)) (field (codes "events") ms)
   dropped_events ← u32 (field (codes "droppedEventsCount") ms)
-  links ← list_of (message link) (field (codes "links") ms)
+  links ← list_of (message (link keeps_doubles)) (field (codes "links") ms)
   dropped_links ← u32 (field (codes "droppedLinksCount") ms)
   status ← inner status (field (codes "status") ms)
   Some (record { events = events; dropped_events = dropped_events; links = links; dropped_links = dropped_links; status = status })

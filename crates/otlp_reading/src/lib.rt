@@ -9,6 +9,7 @@ ghost use Rattle.std.specs.Prelude.{IfOk, IsErrOf};
 ghost use Rattle.otlp_reading.specs.Decoding.{IsRequest, IsNoJson, IsNoRequest};
 
 mod bad;
+mod double;
 mod kinds;
 mod message;
 mod request;
@@ -16,6 +17,7 @@ mod span;
 mod value;
 
 pub use bad::Bad;
+pub use double::{double_of_number, double_of_text, kept_double};
 pub use kinds::{first_byte, i64_text, u64_text};
 use message::Message;
 use otlp_types::Request;
@@ -25,16 +27,16 @@ use std::alloc::Global;
 pub use value::ValueKey;
 
 /// The request that the bytes write: JSON in UTF-8, nesting at most 127 deep, read as the JSON encoding of OTLP 1.x
-/// says.
+/// says. Doubles are kept, or an attribute that holds one is discarded and counted.
 ///
 /// `Json` where the bytes are no such text, `Shape` where some field of the value has another shape than its kind.
-pub fn decode(alloc: Global, bytes: &[u8]) -> Result<Request, Bad>
-    ensures ok { IfOk result (IsRequest bytes.now) }
+pub fn decode(alloc: Global, keeps_doubles: bool, bytes: &[u8]) -> Result<Request, Bad>
+    ensures ok { IfOk result (IsRequest keeps_doubles bytes.now) }
     ensures json { IsErrOf result Bad.Json → IsNoJson bytes.now }
-    ensures shape { IsErrOf result Bad.Shape → IsNoRequest bytes.now }
+    ensures shape { IsErrOf result Bad.Shape → IsNoRequest keeps_doubles bytes.now }
 {
     match Value::from_slice(alloc, bytes) {
-        Ok(value) => Request::read(alloc, kinds::object(&value)?),
+        Ok(value) => Request::read(alloc, keeps_doubles, kinds::object(&value)?),
         Err(e) => if e.is_memory() {
             Err(Bad::NoMemory)
         } else {

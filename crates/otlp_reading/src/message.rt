@@ -1,7 +1,7 @@
 //! Messages, and lists of them.
 ghost use Rattle.serde_json.specs.Data.{Members};
 ghost use Rattle.serde_json.specs.View.{view, items_view, members_view};
-ghost use Rattle.std.specs.Prelude.{Option};
+ghost use Rattle.std.specs.Prelude.{Bool, Option};
 ghost use Rattle.otlp_reading.specs.Kinds.{field, each, list_of, message, inner};
 ghost use Rattle.otlp_reading.specs.Gives.{Gives};
 
@@ -13,28 +13,32 @@ use std::alloc::Global;
 
 /// What a JSON object may be read as.
 pub trait Message: Sized {
-    /// The message that an object's members are, if they are one.
-    ghost meaning: { Members → Option Self };
+    /// The message that an object's members are, if they are one, where doubles are kept or not.
+    ghost meaning: { Bool → Members → Option Self };
 
     /// The message. `Shape` where the members are of none.
-    fn read(alloc: Global, members: &Map<String, Value>) -> Result<Self, Bad>
-        ensures { Gives result (meaning (members_view members.now.entries)) };
+    fn read(alloc: Global, keeps_doubles: bool, members: &Map<String, Value>) -> Result<Self, Bad>
+        ensures { Gives result (meaning keeps_doubles (members_view members.now.entries)) };
 }
 
 /// An item of a list: null, as any value that is no object, is of another shape.
-fn read_item<T: Message>(alloc: Global, item: &Value) -> Result<T, Bad>
-    ensures { Gives result (message T.meaning (view item.now)) }
+fn read_item<T: Message>(alloc: Global, keeps_doubles: bool, item: &Value) -> Result<T, Bad>
+    ensures { Gives result (message (T.meaning keeps_doubles) (view item.now)) }
 {
-    T::read(alloc, kinds::object(item)?)
+    T::read(alloc, keeps_doubles, kinds::object(item)?)
 }
 
 /// The messages that the items are.
-fn each<T: Message + Drop>(alloc: Global, items: &[Value]) -> Result<List<T>, Bad>
-    ensures { Gives result (each (message T.meaning) (items_view items.now)) }
+fn each<T: Message + Drop>(
+    alloc: Global,
+    keeps_doubles: bool,
+    items: &[Value],
+) -> Result<List<T>, Bad>
+    ensures { Gives result (each (message (T.meaning keeps_doubles)) (items_view items.now)) }
 {
     let mut all = List::from_vec(Vec::with_capacity(alloc, items.len())?);
     for item in items {
-        all.push(read_item(alloc, item)?)?;
+        all.push(read_item(alloc, keeps_doubles, item)?)?;
     }
     Ok(all)
 }
@@ -42,21 +46,27 @@ fn each<T: Message + Drop>(alloc: Global, items: &[Value]) -> Result<List<T>, Ba
 /// A list in a field. An absent one is empty.
 pub fn list_of<T: Message + Drop>(
     alloc: Global,
+    keeps_doubles: bool,
     members: &Map<String, Value>,
     name: &str,
 ) -> Result<List<T>, Bad>
     ensures { Gives result
-        (list_of (message T.meaning) (field name.now (members_view members.now.entries))) }
+        (list_of (message (T.meaning keeps_doubles)) (field name.now (members_view members.now.entries))) }
 {
-    each(alloc, kinds::items(members, name)?)
+    each(alloc, keeps_doubles, kinds::items(members, name)?)
 }
 
 /// A message in a field. An absent one has all defaults.
-pub fn inner<T: Message>(alloc: Global, members: &Map<String, Value>, name: &str) -> Result<T, Bad>
-    ensures { Gives result (inner T.meaning (field name.now (members_view members.now.entries))) }
+pub fn inner<T: Message>(
+    alloc: Global,
+    keeps_doubles: bool,
+    members: &Map<String, Value>,
+    name: &str,
+) -> Result<T, Bad>
+    ensures { Gives result (inner (T.meaning keeps_doubles) (field name.now (members_view members.now.entries))) }
 {
     match kinds::field(members, name) {
-        Some(value) => T::read(alloc, kinds::object(value)?),
-        None => T::read(alloc, &Map::new(alloc)),
+        Some(value) => T::read(alloc, keeps_doubles, kinds::object(value)?),
+        None => T::read(alloc, keeps_doubles, &Map::new(alloc)),
     }
 }

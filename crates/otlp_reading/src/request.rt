@@ -15,8 +15,12 @@ use std::alloc::Global;
 impl Message for Resource {
     ghost meaning = { resource };
 
-    fn read(alloc: Global, members: &Map<String, Value>) -> Result<Resource, Bad> {
-        let (attributes, dropped_attributes_count) = attributes(alloc, members)?;
+    fn read(
+        alloc: Global,
+        keeps_doubles: bool,
+        members: &Map<String, Value>,
+    ) -> Result<Resource, Bad> {
+        let (attributes, dropped_attributes_count) = attributes(alloc, keeps_doubles, members)?;
         Ok(Resource {
             attributes,
             dropped_attributes_count,
@@ -27,10 +31,14 @@ impl Message for Resource {
 impl Message for Scope {
     ghost meaning = { scope };
 
-    fn read(alloc: Global, members: &Map<String, Value>) -> Result<Scope, Bad> {
+    fn read(
+        alloc: Global,
+        keeps_doubles: bool,
+        members: &Map<String, Value>,
+    ) -> Result<Scope, Bad> {
         let name = kinds::text(alloc, members, "name")?;
         let version = kinds::text(alloc, members, "version")?;
-        let (attributes, dropped_attributes_count) = attributes(alloc, members)?;
+        let (attributes, dropped_attributes_count) = attributes(alloc, keeps_doubles, members)?;
         Ok(Scope {
             name,
             version,
@@ -43,15 +51,16 @@ impl Message for Scope {
 /// A message that all of a group share, the messages of the group, and the URL of their schema.
 fn grouped<S: Message + Drop, T: Message + Drop>(
     alloc: Global,
+    keeps_doubles: bool,
     members: &Map<String, Value>,
     shared: &str,
     list: &str,
 ) -> Result<(S, List<T>, Text), Bad>
     ensures { Gives result
-        (grouped S.meaning T.meaning shared.now list.now (members_view members.now.entries)) }
+        (grouped (S.meaning keeps_doubles) (T.meaning keeps_doubles) shared.now list.now (members_view members.now.entries)) }
 {
-    let shared = inner(alloc, members, shared)?;
-    let all = list_of(alloc, members, list)?;
+    let shared = inner(alloc, keeps_doubles, members, shared)?;
+    let all = list_of(alloc, keeps_doubles, members, list)?;
     let schema_url = kinds::text(alloc, members, "schemaUrl")?;
     Ok((shared, all, schema_url))
 }
@@ -59,8 +68,12 @@ fn grouped<S: Message + Drop, T: Message + Drop>(
 impl Message for ScopeSpans {
     ghost meaning = { scope_spans };
 
-    fn read(alloc: Global, members: &Map<String, Value>) -> Result<ScopeSpans, Bad> {
-        let (scope, spans, schema_url) = grouped(alloc, members, "scope", "spans")?;
+    fn read(
+        alloc: Global,
+        keeps_doubles: bool,
+        members: &Map<String, Value>,
+    ) -> Result<ScopeSpans, Bad> {
+        let (scope, spans, schema_url) = grouped(alloc, keeps_doubles, members, "scope", "spans")?;
         Ok(ScopeSpans {
             scope,
             spans,
@@ -72,9 +85,14 @@ impl Message for ScopeSpans {
 impl Message for ResourceSpans {
     ghost meaning = { resource_spans };
 
-    fn read(alloc: Global, members: &Map<String, Value>) -> Result<ResourceSpans, Bad> {
+    fn read(
+        alloc: Global,
+        keeps_doubles: bool,
+        members: &Map<String, Value>,
+    ) -> Result<ResourceSpans, Bad> {
         let (resource, scope_spans, schema_url) = grouped(
             alloc,
+            keeps_doubles,
             members,
             "resource",
             "scopeSpans",
@@ -90,8 +108,12 @@ impl Message for ResourceSpans {
 impl Message for Request {
     ghost meaning = { request };
 
-    fn read(alloc: Global, members: &Map<String, Value>) -> Result<Request, Bad> {
-        let resource_spans = list_of(alloc, members, "resourceSpans")?;
+    fn read(
+        alloc: Global,
+        keeps_doubles: bool,
+        members: &Map<String, Value>,
+    ) -> Result<Request, Bad> {
+        let resource_spans = list_of(alloc, keeps_doubles, members, "resourceSpans")?;
         Ok(Request { resource_spans })
     }
 }

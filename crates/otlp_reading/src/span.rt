@@ -18,11 +18,15 @@ use std::alloc::Global;
 const LEVELS: usize = 127;
 
 /// The attributes that are kept, and how many were dropped.
-pub fn attributes(alloc: Global, members: &Map<String, Value>) -> Result<(List<KeyValue>, u32), Bad>
-    ensures { Gives result (attributes (members_view members.now.entries)) }
+pub fn attributes(
+    alloc: Global,
+    keeps_doubles: bool,
+    members: &Map<String, Value>,
+) -> Result<(List<KeyValue>, u32), Bad>
+    ensures { Gives result (attributes keeps_doubles (members_view members.now.entries)) }
 {
     let items = kinds::items(members, "attributes")?;
-    let (kept, discarded) = key_values(alloc, items, LEVELS)?;
+    let (kept, discarded) = key_values(alloc, keeps_doubles, items, LEVELS)?;
     let counted = kinds::u32(members, "droppedAttributesCount")?;
     Ok((kept, dropped(counted, discarded)))
 }
@@ -76,9 +80,13 @@ fn ids(members: &Map<String, Value>) -> Result<Option<Ids>, Bad>
 }
 
 impl Message for Status {
-    ghost meaning = { status };
+    ghost meaning = { λ _. status };
 
-    fn read(alloc: Global, members: &Map<String, Value>) -> Result<Status, Bad> {
+    fn read(
+        alloc: Global,
+        keeps_doubles: bool,
+        members: &Map<String, Value>,
+    ) -> Result<Status, Bad> {
         let message = kinds::text(alloc, members, "message")?;
         let code = kinds::enumeration(members, "code")?;
         Ok(Status { message, code })
@@ -88,10 +96,14 @@ impl Message for Status {
 impl Message for Event {
     ghost meaning = { event };
 
-    fn read(alloc: Global, members: &Map<String, Value>) -> Result<Event, Bad> {
+    fn read(
+        alloc: Global,
+        keeps_doubles: bool,
+        members: &Map<String, Value>,
+    ) -> Result<Event, Bad> {
         let time_unix_nano = kinds::u64(members, "timeUnixNano")?;
         let name = kinds::text(alloc, members, "name")?;
-        let (attributes, dropped_attributes_count) = attributes(alloc, members)?;
+        let (attributes, dropped_attributes_count) = attributes(alloc, keeps_doubles, members)?;
         Ok(Event {
             time_unix_nano,
             name,
@@ -104,11 +116,11 @@ impl Message for Event {
 impl Message for Link {
     ghost meaning = { link };
 
-    fn read(alloc: Global, members: &Map<String, Value>) -> Result<Link, Bad> {
+    fn read(alloc: Global, keeps_doubles: bool, members: &Map<String, Value>) -> Result<Link, Bad> {
         let trace_id = kinds::text(alloc, members, "traceId")?;
         let span_id = kinds::text(alloc, members, "spanId")?;
         let trace_state = kinds::text(alloc, members, "traceState")?;
-        let (attributes, dropped_attributes_count) = attributes(alloc, members)?;
+        let (attributes, dropped_attributes_count) = attributes(alloc, keeps_doubles, members)?;
         let flags = kinds::u32(members, "flags")?;
         Ok(Link {
             trace_id,
@@ -162,14 +174,18 @@ struct HeldFields {
     status: Status,
 }
 
-fn held_fields(alloc: Global, members: &Map<String, Value>) -> Result<HeldFields, Bad>
-    ensures { Gives result (held_fields (members_view members.now.entries)) }
+fn held_fields(
+    alloc: Global,
+    keeps_doubles: bool,
+    members: &Map<String, Value>,
+) -> Result<HeldFields, Bad>
+    ensures { Gives result (held_fields keeps_doubles (members_view members.now.entries)) }
 {
-    let events = list_of(alloc, members, "events")?;
+    let events = list_of(alloc, keeps_doubles, members, "events")?;
     let dropped_events = kinds::u32(members, "droppedEventsCount")?;
-    let links = list_of(alloc, members, "links")?;
+    let links = list_of(alloc, keeps_doubles, members, "links")?;
     let dropped_links = kinds::u32(members, "droppedLinksCount")?;
-    let status = inner(alloc, members, "status")?;
+    let status = inner(alloc, keeps_doubles, members, "status")?;
     Ok(HeldFields {
         events,
         dropped_events,
@@ -182,12 +198,12 @@ fn held_fields(alloc: Global, members: &Map<String, Value>) -> Result<HeldFields
 impl Message for Span {
     ghost meaning = { span };
 
-    fn read(alloc: Global, members: &Map<String, Value>) -> Result<Span, Bad> {
+    fn read(alloc: Global, keeps_doubles: bool, members: &Map<String, Value>) -> Result<Span, Bad> {
         let context = context(alloc, members)?;
         let name = kinds::text(alloc, members, "name")?;
         let (kind, start_time_unix_nano, end_time_unix_nano) = kind_and_times(members)?;
-        let (attributes, dropped_attributes_count) = attributes(alloc, members)?;
-        let held = held_fields(alloc, members)?;
+        let (attributes, dropped_attributes_count) = attributes(alloc, keeps_doubles, members)?;
+        let held = held_fields(alloc, keeps_doubles, members)?;
         Ok(Span {
             ids: context.ids,
             trace_state: context.trace_state,

@@ -1,12 +1,13 @@
-//! Values of attributes. `None` stands for a value that holds a double.
+//! Values of attributes. `None` stands for a value that holds a double that isn't kept.
 ghost use Rattle.std.specs.Prelude.{◌≡◌, ◌+◌, ◌-◌, ◌^◌, ◌<◌, ◌==◌, ◌++◌, ◌∷◌, [], Some, None, IfOk, OnOk, codes, option_map, if◌then◌else◌};
 ghost use Rattle.serde_json.specs.View.{view, items_view, members_view};
 ghost use Rattle.otlp_reading.specs.Kinds.{field, items, each, message};
 ghost use Rattle.otlp_reading.specs.Gives.{Gives, GivesAs};
-ghost use Rattle.otlp_reading.specs.Reading.{value_member, value_members, at_most_one, kept, discarded, sieved, key_value, value_by, value_to};
+ghost use Rattle.otlp_reading.specs.Reading.{value_member, value_members, at_most_one, kept, discarded, sieved, key_value, double_value, value_by, value_to};
 
 use crate::bad::Bad;
-use crate::kinds;
+use crate::double::kept_double;
+use crate::{double, kinds};
 use otlp_types::{AnyValue, KeyValue, List};
 use serde_json::{Map, Value};
 use std::alloc::{AllocError, Global};
@@ -76,14 +77,19 @@ fn only_value_member(members: &Map<String, Value>) -> Result<Option<(ValueKey, &
 
 /// A value that nests at most so many levels deep.
 #[cycle(value)]
-fn value_to(alloc: Global, value: &Value, levels: usize) -> Result<Option<AnyValue>, Bad>
-    ensures { Gives result (value_to levels (view value.now)) }
+fn value_to(
+    alloc: Global,
+    keeps_doubles: bool,
+    value: &Value,
+    levels: usize,
+) -> Result<Option<AnyValue>, Bad>
+    ensures { Gives result (value_to keeps_doubles levels (view value.now)) }
 {
     if levels == 0 {
         return Err(Bad::Shape);
     }
     match only_value_member(kinds::object(value)?)? {
-        Some((key, inner)) => value_by(alloc, key, inner, levels - 1),
+        Some((key, inner)) => value_by(alloc, keeps_doubles, key, inner, levels - 1),
         None => Ok(Some(AnyValue::Empty)),
     }
 }
@@ -92,27 +98,38 @@ fn value_to(alloc: Global, value: &Value, levels: usize) -> Result<Option<AnyVal
 #[cycle(value)]
 fn value_by(
     alloc: Global,
+    keeps_doubles: bool,
     key: ValueKey,
     value: &Value,
     levels: usize,
 ) -> Result<Option<AnyValue>, Bad>
-    ensures { Gives result (value_by (value_to levels) key (view value.now)) }
+    ensures { Gives result (value_by (value_to keeps_doubles levels) keeps_doubles key (view value.now)) }
 {
     match key {
         ValueKey::Str => Ok(Some(AnyValue::Str(kinds::text_of(alloc, value)?))),
         ValueKey::Bool => Ok(Some(AnyValue::Bool(kinds::bool_of(value)?))),
         ValueKey::Int => Ok(Some(AnyValue::Int(kinds::i64_of(value)?))),
-        ValueKey::Double => Ok(None),
+        ValueKey::Double => double_value(keeps_doubles, value),
         ValueKey::Array => {
-            let (kept, discarded) = values(alloc, listed(value)?, levels)?;
+            let (kept, discarded) = values(alloc, keeps_doubles, listed(value)?, levels)?;
             Ok(unless_discarded(discarded, AnyValue::Array(kept)))
         }
         ValueKey::KvList => {
-            let (kept, discarded) = key_values(alloc, listed(value)?, levels)?;
+            let (kept, discarded) = key_values(alloc, keeps_doubles, listed(value)?, levels)?;
             Ok(unless_discarded(discarded, AnyValue::KvList(kept)))
         }
         ValueKey::Bytes => Ok(Some(AnyValue::Bytes(kinds::text_of(alloc, value)?))),
     }
+}
+
+/// A double, whatever stands there where doubles are discarded.
+fn double_value(keeps_doubles: bool, value: &Value) -> Result<Option<AnyValue>, Bad>
+    ensures { Gives result (double_value keeps_doubles (view value.now)) }
+{
+    if !keeps_doubles {
+        return Ok(None);
+    }
+    Ok(kept_double(double::double_of(value).ok_or(Bad::Shape)?))
 }
 
 /// The items of an `ArrayValue` or of a `KeyValueList`.
@@ -165,12 +182,17 @@ impl<T: Drop> Sieve<T> {
 
 /// The values that are kept, and how many are discarded.
 #[cycle(value)]
-fn values(alloc: Global, items: &[Value], levels: usize) -> Result<(List<AnyValue>, usize), Bad>
-    ensures { Gives result (option_map sieved (each (value_to levels) (items_view items.now))) }
+fn values(
+    alloc: Global,
+    keeps_doubles: bool,
+    items: &[Value],
+    levels: usize,
+) -> Result<(List<AnyValue>, usize), Bad>
+    ensures { Gives result (option_map sieved (each (value_to keeps_doubles levels) (items_view items.now))) }
 {
     let mut all = Sieve::new(alloc, items.len())?;
     for item in items {
-        all.take(value_to(alloc, item, levels)?)?;
+        all.take(value_to(alloc, keeps_doubles, item, levels)?)?;
     }
     Ok((all.kept, all.discarded))
 }
@@ -179,28 +201,34 @@ fn values(alloc: Global, items: &[Value], levels: usize) -> Result<(List<AnyValu
 #[cycle(value)]
 pub fn key_values(
     alloc: Global,
+    keeps_doubles: bool,
     items: &[Value],
     levels: usize,
 ) -> Result<(List<KeyValue>, usize), Bad>
     ensures { Gives result
-        (option_map sieved (each (message (key_value (value_to levels))) (items_view items.now))) }
+        (option_map sieved (each (message (key_value (value_to keeps_doubles levels))) (items_view items.now))) }
 {
     let mut all = Sieve::new(alloc, items.len())?;
     for item in items {
-        all.take(key_value(alloc, item, levels)?)?;
+        all.take(key_value(alloc, keeps_doubles, item, levels)?)?;
     }
     Ok((all.kept, all.discarded))
 }
 
 /// A pair.
 #[cycle(value)]
-fn key_value(alloc: Global, item: &Value, levels: usize) -> Result<Option<KeyValue>, Bad>
-    ensures { Gives result (message (key_value (value_to levels)) (view item.now)) }
+fn key_value(
+    alloc: Global,
+    keeps_doubles: bool,
+    item: &Value,
+    levels: usize,
+) -> Result<Option<KeyValue>, Bad>
+    ensures { Gives result (message (key_value (value_to keeps_doubles levels)) (view item.now)) }
 {
     let members = kinds::object(item)?;
     let key = kinds::text(alloc, members, "key")?;
     match kinds::field(members, "value") {
-        Some(inner) => match value_to(alloc, inner, levels)? {
+        Some(inner) => match value_to(alloc, keeps_doubles, inner, levels)? {
             Some(value) => Ok(Some(KeyValue { key, value })),
             None => Ok(None),
         },

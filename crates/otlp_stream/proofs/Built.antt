@@ -1,6 +1,6 @@
 -- What is built of the fields of a span.
 -- For the contract of `build`.
-use Rattle.std.proofs.Common.{◌≡◌, ℕ, ◌+◌, ◌-◌, ◌^◌, min, List, Option, Some, None, option_map, option_and_then, codes, refl, sym, ap, ◌∙◌}
+use Rattle.std.proofs.Common.{◌≡◌, ℕ, Bool, ◌+◌, ◌-◌, ◌^◌, min, List, Option, Some, None, option_map, option_and_then, codes, refl, sym, ap, ◌∙◌}
 use Rattle.serde_json.specs.Data.{Members}
 use Rattle.span_ids.specs.Id.{id_of}
 use Rattle.otlp_types.specs.declared.span.Ids.{Ids}
@@ -39,10 +39,10 @@ ids_built ms tr id pa r e0 e1 e2 is =
 abbrev counted_with : Option (List (OrDiscarded KeyValue)) → Option ℕ → Option (List KeyValue × ℕ)
 counted_with all d = option_and_then (λ a. option_and_then (λ n. Some (kept a, min (n + discarded a) (2 ^ 32 - 1))) d) all
 
-pub attributes_built : (ms : Members) (k : Kept KeyValue) (n r : ℕ) → kept_attributes (field (codes "attributes") ms) ≡ Some k → u32 (field (codes "droppedAttributesCount") ms) ≡ Some n
-    → r ≡ min (n + k.discarded) (2 ^ 32 - 1) → attributes ms ≡ Some (k.kept, r)
-attributes_built ms k n r e0 e1 is =
-    let read = message (key_value any_value) in
+pub attributes_built : (keeps_doubles : Bool) (ms : Members) (k : Kept KeyValue) (n r : ℕ) → kept_attributes keeps_doubles (field (codes "attributes") ms) ≡ Some k → u32 (field (codes "droppedAttributesCount") ms) ≡ Some n
+    → r ≡ min (n + k.discarded) (2 ^ 32 - 1) → attributes keeps_doubles ms ≡ Some (k.kept, r)
+attributes_built keeps_doubles ms k n r e0 e1 is =
+    let read = message (key_value (any_value keeps_doubles)) in
     let all = list_of read (field (codes "attributes") ms) in
     let b = mapped (λ xs. record { kept = kept xs; discarded = discarded xs }) all k e0 in
     ap (λ all. counted_with all (u32 (field (codes "droppedAttributesCount") ms))) b.1
@@ -50,7 +50,7 @@ attributes_built ms k n r e0 e1 is =
     ∙ ap (λ x. Some (x.kept, min (n + x.discarded) (2 ^ 32 - 1))) b.2 ∙ ap (λ x. Some (k.kept, x)) (sym is)
 
 -- a resource has nothing but its attributes
-pub attributes_of : (ms : Members) (r : Resource) → resource ms ≡ Some r → attributes ms ≡ Some (r.attributes, r.dropped_attributes_count)
-attributes_of ms r e =
-    let a = mapped (λ p. record { attributes = p.0; dropped_attributes_count = p.1 }) (attributes ms) r e in
+pub attributes_of : (keeps_doubles : Bool) (ms : Members) (r : Resource) → resource keeps_doubles ms ≡ Some r → attributes keeps_doubles ms ≡ Some (r.attributes, r.dropped_attributes_count)
+attributes_of keeps_doubles ms r e =
+    let a = mapped (λ p. record { attributes = p.0; dropped_attributes_count = p.1 }) (attributes keeps_doubles ms) r e in
     a.1 ∙ ap (λ x. Some (x.attributes, x.dropped_attributes_count)) a.2

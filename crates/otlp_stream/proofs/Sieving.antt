@@ -1,6 +1,6 @@
 -- Values of attributes among the tokens, and lists of which some items are discarded.
 -- For the contract of `value`.
-use Rattle.std.proofs.Common.{◌≡◌, ℕ, zero, suc, ◌+◌, ◌-◌, List, [], ◌∷◌, ◌++◌, codes, Option, Some, None, option_map, option_and_then, refl, sym, ap, ◌∙◌, arith, subst}
+use Rattle.std.proofs.Common.{◌≡◌, ℕ, zero, suc, ◌+◌, ◌-◌, List, [], ◌∷◌, ◌++◌, codes, Option, Some, None, option_map, option_and_then, refl, sym, ap, ◌∙◌, arith, subst, Bool}
 use Rattle.std.specs.Prelude.{if◌then◌else◌, ◌==◌}
 use Rattle.json.specs.Token.{Token}
 use Rattle.json.specs.Json.{read_key, after_end_array}
@@ -124,59 +124,59 @@ held_any x depth old new d t there = record { found = d; takes = t; is = ap (opt
 
 -- ---- values
 
-one_value : (value : Data → Option (OrDiscarded AnyValue)) (key : ValueKey) (o : Option Data) (x : OrDiscarded AnyValue) → option_and_then (value_by value key) o ≡ Some x
-    → option_and_then (value_of_member value) (at_most_one (option_to_list (option_map (λ e. (key, e)) o) ++ [])) ≡ Some x
-one_value value key None x e = absurd (cc)
-one_value value key (Some d) x e = e
+one_value : (keeps_doubles : Bool) (value : Data → Option (OrDiscarded AnyValue)) (key : ValueKey) (o : Option Data) (x : OrDiscarded AnyValue) → option_and_then (value_by value keeps_doubles key) o ≡ Some x
+    → option_and_then (value_of_member value keeps_doubles) (at_most_one (option_to_list (option_map (λ e. (key, e)) o) ++ [])) ≡ Some x
+one_value keeps_doubles value key None x e = absurd (cc)
+one_value keeps_doubles value key (Some d) x e = e
 
-value_held : (value : Data → Option (OrDiscarded AnyValue)) (key : ValueKey) (k : List ℕ) (d : Data) (x : OrDiscarded AnyValue) → Some key ≡ value_key k → held (value_by value key) d ≡ Some x
-    → value_in value (put k d no_members) ≡ Some x
-value_held value key k d x named e =
-    ap (λ v. option_and_then (value_of_member value) (at_most_one (option_to_list (option_and_then (λ c. option_map (λ f. (c, f)) (unless_null d)) v) ++ []))) (sym named)
-    ∙ one_value value key (unless_null d) x e
+value_held : (keeps_doubles : Bool) (value : Data → Option (OrDiscarded AnyValue)) (key : ValueKey) (k : List ℕ) (d : Data) (x : OrDiscarded AnyValue) → Some key ≡ value_key k → held (value_by value keeps_doubles key) d ≡ Some x
+    → value_in value keeps_doubles (put k d no_members) ≡ Some x
+value_held keeps_doubles value key k d x named e =
+    ap (λ v. option_and_then (value_of_member value keeps_doubles) (at_most_one (option_to_list (option_and_then (λ c. option_map (λ f. (c, f)) (unless_null d)) v) ++ []))) (sym named)
+    ∙ one_value keeps_doubles value key (unless_null d) x e
 
-module _ (levels : ℕ) (some : levels ≡ 0 → ⊥) (depth : ℕ) (old s new : List Token) (h : depth ≡ 0 → ⊥) (e : old ≡ Token.begin_object ∷ s) where
-  pub value_empty : read_key s ≡ Some (None, new) → TakesAs (value_to levels) depth old new (Some Empty)
-  value_empty over = record { found = object no_members; takes = takes_empty depth old s new h e over; is = value_to-step levels (object no_members) some }
+module _ (keeps_doubles : Bool) (levels : ℕ) (some : levels ≡ 0 → ⊥) (depth : ℕ) (old s new : List Token) (h : depth ≡ 0 → ⊥) (e : old ≡ Token.begin_object ∷ s) where
+  pub value_empty : read_key s ≡ Some (None, new) → TakesAs (value_to keeps_doubles levels) depth old new (Some Empty)
+  value_empty over = record { found = object no_members; takes = takes_empty depth old s new h e over; is = value_to-step keeps_doubles levels (object no_members) some }
 
   pub value_one : (key : ValueKey) (k : List ℕ) (t u : List Token) (x : OrDiscarded AnyValue) → Some key ≡ value_key k → read_key s ≡ Some (Some k, t)
-      → TakesAs (held (value_by (value_to (levels - 1)) key)) (depth - 1) t u x → read_key u ≡ Some (None, new) → TakesAs (value_to levels) depth old new x
+      → TakesAs (held (value_by (value_to keeps_doubles (levels - 1)) keeps_doubles key)) (depth - 1) t u x → read_key u ≡ Some (None, new) → TakesAs (value_to keeps_doubles levels) depth old new x
   value_one key k t u x named next m over = record {
     found = object (put k m.found no_members);
     takes = takes_one depth old s new h e k t u m.found next m.takes over;
-    is = value_to-step levels (object (put k m.found no_members)) some ∙ value_held (value_to (levels - 1)) key k m.found x named m.is;
+    is = value_to-step keeps_doubles levels (object (put k m.found no_members)) some ∙ value_held keeps_doubles (value_to keeps_doubles (levels - 1)) key k m.found x named m.is;
   }
 
 -- ---- pairs
 
-value_there : (n : ℕ) (d : Data) (x : OrDiscarded AnyValue) → value_to n d ≡ Some x → unless_null d ≡ Some d
+value_there : (keeps_doubles : Bool) (n : ℕ) (d : Data) (x : OrDiscarded AnyValue) → value_to keeps_doubles n d ≡ Some x → unless_null d ≡ Some d
 unfolding value_to
-value_there zero null x e = absurd (cc)
-value_there (suc n) null x e = absurd (cc)
-value_there n (boolean b) x e = refl
-value_there n (number m) x e = refl
-value_there n (string s) x e = refl
-value_there n (array ds) x e = refl
-value_there n (object ms) x e = refl
+value_there keeps_doubles zero null x e = absurd (cc)
+value_there keeps_doubles (suc n) null x e = absurd (cc)
+value_there keeps_doubles n (boolean b) x e = refl
+value_there keeps_doubles n (number m) x e = refl
+value_there keeps_doubles n (string s) x e = refl
+value_there keeps_doubles n (array ds) x e = refl
+value_there keeps_doubles n (object ms) x e = refl
 
 abbrev pair_of : (Data → Option (OrDiscarded AnyValue)) → Option (List ℕ) → Option Data → Option (OrDiscarded KeyValue)
 pair_of value n o = option_and_then (λ name. option_and_then (λ v. Some (option_map (λ x. record { key = name; value = x }) v)) (read_or (Some Empty) value o)) n
 
-module _ (levels : ℕ) (depth : ℕ) (old s new : List Token) (h : depth ≡ 0 → ⊥) (e : old ≡ Token.begin_object ∷ s) where
+module _ (keeps_doubles : Bool) (levels : ℕ) (depth : ℕ) (old s new : List Token) (h : depth ≡ 0 → ⊥) (e : old ≡ Token.begin_object ∷ s) where
   pub pair_key : (t u : List Token) (name : List ℕ) → read_key s ≡ Some (Some (codes "key"), t) → TakesAs (present text) (depth - 1) t u name → read_key u ≡ Some (None, new)
-      → TakesAs (message (key_value (value_to levels))) depth old new (Some (record { key = name; value = Empty }))
+      → TakesAs (message (key_value (value_to keeps_doubles levels))) depth old new (Some (record { key = name; value = Empty }))
   pair_key t u name key m over =
       let ms = put (codes "key") m.found no_members in
       let named : text (field (codes "key") ms) ≡ Some name = ap text (field_put (codes "key") m.found no_members) ∙ m.is in
       let none : field (codes "value") ms ≡ None = field_put_other (codes "value") (codes "key") m.found no_members refl in
-      record { found = object ms; takes = takes_one depth old s new h e (codes "key") t u m.found key m.takes over; is = ap (λ n. pair_of (value_to levels) n (field (codes "value") ms)) named ∙ ap (pair_of (value_to levels) (Some name)) none }
+      record { found = object ms; takes = takes_one depth old s new h e (codes "key") t u m.found key m.takes over; is = ap (λ n. pair_of (value_to keeps_doubles levels) n (field (codes "value") ms)) named ∙ ap (pair_of (value_to keeps_doubles levels) (Some name)) none }
 
   pub pair_both : (t u v x : List Token) (name : List ℕ) (a : OrDiscarded AnyValue) (r : OrDiscarded KeyValue) → read_key s ≡ Some (Some (codes "key"), t) → TakesAs (present text) (depth - 1) t u name
-      → read_key u ≡ Some (Some (codes "value"), v) → TakesAs (value_to levels) (depth - 1) v x a → read_key x ≡ Some (None, new) → r ≡ option_map (λ y. record { key = name; value = y }) a
-      → TakesAs (message (key_value (value_to levels))) depth old new r
+      → read_key u ≡ Some (Some (codes "value"), v) → TakesAs (value_to keeps_doubles levels) (depth - 1) v x a → read_key x ≡ Some (None, new) → r ≡ option_map (λ y. record { key = name; value = y }) a
+      → TakesAs (message (key_value (value_to keeps_doubles levels))) depth old new r
   pair_both t u v x name a r key m key2 m2 over is =
       let ms = put (codes "key") m.found no_members in
       let both = put (codes "value") m2.found ms in
       let named : text (field (codes "key") both) ≡ Some name = ap text (field_put_other (codes "key") (codes "value") m2.found ms refl ∙ field_put (codes "key") m.found no_members) ∙ m.is in
-      let there : field (codes "value") both ≡ Some m2.found = field_put (codes "value") m2.found ms ∙ value_there levels m2.found a m2.is in
-      record { found = object both; takes = takes_two depth old s new h e (codes "key") (codes "value") t u v x m.found m2.found key m.takes key2 m2.takes over; is = ap (λ n. pair_of (value_to levels) n (field (codes "value") both)) named ∙ ap (pair_of (value_to levels) (Some name)) there ∙ ap (λ o. option_and_then (λ v. Some (option_map (λ y. record { key = name; value = y }) v)) o) m2.is ∙ ap Some (sym is) }
+      let there : field (codes "value") both ≡ Some m2.found = field_put (codes "value") m2.found ms ∙ value_there keeps_doubles levels m2.found a m2.is in
+      record { found = object both; takes = takes_two depth old s new h e (codes "key") (codes "value") t u v x m.found m2.found key m.takes key2 m2.takes over; is = ap (λ n. pair_of (value_to keeps_doubles levels) n (field (codes "value") both)) named ∙ ap (pair_of (value_to keeps_doubles levels) (Some name)) there ∙ ap (λ o. option_and_then (λ v. Some (option_map (λ y. record { key = name; value = y }) v)) o) m2.is ∙ ap Some (sym is) }

@@ -1,20 +1,21 @@
 -- Single values among the tokens.
 -- For the contracts of `enumeration`, `held_bool`, `held_double`, `held_i64` and others.
-use Rattle.std.proofs.Common.{◌≡◌, ℕ, ◌<◌, List, ◌∷◌, drop, length, Bool, Option, Some, None, option_and_then, refl, sym, ap, ◌∙◌, arith}
+use Rattle.std.proofs.Common.{◌≡◌, ℕ, ◌<◌, List, ◌∷◌, drop, length, Bool, Option, Some, None, option_map, option_and_then, refl, sym, ap, ◌∙◌, arith}
 use Rattle.json.specs.Token.{Token}
 use Rattle.json.specs.Json.{value}
 use Rattle.json.proofs.Grammar.{value_is}
 use Rattle.serde_json.specs.Data.{Num, Data, null, boolean, number, string}
 use Rattle.serde_json.specs.Read.{of_json, number_of, converted}
 use Rattle.otlp_stream.specs.Taking.{Takes, TakesAs, present, held}
-use Rattle.serde_json.specs.Find.{as_str, as_bool}
+use Rattle.serde_json.specs.Find.{as_str, as_bool, to_float}
 use Rattle.std.proofs.Common.{ℤ, pos, negsuc, ◌^◌, ◌≢◌, true, false, cond, lt-ltb, ne_eqb, eq-eqb, nat_lt, sym}
 use Rattle.std.specs.Prelude.{slice_index, SomeIff, IfSome}
-use Rattle.std.specs.Float.{binary64, float_is_finite}
+use Rattle.std.specs.Float.{Float, binary64, float_is_finite}
 use Rattle.fast_float.specs.Text.{Parts, scan, digits_of, nearest, IsInteger}
 use Rattle.serde_json.specs.Data.{unsigned, float}
 use Rattle.serde_json.specs.Read.{number_from, float_of}
 use Rattle.otlp_reading.specs.Kinds.{text, enum, u32, u64, whole, whole_text, natural_below, signed_within, unless_null, i64_value}
+use Rattle.otlp_reading.specs.Reading.{double_of, double_of_text}
 
 one_less : (old : List Token) (t : Token) (new : List Token) → old ≡ t ∷ new → length new < length old
 one_less old t new e = rw e (omega arith)
@@ -110,3 +111,15 @@ held_i64_string depth old new s z e is = record { found = string s; takes = take
 
 pub held_i64_number : (depth : ℕ) (old new : List Token) (s : List ℕ) (n : ℕ) → old ≡ Token.number s ∷ new → number_of s ≡ Some (unsigned n) → n < 2 ^ 63 → TakesAs (held i64_value) depth old new (pos n)
 held_i64_number depth old new s n e is fits = record { found = number (unsigned n); takes = takes_number depth old new s (unsigned n) e is; is = within n (2 ^ 63) fits }
+
+pub held_double_string : (depth : ℕ) (old new : List Token) (s : List ℕ) (x : Float) → old ≡ Token.string s ∷ new → double_of_text s ≡ Some x → TakesAs (held double_of) depth old new x
+held_double_string depth old new s x e is = record { found = string s; takes = takes_string depth old new s e; is = is }
+
+number_read : (o : Option Num) (x : Float) → option_map to_float o ≡ Some x → (n : Num) × (o ≡ Some n) × (Some (to_float n) ≡ Some x)
+number_read None x e = absurd (cc)
+number_read (Some n) x e = (n, refl, e)
+
+pub held_double_number : (depth : ℕ) (old new : List Token) (s : List ℕ) (x : Float) → old ≡ Token.number s ∷ new → option_map to_float (number_of s) ≡ Some x → TakesAs (held double_of) depth old new x
+held_double_number depth old new s x e is =
+    let n = number_read (number_of s) x is in
+    record { found = number n.0; takes = takes_number depth old new s n.0 e n.1; is = n.2 }

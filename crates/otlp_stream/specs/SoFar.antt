@@ -1,5 +1,5 @@
 -- What was read of each message, by what stands under each name. For private clauses.
-use Rattle.std.specs.Prelude.{◌≡◌, ℕ, List, codes, Option, Some, option_map}
+use Rattle.std.specs.Prelude.{◌≡◌, ℕ, Bool, List, codes, Option, Some, option_map}
 use Rattle.serde_json.specs.Data.{Data}
 use Rattle.span_ids.specs.Id.{id_of}
 use Rattle.otlp_types.specs.declared.span.Status.{Status}
@@ -18,8 +18,8 @@ use Rattle.otlp_reading.specs.Reading.{any_value, key_value, parent_of, status, 
 use Rattle.otlp_stream.specs.Taking.{sieved_list}
 
 -- the attributes of a field: those that are kept, and how many are discarded
-abbrev pub kept_attributes : Option Data → Option (Kept KeyValue)
-kept_attributes = sieved_list (message (key_value any_value))
+abbrev pub kept_attributes : Bool → Option Data → Option (Kept KeyValue)
+kept_attributes keeps_doubles = sieved_list (message (key_value (any_value keeps_doubles)))
 
 abbrev pub trace_field : Option Data → Option (Option (List ℕ))
 trace_field o = option_map (id_of 16) (text o)
@@ -31,9 +31,9 @@ abbrev pub parent_field : Option Data → Option (Option (Option (List ℕ)))
 parent_field o = option_map parent_of (text o)
 
 -- `seen` says what stands under each name
-module _ (seen : List ℕ → Option Data) where
+module _ (keeps_doubles : Bool) (seen : List ℕ → Option Data) where
   abbrev pub AttributesSoFar : AttributesPart → Type 0
-  AttributesSoFar p = (kept_attributes (seen (codes "attributes")) ≡ Some p.attributes) × (u32 (seen (codes "droppedAttributesCount")) ≡ Some p.counted)
+  AttributesSoFar p = (kept_attributes keeps_doubles (seen (codes "attributes")) ≡ Some p.attributes) × (u32 (seen (codes "droppedAttributesCount")) ≡ Some p.counted)
 
   abbrev pub StatusSoFar : Status → Type 0
   StatusSoFar p = (text (seen (codes "message")) ≡ Some p.message) × (enum (seen (codes "code")) ≡ Some p.code)
@@ -60,9 +60,9 @@ module _ (seen : List ℕ → Option Data) where
       × (enum (seen (codes "kind")) ≡ Some p.span.kind)
       × (u64 (seen (codes "startTimeUnixNano")) ≡ Some p.span.start_time_unix_nano)
       × (u64 (seen (codes "endTimeUnixNano")) ≡ Some p.span.end_time_unix_nano)
-      × (list_of (message event) (seen (codes "events")) ≡ Some p.span.events)
+      × (list_of (message (event keeps_doubles)) (seen (codes "events")) ≡ Some p.span.events)
       × (u32 (seen (codes "droppedEventsCount")) ≡ Some p.span.dropped_events_count)
-      × (list_of (message link) (seen (codes "links")) ≡ Some p.span.links)
+      × (list_of (message (link keeps_doubles)) (seen (codes "links")) ≡ Some p.span.links)
       × (u32 (seen (codes "droppedLinksCount")) ≡ Some p.span.dropped_links_count)
       × (inner status (seen (codes "status")) ≡ Some p.span.status)
       × AttributesSoFar p.rest
@@ -71,10 +71,10 @@ module _ (seen : List ℕ → Option Data) where
   ScopeSoFar p = (text (seen (codes "name")) ≡ Some p.name) × (text (seen (codes "version")) ≡ Some p.version) × AttributesSoFar p.rest
 
   abbrev pub ScopeSpansSoFar : ScopeSpans → Type 0
-  ScopeSpansSoFar p = (inner scope (seen (codes "scope")) ≡ Some p.scope) × (list_of (message span) (seen (codes "spans")) ≡ Some p.spans) × (text (seen (codes "schemaUrl")) ≡ Some p.schema_url)
+  ScopeSpansSoFar p = (inner (scope keeps_doubles) (seen (codes "scope")) ≡ Some p.scope) × (list_of (message (span keeps_doubles)) (seen (codes "spans")) ≡ Some p.spans) × (text (seen (codes "schemaUrl")) ≡ Some p.schema_url)
 
   abbrev pub ResourceSpansSoFar : ResourceSpans → Type 0
-  ResourceSpansSoFar p = (inner resource (seen (codes "resource")) ≡ Some p.resource) × (list_of (message scope_spans) (seen (codes "scopeSpans")) ≡ Some p.scope_spans) × (text (seen (codes "schemaUrl")) ≡ Some p.schema_url)
+  ResourceSpansSoFar p = (inner (resource keeps_doubles) (seen (codes "resource")) ≡ Some p.resource) × (list_of (message (scope_spans keeps_doubles)) (seen (codes "scopeSpans")) ≡ Some p.scope_spans) × (text (seen (codes "schemaUrl")) ≡ Some p.schema_url)
 
   abbrev pub RequestSoFar : Request → Type 0
-  RequestSoFar p = (list_of (message resource_spans) (seen (codes "resourceSpans")) ≡ Some p.resource_spans)
+  RequestSoFar p = (list_of (message (resource_spans keeps_doubles)) (seen (codes "resourceSpans")) ≡ Some p.resource_spans)

@@ -16,10 +16,15 @@ use std::alloc::Global;
 const LEVELS: usize = 127;
 
 /// The attributes in a field.
-fn attributes(alloc: Global, reader: &mut Reader<'_>, depth: usize) -> Result<Kept<KeyValue>, Stop>
-    ensures { IfOk result (λ x. TakesAs (present kept_attributes) depth reader.old reader.new x) }
+fn attributes(
+    alloc: Global,
+    keeps_doubles: bool,
+    reader: &mut Reader<'_>,
+    depth: usize,
+) -> Result<Kept<KeyValue>, Stop>
+    ensures { IfOk result (λ x. TakesAs (present (kept_attributes keeps_doubles)) depth reader.old reader.new x) }
 {
-    let found = key_values(alloc, reader, depth, LEVELS)?;
+    let found = key_values(alloc, keeps_doubles, reader, depth, LEVELS)?;
     Ok(Kept {
         kept: fitted(found.kept),
         discarded: found.discarded,
@@ -60,12 +65,16 @@ impl Building for AttributesPart {
     fn field(
         &mut self,
         alloc: Global,
+        keeps_doubles: bool,
         reader: &mut Reader<'_>,
         depth: usize,
         name: &str,
     ) -> Result<(), Stop> {
         match name {
-            "attributes" => put(&mut self.attributes, attributes(alloc, reader, depth)),
+            "attributes" => put(
+                &mut self.attributes,
+                attributes(alloc, keeps_doubles, reader, depth),
+            ),
             "droppedAttributesCount" => put(&mut self.counted, number_u32(reader)),
             _ => skip(reader, depth),
         }

@@ -40,6 +40,7 @@ impl Building for ScopeParts {
     fn field(
         &mut self,
         alloc: Global,
+        keeps_doubles: bool,
         reader: &mut Reader<'_>,
         depth: usize,
         name: &str,
@@ -47,7 +48,7 @@ impl Building for ScopeParts {
         match name {
             "name" => put(&mut self.name, text(alloc, reader)),
             "version" => put(&mut self.version, text(alloc, reader)),
-            _ => self.rest.field(alloc, reader, depth, name),
+            _ => self.rest.field(alloc, keeps_doubles, reader, depth, name),
         }
     }
 
@@ -81,13 +82,20 @@ impl Building for ScopeSpans {
     fn field(
         &mut self,
         alloc: Global,
+        keeps_doubles: bool,
         reader: &mut Reader<'_>,
         depth: usize,
         name: &str,
     ) -> Result<(), Stop> {
         match name {
-            "scope" => put(&mut self.scope, message::<ScopeParts>(alloc, reader, depth)),
-            "spans" => put(&mut self.spans, list_of::<SpanParts>(alloc, reader, depth)),
+            "scope" => put(
+                &mut self.scope,
+                message::<ScopeParts>(alloc, keeps_doubles, reader, depth),
+            ),
+            "spans" => put(
+                &mut self.spans,
+                list_of::<SpanParts>(alloc, keeps_doubles, reader, depth),
+            ),
             "schemaUrl" => put(&mut self.schema_url, text(alloc, reader)),
             _ => skip(reader, depth),
         }
@@ -117,6 +125,7 @@ impl Building for ResourceSpans {
     fn field(
         &mut self,
         alloc: Global,
+        keeps_doubles: bool,
         reader: &mut Reader<'_>,
         depth: usize,
         name: &str,
@@ -124,11 +133,11 @@ impl Building for ResourceSpans {
         match name {
             "resource" => put(
                 &mut self.resource,
-                message::<AttributesPart>(alloc, reader, depth),
+                message::<AttributesPart>(alloc, keeps_doubles, reader, depth),
             ),
             "scopeSpans" => put(
                 &mut self.scope_spans,
-                list_of::<ScopeSpans>(alloc, reader, depth),
+                list_of::<ScopeSpans>(alloc, keeps_doubles, reader, depth),
             ),
             "schemaUrl" => put(&mut self.schema_url, text(alloc, reader)),
             _ => skip(reader, depth),
@@ -157,6 +166,7 @@ impl Building for Request {
     fn field(
         &mut self,
         alloc: Global,
+        keeps_doubles: bool,
         reader: &mut Reader<'_>,
         depth: usize,
         name: &str,
@@ -164,7 +174,7 @@ impl Building for Request {
         match name {
             "resourceSpans" => put(
                 &mut self.resource_spans,
-                list_of::<ResourceSpans>(alloc, reader, depth),
+                list_of::<ResourceSpans>(alloc, keeps_doubles, reader, depth),
             ),
             _ => skip(reader, depth),
         }
@@ -176,11 +186,15 @@ impl Building for Request {
 }
 
 /// The request that the bytes write, where they are plain. `Err` only where memory was refused.
-pub fn plain_request(alloc: Global, bytes: &[u8]) -> Result<Option<Request>, Bad>
-    ensures plain { IfOk result (λ found. IfSome found (IsRequest bytes.now)) }
+pub fn plain_request(
+    alloc: Global,
+    keeps_doubles: bool,
+    bytes: &[u8],
+) -> Result<Option<Request>, Bad>
+    ensures plain { IfOk result (λ found. IfSome found (IsRequest keeps_doubles bytes.now)) }
     ensures memory { IfErr result (λ e. e ≡ Bad.NoMemory) }
 {
-    match message_of::<Request>(alloc, bytes) {
+    match message_of::<Request>(alloc, keeps_doubles, bytes) {
         Ok(request) => Ok(Some(request)),
         Err(Stop::Declined) => Ok(None),
         Err(Stop::NoMemory) => Err(Bad::NoMemory),

@@ -63,7 +63,7 @@ fn valid_ids(
 impl Building for Status {
     type Message = Status;
 
-    ghost meaning = { status };
+    ghost meaning = { λ _. status };
 
     ghost so_far = { StatusSoFar };
 
@@ -77,6 +77,7 @@ impl Building for Status {
     fn field(
         &mut self,
         alloc: Global,
+        keeps_doubles: bool,
         reader: &mut Reader<'_>,
         depth: usize,
         name: &str,
@@ -120,6 +121,7 @@ impl Building for EventParts {
     fn field(
         &mut self,
         alloc: Global,
+        keeps_doubles: bool,
         reader: &mut Reader<'_>,
         depth: usize,
         name: &str,
@@ -127,7 +129,7 @@ impl Building for EventParts {
         match name {
             "timeUnixNano" => put(&mut self.time, number_u64(reader)),
             "name" => put(&mut self.name, text(alloc, reader)),
-            _ => self.rest.field(alloc, reader, depth, name),
+            _ => self.rest.field(alloc, keeps_doubles, reader, depth, name),
         }
     }
 
@@ -173,6 +175,7 @@ impl Building for LinkParts {
     fn field(
         &mut self,
         alloc: Global,
+        keeps_doubles: bool,
         reader: &mut Reader<'_>,
         depth: usize,
         name: &str,
@@ -182,7 +185,7 @@ impl Building for LinkParts {
             "spanId" => put(&mut self.span_id, text(alloc, reader)),
             "traceState" => put(&mut self.trace_state, text(alloc, reader)),
             "flags" => put(&mut self.flags, number_u32(reader)),
-            _ => self.rest.field(alloc, reader, depth, name),
+            _ => self.rest.field(alloc, keeps_doubles, reader, depth, name),
         }
     }
 
@@ -230,6 +233,7 @@ impl Building for SpanParts {
     fn field(
         &mut self,
         alloc: Global,
+        keeps_doubles: bool,
         reader: &mut Reader<'_>,
         depth: usize,
         name: &str,
@@ -246,19 +250,19 @@ impl Building for SpanParts {
             "endTimeUnixNano" => put(&mut self.span.end_time_unix_nano, number_u64(reader)),
             "events" => put(
                 &mut self.span.events,
-                list_of::<EventParts>(alloc, reader, depth),
+                list_of::<EventParts>(alloc, keeps_doubles, reader, depth),
             ),
             "droppedEventsCount" => put(&mut self.span.dropped_events_count, number_u32(reader)),
             "links" => put(
                 &mut self.span.links,
-                list_of::<LinkParts>(alloc, reader, depth),
+                list_of::<LinkParts>(alloc, keeps_doubles, reader, depth),
             ),
             "droppedLinksCount" => put(&mut self.span.dropped_links_count, number_u32(reader)),
             "status" => put(
                 &mut self.span.status,
-                message::<Status>(alloc, reader, depth),
+                message::<Status>(alloc, keeps_doubles, reader, depth),
             ),
-            _ => self.rest.field(alloc, reader, depth, name),
+            _ => self.rest.field(alloc, keeps_doubles, reader, depth, name),
         }
     }
 

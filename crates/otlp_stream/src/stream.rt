@@ -1,5 +1,5 @@
 //! Messages, read from tokens with no tree. What isn't plain is declined.
-ghost use Rattle.std.specs.Prelude.{◌≡◌, ℕ, List, Option, Some, None, IfOk, OnOk};
+ghost use Rattle.std.specs.Prelude.{◌≡◌, ℕ, Bool, List, Option, Some, None, IfOk, OnOk};
 ghost use Rattle.serde_json.specs.Data.{Data, Members};
 ghost use Rattle.serde_json.specs.Read.{read};
 ghost use Rattle.otlp_reading.specs.Decoding.{IsJson};
@@ -19,47 +19,50 @@ pub trait Building: Sized {
     /// The message.
     type Message;
 
-    /// The message that an object's members are, if they are one.
-    ghost meaning: { Members → Option Self.Message };
+    /// The message that an object's members are, if they are one, where doubles are kept or not.
+    ghost meaning: { Bool → Members → Option Self.Message };
 
     /// What was read of the fields, by what stands under each name.
-    ghost so_far: { (List ℕ → Option Data) → Self → Type 0 };
+    ghost so_far: { Bool → (List ℕ → Option Data) → Self → Type 0 };
 
     /// Before the first field.
     fn start(alloc: Global) -> Self
-        ensures { so_far (λ _. None) result };
+        ensures { (keeps_doubles : Bool) → so_far keeps_doubles (λ _. None) result };
 
     /// Takes the value of a field, or of a member that is none.
     fn field(
         &mut self,
         alloc: Global,
+        keeps_doubles: bool,
         reader: &mut Reader<'_>,
         depth: usize,
         name: &str,
     ) -> Result<(), Stop>
         ensures { OnOk result
-            (TakesField so_far depth name.now self.old reader.old self.new reader.new) };
+            (TakesField (so_far keeps_doubles) depth name.now self.old reader.old self.new reader.new) };
 
     /// After the last field.
     fn build(self) -> Self::Message
-        ensures { (ms : Members) → so_far (fields_of ms) self → meaning ms ≡ Some result };
+        ensures { (keeps_doubles : Bool) (ms : Members) → so_far keeps_doubles (fields_of ms) self
+            → meaning keeps_doubles ms ≡ Some result };
 }
 
 /// The message, of the members from here to the end of the object.
 #[inline(always)]
 fn members<B: Building + Drop>(
     alloc: Global,
+    keeps_doubles: bool,
     reader: &mut Reader<'_>,
     depth: usize,
 ) -> Result<B::Message, Stop>
-    ensures { IfOk result (λ x. TakesMembers B.meaning depth reader.old reader.new x) }
+    ensures { IfOk result (λ x. TakesMembers (B.meaning keeps_doubles) depth reader.old reader.new x) }
 {
     let mut built = B::start(alloc);
     'members: for _ in 0..u64::MAX {
         let Some(name) = reader.next_key()? else {
             return Ok(built.build());
         };
-        built.field(alloc, reader, depth, name)?;
+        built.field(alloc, keeps_doubles, reader, depth, name)?;
     }
     Err(Stop::Declined)
 }
@@ -68,26 +71,28 @@ fn members<B: Building + Drop>(
 #[inline(always)]
 pub fn message<B: Building + Drop>(
     alloc: Global,
+    keeps_doubles: bool,
     reader: &mut Reader<'_>,
     depth: usize,
 ) -> Result<B::Message, Stop>
-    ensures item { IfOk result (λ x. TakesAs (message B.meaning) depth reader.old reader.new x) }
-    ensures field { IfOk result (λ x. TakesAs (present (inner B.meaning)) depth reader.old reader.new x) }
+    ensures item { IfOk result (λ x. TakesAs (message (B.meaning keeps_doubles)) depth reader.old reader.new x) }
+    ensures field { IfOk result (λ x. TakesAs (present (inner (B.meaning keeps_doubles))) depth reader.old reader.new x) }
 {
     begin_object(reader, depth)?;
-    members::<B>(alloc, reader, depth - 1)
+    members::<B>(alloc, keeps_doubles, reader, depth - 1)
 }
 
 /// A list of messages in a field.
 pub fn list_of<B: Building + Drop>(
     alloc: Global,
+    keeps_doubles: bool,
     reader: &mut Reader<'_>,
     depth: usize,
 ) -> Result<List<B::Message>, Stop>
 where
     B::Message: Drop,
     ensures { IfOk result
-        (λ xs. TakesAs (present (list_of (message B.meaning))) depth reader.old reader.new xs) }
+        (λ xs. TakesAs (present (list_of (message (B.meaning keeps_doubles)))) depth reader.old reader.new xs) }
 {
     begin_array(reader, depth)?;
     let mut all = List::new(alloc);
@@ -95,21 +100,25 @@ where
         if reader.take_end_array() {
             return Ok(all);
         }
-        all.push(message::<B>(alloc, reader, depth - 1)?)?;
+        all.push(message::<B>(alloc, keeps_doubles, reader, depth - 1)?)?;
     }
     Err(Stop::Declined)
 }
 
 /// The message that a whole text is.
-fn whole<B: Building + Drop>(alloc: Global, text: &str) -> Result<B::Message, Stop>
+fn whole<B: Building + Drop>(
+    alloc: Global,
+    keeps_doubles: bool,
+    text: &str,
+) -> Result<B::Message, Stop>
 where
     B::Message: Drop,
     ensures { IfOk result
-        (λ x. (d : Data) × (read text.now ≡ Some d) × (message B.meaning d ≡ Some x)) }
+        (λ x. (d : Data) × (read text.now ≡ Some d) × (message (B.meaning keeps_doubles) d ≡ Some x)) }
 {
     let mut scratch = Scratch::new(alloc);
     let mut reader = Reader::new(text, &mut scratch)?;
-    let found = message::<B>(alloc, &mut reader, DEPTH)?;
+    let found = message::<B>(alloc, keeps_doubles, &mut reader, DEPTH)?;
     match reader.next() {
         None => Ok(found),
         Some(_) => Err(Stop::Declined),
@@ -117,14 +126,18 @@ where
 }
 
 /// The message that the bytes are.
-pub fn message_of<B: Building + Drop>(alloc: Global, bytes: &[u8]) -> Result<B::Message, Stop>
+pub fn message_of<B: Building + Drop>(
+    alloc: Global,
+    keeps_doubles: bool,
+    bytes: &[u8],
+) -> Result<B::Message, Stop>
 where
     B::Message: Drop,
     ensures { IfOk result
-        (λ x. (d : Data) × IsJson bytes.now d × (message B.meaning d ≡ Some x)) }
+        (λ x. (d : Data) × IsJson bytes.now d × (message (B.meaning keeps_doubles) d ≡ Some x)) }
 {
     match simdutf8::compat::from_utf8(bytes) {
-        Ok(text) => whole::<B>(alloc, text),
+        Ok(text) => whole::<B>(alloc, keeps_doubles, text),
         Err(_) => Err(Stop::Declined),
     }
 }

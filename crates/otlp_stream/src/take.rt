@@ -7,13 +7,14 @@ ghost use Rattle.serde_json.specs.Data.{Data, Items, Members, Num, unsigned};
 ghost use Rattle.serde_json.specs.Read.{number_of, number_from};
 ghost use Rattle.serde_json.specs.Find.{as_str, as_bool};
 ghost use Rattle.otlp_reading.specs.Kinds.{text, enum, u32, u64, i64_value, unless_null};
+ghost use Rattle.otlp_reading.specs.Reading.{double_of, double_value};
 ghost use Rattle.otlp_stream.specs.declared.take.Stop.TheVariants.{Declined, NoMemory};
 ghost use Rattle.otlp_stream.specs.Taking.{Takes, TakesAs, TakesItems, TakesMembers, present, held};
 
 use fast_float::Numeral;
 use json::{Invalid, Reader, Token};
-use otlp_reading::{first_byte, i64_text, u64_text};
-use otlp_types::Text;
+use otlp_reading::{double_of_number, double_of_text, first_byte, i64_text, kept_double, u64_text};
+use otlp_types::{AnyValue, Text};
 use std::alloc::{AllocError, Global};
 
 /// Why the fast way gave up.
@@ -202,9 +203,40 @@ pub fn held_i64(reader: &mut Reader<'_>) -> Result<i64, Stop>
     }
 }
 
-/// A double that is there.
+/// A double that is there, if it is kept.
 #[inline(always)]
-pub fn held_double(reader: &mut Reader<'_>) -> Result<(), Stop>
+pub fn held_double(keeps_doubles: bool, reader: &mut Reader<'_>) -> Result<Option<AnyValue>, Stop>
+    ensures { IfOk result (λ x. (depth : ℕ)
+        → TakesAs (held (double_value keeps_doubles)) depth reader.old reader.new x) }
+{
+    if keeps_doubles {
+        Ok(kept_double(double(reader)?))
+    } else {
+        discarded_double(reader)?;
+        Ok(None)
+    }
+}
+
+/// The double that a number or a text is.
+fn double(reader: &mut Reader<'_>) -> Result<f64, Stop>
+    ensures { IfOk result (λ x. (depth : ℕ) → TakesAs (held double_of) depth reader.old reader.new x) }
+{
+    match reader.next() {
+        Some(Token::Number(text)) => match double_of_number(text) {
+            Some(x) => Ok(x),
+            None => Err(Stop::Declined),
+        },
+        Some(Token::String(text)) => match double_of_text(text) {
+            Some(x) => Ok(x),
+            None => Err(Stop::Declined),
+        },
+        _ => Err(Stop::Declined),
+    }
+}
+
+/// Passes over a number or a text.
+#[inline(always)]
+fn discarded_double(reader: &mut Reader<'_>) -> Result<(), Stop>
     ensures { OnOk result ((depth : ℕ) → (d : Data) × Takes depth reader.old reader.new d × (unless_null d ≡ Some d)) }
 {
     match reader.next() {

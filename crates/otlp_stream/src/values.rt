@@ -68,11 +68,12 @@ impl<T: Drop> Kept<T> {
 #[cycle(value)]
 fn value_to(
     alloc: Global,
+    keeps_doubles: bool,
     reader: &mut Reader<'_>,
     depth: usize,
     levels: usize,
 ) -> Result<Option<AnyValue>, Stop>
-    ensures { IfOk result (λ x. TakesAs (value_to levels) depth reader.old reader.new x) }
+    ensures { IfOk result (λ x. TakesAs (value_to keeps_doubles levels) depth reader.old reader.new x) }
 {
     begin_object(reader, depth)?;
     if levels == 0 {
@@ -84,7 +85,7 @@ fn value_to(
     let Some(key) = ValueKey::named(name) else {
         return Err(Stop::Declined);
     };
-    let value = value_by(alloc, reader, depth - 1, levels - 1, key)?;
+    let value = value_by(alloc, keeps_doubles, reader, depth - 1, levels - 1, key)?;
     end_object(reader)?;
     Ok(value)
 }
@@ -93,23 +94,21 @@ fn value_to(
 #[cycle(value)]
 fn value_by(
     alloc: Global,
+    keeps_doubles: bool,
     reader: &mut Reader<'_>,
     depth: usize,
     levels: usize,
     key: ValueKey,
 ) -> Result<Option<AnyValue>, Stop>
-    ensures { IfOk result (λ x. TakesAs (held (value_by (value_to levels) key)) depth reader.old reader.new x) }
+    ensures { IfOk result (λ x. TakesAs (held (value_by (value_to keeps_doubles levels) keeps_doubles key)) depth reader.old reader.new x) }
 {
     match key {
         ValueKey::Str => Ok(Some(AnyValue::Str(held_text(alloc, reader)?))),
         ValueKey::Bool => Ok(Some(AnyValue::Bool(held_bool(reader)?))),
         ValueKey::Int => Ok(Some(AnyValue::Int(held_i64(reader)?))),
-        ValueKey::Double => {
-            held_double(reader)?;
-            Ok(None)
-        }
-        ValueKey::Array => array(alloc, reader, depth, levels),
-        ValueKey::KvList => kv_list(alloc, reader, depth, levels),
+        ValueKey::Double => held_double(keeps_doubles, reader),
+        ValueKey::Array => array(alloc, keeps_doubles, reader, depth, levels),
+        ValueKey::KvList => kv_list(alloc, keeps_doubles, reader, depth, levels),
         ValueKey::Bytes => Ok(Some(AnyValue::Bytes(held_text(alloc, reader)?))),
     }
 }
@@ -118,19 +117,20 @@ fn value_by(
 #[cycle(value)]
 fn array(
     alloc: Global,
+    keeps_doubles: bool,
     reader: &mut Reader<'_>,
     depth: usize,
     levels: usize,
 ) -> Result<Option<AnyValue>, Stop>
     ensures { IfOk result (λ x. TakesAs
-        (held (λ d. option_map (option_map Array) (message (values (value_to levels)) d)))
+        (held (λ d. option_map (option_map Array) (message (values (value_to keeps_doubles levels)) d)))
         depth reader.old reader.new x) }
 {
     begin_object(reader, depth)?;
     if !has_next(reader, "values")? {
         return Ok(Some(AnyValue::Array(List::new(alloc))));
     }
-    let found = all_values(alloc, reader, depth - 1, levels)?;
+    let found = all_values(alloc, keeps_doubles, reader, depth - 1, levels)?;
     end_object(reader)?;
     match found.whole() {
         Some(all) => Ok(Some(AnyValue::Array(all))),
@@ -142,19 +142,20 @@ fn array(
 #[cycle(value)]
 fn kv_list(
     alloc: Global,
+    keeps_doubles: bool,
     reader: &mut Reader<'_>,
     depth: usize,
     levels: usize,
 ) -> Result<Option<AnyValue>, Stop>
     ensures { IfOk result (λ x. TakesAs
-        (held (λ d. option_map (option_map KvList) (message (pairs (value_to levels)) d)))
+        (held (λ d. option_map (option_map KvList) (message (pairs (value_to keeps_doubles levels)) d)))
         depth reader.old reader.new x) }
 {
     begin_object(reader, depth)?;
     if !has_next(reader, "values")? {
         return Ok(Some(AnyValue::KvList(List::new(alloc))));
     }
-    let found = key_values(alloc, reader, depth - 1, levels)?;
+    let found = key_values(alloc, keeps_doubles, reader, depth - 1, levels)?;
     end_object(reader)?;
     match found.whole() {
         Some(all) => Ok(Some(AnyValue::KvList(all))),
@@ -166,11 +167,12 @@ fn kv_list(
 #[cycle(value)]
 fn all_values(
     alloc: Global,
+    keeps_doubles: bool,
     reader: &mut Reader<'_>,
     depth: usize,
     levels: usize,
 ) -> Result<Kept<AnyValue>, Stop>
-    ensures { IfOk result (λ x. TakesAs (present (sieved_list (value_to levels))) depth reader.old reader.new x) }
+    ensures { IfOk result (λ x. TakesAs (present (sieved_list (value_to keeps_doubles levels))) depth reader.old reader.new x) }
 {
     begin_array(reader, depth)?;
     let mut found = Kept::none(alloc);
@@ -178,7 +180,7 @@ fn all_values(
         if reader.take_end_array() {
             return Ok(found);
         }
-        found.take(value_to(alloc, reader, depth - 1, levels)?)?;
+        found.take(value_to(alloc, keeps_doubles, reader, depth - 1, levels)?)?;
     }
     Err(Stop::Declined)
 }
@@ -187,11 +189,12 @@ fn all_values(
 #[cycle(value)]
 pub fn key_values(
     alloc: Global,
+    keeps_doubles: bool,
     reader: &mut Reader<'_>,
     depth: usize,
     levels: usize,
 ) -> Result<Kept<KeyValue>, Stop>
-    ensures { IfOk result (λ x. TakesAs (present (sieved_list (message (key_value (value_to levels)))))
+    ensures { IfOk result (λ x. TakesAs (present (sieved_list (message (key_value (value_to keeps_doubles levels)))))
         depth reader.old reader.new x) }
 {
     begin_array(reader, depth)?;
@@ -200,7 +203,7 @@ pub fn key_values(
         if reader.take_end_array() {
             return Ok(found);
         }
-        found.take(pair(alloc, reader, depth - 1, levels)?)?;
+        found.take(pair(alloc, keeps_doubles, reader, depth - 1, levels)?)?;
     }
     Err(Stop::Declined)
 }
@@ -209,11 +212,12 @@ pub fn key_values(
 #[cycle(value)]
 fn pair(
     alloc: Global,
+    keeps_doubles: bool,
     reader: &mut Reader<'_>,
     depth: usize,
     levels: usize,
 ) -> Result<Option<KeyValue>, Stop>
-    ensures { IfOk result (λ x. TakesAs (message (key_value (value_to levels))) depth reader.old reader.new x) }
+    ensures { IfOk result (λ x. TakesAs (message (key_value (value_to keeps_doubles levels))) depth reader.old reader.new x) }
 {
     begin_object(reader, depth)?;
     if !has_next(reader, "key")? {
@@ -226,7 +230,7 @@ fn pair(
             value: AnyValue::Empty,
         }));
     }
-    let value = value_to(alloc, reader, depth - 1, levels)?;
+    let value = value_to(alloc, keeps_doubles, reader, depth - 1, levels)?;
     end_object(reader)?;
     match value {
         Some(value) => Ok(Some(KeyValue { key, value })),

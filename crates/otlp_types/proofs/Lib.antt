@@ -1,2 +1,4 @@
 pub mod Samples
 pub mod Sent
+mod Doubles
+mod Rows

@@ -6,6 +6,7 @@
 #![tactic(auto)]
 
 mod arrival;
+mod double;
 mod list;
 mod request;
 mod shared;
@@ -13,6 +14,7 @@ mod span;
 mod value;
 
 pub use arrival::{Arrival, Item, Record, Shipment};
+pub use double::Double;
 pub use list::{List, Text, TryClone};
 pub use request::{Request, Resource, ResourceSpans, Scope, ScopeSpans};
 pub use shared::Shared;

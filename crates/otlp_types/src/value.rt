@@ -1,10 +1,11 @@
 //! Attributes and their values (OTLP 1.x, `common.proto` v1).
 ghost use Rattle.std.specs.Prelude.{◌≡◌, IfOk};
 
+use crate::double::Double;
 use crate::list::{List, Text, TryClone};
 use std::alloc::{AllocError, Global};
 
-/// The value of an attribute (`common.proto` v1, `AnyValue`). Floating-point values are not kept.
+/// The value of an attribute (`common.proto` v1, `AnyValue`).
 #[cycle(value)]
 #[derive(Drop)]
 pub enum AnyValue {
@@ -13,6 +14,7 @@ pub enum AnyValue {
     Str(Text),
     Bool(bool),
     Int(i64),
+    Double(Double),
     Array(List<AnyValue>),
     KvList(List<KeyValue>),
     /// The base64 text that came, not decoded.
@@ -36,6 +38,7 @@ fn clone_value(alloc: Global, value: &AnyValue) -> Result<AnyValue, AllocError>
         AnyValue::Str(text) => Ok(AnyValue::Str(text.try_clone(alloc)?)),
         AnyValue::Bool(b) => Ok(AnyValue::Bool(*b)),
         AnyValue::Int(n) => Ok(AnyValue::Int(*n)),
+        AnyValue::Double(x) => Ok(AnyValue::Double(*x)),
         AnyValue::Array(values) => Ok(AnyValue::Array(clone_values(alloc, values)?)),
         AnyValue::KvList(pairs) => Ok(AnyValue::KvList(clone_pairs(alloc, pairs)?)),
         AnyValue::Bytes(text) => Ok(AnyValue::Bytes(text.try_clone(alloc)?)),

@@ -48,8 +48,8 @@ pub struct Readings {
 /// Reads a body both ways. `Err` where memory was refused.
 pub fn read(alloc: Global, body: &[u8]) -> Result<Readings, AllocError> {
     let is_plain = is_plain(alloc, body)?;
-    let decoded = answer_of(alloc, otlp_json::decode(alloc, body))?;
-    let by_tree = answer_of(alloc, otlp_reading::decode(alloc, body))?;
+    let decoded = answer_of(alloc, otlp_json::decode(alloc, false, body))?;
+    let by_tree = answer_of(alloc, otlp_reading::decode(alloc, false, body))?;
     Ok(Readings {
         is_plain,
         decoded,

@@ -1,5 +1,5 @@
 //! A table of bodies with what each is read as: the canonical text of its request, or a refusal. Each row of
-//! `readings.tsv` is a body, a tab, and the expected answer. The answers come from another implementation of the
+//! `readings.tsv`, of `doubles.tsv` where doubles are kept, is a body, a tab, and the expected answer. The answers come from another implementation of the
 //! formats (OTLP 1.x, JSON encoding). The gate runs it and compares what it prints.
 //!
 //! A body for which memory is refused is read again, and the rows after it too, and then the program ends with status
@@ -14,12 +14,12 @@ use std::process::ExitCode;
 use std::{fs, io};
 
 /// Whether a row's body is read as it says. `Err` where memory was refused.
-fn holds(alloc: Global, row: &[u8]) -> Result<bool, AllocError> {
+fn holds(alloc: Global, keeps_doubles: bool, row: &[u8]) -> Result<bool, AllocError> {
     let Some(tab) = row.iter().position(|byte| *byte == b'\t') else {
         return Ok(false);
     };
     let expected = &row[tab + 1..];
-    match decode(alloc, &row[..tab]) {
+    match decode(alloc, keeps_doubles, &row[..tab]) {
         Ok(request) => {
             let text = encode(alloc, &request)?;
             Ok(text.as_slice() == expected && keeps_records(alloc, request)?)
@@ -37,28 +37,48 @@ fn keeps_records(alloc: Global, request: Request) -> Result<bool, AllocError> {
     Ok(grouped.len() == records.len())
 }
 
-fn main(rt: HostRuntime) -> io::Result<ExitCode> {
-    let table = fs::read(&rt, "readings.tsv")?;
-    let mut rows = 0u64;
-    let mut wrong = 0u64;
-    let mut refused = false;
+/// How many rows of a table there are, how many are read otherwise, and whether memory was refused.
+#[derive(Drop)]
+struct Counted {
+    rows: u64,
+    wrong: u64,
+    refused: bool,
+}
+
+/// Reads the rows of a table.
+fn count(rt: &HostRuntime, table: &[u8], keeps_doubles: bool) -> io::Result<Counted> {
+    let mut found = Counted {
+        rows: 0,
+        wrong: 0,
+        refused: false,
+    };
     for row in table.split(|byte| *byte == b'\n') {
         if row.is_empty() {
             continue;
         }
-        rows = rows.saturating_add(1);
-        let right = match holds(rt.alloc(), row) {
+        found.rows = found.rows.saturating_add(1);
+        let right = match holds(rt.alloc(), keeps_doubles, row) {
             Ok(right) => right,
             Err(_) => {
-                refused = true;
-                holds(rt.alloc(), row)?
+                found.refused = true;
+                holds(rt.alloc(), keeps_doubles, row)?
             }
         };
         if !right {
-            wrong = wrong.saturating_add(1);
-            println!(rt; "row {rows} is read otherwise")?;
+            found.wrong = found.wrong.saturating_add(1);
+            let row = found.rows;
+            println!(rt; "row {row} is read otherwise")?;
         }
     }
+    Ok(found)
+}
+
+fn main(rt: HostRuntime) -> io::Result<ExitCode> {
+    let discarded = count(&rt, &fs::read(&rt, "readings.tsv")?, false)?;
+    let kept = count(&rt, &fs::read(&rt, "doubles.tsv")?, true)?;
+    let rows = discarded.rows.saturating_add(kept.rows);
+    let wrong = discarded.wrong.saturating_add(kept.wrong);
     println!(rt; "{rows} readings, {wrong} wrong")?;
+    let refused = discarded.refused || kept.refused;
     Ok(ExitCode::from(if refused { 1 } else { 0 }))
 }

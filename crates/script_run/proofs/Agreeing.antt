@@ -212,14 +212,14 @@ value_same body d e h g = let both : Some d ≡ Some e = sym h.1 ∙ g.1 in cc
 -- a body is taken for one thing, but for a refusal as busy
 pub reading_same : (body : List ℕ) (p q : Reading) → IsTakenFor body p → IsTakenFor body q → (p ≡ refuses Busy → ⊥) → (q ≡ refuses Busy → ⊥) → p ≡ q
 reading_same body (reads a) (reads b) h g m n =
-    let both : Some a ≡ Some b = sym h.2 ∙ (ap request_of (value_same body h.0 g.0 h.1 g.1) ∙ g.2) in
+    let both : Some a ≡ Some b = sym h.2 ∙ (ap (request_of false) (value_same body h.0 g.0 h.1 g.1) ∙ g.2) in
     let same : a ≡ b = cc in ap (λ (z : Request). reads z) same
 reading_same body (reads a) (refuses (BadData Json)) h g m n = absurd (g h.0 h.1)
 reading_same body (reads a) (refuses (BadData Shape)) h g m n =
-    let both : Some a ≡ None = sym h.2 ∙ (ap request_of (value_same body h.0 g.0 h.1 g.1) ∙ g.2) in absurd (cc both)
+    let both : Some a ≡ None = sym h.2 ∙ (ap (request_of false) (value_same body h.0 g.0 h.1 g.1) ∙ g.2) in absurd (cc both)
 reading_same body (refuses (BadData Json)) (reads b) h g m n = absurd (h g.0 g.1)
 reading_same body (refuses (BadData Shape)) (reads b) h g m n =
-    let both : Some b ≡ None = sym g.2 ∙ (ap request_of (value_same body g.0 h.0 g.1 h.1) ∙ h.2) in absurd (cc both)
+    let both : Some b ≡ None = sym g.2 ∙ (ap (request_of false) (value_same body g.0 h.0 g.1 h.1) ∙ h.2) in absurd (cc both)
 reading_same body (refuses (BadData Json)) (refuses (BadData Json)) h g m n = refl
 reading_same body (refuses (BadData Shape)) (refuses (BadData Shape)) h g m n = refl
 reading_same body (refuses (BadData Json)) (refuses (BadData Shape)) h g m n = absurd (h g.0 g.1)

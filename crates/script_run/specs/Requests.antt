@@ -1,5 +1,5 @@
 -- What a request gives: a reply, and its spans.
-use Rattle.std.specs.Prelude.{◌≡◌, ℕ, List, ◌++◌, Some, None, codes, decimal}
+use Rattle.std.specs.Prelude.{◌≡◌, ℕ, List, ◌++◌, Some, None, codes, decimal, false}
 use Rattle.serde_json.specs.Data.{Data}
 use Rattle.otlp_reading.specs.Decoding.{IsJson}
 use Rattle.otlp_reading.specs.Reading.{request_of}
@@ -20,9 +20,9 @@ pub data Reading : Type 0 where
 
 -- a body is refused as no JSON or of the wrong shape only where it is; for want of memory, or of numbers, any body may be refused as busy
 abbrev pub IsTakenFor : List ℕ → Reading → Type 0
-IsTakenFor body (reads request) = (d : Data) × IsJson body d × (request_of d ≡ Some request)
+IsTakenFor body (reads request) = (d : Data) × IsJson body d × (request_of false d ≡ Some request)
 IsTakenFor body (refuses (BadData Json)) = (d : Data) → IsJson body d → ⊥
-IsTakenFor body (refuses (BadData Shape)) = (d : Data) × IsJson body d × (request_of d ≡ None)
+IsTakenFor body (refuses (BadData Shape)) = (d : Data) × IsJson body d × (request_of false d ≡ None)
 IsTakenFor body (refuses Busy) = Unit {0}
 IsTakenFor body (refuses (Done spans)) = ⊥
 IsTakenFor body (refuses (Partial spans invalid full)) = ⊥

@@ -36,7 +36,7 @@ refusal Busy e = tt
 
 -- the cause of a refusal
 pub refused : (reply : Reply) (body : List ℕ) → is_received reply ≡ false → (reply ≡ BadRequest Json → (d : Data) → IsJson body d → ⊥)
-    → (reply ≡ BadRequest Shape → (d : Data) × IsJson body d × (request_of d ≡ None)) → IsTakenFor body (refuses reply)
+    → (reply ≡ BadRequest Shape → (d : Data) × IsJson body d × (request_of false d ≡ None)) → IsTakenFor body (refuses reply)
 refused (Done spans) body e json shape = absurd (cc e)
 refused (Partial spans invalid full) body e json shape = absurd (cc e)
 refused (BadRequest Json) body e json shape = json refl
@@ -46,7 +46,7 @@ refused Busy body e json shape = tt
 -- a request that was read
 pub submits-read : (old mid new : Contacts) (number moment : ℕ) (body : List ℕ) (before after lane_before lane_after : List (QueueState Item)) (reply : Reply) (conn conn_after : Conn)
     → conn ≡ connection_of number old → mid ≡ with_connection number old → new ≡ record mid { connections = insert_entry nat_eq mid.connections number conn_after } → lane_before ≡ before → after ≡ lane_after
-    → ((d : Data) × (request : Request) × IsJson body d × (request_of d ≡ Some request) × IsPushed TakesLast IsFull (arrivals_from conn.key conn.next moment (records_of request)) lane_before reply lane_after
+    → ((d : Data) × (request : Request) × IsJson body d × (request_of false d ≡ Some request) × IsPushed TakesLast IsFull (arrivals_from conn.key conn.next moment (records_of request)) lane_before reply lane_after
     × (conn_after ≡ record conn { next = conn.next + length (arrivals_from conn.key conn.next moment (records_of request)) }))
     → Submits old number moment body before reply after new
 submits-read old mid new number moment body before after lane_before lane_after reply conn conn_after is_conn is_mid is_new is_before is_after r =

@@ -33,7 +33,7 @@ fn line_and_part() -> &'static str {
 }
 
 fn arrivals(alloc: Global) -> Result<Vec<Record>, Fail> {
-    let request = decode(alloc, three_spans().as_bytes())?;
+    let request = decode(alloc, false, three_spans().as_bytes())?;
     Ok(flatten(alloc, request)?)
 }
 

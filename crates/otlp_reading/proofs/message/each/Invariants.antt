@@ -3,4 +3,4 @@ use Rattle.otlp_reading.proofs.Each.{ReadsTo}
 use Rattle.otlp_reading.proofs.message.each.Given as goal
 
 abbrev pub invariant-loop-item : goal.invariant-loop-item
-invariant-loop-item g l = ReadsTo (message g.T.Message.meaning) l.items l.item-index l.all
+invariant-loop-item g l = ReadsTo (message (g.T.Message.meaning l.fn.keeps_doubles)) l.items l.item-index l.all

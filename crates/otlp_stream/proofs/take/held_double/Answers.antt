@@ -1,11 +1,12 @@
-use Rattle.std.proofs.Common.{refl}
-use Rattle.otlp_stream.proofs.Takes.{takes_string, takes_number}
+use Rattle.std.proofs.Common.{None}
+use Rattle.otlp_reading.specs.Reading.{double_of, kept_double}
+use Rattle.otlp_stream.proofs.Sieving.{held_map, held_any}
 use Rattle.otlp_stream.proofs.take.held_double.Goals as goal
 
-pub returns-then-is_taken : goal.returns-then-is_taken
-returns-then-is_taken c depth =
-    let n = c.is_taken.ensures c.if-is_taken.true in
-    (_, takes_number depth _ _ _ n.0 (rw c.in-Some-Number.field-0-is at c.in-Some-Number.ensures.value) n.1, refl)
+pub returns-in_ok-double : goal.returns-in_ok-double
+returns-in_ok-double c depth = rw (c.if-keeps_doubles.true, c.kept_double.ensures) (held_map double_of kept_double depth _ _ _ (c.in_ok-double.ensures depth))
 
-pub returns-in-Some-String : goal.returns-in-Some-String
-returns-in-Some-String c depth = (_, takes_string depth _ _ _ (rw c.in-Some-String.field-0-is at c.in-Some-String.ensures.value), refl)
+pub returns-in_ok-discarded_double : goal.returns-in_ok-discarded_double
+returns-in_ok-discarded_double c depth =
+    let d = c.in_ok-discarded_double.ensures depth in
+    rw c.if-keeps_doubles.false (held_any None depth _ _ d.0 d.1 d.2)

@@ -17,13 +17,13 @@ abbrev pub decreases-kv_list : goal.decreases-kv_list
 decreases-kv_list l = 6 * l.levels + 3
 
 abbrev pub invariant-all_values-items : goal.invariant-all_values-items
-invariant-all_values-items l = WithinSieved (value_to l.levels) (l.depth - 1) l.initial.reader l.reader l.found
+invariant-all_values-items l = WithinSieved (value_to l.keeps_doubles l.levels) (l.depth - 1) l.initial.reader l.reader l.found
 
 abbrev pub decreases-all_values : goal.decreases-all_values
 decreases-all_values l = 6 * l.levels + 2
 
 abbrev pub invariant-key_values-items : goal.invariant-key_values-items
-invariant-key_values-items l = WithinSieved (message (key_value (value_to l.levels))) (l.depth - 1) l.initial.reader l.reader l.found
+invariant-key_values-items l = WithinSieved (message (key_value (value_to l.keeps_doubles l.levels))) (l.depth - 1) l.initial.reader l.reader l.found
 
 abbrev pub decreases-key_values : goal.decreases-key_values
 decreases-key_values l = 6 * l.levels + 2

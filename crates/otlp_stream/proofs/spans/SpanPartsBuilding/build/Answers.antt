@@ -3,7 +3,7 @@ use Rattle.otlp_reading.proofs.Spans.{span_of}
 use Rattle.otlp_stream.proofs.spans.SpanPartsBuilding.build.Goals as goal
 
 pub returns : goal.returns
-returns c = λ ms s. span_of _ ms (record {
+returns c = λ keeps_doubles ms s. span_of keeps_doubles _ ms (record {
   ids = ids_built ms c.args.self.trace c.args.self.id c.args.self.parent c.valid_ids-span.result s.0 s.1 s.2 c.valid_ids-span.ensures;
   state = s.3;
   flags = s.4;
@@ -16,5 +16,5 @@ returns c = λ ms s. span_of _ ms (record {
   links = s.11;
   dropped_links = s.12;
   status = s.13;
-  all = attributes_of ms c.build-rest.result (c.build-rest.ensures ms s.14);
+  all = attributes_of keeps_doubles ms c.build-rest.result (c.build-rest.ensures keeps_doubles ms s.14);
 })
