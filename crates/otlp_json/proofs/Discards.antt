@@ -1,8 +1,10 @@
 -- A request that is read where doubles are kept is read where they are discarded, but for its doubles.
 -- For the contract of `doubles_are_left_out`, and the clause `back_discarding` of `encode`.
-use Rattle.std.proofs.Common.{◌≡◌, ℕ, zero, suc, ◌+◌, ◌-◌, ◌^◌, List, [], ◌∷◌, map, codes, Bool, true, false, not, Option, Some, None, option_map, option_and_then, refl, sym, ap, ◌∙◌, arith, rules}
+use Rattle.std.proofs.Common.{◌≡◌, ℕ, zero, suc, ◌+◌, ◌-◌, ◌^◌, List, [], ◌∷◌, map, codes, Bool, true, false, not, Option, Some, None, option_map, option_and_then, ℤ, ◌||◌, refl, sym, ap, ◌∙◌, arith, rules}
 use Rattle.std.specs.Prelude.{min, ◌==◌, cond, count_by}
 use Rattle.std.specs.List.{filter, list_any, AllByRecursion}
+use Rattle.std.specs.Option.{is_none}
+use Rattle.std.proofs.lemmas.List.Sums.{sum_by-cons}
 use Rattle.std.specs.Float.{Float}
 use Rattle.serde_json.specs.Data.{Data, null, boolean, number, string, array, object, Items, no_items, item, Members, no_members}
 use Rattle.otlp_types.specs.declared.value.AnyValue.{AnyValue, Empty, Str, Bool as Truth, Int, Double, Array, KvList, Bytes, the_lemmas}
@@ -69,52 +71,76 @@ less holds None = None
 less holds (Some x) = cond (holds x) None (Some x)
 
 less_none : {A : Type 0} (holds : A → Bool) (x : A) → holds x ≡ false → less holds (Some x) ≡ Some x
-less_none holds x no = rw no
+less_none holds x e = rw e
+
+kept_one : {A : Type 0} (holds : A → Bool) (x : A) (xs : List (OrDiscarded A)) → kept (map (less holds) xs) ≡ filter (λ y. not (holds y)) (kept xs)
+    → kept (map (less holds) (Some x ∷ xs)) ≡ filter (λ y. not (holds y)) (kept (Some x ∷ xs))
+kept_one holds x xs more = by (holds x) refl
+  where
+    by : (b : Bool) → holds x ≡ b → kept (map (less holds) (Some x ∷ xs)) ≡ filter (λ y. not (holds y)) (kept (Some x ∷ xs))
+    by true is = rw is more
+    by false is = rw is (ap (λ ys. x ∷ ys) more)
 
 kept_less : {A : Type 0} (holds : A → Bool) (xs : List (OrDiscarded A)) → kept (map (less holds) xs) ≡ filter (λ x. not (holds x)) (kept xs)
 kept_less holds [] = refl
 kept_less holds (None ∷ xs) = kept_less holds xs
-kept_less holds (Some x ∷ xs) = by (holds x) refl
+kept_less holds (Some x ∷ xs) = kept_one holds x xs (kept_less holds xs)
+
+counted : {A : Type 0} (p : A → Bool) (x : A) (xs : List A) → count_by p (x ∷ xs) ≡ cond (p x) 1 0 + count_by p xs
+counted p x xs = sum_by-cons (λ y. cond (p y) 1 0) x xs
+
+discarded_one : {A : Type 0} (holds : A → Bool) (x : A) (xs : List (OrDiscarded A)) → discarded (map (less holds) xs) ≡ discarded xs + count_by holds (kept xs)
+    → discarded (map (less holds) (Some x ∷ xs)) ≡ discarded (Some x ∷ xs) + count_by holds (kept (Some x ∷ xs))
+discarded_one holds x xs more =
+    let a : discarded (map (less holds) (Some x ∷ xs)) ≡ cond (is_none (less holds (Some x))) 1 0 + discarded (map (less holds) xs) = counted is_none (less holds (Some x)) (map (less holds) xs) in
+    let b : discarded (Some x ∷ xs) ≡ 0 + discarded xs = counted is_none (Some x) xs in
+    let c : count_by holds (kept (Some x ∷ xs)) ≡ cond (holds x) 1 0 + count_by holds (kept xs) = counted holds x (kept xs) in
+    let d : cond (is_none (less holds (Some x))) 1 0 ≡ cond (holds x) 1 0 = by (holds x) in
+    omega arith
   where
-    by : (b : Bool) → holds x ≡ b → kept (map (less holds) (Some x ∷ xs)) ≡ filter (λ x. not (holds x)) (kept (Some x ∷ xs))
-    by true is = rw is (kept_less holds xs)
-    by false is = rw is (ap (λ ys. x ∷ ys) (kept_less holds xs))
+    by : (b : Bool) → cond (is_none (cond b None (Some x))) 1 0 ≡ cond b 1 0
+    by true = refl
+    by false = refl
 
 discarded_less : {A : Type 0} (holds : A → Bool) (xs : List (OrDiscarded A)) → discarded (map (less holds) xs) ≡ discarded xs + count_by holds (kept xs)
 discarded_less holds [] = refl
-discarded_less holds (None ∷ xs) = let more = discarded_less holds xs in omega arith
-discarded_less holds (Some x ∷ xs) = by (holds x) refl
-  where
-    by : (b : Bool) → holds x ≡ b → discarded (map (less holds) (Some x ∷ xs)) ≡ discarded (Some x ∷ xs) + count_by holds (kept (Some x ∷ xs))
-    by true is = let more = discarded_less holds xs in rw is (omega arith)
-    by false is = let more = discarded_less holds xs in rw is (omega arith)
+discarded_less holds (None ∷ xs) =
+    let more = discarded_less holds xs in
+    let a : discarded (map (less holds) (None ∷ xs)) ≡ 1 + discarded (map (less holds) xs) = counted is_none None (map (less holds) xs) in
+    let b : discarded (None ∷ xs) ≡ 1 + discarded xs = counted is_none None xs in
+    let c : count_by holds (kept (None ∷ xs)) ≡ count_by holds (kept xs) = refl in
+    omega arith
+discarded_less holds (Some x ∷ xs) = discarded_one holds x xs (discarded_less holds xs)
 
 -- none holds where none is counted, and then all are left
 none_counted : {A : Type 0} (holds : A → Bool) (xs : List A) → (count_by holds xs == 0) ≡ not (list_any holds xs)
 none_counted holds [] = refl
-none_counted holds (x ∷ xs) = by (holds x) refl
+none_counted holds (x ∷ xs) = ap (λ k. k == 0) (counted holds x xs) ∙ one (holds x) (none_counted holds xs)
   where
-    by : (b : Bool) → holds x ≡ b → (count_by holds (x ∷ xs) == 0) ≡ not (list_any holds (x ∷ xs))
-    by true is = rw is refl
-    by false is = rw is (none_counted holds xs)
+    one : (b : Bool) → (count_by holds xs == 0) ≡ not (list_any holds xs) → (cond b 1 0 + count_by holds xs == 0) ≡ not (b || list_any holds xs)
+    one true more = grind arith
+    one false more = let same : 0 + count_by holds xs ≡ count_by holds xs = omega arith in ap (λ k. k == 0) same ∙ more
+
+left_one : {A : Type 0} (holds : A → Bool) (x : A) (xs : List A) → (count_by holds xs ≡ 0 → filter (λ y. not (holds y)) xs ≡ xs) → count_by holds (x ∷ xs) ≡ 0 → filter (λ y. not (holds y)) (x ∷ xs) ≡ x ∷ xs
+left_one holds x xs more none = by (holds x) refl (sym (counted holds x xs) ∙ none)
+  where
+    by : (b : Bool) → holds x ≡ b → cond b 1 0 + count_by holds xs ≡ 0 → filter (λ y. not (holds y)) (x ∷ xs) ≡ x ∷ xs
+    by true is sum = absurd (omega arith)
+    by false is sum = rw is (ap (λ ys. x ∷ ys) (more (omega arith)))
 
 all_left : {A : Type 0} (holds : A → Bool) (xs : List A) → count_by holds xs ≡ 0 → filter (λ x. not (holds x)) xs ≡ xs
-all_left holds [] no = refl
-all_left holds (x ∷ xs) no = by (holds x) refl
-  where
-    by : (b : Bool) → holds x ≡ b → filter (λ x. not (holds x)) (x ∷ xs) ≡ x ∷ xs
-    by true is = absurd (omega (arith, rw is at no))
-    by false is = rw is (ap (λ ys. x ∷ ys) (all_left holds xs (rw is at no)))
+all_left holds [] none = refl
+all_left holds (x ∷ xs) none = left_one holds x xs (all_left holds xs) none
 
 discards_same : {A : Type 0} (holds : A → Bool) (n : ℕ) (xs : List A) (b : Bool) → (count_by holds xs == 0) ≡ b → cond ((n + count_by holds xs) == 0) (Some (filter (λ x. not (holds x)) xs)) None ≡ cond (n == 0) (cond (list_any holds xs) None (Some xs)) None
 discards_same holds n xs true none =
-    let no : count_by holds xs ≡ 0 = grind (arith, none) in
+    let zero_counted : count_by holds xs ≡ 0 = grind (arith, none) in
     let any : list_any holds xs ≡ false = grind (arith, none_counted holds xs, none) in
-    rw (no, any, all_left holds xs no) (ap (λ k. cond (k == 0) (Some xs) None) (omega arith))
+    rw (zero_counted, any, all_left holds xs zero_counted) (ap (λ k. cond (k == 0) (Some xs) None) (omega arith))
 discards_same holds n xs false some =
     let yes : list_any holds xs ≡ true = grind (arith, none_counted holds xs, some) in
-    let no : ((n + count_by holds xs) == 0) ≡ false = grind (arith, some) in
-    rw (yes, no) (grind arith)
+    let more : ((n + count_by holds xs) == 0) ≡ false = grind (arith, some) in
+    rw (yes, more) (grind arith)
 
 all_kept_less : {A : Type 0} (holds : A → Bool) (xs : List (OrDiscarded A)) → all_kept (map (less holds) xs) ≡ less (list_any holds) (all_kept xs)
 all_kept_less holds xs =
@@ -148,7 +174,7 @@ holds-pair p = search (rules, the_lemmas)
 
 any_of : {A : Type 0} (f : A → Bool) (xs : List A) → list_any (λ b. b) (map f xs) ≡ list_any f xs
 any_of f [] = refl
-any_of f (x ∷ xs) = ap (λ b. cond (f x) true b) (any_of f xs)
+any_of f (x ∷ xs) = ap (λ b. f x || b) (any_of f xs)
 
 holds-Array : (vs : List AnyValue) → holds_double (Array vs) ≡ list_any holds_double vs
 holds-Array vs =
@@ -162,8 +188,8 @@ holds-KvList ps =
 
 -- a reading of values that holds no double follows itself
 plain : {B : Type 0} (make : B → AnyValue) → ((x : B) → holds_double (make x) ≡ false) → (o : Option B) → Follows (less holds_double) (option_map (λ x. Some (make x)) o) (option_map (λ x. Some (make x)) o)
-plain make no None = none_follows (less holds_double) None
-plain make no (Some x) = some_follows (less holds_double) (Some (make x)) (Some (make x)) (sym (less_none holds_double (make x) (no x)))
+plain make none None = none_follows (less holds_double) None
+plain make none (Some x) = some_follows (less holds_double) (Some (make x)) (Some (make x)) (sym (less_none holds_double (make x) (none x)))
 
 kept_double_less : (x : Float) → None ≡ less holds_double (kept_double x)
 kept_double_less x = by (is_kept x)
@@ -185,11 +211,14 @@ listed_less make holds is (Some xs) = rw (is xs) (by (list_any holds xs))
     by true = refl
     by false = refl
 
-pair_less : (name : List ℕ) (o : OrDiscarded AnyValue) → option_map (λ x. record { key = name; value = x }) (less holds_double o) ≡ less is_of_double (option_map (λ x. record { key = name; value = x }) o)
+abbrev paired : List ℕ → AnyValue → KeyValue
+paired name x = record { key = name; value = x }
+
+pair_less : (name : List ℕ) (o : OrDiscarded AnyValue) → option_map (paired name) (less holds_double o) ≡ less is_of_double (option_map (paired name) o)
 pair_less name None = refl
-pair_less name (Some v) = rw (holds-pair (record { key = name; value = v })) (by (holds_double v))
+pair_less name (Some v) = rw (holds-pair (paired name v)) (by (holds_double v))
   where
-    by : (b : Bool) → option_map (λ x. record { key = name; value = x }) (cond b None (Some v)) ≡ cond b None (Some (record { key = name; value = v }))
+    by : (b : Bool) → option_map (paired name) (cond b None (Some v)) ≡ cond b None (Some (paired name v))
     by true = refl
     by false = refl
 
@@ -201,7 +230,7 @@ module _ (r s : Data → Option (OrDiscarded AnyValue)) (all : (d : Data) → Fo
   pub pair_follows : (ms : Members) → Follows (less is_of_double) (key_value r ms) (key_value s ms)
   pair_follows ms = also (less is_of_double) (text (field (codes "key") ms)) _ _ (λ name.
       then (less holds_double) (less is_of_double) (read_or (Some Empty) r (field (codes "value") ms)) (read_or (Some Empty) s (field (codes "value") ms)) _ _ (held_follows (field (codes "value") ms))
-      (λ v. some_follows (less is_of_double) (option_map (λ x. record { key = name; value = x }) v) (option_map (λ x. record { key = name; value = x }) (less holds_double v)) (pair_less name v)))
+      (λ v. some_follows (less is_of_double) (option_map (paired name) v) (option_map (paired name) (less holds_double v)) (pair_less name v)))
 
   values_follow : (ms : Members) → Follows (less (list_any holds_double)) (values r ms) (values s ms)
   values_follow ms = mapped (map (less holds_double)) (less (list_any holds_double)) all_kept all_kept (list_of r (field (codes "values") ms)) (list_of s (field (codes "values") ms))
@@ -237,7 +266,7 @@ levels_follow (suc n) d = message_follows (less holds_double) (value_in (value_t
 -- ---- attributes
 
 counted_once : (n k j : ℕ) (b : Bool) → (j == 0) ≡ b → min (n + (k + j)) (2 ^ 32 - 1) ≡ cond b (min (n + k) (2 ^ 32 - 1)) (min (min (n + k) (2 ^ 32 - 1) + j) (2 ^ 32 - 1))
-counted_once n k j true none = let no : j ≡ 0 = grind (arith, none) in omega arith
+counted_once n k j true none = let zero_more : j ≡ 0 = grind (arith, none) in omega arith
 counted_once n k j false some = omega arith
 
 abbrev attributes_left : List KeyValue × ℕ → List KeyValue × ℕ
