@@ -1,12 +1,12 @@
 -- A request that is read where doubles are kept is read where they are discarded, but for its doubles.
 -- For the contract of `doubles_are_left_out`, and the clause `back_discarding` of `encode`.
-use Rattle.std.proofs.Common.{◌≡◌, ℕ, zero, suc, ◌+◌, ◌-◌, ◌^◌, List, [], ◌∷◌, map, codes, Bool, true, false, not, Option, Some, None, option_map, option_and_then, ℤ, ◌||◌, refl, sym, ap, ◌∙◌, arith, rules}
+use Rattle.std.proofs.Common.{◌≡◌, ℕ, zero, suc, ◌+◌, ◌-◌, ◌^◌, List, [], ◌∷◌, map, codes, Bool, true, false, not, Option, Some, None, option_map, ℤ, ◌||◌, refl, sym, ap, ◌∙◌, arith, rules}
 use Rattle.std.specs.Prelude.{min, ◌==◌, cond, count_by}
 use Rattle.std.specs.List.{filter, list_any, AllByRecursion}
 use Rattle.std.specs.Option.{is_none}
 use Rattle.std.proofs.lemmas.List.Sums.{sum_by-cons}
 use Rattle.std.specs.Float.{Float}
-use Rattle.serde_json.specs.Data.{Data, null, boolean, number, string, array, object, Items, no_items, item, Members, no_members}
+use Rattle.serde_json.specs.Data.{Data, Items, no_items, item, Members, no_members}
 use Rattle.otlp_types.specs.declared.value.AnyValue.{AnyValue, Empty, Str, Bool as Truth, Int, Double, Array, KvList, Bytes, the_lemmas}
 use Rattle.otlp_types.specs.declared.value.KeyValue.{KeyValue}
 use Rattle.otlp_types.specs.declared.span.Event.{Event}
@@ -22,8 +22,8 @@ use Rattle.otlp_reading.specs.declared.value.ValueKey.{ValueKey}
 use Rattle.otlp_reading.specs.declared.value.ValueKey.TheVariants as key
 use Rattle.otlp_reading.specs.Kinds.{◌>>=◌, field, text, u32, u64, enum, read_or, items, each, list_of, message, inner, i64_value}
 use Rattle.serde_json.specs.Find.{as_str, as_bool, as_object}
-use Rattle.otlp_reading.specs.Reading.{OrDiscarded, kept, discarded, all_kept, double_of, kept_double, key_value, values, pairs, value_members, at_most_one, value_by, value_of_member, value_in, value_to, any_value, attributes, ids, status, event, link, span, resource, scope, grouped, scope_spans, resource_spans, request, request_of}
-use Rattle.otlp_json.specs.Discarding.{holds_double, is_of_double, left, dropped, dropped_of, event_left, link_left, span_left, resource_left, scope_left, scope_spans_left, resource_spans_left, without_doubles, DoublesAreLeftOut, NoneOf, NoneOfSpan, NoneOfScope, NoneOfResource, HasNoDoubles}
+use Rattle.otlp_reading.specs.Reading.{OrDiscarded, kept, discarded, all_kept, double_of, kept_double, key_value, values, pairs, value_members, at_most_one, value_by, value_of_member, value_in, value_to, any_value, attributes, ids, status, event, link, span, resource, scope, grouped, scope_spans, resource_spans, request}
+use Rattle.otlp_json.specs.Discarding.{holds_double, is_of_double, left, dropped_of, event_left, link_left, span_left, resource_left, scope_left, scope_spans_left, resource_spans_left, without_doubles, DoublesAreLeftOut, NoneOf, NoneOfSpan, NoneOfScope, NoneOfResource, HasNoDoubles}
 
 -- where the first reads x, the second reads f of it
 pub record Follows {A B : Type 0} (f : A → B) (a : Option A) (b : Option B) : Type 0 where
@@ -91,14 +91,14 @@ counted p x xs = sum_by-cons (λ y. cond (p y) 1 0) x xs
 
 discarded_one : {A : Type 0} (holds : A → Bool) (x : A) (xs : List (OrDiscarded A)) → discarded (map (less holds) xs) ≡ discarded xs + count_by holds (kept xs)
     → discarded (map (less holds) (Some x ∷ xs)) ≡ discarded (Some x ∷ xs) + count_by holds (kept (Some x ∷ xs))
-discarded_one holds x xs more =
+discarded_one {A} holds x xs more =
     let a : discarded (map (less holds) (Some x ∷ xs)) ≡ cond (is_none (less holds (Some x))) 1 0 + discarded (map (less holds) xs) = counted is_none (less holds (Some x)) (map (less holds) xs) in
     let b : discarded (Some x ∷ xs) ≡ 0 + discarded xs = counted is_none (Some x) xs in
     let c : count_by holds (kept (Some x ∷ xs)) ≡ cond (holds x) 1 0 + count_by holds (kept xs) = counted holds x (kept xs) in
-    let d : cond (is_none (less holds (Some x))) 1 0 ≡ cond (holds x) 1 0 = by (holds x) in
+    let d : cond {A = ℕ} (is_none (less holds (Some x))) 1 0 ≡ cond {A = ℕ} (holds x) 1 0 = by (holds x) in
     omega arith
   where
-    by : (b : Bool) → cond (is_none (cond b None (Some x))) 1 0 ≡ cond b 1 0
+    by : (b : Bool) → cond {A = ℕ} (is_none {T = A} (cond b None (Some x))) 1 0 ≡ cond {A = ℕ} b 1 0
     by true = refl
     by false = refl
 
@@ -151,37 +151,37 @@ all_kept_less holds xs =
     by false = refl
 
 -- which values hold a double
-holds-Empty : holds_double Empty ≡ false
+pub holds-Empty : holds_double Empty ≡ false
 holds-Empty = search (rules, the_lemmas)
 
-holds-Str : (s : List ℕ) → holds_double (Str s) ≡ false
+pub holds-Str : (s : List ℕ) → holds_double (Str s) ≡ false
 holds-Str s = search (rules, the_lemmas)
 
-holds-Truth : (b : Bool) → holds_double (Truth b) ≡ false
+pub holds-Truth : (b : Bool) → holds_double (Truth b) ≡ false
 holds-Truth b = search (rules, the_lemmas)
 
-holds-Int : (z : ℤ) → holds_double (Int z) ≡ false
+pub holds-Int : (z : ℤ) → holds_double (Int z) ≡ false
 holds-Int z = search (rules, the_lemmas)
 
-holds-Double : (x : Float) → holds_double (Double x) ≡ true
+pub holds-Double : (x : Float) → holds_double (Double x) ≡ true
 holds-Double x = search (rules, the_lemmas)
 
-holds-Bytes : (s : List ℕ) → holds_double (Bytes s) ≡ false
+pub holds-Bytes : (s : List ℕ) → holds_double (Bytes s) ≡ false
 holds-Bytes s = search (rules, the_lemmas)
 
-holds-pair : (p : KeyValue) → is_of_double p ≡ holds_double p.value
+pub holds-pair : (p : KeyValue) → is_of_double p ≡ holds_double p.value
 holds-pair p = search (rules, the_lemmas)
 
 any_of : {A : Type 0} (f : A → Bool) (xs : List A) → list_any (λ b. b) (map f xs) ≡ list_any f xs
 any_of f [] = refl
 any_of f (x ∷ xs) = ap (λ b. f x || b) (any_of f xs)
 
-holds-Array : (vs : List AnyValue) → holds_double (Array vs) ≡ list_any holds_double vs
+pub holds-Array : (vs : List AnyValue) → holds_double (Array vs) ≡ list_any holds_double vs
 holds-Array vs =
     let folded : holds_double (Array vs) ≡ list_any (λ b. b) (map holds_double vs) = search (rules, the_lemmas) in
     folded ∙ any_of holds_double vs
 
-holds-KvList : (ps : List KeyValue) → holds_double (KvList ps) ≡ list_any is_of_double ps
+pub holds-KvList : (ps : List KeyValue) → holds_double (KvList ps) ≡ list_any is_of_double ps
 holds-KvList ps =
     let folded : holds_double (KvList ps) ≡ list_any (λ b. b) (map is_of_double ps) = search (rules, the_lemmas) in
     folded ∙ any_of is_of_double ps
