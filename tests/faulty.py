@@ -40,7 +40,7 @@ ROWS = [
     ]),
     ("each top key of another type", "\n".join(f"{key} = [1]" for key in (
         "decision_wait_ms", "root_wait_ms", "num_traces", "decision_cache", "lanes", "shards", "queue_capacity", "send_batch_size", "export_capacity",
-        "max_connections", "memory_limit_mib", "tick_ms", "listen", "accept_gzip", "queue_full", "output_fault", "close_at_end_of_input", "admin")) + "\npolicies = 1\n", [
+        "max_connections", "memory_limit_mib", "tick_ms", "listen", "accept_gzip", "queue_full", "output_fault", "double_values", "close_at_end_of_input", "admin")) + "\npolicies = 1\n", [
         *(f"{key}: a whole number is wanted (fault 4)" for key in (
             "decision_wait_ms", "root_wait_ms", "num_traces", "lanes", "shards", "tick_ms", "queue_capacity", "export_capacity", "send_batch_size", "max_connections",
             "memory_limit_mib")),
@@ -48,13 +48,15 @@ ROWS = [
         "accept_gzip: true or false is wanted (fault 4)",
         "queue_full: a text is wanted (fault 4)",
         "output_fault: a text is wanted (fault 4)",
+        "double_values: a text is wanted (fault 4)",
         "close_at_end_of_input: true or false is wanted (fault 4)",
         "admin: a text is wanted (fault 4)",
         "decision_cache: a table is wanted (fault 4)",
         "policies: an array is wanted (fault 4)",
         EMPTY,
     ]),
-    ("texts of two", f'queue_full = "wait"\noutput_fault = ""\n{POLICIES}', ['queue_full: "wait" is none of partial, retry (fault 5)', 'output_fault: "" is none of discard, stop (fault 5)']),
+    ("texts of two", f'queue_full = "wait"\noutput_fault = ""\ndouble_values = "stop"\n{POLICIES}', ['queue_full: "wait" is none of partial, retry (fault 5)', 'output_fault: "" is none of discard, stop (fault 5)',
+        'double_values: "stop" is none of discard, keep (fault 5)']),
     ("a text of two lines", f'queue_full = "a\\nb"\n{POLICIES}', ['queue_full: "a\\nb" is none of partial, retry (fault 5)']),
     ("caches", f"decision_cache = {{ sampled_cache_size = 1000001, non_sampled_cache_size = \"1\", sampled = 1 }}\n{POLICIES}", [
         "decision_cache.sampled: no such key (fault 2)",

@@ -7,7 +7,7 @@ import gzip
 import json
 import zlib
 
-from collector import ALL, ERROR_SPAN, body_of, want
+from collector import ALL, ERROR_SPAN, body_of, post, spans_of, want
 
 ID, SPAN_ID = ERROR_SPAN["traceId"], ERROR_SPAN["spanId"]
 ONE = body_of([ERROR_SPAN])
@@ -92,6 +92,33 @@ PACKED = [
 ]
 
 
+# What a `doubleValue` holds, where doubles are kept: (its JSON, the float of 64 bits that Python reads it as, or None where the answer is another)
+DOUBLES = [
+    ("1.5", 1.5),
+    ("7", 7.0),
+    ("-0", -0.0),  # protobuf: a number with its sign
+    ("-0.0", -0.0),
+    ("0.1", 0.1),
+    ("0.30000000000000004", 0.1 + 0.2),  # 17 digits
+    ("5e-324", 5e-324),  # the least subnormal
+    ("2.225073858507201e-308", 2.225073858507201e-308),  # the greatest subnormal
+    ("1e308", 1e308),
+    ("1.7976931348623157e308", 1.7976931348623157e308),
+    ("9007199254740993", 9007199254740992.0),  # halfway between two floats
+    ("18446744073709551615", 18446744073709551616.0),
+    ('"2.50"', 2.5),
+    ('"NaN"', float("nan")),  # protobuf's JSON: names, and numbers as texts
+    ('"Infinity"', float("inf")),
+    ('"-Infinity"', float("-inf")),
+    ('"1e309"', None),
+    ('"nan"', None),
+    ('"+1"', None),
+    ('""', None),
+    ("true", None),
+    ("[1.5]", None),
+]
+
+
 def rows():
     """Each row as its name, its bytes, the status and the answer's body."""
     for name, more, status, answer in HEADS:
@@ -130,4 +157,34 @@ def packed_bodies(start):
     want("the report", collector.close()[1], [taken, taken, 0, 0, 0, 0, 0, 0, 0])
 
 
-CHECKS = [what_senders_do, packed_bodies]
+def double_bodies():
+    """The body of each row of that table, with the float."""
+    for text, number in DOUBLES:
+        yield attribute(doubleValue="?").replace(b'"?"', text.encode()), number
+
+
+def doubles_kept(start):
+    """Where doubles are kept each that is a float of 64 bits comes out as that float, bit for bit; the others have a wrong shape."""
+    collector = start('double_values = "keep"\n' + ALL)
+    for body, number in double_bodies():
+        found = collector.ask(post(body), True)
+        want(body.decode(), (found[0], found[2]), (200, "{}") if number is not None else (400, '{"message":"wrong shape"}'))
+    lines, numbers = collector.close()
+    wanted = [number for _, number in DOUBLES if number is not None]
+    written = [span["attributes"][0]["value"]["doubleValue"] for span in spans_of(lines)]
+    names = {"NaN", "Infinity", "-Infinity"}
+    want("the names", [text for text in written if isinstance(text, str)], [text for text in written if text in names])
+    want("the doubles", sorted(float(text).hex() for text in written), sorted(number.hex() for number in wanted))
+    want("the report", numbers, [len(wanted), len(wanted), 0, 0, 0, 0, 0, 0, 0])
+
+
+def doubles_discarded(start):
+    """By default each is left out, whatever stands there, and counted beside its list."""
+    collector = start(ALL)
+    for body, _ in double_bodies():
+        want(body.decode(), collector.ask(post(body), True)[::2], (200, "{}"))
+    lines, _ = collector.close()
+    want("the spans", spans_of(lines), [{**ERROR_SPAN, "droppedAttributesCount": 1}] * len(DOUBLES))
+
+
+CHECKS = [what_senders_do, packed_bodies, doubles_kept, doubles_discarded]

@@ -1,5 +1,5 @@
 -- A lane, and what its pushes do to its ports.
-use Rattle.std.specs.Prelude.{◌≡◌, ℕ, ◌+◌, List, [], ◌∷◌, length, filter, slice_get, slice_set, Option, Some, None, ◌⊎◌}
+use Rattle.std.specs.Prelude.{◌≡◌, ℕ, ◌+◌, Bool, List, [], ◌∷◌, length, filter, slice_get, slice_set, Option, Some, None, ◌⊎◌}
 use Rattle.span_ids.specs.Route.{shard_of}
 use Rattle.otlp_types.specs.declared.span.Ids.{Ids}
 use Rattle.otlp_types.specs.declared.arrival.Arrival.{Arrival}
@@ -9,11 +9,12 @@ use Rattle.lane_seq.specs.declared.reply.Reply.{Reply}
 use Rattle.lane_seq.specs.Numbers.{is_invalid}
 use Rattle.lane_seq.specs.Replies.{IsReplyTo}
 
--- a lane's number, how many connections it has had, and its ports, one for each shard
+-- a lane's number, how many connections it has had, its ports, one for each shard, and whether it keeps doubles
 pub record LaneState (P : Type 0) : Type 0 where
   pub number : ℕ
   pub connected : ℕ
   pub ports : List P
+  pub keeps_doubles : Bool
 
 module _ {P : Type 0} where
   -- the lane with this port at this shard

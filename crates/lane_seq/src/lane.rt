@@ -25,6 +25,7 @@ pub struct Lane<P> {
     connected: u64,
     ports: Vec<P>,
     asks_again: bool,
+    keeps_doubles: bool,
 }
 
 impl<P> Model for Lane<P> {
@@ -33,7 +34,12 @@ impl<P> Model for Lane<P> {
 
     ghost Value = { LaneState P };
 
-    ghost view = { λ l. record { number = l.number; connected = l.connected; ports = l.ports.items } };
+    ghost view = { λ l. record {
+      number = l.number;
+      connected = l.connected;
+      ports = l.ports.items;
+      keeps_doubles = l.keeps_doubles;
+    } };
 
     ghost invariant = { λ l. 0 < length l.ports.items };
 }
@@ -51,16 +57,23 @@ impl<P> Lane<P> {
     ghost use Rattle.std.specs.Borrow.{sem};
     ghost use Rattle.lane_seq.specs.Lends.{LendsPort};
 
-    /// The lane of this number, with a port for each shard in their order, of which no connection has come yet.
+    /// The lane of this number, with a port for each shard in their order, of which no connection has come yet. It
+    /// discards doubles.
     pub fn new(number: u16, ports: Vec<P>) -> Self
         requires { 0 < length ports.items }
-        ensures { result ≡ record { number = number; connected = 0; ports = ports.items } }
+        ensures { result ≡ record {
+          number = number;
+          connected = 0;
+          ports = ports.items;
+          keeps_doubles = false;
+        } }
     {
         Lane {
             number,
             connected: 0,
             ports,
             asks_again: false,
+            keeps_doubles: false,
         }
     }
 
@@ -69,6 +82,16 @@ impl<P> Lane<P> {
         ensures { result ≡ self }
     {
         Lane { asks_again, ..self }
+    }
+
+    /// The lane, which keeps doubles, or discards each attribute that holds one, and counts it.
+    pub fn keeping_doubles(self, keeps_doubles: bool) -> Self
+        ensures { result ≡ record self { keeps_doubles = keeps_doubles } }
+    {
+        Lane {
+            keeps_doubles,
+            ..self
+        }
     }
 
     /// How many connections have come.
@@ -117,6 +140,7 @@ impl<P> Lane<P> {
             connected: _,
             ports,
             asks_again: _,
+            keeps_doubles: _,
         } = self;
         LaneEnd { number, ports }
     }
@@ -129,7 +153,7 @@ impl<P: Port<Item>> Lane<P> {
     /// room.
     pub fn submit(&mut self, alloc: Global, conn: &mut Conn, body: &[u8], moment: Moment) -> Reply
         ensures received { OnReceived result ((d : Data) × (request : Request) × IsJson body.now d
-            × (request_of false d ≡ Some request)
+            × (request_of self.old.keeps_doubles d ≡ Some request)
             × Receives P.takes P.refuses (arrivals_from conn.old.key conn.old.next moment (records_of request))
             self.old.ports result self.new.ports
             × (conn.new ≡ record conn.old {
@@ -139,10 +163,10 @@ impl<P: Port<Item>> Lane<P> {
         ensures lane { self.new ≡ record self.old { ports = self.new.ports } }
         ensures ports { length self.new.ports ≡ length self.old.ports }
         ensures json { result ≡ Reply.BadData BadData.Json → IsNoJson body.now }
-        ensures shape { result ≡ Reply.BadData BadData.Shape → IsNoRequest false body.now }
+        ensures shape { result ≡ Reply.BadData BadData.Shape → IsNoRequest self.old.keeps_doubles body.now }
         ensures refused { IsRefusal result → (self.new ≡ self.old) × (conn.new ≡ conn.old) }
     {
-        match prepare(alloc, false, conn, body, moment) {
+        match prepare(alloc, self.keeps_doubles, conn, body, moment) {
             Ok(prepared) => self.receive_if_room(conn, prepared),
             Err(refusal) => refusal,
         }

@@ -10,3 +10,4 @@ pub mod Adding
 pub mod Encoding
 pub mod Depth
 mod Names
+pub mod Discards

@@ -1,9 +1,9 @@
 -- What stands for a double.
 -- For the contracts of `name` and `double`.
-use Rattle.std.proofs.Common.{◌≡◌, codes, true, false, List, [], ◌∷◌, refl}
+use Rattle.std.proofs.Common.{◌≡◌, codes, true, false, [], ◌∷◌, refl}
 use lib.Ieee.{is_nan}
 use Rattle.std.specs.Float.{Float, nan, inf, fin, float_is_finite, is_sign_negative}
-use Rattle.json.specs.Token.{Token, number as json_number}
+use Rattle.json.specs.Token.{number as json_number}
 use Rattle.serde_json.specs.Data.{string}
 use Rattle.otlp_types.specs.Doubles.{double_text}
 use Rattle.otlp_json.specs.Writing.{double_data}

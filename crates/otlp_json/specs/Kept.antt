@@ -1,5 +1,5 @@
 -- The readings that keep doubles. For private clauses.
-use Rattle.std.specs.Prelude.{ℕ, Bool, true, List, Option}
+use Rattle.std.specs.Prelude.{ℕ, true, List, Option}
 use Rattle.serde_json.specs.Data.{Data, Members}
 use Rattle.otlp_types.specs.declared.value.AnyValue.{AnyValue}
 use Rattle.otlp_types.specs.declared.value.KeyValue.{KeyValue}

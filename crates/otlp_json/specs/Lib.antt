@@ -4,3 +4,4 @@ pub mod Canonical
 pub mod Tokens
 pub mod Kept
 pub mod ReadsBack
+pub mod Discarding

@@ -6,11 +6,12 @@
 //! call both so.
 #![tactic(auto)]
 
-ghost use Rattle.std.specs.Prelude.{◌≡◌, ◌≤◌, true, IfOk, IsErrOf, Some};
+ghost use Rattle.std.specs.Prelude.{◌≡◌, ◌≤◌, true, false, IfOk, IsErrOf, Some};
 ghost use Rattle.serde_json.specs.Data.{depth};
 ghost use Rattle.otlp_reading.specs.Reading.{request_of};
 ghost use Rattle.otlp_reading.specs.Decoding.{IsJson, IsRequest, IsNoJson, IsNoRequest};
 ghost use Rattle.otlp_json.specs.Writing.{data_of, canonical_text};
+ghost use Rattle.otlp_json.specs.Discarding.{without_doubles, HasNoDoubles};
 
 mod laws;
 mod request;
@@ -18,7 +19,7 @@ mod span;
 mod writing;
 
 use json::Writer;
-pub use laws::levels_suffice;
+pub use laws::{doubles_are_left_out, levels_suffice};
 pub use otlp_reading::Bad;
 use otlp_stream::plain_request;
 use otlp_types::Request;
@@ -46,12 +47,17 @@ pub fn decode(alloc: Global, keeps_doubles: bool, bytes: &[u8]) -> Result<Reques
 /// The canonical text of a request: no white space, the names of each object in order, and no field that has its
 /// default. `Err` only where memory was refused.
 ///
-/// A request that nests at most 127 deep as JSON is read again from its text, where doubles are kept.
+/// A request that nests at most 127 deep as JSON is read again from its text where doubles are kept. Where they are discarded it is
+/// read without the attributes that hold one: one without doubles is read again there, too.
 pub fn encode(alloc: Global, request: &Request) -> Result<Vec<u8>, AllocError>
     ensures text { IfOk result (λ bytes. bytes.items ≡ canonical_text request.now) }
     ensures back { IfOk result (λ bytes. depth (data_of request.now) ≤ 127
         → IsJson bytes.items (data_of request.now)
         × (request_of true (data_of request.now) ≡ Some request.now)) }
+    ensures without { IfOk result (λ bytes. depth (data_of request.now) ≤ 127
+        → request_of false (data_of request.now) ≡ Some (without_doubles request.now)) }
+    ensures back_discarding { IfOk result (λ bytes. depth (data_of request.now) ≤ 127 → HasNoDoubles request.now
+        → request_of false (data_of request.now) ≡ Some request.now) }
 {
     let mut out = Writer::new(Vec::with_capacity(alloc, ROOM)?);
     request.write(alloc, &mut out)?;

@@ -48,7 +48,7 @@ module _ {F T : Type 0} (serves : ℕ → F → LaneAt → F → LaneAt → Bool
     (h : HasWorked serves ticks_give config feeds ticks old new counts is_full) where
   -- a run, of which this is so
   abbrev RanSo : (List F → T → LineSinkState → LineSinkState → Type 0)
-  RanSo fs ts first last = (ran : Ran receives ticks_give (core_of config) (nodes_of config) config.queue_capacity config.lanes config.shards fs ts first last)
+  RanSo fs ts first last = (ran : Ran receives ticks_give (core_of config) (nodes_of config) config.keeps_doubles config.queue_capacity config.lanes config.shards fs ts first last)
       × (any_full h.left ≡ false → (lane : ℕ) → lane < config.lanes → ran.stopped lane ≡ false)
       × (any_full h.left ≡ false → (report : List ℕ) → AreSums (parts_of h.left) report → Reports (core_of config) config.lanes config.shards ran.threads ran.end report)
       × ((any_full h.left ≡ true) ⊎ SumPasses (parts_of h.left) → CountPasses (core_of config) config.lanes config.shards ran.threads ran.end)
@@ -58,7 +58,7 @@ module _ {F T : Type 0} (serves : ℕ → F → LaneAt → F → LaneAt → Bool
       (subst (λ (e : ExporterState). RanSo feeds ticks e.sink h.left.exporter.exporter.sink) h.exporter_is
       (subst (λ (t : T). RanSo feeds t h.given.exporter.sink h.left.exporter.exporter.sink) h.ticks_are
       (subst (λ (f : List F). RanSo f h.given.ticks h.given.exporter.sink h.left.exporter.exporter.sink) h.feeds_are
-      (workers_ran serves receives law ticks_give (core_of config) (nodes_of config) config.queue_capacity config.export_capacity config.lanes config.shards h.given h.left (ap (λ (e : ExporterState). e.size) h.exporter_is ∙ size) h.worked))))
+      (workers_ran serves receives law ticks_give (core_of config) (nodes_of config) config.keeps_doubles config.queue_capacity config.export_capacity config.lanes config.shards h.given h.left (ap (λ (e : ExporterState). e.size) h.exporter_is ∙ size) h.worked))))
 
   ran_holds : HoldsOfThreads (core_of config) config.lanes config.shards ran_so.0.threads ran_so.0.end
   ran_holds = woven_headline (core_of config) config.lanes config.shards ran_so.0.threads ran_so.0.end (keeps_a_trace config some each) some ran_so.0.ran.meets

@@ -43,7 +43,7 @@ pub any_mapped : {X Y : Type 0} (test : Y → Bool) (f : X → Y) (xs : List X) 
 any_mapped test f [] = refl
 any_mapped test f (x ∷ xs) = ap (λ (b : Bool). test (f x) || b) (any_mapped test f xs)
 
-module _ {F T : Type 0} (serves : ℕ → F → LaneAt → F → LaneAt → Bool → Type 0) (ticks_give : T → Option ℕ → T → Type 0) (s : Settings) (nodes : List LimiterNode) (capacity lanes shards : ℕ) (given : Given F T) (left : Left) where
+module _ {F T : Type 0} (serves : ℕ → F → LaneAt → F → LaneAt → Bool → Type 0) (ticks_give : T → Option ℕ → T → Type 0) (s : Settings) (nodes : List LimiterNode) (keeps_doubles : Bool) (capacity lanes shards : ℕ) (given : Given F T) (left : Left) where
   -- all did what they promise, with new ends and seats
   pub record Done : Type 0 where
     pub lane_count : length given.feeds ≡ lanes
@@ -53,7 +53,7 @@ module _ {F T : Type 0} (serves : ℕ → F → LaneAt → F → LaneAt → Bool
     pub new_batch : given.exporter.batch ≡ []
     pub up : given.exporter.sink.is_down ≡ false
     pub exporter_ends : length given.exporter.ends ≡ shards
-    pub lanes_did : LanesDid serves capacity 0 given.feeds given.columns left.lanes
+    pub lanes_did : LanesDid serves keeps_doubles capacity 0 given.feeds given.columns left.lanes
     pub ticker_did : TickerDid ticks_give lanes given.ticks given.ticker left.ticker
     pub shards_did : ShardsDid s 0 given.shards left.shards
     pub exporter_did : ExporterDid given.exporter given.shipments zeros left.exporter.exporter left.exporter.receiver left.exporter.counted left.exporter.is_full
@@ -61,7 +61,7 @@ module _ {F T : Type 0} (serves : ℕ → F → LaneAt → F → LaneAt → Bool
   pub tied_left : Done → IsTiedGrid (senders_of left) (map (λ (x : ShardOut). x.receiver) left.shards)
   tied_left d = tied_still (given.columns ++ given.ticker ∷ []) (senders_of left) (map (λ (x : ShardIn). x.receiver) given.shards) (map (λ (x : ShardOut). x.receiver) left.shards)
       (map-append (λ (column : List (EndState Item)). queues column) (map (λ (out : LaneOut). out.senders) left.lanes) (left.ticker ∷ [])
-      ∙ (ap (λ (z : List (List TableId)). z ++ queues left.ticker ∷ []) (lanes_queues serves capacity 0 given.feeds given.columns left.lanes d.lanes_did)
+      ∙ (ap (λ (z : List (List TableId)). z ++ queues left.ticker ∷ []) (lanes_queues serves keeps_doubles capacity 0 given.feeds given.columns left.lanes d.lanes_did)
       ∙ (ap (λ (z : List TableId). map (λ (column : List (EndState Item)). queues column) given.columns ++ z ∷ []) (ap queues d.ticker_did.ends ∙ ticks_queues d.ticker_did.moments lanes given.ticker)
       ∙ sym (map-append (λ (column : List (EndState Item)). queues column) given.columns (given.ticker ∷ [])))))
       (shards_queues s 0 given.shards left.shards d.shards_did) d.ends.tied
@@ -80,7 +80,7 @@ module _ {F T : Type 0} (serves : ℕ → F → LaneAt → F → LaneAt → Bool
   pub worked : (export_capacity : ℕ) → Done → HaveHistories capacity (senders_of left) (map (λ (x : ShardOut). x.receiver) left.shards)
       → ((k : ℕ) → k < length left.exporter.receiver.ends → HasHistoryAt export_capacity (map (λ (x : ShardOut). x.sender) left.shards) left.exporter.receiver.ends k)
       → HaveOneHistoryEach (map (λ (x : ShardOut). x.seat) left.shards)
-      → Worked serves ticks_give s nodes capacity export_capacity lanes shards given left
+      → Worked serves ticks_give s nodes keeps_doubles capacity export_capacity lanes shards given left
   worked export_capacity d histories shipped seats = record {
     lane_count = d.lane_count;
     shard_count = d.shard_count;

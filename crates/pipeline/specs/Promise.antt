@@ -56,7 +56,7 @@ module _ {F T : Type 0} (serves : ℕ → F → LaneAt → F → LaneAt → Bool
   pub record HasWorked (old new : ExporterState) (counts : List (List ℕ)) (is_full : Bool) : Type 0 where
     pub given : Given F T
     pub left : Left
-    pub worked : Worked serves ticks_give (settings_for (core_of config) (config.lanes + 1)) (nodes_of config) config.queue_capacity config.export_capacity config.lanes config.shards given left
+    pub worked : Worked serves ticks_give (settings_for (core_of config) (config.lanes + 1)) (nodes_of config) config.keeps_doubles config.queue_capacity config.export_capacity config.lanes config.shards given left
     pub feeds_are : given.feeds ≡ servers
     pub ticks_are : given.ticks ≡ ticks
     pub exporter_is : given.exporter ≡ old
@@ -84,7 +84,7 @@ module _ {F T : Type 0} (serves : ℕ → F → LaneAt → F → LaneAt → Bool
 module _ {F T : Type 0} (receives : ℕ → F → LaneAt → List Arrival → F → LaneAt → List Arrival → Bool → Type 0) (ticks_give : T → Option ℕ → T → Type 0) (config : Config) (servers : List F) (ticks : T) where
   -- what the threads did is a run of the core, for which the headline holds; the report and the sink tell of it
   pub record IsRun (old new : LineSinkState) (report : List ℕ) : Type 0 where
-    pub ran : Ran receives ticks_give (core_of config) (nodes_of config) config.queue_capacity config.lanes config.shards servers ticks old new
+    pub ran : Ran receives ticks_give (core_of config) (nodes_of config) config.keeps_doubles config.queue_capacity config.lanes config.shards servers ticks old new
     -- each lane's connections were served to their end
     pub none_stopped : (lane : ℕ) → lane < config.lanes → ran.stopped lane ≡ false
     -- no count passes 2^64-1
@@ -94,7 +94,7 @@ module _ {F T : Type 0} (receives : ℕ → F → LaneAt → List Arrival → F 
 
   -- the same of a run some of whose counts passes 2^64-1, so that there is no report of it
   pub record IsRunBeyond (old new : LineSinkState) : Type 0 where
-    pub ran : Ran receives ticks_give (core_of config) (nodes_of config) config.queue_capacity config.lanes config.shards servers ticks old new
+    pub ran : Ran receives ticks_give (core_of config) (nodes_of config) config.keeps_doubles config.queue_capacity config.lanes config.shards servers ticks old new
     pub passes : CountPasses (core_of config) config.lanes config.shards ran.threads ran.end
     pub holds : HoldsOfThreads (core_of config) config.lanes config.shards ran.threads ran.end
 

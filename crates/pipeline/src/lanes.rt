@@ -1,5 +1,5 @@
 //! What the lanes' threads are given.
-ghost use Rattle.std.specs.Prelude.{◌≡◌, ◌<◌, ◌≤◌, [], All, length, map, vec_len, vec_capacity, IfOk};
+ghost use Rattle.std.specs.Prelude.{◌≡◌, ◌<◌, ◌≤◌, false, [], All, length, map, vec_len, vec_capacity, IfOk};
 ghost use Rattle.queue_grid.specs.Grid.{ends_of};
 ghost use Rattle.pipeline.specs.Made.{NumberedFrom};
 
@@ -13,9 +13,11 @@ use std::sync::Wait;
 
 /// What the lanes' threads are given: for each feed, in their order, a lane of its number over its ends. `asks_again`: a
 /// request for whose spans a queue lacks room is to be sent again. One that comes while the gate's brake is on is in any case.
+/// `keeps_doubles`: the lanes keep doubles.
 pub fn lane_jobs<'s, F: Drop, C: Room, G: Gate, P, M, R: Wait>(
     lent: &Lent<'s, G, P, M, R>,
     asks_again: bool,
+    keeps_doubles: bool,
     feeds: Vec<F>,
     columns: Vec<Vec<Sender<Item, C>>>,
 ) -> Result<Vec<LaneJob<'s, F, C, G, P, M, R>>, AllocError>
@@ -26,7 +28,7 @@ pub fn lane_jobs<'s, F: Drop, C: Room, G: Gate, P, M, R: Wait>(
     ensures feeds { IfOk result (λ jobs. map (λ job. job.feed) jobs.items ≡ feeds.items) }
     ensures columns { IfOk result (λ jobs. map (λ job. job.lane.ports) jobs.items ≡ ends_of columns.items) }
     ensures numbers { IfOk result (λ jobs. NumberedFrom 0 (map (λ job. job.number) jobs.items)) }
-    ensures new { IfOk result (λ jobs. All (λ job. job.lane.connected ≡ 0) jobs.items) }
+    ensures new { IfOk result (λ jobs. All (λ job. (job.lane.connected ≡ 0) × (job.lane.keeps_doubles ≡ keeps_doubles)) jobs.items) }
 {
     let mut feeds = feeds;
     let mut columns = columns;
@@ -34,7 +36,7 @@ pub fn lane_jobs<'s, F: Drop, C: Room, G: Gate, P, M, R: Wait>(
     while let Some(feed) = feeds.pop() {
         let number = feeds.len() as u16;
         let senders = columns.take_last();
-        jobs.push_reserved(lane_job(lent, asks_again, number, feed, senders)?);
+        jobs.push_reserved(lane_job(lent, asks_again, keeps_doubles, number, feed, senders)?);
     }
     jobs.reverse();
     Ok(jobs)
@@ -44,13 +46,14 @@ pub fn lane_jobs<'s, F: Drop, C: Room, G: Gate, P, M, R: Wait>(
 fn lane_job<'s, F: Drop, C: Room, G: Gate, P, M, R: Wait>(
     lent: &Lent<'s, G, P, M, R>,
     asks_again: bool,
+    keeps_doubles: bool,
     number: u16,
     feed: F,
     senders: Vec<Sender<Item, C>>,
 ) -> Result<LaneJob<'s, F, C, G, P, M, R>, AllocError>
     requires { 0 < length senders.items }
     ensures number { IfOk result (λ job. job.number ≡ number) }
-    ensures lane { IfOk result (λ job. job.lane ≡ record { number = number; connected = 0; ports = senders.items }) }
+    ensures lane { IfOk result (λ job. job.lane ≡ record { number = number; connected = 0; ports = senders.items; keeps_doubles = keeps_doubles }) }
     ensures room { IfOk result (λ job. (job.room.items ≡ []) × (length job.lane.ports ≤ vec_capacity job.room)) }
     ensures feed { IfOk result (λ job. job.feed ≡ feed) }
 {
@@ -61,7 +64,9 @@ fn lane_job<'s, F: Drop, C: Room, G: Gate, P, M, R: Wait>(
         alloc: lent.alloc,
         number,
         feed,
-        lane: lane_of(lent.rt, asks_again, brake, number, senders, ports),
+        lane: lane_of(lent.rt, asks_again, brake, number, senders, ports).keeping_doubles(
+            keeps_doubles,
+        ),
         room,
         gate: lent.gate,
         stop: lent.stop,
@@ -82,7 +87,7 @@ fn lane_lists<'s, C: Room, R: Wait>(
     Ok((ports, room))
 }
 
-/// A lane over these ends; `ports` has room for them.
+/// A lane over these ends, which discards doubles; `ports` has room for them.
 fn lane_of<'s, C: Room, R: Wait>(
     rt: &'s R,
     asks_again: bool,
@@ -93,7 +98,7 @@ fn lane_of<'s, C: Room, R: Wait>(
 ) -> Lane<SenderPort<'s, Item, C, R>>
     requires some { 0 < length senders.items }
     requires room { (ports.items ≡ []) × (length senders.items ≤ vec_capacity ports) }
-    ensures { result ≡ record { number = number; connected = 0; ports = senders.items } }
+    ensures { result ≡ record { number = number; connected = 0; ports = senders.items; keeps_doubles = false } }
 {
     let mut ports = ports;
     for sender in senders {

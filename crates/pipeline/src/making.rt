@@ -64,7 +64,7 @@ pub fn make<'s, F: Drop, T: Drop, C: Room, D: Room, G: Gate, P, M, R: Wait>(
     ensures feeds { IfOk result (λ made. map (λ job. job.feed) made.team.first.items ≡ feeds.items) }
     ensures ticker { IfOk result (λ made. (made.team.second.number ≡ config.now.lanes) × (made.team.second.ticks ≡ ticks)) }
     ensures numbers { IfOk result (λ made. NumberedFrom 0 (map (λ job. job.number) made.team.first.items) × NumberedFrom 0 (map (λ job. job.number) made.team.third.items)) }
-    ensures new_lanes { IfOk result (λ made. All (λ job. job.lane.connected ≡ 0) made.team.first.items) }
+    ensures new_lanes { IfOk result (λ made. All (λ job. (job.lane.connected ≡ 0) × (job.lane.keeps_doubles ≡ config.now.keeps_doubles)) made.team.first.items) }
     ensures new_shards { IfOk result (λ made. All (λ job. HasSettings config.now job.shard) made.team.third.items) }
     ensures ends { IfOk result (λ made. HasEnds (nodes_of config.now) config.now.shards (map (λ job. job.lane.ports) made.team.first.items) made.team.second.senders.items
         (map (λ job. job.receiver) made.team.third.items) (map (λ job. job.sender) made.team.third.items) (map (λ job. job.seat) made.team.third.items) made.shipments) }
@@ -117,7 +117,7 @@ fn team_of<'s, F: Drop, T: Drop, C: Room, D: Room, G: Gate, P, M, R: Wait>(
     ensures feeds { IfOk result (λ team. map (λ job. job.feed) team.first.items ≡ feeds.items) }
     ensures ticker { IfOk result (λ team. (team.second.number ≡ config.now.lanes) × (team.second.ticks ≡ ticks)) }
     ensures numbers { IfOk result (λ team. NumberedFrom 0 (map (λ job. job.number) team.first.items) × NumberedFrom 0 (map (λ job. job.number) team.third.items)) }
-    ensures new_lanes { IfOk result (λ team. All (λ job. job.lane.connected ≡ 0) team.first.items) }
+    ensures new_lanes { IfOk result (λ team. All (λ job. (job.lane.connected ≡ 0) × (job.lane.keeps_doubles ≡ config.now.keeps_doubles)) team.first.items) }
     ensures new_shards { IfOk result (λ team. All (λ job. HasSettings config.now job.shard) team.third.items) }
     ensures ports { IfOk result (λ team. ends_of columns.items ≡ map (λ job. job.lane.ports) team.first.items ++ team.second.senders.items ∷ []) }
     ensures ends { IfOk result (λ team. (map (λ job. job.seat) team.third.items ≡ ends.entry.seats.items) × (map (λ job. job.receiver) team.third.items ≡ ends.entry.receivers.items) × (map (λ job. job.sender) team.third.items ≡ ends.entry.exports.items)) }
@@ -126,7 +126,13 @@ fn team_of<'s, F: Drop, T: Drop, C: Room, D: Room, G: Gate, P, M, R: Wait>(
     let mut columns = columns;
     let senders = columns.take_last();
     let third = shard_jobs(lent, config, ends)?;
-    let first = lane_jobs(lent, config.waits_for_room, feeds, columns)?;
+    let first = lane_jobs(
+        lent,
+        config.waits_for_room,
+        config.keeps_doubles,
+        feeds,
+        columns,
+    )?;
     Ok(Team {
         first,
         second: TickerJob {

@@ -251,7 +251,7 @@ module _ (capacity number : ℕ) (first : List (EndState Item)) where
       → (came : List Arrival) × Came old.at s s.reply came × OnConn (is_full || not s.is_counted) (log new (old.received ++ came))
   takes is_full old s new o h = go s.reply refl h.received h.refused
     where
-      go : (reply : Reply) → s.reply ≡ reply → OnReceived reply ((d : Data) × (request : Request) × IsJson s.body d × (request_of false d ≡ Some request)
+      go : (reply : Reply) → s.reply ≡ reply → OnReceived reply ((d : Data) × (request : Request) × IsJson s.body d × (request_of old.at.lane.keeps_doubles d ≡ Some request)
           × Receives (TakesItem capacity) (IsRefused capacity) (arrivals_from old.at.conn.key old.at.conn.next s.moment (records_of request)) old.at.lane.ports s.reply new.lane.ports
           × (new.conn ≡ record old.at.conn { next = old.at.conn.next + length (arrivals_from old.at.conn.key old.at.conn.next s.moment (records_of request)) }))
           → (IsRefusal reply → (new.lane ≡ old.at.lane) × (new.conn ≡ old.at.conn))

@@ -214,8 +214,8 @@ module _ (g : Allowed) (capacity number : ℕ) (first : List (EndState Item)) wh
 
 module _ {V : Type 0} (allowed_of : V → Allowed) where
   pub by_turns : IsReceived (serves_by_turns allowed_of) (receives_by_turns allowed_of)
-  by_turns capacity number ports old new last is_full h =
-      let all = goes (allowed_of old) capacity number ports h.acts false (lane_at (record { number = number; connected = 0; ports = ports }) zeros) last (λ k. 0) [] (record { keeps = keeps_first capacity number ports; lane_is = refl; below = tt; next_is = λ k. refl }) numbers to_come h.fits.did in (
+  by_turns keeps_doubles capacity number ports old new last is_full h =
+      let all = goes (allowed_of old) capacity number ports h.acts false (lane_at (record { number = number; connected = 0; ports = ports; keeps_doubles = keeps_doubles }) zeros) last (λ k. 0) [] (record { keeps = keeps_first capacity number ports; lane_is = refl; below = tt; next_is = λ k. refl }) numbers to_come h.fits.did in (
         all.0,
         record { acts = h.acts; open_at = h.open_at; fits = h.fits; logged = all.1; full = h.full; all_over = h.all_over },
         subst (λ (full : Bool). Keeps capacity number ports full all.0 last.lane.ports last.counted) h.full all.2,

@@ -26,9 +26,9 @@ keeps_first capacity number ports = record { refused = 0; numbered = none_number
 
 module _ {V F X : Type 0} (feed_of : V → F) (gives : F → Option X → F → Type 0) (known : X → Connection) where
   pub one_by_one : IsReceived (serves_one_by_one feed_of gives known) (receives_one_by_one feed_of gives known)
-  one_by_one capacity number ports old new last is_full h =
-      let all = serves_all capacity number ports gives known h.0 (feed_of old) (lane_at (record { number = number; connected = 0; ports = ports }) zeros) [] (feed_of new) last is_full begin h.1 in
+  one_by_one keeps_doubles capacity number ports old new last is_full h =
+      let all = serves_all capacity number ports gives known h.0 (feed_of old) (lane_at (record { number = number; connected = 0; ports = ports; keeps_doubles = keeps_doubles }) zeros) [] (feed_of new) last is_full begin h.1 in
       (all.0, (h.0, all.1), all.2.keeps)
     where
-      begin : Between capacity number ports false (lane_at (record { number = number; connected = 0; ports = ports }) zeros) []
+      begin : Between capacity number ports false (lane_at (record { number = number; connected = 0; ports = ports; keeps_doubles = keeps_doubles }) zeros) []
       begin = record { keeps = keeps_first capacity number ports; lane_is = refl; below = tt }

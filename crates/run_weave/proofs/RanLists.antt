@@ -86,8 +86,8 @@ same_shards s number [] (o ∷ outs) did = absurd did
 same_shards s number (g ∷ ins) [] did = absurd did
 same_shards s number (g ∷ ins) (o ∷ outs) did = ap suc (same_shards s (number + 1) ins outs did.1)
 
-module _ {F : Type 0} (serves : ℕ → F → LaneAt → F → LaneAt → Bool → Type 0) (capacity : ℕ) where
-  pub same_columns : (number : ℕ) (feeds : List F) (columns : List (List (EndState Item))) (outs : List LaneOut) → LanesDid serves capacity number feeds columns outs → length columns ≡ length feeds
+module _ {F : Type 0} (serves : ℕ → F → LaneAt → F → LaneAt → Bool → Type 0) (keeps_doubles : Bool) (capacity : ℕ) where
+  pub same_columns : (number : ℕ) (feeds : List F) (columns : List (List (EndState Item))) (outs : List LaneOut) → LanesDid serves keeps_doubles capacity number feeds columns outs → length columns ≡ length feeds
   same_columns number [] [] outs did = refl
   same_columns number [] (column ∷ columns) [] did = absurd did
   same_columns number [] (column ∷ columns) (out ∷ outs) did = absurd did

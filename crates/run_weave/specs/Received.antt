@@ -81,8 +81,8 @@ pub record Keeps (capacity number : ℕ) (first : List (EndState Item)) (is_full
   pub tries : TriesOf capacity (λ (e : EndState Item). e.items) received first refused ports
   pub counts : Tallied is_full (lane_gains received refused) counted
 
--- of all that is served of a lane with new numbers something was received, and it is kept so
+-- of all that is served of a lane with new numbers, which keeps doubles or discards them, something was received, and it is kept so
 abbrev pub IsReceived : {V : Type 0} → (serves : ℕ → V → LaneAt → V → LaneAt → Bool → Type 0) → (receives : ℕ → V → LaneAt → List Arrival → V → LaneAt → List Arrival → Bool → Type 0) → Type 0
-IsReceived {V} serves receives = (capacity number : ℕ) (ports : List (EndState Item)) (old new : V) (last : LaneAt) (is_full : Bool)
-    → serves capacity old (lane_at (record { number = number; connected = 0; ports = ports }) zeros) new last is_full
-    → (received : List Arrival) × receives capacity old (lane_at (record { number = number; connected = 0; ports = ports }) zeros) [] new last received is_full × Keeps capacity number ports is_full received last.lane.ports last.counted
+IsReceived {V} serves receives = (keeps_doubles : Bool) (capacity number : ℕ) (ports : List (EndState Item)) (old new : V) (last : LaneAt) (is_full : Bool)
+    → serves capacity old (lane_at (record { number = number; connected = 0; ports = ports; keeps_doubles = keeps_doubles }) zeros) new last is_full
+    → (received : List Arrival) × receives capacity old (lane_at (record { number = number; connected = 0; ports = ports; keeps_doubles = keeps_doubles }) zeros) [] new last received is_full × Keeps capacity number ports is_full received last.lane.ports last.counted

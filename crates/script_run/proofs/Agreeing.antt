@@ -210,23 +210,23 @@ value_same : (body : List ℕ) (d e : Data) → IsJson body d → IsJson body e 
 value_same body d e h g = let both : Some d ≡ Some e = sym h.1 ∙ g.1 in cc
 
 -- a body is taken for one thing, but for a refusal as busy
-pub reading_same : (body : List ℕ) (p q : Reading) → IsTakenFor body p → IsTakenFor body q → (p ≡ refuses Busy → ⊥) → (q ≡ refuses Busy → ⊥) → p ≡ q
-reading_same body (reads a) (reads b) h g m n =
-    let both : Some a ≡ Some b = sym h.2 ∙ (ap (request_of false) (value_same body h.0 g.0 h.1 g.1) ∙ g.2) in
+pub reading_same : (keeps : Bool) (body : List ℕ) (p q : Reading) → IsTakenFor keeps body p → IsTakenFor keeps body q → (p ≡ refuses Busy → ⊥) → (q ≡ refuses Busy → ⊥) → p ≡ q
+reading_same keeps body (reads a) (reads b) h g m n =
+    let both : Some a ≡ Some b = sym h.2 ∙ (ap (request_of keeps) (value_same body h.0 g.0 h.1 g.1) ∙ g.2) in
     let same : a ≡ b = cc in ap (λ (z : Request). reads z) same
-reading_same body (reads a) (refuses (BadData Json)) h g m n = absurd (g h.0 h.1)
-reading_same body (reads a) (refuses (BadData Shape)) h g m n =
-    let both : Some a ≡ None = sym h.2 ∙ (ap (request_of false) (value_same body h.0 g.0 h.1 g.1) ∙ g.2) in absurd (cc both)
-reading_same body (refuses (BadData Json)) (reads b) h g m n = absurd (h g.0 g.1)
-reading_same body (refuses (BadData Shape)) (reads b) h g m n =
-    let both : Some b ≡ None = sym g.2 ∙ (ap (request_of false) (value_same body g.0 h.0 g.1 h.1) ∙ h.2) in absurd (cc both)
-reading_same body (refuses (BadData Json)) (refuses (BadData Json)) h g m n = refl
-reading_same body (refuses (BadData Shape)) (refuses (BadData Shape)) h g m n = refl
-reading_same body (refuses (BadData Json)) (refuses (BadData Shape)) h g m n = absurd (h g.0 g.1)
-reading_same body (refuses (BadData Shape)) (refuses (BadData Json)) h g m n = absurd (g h.0 h.1)
-reading_same body (refuses Busy) q h g m n = absurd (m refl)
-reading_same body p (refuses Busy) h g m n = absurd (n refl)
-reading_same body (refuses (Done k)) q h g m n = absurd h
-reading_same body (refuses (Partial k i f)) q h g m n = absurd h
-reading_same body p (refuses (Done k)) h g m n = absurd g
-reading_same body p (refuses (Partial k i f)) h g m n = absurd g
+reading_same keeps body (reads a) (refuses (BadData Json)) h g m n = absurd (g h.0 h.1)
+reading_same keeps body (reads a) (refuses (BadData Shape)) h g m n =
+    let both : Some a ≡ None = sym h.2 ∙ (ap (request_of keeps) (value_same body h.0 g.0 h.1 g.1) ∙ g.2) in absurd (cc both)
+reading_same keeps body (refuses (BadData Json)) (reads b) h g m n = absurd (h g.0 g.1)
+reading_same keeps body (refuses (BadData Shape)) (reads b) h g m n =
+    let both : Some b ≡ None = sym g.2 ∙ (ap (request_of keeps) (value_same body g.0 h.0 g.1 h.1) ∙ h.2) in absurd (cc both)
+reading_same keeps body (refuses (BadData Json)) (refuses (BadData Json)) h g m n = refl
+reading_same keeps body (refuses (BadData Shape)) (refuses (BadData Shape)) h g m n = refl
+reading_same keeps body (refuses (BadData Json)) (refuses (BadData Shape)) h g m n = absurd (h g.0 g.1)
+reading_same keeps body (refuses (BadData Shape)) (refuses (BadData Json)) h g m n = absurd (g h.0 h.1)
+reading_same keeps body (refuses Busy) q h g m n = absurd (m refl)
+reading_same keeps body p (refuses Busy) h g m n = absurd (n refl)
+reading_same keeps body (refuses (Done k)) q h g m n = absurd h
+reading_same keeps body (refuses (Partial k i f)) q h g m n = absurd h
+reading_same keeps body p (refuses (Done k)) h g m n = absurd g
+reading_same keeps body p (refuses (Partial k i f)) h g m n = absurd g

@@ -77,7 +77,7 @@ module _ (s : Settings) (sizes : Sizes) where
   receives_same old a b sink number moment body (inl h) g c d = absurd (not_busy old a [] h.1 c)
   receives_same old a b sink number moment body (inr h) (inl g) c d = absurd (not_busy (record old { sink = sink }) b [] g.1 d)
   receives_same old a b sink number moment body (inr h) (inr g) c d =
-      let same : h.0 ≡ g.0 = reading_same body h.0 g.0 h.1 g.1 (busy_answer old a number moment h.0 h.2 c) (busy_answer (record old { sink = sink }) b number moment g.0 g.2 d) in
+      let same : h.0 ≡ g.0 = reading_same sizes.keeps_doubles body h.0 g.0 h.1 g.1 (busy_answer old a number moment h.0 h.2 c) (busy_answer (record old { sink = sink }) b number moment g.0 g.2 d) in
       answers_same old a b sink number moment g.0 (subst (λ (z : Reading). Answers s sizes old number moment z a) same h.2) g.2 c d
 
   -- so does an instruction

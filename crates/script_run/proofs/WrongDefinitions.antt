@@ -39,9 +39,9 @@ use Rattle.script_run.specs.Laws.{Agrees, CalmRunsAgree}
 abbrev pub own : Settings
 own = record { policies = always; wait = 10; root_wait = 0; limit = Some 1; sampled_size = 1; non_sampled_size = 1; senders = 2 }
 
--- batches of one span, and queues of this capacity
+-- batches of one span, queues of this capacity, and doubles that are discarded
 abbrev pub with_queue : ℕ → Sizes
-with_queue capacity = record { batch = 1; queue = capacity }
+with_queue capacity = record { batch = 1; queue = capacity; keeps_doubles = false }
 
 abbrev first_sink : LineSinkState
 first_sink = record { taken = Some []; failures = 0; is_down = false }
@@ -193,14 +193,14 @@ span_pushed = record {
   replied = (refl, refl);
 }
 
-waiting_played : (body : List ℕ) → IsTakenFor body (reads of_one_span) → Plays own (with_queue 1) start (receive 0 0 body) waiting_world
+waiting_played : (body : List ℕ) → IsTakenFor false body (reads of_one_span) → Plays own (with_queue 1) start (receive 0 0 body) waiting_world
 unfolding notes
 waiting_played body taken = (refl, refl, inr (reads of_one_span, taken, (Done 1, queued_span ∷ [], span_pushed, (waiting_world.sink, writes [] done_line, silent (with_queue 1) (record waiting_world { journals = start.journals }) waiting_world.journals _ takes))))
   where
     takes : TakesRounds own start.journals [] (((Span span ∷ []) ∷ []) ∷ []) waiting_world.journals [] []
     takes = (waiting_world.journals, [], [], [], ([], [], [], ((false, false, refl, refl), refl), (refl, refl), refl), (refl, refl, refl), refl)
 
-spoiled_played : (body : List ℕ) → IsTakenFor body (reads of_one_span) → PlaysAll own (with_queue 1) start (receive 0 0 body ∷ tick 11 ∷ []) spoiled
+spoiled_played : (body : List ℕ) → IsTakenFor false body (reads of_one_span) → PlaysAll own (with_queue 1) start (receive 0 0 body ∷ tick 11 ∷ []) spoiled
 unfolding notes
 spoiled_played body taken = (
   waiting_world,

@@ -92,7 +92,7 @@ number_but_full s w count = not_full w count + (counted_at_shards s w.journals c
 abbrev full_world : World
 full_world = record used_once { contacts = with_received 0 1 start.contacts }
 
-full_played : (body : List ℕ) → IsTakenFor body (reads of_one_span) → PlaysAll own (with_queue 0) start (receive 0 0 body ∷ []) full_world
+full_played : (body : List ℕ) → IsTakenFor false body (reads of_one_span) → PlaysAll own (with_queue 0) start (receive 0 0 body ∷ []) full_world
 unfolding notes
 full_played body taken = (full_world, (refl, refl, inr (reads of_one_span, taken, (full_reply, empty_queues 0 1, refused, (full_world.sink, writes [] full_line, silent (with_queue 0) full_world ([] ∷ []) _ idle_round)))), refl)
   where
@@ -195,7 +195,7 @@ late_world = record closed_world {
   sink = record { taken = Some done_line; failures = 0; is_down = false };
 }
 
-late_played : (body : List ℕ) → IsTakenFor body (reads of_one_span) → Receives own (with_queue 1) closed_world 0 0 body late_world
+late_played : (body : List ℕ) → IsTakenFor false body (reads of_one_span) → Receives own (with_queue 1) closed_world 0 0 body late_world
 unfolding notes
 late_played body taken = inr (reads of_one_span, taken, (Done 1, queued_span ∷ [], span_pushed, (late_world.sink, writes [] done_line, silent (with_queue 1) (record late_world { journals = ends ∷ [] }) late_world.journals _ takes)))
   where

@@ -1,5 +1,5 @@
 -- What a request gives: a reply, and its spans.
-use Rattle.std.specs.Prelude.{◌≡◌, ℕ, List, ◌++◌, Some, None, codes, decimal, false}
+use Rattle.std.specs.Prelude.{◌≡◌, ℕ, Bool, List, ◌++◌, Some, None, codes, decimal}
 use Rattle.serde_json.specs.Data.{Data}
 use Rattle.otlp_reading.specs.Decoding.{IsJson}
 use Rattle.otlp_reading.specs.Reading.{request_of}
@@ -18,14 +18,14 @@ pub data Reading : Type 0 where
   reads : Request → Reading
   refuses : Reply → Reading
 
--- a body is refused as no JSON or of the wrong shape only where it is; for want of memory, or of numbers, any body may be refused as busy
-abbrev pub IsTakenFor : List ℕ → Reading → Type 0
-IsTakenFor body (reads request) = (d : Data) × IsJson body d × (request_of false d ≡ Some request)
-IsTakenFor body (refuses (BadData Json)) = (d : Data) → IsJson body d → ⊥
-IsTakenFor body (refuses (BadData Shape)) = (d : Data) × IsJson body d × (request_of false d ≡ None)
-IsTakenFor body (refuses Busy) = Unit {0}
-IsTakenFor body (refuses (Done spans)) = ⊥
-IsTakenFor body (refuses (Partial spans invalid full)) = ⊥
+-- where doubles are kept or discarded: a body is refused as no JSON or of the wrong shape only where it is; for want of memory, or of numbers, any body may be refused as busy
+abbrev pub IsTakenFor : (keeps_doubles : Bool) → List ℕ → Reading → Type 0
+IsTakenFor keeps_doubles body (reads request) = (d : Data) × IsJson body d × (request_of keeps_doubles d ≡ Some request)
+IsTakenFor keeps_doubles body (refuses (BadData Json)) = (d : Data) → IsJson body d → ⊥
+IsTakenFor keeps_doubles body (refuses (BadData Shape)) = (d : Data) × IsJson body d × (request_of keeps_doubles d ≡ None)
+IsTakenFor keeps_doubles body (refuses Busy) = Unit {0}
+IsTakenFor keeps_doubles body (refuses (Done spans)) = ⊥
+IsTakenFor keeps_doubles body (refuses (Partial spans invalid full)) = ⊥
 
 -- the arrivals of a request that came on this connection at this moment
 abbrev pub arrivals_of : Conn → (moment : ℕ) → Request → List Arrival

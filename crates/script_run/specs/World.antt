@@ -49,10 +49,11 @@ new_world lanes shards sink = record {
   closed = false;
 }
 
--- how many spans a batch holds, and a queue to a shard
+-- how many spans a batch holds, and a queue to a shard; and whether doubles are kept
 pub record Sizes : Type 0 where
   pub batch : ℕ
   pub queue : ℕ
+  pub keeps_doubles : Bool
 
 -- an item as it is taken: whether memory was refused to it, or to the decision that its opening put out of the buffer; no decision at it is answered yet
 abbrev pub entry_of : Item → (refused lost : Bool) → Entry
@@ -133,7 +134,7 @@ Answers s sizes old number moment (reads request) new =
 abbrev pub Receives : Settings → Sizes → World → (number moment : ℕ) → (body : List ℕ) → World → Type 0
 Receives s sizes old number moment body new =
     ((lookup (nat_eq number) old.contacts.connections ≡ None) × RepliesAndRuns s sizes old Busy [] new)
-    ⊎ ((reading : Reading) × IsTakenFor body reading × Answers s sizes old number moment reading new)
+    ⊎ ((reading : Reading) × IsTakenFor sizes.keeps_doubles body reading × Answers s sizes old number moment reading new)
 
 -- this item for each of these
 abbrev pub to_each : {A : Type 0} → Item → List A → List (List Item)

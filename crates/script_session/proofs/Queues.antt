@@ -77,11 +77,11 @@ all-kept (a ∷ rest) old new n p =
     let more = all-kept rest p.2 new p.1 p.5 in
     (λ all. more.0 (one.0 all), more.1 ∙ one.1)
 
-pub submits-kept : (old new : Contacts) (number moment : ℕ) (body : List ℕ) (before after : List (QueueState Item)) (reply : Reply) → Submits old number moment body before reply after new
+pub submits-kept : (keeps : Bool) (old new : Contacts) (number moment : ℕ) (body : List ℕ) (before after : List (QueueState Item)) (reply : Reply) → Submits keeps old number moment body before reply after new
     → (AllByRecursion HoldsQueued before → AllByRecursion HoldsQueued after) × (map emptied after ≡ map emptied before)
-submits-kept old new number moment body before after reply (inl s) = let P = λ (qs : List (QueueState Item)). AllByRecursion HoldsQueued qs in (λ all. subst P (sym s.2) all, ap (map emptied) s.2)
-submits-kept old new number moment body before after reply (inr (inl s)) = let P = λ (qs : List (QueueState Item)). AllByRecursion HoldsQueued qs in (λ all. subst P (sym s.1) all, ap (map emptied) s.1)
-submits-kept old new number moment body before after reply (inr (inr s)) = all-kept _ before after s.2.refused s.2.pushed
+submits-kept keeps old new number moment body before after reply (inl s) = let P = λ (qs : List (QueueState Item)). AllByRecursion HoldsQueued qs in (λ all. subst P (sym s.2) all, ap (map emptied) s.2)
+submits-kept keeps old new number moment body before after reply (inr (inl s)) = let P = λ (qs : List (QueueState Item)). AllByRecursion HoldsQueued qs in (λ all. subst P (sym s.1) all, ap (map emptied) s.1)
+submits-kept keeps old new number moment body before after reply (inr (inr s)) = all-kept _ before after s.2.refused s.2.pushed
 
 -- ---- empty queues
 
@@ -94,11 +94,11 @@ empty-emptied capacity zero = refl
 empty-emptied capacity (suc n) = ap (λ qs. record { items = []; capacity = capacity } ∷ qs) (empty-emptied capacity n)
 
 -- what a request leaves of empty queues, once the shards took what was received
-pub queues-left : (old new : Contacts) (number moment : ℕ) (body : List ℕ) (before after : List (QueueState Item)) (reply : Reply) (capacity shards : ℕ) (b : Bool) → Submits old number moment body before reply after new
+pub queues-left : (keeps : Bool) (old new : Contacts) (number moment : ℕ) (body : List ℕ) (before after : List (QueueState Item)) (reply : Reply) (capacity shards : ℕ) (b : Bool) → Submits keeps old number moment body before reply after new
     → b ≡ is_received reply → before ≡ empty_queues capacity shards → cond b (map emptied after) after ≡ empty_queues capacity shards
-queues-left old new number moment body before after reply capacity shards true submits e is =
-    (submits-kept old new number moment body before after reply submits).1 ∙ ap (map emptied) is ∙ empty-emptied capacity shards
-queues-left old new number moment body before after reply capacity shards false submits e is = not_read submits ∙ is
+queues-left keeps old new number moment body before after reply capacity shards true submits e is =
+    (submits-kept keeps old new number moment body before after reply submits).1 ∙ ap (map emptied) is ∙ empty-emptied capacity shards
+queues-left keeps old new number moment body before after reply capacity shards false submits e is = not_read submits ∙ is
   where
     was_read : (spans invalid full : ℕ) (r : Reply) → IsReplyTo spans invalid full r → false ≡ is_received r → ⊥
     was_read spans invalid full (Done n) t f = cc f
@@ -106,7 +106,7 @@ queues-left old new number moment body before after reply capacity shards false 
     was_read spans invalid full (BadData cause) t f = t
     was_read spans invalid full Busy t f = t
 
-    not_read : Submits old number moment body before reply after new → after ≡ before
+    not_read : Submits keeps old number moment body before reply after new → after ≡ before
     not_read (inl s) = s.2
     not_read (inr (inl s)) = s.1
     not_read (inr (inr s)) = absurd (was_read _ _ s.2.refused reply s.2.replied e)

@@ -40,11 +40,11 @@ was-read spans invalid full (Partial n i f) t = refl
 was-read spans invalid full (BadData cause) t = absurd t
 was-read spans invalid full Busy t = absurd t
 
-not-read : (body : List ℕ) (r : Reply) → IsTakenFor body (refuses r) → is_received r ≡ false
-not-read body (Done n) t = absurd t
-not-read body (Partial n i f) t = absurd t
-not-read body (BadData cause) t = refl
-not-read body Busy t = refl
+not-read : (keeps : Bool) (body : List ℕ) (r : Reply) → IsTakenFor keeps body (refuses r) → is_received r ≡ false
+not-read keeps body (Done n) t = absurd t
+not-read keeps body (Partial n i f) t = absurd t
+not-read keeps body (BadData cause) t = refl
+not-read keeps body Busy t = refl
 
 module _ (s : Settings) (sizes : Sizes) (w : World) (number moment : ℕ) (body : List ℕ) (later : Contacts) (after : List (QueueState Item)) (reply : Reply) (rounds : List (List (List Item)))
     (on_read : is_received reply ≡ true → rounds ≡ items_in after ∷ []) (on_refused : is_received reply ≡ false → rounds ≡ []) where
@@ -71,13 +71,13 @@ module _ (s : Settings) (sizes : Sizes) (w : World) (number moment : ℕ) (body 
             leads sink end line (subst P same runs);
       }
 
-  pub answered : Submits w.contacts number moment body (empty_queues sizes.queue (length w.journals)) reply after later → Answered s sizes w number moment body reply rounds later
+  pub answered : Submits sizes.keeps_doubles w.contacts number moment body (empty_queues sizes.queue (length w.journals)) reply after later → Answered s sizes w number moment body reply rounds later
   answered (inl d) =
       let refuses_it : is_received reply ≡ false = ap is_received d.1 in
       from w.contacts w.received w.full d.3 (none-counted w refuses_it (λ k. refl)) [] (on_refused refuses_it)
       (λ sink end line runs. let B = λ (r : Reply). RepliesAndRuns s sizes w r [] end in inl (d.0, subst B d.1 (sink, line, runs)))
   answered (inr (inl d)) =
-      let refuses_it = not-read body reply d.0 in
+      let refuses_it = not-read sizes.keeps_doubles body reply d.0 in
       let connected = with_connection number w.contacts in
       from connected w.received w.full d.2 (none-counted (record w { contacts = connected }) refuses_it (λ k. refl)) [] (on_refused refuses_it)
       (λ sink end line runs. inr (refuses reply, d.0, (sink, line, runs)))
@@ -89,7 +89,7 @@ module _ (s : Settings) (sizes : Sizes) (w : World) (number moment : ℕ) (body 
 -- a request was read or refused, what the reply tells was counted, and the shards took what was received
 pub receives : (s : Settings) (sizes : Sizes) (w : World) (number moment : ℕ) (body : List ℕ) (known later : Contacts) (before after : List (QueueState Item)) (reply : Reply) (old new : List Held) (start last : Counts)
     (first counted noted between final : Export) (closed : Bool) (rounds : List (List (List Item)))
-    → AreOf s w known old start first closed → before ≡ empty_queues sizes.queue (length w.journals) → Submits known number moment body before reply after later
+    → AreOf s w known old start first closed → before ≡ empty_queues sizes.queue (length w.journals) → Submits sizes.keeps_doubles known number moment body before reply after later
     → (is_received reply ≡ true → rounds ≡ items_in after ∷ []) → (is_received reply ≡ false → rounds ≡ [])
     → counted.0 ≡ first.0 → Adds first.1 (received_by reply) counted.1 → WritesLine counted.0.sink (reply_line reply) noted.0.sink → noted.1 ≡ counted.1
     → noted.0.batch ≡ counted.0.batch → noted.0.size ≡ counted.0.size → first.0.size ≡ sizes.batch → length first.0.batch ≡ 0
@@ -98,8 +98,8 @@ pub receives : (s : Settings) (sizes : Sizes) (w : World) (number moment : ℕ) 
     → ((flushed : Flushed) × Sends between.0.sink between.0.batch flushed final.0.sink × Adds between.1 (λ count. counted_for count flushed) final.1)
     → (end : World) × Receives s sizes w number moment body end × AreOf s end later new last final closed
 receives s sizes w number moment body known later before after reply old new start last first counted noted between final closed rounds are before_is submits on_read on_refused same adds line told batch_is size_is size empty takes alike room sent =
-    let S = λ (k : Contacts). Submits k number moment body before reply after later in
-    let E = λ (q : List (QueueState Item)). Submits w.contacts number moment body q reply after later in
+    let S = λ (k : Contacts). Submits sizes.keeps_doubles k number moment body before reply after later in
+    let E = λ (q : List (QueueState Item)). Submits sizes.keeps_doubles w.contacts number moment body q reply after later in
     let W = λ (k : LineSinkState). WritesLine k (reply_line reply) noted.0.sink in
     let a = answered s sizes w number moment body later after reply rounds on_read on_refused (subst E before_is (subst S are.contacts_are submits)) in
     let mid = after_reply reply noted.0.sink a.mid in

@@ -1,6 +1,6 @@
 -- What a reply tells of its request.
 -- For the contract of `submit`.
-use Rattle.std.proofs.Common.{◌≡◌, ℕ, ◌+◌, true, false, List, Some, None, length, refl, sym, ap, subst, ◌∙◌, inl, inr}
+use Rattle.std.proofs.Common.{◌≡◌, ℕ, ◌+◌, Bool, true, false, List, Some, None, length, refl, sym, ap, subst, ◌∙◌, inl, inr}
 use Rattle.std.specs.Prelude.{nat_eq}
 use Rattle.indexmap.specs.IndexMap.{insert_entry}
 use Rattle.lane_queue.specs.Queues.{QueueState, TakesLast, IsFull}
@@ -35,21 +35,21 @@ refusal (BadRequest cause) e = tt
 refusal Busy e = tt
 
 -- the cause of a refusal
-pub refused : (reply : Reply) (body : List ℕ) → is_received reply ≡ false → (reply ≡ BadRequest Json → (d : Data) → IsJson body d → ⊥)
-    → (reply ≡ BadRequest Shape → (d : Data) × IsJson body d × (request_of false d ≡ None)) → IsTakenFor body (refuses reply)
-refused (Done spans) body e json shape = absurd (cc e)
-refused (Partial spans invalid full) body e json shape = absurd (cc e)
-refused (BadRequest Json) body e json shape = json refl
-refused (BadRequest Shape) body e json shape = shape refl
-refused Busy body e json shape = tt
+pub refused : (keeps : Bool) (reply : Reply) (body : List ℕ) → is_received reply ≡ false → (reply ≡ BadRequest Json → (d : Data) → IsJson body d → ⊥)
+    → (reply ≡ BadRequest Shape → (d : Data) × IsJson body d × (request_of keeps d ≡ None)) → IsTakenFor keeps body (refuses reply)
+refused keeps (Done spans) body e json shape = absurd (cc e)
+refused keeps (Partial spans invalid full) body e json shape = absurd (cc e)
+refused keeps (BadRequest Json) body e json shape = json refl
+refused keeps (BadRequest Shape) body e json shape = shape refl
+refused keeps Busy body e json shape = tt
 
 -- a request that was read
-pub submits-read : (old mid new : Contacts) (number moment : ℕ) (body : List ℕ) (before after lane_before lane_after : List (QueueState Item)) (reply : Reply) (conn conn_after : Conn)
+pub submits-read : (keeps : Bool) (old mid new : Contacts) (number moment : ℕ) (body : List ℕ) (before after lane_before lane_after : List (QueueState Item)) (reply : Reply) (conn conn_after : Conn)
     → conn ≡ connection_of number old → mid ≡ with_connection number old → new ≡ record mid { connections = insert_entry nat_eq mid.connections number conn_after } → lane_before ≡ before → after ≡ lane_after
-    → ((d : Data) × (request : Request) × IsJson body d × (request_of false d ≡ Some request) × IsPushed TakesLast IsFull (arrivals_from conn.key conn.next moment (records_of request)) lane_before reply lane_after
+    → ((d : Data) × (request : Request) × IsJson body d × (request_of keeps d ≡ Some request) × IsPushed TakesLast IsFull (arrivals_from conn.key conn.next moment (records_of request)) lane_before reply lane_after
     × (conn_after ≡ record conn { next = conn.next + length (arrivals_from conn.key conn.next moment (records_of request)) }))
-    → Submits old number moment body before reply after new
-submits-read old mid new number moment body before after lane_before lane_after reply conn conn_after is_conn is_mid is_new is_before is_after r =
+    → Submits keeps old number moment body before reply after new
+submits-read keeps old mid new number moment body before after lane_before lane_after reply conn conn_after is_conn is_mid is_new is_before is_after r =
     let request = r.1 in
     let B = λ (q : List (QueueState Item)). IsPushed TakesLast IsFull (arrivals_of conn moment request) q reply lane_after in
     let A = λ (q : List (QueueState Item)). IsPushed TakesLast IsFull (arrivals_of conn moment request) before reply q in
@@ -59,6 +59,6 @@ submits-read old mid new number moment body before after lane_before lane_after 
     inr (inr (request, (r.0, r.2, r.3), subst C is_conn (subst A (sym is_after) (subst B is_before r.4)), grown ∙ ap (λ (m : Contacts). N m conn) is_mid ∙ ap (N (with_connection number old)) is_conn))
 
 -- a request that was refused
-pub submits-refused : (old mid : Contacts) (number moment : ℕ) (body : List ℕ) (before after lane_before lane_after : List (QueueState Item)) (reply : Reply)
-    → mid ≡ with_connection number old → lane_before ≡ before → after ≡ lane_after → lane_after ≡ lane_before → IsTakenFor body (refuses reply) → Submits old number moment body before reply after mid
-submits-refused old mid number moment body before after lane_before lane_after reply is_mid is_before is_after same taken = inr (inl (taken, is_after ∙ same ∙ is_before, is_mid))
+pub submits-refused : (keeps : Bool) (old mid : Contacts) (number moment : ℕ) (body : List ℕ) (before after lane_before lane_after : List (QueueState Item)) (reply : Reply)
+    → mid ≡ with_connection number old → lane_before ≡ before → after ≡ lane_after → lane_after ≡ lane_before → IsTakenFor keeps body (refuses reply) → Submits keeps old number moment body before reply after mid
+submits-refused keeps old mid number moment body before after lane_before lane_after reply is_mid is_before is_after same taken = inr (inl (taken, is_after ∙ same ∙ is_before, is_mid))

@@ -13,10 +13,11 @@ use span_ids::{Moment, Reason};
 use span_sink::Sink;
 use std::alloc::Global;
 
-/// Reads a request on the lane of its connection: its spans get their numbers and go to the queues of their shards, one
+/// Reads a request on the lane of its connection, which keeps doubles or discards them: its spans get their numbers and go to the queues of their shards, one
 /// for each. The reply tells what became of it. The queues come back.
 pub fn submit(
     alloc: Global,
+    keeps_doubles: bool,
     connections: &mut Connections,
     queues: Vec<ListPort<Item>>,
     number: u64,
@@ -24,7 +25,7 @@ pub fn submit(
     body: &[u8],
 ) -> (Reply, Vec<ListPort<Item>>)
     requires some { 0 < length queues.items }
-    ensures submits { Submits connections.old number moment body.now queues.items result.0 result.1.items connections.new }
+    ensures submits { Submits keeps_doubles connections.old number moment body.now queues.items result.0 result.1.items connections.new }
     ensures length { length result.1.items ≡ length queues.items }
     ensures lanes { length connections.new.connected ≡ length connections.old.connected }
 {
@@ -32,7 +33,7 @@ pub fn submit(
         return (Reply::Busy, queues);
     };
     let mut after = conn;
-    let mut lane = Lane::new(conn.key.lane, queues);
+    let mut lane = Lane::new(conn.key.lane, queues).keeping_doubles(keeps_doubles);
     let reply = lane.submit(alloc, &mut after, body, moment);
     if is_received(&reply) {
         connections.put(number, after);

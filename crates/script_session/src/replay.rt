@@ -46,7 +46,7 @@ pub fn replay_run<R: Source, S: Sink>(
     requires failures { S.failures sink < 2 ^ 64 - 1 }
     ensures { RunEnds (record {
       settings = settings_by config;
-      sizes = record { batch = config.send_batch_size; queue = config.queue_capacity };
+      sizes = record { batch = config.send_batch_size; queue = config.queue_capacity; keeps_doubles = config.keeps_doubles };
       lanes = config.lanes;
       shards = config.shards;
       taken = S.taken sink;
@@ -77,6 +77,7 @@ pub fn replay_run<R: Source, S: Sink>(
         connections,
         queues,
         queue_capacity: config.queue_capacity,
+        keeps_doubles: config.keeps_doubles,
         shards,
         limiter,
         output: Output::new(exporter),
@@ -186,11 +187,11 @@ fn run_session<R: Source, S: Sink>(
     requires open { session.closed ≡ false }
     requires up { session.output.0.sink.is_down ≡ false }
     requires nothing_counted { session.output.1 ≡ Some (replicate 9 0) }
-    ensures { (config : Config) → CanPlay (settings_by config) (record { batch = session.output.0.size; queue = session.queue_capacity }) config.lanes → session.connections ≡ record { connections = []; connected = replicate config.lanes 0 }
+    ensures { (config : Config) → CanPlay (settings_by config) (record { batch = session.output.0.size; queue = session.queue_capacity; keeps_doubles = session.keeps_doubles }) config.lanes → session.connections ≡ record { connections = []; connected = replicate config.lanes 0 }
         → AreNew config config.shards session.shards.items → session.limiter ≡ limiter_counts (meaning config.policies) []
         → RunEnds (record {
           settings = settings_by config;
-          sizes = record { batch = session.output.0.size; queue = session.queue_capacity };
+          sizes = record { batch = session.output.0.size; queue = session.queue_capacity; keeps_doubles = session.keeps_doubles };
           lanes = config.lanes;
           shards = config.shards;
           taken = session.output.0.sink.taken;

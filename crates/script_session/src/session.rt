@@ -39,6 +39,8 @@ pub struct Session<S: Sink> {
     pub queues: Vec<ListPort<Item>>,
     /// How many spans the queue of a shard holds.
     pub queue_capacity: usize,
+    /// Whether doubles are kept.
+    pub keeps_doubles: bool,
     pub shards: Vec<Shard>,
     /// The one limiter of all shards.
     pub limiter: Budgets,
@@ -71,6 +73,7 @@ impl<S: Sink> Session<S> {
             connections: _,
             queues: _,
             queue_capacity: _,
+            keeps_doubles: _,
             shards: _,
             limiter: _,
             output,
@@ -91,6 +94,7 @@ impl<S: Sink> Session<S> {
         let queues = mem::replace(&mut self.queues, Vec::new(self.alloc));
         let (reply, queues) = submit(
             self.alloc,
+            self.keeps_doubles,
             &mut self.connections,
             queues,
             number,
@@ -163,8 +167,9 @@ impl<S: Sink> Session<S> {
 
 impl<S: Sink> Machine for Session<S> {
     ghost leads = { λ start instructions now. (now.output.0.size ≡ start.output.0.size) × (now.queue_capacity ≡ start.queue_capacity)
+        × (now.keeps_doubles ≡ start.keeps_doubles)
         × ((s : Settings) (w : World) → AreOf s w start.connections start.shards.items start.limiter start.output start.closed
-        → (after : World) × PlaysAll s (record { batch = start.output.0.size; queue = start.queue_capacity }) w instructions after
+        → (after : World) × PlaysAll s (record { batch = start.output.0.size; queue = start.queue_capacity; keeps_doubles = start.keeps_doubles }) w instructions after
         × AreOf s after now.connections now.shards.items now.limiter now.output now.closed) };
 
     ghost is_up = { λ now. not now.output.0.sink.is_down };

@@ -236,5 +236,5 @@ table_least members =
     (both (SizesHave members) _ _ _ (five_rows _ _ _ _ _)
     (both (λ fault. listen ≡ Some fault) _ _ _ (row listen)
     (both (λ fault. gzip ≡ Some fault) _ _ _ (row gzip)
-    (both (ChoicesHave members) _ _ _ (four_rows _ _ _ _)
+    (both (ChoicesHave members) _ _ _ (five_rows _ _ _ _ _)
     (both (OptionalHas CacheHas (get_member (codes "decision_cache") members)) (RequiredHas PoliciesHave (get_member (codes "policies") members)) _ _ cache policies))))))

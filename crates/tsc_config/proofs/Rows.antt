@@ -131,38 +131,42 @@ one_text key text = member key (string text) no_members
 
 -- what a key does that takes one of two texts, and the one of a truth value: by default, by each of its values
 abbrev choices_of : Config → List Bool
-choices_of c = c.waits_for_room ∷ c.stops_at_output_fault ∷ c.close_at_end_of_input ∷ []
+choices_of c = c.waits_for_room ∷ c.stops_at_output_fault ∷ c.keeps_doubles ∷ c.close_at_end_of_input ∷ []
 
 chosen : map (λ members. choices_of (config_of members)) (no_members
     ∷ one_text (codes "queue_full") (codes "partial") ∷ one_text (codes "queue_full") (codes "retry")
     ∷ one_text (codes "output_fault") (codes "discard") ∷ one_text (codes "output_fault") (codes "stop")
+    ∷ one_text (codes "double_values") (codes "discard") ∷ one_text (codes "double_values") (codes "keep")
     ∷ member (codes "close_at_end_of_input") (boolean false) no_members ∷ member (codes "close_at_end_of_input") (boolean true) no_members ∷ [])
-    ≡ (false ∷ false ∷ false ∷ [])
-    ∷ (false ∷ false ∷ false ∷ []) ∷ (true ∷ false ∷ false ∷ [])
-    ∷ (false ∷ false ∷ false ∷ []) ∷ (false ∷ true ∷ false ∷ [])
-    ∷ (false ∷ false ∷ false ∷ []) ∷ (false ∷ false ∷ true ∷ []) ∷ []
+    ≡ (false ∷ false ∷ false ∷ false ∷ [])
+    ∷ (false ∷ false ∷ false ∷ false ∷ []) ∷ (true ∷ false ∷ false ∷ false ∷ [])
+    ∷ (false ∷ false ∷ false ∷ false ∷ []) ∷ (false ∷ true ∷ false ∷ false ∷ [])
+    ∷ (false ∷ false ∷ false ∷ false ∷ []) ∷ (false ∷ false ∷ true ∷ false ∷ [])
+    ∷ (false ∷ false ∷ false ∷ false ∷ []) ∷ (false ∷ false ∷ false ∷ true ∷ []) ∷ []
 chosen = refl
 
 choices_allowed : map choices_fault (no_members
     ∷ one_text (codes "queue_full") (codes "partial") ∷ one_text (codes "queue_full") (codes "retry")
     ∷ one_text (codes "output_fault") (codes "discard") ∷ one_text (codes "output_fault") (codes "stop")
+    ∷ one_text (codes "double_values") (codes "discard") ∷ one_text (codes "double_values") (codes "keep")
     ∷ member (codes "close_at_end_of_input") (boolean false) no_members ∷ member (codes "close_at_end_of_input") (boolean true) no_members ∷ [])
-    ≡ None ∷ None ∷ None ∷ None ∷ None ∷ None ∷ None ∷ []
+    ≡ None ∷ None ∷ None ∷ None ∷ None ∷ None ∷ None ∷ None ∷ None ∷ []
 choices_allowed = refl
 
--- another text, an empty one, and one of the other key
+-- another text, an empty one, and one of another key
 choices_refused : map choices_fault (one_text (codes "queue_full") (codes "Retry") ∷ one_text (codes "queue_full") [] ∷ one_text (codes "queue_full") (codes "stop")
-    ∷ one_text (codes "output_fault") (codes "stops") ∷ one_text (codes "output_fault") [] ∷ one_text (codes "output_fault") (codes "retry") ∷ [])
-    ≡ Some OutOfRange ∷ Some OutOfRange ∷ Some OutOfRange ∷ Some OutOfRange ∷ Some OutOfRange ∷ Some OutOfRange ∷ []
+    ∷ one_text (codes "output_fault") (codes "stops") ∷ one_text (codes "output_fault") [] ∷ one_text (codes "output_fault") (codes "retry")
+    ∷ one_text (codes "double_values") (codes "kept") ∷ one_text (codes "double_values") [] ∷ one_text (codes "double_values") (codes "stop") ∷ [])
+    ≡ Some OutOfRange ∷ Some OutOfRange ∷ Some OutOfRange ∷ Some OutOfRange ∷ Some OutOfRange ∷ Some OutOfRange ∷ Some OutOfRange ∷ Some OutOfRange ∷ Some OutOfRange ∷ []
 choices_refused = refl
 
 -- values of another type
-choices_of_no_type : map choices_fault (member (codes "queue_full") (boolean true) no_members ∷ member (codes "output_fault") (integer (pos 1)) no_members
+choices_of_no_type : map choices_fault (member (codes "queue_full") (boolean true) no_members ∷ member (codes "output_fault") (integer (pos 1)) no_members ∷ member (codes "double_values") (boolean true) no_members
     ∷ one_text (codes "close_at_end_of_input") (codes "true") ∷ member (codes "close_at_end_of_input") (integer (pos 1)) no_members ∷ [])
-    ≡ Some WrongType ∷ Some WrongType ∷ Some WrongType ∷ Some WrongType ∷ []
+    ≡ Some WrongType ∷ Some WrongType ∷ Some WrongType ∷ Some WrongType ∷ Some WrongType ∷ []
 choices_of_no_type = refl
 
-choice_keys : map (is_key table_is.Config) (codes "queue_full" ∷ codes "output_fault" ∷ codes "close_at_end_of_input" ∷ codes "queue" ∷ []) ≡ true ∷ true ∷ true ∷ false ∷ []
+choice_keys : map (is_key table_is.Config) (codes "queue_full" ∷ codes "output_fault" ∷ codes "double_values" ∷ codes "close_at_end_of_input" ∷ codes "queue" ∷ []) ≡ true ∷ true ∷ true ∷ true ∷ false ∷ []
 unfolding is_key
 choice_keys = refl
 

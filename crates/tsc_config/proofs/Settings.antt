@@ -153,7 +153,8 @@ whole members e =
     let connections = neither (optional (integer_fault (pos 1) (pos 65536)) (get_member (codes "max_connections") members)) _ batch.1 in
     let queue_full = neither (optional (choice_fault (choice_row choice_is.QueueFull)) (get_member (codes "queue_full") members)) _ t.6 in
     let output = neither (optional (choice_fault (choice_row choice_is.OutputFault)) (get_member (codes "output_fault") members)) _ queue_full.1 in
-    let close = neither (optional truth_fault (get_member (codes "close_at_end_of_input") members)) _ output.1 in
+    let doubles = neither (optional (choice_fault (choice_row choice_is.DoubleValues)) (get_member (codes "double_values") members)) _ output.1 in
+    let close = neither (optional truth_fault (get_member (codes "close_at_end_of_input") members)) _ doubles.1 in
     let caches = cache members (get_member (codes "decision_cache") members) refl t.3 in record {
       decision_wait = positive 30000 3600000 (get_member (codes "decision_wait_ms") members) wait.0;
       root_wait = natural_at_either members (codes "root_wait_ms") (codes "decision_wait_after_root_received_ms") (get_member (codes "root_wait_ms") members)
@@ -174,6 +175,7 @@ whole members e =
       accept_gzip = truth (codes "accept_gzip") members (get_member (codes "accept_gzip") members) refl t.5;
       waits_for_room = choice (choice_row choice_is.QueueFull) members (get_member (codes "queue_full") members) refl queue_full.0;
       stops_at_output_fault = choice (choice_row choice_is.OutputFault) members (get_member (codes "output_fault") members) refl output.0;
+      keeps_doubles = choice (choice_row choice_is.DoubleValues) members (get_member (codes "double_values") members) refl doubles.0;
       close_at_end_of_input = truth (codes "close_at_end_of_input") members (get_member (codes "close_at_end_of_input") members) refl close.0;
     }
 

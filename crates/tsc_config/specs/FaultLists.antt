@@ -187,6 +187,7 @@ other_settings =
     ∷ optional (codes "accept_gzip") value_is.Truth
     ∷ choice_setting choice_is.QueueFull
     ∷ choice_setting choice_is.OutputFault
+    ∷ choice_setting choice_is.DoubleValues
     ∷ optional (codes "close_at_end_of_input") value_is.Truth
     ∷ optional (codes "admin") value_is.Text
     ∷ []

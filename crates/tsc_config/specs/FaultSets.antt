@@ -172,8 +172,9 @@ abbrev pub ChoicesHave : Members → ConfigFault → Type 0
 ChoicesHave members fault =
     ChoiceHas members (codes "queue_full") (codes "partial") (codes "retry") fault
     ⊎ (ChoiceHas members (codes "output_fault") (codes "discard") (codes "stop") fault
+    ⊎ (ChoiceHas members (codes "double_values") (codes "discard") (codes "keep") fault
     ⊎ ((optional truth_fault (get_member (codes "close_at_end_of_input") members) ≡ Some fault)
-    ⊎ (optional text_fault (get_member (codes "admin") members) ≡ Some fault)))
+    ⊎ (optional text_fault (get_member (codes "admin") members) ≡ Some fault))))
 
 -- the table of a configuration has this fault
 abbrev pub HasFault : Members → ConfigFault → Type 0

@@ -255,13 +255,14 @@ sizes_fault members =
     (least (number_fault (number_row number_is.MaxConnections) members)
     (number_fault (number_row number_is.MemoryLimit) members))))
 
--- the rows of the choices: what a full queue and a fault of the output do, whether the end of the input closes, and the second address
+-- the rows of the choices: what a full queue and a fault of the output do, what becomes of doubles, whether the end of the input closes, and the second address
 abbrev pub choices_fault : Members → Option ConfigFault
 choices_fault members =
     least (choice_at_fault (choice_row choice_is.QueueFull) members)
     (least (choice_at_fault (choice_row choice_is.OutputFault) members)
+    (least (choice_at_fault (choice_row choice_is.DoubleValues) members)
     (least (optional truth_fault (get_member (codes "close_at_end_of_input") members))
-    (optional text_fault (get_member (codes "admin") members))))
+    (optional text_fault (get_member (codes "admin") members)))))
 
 -- the rows of what is no number, tables too
 abbrev pub others_fault : Members → Option ConfigFault

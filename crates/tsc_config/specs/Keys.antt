@@ -48,6 +48,7 @@ pub record ChoiceRow : Type 0 where
 abbrev pub choice_row : ChoiceKey → ChoiceRow
 choice_row choice_is.QueueFull = record { name = codes "queue_full"; default = codes "partial"; other = codes "retry" }
 choice_row choice_is.OutputFault = record { name = codes "output_fault"; default = codes "discard"; other = codes "stop" }
+choice_row choice_is.DoubleValues = record { name = codes "double_values"; default = codes "discard"; other = codes "keep" }
 
 -- the text that names a type of policy, and the key of its settings
 abbrev pub type_name : PolicyType → List ℕ
@@ -97,7 +98,7 @@ is_key table_is.Config key =
     || bytes_eq key (number_row number_is.SendBatchSize).name || bytes_eq key (number_row number_is.MaxConnections).name || bytes_eq key (number_row number_is.MemoryLimit).name
     || bytes_eq key (number_row number_is.Tick).name
     || bytes_eq key (codes "listen") || bytes_eq key (codes "accept_gzip")
-    || bytes_eq key (choice_row choice_is.QueueFull).name || bytes_eq key (choice_row choice_is.OutputFault).name || bytes_eq key (codes "close_at_end_of_input")
+    || bytes_eq key (choice_row choice_is.QueueFull).name || bytes_eq key (choice_row choice_is.OutputFault).name || bytes_eq key (choice_row choice_is.DoubleValues).name || bytes_eq key (codes "close_at_end_of_input")
     || bytes_eq key (codes "admin")
 is_key table_is.DecisionCache key = bytes_eq key (codes "sampled_cache_size") || bytes_eq key (codes "non_sampled_cache_size")
 is_key (table_is.Policy kind) key = bytes_eq key (codes "name") || bytes_eq key (codes "type") || has_settings kind && bytes_eq key (type_name kind)

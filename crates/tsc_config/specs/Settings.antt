@@ -59,6 +59,7 @@ pub record HasSettings (members : Members) (config : Config) : Type 0 where
   pub accept_gzip : IsTruthAt members (codes "accept_gzip") config.accept_gzip
   pub waits_for_room : IsChoiceAt members (codes "queue_full") (codes "partial") (codes "retry") config.waits_for_room
   pub stops_at_output_fault : IsChoiceAt members (codes "output_fault") (codes "discard") (codes "stop") config.stops_at_output_fault
+  pub keeps_doubles : IsChoiceAt members (codes "double_values") (codes "discard") (codes "keep") config.keeps_doubles
   pub close_at_end_of_input : IsTruthAt members (codes "close_at_end_of_input") config.close_at_end_of_input
   pub admin : IsTextAt members (codes "admin") [] config.admin
 

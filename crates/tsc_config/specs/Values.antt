@@ -269,5 +269,6 @@ config_of members = record {
   accept_gzip = truth_of (get_member (codes "accept_gzip") members);
   waits_for_room = is_other (choice_row choice_is.QueueFull) (get_member (choice_row choice_is.QueueFull).name members);
   stops_at_output_fault = is_other (choice_row choice_is.OutputFault) (get_member (choice_row choice_is.OutputFault).name members);
+  keeps_doubles = is_other (choice_row choice_is.DoubleValues) (get_member (choice_row choice_is.DoubleValues).name members);
   close_at_end_of_input = truth_of (get_member (codes "close_at_end_of_input") members);
 }

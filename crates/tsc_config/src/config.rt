@@ -75,6 +75,8 @@ pub struct Config {
     /// Whether the collector stops once its output fails, in place of discarding what comes after (this project's option
     /// `output_fault`, `stop`).
     pub stops_at_output_fault: bool,
+    /// Whether doubles are kept, in place of discarding each attribute that holds one (this project's option `double_values`, `keep`).
+    pub keeps_doubles: bool,
     /// Whether the end of the standard input closes the collector (this project's option `close_at_end_of_input`).
     pub close_at_end_of_input: bool,
 }
@@ -114,7 +116,8 @@ impl Config {
 /// `export_capacity`, from 1 to 65536, else 1024; `send_batch_size`, from 1 to 8192, else 512; `max_connections`, from 1 to 65536, else 1024; `memory_limit_mib`, from 0
 /// to 1048576, else 0; `tick_ms`, from 1 to
 /// 60000, else 1000; `listen`, a text, else `127.0.0.1:4318`; `admin`, a text, else nothing; `accept_gzip` and `close_at_end_of_input`, true or false, else false; `queue_full`, `partial` or
-/// `retry`, else `partial`; and `output_fault`, `discard` or `stop`, else `discard`.
+/// `retry`, else `partial`; `output_fault`, `discard` or `stop`, else `discard`; and `double_values`, `discard` or `keep`, else
+/// `discard`.
 ///
 /// `Err` is the fault of least number that the text has ([`crate::laws::answers_least_fault`]), or `NoMemory` where
 /// memory was refused. For a text of blanks and comments alone that is never so: it is answered that `policies` is
@@ -195,6 +198,7 @@ fn given_by(alloc: Global, table: &Table, policies: Policies) -> Result<Config, 
         accept_gzip: truth_at(table, "accept_gzip"),
         waits_for_room: is_other_at(table, ChoiceKey::QueueFull),
         stops_at_output_fault: is_other_at(table, ChoiceKey::OutputFault),
+        keeps_doubles: is_other_at(table, ChoiceKey::DoubleValues),
         close_at_end_of_input: truth_at(table, "close_at_end_of_input"),
     })
 }

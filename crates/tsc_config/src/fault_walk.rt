@@ -87,16 +87,17 @@ fn sizes_fault(table: &Table) -> Option<ConfigFault>
     )
 }
 
-/// The fault of the choices: what a full queue and a fault of the output do, whether the end of the input closes, and the
-/// second address.
+/// The fault of the choices: what a full queue and a fault of the output do, what becomes of doubles, whether the end of
+/// the input closes, and the second address.
 fn choices_fault(table: &Table) -> Option<ConfigFault>
     ensures { result ≡ spec.choices_fault (table_view table.now) }
 {
     let queue = choice_at_fault(table, ChoiceKey::QueueFull);
     let output = choice_at_fault(table, ChoiceKey::OutputFault);
+    let doubles = choice_at_fault(table, ChoiceKey::DoubleValues);
     let close = optional_fault(table, "close_at_end_of_input", ValueKind::Truth);
     let admin = optional_fault(table, "admin", ValueKind::Text);
-    least(queue, least(output, least(close, admin)))
+    least(queue, least(output, least(doubles, least(close, admin))))
 }
 
 /// The fault of what stands at a key of one of two texts.

@@ -69,6 +69,7 @@ pub fn is_key(kind: TableKind, key: &str) -> bool
                 | "accept_gzip"
                 | "queue_full"
                 | "output_fault"
+                | "double_values"
                 | "close_at_end_of_input"
                 | "admin"
         ),

@@ -115,6 +115,7 @@ impl NumberKey {
 pub enum ChoiceKey {
     QueueFull,
     OutputFault,
+    DoubleValues,
 }
 
 impl ChoiceKey {
@@ -127,6 +128,7 @@ impl ChoiceKey {
         match self {
             ChoiceKey::QueueFull => ("queue_full", "partial", "retry"),
             ChoiceKey::OutputFault => ("output_fault", "discard", "stop"),
+            ChoiceKey::DoubleValues => ("double_values", "discard", "keep"),
         }
     }
 }

@@ -64,7 +64,7 @@ fn add_twice(alloc: Global, table: &Table, findings: &mut Findings) -> Result<()
 }
 
 /// The settings of a configuration that are no tables.
-fn top_settings() -> [Setting; 18]
+fn top_settings() -> [Setting; 19]
     ensures { map setting_of result ≡ spec.top_settings }
 {
     [
@@ -84,6 +84,7 @@ fn top_settings() -> [Setting; 18]
         Setting::Optional("accept_gzip", ValueKind::Truth),
         choice_setting(ChoiceKey::QueueFull),
         choice_setting(ChoiceKey::OutputFault),
+        choice_setting(ChoiceKey::DoubleValues),
         Setting::Optional("close_at_end_of_input", ValueKind::Truth),
         Setting::Optional("admin", ValueKind::Text),
     ]

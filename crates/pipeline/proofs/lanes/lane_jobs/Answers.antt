@@ -21,7 +21,7 @@ loop-feed-preserved g c =
       dealt (λ job. job.lane.ports) (ends_of c.args.columns.items) (ends_of c.loop-feed.columns.items) (ends_of c.take_last-senders.new.self.items) c.loop-feed.jobs.items _ c.take_last-senders.result.items c.in_ok-lane_job.field-0
           (ap ends_of s.items ∙ map-append (λ v. v.items) c.take_last-senders.new.self.items (c.take_last-senders.result ∷ [])) pushed.items (ap (λ l. l.ports) made.lane) h.5,
       numbered (λ job. job.number) (vec_len c.loop-feed.feeds) (vec_len c.pop.new.self) c.loop-feed.jobs.items _ c.in_ok-lane_job.field-0 (sym p.len) (made.number ∙ c.len-number.ensures) pushed.items h.6,
-      subst (All (λ job. job.lane.connected ≡ 0)) (sym pushed.items) (All-push (λ job. job.lane.connected ≡ 0) c.loop-feed.jobs.items c.in_ok-lane_job.field-0 h.7 (ap (λ l. l.connected) made.lane)),
+      subst (All (λ job. (job.lane.connected ≡ 0) × (job.lane.keeps_doubles ≡ c.args.keeps_doubles))) (sym pushed.items) (All-push (λ job. (job.lane.connected ≡ 0) × (job.lane.keeps_doubles ≡ c.args.keeps_doubles)) c.loop-feed.jobs.items c.in_ok-lane_job.field-0 h.7 (ap (λ l. l.connected) made.lane, ap (λ l. l.keeps_doubles) made.lane)),
       omega (arith, pushed.capacity, h.8),
     )
 
@@ -37,4 +37,4 @@ returns-clause-numbers g c = subst (λ n. NumberedFrom n (map (λ job. job.numbe
     (subst (λ z. NumberedFrom (vec_len c.loop-feed.feeds) (map (λ job. job.number) z)) (sym c.reverse.ensures.items) c.loop-feed.invariant.6)
 
 pub returns-clause-new : goal.returns-clause-new
-returns-clause-new g c = subst (All (λ job. job.lane.connected ≡ 0)) (sym c.reverse.ensures.items) (all_reverse (λ job. job.lane.connected ≡ 0) c.loop-feed.jobs.items c.loop-feed.invariant.7)
+returns-clause-new g c = subst (All (λ job. (job.lane.connected ≡ 0) × (job.lane.keeps_doubles ≡ c.args.keeps_doubles))) (sym c.reverse.ensures.items) (all_reverse (λ job. (job.lane.connected ≡ 0) × (job.lane.keeps_doubles ≡ c.args.keeps_doubles)) c.loop-feed.jobs.items c.loop-feed.invariant.7)

@@ -10,7 +10,7 @@ invariant-loop-feed g l = (vec_len l.jobs + vec_len l.feeds ≡ vec_len l.fn.fee
     × (l.fn.feeds.items ≡ l.feeds.items ++ map (λ job. job.feed) (reverse l.jobs.items))
     × (ends_of l.fn.columns.items ≡ ends_of l.columns.items ++ map (λ job. job.lane.ports) (reverse l.jobs.items))
     × NumberedFrom (vec_len l.feeds) (map (λ job. job.number) (reverse l.jobs.items))
-    × All (λ job. job.lane.connected ≡ 0) l.jobs.items
+    × All (λ job. (job.lane.connected ≡ 0) × (job.lane.keeps_doubles ≡ l.fn.keeps_doubles)) l.jobs.items
     × (vec_len l.fn.feeds ≤ vec_capacity l.jobs)
 
 abbrev pub decreases-loop-feed : goal.decreases-loop-feed

@@ -71,7 +71,7 @@ left_of g c = record {
 
 -- all did what they promise
 all_done : (g : Over) (c : After-add g) → Done g.V.LaneServer.serves g.T.Ticks.gives (settings_for (core_of c.args.config.now) (c.args.config.now.lanes + 1)) (nodes_of c.args.config.now)
-    g.C.Room.capacity c.args.config.now.lanes c.args.config.now.shards (given_of g c) (left_of g c)
+    c.args.config.now.keeps_doubles g.C.Room.capacity c.args.config.now.lanes c.args.config.now.shards (given_of g c) (left_of g c)
 all_done g c =
     let made = c.in-Ok.made in
     let e = c.in-Ok.ensures in
@@ -92,9 +92,9 @@ all_done g c =
       new_batch = c.requires.new_exporter.0;
       up = c.requires.new_exporter.3;
       exporter_ends = c.requires.exporter_ends;
-      lanes_did = lanes_did g.V.LaneServer.serves g.C.Room.capacity (λ j. j.number) (λ j. j.feed) (λ j. j.lane)
+      lanes_did = lanes_did g.V.LaneServer.serves c.args.config.now.keeps_doubles g.C.Room.capacity (λ j. j.number) (λ j. j.feed) (λ j. j.lane)
           (λ l. record { senders = l.senders.items; counted = l.counts; is_full = l.is_full }) _ (λ j l h. h) 0 made.team.first.items c.in-Ok-run_team.left.first.items e.numbers.0
-          (all_both (λ j. (j.lane.number ≡ j.number) × (j.room.items ≡ []) × (length j.lane.ports ≤ vec_capacity j.room)) (λ j. j.lane.connected ≡ 0) (λ j. (j.lane.number ≡ j.number) × (j.lane.connected ≡ 0)) made.team.first.items (λ j h k. (h.0, k)) e.lanes.1 e.new_lanes) ran.first;
+          (all_both (λ j. (j.lane.number ≡ j.number) × (j.room.items ≡ []) × (length j.lane.ports ≤ vec_capacity j.room)) (λ j. (j.lane.connected ≡ 0) × (j.lane.keeps_doubles ≡ c.args.config.now.keeps_doubles)) (λ j. (j.lane.number ≡ j.number) × (j.lane.connected ≡ 0) × (j.lane.keeps_doubles ≡ c.args.config.now.keeps_doubles)) made.team.first.items (λ j h k. (h.0, k.0, k.1)) e.lanes.1 e.new_lanes) ran.first;
       ticker_did = subst (λ n. TickerDid g.T.Ticks.gives n made.team.second.ticks made.team.second.senders.items c.in-Ok-run_team.left.second.items) e.ticker.0 ran.second;
       shards_did = shards_did (settings_for (core_of c.args.config.now) (c.args.config.now.lanes + 1)) (λ j. j.number) (λ j. record { seat = j.seat; receiver = j.receiver; sender = j.sender }) (λ j. settings j.shard)
           (λ l. record { seat = l.seat; receiver = l.receiver; sender = l.sender; counted = l.counts; is_full = l.is_full }) _ (λ j l h. h) 0 third c.in-Ok-run_team.left.third.items e.numbers.1 e.new_shards ran.third;
@@ -124,7 +124,7 @@ seats_are g c = c.gather_shards.ensures.seats ∙ (ap (λ z. z ++ map (λ shard.
 
 pub join_all-requires-clause-tied : goal.join_all-requires-clause-tied
 join_all-requires-clause-tied g c = subst (λ z. IsTiedGrid z c.gather_shards.new.ends.receivers.items) (sym (columns_are g c))
-    (subst (λ z. IsTiedGrid (senders_of (left_of g c)) z) (sym (receivers_are g c)) (tied_left _ _ _ _ _ _ _ (given_of g c) (left_of g c) (all_done g c)))
+    (subst (λ z. IsTiedGrid (senders_of (left_of g c)) z) (sym (receivers_are g c)) (tied_left _ _ _ _ _ _ _ _ (given_of g c) (left_of g c) (all_done g c)))
 
 pub join_all-requires-clause-rows : goal.join_all-requires-clause-rows
 join_all-requires-clause-rows g c =
@@ -137,12 +137,12 @@ join_all-requires-clause-rows g c =
     )
 
 pub join_all-requires-clause-shipped : goal.join_all-requires-clause-shipped
-join_all-requires-clause-shipped g c = subst (λ z. AreTied z c.in-Ok-run_team.last.receiver.ends) (sym (exports_are g c)) (shipped_left _ _ _ _ _ _ _ (given_of g c) (left_of g c) (all_done g c))
+join_all-requires-clause-shipped g c = subst (λ z. AreTied z c.in-Ok-run_team.last.receiver.ends) (sym (exports_are g c)) (shipped_left _ _ _ _ _ _ _ _ (given_of g c) (left_of g c) (all_done g c))
 
 pub join_all-requires-clause-seats : goal.join_all-requires-clause-seats
 join_all-requires-clause-seats g c =
     let law = c.asked_seats_may_be_compared.ensures in
-    subst AreOfOneBudget (sym (seats_are g c)) (seats_left _ _ _ _ _ _ _ (given_of g c) (left_of g c) law.new law.asked law.same (all_done g c))
+    subst AreOfOneBudget (sym (seats_are g c)) (seats_left _ _ _ _ _ _ _ _ (given_of g c) (left_of g c) law.new law.asked law.same (all_done g c))
 
 pub returns-in-Ok-run_team-clause-worked : goal.returns-in-Ok-run_team-clause-worked
 returns-in-Ok-run_team-clause-worked g c =
@@ -151,14 +151,14 @@ returns-in-Ok-run_team-clause-worked g c =
     let first = c.in-Ok-run_team.left.first.items in
     let third = c.in-Ok-run_team.left.third.items in
     let joined = c.join_all.ensures in
-    let all = worked _ _ _ _ _ _ _ (given_of g b) left g.D.Room.capacity (all_done g b)
+    let all = worked _ _ _ _ _ _ _ _ (given_of g b) left g.D.Room.capacity (all_done g b)
     (subst (λ z. HaveHistories g.C.Room.capacity z (map (λ x. x.receiver) left.shards)) (columns_are g b) (subst (λ z. HaveHistories g.C.Room.capacity (ends_of c.push_reserved.new.self.items) z) (receivers_are g b) joined.items))
     (subst (λ z. (place : ℕ) → place < length left.exporter.receiver.ends → HasHistoryAt g.D.Room.capacity z left.exporter.receiver.ends place) (exports_are g b) joined.shipments)
     (subst HaveOneHistoryEach (seats_are g b) joined.seats) in record {
       given = given_of g b;
       left = left;
-      worked = subst (λ n. Worked g.V.LaneServer.serves g.T.Ticks.gives (settings_for (core_of c.args.config.now) (c.args.config.now.lanes + 1)) (nodes_of c.args.config.now) n c.args.config.now.export_capacity c.args.config.now.lanes c.args.config.now.shards (given_of g b) left) (sym c.requires.runs.queue)
-          (subst (λ n. Worked g.V.LaneServer.serves g.T.Ticks.gives (settings_for (core_of c.args.config.now) (c.args.config.now.lanes + 1)) (nodes_of c.args.config.now) g.C.Room.capacity n c.args.config.now.lanes c.args.config.now.shards (given_of g b) left) (sym c.requires.runs.export) all);
+      worked = subst (λ n. Worked g.V.LaneServer.serves g.T.Ticks.gives (settings_for (core_of c.args.config.now) (c.args.config.now.lanes + 1)) (nodes_of c.args.config.now) c.args.config.now.keeps_doubles n c.args.config.now.export_capacity c.args.config.now.lanes c.args.config.now.shards (given_of g b) left) (sym c.requires.runs.queue)
+          (subst (λ n. Worked g.V.LaneServer.serves g.T.Ticks.gives (settings_for (core_of c.args.config.now) (c.args.config.now.lanes + 1)) (nodes_of c.args.config.now) c.args.config.now.keeps_doubles g.C.Room.capacity n c.args.config.now.lanes c.args.config.now.shards (given_of g b) left) (sym c.requires.runs.export) all);
       feeds_are = c.in-Ok.ensures.feeds;
       ticks_are = c.in-Ok.ensures.ticker.1;
       exporter_is = refl;

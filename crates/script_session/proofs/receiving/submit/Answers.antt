@@ -17,10 +17,10 @@ returns-clause-submits c =
     let last = c.submit-reply.new.self.ports in
     let is_before : first ≡ before = ap (λ (l : LaneState (QueueState Item)). l.ports) c.new-lane.ensures in
     (elim c.if-is_received.branch [
-      | then-is_received w ↦ submits-read a.connections.now c.connect.new.self c.if-is_received.connections a.number a.moment a.body.now before after first last reply c.in-Ok.conn c.submit-reply.new.conn
+      | then-is_received w ↦ submits-read a.keeps_doubles a.connections.now c.connect.new.self c.if-is_received.connections a.number a.moment a.body.now before after first last reply c.in-Ok.conn c.submit-reply.new.conn
           c.in-Ok.ensures.conn c.in-Ok.ensures.connected (w.connections-is ∙ w.put.ensures) is_before c.end.ensures.ports (received reply _ (sym w.if-is_received.ensures) says.received)
       | else-is_received w ↦
           let no = sym w.if-is_received.ensures in
-          submits-refused a.connections.now c.if-is_received.connections a.number a.moment a.body.now before after first last reply (w.connections-is ∙ c.in-Ok.ensures.connected) is_before c.end.ensures.ports
-          (ap (λ (l : LaneState (QueueState Item)). l.ports) (says.refused (refusal reply no)).0) (refused reply a.body.now no says.json says.shape)
+          submits-refused a.keeps_doubles a.connections.now c.if-is_received.connections a.number a.moment a.body.now before after first last reply (w.connections-is ∙ c.in-Ok.ensures.connected) is_before c.end.ensures.ports
+          (ap (λ (l : LaneState (QueueState Item)). l.ports) (says.refused (refusal reply no)).0) (refused a.keeps_doubles reply a.body.now no says.json says.shape)
     ])

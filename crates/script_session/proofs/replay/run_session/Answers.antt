@@ -20,7 +20,7 @@ returns g c = λ config can unused new limiter.
     let s = settings_by config in
     let run : Run = record {
       settings = s;
-      sizes = record { batch = session.output.0.size; queue = session.queue_capacity };
+      sizes = record { batch = session.output.0.size; queue = session.queue_capacity; keeps_doubles = session.keeps_doubles };
       lanes = config.lanes;
       shards = config.shards;
       taken = session.output.0.sink.taken;
@@ -47,12 +47,13 @@ returns g c = λ config can unused new limiter.
     (c.end.ensures.taken ∙ ap (λ (m : Session g.row.S.Denot g.S.Sink). m.output.0.sink.taken) same, c.end.ensures.failures ∙ ap (λ (m : Session g.row.S.Denot g.S.Sink). m.output.0.sink.failures) same, ap g.R.Source.given (script.no_memory e).1))
     (is_up_state now.output.0.sink run.taken_after run.failures_after c.end.ensures.taken c.end.ensures.failures)
     (is_down_state now.output.0.sink run.taken_after run.failures_after c.end.ensures.taken c.end.ensures.failures)
-    (λ done leads. let r = leads.2 s start starts in leads_to s run.sizes run.lanes run.shards first done now.output.0.sink now.output.1 can refl r.0 r.1 (sym r.2.sink_is) r.2.reports now.closed (sym r.2.closed_is))
+    (λ done leads. let r = leads.3 s start starts in leads_to s run.sizes run.lanes run.shards first done now.output.0.sink now.output.1 can refl r.0 r.1 (sym r.2.sink_is) r.2.reports now.closed (sym r.2.closed_is))
     (λ done fell.
-    let r = fell.1.2 s start starts in
-    let ends = fell.3.2 s r.0 r.2 in
-    let B = λ (n : ℕ). PlaysAll s (record { batch = n; queue = fell.0.queue_capacity }) r.0 (close ∷ []) ends.0 in
-    let Q = λ (n : ℕ). PlaysAll s (record { batch = session.output.0.size; queue = n }) r.0 (close ∷ []) ends.0 in
-    let closes : PlaysAll s run.sizes r.0 (close ∷ []) ends.0 = subst Q fell.1.1 (subst B fell.1.0 ends.1) in
+    let r = fell.1.3 s start starts in
+    let ends = fell.3.3 s r.0 r.2 in
+    let B = λ (n : ℕ). PlaysAll s (record { batch = n; queue = fell.0.queue_capacity; keeps_doubles = fell.0.keeps_doubles }) r.0 (close ∷ []) ends.0 in
+    let Q = λ (n : ℕ). PlaysAll s (record { batch = session.output.0.size; queue = n; keeps_doubles = fell.0.keeps_doubles }) r.0 (close ∷ []) ends.0 in
+    let K = λ (b : Bool). PlaysAll s (record { batch = session.output.0.size; queue = session.queue_capacity; keeps_doubles = b }) r.0 (close ∷ []) ends.0 in
+    let closes : PlaysAll s run.sizes r.0 (close ∷ []) ends.0 = subst K fell.1.2 (subst Q fell.1.1 (subst B fell.1.0 ends.1)) in
     fell_before run done now.output.0.sink now.output.1 can r.0 r.1 (sym (ap (λ (k : LineSinkState). k.is_down) r.2.sink_is) ∙ not-false fell.0.output.0.sink.is_down fell.2) ends.0 closes (sym ends.2.sink_is) ends.2.reports)
     c.end.result.1 c.end.ensures.answer

@@ -20,7 +20,7 @@ take_received-requires-clause-queued g c =
     let self = c.args.self.now in
     let P = λ (qs : List (QueueState Item)). AllByRecursion HoldsQueued qs in
     let empty = ap (λ v. v.items) c.replace-queues.ensures.value ∙ self.empty in
-    (submits-kept _ _ _ _ _ _ _ _ c.submit-reply.ensures.submits).0 (subst P (sym empty) (empty-queued self.queue_capacity (length self.shards.items)))
+    (submits-kept _ _ _ _ _ _ _ _ _ c.submit-reply.ensures.submits).0 (subst P (sym empty) (empty-queued self.queue_capacity (length self.shards.items)))
 
 pub returns-clause-plays : goal.returns-clause-plays
 returns-clause-plays g c = λ s w are.
@@ -54,5 +54,5 @@ pub invariant_of-self-clause-empty : goal.invariant_of-self-clause-empty
 invariant_of-self-clause-empty g c =
     let self = c.args.self.now in
     let empty = ap (λ v. v.items) c.replace-queues.ensures.value ∙ self.empty in
-    c.take_received.ensures.emptied ∙ queues-left _ _ _ _ _ _ _ _ self.queue_capacity (length self.shards.items) c.is_received.result c.submit-reply.ensures.submits c.is_received.ensures empty
+    c.take_received.ensures.emptied ∙ queues-left _ _ _ _ _ _ _ _ _ self.queue_capacity (length self.shards.items) c.is_received.result c.submit-reply.ensures.submits c.is_received.ensures empty
     ∙ ap (empty_queues self.queue_capacity) (sym c.take_received.ensures.length)
