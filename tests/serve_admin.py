@@ -69,6 +69,8 @@ def in_charge(start):
     want("the bytes that came", numbers["tsc_received_bytes_total"], sum(len(data) for data in requests))
     want("the output", [numbers["tsc_lines_total"], numbers["tsc_output_bytes_total"]], [1, os.path.getsize(collector.printed)])
     want("what waits", numbers["tsc_spans_waiting"], 0)
+    names = ["tsc_traces_decided_total", "tsc_spans_late_total"]
+    want("decisions and late spans", [numbers[f'{name}{{decision="{it}"}}'] for name in names for it in ("sampled", "not_sampled")], [1, 0, 0, 0])
     if numbers["tsc_uptime_seconds"] > 60 or numbers['tsc_build_info{version="0.1.0"}'] != 1 or not 100 < numbers["tsc_sent_bytes_total"] < 1000:
         raise Failure(f"the other numbers: {numbers}")
     if not 1 << 20 < numbers["process_resident_memory_bytes"] < 1 << 30:
@@ -87,6 +89,38 @@ def in_charge(start):
     lines, report = collector.end()
     want("the spans", len(spans_of(lines)), 1)
     want("the report", report, [2, 1, 1, 0, 0, 0, 0, 0, 0])
+
+
+def told_by_shards(start):
+    """Each shard tells what waits in it; late spans and decisions are counted by what was decided."""
+    admin = free_port()
+    error = '{ name = "e", type = "status_code", status_code = { status_codes = ["ERROR"] } }'
+    collector = start(f'admin = "127.0.0.1:{admin}"\nshards = 2\ntick_ms = 50\ndecision_wait_ms = 3600000\nroot_wait_ms = 1\npolicies = [{error}]\n')
+    waiting = [{"traceId": f"{trace:032x}", "spanId": f"{number:016x}", "parentSpanId": "1" * 16} for trace in range(1, 31) for number in range(1, 4)]
+    collector.ask(post(body_of(waiting)))
+    kinds = ["tsc_shard_traces_waiting", "tsc_shard_spans_waiting", "tsc_shard_queue_items"]
+    sums = lambda: [sum(numbers[f'{kind}{{shard="{shard}"}}'] for shard in (0, 1)) for numbers in [scrape(admin)] for kind in kinds]
+    comes_to("what waits in the shards", sums, [30, 90, 0])
+    roots = [{**ERROR_SPAN, "traceId": f"{trace:032x}", "spanId": f"{9:016x}", "parentSpanId": ""} for trace in range(1, 6)]
+    roots += [{"traceId": f"{trace:032x}", "spanId": f"{9:016x}"} for trace in range(6, 16)]
+    collector.ask(post(body_of(roots)))
+    names = ["tsc_traces_decided_total", "tsc_spans_late_total"]
+    decided = lambda: [numbers[f'{name}{{decision="{it}"}}'] for numbers in [scrape(admin)] for name in names for it in ("sampled", "not_sampled")]
+    comes_to("the decisions", decided, [5, 10, 0, 0])
+    collector.ask(post(body_of([{"traceId": f"{trace:032x}", "spanId": f"{10:016x}"} for trace in range(1, 16)])))
+    comes_to("late spans", decided, [5, 10, 5, 10])
+    comes_to("what waits in the shards then", sums, [15, 45, 0])
+    want("the answer to /close", asked(admin, post(b"", "/close"))[::2], (200, "{}"))
+    want("the report", collector.end()[1], [120, 25, 0, 0, 0, 0, 85, 10, 0])
+
+
+def comes_to(what, told, wanted):
+    """Waits until these numbers are told."""
+    for _ in range(100):
+        if told() == wanted:
+            return
+        time.sleep(0.1)
+    want(what, told(), wanted)
 
 
 def asked_at_a_socket(path, data):
@@ -290,6 +324,7 @@ def end_of_input(start):
 CHECKS = [
     in_charge,
     in_charge_by_a_socket,
+    told_by_shards,
     odd_questions,
     counts_only_rise,
     taken_addresses,

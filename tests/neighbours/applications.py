@@ -155,6 +155,27 @@ def equal_by_the_codec(here):
     want("how many are told as left out", got[4]["droppedAttributesCount"], 1)
 
 
+def ten_thousand_by_the_codec(here):
+    """10,000 spans with every kind of value, doubles among them, written and read by OpenTelemetry's own codec, come back equal."""
+    sys.path.insert(0, str(here.fetched / "codec" / CODEC))
+    from codec_spans import flat, many_requests  # noqa: PLC0415
+
+    collector = here.start(SETTINGS + 'double_values = "keep"\n')
+    connection, sent = http.client.HTTPConnection("127.0.0.1", collector.port, timeout=10), {}
+    for it in many_requests(100, 11):
+        connection.request("POST", "/v1/traces", it.to_json().encode(), {"Content-Type": "application/json"})
+        want("the answer", connection.getresponse().read(), b"{}")
+        sent |= {one[4]["spanId"]: repr(one) for one in flat(it)}
+    connection.close()
+    kind = type(it)
+    lines, _ = collector.close()
+    back = {one[4]["spanId"]: repr(one) for line in lines for one in flat(kind.from_json(line))}
+    want("spans that were sent", len(sent), 10_000)
+    want("spans that came back", len(back), 10_000)
+    other = [it for it in sent if sent[it] != back.get(it)]
+    want("spans that came back otherwise", [(sent[it], back.get(it)) for it in other[:1]], [])
+
+
 def a_collector_that_is_away(here):
     """tsc is away when clients send, and comes back: the Collector sends again, and no span is lost."""
     port, listens = free_port(), free_port()
@@ -192,4 +213,5 @@ def a_collector_that_is_away(here):
 CHECKS = [
     ten_thousand_between_two_pipelines, a_collector_that_is_away, the_second_tier, the_documented_example_is_read, ten_thousand_of_the_sdk,
     equal_by_the_codec,
+    ten_thousand_by_the_codec,
 ]

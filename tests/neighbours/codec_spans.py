@@ -1,6 +1,8 @@
 """Spans with every kind of value, by OpenTelemetry's own codec of OTLP/JSON (Debian's python3-opentelemetry-proto-json)."""
 
 import os
+import random
+import struct
 
 from opentelemetry.proto_json.collector.trace.v1.trace_service import ExportTraceServiceRequest
 from opentelemetry.proto_json.common.v1 import common
@@ -40,6 +42,33 @@ def requests():
     """A request of two spans of a trace, and one of a span that has a double."""
     trace_id = os.urandom(16)
     return request(span(trace_id, 0), span(trace_id, 1)), request(span(os.urandom(16), 2, [pair("double", double_value=1.5)]))
+
+
+def any_double(chosen):
+    """A double: a measured one, one of any bits that is finite, an infinity, or one at an edge."""
+    [of_bits] = struct.unpack("<d", chosen.randbytes(8))
+    edges = [0.0, -0.0, 5e-324, 1.7976931348623157e308, 0.1, 1e22, 2.0**53, float("inf"), float("-inf")]
+    return chosen.choice([chosen.uniform(-1000, 1000), round(chosen.uniform(0, 10), 3), of_bits if abs(of_bits) < float("inf") else 1.5, chosen.choice(edges)])
+
+
+def many_requests(count, seed):
+    """So many requests of 100 spans, 50 traces each, with doubles wherever a value may stand."""
+    chosen = random.Random(seed)
+    for _ in range(count):
+        spans = []
+        for number in range(100):
+            trace_id = chosen.randbytes(16) if number % 2 == 0 else spans[-1].trace_id
+            double = lambda: common.AnyValue(double_value=any_double(chosen))
+            nested = common.KeyValueList(values=[common.KeyValue(key="x", value=double())])
+            more = [
+                common.KeyValue(key="double", value=double()), pair("doubles", array_value=common.ArrayValue(values=[double(), double()])),
+                pair("nested", kvlist_value=nested), pair("random", string_value=chosen.randbytes(9).hex()), pair("whole", int_value=chosen.randrange(-(2**63), 2**63)),
+            ]
+            one = span(trace_id, number, more)
+            one.events[0].attributes.append(common.KeyValue(key="d", value=double()))
+            one.links[0].attributes = [common.KeyValue(key="d", value=double())]
+            spans.append(one)
+        yield request(*spans)
 
 
 def flat(what):

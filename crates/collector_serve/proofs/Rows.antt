@@ -1,7 +1,7 @@
 -- Worked rows, computed: a process that may take 800 bytes.
 -- They serve the definition that `MemoryRule` promises.
 use Rattle.std.specs.Prelude.{◌≡◌, ℕ, true, false, [], ◌∷◌, map, refl}
-use Rattle.collector_serve.specs.Memory.{MemoryState, is_short, memory_after}
+use Rattle.collector_serve.specs.Memory.{MemoryState, is_short, is_shorter, memory_after}
 
 abbrev state : (most release : ℕ) → MemoryState
 state most release = record { limit = 800; most = most; release = release }
@@ -30,6 +30,10 @@ an_eighth_beyond = refl
 
 more_than_an_eighth : memory_after (state 801 70) 901 80 ≡ state 901 40
 more_than_an_eighth = refl
+
+-- spans are refused from there on
+shorter : map (is_shorter 800) (800 ∷ 900 ∷ 901 ∷ []) ≡ false ∷ false ∷ true ∷ []
+shorter = refl
 
 -- it takes what it may again: all is as at the start
 back : memory_after (state 901 40) 799 80 ≡ state 800 0

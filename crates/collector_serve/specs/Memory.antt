@@ -18,6 +18,10 @@ memory_after state taken waiting =
     else if nat_le taken state.most then state
     else record state { most = taken; release = release_of state.limit taken waiting }
 
+-- where requests are refused, and the process is more than an eighth beyond its limit, no more spans are kept
+abbrev pub is_shorter : (limit taken : ℕ) → Bool
+is_shorter limit taken = nat_lt (limit + limit / 8) taken
+
 -- then requests are refused
 abbrev pub is_short : MemoryState → (taken waiting : ℕ) → Bool
 is_short state taken waiting = nat_lt state.limit taken && nat_lt state.release waiting

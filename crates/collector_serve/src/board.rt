@@ -1,11 +1,32 @@
 //! What all threads of a run have counted, for readers while it runs.
 use drop_ledger::{Count, Report};
-use lane_queue::{Brake, Gate, Place};
+use lane_queue::{Brake, Gate, Place, ShardLoad};
+use metrics_text::ShardNumbers;
 use span_ids::Reason;
+use std::alloc::{AllocError, Global};
 use std::sync::atomic::{AtomicU64, Ordering};
 
 /// So many counts a report has.
 const PLACES: usize = 9;
+
+/// What a shard told last of what it holds.
+#[derive(Drop)]
+struct ShardCells {
+    queued: AtomicU64,
+    traces: AtomicU64,
+    spans: AtomicU64,
+}
+
+impl ShardCells {
+    /// It holds nothing.
+    fn new() -> Self {
+        ShardCells {
+            queued: AtomicU64::new(0),
+            traces: AtomicU64::new(0),
+            spans: AtomicU64::new(0),
+        }
+    }
+}
 
 /// The nine counts, as they grow. Each addition of a thread is added here when it was made, so a number that is read never
 /// goes down, and is that of the report once all threads have ended. No contract says so: a thread that reads is in no run.
@@ -24,12 +45,20 @@ pub struct Board {
     lines: AtomicU64,
     output_bytes: AtomicU64,
     memory_bytes: AtomicU64,
+    decided_sampled: AtomicU64,
+    decided_not_sampled: AtomicU64,
+    late_sampled: AtomicU64,
+    shards: Vec<ShardCells>,
 }
 
 impl Board {
-    /// Nothing was counted, and requests are taken.
-    pub fn new() -> Self {
-        Board {
+    /// Nothing was counted, and requests are taken, by so many shards.
+    pub fn new(alloc: Global, shards: usize) -> Result<Self, AllocError> {
+        let mut cells = Vec::new(alloc);
+        for _ in 0..shards {
+            cells.push(ShardCells::new())?;
+        }
+        Ok(Board {
             received: AtomicU64::new(0),
             handed: AtomicU64::new(0),
             invalid_id: AtomicU64::new(0),
@@ -43,7 +72,11 @@ impl Board {
             lines: AtomicU64::new(0),
             output_bytes: AtomicU64::new(0),
             memory_bytes: AtomicU64::new(0),
-        }
+            decided_sampled: AtomicU64::new(0),
+            decided_not_sampled: AtomicU64::new(0),
+            late_sampled: AtomicU64::new(0),
+            shards: cells,
+        })
     }
 
     /// The counts as they are now.
@@ -91,6 +124,31 @@ impl Board {
         (lines, self.output_bytes.load(Ordering::Relaxed))
     }
 
+    /// How many traces were decided, as sampled and as not sampled.
+    pub fn decisions(&self) -> (u64, u64) {
+        let sampled = self.decided_sampled.load(Ordering::Relaxed);
+        (sampled, self.decided_not_sampled.load(Ordering::Relaxed))
+    }
+
+    /// How many spans came to traces that were decided before, as sampled and as not sampled.
+    pub fn late(&self) -> (u64, u64) {
+        let sampled = self.late_sampled.load(Ordering::Relaxed);
+        (sampled, self.late_not_sampled.load(Ordering::Relaxed))
+    }
+
+    /// What each shard told last of what it holds.
+    pub fn shards(&self, alloc: Global) -> Result<Vec<ShardNumbers>, AllocError> {
+        let mut numbers = Vec::new(alloc);
+        for cells in &self.shards {
+            numbers.push(ShardNumbers {
+                queued: cells.queued.load(Ordering::Relaxed),
+                traces: cells.traces.load(Ordering::Relaxed),
+                spans: cells.spans.load(Ordering::Relaxed),
+            })?;
+        }
+        Ok(numbers)
+    }
+
     /// The process takes so many bytes of memory.
     pub fn takes(&self, bytes: u64) {
         self.memory_bytes.store(bytes, Ordering::Relaxed);
@@ -136,5 +194,25 @@ impl Gate for Board {
 
     fn counted(&self, place: usize, spans: u64) {
         self.cell(place).fetch_add(spans, Ordering::Relaxed);
+    }
+
+    fn holds(&self, shard: u16, load: ShardLoad) {
+        if let Some(cells) = self.shards.get(shard as usize) {
+            cells.queued.store(load.queued, Ordering::Relaxed);
+            cells.traces.store(load.traces, Ordering::Relaxed);
+            cells.spans.store(load.spans, Ordering::Relaxed);
+        }
+    }
+
+    fn decided(&self, is_sampled: bool) {
+        if is_sampled {
+            self.decided_sampled.fetch_add(1, Ordering::Relaxed);
+        } else {
+            self.decided_not_sampled.fetch_add(1, Ordering::Relaxed);
+        }
+    }
+
+    fn handed_late(&self) {
+        self.late_sampled.fetch_add(1, Ordering::Relaxed);
     }
 }

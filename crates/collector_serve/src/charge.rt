@@ -34,6 +34,8 @@ impl Charge {
     fn metrics(&self, uptime_seconds: u64) -> Metrics {
         let traffic = &self.loads.traffic;
         let (lines, output_bytes) = self.board.written();
+        let (decided_sampled, decided_not_sampled) = self.board.decisions();
+        let (late_sampled, late_not_sampled) = self.board.late();
         Metrics {
             report: self.board.report(),
             open_connections: self.loads.sum(),
@@ -53,6 +55,10 @@ impl Charge {
             answered_415: traffic.answered(415),
             answered_431: traffic.answered(431),
             answered_503: traffic.answered(503),
+            decided_sampled,
+            decided_not_sampled,
+            late_sampled,
+            late_not_sampled,
         }
     }
 }
@@ -80,12 +86,14 @@ impl<'c> Admin for InCharge<'c> {
     ghost use Rattle.std.specs.Prelude.{◌≡◌, ⊤, string_bytes};
     ghost use Rattle.metrics_text.specs.Text.{metrics_text};
     ghost use Rattle.metrics_text.specs.declared.metrics.Metrics.{Metrics};
+    ghost use Rattle.metrics_text.specs.declared.metrics.ShardNumbers.{ShardNumbers};
+    ghost use Rattle.std.specs.Prelude.{List};
 
     ghost is_closed = { λ a. a.is_closed };
 
     ghost stops = { λ a said. ⊤ };
 
-    ghost tells = { λ a text. (metrics : Metrics) × (text ≡ metrics_text metrics) };
+    ghost tells = { λ a text. (metrics : Metrics) × (shards : List ShardNumbers) × (text ≡ metrics_text metrics shards) };
 
     ghost configuration = { λ a. string_bytes a.charge.now.configuration };
 
@@ -100,7 +108,8 @@ impl<'c> Admin for InCharge<'c> {
 
     fn metrics(&self, alloc: Global) -> Result<String, AllocError> {
         let metrics = self.charge.metrics(self.uptime_seconds);
-        let text = metrics_text(alloc, &metrics)?;
+        let shards = self.charge.board.shards(alloc)?;
+        let text = metrics_text(alloc, &metrics, &shards)?;
         Ok(text)
     }
 

@@ -1,6 +1,6 @@
 //! When requests are refused since the process takes too much memory.
 ghost use Rattle.std.specs.Prelude.{◌≡◌};
-ghost use Rattle.collector_serve.specs.Memory.{is_short, memory_after, release_of};
+ghost use Rattle.collector_serve.specs.Memory.{is_short, is_shorter, memory_after, release_of};
 
 use std::marker::Model;
 
@@ -49,6 +49,13 @@ impl MemoryRule {
         }
         self.limit < taken && self.release < waiting
     }
+}
+
+/// Whether a process that may take so many bytes, and takes so many, is to keep no more spans where its requests are refused.
+pub fn is_shorter(limit: u64, taken: u64) -> bool
+    ensures { result ≡ is_shorter limit taken }
+{
+    limit.saturating_add(limit / 8) < taken
 }
 
 /// So many spans may wait again, of so many that waited when the process grew to this size.

@@ -1,6 +1,6 @@
-//! The thread that looks at what memory the process takes, and refuses requests while it is too much.
+//! The thread that looks at what memory the process takes, and refuses requests while it is too much, and spans while it is more still.
 use crate::charge::Charge;
-use crate::memory_rule::MemoryRule;
+use crate::memory_rule::{MemoryRule, is_shorter};
 use std::alloc::Global;
 use std::io::{Read, Seek, SeekFrom};
 use std::sync::{Arc, Wait};
@@ -48,7 +48,8 @@ fn watch<F: Read + Seek + Drop, R: Wait + Clock>(rt: &R, limit: u64, account: F,
         if let Ok(taken) = bytes_taken(&mut account) {
             charge.board.takes(taken);
             let is_short = rule.is_short(taken, charge.board.waiting());
-            charge.board.brake().set(is_short);
+            let is_shorter = is_short && is_shorter(limit, taken);
+            charge.board.brake().set(is_short, is_shorter);
             pause = pause_before(limit, taken);
         }
         thread::sleep(rt, Duration::from_millis(pause));

@@ -26,7 +26,7 @@ mod sender_port;
 
 pub use brake::Brake;
 pub use ends::Sender;
-pub use gate::{Gate, OpenGate, Place};
+pub use gate::{Gate, OpenGate, Place, ShardLoad};
 pub use law::{popped_then_held_is_pushed, pops_take_turns};
 pub use list_port::ListPort;
 pub use pause::Pause;

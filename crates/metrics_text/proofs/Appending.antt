@@ -1,9 +1,12 @@
 -- Texts that are appended one after the other, and the lines of the reasons.
--- For the contracts of `put_build`, `put_spans`, `put_collector`, `put_all_dropped` and `metrics_text`.
+-- For the contracts of `put_build`, `put_spans`, `put_collector`, `put_all_dropped`, `put_shard_lines` and `metrics_text`.
 use Rattle.std.proofs.Common.{◌≡◌, ◌<◌, ◌++◌, ◌+◌, ◌∷◌, ℕ, List, [], add-one, ap, sym, ◌∙◌, append_assoc, append-nil, drop, drop-cons, get_or, length, suc}
 use Rattle.std.specs.Prelude.{Result, Ok, Err, OnOk, map}
 use Rattle.std.specs.List.{concat}
 use Rattle.metrics_text.specs.Families.{dropped_sample, reasons, sample_line}
+use Rattle.metrics_text.specs.Shards.{shard_line, shard_lines}
+use Rattle.metrics_text.specs.declared.figure.ShardFigure.{ShardFigure}
+use Rattle.metrics_text.specs.declared.metrics.ShardNumbers.{ShardNumbers}
 use Rattle.span_ids.specs.declared.outcome.Reason.TheVariants.{InvalidId}
 
 -- behind a first text the second was appended
@@ -46,10 +49,27 @@ items-next f xs default text new whole passed some so e =
     ∙ ap (λ rs. text ++ concat (map f rs)) (sym (drop-cons xs passed default some))
     ∙ so)
 
--- the six families, and the figures
-pub six-families : (a b c d e f figures none spans dropped whole text : List ℕ) → none ≡ [] → spans ≡ none ++ (a ++ b) → dropped ≡ spans ++ c → whole ≡ dropped ++ (d ++ (e ++ f))
-    → text ≡ whole ++ figures → text ≡ concat (a ∷ b ∷ c ∷ d ∷ e ∷ f ∷ []) ++ figures
-six-families a b c d e f figures none spans dropped whole text n s t u v =
-    v ∙ ap (λ (x : List ℕ). x ++ figures)
+-- the lines of all shards are left
+pub shards-begin : (figure : ShardFigure) (old text : List ℕ) (shards : List ShardNumbers) → text ≡ old → text ++ shard_lines figure 0 (drop 0 shards) ≡ old ++ shard_lines figure 0 shards
+shards-begin figure old text shards e = ap (λ (x : List ℕ). x ++ shard_lines figure 0 shards) e
+
+-- one shard's line more is there, and one less is left
+pub shards-next : (figure : ShardFigure) (shards : List ShardNumbers) (default : ShardNumbers) (text new whole : List ℕ) (passed : ℕ) → passed < length shards
+    → text ++ shard_lines figure passed (drop passed shards) ≡ whole → new ≡ text ++ shard_line figure passed (get_or shards passed default)
+    → new ++ shard_lines figure (passed + 1) (drop (passed + 1) shards) ≡ whole
+shards-next figure shards default text new whole passed some so e =
+    rw add-one
+    (let line : List ℕ = shard_line figure passed (get_or shards passed default) in
+    ap (λ (x : List ℕ). x ++ shard_lines figure (suc passed) (drop (suc passed) shards)) e
+    ∙ append_assoc text line (shard_lines figure (suc passed) (drop (suc passed) shards))
+    ∙ ap (λ rest. text ++ shard_lines figure passed rest) (sym (drop-cons shards passed default some))
+    ∙ so)
+
+-- the six families, the figures and the shards
+pub six-families : (a b c d e f figures shards none spans dropped whole most text : List ℕ) → none ≡ [] → spans ≡ none ++ (a ++ b) → dropped ≡ spans ++ c → whole ≡ dropped ++ (d ++ (e ++ f))
+    → most ≡ whole ++ figures → text ≡ most ++ shards → text ≡ concat (a ∷ b ∷ c ∷ d ∷ e ∷ f ∷ []) ++ (figures ++ shards)
+six-families a b c d e f figures shards none spans dropped whole most text n s t u v w =
+    w ∙ ap (λ (x : List ℕ). x ++ shards) v ∙ append_assoc whole figures shards
+    ∙ ap (λ (x : List ℕ). x ++ (figures ++ shards))
     (u ∙ ap (λ (x : List ℕ). x ++ (d ++ (e ++ f))) (t ∙ ap (λ (x : List ℕ). x ++ c) (s ∙ ap (λ (x : List ℕ). x ++ (a ++ b)) n))
     ∙ simp (append_assoc, append-nil))

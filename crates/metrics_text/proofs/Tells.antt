@@ -1,8 +1,8 @@
 -- The text tells each number.
 -- For the clause of `tells_all`.
-use Rattle.std.proofs.Common.{◌≡◌, ◌≢◌, ◌+◌, ◌^◌, ◌<◌, ◌%◌, ◌++◌, ◌∷◌, ℕ, List, [], ap, sym, ◌∙◌, append_assoc, append-nil, arith, drop, length, refl}
+use Rattle.std.proofs.Common.{◌≡◌, ◌≢◌, ◌+◌, suc, ◌^◌, ◌<◌, ◌%◌, ◌++◌, ◌∷◌, ℕ, List, [], ap, sym, ◌∙◌, append_assoc, append-nil, arith, drop, length, refl}
 use Rattle.std.specs.Prelude.{codes, decimal, map}
-use Rattle.std.specs.List.{concat}
+use Rattle.std.specs.List.{AllByRecursion, concat}
 use Rattle.std.proofs.Math.Seq.{drop-append_seam}
 use Rattle.std.proofs.lemmas.Fmt.{decimal_by_steps, decimal_injective}
 use Rattle.span_ids.specs.declared.outcome.Reason.{Reason}
@@ -14,9 +14,13 @@ use Rattle.metrics_text.specs.declared.kind.FamilyKind.{FamilyKind}
 use Rattle.metrics_text.specs.declared.kind.FamilyKind.TheVariants.{Counter, Gauge}
 use Rattle.metrics_text.specs.declared.metrics.Metrics.{Metrics}
 use Rattle.metrics_text.specs.declared.figure.Figure.{Figure}
-use Rattle.metrics_text.specs.declared.figure.Figure.TheVariants.{SpansWaiting, ReceivedBytes, SentBytes, Lines, OutputBytes, Memory, Answered200, Answered400, Answered404, Answered405, Answered408, Answered413, Answered415, Answered431, Answered503}
+use Rattle.metrics_text.specs.declared.figure.Figure.TheVariants.{SpansWaiting, ReceivedBytes, SentBytes, Lines, OutputBytes, Memory, Answered200, Answered400, Answered404, Answered405, Answered408, Answered413, Answered415, Answered431, Answered503, DecidedSampled, DecidedNotSampled, LateSampled, LateNotSampled}
 use Rattle.metrics_text.specs.Figures.{all_figures, figure_row, figure_text, figure_value, figures_text, head_of}
-use Rattle.metrics_text.specs.Text.{TellsAll}
+use Rattle.metrics_text.specs.declared.metrics.ShardNumbers.{ShardNumbers}
+use Rattle.metrics_text.specs.declared.figure.ShardFigure.{ShardFigure}
+use Rattle.metrics_text.specs.declared.figure.ShardFigure.TheVariants.{Queued, Traces, Spans}
+use Rattle.metrics_text.specs.Shards.{shard_line, shard_lines, shard_row, shard_text, shard_value, shards_text}
+use Rattle.metrics_text.specs.Text.{OfShard, TellsAll}
 use Rattle.metrics_text.specs.Families.{build, connections, dropped, dropped_sample, families, family, family_text, handed, head_lines, labelled, number_of, reason_word, reasons, received, sample, sample_line, uptime, word_of}
 
 -- ---- a number, and a line feed behind it
@@ -118,15 +122,18 @@ SameValues (f ∷ rest) a b = (figure_value a f ≡ figure_value b f) × SameVal
 abbrev texts_of : Metrics → List Figure → List ℕ
 texts_of m fs = concat (map (figure_text m) fs)
 
-figures_told : (a b : Metrics) (fs : List Figure) → ((f : Figure) → figure_value a f < 2 ^ 64) → ((f : Figure) → figure_value b f < 2 ^ 64) → texts_of a fs ≡ texts_of b fs → SameValues fs a b
-figures_told a b [] x y e = tt
-figures_told a b (f ∷ rest) x y e =
+figure_is : (head line rest us : List ℕ) → ((head ++ line) ++ rest) ++ us ≡ head ++ (line ++ (rest ++ us))
+figure_is head line rest us = simp append_assoc
+
+figures_told : (a b : Metrics) (fs : List Figure) (us vs : List ℕ) → ((f : Figure) → figure_value a f < 2 ^ 64) → ((f : Figure) → figure_value b f < 2 ^ 64) → texts_of a fs ++ us ≡ texts_of b fs ++ vs → SameValues fs a b × (us ≡ vs)
+figures_told a b [] us vs x y e = (tt, e)
+figures_told a b (f ∷ rest) us vs x y e =
     let head : List ℕ = head_of (figure_row f) in
     let line : List ℕ = sample_line (figure_row f).name (sample (figure_row f).labels (figure_value a f)) in
     let other : List ℕ = sample_line (figure_row f).name (sample (figure_row f).labels (figure_value b f)) in
-    let one = line_told (figure_row f).name (figure_row f).labels (figure_value a f) (figure_value b f) (texts_of a rest) (texts_of b rest) (x f) (y f)
-    (strip head _ _ (sym (append_assoc head line (texts_of a rest)) ∙ e ∙ append_assoc head other (texts_of b rest))) in
-    (one.0, figures_told a b rest x y one.1)
+    let one = line_told (figure_row f).name (figure_row f).labels (figure_value a f) (figure_value b f) (texts_of a rest ++ us) (texts_of b rest ++ vs) (x f) (y f)
+    (strip head _ _ (sym (figure_is head line (texts_of a rest) us) ∙ e ∙ figure_is head other (texts_of b rest) vs)) in
+    let more = figures_told a b rest us vs x y one.1 in ((one.0, more.0), more.1)
 
 same_values : (a b : Metrics) → SameValues all_figures a b → (f : Figure) → figure_value a f ≡ figure_value b f
 same_values a b s SpansWaiting = s.0
@@ -144,31 +151,84 @@ same_values a b s Answered413 = s.1.1.1.1.1.1.1.1.1.1.1.0
 same_values a b s Answered415 = s.1.1.1.1.1.1.1.1.1.1.1.1.0
 same_values a b s Answered431 = s.1.1.1.1.1.1.1.1.1.1.1.1.1.0
 same_values a b s Answered503 = s.1.1.1.1.1.1.1.1.1.1.1.1.1.1.0
+same_values a b s DecidedSampled = s.1.1.1.1.1.1.1.1.1.1.1.1.1.1.1.0
+same_values a b s DecidedNotSampled = s.1.1.1.1.1.1.1.1.1.1.1.1.1.1.1.1.0
+same_values a b s LateSampled = s.1.1.1.1.1.1.1.1.1.1.1.1.1.1.1.1.1.0
+same_values a b s LateNotSampled = s.1.1.1.1.1.1.1.1.1.1.1.1.1.1.1.1.1.1.0
+
+-- ---- shards
+
+shards_is : (line rest us : List ℕ) → (line ++ rest) ++ us ≡ line ++ (rest ++ us)
+shards_is line rest us = append_assoc line rest us
+
+-- the values of a number are the same for all shards
+abbrev SameShards : ShardFigure → (xs ys : List ShardNumbers) → Type 0
+SameShards f [] ys = Unit {0}
+SameShards f (x ∷ xs) [] = Unit {0}
+SameShards f (x ∷ xs) (y ∷ ys) = (shard_value x f ≡ shard_value y f) × SameShards f xs ys
+
+shards_told : (f : ShardFigure) (n : ℕ) (xs ys : List ShardNumbers) (us vs : List ℕ) → AllByRecursion OfShard xs → AllByRecursion OfShard ys → length xs ≡ length ys
+    → shard_lines f n xs ++ us ≡ shard_lines f n ys ++ vs → SameShards f xs ys × (us ≡ vs)
+shards_told f n [] [] us vs h k same e = (tt, e)
+shards_told f n [] (y ∷ ys) us vs h k same e = absurd (omega (arith, same))
+shards_told f n (x ∷ xs) [] us vs h k same e = absurd (omega (arith, same))
+shards_told f n (x ∷ xs) (y ∷ ys) us vs h k same e =
+    let one = line_told (shard_row f).name (labelled (codes "shard") (decimal n)) (shard_value x f) (shard_value y f) (shard_lines f (suc n) xs ++ us) (shard_lines f (suc n) ys ++ vs)
+    (h.0 f) (k.0 f) (sym (shards_is (shard_line f n x) (shard_lines f (suc n) xs) us) ∙ e ∙ shards_is (shard_line f n y) (shard_lines f (suc n) ys) vs) in
+    let more = shards_told f (suc n) xs ys us vs h.1 k.1 (omega (arith, same)) one.1 in ((one.0, more.0), more.1)
+
+family_told : (f : ShardFigure) (xs ys : List ShardNumbers) (us vs : List ℕ) → AllByRecursion OfShard xs → AllByRecursion OfShard ys → length xs ≡ length ys
+    → shard_text xs f ++ us ≡ shard_text ys f ++ vs → SameShards f xs ys × (us ≡ vs)
+family_told f xs ys us vs h k same e =
+    let head : List ℕ = head_lines (shard_row f).name (shard_row f).help (word_of Gauge) in
+    shards_told f 0 xs ys us vs h k same (strip head _ _ (sym (append_assoc head (shard_lines f 0 xs) us) ∙ e ∙ append_assoc head (shard_lines f 0 ys) vs))
+
+same_shards : (xs ys : List ShardNumbers) → length xs ≡ length ys → SameShards Queued xs ys → SameShards Traces xs ys → SameShards Spans xs ys → xs ≡ ys
+same_shards [] [] same q t s = refl
+same_shards [] (y ∷ ys) same q t s = absurd (omega (arith, same))
+same_shards (x ∷ xs) [] same q t s = absurd (omega (arith, same))
+same_shards (x ∷ xs) (y ∷ ys) same q t s =
+    let rest : xs ≡ ys = same_shards xs ys (omega (arith, same)) q.1 t.1 s.1 in
+    let first : x ≡ y = same_one x y q.0 t.0 s.0 in
+    rw (first, rest) refl
+  where
+    same_one : (x y : ShardNumbers) → x.queued ≡ y.queued → x.traces ≡ y.traces → x.spans ≡ y.spans → x ≡ y
+    same_one x y q t s =
+        let of : ℕ → ℕ → ℕ → ShardNumbers = λ queued traces spans. record { queued = queued; traces = traces; spans = spans } in
+        ap (λ n. of n x.traces x.spans) q ∙ ap (λ n. of y.queued n x.spans) t ∙ ap (λ n. of y.queued y.traces n) s
+
+all_shards_told : (xs ys : List ShardNumbers) → AllByRecursion OfShard xs → AllByRecursion OfShard ys → length xs ≡ length ys → shards_text xs ≡ shards_text ys → xs ≡ ys
+all_shards_told xs ys h k same e =
+    let q = family_told Queued xs ys (shard_text xs Traces ++ (shard_text xs Spans ++ [])) (shard_text ys Traces ++ (shard_text ys Spans ++ [])) h k same e in
+    let t = family_told Traces xs ys (shard_text xs Spans ++ []) (shard_text ys Spans ++ []) h k same q.1 in
+    let s = family_told Spans xs ys [] [] h k same t.1 in
+    same_shards xs ys same q.0 t.0 s.0
 
 -- what stands behind the family of the spans that were given up, and behind that of the connections
-abbrev from_uptime : Metrics → List ℕ
-from_uptime m = family_text (uptime m) ++ (family_text build ++ figures_text m)
+abbrev from_uptime : Metrics → List ShardNumbers → List ℕ
+from_uptime m xs = family_text (uptime m) ++ (family_text build ++ (figures_text m ++ shards_text xs))
 
-abbrev from_connections : Metrics → List ℕ
-from_connections m = family_text (connections m) ++ from_uptime m
+abbrev from_connections : Metrics → List ShardNumbers → List ℕ
+from_connections m xs = family_text (connections m) ++ from_uptime m xs
 
 six_then : (r h d c u b f : List ℕ) → (r ++ (h ++ (d ++ (c ++ (u ++ (b ++ [])))))) ++ f ≡ r ++ (h ++ (d ++ (c ++ (u ++ (b ++ f)))))
 six_then r h d c u b f = simp (append_assoc, append-nil)
 
-whole_is : (m : Metrics) → concat (map family_text (families m)) ++ figures_text m
-    ≡ family_text (received m.report) ++ (family_text (handed m.report) ++ (family_text (dropped m.report) ++ from_connections m))
-whole_is m =
-    six_then (family_text (received m.report)) (family_text (handed m.report)) (family_text (dropped m.report)) (family_text (connections m)) (family_text (uptime m)) (family_text build) (figures_text m)
+whole_is : (m : Metrics) (xs : List ShardNumbers) → concat (map family_text (families m)) ++ (figures_text m ++ shards_text xs)
+    ≡ family_text (received m.report) ++ (family_text (handed m.report) ++ (family_text (dropped m.report) ++ from_connections m xs))
+whole_is m xs =
+    six_then (family_text (received m.report)) (family_text (handed m.report)) (family_text (dropped m.report)) (family_text (connections m)) (family_text (uptime m)) (family_text build) (figures_text m ++ shards_text xs)
 
 pub all_told : TellsAll
-all_told a b x y e =
+all_told a b xs ys x y hx hy same e =
     let r = single_told (codes "tsc_spans_received_total") (codes "Spans of requests that were read.") [] Counter (number_of a.report Received) (number_of b.report Received)
-    (family_text (handed a.report) ++ (family_text (dropped a.report) ++ from_connections a)) (family_text (handed b.report) ++ (family_text (dropped b.report) ++ from_connections b))
-    (x.counts Received) (y.counts Received) (sym (whole_is a) ∙ e ∙ whole_is b) in
+    (family_text (handed a.report) ++ (family_text (dropped a.report) ++ from_connections a xs)) (family_text (handed b.report) ++ (family_text (dropped b.report) ++ from_connections b ys))
+    (x.counts Received) (y.counts Received) (sym (whole_is a xs) ∙ e ∙ whole_is b ys) in
     let h = single_told (codes "tsc_spans_handed_total") (codes "Spans whose line the sink took whole.") [] Counter (number_of a.report Handed) (number_of b.report Handed)
-    (family_text (dropped a.report) ++ from_connections a) (family_text (dropped b.report) ++ from_connections b) (x.counts Handed) (y.counts Handed) r.1 in
-    let d = dropped_told a.report b.report (from_connections a) (from_connections b) x.counts y.counts h.1 in
-    let o = single_told (codes "tsc_connections_open") (codes "Connections that are open.") [] Gauge a.open_connections b.open_connections (from_uptime a) (from_uptime b) x.open_connections y.open_connections d.1 in
-    let u = single_told (codes "tsc_uptime_seconds") (codes "Seconds since the collector began.") [] Gauge a.uptime_seconds b.uptime_seconds (family_text build ++ figures_text a) (family_text build ++ figures_text b) x.uptime_seconds y.uptime_seconds o.1 in
-    let f = figures_told a b all_figures x.figures y.figures (strip (family_text build) (figures_text a) (figures_text b) u.1) in
-    record { counts = same_counts a.report b.report r.0 h.0 d.0; open_connections = o.0; uptime_seconds = u.0; figures = same_values a b f }
+    (family_text (dropped a.report) ++ from_connections a xs) (family_text (dropped b.report) ++ from_connections b ys) (x.counts Handed) (y.counts Handed) r.1 in
+    let d = dropped_told a.report b.report (from_connections a xs) (from_connections b ys) x.counts y.counts h.1 in
+    let o = single_told (codes "tsc_connections_open") (codes "Connections that are open.") [] Gauge a.open_connections b.open_connections (from_uptime a xs) (from_uptime b ys) x.open_connections y.open_connections d.1 in
+    let u = single_told (codes "tsc_uptime_seconds") (codes "Seconds since the collector began.") [] Gauge a.uptime_seconds b.uptime_seconds (family_text build ++ (figures_text a ++ shards_text xs)) (family_text build ++ (figures_text b ++ shards_text ys)) x.uptime_seconds y.uptime_seconds o.1 in
+    let f = figures_told a b all_figures (shards_text xs) (shards_text ys) x.figures y.figures (strip (family_text build) (figures_text a ++ shards_text xs) (figures_text b ++ shards_text ys) u.1) in
+    let s = all_shards_told xs ys hx hy same f.1 in
+    (record { counts = same_counts a.report b.report r.0 h.0 d.0; open_connections = o.0; uptime_seconds = u.0; figures = same_values a b f.0 }, s)

@@ -1,3 +1,4 @@
 pub mod Families
 pub mod Figures
+pub mod Shards
 pub mod Text

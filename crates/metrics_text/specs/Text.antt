@@ -1,16 +1,19 @@
 -- The whole text, and that it tells each number.
-use Rattle.std.specs.Prelude.{◌≡◌, ◌^◌, ◌<◌, ℕ, List, ◌++◌, map}
-use Rattle.std.specs.List.{concat}
+use Rattle.std.specs.Prelude.{◌≡◌, ◌^◌, ◌<◌, ℕ, List, ◌++◌, map, length}
+use Rattle.std.specs.List.{AllByRecursion, concat}
 use Rattle.drop_ledger.specs.Sums.{Fits}
 use Rattle.drop_ledger.specs.declared.count.Count.{Count}
 use Rattle.metrics_text.specs.declared.metrics.Metrics.{Metrics}
+use Rattle.metrics_text.specs.declared.metrics.ShardNumbers.{ShardNumbers}
 use Rattle.metrics_text.specs.declared.figure.Figure.{Figure}
+use Rattle.metrics_text.specs.declared.figure.ShardFigure.{ShardFigure}
 use Rattle.metrics_text.specs.Families.{families, family_text, number_of}
 use Rattle.metrics_text.specs.Figures.{figures_text, figure_value}
+use Rattle.metrics_text.specs.Shards.{shards_text, shard_value}
 
 -- the whole text
-abbrev pub metrics_text : Metrics → List ℕ
-metrics_text metrics = concat (map family_text (families metrics)) ++ figures_text metrics
+abbrev pub metrics_text : Metrics → List ShardNumbers → List ℕ
+metrics_text metrics shards = concat (map family_text (families metrics)) ++ (figures_text metrics ++ shards_text shards)
 
 -- the numbers of what was measured
 pub record AreNumbers (metrics : Metrics) : Type 0 where
@@ -18,6 +21,10 @@ pub record AreNumbers (metrics : Metrics) : Type 0 where
   pub open_connections : metrics.open_connections < 2 ^ 64
   pub uptime_seconds : metrics.uptime_seconds < 2 ^ 64
   pub figures : (figure : Figure) → figure_value metrics figure < 2 ^ 64
+
+-- the numbers of a shard
+abbrev pub OfShard : ShardNumbers → Type 0
+OfShard shard = (figure : ShardFigure) → shard_value shard figure < 2 ^ 64
 
 -- the same numbers
 pub record SameNumbers (a b : Metrics) : Type 0 where
@@ -28,4 +35,5 @@ pub record SameNumbers (a b : Metrics) : Type 0 where
 
 -- the text tells each number: numbers that differ have texts that differ
 abbrev pub TellsAll : Type 0
-TellsAll = (a b : Metrics) → AreNumbers a → AreNumbers b → metrics_text a ≡ metrics_text b → SameNumbers a b
+TellsAll = (a b : Metrics) (xs ys : List ShardNumbers) → AreNumbers a → AreNumbers b → AllByRecursion OfShard xs → AllByRecursion OfShard ys → length xs ≡ length ys
+    → metrics_text a xs ≡ metrics_text b ys → SameNumbers a b × (xs ≡ ys)

@@ -1,9 +1,10 @@
-//! The numbers beside the report, a row for each.
+//! The numbers beside the report, a row for each, and those of each shard.
 ghost use Rattle.std.specs.Prelude.{◌≡◌};
 ghost use Rattle.metrics_text.specs.Figures as spec;
+ghost use Rattle.metrics_text.specs.Shards as shards;
 
 use crate::kind::FamilyKind;
-use crate::metrics::Metrics;
+use crate::metrics::{Metrics, ShardNumbers};
 
 /// A number beside the report.
 #[derive(Clone, Copy, PartialEq, Eq)]
@@ -38,6 +39,14 @@ pub enum Figure {
     Answered431,
     /// Requests that were answered 503.
     Answered503,
+    /// Traces that were decided as sampled.
+    DecidedSampled,
+    /// Traces that were decided as not sampled.
+    DecidedNotSampled,
+    /// Spans whose trace was decided before as sampled.
+    LateSampled,
+    /// Spans whose trace was decided before as not sampled.
+    LateNotSampled,
 }
 
 impl Figure {
@@ -139,6 +148,30 @@ impl Figure {
                 FamilyKind::Counter,
                 "{code=\"503\"}",
             ),
+            Figure::DecidedSampled => (
+                "tsc_traces_decided_total",
+                "Traces that were decided.",
+                FamilyKind::Counter,
+                "{decision=\"sampled\"}",
+            ),
+            Figure::DecidedNotSampled => (
+                "tsc_traces_decided_total",
+                "",
+                FamilyKind::Counter,
+                "{decision=\"not_sampled\"}",
+            ),
+            Figure::LateSampled => (
+                "tsc_spans_late_total",
+                "Spans whose trace was decided before.",
+                FamilyKind::Counter,
+                "{decision=\"sampled\"}",
+            ),
+            Figure::LateNotSampled => (
+                "tsc_spans_late_total",
+                "",
+                FamilyKind::Counter,
+                "{decision=\"not_sampled\"}",
+            ),
         }
     }
 
@@ -162,6 +195,55 @@ impl Figure {
             Figure::Answered415 => metrics.answered_415,
             Figure::Answered431 => metrics.answered_431,
             Figure::Answered503 => metrics.answered_503,
+            Figure::DecidedSampled => metrics.decided_sampled,
+            Figure::DecidedNotSampled => metrics.decided_not_sampled,
+            Figure::LateSampled => metrics.late_sampled,
+            Figure::LateNotSampled => metrics.late_not_sampled,
+        }
+    }
+}
+
+/// A number of each shard.
+#[derive(Clone, Copy, PartialEq, Eq)]
+pub enum ShardFigure {
+    /// Items that wait in its queues.
+    Queued,
+    /// Traces that wait for their decision.
+    Traces,
+    /// Spans of these traces.
+    Spans,
+}
+
+impl ShardFigure {
+    /// The name of its family, and the family's help.
+    pub fn row(self) -> (&'static str, &'static str)
+        ensures name { result.0.now ≡ (shards.shard_row self).name }
+        ensures help { result.1.now ≡ (shards.shard_row self).help }
+    {
+        match self {
+            ShardFigure::Queued => (
+                "tsc_shard_queue_items",
+                "Items that wait in the queues of a shard, as it told last.",
+            ),
+            ShardFigure::Traces => (
+                "tsc_shard_traces_waiting",
+                "Traces that wait for their decision, as the shard told last.",
+            ),
+            ShardFigure::Spans => (
+                "tsc_shard_spans_waiting",
+                "Spans of traces that wait for their decision, as the shard told last.",
+            ),
+        }
+    }
+
+    /// Its value.
+    pub fn value(self, shard: &ShardNumbers) -> u64
+        ensures { result ≡ shards.shard_value shard.now self }
+    {
+        match self {
+            ShardFigure::Queued => shard.queued,
+            ShardFigure::Traces => shard.traces,
+            ShardFigure::Spans => shard.spans,
         }
     }
 }

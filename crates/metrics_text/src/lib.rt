@@ -10,5 +10,5 @@ mod metrics;
 mod text;
 
 pub use law::tells_all;
-pub use metrics::Metrics;
+pub use metrics::{Metrics, ShardNumbers};
 pub use text::{VERSION, metrics_text};

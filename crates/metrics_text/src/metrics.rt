@@ -40,4 +40,23 @@ pub struct Metrics {
     pub answered_431: u64,
     /// How many requests were answered 503.
     pub answered_503: u64,
+    /// How many traces were decided as sampled.
+    pub decided_sampled: u64,
+    /// How many traces were decided as not sampled.
+    pub decided_not_sampled: u64,
+    /// How many spans came to a trace that was decided before as sampled.
+    pub late_sampled: u64,
+    /// How many spans came to a trace that was decided before as not sampled.
+    pub late_not_sampled: u64,
+}
+
+/// What a shard holds, as it told last.
+#[derive(Clone, Copy, PartialEq, Eq)]
+pub struct ShardNumbers {
+    /// How many items wait in its queues.
+    pub queued: u64,
+    /// How many traces wait for their decision.
+    pub traces: u64,
+    /// How many spans these traces have.
+    pub spans: u64,
 }

@@ -2,12 +2,13 @@
 ghost use Rattle.std.specs.Prelude.{◌≡◌, ◌++◌, ℕ, List, [], ◌∷◌, IfOk, OnOk, codes, decimal, string_bytes};
 ghost use Rattle.metrics_text.specs.Families.{build, connections, dropped, dropped_sample, family, family_text, handed, head_lines, labelled, number_of, reason_word, received, sample, sample_line, uptime, word_of};
 ghost use Rattle.metrics_text.specs.Figures.{figure_text, figures_text};
+ghost use Rattle.metrics_text.specs.Shards.{shard_line, shard_lines, shard_text, shards_text};
 ghost use Rattle.metrics_text.specs.Text.{metrics_text};
 ghost use Rattle.drop_ledger.specs.declared.count.Count.TheVariants.{Dropped};
 
-use crate::figure::Figure;
+use crate::figure::{Figure, ShardFigure};
 use crate::kind::FamilyKind;
-use crate::metrics::Metrics;
+use crate::metrics::{Metrics, ShardNumbers};
 use drop_ledger::{Count, Report};
 use span_ids::Reason;
 use std::alloc::{AllocError, Global};
@@ -207,6 +208,10 @@ fn put_figures(text: &mut String, metrics: &Metrics) -> Result<(), AllocError>
         Figure::Answered415,
         Figure::Answered431,
         Figure::Answered503,
+        Figure::DecidedSampled,
+        Figure::DecidedNotSampled,
+        Figure::LateSampled,
+        Figure::LateNotSampled,
     ];
     for figure in figures {
         put_figure(text, metrics, figure)?;
@@ -214,15 +219,71 @@ fn put_figures(text: &mut String, metrics: &Metrics) -> Result<(), AllocError>
     Ok(())
 }
 
-/// The text of these numbers: a few lines for each family, in the order of `families` and then of `all_figures`. Each line ends
-/// with a line feed.
-pub fn metrics_text(alloc: Global, metrics: &Metrics) -> Result<String, AllocError>
-    ensures { IfOk result (λ text. string_bytes text ≡ metrics_text metrics.now) }
+/// Appends the line of a number of the shard that has this number.
+fn put_shard(
+    text: &mut String,
+    figure: ShardFigure,
+    number: usize,
+    shard: &ShardNumbers,
+) -> Result<(), AllocError>
+    ensures { OnOk result (string_bytes text.new ≡ string_bytes text.old ++ shard_line figure number shard.now) }
+{
+    let (name, _) = figure.row();
+    let value = figure.value(shard);
+    write!(text, "{name}{{shard=\"{number}\"}} {value}\n")
+}
+
+/// Appends the lines of a number of all shards.
+fn put_shard_lines(
+    text: &mut String,
+    figure: ShardFigure,
+    shards: &[ShardNumbers],
+) -> Result<(), AllocError>
+    ensures { OnOk result (string_bytes text.new ≡ string_bytes text.old ++ shard_lines figure 0 shards.now) }
+{
+    for number in 0..shards.len() {
+        put_shard(text, figure, number, &shards[number])?;
+    }
+    Ok(())
+}
+
+/// Appends the family of a number of all shards.
+fn put_shard_figure(
+    text: &mut String,
+    figure: ShardFigure,
+    shards: &[ShardNumbers],
+) -> Result<(), AllocError>
+    ensures { OnOk result (string_bytes text.new ≡ string_bytes text.old ++ shard_text shards.now figure) }
+{
+    let (name, help) = figure.row();
+    put_head(text, name, help, FamilyKind::Gauge)?;
+    put_shard_lines(text, figure, shards)
+}
+
+/// Appends the families of all numbers of the shards.
+fn put_shards(text: &mut String, shards: &[ShardNumbers]) -> Result<(), AllocError>
+    ensures { OnOk result (string_bytes text.new ≡ string_bytes text.old ++ shards_text shards.now) }
+{
+    for figure in [ShardFigure::Queued, ShardFigure::Traces, ShardFigure::Spans] {
+        put_shard_figure(text, figure, shards)?;
+    }
+    Ok(())
+}
+
+/// The text of these numbers: a few lines for each family, in the order of `families`, then of `all_figures`, and then of
+/// `all_shard_figures`. Each line ends with a line feed.
+pub fn metrics_text(
+    alloc: Global,
+    metrics: &Metrics,
+    shards: &[ShardNumbers],
+) -> Result<String, AllocError>
+    ensures { IfOk result (λ text. string_bytes text ≡ metrics_text metrics.now shards.now) }
 {
     let mut text = String::new(alloc);
     put_spans(&mut text, &metrics.report)?;
     put_all_dropped(&mut text, &metrics.report)?;
     put_collector(&mut text, metrics)?;
     put_figures(&mut text, metrics)?;
+    put_shards(&mut text, shards)?;
     Ok(text)
 }

@@ -37,7 +37,7 @@ pub fn take_item<S: Sink>(
     ensures settings { settings shard.new ≡ settings shard.old }
     ensures goes_on { GoesOn output.old output.new }
 {
-    let taken = shard.take(item);
+    let taken = shard.take(item, true);
     pull_taken(output, taken);
     decide_all(shard, limiter, output);
 }

@@ -29,6 +29,11 @@ abbrev pub is_refusal : Taken → Bool
 is_refusal (Dropped NoMemory) = true
 is_refusal _ = false
 
+-- the span waits for its trace's decision
+abbrev pub is_kept : Taken → Bool
+is_kept (Kept evicted cache) = true
+is_kept _ = false
+
 -- memory was refused to the put of the decision that the opening evicted
 abbrev pub is_loss : Taken → Bool
 is_loss (Kept evicted (Some Lost)) = true

@@ -1,5 +1,5 @@
 //! The buffer and the cache of a shard, and how it decides.
-ghost use Rattle.std.specs.Prelude.{◌≡◌, ◌⊎◌, ℕ, replicate, [], ◌∷◌, ◌++◌, ◌+◌, if◌then◌else◌, ◌<◌, ◌≤◌, max, Bool, IsTrue, IsSome, true, false, length, OnOk, IfOk, position, Some, None};
+ghost use Rattle.std.specs.Prelude.{◌≡◌, ◌⊎◌, ◌-◌, ◌^◌, min, ℕ, replicate, [], ◌∷◌, ◌++◌, ◌+◌, if◌then◌else◌, ◌<◌, ◌≤◌, max, Bool, IsTrue, IsSome, true, false, length, OnOk, IfOk, position, Some, None};
 ghost use Rattle.span_ids.specs.declared.outcome.Reason.{Reason};
 ghost use Rattle.span_ids.specs.Same.{same_trace};
 ghost use Rattle.journal_theory.specs.Journal.{Journal, IsAnswered};
@@ -79,10 +79,11 @@ impl Model for Shard {
 
 impl Shard {
     ghost use Rattle.shard_core.specs.Held.{StandsFor, has_due, is_finished, due_by, settings, settings_of};
-    ghost use Rattle.shard_core.specs.Taking.{entry, ends_after, answer_to, is_refusal, only_clock, TellsFate, is_last, released_by, dropped_by, Decides, waiting, released_in, dropped_in, dealt_after};
+    ghost use Rattle.shard_core.specs.Taking.{entry, ends_after, answer_to, is_refusal, is_kept, only_clock, TellsFate, is_last, released_by, dropped_by, Decides, waiting, released_in, dropped_in, dealt_after};
     ghost use Rattle.journal_theory.specs.Journal.{has_ids};
     ghost use Rattle.journal_theory.specs.Marked.{marks_apply};
     ghost use Rattle.shard_core.specs.Holding.{held_after_tick, held_after_end, TakesSpan};
+    ghost use Rattle.trace_buffer.specs.Buffer.{traces_waiting, spans_waiting};
 
     /// A shard that has taken nothing.
     pub fn new(alloc: Global, policies: Policies, setup: ShardSetup) -> Result<Shard, AllocError>
@@ -130,6 +131,14 @@ impl Shard {
         }
     }
 
+    /// How many traces wait for their decision, and how many spans they have, at most 2^64-1. It walks over all.
+    pub fn waiting(&self) -> (u64, u64)
+        ensures traces { result.0 ≡ traces_waiting self.now.standing.episodes }
+        ensures spans { result.1 ≡ min (spans_waiting self.now.standing.episodes) (2 ^ 64 - 1) }
+    {
+        self.buffer.waiting()
+    }
+
     /// Whether every sender has ended.
     pub fn finished(&self) -> bool
         ensures { result ≡ is_finished self.now }
@@ -140,8 +149,9 @@ impl Shard {
     /// Takes an item. A span has valid ids. An `End` taken before, or of no sender, changes nothing.
     ///
     /// Memory is taken only to keep a span, and to remember the verdict of an episode that leaves. A span that is refused
-    /// changes the clock alone; a verdict that is lost changes nothing else.
-    pub fn take(&mut self, item: Item) -> Taken
+    /// changes the clock alone; a verdict that is lost changes nothing else. Where there is said to be no memory, no span is
+    /// kept: each that isn't late is refused.
+    pub fn take(&mut self, item: Item, has_memory: bool) -> Taken
         requires nothing_due { has_due self.old ≡ false }
         requires running { is_finished self.old ≡ false }
         requires ids { has_ids item ≡ true }
@@ -152,6 +162,7 @@ impl Shard {
         ensures released { (past : Journal) (dealt : ℕ) → StandsFor self.old past dealt → released_dealt (settings self.old) (entry item result ∷ past) 0 ≡ released_dealt (settings self.old) past dealt ++ released_by result }
         ensures dropped { (past : Journal) (dealt : ℕ) (reason : Reason) → StandsFor self.old past dealt → dropped_dealt (settings self.old) (entry item result ∷ past) 0 reason ≡ dropped_dealt (settings self.old) past dealt reason + dropped_by reason result }
         ensures refused { is_refusal result ≡ true → self.new ≡ only_clock item self.old }
+        ensures no_memory { has_memory ≡ false → is_kept result ≡ false }
         ensures finished { is_finished self.new ≡ is_last result }
         ensures ends { self.new.standing.ends ≡ ends_after item self.old.standing.ends }
         ensures policies { self.new.policies ≡ self.old.policies }
@@ -160,23 +171,26 @@ impl Shard {
         // A look at a field: what holds of every shard is known below.
         let _ = &self.policies;
         match item {
-            Item::Span(arrival) => self.take_span(arrival),
+            Item::Span(arrival) => self.take_span(arrival, has_memory),
             Item::Tick(moment) => self.take_tick(moment),
             Item::End(sender) => self.take_end(sender as usize),
         }
     }
 
-    fn take_span(&mut self, arrival: Arrival) -> Taken
+    fn take_span(&mut self, arrival: Arrival, has_memory: bool) -> Taken
         requires { IsSome arrival.rec.span.ids }
-        ensures { TakesSpan self.old arrival arrival.rec.span.ids result self.new }
+        ensures takes { TakesSpan self.old arrival arrival.rec.span.ids result self.new }
+        ensures no_memory { has_memory ≡ false → is_kept result ≡ false }
     {
         self.clock = arrival.moment.max(self.clock);
         let trace = ids_of(&arrival).unwrap().trace;
         match self.buffer.find(trace) {
+            Some(State::Undecided) if !has_memory => Taken::Dropped(Reason::NoMemory),
             Some(State::Undecided) => appended(self.buffer.append(arrival, self.clock)),
             Some(State::Decided(verdict)) => late(arrival, verdict),
             None => match self.cache.ask(trace) {
                 Some(verdict) => late(arrival, verdict),
+                None if !has_memory => Taken::Dropped(Reason::NoMemory),
                 None => opened(&mut self.cache, self.buffer.open(arrival, self.clock)),
             },
         }

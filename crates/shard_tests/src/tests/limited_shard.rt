@@ -71,7 +71,7 @@ impl LimitedShard {
         requires running { is_finished self.old.shard ≡ false }
         requires ids { has_ids item ≡ true }
     {
-        self.shard.take(item)
+        self.shard.take(item, true)
     }
 
     pub fn decide(&mut self) -> Decided {

@@ -24,7 +24,7 @@ span_facts c past k s =
     let P = λ (i : Item). StandsFor c.take_span.new.self (entry i c.take_span.result ∷ past) 0 × (c.take_span.result ≡ answer_to (settings c.args.self.now) (entry i c.take_span.result) past) × (marks_apply (settings c.args.self.now) (entry i c.take_span.result) past ≡ true) in
     let g = ready c.args.self.now past k (wait_of c) (limit_of c) c.requires.nothing_due c.requires.running s in
     let ids = ap has_ids (sym c.in-Span.is) ∙ c.requires.ids in
-    subst P (sym c.in-Span.is) (takes_span c.args.self.now c.in-Span.arrival past k ids (limit_of c) g c.take_span.new.self c.take_span.result c.take_span.ensures)
+    subst P (sym c.in-Span.is) (takes_span c.args.self.now c.in-Span.arrival past k ids (limit_of c) g c.take_span.new.self c.take_span.result c.take_span.ensures.takes)
 
 pub returns-in-Span-clause-stands : goal.returns-in-Span-clause-stands
 returns-in-Span-clause-stands c = λ past k s. (span_facts c past k s).0

@@ -1,0 +1,62 @@
+//! What a shard tells those who look at it while it runs. No contract rests on it.
+use lane_queue::{Gate, Receiver, Room, ShardLoad};
+use otlp_types::Item;
+use shard_core::{Decided, Shard, Taken};
+use span_ids::Moment;
+
+/// So long lies between two tellings of what a shard holds at least, in milliseconds.
+const PAUSE: u64 = 500;
+
+/// Whether a shard may take memory for spans.
+pub fn has_memory<G: Gate>(gate: &G) -> bool {
+    match gate.brake() {
+        Some(brake) => !brake.refuses_spans(),
+        None => true,
+    }
+}
+
+/// Tells of a span that is handed over late.
+pub fn tell_taken<G: Gate>(gate: &G, taken: &Taken) {
+    if let Taken::Late(_) = taken {
+        gate.handed_late();
+    }
+}
+
+/// Tells of a decision.
+pub fn tell_decided<G: Gate>(gate: &G, decided: &Decided) {
+    match decided {
+        Decided::Release(_) => gate.decided(true),
+        Decided::Dropped(_) => gate.decided(false),
+        Decided::Nothing => {}
+    }
+}
+
+/// When a tick tells that what the shard holds is to be told again, by the moment at which it was told last.
+pub fn next_telling(item: &Item, told: Option<Moment>) -> Option<Moment> {
+    let Item::Tick(moment) = item else {
+        return None;
+    };
+    match told {
+        Some(before) if *moment < before.saturating_add(PAUSE) => None,
+        _ => Some(*moment),
+    }
+}
+
+/// Tells what the shard of this number holds.
+pub fn tell_load<C: Room, G: Gate>(
+    gate: &G,
+    number: u16,
+    shard: &Shard,
+    receiver: &Receiver<Item, C>,
+) {
+    let (traces, spans) = shard.waiting();
+    let queued = receiver.len();
+    gate.holds(
+        number,
+        ShardLoad {
+            queued,
+            traces,
+            spans,
+        },
+    );
+}
