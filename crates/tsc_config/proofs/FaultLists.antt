@@ -271,17 +271,21 @@ Listens members fault = optional text_fault (get_member (codes "listen") members
 abbrev Gzip : Members → ConfigFault → Type 0
 Gzip members fault = optional truth_fault (get_member (codes "accept_gzip") members) ≡ Some fault
 
+abbrev First : Members → ConfigFault → Type 0
+First members fault = optional truth_fault (get_member (codes "sample_on_first_match") members) ≡ Some fault
+
 abbrev Others : Members → ConfigFault → Type 0
-Others members fault = Listens members fault ⊎ (Gzip members fault ⊎ ChoicesHave members fault)
+Others members fault = Listens members fault ⊎ (Gzip members fault ⊎ (First members fault ⊎ ChoicesHave members fault))
 
 others_all : (members : Members) → ListsAll (Others members) (rows_faults other_settings members)
 others_all members =
     next_row text_fault (get_member (codes "listen") members) _ _
     (next_row truth_fault (get_member (codes "accept_gzip") members) _ _
+    (next_row truth_fault (get_member (codes "sample_on_first_match") members) _ _
     (next_row (wanted_fault (value_is.Choice choice_is.QueueFull)) (get_member (codes "queue_full") members) _ _
     (next_row (wanted_fault (value_is.Choice choice_is.OutputFault)) (get_member (codes "output_fault") members) _ _
     (next_row truth_fault (get_member (codes "close_at_end_of_input") members) _ _
-    (last_row text_fault (get_member (codes "admin") members))))))
+    (last_row text_fault (get_member (codes "admin") members)))))))
 
 -- the rows of some settings and of others
 rows_append : (xs ys : List Setting) (members : Members) → rows_faults (xs ++ ys) members ≡ rows_faults xs members ++ rows_faults ys members
@@ -313,8 +317,9 @@ ungrouped members fault (inr (inl (inl h))) = inr (inl h)
 ungrouped members fault (inr (inl (inr (inl h)))) = inr (inr (inl h))
 ungrouped members fault (inr (inl (inr (inr (inl h))))) = inr (inr (inr (inl h)))
 ungrouped members fault (inr (inl (inr (inr (inr (inl h)))))) = inr (inr (inr (inr (inl h))))
-ungrouped members fault (inr (inl (inr (inr (inr (inr h)))))) = inr (inr (inr (inr (inr (inl h)))))
-ungrouped members fault (inr (inr h)) = inr (inr (inr (inr (inr (inr h)))))
+ungrouped members fault (inr (inl (inr (inr (inr (inr (inl h))))))) = inr (inr (inr (inr (inr (inl h)))))
+ungrouped members fault (inr (inl (inr (inr (inr (inr (inr h))))))) = inr (inr (inr (inr (inr (inr (inl h))))))
+ungrouped members fault (inr (inr h)) = inr (inr (inr (inr (inr (inr (inr h))))))
 
 grouped : (members : Members) (fault : ConfigFault) → HasFault members fault → Grouped members fault
 grouped members fault (inl h) = inl h
@@ -322,8 +327,9 @@ grouped members fault (inr (inl h)) = inr (inl (inl h))
 grouped members fault (inr (inr (inl h))) = inr (inl (inr (inl h)))
 grouped members fault (inr (inr (inr (inl h)))) = inr (inl (inr (inr (inl h))))
 grouped members fault (inr (inr (inr (inr (inl h))))) = inr (inl (inr (inr (inr (inl h)))))
-grouped members fault (inr (inr (inr (inr (inr (inl h)))))) = inr (inl (inr (inr (inr (inr h)))))
-grouped members fault (inr (inr (inr (inr (inr (inr h)))))) = inr (inr h)
+grouped members fault (inr (inr (inr (inr (inr (inl h)))))) = inr (inl (inr (inr (inr (inr (inl h))))))
+grouped members fault (inr (inr (inr (inr (inr (inr (inl h))))))) = inr (inl (inr (inr (inr (inr (inr h))))))
+grouped members fault (inr (inr (inr (inr (inr (inr (inr h))))))) = inr (inr h)
 
 table_all : (members : Members) → ListsAll (HasFault members) (table_faults members)
 table_all members =
