@@ -65,6 +65,11 @@ LINES = [
     ("accept_gzip = 1", WRONG_TYPE),
     ('accept_gzip = "gzip"', WRONG_TYPE),
     ("accept_gzip = [true]", WRONG_TYPE),
+    ("sample_on_first_match = true", TAKEN),
+    ("sample_on_first_match = false", TAKEN),
+    ("sample_on_first_match = 1", WRONG_TYPE),
+    ('sample_on_first_match = "true"', WRONG_TYPE),
+    ("sample_on_first = true", UNKNOWN_KEY),
     ('queue_full = "partial"', TAKEN),
     ('queue_full = "retry"', TAKEN),
     ('queue_full = "Retry"', OUT_OF_RANGE),
@@ -301,6 +306,13 @@ def lists():
     yield nested(3, '{ name = "a", type = "span_count", span_count = { min_spans = 2, max_spans = 1 } }'), CROSSED_BOUNDS
 
 
+def first_matches():
+    """Lists of policies of which the first match decides: it counts as one more policy and one more level."""
+    rows = [(0, 0, 1, EMPTY_LIST), (63, 63, 1, TAKEN), (64, 64, 1, TOO_MANY), (2, 0, 1, SAME_NAME), (1, 1, 0, NO_VALUES)]
+    yield from ((status_policies(count, named, codes), fault) for count, named, codes, fault in rows)
+    yield from ((nested(levels, ALL), fault) for levels, fault in ((6, TAKEN), (7, TOO_DEEP)))
+
+
 def percentages():
     """Every 997th number of ten-thousandths of a percent, 64 in a list of policies; each is taken."""
     texts = [f"{count // 10**4}.{count % 10**4:04}" for count in range(0, 10**6 + 1, 997)]
@@ -317,6 +329,7 @@ def main(folder):
     for kind, rows in SETTINGS.items():
         texts = [(f'policies = [{{ name = "a", type = "{kind}", {kind} = {{ {settings} }} }}]', fault) for settings, fault in rows]
         numbered(folder, f"settings of {kind}", texts)
+    numbered(folder, "first match", [(f"sample_on_first_match = true\npolicies = [{inner}]", fault) for inner, fault in first_matches()])
     numbered(folder, "list of policies", [(f"policies = [{inner}]", fault) for inner, fault in [*lists(), *percentages()]])
 
 

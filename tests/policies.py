@@ -212,6 +212,24 @@ def policies_of_policies(folder):
         one_run(folder, f"policies of policies {number}", kinds, [(one_span, None) for one_span in spans], is_kept)
 
 
+def first_matches(folder):
+    """The first policy that samples or drops ends the asking, and what was answered up to it decides; a trace of two spans with `env` as `dev`."""
+    never = ("span_count", "min_spans = 9")
+    against = ("string_attribute", 'key = "env", values = ["dev"], invert_match = true')
+    in_favour = ("string_attribute", 'key = "env", values = ["prod"], invert_match = true')
+    one = ("rate_limiting", "spans_per_second = 1")
+    dropped = joined("drop", ALWAYS)
+    rows = [
+        ([ALWAYS], True), ([never], False), ([never, ALWAYS], True), ([one, ALWAYS], True), ([ALWAYS, against], True), ([against, ALWAYS], False), ([never, ALWAYS, against], True),
+        ([ALWAYS, dropped], True), ([dropped, ALWAYS], False), ([joined("drop", never), ALWAYS, dropped], True), ([never, dropped], False), ([in_favour], True), ([in_favour, never], False),
+        ([in_favour, ALWAYS, against], True), ([in_favour, against], False), ([in_favour, dropped], False), ([joined("not", never), against], True), ([joined("not", ALWAYS), against], False),
+    ]  # fmt: skip
+    for number, (kinds, is_kept) in enumerate(rows):
+        run = Run(folder, f"first match {number}", {}, "sample_on_first_match = true\n" + policies(*kinds), lambda _, is_kept=is_kept: is_kept)
+        run.receive(1, resource_spans([(span(n, attributes=[attribute("env", stringValue="dev")]), None) for n in (1, 2)]))
+        run.finish()
+
+
 if __name__ == "__main__":
-    for write in (latencies, times_at_the_top, status_codes, span_counts, rates, attributes, percentages, trace_states, trace_flags, policies_together, policies_of_policies):
+    for write in (latencies, times_at_the_top, status_codes, span_counts, rates, attributes, percentages, trace_states, trace_flags, policies_together, policies_of_policies, first_matches):
         write(sys.argv[1])

@@ -1,19 +1,17 @@
 -- The walk over the parts of a policy and over the top policies, where a list of answers is given.
 -- For the clauses of `verdict_and_askings` and of `answer_given`.
-use Rattle.std.proofs.Common.{◌≡◌, ℕ, ◌+◌, ◌≤◌, Bool, true, false, List, ◌++◌, length, drop, refl, sym, ap, subst, ◌∙◌, arith, append-nil, length-append}
+use Rattle.std.proofs.Common.{◌≡◌, ℕ, ◌+◌, ◌≤◌, Bool, true, false, cond, List, [], ◌++◌, length, drop, sym, ap, subst, ◌∙◌, arith, append-nil, length-append}
 use Rattle.std.proofs.lemmas.List.{drop-drop}
 use Rattle.policy_tree.specs.declared.policy.Join.{Join}
 use Rattle.policy_tree.specs.Tree.{Policy, joined, Policies, no_more, one_more, nodes, nodes_in}
 use Rattle.policy_eval.specs.Policies as spec
-use Rattle.policy_eval.specs.Given.{answer_given, each_samples_given, left_by, nodes_asked, nodes_asked_in_turn, answers_given, nodes_asked_at_top, verdict_given, asked_given}
+use Rattle.policy_eval.specs.Given.{answer_given, part_answers_given, left_by, nodes_asked, nodes_asked_in_turn, answers_given, nodes_asked_at_top, verdict_given, asked_given}
 use Rattle.policy_eval.specs.GivenLaws.{left-drops, asks-few}
 use Rattle.otlp_types.specs.declared.arrival.Arrival.{Arrival}
-use Rattle.policy_eval.specs.Meaning.{answer_of, is_for, none_seen, seen_with, verdict_of_seen}
+use Rattle.policy_eval.specs.Meaning.{answer_of, is_end, none_seen, seen_with, joined_seen, verdict_of_seen}
 use Rattle.policy_eval.specs.declared.answer.Seen.{Seen}
 use Rattle.policy_eval.specs.declared.answer.Answer.{Answer}
-use Rattle.policy_eval.specs.declared.answer.Answer.TheVariants.{Sample, NotSample}
-use Rattle.policy_eval.proofs.Verdicts.{Tells, tells-more, tells-all}
-use Rattle.policy_eval.proofs.Turns.{samples-is}
+use Rattle.policy_eval.proofs.Verdicts.{Tells, tells-more, tells-all, tells-none, joined-all, ends-is}
 
 module _ (bs : List Bool) (spans : List Arrival) where
   -- what is known of one policy, before which so many answers were given, and with which so many are
@@ -29,50 +27,73 @@ module _ (bs : List Bool) (spans : List Arrival) where
   taken-few p before behind a k = let few = asks-few p 0 (drop before bs) spans in let e = k.asked 0 in omega (arith, few, e)
 
   -- the parts `rest` of a policy are still to be asked
-  pub record Part (policy : Policy) (join : Join) (before : ℕ) (rest : Policies) (next : ℕ) : Type 0 where
+  pub record Part (policy : Policy) (join : Join) (parts : Policies) (before : ℕ) (rest : Policies) (next : ℕ) (seen : Seen) : Type 0 where
+    pub is : policy ≡ joined join parts
     pub few : next + nodes_in rest ≤ 64
-    pub answers : answer_given policy (drop before bs) spans ≡ spec.joined_answer join (each_samples_given rest (drop next bs) spans)
-    pub asked : (node : ℕ) → (first : ℕ) × (before + length (nodes_asked policy node (drop before bs) spans) ≡ next + length (nodes_asked_in_turn rest first (drop next bs) spans))
+    pub tells : Tells seen (part_answers_given join rest (drop next bs) spans) (part_answers_given join parts (drop before bs) spans)
+    pub asked : (node : ℕ) → (first : ℕ) × (before + length (nodes_asked policy node (drop before bs) spans) ≡ next + length (nodes_asked_in_turn join rest first (drop next bs) spans))
 
-  pub part-first : (policy : Policy) (join : Join) (before : ℕ) (parts : Policies) → policy ≡ joined join parts → before + nodes policy ≤ 64 → Part policy join before parts before
+  pub part-first : (policy : Policy) (join : Join) (before : ℕ) (parts : Policies) → policy ≡ joined join parts → before + nodes policy ≤ 64 → Part policy join parts before parts before none_seen
   part-first policy join before parts e h = record {
+    is = e;
     few = let k : nodes policy ≡ nodes_in parts + 1 = ap nodes e in omega (arith, k, h);
-    answers = ap (λ p. answer_given p (drop before bs) spans) e;
+    tells = tells-none (part_answers_given join parts (drop before bs) spans);
     asked = λ node. (node + 1, ap (λ p. before + length (nodes_asked p node (drop before bs) spans)) e);
   }
 
-  pub part-more : (policy : Policy) (join : Join) (before : ℕ) (p : Policy) (rest : Policies) (next behind : ℕ) (a : Answer) → Part policy join before (one_more p rest) next → Taken p next behind a → is_for a ≡ true → Part policy join before rest behind
-  part-more policy join before p rest next behind a w k h =
-      let yes : spec.samples (answer_given p (drop next bs) spans) ≡ true = sym (samples-is (answer_given p (drop next bs) spans)) ∙ sym (ap is_for k.answer) ∙ h in
+  -- whether a part's answer ends them
+  ends-so : (join : Join) (p : Policy) (next behind : ℕ) (a : Answer) (b : Bool) → Taken p next behind a → is_end join a ≡ b → spec.ends join (answer_given p (drop next bs) spans) ≡ b
+  ends-so join p next behind a b k h = sym (ends-is join (answer_given p (drop next bs) spans)) ∙ sym (ap (is_end join) k.answer) ∙ h
+
+  -- the answers seen with that of one more part
+  told : (policy : Policy) (join : Join) (parts : Policies) (before : ℕ) (p : Policy) (rest : Policies) (next behind : ℕ) (seen : Seen) (a : Answer) (b : Bool) → Part policy join parts before (one_more p rest) next seen → Taken p next behind a → is_end join a ≡ b →
+      Tells (seen_with a seen) (cond b [] (part_answers_given join rest (drop behind bs) spans)) (part_answers_given join parts (drop before bs) spans)
+  told policy join parts before p rest next behind seen a b w k h =
+      let first = answer_given p (drop next bs) spans in
+      let later = λ (e : Bool) (xs : List Bool). cond e [] (part_answers_given join rest xs spans) in
+      let all = part_answers_given join parts (drop before bs) spans in
+      let so = tells-more seen first (later (spec.ends join first) (left_by p (drop next bs) spans)) all w.tells in
+      let O = λ (e : Bool). Tells (seen_with (answer_of first) seen) (later e (left_by p (drop next bs) spans)) all in
+      let P = λ (xs : List Bool). Tells (seen_with (answer_of first) seen) (later b xs) all in
+      let Q = λ (x : Answer). Tells (seen_with x seen) (later b (drop behind bs)) all in
+      subst Q (sym k.answer) (subst P (taken-left p next behind a k) (subst O (ends-so join p next behind a b k h) so))
+
+  pub part-more : (policy : Policy) (join : Join) (parts : Policies) (before : ℕ) (p : Policy) (rest : Policies) (next behind : ℕ) (seen : Seen) (a : Answer) → Part policy join parts before (one_more p rest) next seen → Taken p next behind a → is_end join a ≡ false →
+      Part policy join parts before rest behind (seen_with a seen)
+  part-more policy join parts before p rest next behind seen a w k h =
+      let no = ends-so join p next behind a false k h in
       let left = taken-left p next behind a k in
       record {
+        is = w.is;
         few = let few = taken-few p next behind a k in let all = w.few in omega (arith, few, all);
-        answers = w.answers ∙ (let e : spec.joined_answer join (each_samples_given (one_more p rest) (drop next bs) spans) ≡ spec.joined_answer join (each_samples_given rest (drop behind bs) spans) = rw (yes, left) in e);
+        tells = told policy join parts before p rest next behind seen a false w k h;
         asked = λ node.
             let was = w.asked node in
-            let more = nodes_asked_in_turn rest (was.0 + nodes p) (drop behind bs) spans in
+            let more = nodes_asked_in_turn join rest (was.0 + nodes p) (drop behind bs) spans in
             let ns = nodes_asked p was.0 (drop next bs) spans in
-            let e : nodes_asked_in_turn (one_more p rest) was.0 (drop next bs) spans ≡ ns ++ more = rw (yes, left) in
+            let e : nodes_asked_in_turn join (one_more p rest) was.0 (drop next bs) spans ≡ ns ++ more = rw (no, left) in
             let both = ap length e ∙ length-append ns more in
             let here = k.asked was.0 in
-            (was.0 + nodes p, was.1 ∙ (let q : next + length (nodes_asked_in_turn (one_more p rest) was.0 (drop next bs) spans) ≡ behind + length more = omega (arith, both, here) in q));
+            (was.0 + nodes p, was.1 ∙ (let q : next + length (nodes_asked_in_turn join (one_more p rest) was.0 (drop next bs) spans) ≡ behind + length more = omega (arith, both, here) in q));
       }
 
-  pub part-stop : (policy : Policy) (join : Join) (before : ℕ) (p : Policy) (rest : Policies) (next behind : ℕ) (a : Answer) → Part policy join before (one_more p rest) next → Taken p next behind a → is_for a ≡ false → Taken policy before behind (answer_of (spec.joined_answer join false))
-  part-stop policy join before p rest next behind a w k h =
-      let no : spec.samples (answer_given p (drop next bs) spans) ≡ false = sym (samples-is (answer_given p (drop next bs) spans)) ∙ sym (ap is_for k.answer) ∙ h in
+  pub part-stop : (policy : Policy) (join : Join) (parts : Policies) (before : ℕ) (p : Policy) (rest : Policies) (next behind : ℕ) (seen : Seen) (a : Answer) → Part policy join parts before (one_more p rest) next seen → Taken p next behind a → is_end join a ≡ true →
+      Taken policy before behind (answer_of (joined_seen join (seen_with a seen)))
+  part-stop policy join parts before p rest next behind seen a w k h =
+      let yes = ends-so join p next behind a true k h in
       record {
-        answer = let e : spec.joined_answer join (each_samples_given (one_more p rest) (drop next bs) spans) ≡ spec.joined_answer join false = rw no in sym (ap answer_of (w.answers ∙ e));
+        answer = ap answer_of (joined-all join (seen_with a seen) (part_answers_given join parts (drop before bs) spans) (told policy join parts before p rest next behind seen a true w k h)
+            ∙ sym (ap (λ q. answer_given q (drop before bs) spans) w.is));
         asked = λ node.
             let was = w.asked node in
             let ns = nodes_asked p was.0 (drop next bs) spans in
-            let e : nodes_asked_in_turn (one_more p rest) was.0 (drop next bs) spans ≡ ns = rw no (append-nil ns) in
+            let e : nodes_asked_in_turn join (one_more p rest) was.0 (drop next bs) spans ≡ ns = rw yes (append-nil ns) in
             k.asked was.0 ∙ sym (was.1 ∙ ap (λ ms. next + length ms) e);
       }
 
-  pub part-last : (policy : Policy) (join : Join) (before next : ℕ) → Part policy join before no_more next → Taken policy before next (answer_of (spec.joined_answer join true))
-  part-last policy join before next w = record {
-    answer = sym (ap answer_of w.answers);
+  pub part-last : (policy : Policy) (join : Join) (parts : Policies) (before next : ℕ) (seen : Seen) → Part policy join parts before no_more next seen → Taken policy before next (answer_of (joined_seen join seen))
+  part-last policy join parts before next seen w = record {
+    answer = ap answer_of (joined-all join seen (part_answers_given join parts (drop before bs) spans) w.tells ∙ sym (ap (λ q. answer_given q (drop before bs) spans) w.is));
     asked = λ node. let e = (w.asked node).1 in omega (arith, e);
   }
 
@@ -85,7 +106,7 @@ module _ (bs : List Bool) (spans : List Arrival) where
   pub at_top-first : (all : Policies) → nodes_in all ≤ 64 → AtTop all all 0 none_seen
   at_top-first all h = record {
     few = omega (arith, h);
-    tells = record { sample = refl; not_sample = refl; inverted_sample = refl; inverted_not_sample = refl; dropped = refl };
+    tells = tells-none (answers_given all bs spans);
     asked = (0, omega arith);
   }
 

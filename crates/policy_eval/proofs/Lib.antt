@@ -4,3 +4,4 @@ pub mod GivenTurns
 pub mod Members
 mod Rows
 mod GivenRows
+mod FirstRows

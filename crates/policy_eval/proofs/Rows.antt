@@ -3,7 +3,7 @@
 use Rattle.std.specs.Prelude.{ℕ, Bool, true, false, pos, List, [], ◌∷◌, ◌++◌, map, codes, None, Some, ◌≡◌, refl}
 use Rattle.otlp_types.proofs.Samples.{plain_record, plain_span}
 use Rattle.policy_tree.specs.declared.policy.Join.{Join}
-use Rattle.policy_tree.specs.declared.policy.Join.TheVariants.{And, Not, Drop}
+use Rattle.policy_tree.specs.declared.policy.Join.TheVariants.{And, Not, Drop, FirstMatch, Share}
 use Rattle.policy_tree.specs.Tree.{Policy, Policies, no_more, one_more, leaf, joined, and_policy, rate_limiting}
 use Rattle.policy_tree.specs.declared.policy.Leaf.{Leaf}
 use Rattle.policy_tree.specs.declared.policy.Leaf.TheVariants.{AlwaysSample, Latency, StatusCode, Attribute, SpanCount, Probabilistic, TraceState, TraceFlags}
@@ -71,14 +71,14 @@ answers_by_rank = refl
 pub drops_win : map verdict_of_answers ((dropped ∷ []) ∷ (dropped ∷ sample ∷ []) ∷ (sample ∷ dropped ∷ []) ∷ (inverted_sample ∷ dropped ∷ []) ∷ (dropped ∷ inverted_not_sample ∷ []) ∷ []) ≡ AgainstIt ∷ AgainstIt ∷ AgainstIt ∷ AgainstIt ∷ AgainstIt ∷ []
 drops_win = refl
 
--- an `and`, a `not` and a `drop` of one policy that samples, and of one that doesn't
+-- each that is made of one policy, which samples, and of one that doesn't
 abbrev joined_to : Policy → Join → Policies
 joined_to p join = one_more (joined join (one_more p no_more)) no_more
 
-pub joined_answers : map (λ (join : Join). answers (joined_to (leaf AlwaysSample) join) 0 (λ n. true) (in_env dev)) (And ∷ Not ∷ Drop ∷ []) ≡ (sample ∷ []) ∷ (not_sample ∷ []) ∷ (dropped ∷ []) ∷ []
+pub joined_answers : map (λ (join : Join). answers (joined_to (leaf AlwaysSample) join) 0 (λ n. true) (in_env dev)) (And ∷ Not ∷ Drop ∷ FirstMatch ∷ Share ∷ []) ≡ (sample ∷ []) ∷ (not_sample ∷ []) ∷ (dropped ∷ []) ∷ (sample ∷ []) ∷ (sample ∷ []) ∷ []
 joined_answers = refl
 
-pub joined_answers_of_none : map (λ (join : Join). answers (joined_to (leaf (SpanCount 2 0)) join) 0 (λ n. true) (in_env dev)) (And ∷ Not ∷ Drop ∷ []) ≡ (not_sample ∷ []) ∷ (sample ∷ []) ∷ (not_sample ∷ []) ∷ []
+pub joined_answers_of_none : map (λ (join : Join). answers (joined_to (leaf (SpanCount 2 0)) join) 0 (λ n. true) (in_env dev)) (And ∷ Not ∷ Drop ∷ FirstMatch ∷ Share ∷ []) ≡ (not_sample ∷ []) ∷ (sample ∷ []) ∷ (not_sample ∷ []) ∷ (not_sample ∷ []) ∷ (not_sample ∷ []) ∷ []
 joined_answers_of_none = refl
 
 -- a `not` of an inverted match, which is a plain answer; and a `drop` inside an `and`, which doesn't sample

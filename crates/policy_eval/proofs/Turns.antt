@@ -1,6 +1,6 @@
--- The walk over the parts of an `and` and over the top policies, policy by policy.
+-- The walk over the parts of a policy and over the top policies, policy by policy.
 -- For the clauses `evaluates` of `evaluate` and `answers` of `answer`.
-use Rattle.std.proofs.Common.{◌≡◌, ℕ, suc, ◌+◌, ◌-◌, ◌^◌, min, ◌≤◌, ◌<◌, ◌==◌, Bool, true, false, ◌&&◌, List, [], ◌∷◌, ◌++◌, length, drop, get_or, refl, sym, ap, subst, ◌∙◌, arith, append-nil, append_assoc, drop-cons, add-one}
+use Rattle.std.proofs.Common.{◌≡◌, ℕ, suc, ◌+◌, ◌-◌, ◌^◌, min, ◌≤◌, ◌<◌, ◌==◌, Bool, true, false, ◌&&◌, cond, List, [], ◌∷◌, ◌++◌, length, drop, get_or, refl, sym, ap, subst, ◌∙◌, arith, append-nil, append_assoc, drop-cons, add-one}
 use Rattle.std.proofs.lemmas.Bool.Decides.{nat_tests}
 use Rattle.std.proofs.lemmas.Bool.{and_parts}
 use Rattle.policy_tree.specs.declared.limiter_node.LimiterNode.{LimiterNode}
@@ -9,15 +9,14 @@ use Rattle.policy_tree.specs.declared.policy.Join.{Join}
 use Rattle.policy_tree.specs.Tree.{Policy, leaf, rate_limiting, joined, Policies, no_more, one_more, nodes, nodes_in, limits, limits_in}
 use Rattle.policy_tree.specs.Meaning.{meaning, policy_meaning}
 use Rattle.policy_eval.specs.Policies as spec
-use Rattle.policy_eval.specs.Given.{answer_given, each_samples_given, left_by, left_by_parts, nodes_asked, nodes_asked_in_turn, answers_given, nodes_asked_at_top, asked_given, Asked, Evaluates}
+use Rattle.policy_eval.specs.Given.{answer_given, part_answers_given, left_by, left_by_parts, nodes_asked, nodes_asked_in_turn, answers_given, nodes_asked_at_top, asked_given, Asked, Evaluates}
 use Rattle.policy_eval.specs.Walks.{Answers}
 use Rattle.otlp_types.specs.declared.arrival.Arrival.{Arrival}
-use Rattle.policy_eval.specs.Meaning.{answer_of, is_for, none_seen, seen_with, verdict_of_seen, knows}
+use Rattle.policy_eval.specs.Meaning.{answer_of, is_end, none_seen, seen_with, joined_seen, verdict_of_seen, knows}
 use Rattle.policy_eval.specs.declared.answer.Seen.{Seen}
 use Rattle.policy_eval.specs.declared.answer.Answer.{Answer}
-use Rattle.policy_eval.specs.declared.answer.Answer.TheVariants.{Sample, NotSample}
 use Rattle.span_ids.specs.declared.outcome.Verdict.{Verdict}
-use Rattle.policy_eval.proofs.Verdicts.{Tells, tells-more, tells-all}
+use Rattle.policy_eval.proofs.Verdicts.{Tells, tells-more, tells-all, tells-none, joined-all, ends-is}
 
 -- the policies from i on are that policy and the others
 pub next_part : (ps : List Named) (i : ℕ) (p : Named) → i < length ps → p ≡ get_or ps i p → meaning (drop i ps) ≡ one_more (policy_meaning p) (meaning (drop (i + 1) ps))
@@ -26,13 +25,6 @@ next_part ps i p h e = ap meaning (drop-cons ps i p h) ∙ ap (λ (q : Named). o
 -- and what holds of the policies from i on holds of these
 pub part_at : (T : Policies → Type 0) (items : List Named) (i : ℕ) (p : Named) → i < length items → p ≡ get_or items i p → T (meaning (drop i items)) → T (one_more (policy_meaning p) (meaning (drop (i + 1) items)))
 part_at T items i p h is t = subst T (next_part items i p h is) t
-
-pub samples-is : (a : spec.Answer) → is_for (answer_of a) ≡ spec.samples a
-samples-is spec.sample = refl
-samples-is spec.not_sample = refl
-samples-is spec.inverted_sample = refl
-samples-is spec.inverted_not_sample = refl
-samples-is spec.dropped = refl
 
 -- a number of policies within the limits is counted exactly
 pub counted_nodes : (n : ℕ) → n ≤ 64 → min n (2 ^ 64 - 1) ≡ n
@@ -105,74 +97,96 @@ module _ (S : Type 0) (has : S → ℕ → Bool) (asks : S → ℕ → ℕ → �
     so_far = asked-append asks second (length spans) w.asked part.1 w.mine part.0 s0 s t w.so_far part.3;
   }
 
-module _ (S : Type 0) (has : S → ℕ → Bool) (asks : S → ℕ → ℕ → ℕ → Bool → S → Type 0) (s0 : S) (policy : Policy) (join : Join) (node second : ℕ) (spans : List Arrival) where
+module _ (S : Type 0) (has : S → ℕ → Bool) (asks : S → ℕ → ℕ → ℕ → Bool → S → Type 0) (s0 : S) (policy : Policy) (join : Join) (parts : Policies) (node second : ℕ) (spans : List Arrival) where
   -- of a policy the parts `rest` are still to be asked, from number `next` on
-  pub record Turn (s : S) (rest : Policies) (next : ℕ) : Type 0 where
+  pub record Turn (s : S) (rest : Policies) (next : ℕ) (seen : Seen) : Type 0 where
+    pub is : policy ≡ joined join parts
     pub counted : next + nodes_in rest ≡ node + nodes policy
     pub within : node + nodes policy ≤ 64
     pub walked : Walked S has asks s0 second spans s rest next
-    pub answers : (later : List Bool) → answer_given policy (walked.mine ++ later) spans ≡ spec.joined_answer join (each_samples_given rest later spans)
-    pub leaves : (later : List Bool) → left_by policy (walked.mine ++ later) spans ≡ left_by_parts rest later spans
-    pub asking : (later : List Bool) → nodes_asked policy node (walked.mine ++ later) spans ≡ walked.asked ++ nodes_asked_in_turn rest next later spans
+    pub tells : (later : List Bool) → Tells seen (part_answers_given join rest later spans) (part_answers_given join parts (walked.mine ++ later) spans)
+    pub leaves : (later : List Bool) → left_by_parts join parts (walked.mine ++ later) spans ≡ left_by_parts join rest later spans
+    pub asking : (later : List Bool) → nodes_asked_in_turn join parts (node + 1) (walked.mine ++ later) spans ≡ walked.asked ++ nodes_asked_in_turn join rest next later spans
 
   -- before the first part
-  pub turn-first : (parts : Policies) → policy ≡ joined join parts → node + nodes policy ≤ 64 → knows (has s0) (limits policy node) ≡ true → Turn s0 parts (node + 1)
-  turn-first parts e within known = record {
+  pub turn-first : policy ≡ joined join parts → node + nodes policy ≤ 64 → knows (has s0) (limits policy node) ≡ true → Turn s0 parts (node + 1) none_seen
+  turn-first e within known = record {
+    is = e;
     counted = let k : nodes policy ≡ nodes_in parts + 1 = ap nodes e in omega (arith, k);
     within = within;
     walked = let P = λ (p : Policy). knows (has s0) (limits p node) ≡ true in walked-first S has asks s0 second spans parts (node + 1) (subst P e known);
-    answers = λ later. ap (λ p. answer_given p later spans) e;
-    leaves = λ later. ap (λ p. left_by p later spans) e;
-    asking = λ later. ap (λ p. nodes_asked p node later spans) e;
+    tells = λ later. tells-none (part_answers_given join parts later spans);
+    leaves = λ later. refl;
+    asking = λ later. refl;
   }
 
-  pub turn-more : (s t : S) (p : Policy) (rest : Policies) (next : ℕ) (a : Answer) → Turn s (one_more p rest) next → Answers asks p next second spans a s t → ((m : ℕ) → has t m ≡ has s m) → is_for a ≡ true → Turn t rest (next + nodes p)
-  turn-more s t p rest next a w part keeps h =
-      let its = part.2 in
-      let yes : (later : List Bool) → spec.samples (answer_given p (part.0 ++ later) spans) ≡ true = λ later. sym (samples-is (answer_given p (part.0 ++ later) spans)) ∙ sym (ap is_for (its.answers later)) ∙ h in
-      record {
-        counted = omega (arith, w.counted);
-        within = w.within;
-        walked = walked-more S has asks s0 second spans s t p rest next a w.walked part keeps;
-        answers = λ later. ap (λ bs. answer_given policy bs spans) (append_assoc w.walked.mine part.0 later) ∙ w.answers (part.0 ++ later)
-            ∙ (let e : spec.joined_answer join (each_samples_given (one_more p rest) (part.0 ++ later) spans) ≡ spec.joined_answer join (each_samples_given rest later spans) = rw (yes later, its.leaves later) in e);
-        leaves = λ later. ap (λ bs. left_by policy bs spans) (append_assoc w.walked.mine part.0 later) ∙ w.leaves (part.0 ++ later)
-            ∙ (let e : left_by_parts (one_more p rest) (part.0 ++ later) spans ≡ left_by_parts rest later spans = rw (yes later, its.leaves later) in e);
-        asking = λ later. ap (λ bs. nodes_asked policy node bs spans) (append_assoc w.walked.mine part.0 later) ∙ w.asking (part.0 ++ later)
-            ∙ (let e : nodes_asked_in_turn (one_more p rest) next (part.0 ++ later) spans ≡ part.1 ++ nodes_asked_in_turn rest (next + nodes p) later spans = rw (yes later, its.leaves later, its.asks later) in
-            ap (λ ns. w.walked.asked ++ ns) e ∙ sym (append_assoc w.walked.asked part.1 (nodes_asked_in_turn rest (next + nodes p) later spans)));
-      }
+  module _ (s t : S) (p : Policy) (rest : Policies) (next : ℕ) (seen : Seen) (a : Answer) (w : Turn s (one_more p rest) next seen) (part : Answers asks p next second spans a s t) where
+    -- the answers that the part and all before it were given
+    abbrev given : (later : List Bool) → List Bool
+    given later = (w.walked.mine ++ part.0) ++ later
 
-  -- a part that doesn't sample ends the walk
-  pub turn-stop : (s t : S) (p : Policy) (rest : Policies) (next : ℕ) (a : Answer) → Turn s (one_more p rest) next → Answers asks p next second spans a s t → is_for a ≡ false → Answers asks policy node second spans (answer_of (spec.joined_answer join false)) s0 t
-  turn-stop s t p rest next a w part h =
-      let its = part.2 in
-      let no : (later : List Bool) → spec.samples (answer_given p (part.0 ++ later) spans) ≡ false = λ later. sym (samples-is (answer_given p (part.0 ++ later) spans)) ∙ sym (ap is_for (its.answers later)) ∙ h in (
-        w.walked.mine ++ part.0,
-        w.walked.asked ++ part.1,
+    -- whether the part's answer ends them
+    ends-so : (later : List Bool) (b : Bool) → is_end join a ≡ b → spec.ends join (answer_given p (part.0 ++ later) spans) ≡ b
+    ends-so later b h = sym (ends-is join (answer_given p (part.0 ++ later) spans)) ∙ sym (ap (is_end join) (part.2.answers later)) ∙ h
+
+    -- the answers seen with this one
+    told : (later : List Bool) (b : Bool) → is_end join a ≡ b → Tells (seen_with a seen) (cond b [] (part_answers_given join rest later spans)) (part_answers_given join parts (given later) spans)
+    told later b h =
+        let its = part.2 in
+        let first = answer_given p (part.0 ++ later) spans in
+        let behind = λ (e : Bool) (bs : List Bool). cond e [] (part_answers_given join rest bs spans) in
+        let all = part_answers_given join parts (w.walked.mine ++ (part.0 ++ later)) spans in
+        let so : Tells (seen_with (answer_of first) seen) (behind (spec.ends join first) (left_by p (part.0 ++ later) spans)) all
+        = tells-more seen first (behind (spec.ends join first) (left_by p (part.0 ++ later) spans)) all (w.tells (part.0 ++ later)) in
+        let O = λ (e : Bool). Tells (seen_with (answer_of first) seen) (behind e (left_by p (part.0 ++ later) spans)) all in
+        let P = λ (bs : List Bool). Tells (seen_with (answer_of first) seen) (behind b bs) all in
+        let Q = λ (bs : List Bool). Tells (seen_with (answer_of first) seen) (behind b later) (part_answers_given join parts bs spans) in
+        let R = λ (x : Answer). Tells (seen_with x seen) (behind b later) (part_answers_given join parts (given later) spans) in
+        subst R (sym (its.answers later)) (subst Q (sym (append_assoc w.walked.mine part.0 later)) (subst P (its.leaves later) (subst O (ends-so later b h) so)))
+
+    pub turn-more : ((m : ℕ) → has t m ≡ has s m) → is_end join a ≡ false → Turn t rest (next + nodes p) (seen_with a seen)
+    turn-more keeps h =
+        let its = part.2 in
         record {
-          answers = λ later.
-              let e : spec.joined_answer join (each_samples_given (one_more p rest) (part.0 ++ later) spans) ≡ spec.joined_answer join false = rw (no later) in
-              sym (ap answer_of (ap (λ bs. answer_given policy bs spans) (append_assoc w.walked.mine part.0 later) ∙ w.answers (part.0 ++ later) ∙ e));
-          leaves = λ later.
-              let e : left_by_parts (one_more p rest) (part.0 ++ later) spans ≡ later = rw (no later) (its.leaves later) in
-              ap (λ bs. left_by policy bs spans) (append_assoc w.walked.mine part.0 later) ∙ w.leaves (part.0 ++ later) ∙ e;
-          asks = λ later.
-              let e : nodes_asked_in_turn (one_more p rest) next (part.0 ++ later) spans ≡ part.1 = rw (no later) (append-nil (nodes_asked p next (part.0 ++ later) spans) ∙ its.asks later) in
-              ap (λ bs. nodes_asked policy node bs spans) (append_assoc w.walked.mine part.0 later) ∙ w.asking (part.0 ++ later) ∙ ap (λ ns. w.walked.asked ++ ns) e;
-        },
-        asked-append asks second (length spans) w.walked.asked part.1 w.walked.mine part.0 s0 s t w.walked.so_far part.3,
-      )
+          is = w.is;
+          counted = let c = w.counted in omega (arith, c);
+          within = w.within;
+          walked = walked-more S has asks s0 second spans s t p rest next a w.walked part keeps;
+          tells = λ later. told later false h;
+          leaves = λ later. ap (λ bs. left_by_parts join parts bs spans) (append_assoc w.walked.mine part.0 later) ∙ w.leaves (part.0 ++ later)
+              ∙ (let e : left_by_parts join (one_more p rest) (part.0 ++ later) spans ≡ left_by_parts join rest later spans = rw (ends-so later false h, its.leaves later) in e);
+          asking = λ later. ap (λ bs. nodes_asked_in_turn join parts (node + 1) bs spans) (append_assoc w.walked.mine part.0 later) ∙ w.asking (part.0 ++ later)
+              ∙ (let e : nodes_asked_in_turn join (one_more p rest) next (part.0 ++ later) spans ≡ part.1 ++ nodes_asked_in_turn join rest (next + nodes p) later spans = rw (ends-so later false h, its.leaves later, its.asks later) in
+              ap (λ ns. w.walked.asked ++ ns) e ∙ sym (append_assoc w.walked.asked part.1 (nodes_asked_in_turn join rest (next + nodes p) later spans)));
+        }
+
+    -- an answer that ends them ends the walk
+    pub turn-stop : is_end join a ≡ true → Answers asks policy node second spans (answer_of (joined_seen join (seen_with a seen))) s0 t
+    turn-stop h =
+        let its = part.2 in (
+          w.walked.mine ++ part.0,
+          w.walked.asked ++ part.1,
+          record {
+            answers = λ later. ap answer_of (joined-all join (seen_with a seen) (part_answers_given join parts (given later) spans) (told later true h) ∙ sym (ap (λ q. answer_given q (given later) spans) w.is));
+            leaves = λ later.
+                let e : left_by_parts join (one_more p rest) (part.0 ++ later) spans ≡ later = rw (ends-so later true h) (its.leaves later) in
+                ap (λ q. left_by q (given later) spans) w.is ∙ ap (λ bs. left_by_parts join parts bs spans) (append_assoc w.walked.mine part.0 later) ∙ w.leaves (part.0 ++ later) ∙ e;
+            asks = λ later.
+                let e : nodes_asked_in_turn join (one_more p rest) next (part.0 ++ later) spans ≡ part.1 = rw (ends-so later true h) (append-nil (nodes_asked p next (part.0 ++ later) spans) ∙ its.asks later) in
+                ap (λ q. nodes_asked q node (given later) spans) w.is ∙ ap (λ bs. nodes_asked_in_turn join parts (node + 1) bs spans) (append_assoc w.walked.mine part.0 later) ∙ w.asking (part.0 ++ later) ∙ ap (λ ns. w.walked.asked ++ ns) e;
+          },
+          asked-append asks second (length spans) w.walked.asked part.1 w.walked.mine part.0 s0 s t w.walked.so_far part.3,
+        )
 
   -- after the last part
-  pub turn-last : (s : S) (next : ℕ) → Turn s no_more next → Answers asks policy node second spans (answer_of (spec.joined_answer join true)) s0 s
-  turn-last s next w = (
+  pub turn-last : (s : S) (next : ℕ) (seen : Seen) → Turn s no_more next seen → Answers asks policy node second spans (answer_of (joined_seen join seen)) s0 s
+  turn-last s next seen w = (
     w.walked.mine,
     w.walked.asked,
     record {
-      answers = λ later. sym (ap answer_of (w.answers later));
-      leaves = w.leaves;
-      asks = λ later. w.asking later ∙ append-nil w.walked.asked;
+      answers = λ later. ap answer_of (joined-all join seen (part_answers_given join parts (w.walked.mine ++ later) spans) (w.tells later) ∙ sym (ap (λ q. answer_given q (w.walked.mine ++ later) spans) w.is));
+      leaves = λ later. ap (λ q. left_by q (w.walked.mine ++ later) spans) w.is ∙ w.leaves later;
+      asks = λ later. ap (λ q. nodes_asked q node (w.walked.mine ++ later) spans) w.is ∙ w.asking later ∙ append-nil w.walked.asked;
     },
     w.walked.so_far,
   )
@@ -194,7 +208,7 @@ module _ (S : Type 0) (has : S → ℕ → Bool) (asks : S → ℕ → ℕ → �
     counted = omega arith;
     within = within;
     walked = walked-first S has asks s0 second spans all 0 known;
-    tells = λ later. record { sample = refl; not_sample = refl; inverted_sample = refl; inverted_not_sample = refl; dropped = refl };
+    tells = λ later. tells-none (answers_given all later spans);
     asking = λ later. refl;
   }
 

@@ -1,8 +1,11 @@
--- The verdict by which answers the top policies gave.
--- For the contract of `earliest_start`.
-use Rattle.std.proofs.Common.{◌≡◌, ℕ, suc, ◌+◌, ◌<◌, min, max, Bool, true, false, ◌||◌, List, [], ◌∷◌, length, drop, get_or, refl, sym, ap, ◌∙◌, arith, drop-cons, add-one}
+-- The verdict by which answers policies gave, and what is made of them.
+-- For the clauses of `evaluate`, `answer`, `verdict_and_askings` and `answer_given`, and the contract of `earliest_start`.
+use Rattle.std.proofs.Common.{◌≡◌, ℕ, suc, ◌+◌, ◌<◌, min, max, Bool, true, false, ◌||◌, not, cond, List, [], ◌∷◌, length, drop, get_or, refl, sym, ap, ◌∙◌, arith, drop-cons, add-one}
+use Rattle.std.specs.List.{list_all, list_any}
+use Rattle.policy_tree.specs.declared.policy.Join.{Join}
+use Rattle.policy_tree.specs.declared.policy.Join.TheVariants.{And, Not, Drop, FirstMatch, Share}
 use Rattle.policy_eval.specs.Policies as spec
-use Rattle.policy_eval.specs.Meaning.{answer_of, seen_with, verdict_of_seen}
+use Rattle.policy_eval.specs.Meaning.{answer_of, is_for, is_end, none_seen, seen_with, each_is_for, some_is_for, joined_seen, verdict_of_seen}
 use Rattle.policy_eval.specs.declared.answer.Seen.{Seen}
 use Rattle.otlp_types.specs.declared.arrival.Arrival.{Arrival}
 
@@ -31,6 +34,77 @@ tells-more s spec.dropped rest all t = record { sample = t.sample; not_sample = 
 
 pub tells-all : (s : Seen) (all : List spec.Answer) → Tells s [] all → verdict_of_seen s ≡ spec.verdict_of_answers all
 tells-all s all t = rw (t.sample ∙ or-end s.sample, t.not_sample ∙ or-end s.not_sample, t.inverted_sample ∙ or-end s.inverted_sample, t.inverted_not_sample ∙ or-end s.inverted_not_sample, t.dropped ∙ or-end s.dropped)
+
+-- before the first answer
+pub tells-none : (all : List spec.Answer) → Tells none_seen all all
+tells-none all = record { sample = refl; not_sample = refl; inverted_sample = refl; inverted_not_sample = refl; dropped = refl }
+
+-- ---- what is made of them
+
+against : (a c : Bool) → not ((a || true) || c) ≡ false
+against true c = refl
+against false c = refl
+
+last-against : (a b : Bool) → not ((a || b) || true) ≡ false
+last-against true b = refl
+last-against false true = refl
+last-against false false = refl
+
+-- each is for the trace: none is against it
+each-is : (all : List spec.Answer) → list_all spec.samples all ≡ not ((spec.has_answer spec.not_sample all || spec.has_answer spec.inverted_not_sample all) || spec.has_answer spec.dropped all)
+each-is [] = refl
+each-is (spec.sample ∷ all) = each-is all
+each-is (spec.inverted_sample ∷ all) = each-is all
+each-is (spec.not_sample ∷ all) = refl
+each-is (spec.inverted_not_sample ∷ all) = sym (against (spec.has_answer spec.not_sample all) (spec.has_answer spec.dropped all))
+each-is (spec.dropped ∷ all) = sym (last-against (spec.has_answer spec.not_sample all) (spec.has_answer spec.inverted_not_sample all))
+
+or-last : (a : Bool) → (a || true) ≡ true
+or-last true = refl
+or-last false = refl
+
+-- some are for the trace
+some-is : (all : List spec.Answer) → list_any spec.samples all ≡ (spec.has_answer spec.sample all || spec.has_answer spec.inverted_sample all)
+some-is [] = refl
+some-is (spec.sample ∷ all) = refl
+some-is (spec.inverted_sample ∷ all) = sym (or-last (spec.has_answer spec.sample all))
+some-is (spec.not_sample ∷ all) = some-is all
+some-is (spec.inverted_not_sample ∷ all) = some-is all
+some-is (spec.dropped ∷ all) = some-is all
+
+each-told : (s : Seen) (all : List spec.Answer) → Tells s [] all → each_is_for s ≡ list_all spec.samples all
+each-told s all t = sym (each-is all ∙ (rw (t.not_sample ∙ or-end s.not_sample, t.inverted_not_sample ∙ or-end s.inverted_not_sample, t.dropped ∙ or-end s.dropped)))
+
+some-told : (s : Seen) (all : List spec.Answer) → Tells s [] all → some_is_for s ≡ list_any spec.samples all
+some-told s all t = sym (some-is all ∙ (rw (t.sample ∙ or-end s.sample, t.inverted_sample ∙ or-end s.inverted_sample)))
+
+pub joined-all : (join : Join) (s : Seen) (all : List spec.Answer) → Tells s [] all → joined_seen join s ≡ spec.joined_answer join all
+joined-all And s all t = ap spec.plain (each-told s all t)
+joined-all Not s all t = ap (λ b. spec.plain (not b)) (each-told s all t)
+joined-all Drop s all t = ap (λ b. cond b spec.dropped spec.not_sample) (each-told s all t)
+joined-all FirstMatch s all t = ap spec.verdict_answer (tells-all s all t)
+joined-all Share s all t =
+    ap (λ b. cond b spec.sample (cond (some_is_for s) spec.dropped spec.not_sample)) (each-told s all t)
+    ∙ ap (λ b. cond (list_all spec.samples all) spec.sample (cond b spec.dropped spec.not_sample)) (some-told s all t)
+
+samples-is : (a : spec.Answer) → is_for (answer_of a) ≡ spec.samples a
+samples-is spec.sample = refl
+samples-is spec.not_sample = refl
+samples-is spec.inverted_sample = refl
+samples-is spec.inverted_not_sample = refl
+samples-is spec.dropped = refl
+
+-- the program's answer ends policies where the definition's does
+pub ends-is : (join : Join) (a : spec.Answer) → is_end join (answer_of a) ≡ spec.ends join a
+ends-is And a = ap not (samples-is a)
+ends-is Not a = ap not (samples-is a)
+ends-is Drop a = ap not (samples-is a)
+ends-is Share a = ap not (samples-is a)
+ends-is FirstMatch spec.sample = refl
+ends-is FirstMatch spec.not_sample = refl
+ends-is FirstMatch spec.inverted_sample = refl
+ends-is FirstMatch spec.inverted_not_sample = refl
+ends-is FirstMatch spec.dropped = refl
 
 -- ---- latencies
 

@@ -1,9 +1,10 @@
 -- What policies mean where their askings get a list of answers in turn: the first asking gets the first answer.
-use Rattle.std.specs.Prelude.{◌≡◌, ℕ, ◌+◌, Bool, true, false, ◌&&◌, ◌==◌, if◌then◌else◌, List, [], ◌∷◌, ◌++◌, length}
+use Rattle.std.specs.Prelude.{◌≡◌, ℕ, ◌+◌, Bool, true, false, ◌==◌, if◌then◌else◌, List, [], ◌∷◌, ◌++◌, length}
+use Rattle.policy_tree.specs.declared.policy.Join.{Join}
 use Rattle.policy_tree.specs.Tree.{Policy, leaf, rate_limiting, joined, Policies, no_more, one_more, nodes}
 use Rattle.otlp_types.specs.declared.arrival.Arrival.{Arrival}
 use Rattle.span_ids.specs.declared.outcome.Verdict.{Verdict}
-use Rattle.policy_eval.specs.Policies.{Answer, plain, joined_answer, leaf_answer, samples, verdict_of_answers}
+use Rattle.policy_eval.specs.Policies.{Answer, plain, joined_answer, leaf_answer, ends, verdict_of_answers}
 
 -- the answer that the next asking gets: a missing one is a refusal
 abbrev pub next_answer : (answers : List Bool) → Bool
@@ -22,35 +23,35 @@ abbrev mutual
   pub answer_given : Policy → (answers : List Bool) → List Arrival → Answer
   answer_given (leaf l) answers spans = leaf_answer l spans
   answer_given (rate_limiting limit) answers spans = plain (next_answer answers)
-  answer_given (joined join parts) answers spans = joined_answer join (each_samples_given parts answers spans)
+  answer_given (joined join parts) answers spans = joined_answer join (part_answers_given join parts answers spans)
 
-  -- every part answers sample or inverted sample
-  pub each_samples_given : Policies → (answers : List Bool) → List Arrival → Bool
-  each_samples_given no_more answers spans = true
-  each_samples_given (one_more p rest) answers spans = samples (answer_given p answers spans) && each_samples_given rest (left_by p answers spans) spans
+  -- the answers of policies that are joined so, in order, up to one that ends them
+  pub part_answers_given : Join → Policies → (answers : List Bool) → List Arrival → List Answer
+  part_answers_given join no_more answers spans = []
+  part_answers_given join (one_more p rest) answers spans = answer_given p answers spans ∷ (if ends join (answer_given p answers spans) then [] else part_answers_given join rest (left_by p answers spans) spans)
 
   -- the answers that the policy's askings leave
   pub left_by : Policy → (answers : List Bool) → List Arrival → List Bool
   left_by (leaf l) answers spans = answers
   left_by (rate_limiting limit) answers spans = later_answers answers
-  left_by (joined join parts) answers spans = left_by_parts parts answers spans
+  left_by (joined join parts) answers spans = left_by_parts join parts answers spans
 
-  -- those that the parts leave: no further one is asked once one doesn't sample
-  pub left_by_parts : Policies → (answers : List Bool) → List Arrival → List Bool
-  left_by_parts no_more answers spans = answers
-  left_by_parts (one_more p rest) answers spans = if samples (answer_given p answers spans) then left_by_parts rest (left_by p answers spans) spans else left_by p answers spans
+  -- those that policies leave that are joined so
+  pub left_by_parts : Join → Policies → (answers : List Bool) → List Arrival → List Bool
+  left_by_parts join no_more answers spans = answers
+  left_by_parts join (one_more p rest) answers spans = if ends join (answer_given p answers spans) then left_by p answers spans else left_by_parts join rest (left_by p answers spans) spans
 
 abbrev mutual
   -- the limiter nodes that the policy with this number asks
   pub nodes_asked : Policy → (node : ℕ) → (answers : List Bool) → List Arrival → List ℕ
   nodes_asked (leaf l) node answers spans = []
   nodes_asked (rate_limiting limit) node answers spans = node ∷ []
-  nodes_asked (joined join parts) node answers spans = nodes_asked_in_turn parts (node + 1) answers spans
+  nodes_asked (joined join parts) node answers spans = nodes_asked_in_turn join parts (node + 1) answers spans
 
-  -- those that the parts ask
-  pub nodes_asked_in_turn : Policies → (node : ℕ) → (answers : List Bool) → List Arrival → List ℕ
-  nodes_asked_in_turn no_more node answers spans = []
-  nodes_asked_in_turn (one_more p rest) node answers spans = nodes_asked p node answers spans ++ (if samples (answer_given p answers spans) then nodes_asked_in_turn rest (node + nodes p) (left_by p answers spans) spans else [])
+  -- those that policies ask that are joined so
+  pub nodes_asked_in_turn : Join → Policies → (node : ℕ) → (answers : List Bool) → List Arrival → List ℕ
+  nodes_asked_in_turn join no_more node answers spans = []
+  nodes_asked_in_turn join (one_more p rest) node answers spans = nodes_asked p node answers spans ++ (if ends join (answer_given p answers spans) then [] else nodes_asked_in_turn join rest (node + nodes p) (left_by p answers spans) spans)
 
 -- ---- the top policies: each is asked, in order
 

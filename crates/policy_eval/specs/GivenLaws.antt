@@ -1,12 +1,13 @@
 -- Answers in turn, and answers by the node: a limiter that answers by the node gives a list of answers, and such a list is some such limiter's.
-use Rattle.std.proofs.Common.{◌≡◌, ℕ, ◌+◌, ◌≤◌, ◌<◌, ◌==◌, Bool, true, false, ◌&&◌, cond, List, [], ◌∷◌, ◌++◌, map, length, drop, refl, sym, ap, subst, ◌∙◌, arith, append-nil, append_assoc, length-append}
+use Rattle.std.proofs.Common.{◌≡◌, ℕ, ◌+◌, ◌≤◌, ◌<◌, ◌==◌, Bool, true, false, cond, List, [], ◌∷◌, ◌++◌, map, length, drop, refl, sym, ap, subst, ◌∙◌, arith, append-nil, append_assoc, length-append}
 use Rattle.std.proofs.lemmas.Bool.Decides.{nat_tests}
 use Rattle.std.proofs.lemmas.List.{map-append, drop-drop, length-map}
+use Rattle.policy_tree.specs.declared.policy.Join.{Join}
 use Rattle.policy_tree.specs.Tree.{Policy, leaf, rate_limiting, joined, Policies, no_more, one_more, nodes, nodes_in}
 use Rattle.rate_budget.specs.Rising.{Rises, rises-lower, rises-upper, rises-append}
 use Rattle.otlp_types.specs.declared.arrival.Arrival.{Arrival}
 use Rattle.policy_eval.specs.Policies as spec
-use Rattle.policy_eval.specs.Given.{next_answer, later_answers, answer_given, each_samples_given, left_by, left_by_parts, nodes_asked, nodes_asked_in_turn, answers_given, nodes_asked_at_top, verdict_given, asked_given, are_answered}
+use Rattle.policy_eval.specs.Given.{next_answer, later_answers, answer_given, part_answers_given, left_by, left_by_parts, nodes_asked, nodes_asked_in_turn, answers_given, nodes_asked_at_top, verdict_given, asked_given, are_answered}
 
 -- ---- how many answers a policy takes
 
@@ -19,18 +20,18 @@ mutual
   pub left-drops : (p : Policy) (node : ℕ) (bs : List Bool) (spans : List Arrival) → left_by p bs spans ≡ drop (length (nodes_asked p node bs spans)) bs
   left-drops (leaf l) node bs spans = refl
   left-drops (rate_limiting limit) node bs spans = later-drop bs
-  left-drops (joined join parts) node bs spans = parts-drop parts (node + 1) bs spans
+  left-drops (joined join parts) node bs spans = parts-drop join parts (node + 1) bs spans
 
-  parts-drop : (ps : Policies) (node : ℕ) (bs : List Bool) (spans : List Arrival) → left_by_parts ps bs spans ≡ drop (length (nodes_asked_in_turn ps node bs spans)) bs
-  parts-drop no_more node bs spans = refl
-  parts-drop (one_more p rest) node bs spans =
+  parts-drop : (join : Join) (ps : Policies) (node : ℕ) (bs : List Bool) (spans : List Arrival) → left_by_parts join ps bs spans ≡ drop (length (nodes_asked_in_turn join ps node bs spans)) bs
+  parts-drop join no_more node bs spans = refl
+  parts-drop join (one_more p rest) node bs spans =
       let ns = nodes_asked p node bs spans in
-      let more = nodes_asked_in_turn rest (node + nodes p) (left_by p bs spans) spans in
+      let more = nodes_asked_in_turn join rest (node + nodes p) (left_by p bs spans) spans in
       let first = left-drops p node bs spans in
-      let others = parts-drop rest (node + nodes p) (left_by p bs spans) spans in
-      (elim (spec.samples (answer_given p bs spans)) as (λ b. cond b (left_by_parts rest (left_by p bs spans) spans) (left_by p bs spans) ≡ drop (length (ns ++ cond b more [])) bs) [
-        | true ↦ others ∙ ap (drop (length more)) first ∙ drop-drop (length more) (length ns) bs ∙ ap (λ k. drop k bs) (sym (length-append ns more))
-        | false ↦ first ∙ ap (λ ms. drop (length ms) bs) (sym (append-nil ns))
+      let others = parts-drop join rest (node + nodes p) (left_by p bs spans) spans in
+      (elim (spec.ends join (answer_given p bs spans)) as (λ b. cond b (left_by p bs spans) (left_by_parts join rest (left_by p bs spans) spans) ≡ drop (length (ns ++ cond b [] more)) bs) [
+        | true ↦ first ∙ ap (λ ms. drop (length ms) bs) (sym (append-nil ns))
+        | false ↦ others ∙ ap (drop (length more)) first ∙ drop-drop (length more) (length ns) bs ∙ ap (λ k. drop k bs) (sym (length-append ns more))
       ])
 
 mutual
@@ -38,26 +39,26 @@ mutual
   pub asks-few : (p : Policy) (node : ℕ) (bs : List Bool) (spans : List Arrival) → length (nodes_asked p node bs spans) ≤ nodes p
   asks-few (leaf l) node bs spans = omega arith
   asks-few (rate_limiting limit) node bs spans = omega arith
-  asks-few (joined join parts) node bs spans = let k = parts-few parts (node + 1) bs spans in omega (arith, k)
+  asks-few (joined join parts) node bs spans = let k = parts-few join parts (node + 1) bs spans in omega (arith, k)
 
-  parts-few : (ps : Policies) (node : ℕ) (bs : List Bool) (spans : List Arrival) → length (nodes_asked_in_turn ps node bs spans) ≤ nodes_in ps
-  parts-few no_more node bs spans = omega arith
-  parts-few (one_more p rest) node bs spans =
+  parts-few : (join : Join) (ps : Policies) (node : ℕ) (bs : List Bool) (spans : List Arrival) → length (nodes_asked_in_turn join ps node bs spans) ≤ nodes_in ps
+  parts-few join no_more node bs spans = omega arith
+  parts-few join (one_more p rest) node bs spans =
       let ns = nodes_asked p node bs spans in
-      let more = nodes_asked_in_turn rest (node + nodes p) (left_by p bs spans) spans in
+      let more = nodes_asked_in_turn join rest (node + nodes p) (left_by p bs spans) spans in
       let first = asks-few p node bs spans in
-      let others = parts-few rest (node + nodes p) (left_by p bs spans) spans in
-      (elim (spec.samples (answer_given p bs spans)) as (λ b. length (ns ++ cond b more []) ≤ nodes p + nodes_in rest) [
-        | true ↦ let e = length-append ns more in omega (arith, e, first, others)
-        | false ↦ let e = ap length (append-nil ns) in omega (arith, e, first)
+      let others = parts-few join rest (node + nodes p) (left_by p bs spans) spans in
+      (elim (spec.ends join (answer_given p bs spans)) as (λ b. length (ns ++ cond b [] more) ≤ nodes p + nodes_in rest) [
+        | true ↦ let e = ap length (append-nil ns) in omega (arith, e, first)
+        | false ↦ let e = length-append ns more in omega (arith, e, first, others)
       ])
 
 -- ---- the nodes that are asked rise, so that each is asked at most once
 
 -- none, or these
-rises-if : (b : Bool) (a c : ℕ) (ns : List ℕ) → a ≤ c → Rises a c ns → Rises a c (cond b ns [])
-rises-if true a c ns h r = r
-rises-if false a c ns h r = h
+rises-unless : (b : Bool) (a c : ℕ) (ns : List ℕ) → a ≤ c → Rises a c ns → Rises a c (cond b [] ns)
+rises-unless true a c ns h r = h
+rises-unless false a c ns h r = r
 
 mutual
   -- the nodes that a policy asks rise
@@ -65,20 +66,20 @@ mutual
   asked-rise (leaf l) node bs spans = omega arith
   asked-rise (rate_limiting limit) node bs spans = (omega arith, omega arith)
   asked-rise (joined join parts) node bs spans =
-      let ns = nodes_asked_in_turn parts (node + 1) bs spans in
-      let low = rises-lower node (node + 1) (node + 1 + nodes_in parts) ns (omega arith) (parts-rise parts (node + 1) bs spans) in
+      let ns = nodes_asked_in_turn join parts (node + 1) bs spans in
+      let low = rises-lower node (node + 1) (node + 1 + nodes_in parts) ns (omega arith) (parts-rise join parts (node + 1) bs spans) in
       rises-upper node (node + 1 + nodes_in parts) (node + (nodes_in parts + 1)) ns (omega arith) low
 
-  -- and so do those that the parts of an `and` ask
-  parts-rise : (ps : Policies) (node : ℕ) (bs : List Bool) (spans : List Arrival) → Rises node (node + nodes_in ps) (nodes_asked_in_turn ps node bs spans)
-  parts-rise no_more node bs spans = omega arith
-  parts-rise (one_more p rest) node bs spans =
+  -- and so do those that its parts ask
+  parts-rise : (join : Join) (ps : Policies) (node : ℕ) (bs : List Bool) (spans : List Arrival) → Rises node (node + nodes_in ps) (nodes_asked_in_turn join ps node bs spans)
+  parts-rise join no_more node bs spans = omega arith
+  parts-rise join (one_more p rest) node bs spans =
       let left = left_by p bs spans in
-      let ns = nodes_asked_in_turn rest (node + nodes p) left spans in
-      let b = spec.samples (answer_given p bs spans) in
-      let others = rises-if b (node + nodes p) (node + nodes p + nodes_in rest) ns (omega arith) (parts-rise rest (node + nodes p) left spans) in
-      let all = rises-append node (node + nodes p) (node + nodes p + nodes_in rest) (nodes_asked p node bs spans) (cond b ns []) (asked-rise p node bs spans) others in
-      rises-upper node (node + nodes p + nodes_in rest) (node + (nodes p + nodes_in rest)) (nodes_asked p node bs spans ++ cond b ns []) (omega arith) all
+      let ns = nodes_asked_in_turn join rest (node + nodes p) left spans in
+      let b = spec.ends join (answer_given p bs spans) in
+      let others = rises-unless b (node + nodes p) (node + nodes p + nodes_in rest) ns (omega arith) (parts-rise join rest (node + nodes p) left spans) in
+      let all = rises-append node (node + nodes p) (node + nodes p + nodes_in rest) (nodes_asked p node bs spans) (cond b [] ns) (asked-rise p node bs spans) others in
+      rises-upper node (node + nodes p + nodes_in rest) (node + (nodes p + nodes_in rest)) (nodes_asked p node bs spans ++ cond b [] ns) (omega arith) all
 
 -- and so do those that the top policies ask
 pub top-rise : (ps : Policies) (node : ℕ) (bs : List Bool) (spans : List Arrival) → Rises node (node + nodes_in ps) (nodes_asked_at_top ps node bs spans)
@@ -117,32 +118,32 @@ mutual
       (answer_given p bs spans ≡ spec.answer p node granted spans) × (nodes_asked p node bs spans ≡ spec.asked p node granted spans)
   answers-as (leaf l) node granted bs spans h = (refl, refl)
   answers-as (rate_limiting limit) node granted bs spans h = (ap (λ xs. spec.plain (next_answer xs)) h, refl)
-  answers-as (joined join parts) node granted bs spans h = let k = parts-as parts (node + 1) granted bs spans h in (ap (spec.joined_answer join) k.0, k.1)
+  answers-as (joined join parts) node granted bs spans h = let k = parts-as join parts (node + 1) granted bs spans h in (ap (spec.joined_answer join) k.0, k.1)
 
-  parts-as : (ps : Policies) (node : ℕ) (granted : ℕ → Bool) (bs : List Bool) (spans : List Arrival) → Gives granted bs (nodes_asked_in_turn ps node bs spans) (left_by_parts ps bs spans) →
-      (each_samples_given ps bs spans ≡ spec.each_samples ps node granted spans) × (nodes_asked_in_turn ps node bs spans ≡ spec.asked_in_turn ps node granted spans)
-  parts-as no_more node granted bs spans h = (refl, refl)
-  parts-as (one_more p rest) node granted bs spans h =
+  parts-as : (join : Join) (ps : Policies) (node : ℕ) (granted : ℕ → Bool) (bs : List Bool) (spans : List Arrival) → Gives granted bs (nodes_asked_in_turn join ps node bs spans) (left_by_parts join ps bs spans) →
+      (part_answers_given join ps bs spans ≡ spec.part_answers join ps node granted spans) × (nodes_asked_in_turn join ps node bs spans ≡ spec.asked_in_turn join ps node granted spans)
+  parts-as join no_more node granted bs spans h = (refl, refl)
+  parts-as join (one_more p rest) node granted bs spans h =
       let ns = nodes_asked p node bs spans in
       let left = left_by p bs spans in
-      let more = nodes_asked_in_turn rest (node + nodes p) left spans in
-      let last = left_by_parts rest left spans in
-      let mine = spec.samples (answer_given p bs spans) in
-      let tail = map granted (cond mine more []) ++ cond mine last left in
-      let split : bs ≡ map granted ns ++ tail = h ∙ map-split granted ns (cond mine more []) (cond mine last left) in
+      let more = nodes_asked_in_turn join rest (node + nodes p) left spans in
+      let last = left_by_parts join rest left spans in
+      let mine = spec.ends join (answer_given p bs spans) in
+      let tail = map granted (cond mine [] more) ++ cond mine left last in
+      let split : bs ≡ map granted ns ++ tail = h ∙ map-split granted ns (cond mine [] more) (cond mine left last) in
       let is : left ≡ tail = rest-left p node granted bs spans tail split in
       let first = answers-as p node granted bs spans (gives-mine p node granted bs spans tail split) in
-      let same : mine ≡ spec.samples (spec.answer p node granted spans) = ap spec.samples first.0 in
-      (elim mine as (λ b. mine ≡ b → ((b && each_samples_given rest left spans) ≡ (spec.samples (spec.answer p node granted spans) && spec.each_samples rest (node + nodes p) granted spans))
-      × (ns ++ cond b more [] ≡ spec.asked p node granted spans ++ cond (spec.samples (spec.answer p node granted spans)) (spec.asked_in_turn rest (node + nodes p) granted spans) [])) [
+      let same : mine ≡ spec.ends join (spec.answer p node granted spans) = ap (spec.ends join) first.0 in
+      (elim mine as (λ b. mine ≡ b → ((answer_given p bs spans ∷ cond b [] (part_answers_given join rest left spans)) ≡ (spec.answer p node granted spans ∷ cond (spec.ends join (spec.answer p node granted spans)) [] (spec.part_answers join rest (node + nodes p) granted spans)))
+      × (ns ++ cond b [] more ≡ spec.asked p node granted spans ++ cond (spec.ends join (spec.answer p node granted spans)) [] (spec.asked_in_turn join rest (node + nodes p) granted spans))) [
         | true ↦ λ e.
-            let here : left ≡ map granted more ++ last = is ∙ (let x : tail ≡ map granted more ++ last = rw e in x) in
-            let others = parts-as rest (node + nodes p) granted left spans here in
-            let yes : spec.samples (spec.answer p node granted spans) ≡ true = sym same ∙ e in
-            (rw yes others.0, rw (yes, first.1, others.1))
+            let yes : spec.ends join (spec.answer p node granted spans) ≡ true = sym same ∙ e in
+            (rw (yes, first.0), rw (yes, first.1))
         | false ↦ λ e.
-            let no : spec.samples (spec.answer p node granted spans) ≡ false = sym same ∙ e in
-            (rw no, rw (no, first.1))
+            let here : left ≡ map granted more ++ last = is ∙ (let x : tail ≡ map granted more ++ last = rw e in x) in
+            let others = parts-as join rest (node + nodes p) granted left spans here in
+            let no : spec.ends join (spec.answer p node granted spans) ≡ false = sym same ∙ e in
+            (rw (no, first.0, others.0), rw (no, first.1, others.1))
       ]) refl
 
 -- and so do the top policies
@@ -169,32 +170,32 @@ mutual
       (answer_given p bs spans ≡ spec.answer p node granted spans) × (left_by p bs spans ≡ later) × (nodes_asked p node bs spans ≡ spec.asked p node granted spans)
   answers-by (leaf l) node granted spans later = (refl, refl, refl)
   answers-by (rate_limiting limit) node granted spans later = (refl, refl, refl)
-  answers-by (joined join parts) node granted spans later = let k = parts-by parts (node + 1) granted spans later in (ap (spec.joined_answer join) k.0, k.1, k.2)
+  answers-by (joined join parts) node granted spans later = let k = parts-by join parts (node + 1) granted spans later in (ap (spec.joined_answer join) k.0, k.1, k.2)
 
-  parts-by : (ps : Policies) (node : ℕ) (granted : ℕ → Bool) (spans : List Arrival) (later : List Bool) → let bs = map granted (spec.asked_in_turn ps node granted spans) ++ later in
-      (each_samples_given ps bs spans ≡ spec.each_samples ps node granted spans) × (left_by_parts ps bs spans ≡ later) × (nodes_asked_in_turn ps node bs spans ≡ spec.asked_in_turn ps node granted spans)
-  parts-by no_more node granted spans later = (refl, refl, refl)
-  parts-by (one_more p rest) node granted spans later =
+  parts-by : (join : Join) (ps : Policies) (node : ℕ) (granted : ℕ → Bool) (spans : List Arrival) (later : List Bool) → let bs = map granted (spec.asked_in_turn join ps node granted spans) ++ later in
+      (part_answers_given join ps bs spans ≡ spec.part_answers join ps node granted spans) × (left_by_parts join ps bs spans ≡ later) × (nodes_asked_in_turn join ps node bs spans ≡ spec.asked_in_turn join ps node granted spans)
+  parts-by join no_more node granted spans later = (refl, refl, refl)
+  parts-by join (one_more p rest) node granted spans later =
       let ns = spec.asked p node granted spans in
-      let mine = spec.samples (spec.answer p node granted spans) in
-      let more = spec.asked_in_turn rest (node + nodes p) granted spans in
-      let tail = map granted (cond mine more []) ++ later in
+      let mine = spec.ends join (spec.answer p node granted spans) in
+      let more = spec.asked_in_turn join rest (node + nodes p) granted spans in
+      let tail = map granted (cond mine [] more) ++ later in
       let bs = map granted ns ++ tail in
       let first = answers-by p node granted spans tail in
-      let others = parts-by rest (node + nodes p) granted spans later in
-      let P = λ (xs : List Bool). (each_samples_given (one_more p rest) xs spans ≡ spec.each_samples (one_more p rest) node granted spans) × (left_by_parts (one_more p rest) xs spans ≡ later)
-      × (nodes_asked_in_turn (one_more p rest) node xs spans ≡ spec.asked_in_turn (one_more p rest) node granted spans) in
-      subst P (sym (map-split granted ns (cond mine more []) later))
+      let others = parts-by join rest (node + nodes p) granted spans later in
+      let P = λ (xs : List Bool). (part_answers_given join (one_more p rest) xs spans ≡ spec.part_answers join (one_more p rest) node granted spans) × (left_by_parts join (one_more p rest) xs spans ≡ later)
+      × (nodes_asked_in_turn join (one_more p rest) node xs spans ≡ spec.asked_in_turn join (one_more p rest) node granted spans) in
+      subst P (sym (map-split granted ns (cond mine [] more) later))
       ((elim mine as (λ b. mine ≡ b → P bs) [
         | true ↦ λ e.
-            let here : tail ≡ map granted more ++ later = rw e in
-            let yes : spec.samples (answer_given p bs spans) ≡ true = ap spec.samples first.0 ∙ e in
-            let left : left_by p bs spans ≡ map granted more ++ later = first.1 ∙ here in
-            (rw (yes, left, e) others.0, rw (yes, left) others.1, rw (yes, left, first.2, e) (ap (λ xs. ns ++ xs) others.2))
-        | false ↦ λ e.
             let here : tail ≡ later = rw e in
-            let no : spec.samples (answer_given p bs spans) ≡ false = ap spec.samples first.0 ∙ e in
-            (rw (no, e), rw no (first.1 ∙ here), rw (no, first.2, e))
+            let yes : spec.ends join (answer_given p bs spans) ≡ true = ap (spec.ends join) first.0 ∙ e in
+            (rw (yes, first.0, e), rw yes (first.1 ∙ here), rw (yes, first.2, e))
+        | false ↦ λ e.
+            let here : tail ≡ map granted more ++ later = rw e in
+            let no : spec.ends join (answer_given p bs spans) ≡ false = ap (spec.ends join) first.0 ∙ e in
+            let left : left_by p bs spans ≡ map granted more ++ later = first.1 ∙ here in
+            (rw (no, left, first.0, e, others.0), rw (no, left) others.1, rw (no, left, first.2, e) (ap (λ xs. ns ++ xs) others.2))
       ]) refl)
 
 -- and so with the top policies

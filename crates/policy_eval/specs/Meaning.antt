@@ -1,7 +1,9 @@
 -- The program's answers, and the nodes that a limiter knows.
-use Rattle.std.specs.Prelude.{ℕ, Bool, true, false, not, ◌&&◌, if◌then◌else◌, List}
+use Rattle.std.specs.Prelude.{ℕ, Bool, true, false, not, ◌&&◌, ◌||◌, if◌then◌else◌, List}
 use Rattle.std.specs.List.{list_all}
 use Rattle.policy_eval.specs.Policies as spec
+use Rattle.policy_tree.specs.declared.policy.Join.{Join}
+use Rattle.policy_tree.specs.declared.policy.Join.TheVariants.{And, Not, Drop, FirstMatch, Share}
 use Rattle.policy_tree.specs.declared.limiter_node.LimiterNode.{LimiterNode}
 use Rattle.policy_eval.specs.declared.answer.Answer.{Answer}
 use Rattle.policy_eval.specs.declared.answer.Answer.TheVariants.{Sample, NotSample, InvertedSample, InvertedNotSample, Dropped}
@@ -45,6 +47,33 @@ verdict_of_seen s =
     else if s.sample then Sampled
     else if s.inverted_sample && not s.not_sample then Sampled
     else NotSampled
+
+-- each of the answers, and some of them, is for the trace
+abbrev pub each_is_for : Seen → Bool
+each_is_for s = not (s.not_sample || s.inverted_not_sample || s.dropped)
+
+abbrev pub some_is_for : Seen → Bool
+some_is_for s = s.sample || s.inverted_sample
+
+-- what is made of policies by which answers they gave
+abbrev pub joined_seen : Join → Seen → spec.Answer
+joined_seen And s = spec.plain (each_is_for s)
+joined_seen Not s = spec.plain (not (each_is_for s))
+joined_seen Drop s = if each_is_for s then spec.dropped else spec.not_sample
+joined_seen FirstMatch s = spec.verdict_answer (verdict_of_seen s)
+joined_seen Share s = if each_is_for s then spec.sample else if some_is_for s then spec.dropped else spec.not_sample
+
+-- behind this answer no further policy is asked
+abbrev pub is_end : Join → Answer → Bool
+is_end And one = not (is_for one)
+is_end Not one = not (is_for one)
+is_end Drop one = not (is_for one)
+is_end FirstMatch Sample = true
+is_end FirstMatch Dropped = true
+is_end FirstMatch NotSample = false
+is_end FirstMatch InvertedSample = false
+is_end FirstMatch InvertedNotSample = false
+is_end Share one = not (is_for one)
 
 -- ---- the limiter nodes
 

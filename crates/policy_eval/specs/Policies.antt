@@ -1,6 +1,6 @@
 -- What policies mean on the spans of a trace (tailsamplingprocessor README, "Policies").
 use Rattle.std.specs.Prelude.{ℕ, ◌+◌, ◌-◌, ◌/◌, ◌%◌, min, max, ℤ, Bool, true, false, not, ◌&&◌, ◌||◌, if◌then◌else◌, ◌==◌, nat_lt, nat_le, List, [], ◌∷◌, ◌++◌, length, bytes_eq, int_le}
-use Rattle.std.specs.List.{list_any}
+use Rattle.std.specs.List.{list_any, list_all}
 use Rattle.std.specs.Ordering.{int_eq}
 use Rattle.policy_eval.specs.Probabilistic.{trace_of, is_chosen}
 use Rattle.policy_eval.specs.TraceState.{has_member}
@@ -9,7 +9,7 @@ use Rattle.policy_tree.specs.declared.policy.Leaf.TheVariants as leaf_is
 use Rattle.policy_tree.specs.declared.policy.Wanted.{Wanted}
 use Rattle.policy_tree.specs.declared.policy.Wanted.TheVariants.{StringAmong, NumberWithin, Boolean}
 use Rattle.policy_tree.specs.declared.policy.Join.{Join}
-use Rattle.policy_tree.specs.declared.policy.Join.TheVariants.{And, Not, Drop}
+use Rattle.policy_tree.specs.declared.policy.Join.TheVariants.{And, Not, Drop, FirstMatch, Share}
 use Rattle.policy_tree.specs.Tree.{Policy, leaf, rate_limiting, joined, Policies, no_more, one_more, nodes}
 use Rattle.otlp_types.specs.declared.arrival.Arrival.{Arrival}
 use Rattle.otlp_types.specs.declared.value.AnyValue.{AnyValue}
@@ -106,57 +106,7 @@ leaf_answer (leaf_is.Probabilistic salt ten_thousandths) spans = plain (is_chose
 leaf_answer (leaf_is.TraceState key values) spans = plain (has_state key values spans)
 leaf_answer leaf_is.TraceFlags spans = plain (is_flagged spans)
 
--- ---- answers: `granted` is the limiter's answer at each node
-
--- an answer for the trace
-abbrev pub samples : Answer → Bool
-samples sample = true
-samples inverted_sample = true
-samples not_sample = false
-samples inverted_not_sample = false
-samples dropped = false
-
--- what is made of policies by whether each of them samples: as an `and`, as a `not`, and as a `drop`
-abbrev pub joined_answer : Join → Bool → Answer
-joined_answer And all = plain all
-joined_answer Not all = plain (not all)
-joined_answer Drop all = if all then dropped else not_sample
-
-abbrev mutual
-  -- the answer of the policy with this number
-  pub answer : Policy → (node : ℕ) → (granted : ℕ → Bool) → List Arrival → Answer
-  answer (leaf l) node granted spans = leaf_answer l spans
-  answer (rate_limiting limit) node granted spans = plain (granted node)
-  answer (joined join parts) node granted spans = joined_answer join (each_samples parts (node + 1) granted spans)
-
-  -- every part answers sample or inverted sample
-  pub each_samples : Policies → (node : ℕ) → (granted : ℕ → Bool) → List Arrival → Bool
-  each_samples no_more node granted spans = true
-  each_samples (one_more p rest) node granted spans = samples (answer p node granted spans) && each_samples rest (node + nodes p) granted spans
-
-abbrev mutual
-  -- the limiter nodes that are asked where the policy is asked
-  pub asked : Policy → (node : ℕ) → (granted : ℕ → Bool) → List Arrival → List ℕ
-  asked (leaf l) node granted spans = []
-  asked (rate_limiting limit) node granted spans = node ∷ []
-  asked (joined join parts) node granted spans = asked_in_turn parts (node + 1) granted spans
-
-  -- the parts: no further one is asked once one doesn't sample
-  pub asked_in_turn : Policies → (node : ℕ) → (granted : ℕ → Bool) → List Arrival → List ℕ
-  asked_in_turn no_more node granted spans = []
-  asked_in_turn (one_more p rest) node granted spans = asked p node granted spans ++ (if samples (answer p node granted spans) then asked_in_turn rest (node + nodes p) granted spans else [])
-
--- ---- the top policies: each is asked, in order
-
--- the answers of the top policies, in order
-abbrev pub answers : Policies → (node : ℕ) → (granted : ℕ → Bool) → List Arrival → List Answer
-answers no_more node granted spans = []
-answers (one_more p rest) node granted spans = answer p node granted spans ∷ answers rest (node + nodes p) granted spans
-
--- the limiter nodes that they ask, in the walk's order
-abbrev pub asked_at_top : Policies → (node : ℕ) → (granted : ℕ → Bool) → List Arrival → List ℕ
-asked_at_top no_more node granted spans = []
-asked_at_top (one_more p rest) node granted spans = asked p node granted spans ++ asked_at_top rest (node + nodes p) granted spans
+-- ---- several answers
 
 -- two answers are the same
 abbrev pub is_same_answer : Answer → Answer → Bool
@@ -179,6 +129,81 @@ verdict_of_answers all =
     else if has_answer sample all then Sampled
     else if has_answer inverted_sample all && not (has_answer not_sample all) then Sampled
     else NotSampled
+
+-- an answer for the trace
+abbrev pub samples : Answer → Bool
+samples sample = true
+samples inverted_sample = true
+samples not_sample = false
+samples inverted_not_sample = false
+samples dropped = false
+
+-- an answer that decides whatever others are: a sample or a drop
+abbrev pub decides : Answer → Bool
+decides sample = true
+decides dropped = true
+decides not_sample = false
+decides inverted_sample = false
+decides inverted_not_sample = false
+
+-- behind this answer no further policy is asked: of a first match behind one that decides, else behind one that isn't for the trace
+abbrev pub ends : Join → Answer → Bool
+ends And one = not (samples one)
+ends Not one = not (samples one)
+ends Drop one = not (samples one)
+ends FirstMatch one = decides one
+ends Share one = not (samples one)
+
+-- the answer for a trace with this verdict
+abbrev pub verdict_answer : Verdict → Answer
+verdict_answer Sampled = sample
+verdict_answer NotSampled = not_sample
+
+-- what is made of the answers of policies
+abbrev pub joined_answer : Join → List Answer → Answer
+joined_answer And all = plain (list_all samples all)
+joined_answer Not all = plain (not (list_all samples all))
+joined_answer Drop all = if list_all samples all then dropped else not_sample
+joined_answer FirstMatch all = verdict_answer (verdict_of_answers all)
+joined_answer Share all = if list_all samples all then sample else if list_any samples all then dropped else not_sample
+
+-- ---- answers: `granted` is the limiter's answer at each node
+
+abbrev mutual
+  -- the answer of the policy with this number
+  pub answer : Policy → (node : ℕ) → (granted : ℕ → Bool) → List Arrival → Answer
+  answer (leaf l) node granted spans = leaf_answer l spans
+  answer (rate_limiting limit) node granted spans = plain (granted node)
+  answer (joined join parts) node granted spans = joined_answer join (part_answers join parts (node + 1) granted spans)
+
+  -- the answers of policies that are joined so, in order, up to one that ends them
+  pub part_answers : Join → Policies → (node : ℕ) → (granted : ℕ → Bool) → List Arrival → List Answer
+  part_answers join no_more node granted spans = []
+  part_answers join (one_more p rest) node granted spans = answer p node granted spans ∷ (if ends join (answer p node granted spans) then [] else part_answers join rest (node + nodes p) granted spans)
+
+abbrev mutual
+  -- the limiter nodes that are asked where the policy is asked
+  pub asked : Policy → (node : ℕ) → (granted : ℕ → Bool) → List Arrival → List ℕ
+  asked (leaf l) node granted spans = []
+  asked (rate_limiting limit) node granted spans = node ∷ []
+  asked (joined join parts) node granted spans = asked_in_turn join parts (node + 1) granted spans
+
+  -- those that policies ask that are joined so
+  pub asked_in_turn : Join → Policies → (node : ℕ) → (granted : ℕ → Bool) → List Arrival → List ℕ
+  asked_in_turn join no_more node granted spans = []
+  asked_in_turn join (one_more p rest) node granted spans = asked p node granted spans ++ (if ends join (answer p node granted spans) then [] else asked_in_turn join rest (node + nodes p) granted spans)
+
+-- ---- the top policies: each is asked, in order
+
+-- the answers of the top policies, in order
+abbrev pub answers : Policies → (node : ℕ) → (granted : ℕ → Bool) → List Arrival → List Answer
+answers no_more node granted spans = []
+answers (one_more p rest) node granted spans = answer p node granted spans ∷ answers rest (node + nodes p) granted spans
+
+-- the limiter nodes that they ask, in the walk's order
+abbrev pub asked_at_top : Policies → (node : ℕ) → (granted : ℕ → Bool) → List Arrival → List ℕ
+asked_at_top no_more node granted spans = []
+asked_at_top (one_more p rest) node granted spans = asked p node granted spans ++ asked_at_top rest (node + nodes p) granted spans
 
 -- the verdict of the policies on these spans, where the limiter answers so
 abbrev pub verdict : Policies → (granted : ℕ → Bool) → List Arrival → Verdict

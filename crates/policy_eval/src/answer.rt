@@ -1,7 +1,7 @@
 //! What a policy answers, and the verdict of all answers (tailsamplingprocessor README, "Policies").
 ghost use Rattle.std.specs.Prelude.{◌≡◌, if◌then◌else◌};
-ghost use Rattle.policy_eval.specs.Policies.{plain, inverted, joined_answer};
-ghost use Rattle.policy_eval.specs.Meaning.{answer_of, is_for, none_seen, seen_with, verdict_of_seen};
+ghost use Rattle.policy_eval.specs.Policies.{plain, inverted, verdict_answer};
+ghost use Rattle.policy_eval.specs.Meaning.{answer_of, is_for, is_end, none_seen, seen_with, each_is_for, some_is_for, joined_seen, verdict_of_seen};
 
 use policy_tree::Join;
 use span_ids::Verdict;
@@ -44,15 +44,29 @@ impl Answer {
         }
     }
 
-    /// The answer that is made of policies by whether each of them samples.
-    pub fn joined(join: Join, each_samples: bool) -> Answer
-        ensures { result ≡ answer_of (joined_answer join each_samples) }
+    /// The answer that is made of policies by the answers that they gave.
+    pub fn joined(join: Join, seen: Seen) -> Answer
+        ensures { result ≡ answer_of (joined_seen join seen) }
     {
         match join {
-            Join::And => Answer::plain(each_samples),
-            Join::Not => Answer::plain(!each_samples),
-            Join::Drop if each_samples => Answer::Dropped,
+            Join::And => Answer::plain(seen.each_is_for()),
+            Join::Not => Answer::plain(!seen.each_is_for()),
+            Join::Drop if seen.each_is_for() => Answer::Dropped,
             Join::Drop => Answer::NotSample,
+            Join::FirstMatch => seen.verdict_answer(),
+            Join::Share if seen.each_is_for() => Answer::Sample,
+            Join::Share if seen.some_is_for() => Answer::Dropped,
+            Join::Share => Answer::NotSample,
+        }
+    }
+
+    /// Whether no further policy is asked behind this answer, where they are joined so.
+    pub fn ends(self, join: Join) -> bool
+        ensures { result ≡ is_end join self }
+    {
+        match join {
+            Join::FirstMatch => matches!(self, Answer::Sample | Answer::Dropped),
+            _ => !self.samples(),
         }
     }
 
@@ -104,6 +118,30 @@ impl Seen {
             Answer::Dropped => seen.dropped = true,
         }
         seen
+    }
+
+    /// Whether each of these answers is for the trace.
+    fn each_is_for(self) -> bool
+        ensures { result ≡ each_is_for self }
+    {
+        !(self.not_sample || self.inverted_not_sample || self.dropped)
+    }
+
+    /// Whether one of these answers is for the trace.
+    fn some_is_for(self) -> bool
+        ensures { result ≡ some_is_for self }
+    {
+        self.sample || self.inverted_sample
+    }
+
+    /// The answer for a trace with the verdict by these answers.
+    fn verdict_answer(self) -> Answer
+        ensures { result ≡ answer_of (verdict_answer (verdict_of_seen self)) }
+    {
+        match self.verdict() {
+            Verdict::Sampled => Answer::Sample,
+            Verdict::NotSampled => Answer::NotSample,
+        }
     }
 
     /// The verdict by these answers.

@@ -67,14 +67,16 @@ fn answer_given(
         }
         PolicyKind::Joined { join, policies } => {
             let mut next = asked;
+            let mut seen = Seen::none();
             for part in policies.as_slice() {
                 let (given, behind) = answer_given(part, spans, answers, next);
                 next = behind;
-                if !given.samples() {
-                    return (Answer::joined(*join, false), next);
+                seen = seen.with(given);
+                if given.ends(*join) {
+                    return (Answer::joined(*join, seen), next);
                 }
             }
-            (Answer::joined(*join, true), next)
+            (Answer::joined(*join, seen), next)
         }
     }
 }

@@ -16,7 +16,7 @@ use span_ids::{Moment, Verdict};
 /// The verdict of the policies on the spans of a trace, at this moment in milliseconds. It takes no memory.
 ///
 /// The limiter nodes are asked in the order of their numbers, each at most once, for the number of spans, in the second
-/// of the moment. Of the parts of a policy no further one is asked after one that does not sample.
+/// of the moment. Of the parts of a policy no further one is asked behind an answer that ends them.
 pub fn evaluate<L: Limiter>(
     policies: &Policies,
     spans: &[Arrival],
@@ -62,14 +62,16 @@ fn answer<L: Limiter>(
         )),
         PolicyKind::Joined { join, policies } => {
             let mut next = node + 1;
+            let mut seen = Seen::none();
             for part in policies.as_slice() {
                 let given = answer(part, next, spans, second, limiter);
-                if !given.samples() {
-                    return Answer::joined(*join, false);
+                seen = seen.with(given);
+                if given.ends(*join) {
+                    return Answer::joined(*join, seen);
                 }
                 next += part.count() as u16;
             }
-            Answer::joined(*join, true)
+            Answer::joined(*join, seen)
         }
     }
 }

@@ -21,11 +21,11 @@ pub enum PolicyKind {
     Leaf(Leaf),
     /// A trace whose spans are granted by a limiter of so many spans per second.
     RateLimiting { spans_per_second: u64 },
-    /// What is made of these policies. They are asked in order, up to the first that does not sample.
+    /// What is made of these policies. They are asked in order, and no further one behind one whose answer ends that.
     Joined { join: Join, policies: List<Policy> },
 }
 
-/// What is made of policies that are asked in order, up to the first that does not sample.
+/// What is made of policies that are asked in order: up to the first that does not sample, but for a first match.
 #[derive(Clone, Copy, Debug, PartialEq, Eq)]
 pub enum Join {
     /// A trace is sampled that each of them samples (`and_sub_policy`).
@@ -34,6 +34,12 @@ pub enum Join {
     Not,
     /// A trace is dropped that each of them samples, whatever any other policy says (`drop_sub_policy`).
     Drop,
+    /// They are asked up to the first that samples or drops, and a trace is sampled by their answers as by those of all
+    /// policies (`sample_on_first_match`; a `composite`, of which each part is a `Share`).
+    FirstMatch,
+    /// A trace is sampled that each of them samples, and dropped where only the first ones do: a part of a `composite`
+    /// and the limiter of its share.
+    Share,
 }
 
 /// What a policy samples that has no parts and asks no limiter: it is decided by the spans of the trace alone.

@@ -271,13 +271,17 @@ Listens members fault = optional text_fault (get_member (codes "listen") members
 abbrev Gzip : Members → ConfigFault → Type 0
 Gzip members fault = optional truth_fault (get_member (codes "accept_gzip") members) ≡ Some fault
 
+abbrev First : Members → ConfigFault → Type 0
+First members fault = optional truth_fault (get_member (codes "sample_on_first_match") members) ≡ Some fault
+
 abbrev Others : Members → ConfigFault → Type 0
-Others members fault = Listens members fault ⊎ (Gzip members fault ⊎ ChoicesHave members fault)
+Others members fault = Listens members fault ⊎ (Gzip members fault ⊎ (First members fault ⊎ ChoicesHave members fault))
 
 others_all : (members : Members) → ListsAll (Others members) (rows_faults other_settings members)
 others_all members =
     next_row text_fault (get_member (codes "listen") members) _ _
     (next_row truth_fault (get_member (codes "accept_gzip") members) _ _
+    (next_row truth_fault (get_member (codes "sample_on_first_match") members) _ _
     (next_row (wanted_fault (value_is.Choice choice_is.QueueFull)) (get_member (codes "queue_full") members) _ _
     (next_row (wanted_fault (value_is.Choice choice_is.OutputFault)) (get_member (codes "output_fault") members) _ _
     (next_row (wanted_fault (value_is.Choice choice_is.DoubleValues)) (get_member (codes "double_values") members) _ _
@@ -314,8 +318,9 @@ ungrouped members fault (inr (inl (inl h))) = inr (inl h)
 ungrouped members fault (inr (inl (inr (inl h)))) = inr (inr (inl h))
 ungrouped members fault (inr (inl (inr (inr (inl h))))) = inr (inr (inr (inl h)))
 ungrouped members fault (inr (inl (inr (inr (inr (inl h)))))) = inr (inr (inr (inr (inl h))))
-ungrouped members fault (inr (inl (inr (inr (inr (inr h)))))) = inr (inr (inr (inr (inr (inl h)))))
-ungrouped members fault (inr (inr h)) = inr (inr (inr (inr (inr (inr h)))))
+ungrouped members fault (inr (inl (inr (inr (inr (inr (inl h))))))) = inr (inr (inr (inr (inr (inl h)))))
+ungrouped members fault (inr (inl (inr (inr (inr (inr (inr h))))))) = inr (inr (inr (inr (inr (inr (inl h))))))
+ungrouped members fault (inr (inr h)) = inr (inr (inr (inr (inr (inr (inr h))))))
 
 grouped : (members : Members) (fault : ConfigFault) → HasFault members fault → Grouped members fault
 grouped members fault (inl h) = inl h
@@ -323,8 +328,9 @@ grouped members fault (inr (inl h)) = inr (inl (inl h))
 grouped members fault (inr (inr (inl h))) = inr (inl (inr (inl h)))
 grouped members fault (inr (inr (inr (inl h)))) = inr (inl (inr (inr (inl h))))
 grouped members fault (inr (inr (inr (inr (inl h))))) = inr (inl (inr (inr (inr (inl h)))))
-grouped members fault (inr (inr (inr (inr (inr (inl h)))))) = inr (inl (inr (inr (inr (inr h)))))
-grouped members fault (inr (inr (inr (inr (inr (inr h)))))) = inr (inr h)
+grouped members fault (inr (inr (inr (inr (inr (inl h)))))) = inr (inl (inr (inr (inr (inr (inl h))))))
+grouped members fault (inr (inr (inr (inr (inr (inr (inl h))))))) = inr (inl (inr (inr (inr (inr (inr h))))))
+grouped members fault (inr (inr (inr (inr (inr (inr (inr h))))))) = inr (inr h)
 
 table_all : (members : Members) → ListsAll (HasFault members) (table_faults members)
 table_all members =

@@ -229,6 +229,7 @@ table_least members =
     let twice : Option ConfigFault = twice_fault members in
     let listen : Option ConfigFault = optional text_fault (get_member (codes "listen") members) in
     let gzip : Option ConfigFault = optional truth_fault (get_member (codes "accept_gzip") members) in
+    let first : Option ConfigFault = optional truth_fault (get_member (codes "sample_on_first_match") members) in
     let cache : IsLeastOf (OptionalHas CacheHas (get_member (codes "decision_cache") members)) (optional spec.cache_fault (get_member (codes "decision_cache") members)) = optional_least CacheHas spec.cache_fault cache_least (get_member (codes "decision_cache") members) in
     let policies : IsLeastOf (RequiredHas PoliciesHave (get_member (codes "policies") members)) (required spec.policies_fault (get_member (codes "policies") members)) = required_least PoliciesHave spec.policies_fault policies_least (get_member (codes "policies") members) in
     both (λ fault. (keys ≡ Some fault) ⊎ (twice ≡ Some fault)) _ _ _ (rows keys twice)
@@ -236,5 +237,6 @@ table_least members =
     (both (SizesHave members) _ _ _ (five_rows _ _ _ _ _)
     (both (λ fault. listen ≡ Some fault) _ _ _ (row listen)
     (both (λ fault. gzip ≡ Some fault) _ _ _ (row gzip)
+    (both (λ fault. first ≡ Some fault) _ _ _ (row first)
     (both (ChoicesHave members) _ _ _ (five_rows _ _ _ _ _)
-    (both (OptionalHas CacheHas (get_member (codes "decision_cache") members)) (RequiredHas PoliciesHave (get_member (codes "policies") members)) _ _ cache policies))))))
+    (both (OptionalHas CacheHas (get_member (codes "decision_cache") members)) (RequiredHas PoliciesHave (get_member (codes "policies") members)) _ _ cache policies)))))))

@@ -17,13 +17,13 @@ use Rattle.policy_tree.specs.declared.policy.Leaf.TheVariants as leaf_is
 use Rattle.policy_tree.specs.declared.policy.PolicyKind.TheViews.{out-PolicyKind, roll-PolicyKind, out-roll-PolicyKind}
 use Rattle.policy_tree.specs.declared.policy.Wanted.{Wanted}
 use Rattle.tsc_config.proofs.SettingKeys.{type_is_named, text_keys, natural_keys, whole_keys, truth_keys, required_truth, salt_keys, percentage_keys, texts_keys, codes_keys}
-use Rattle.tsc_config.proofs.Settings.{neither, natural, table_parts, read_as}
+use Rattle.tsc_config.proofs.Settings.{neither, natural, truth, table_parts, read_as}
 use Rattle.policy_tree.specs.declared.policy.Join.{Join}
 use Rattle.policy_tree.specs.declared.policy.Join.TheVariants as join_is
 use Rattle.tsc_config.specs.Keys.{type_name, type_named, type_found, type_at, join_type, join_name, sub_key, join_of, join_at}
 use Rattle.tsc_config.specs.Faults.{optional, required, unknown_fault, natural_fault, text_fault, named_fault, array_fault, type_fault, percentage_fault, truth_fault, whole_fault, code_fault, rows_fault, settings_fault, settings_at_fault, typed_fault_where, policy_table_fault, policy_fault, policy_items_fault, policies_fault, typed_fault, parts_fault, parts_settings_fault, sub_policies_fault, sub_value_fault, table_fault, least}
-use Rattle.tsc_config.specs.Values.{found_before, natural_of, attribute, leaf_in, kind_in, always, kind_by, kind_typed, policy_of, item_policies, policies_of, parts_policies, parts_settings, sub_policies, sub_value, policy_value, config_of}
-use Rattle.tsc_config.specs.PolicyKeys.{IsText, count_items, IsNatural, IsNaturalOrZero, IsTyped, IsWanted, IsLeaf, IsLayer, IsKind, IsPolicy, ArePartsAt, items_of, part_items, settings_items, nested_items, value_at, parts_in, parts_of, parts_at, policy_at, HasPolicies, ReadsPolicies}
+use Rattle.tsc_config.specs.Values.{found_before, natural_of, truth_of, attribute, leaf_in, kind_in, always, kind_by, kind_typed, policy_of, item_policies, policies_of, parts_policies, parts_settings, sub_policies, sub_value, policy_value, config_of}
+use Rattle.tsc_config.specs.PolicyKeys.{IsText, count_items, IsNatural, IsNaturalOrZero, IsTyped, IsWanted, IsLeaf, IsLayer, IsKind, IsPolicy, ArePartsAt, items_of, part_items, settings_items, nested_items, value_at, parts_in, parts_of, parts_at, policy_at, HasPolicies, HasMatched, ReadsPolicies}
 use Rattle.tsc_config.specs.declared.fault.ConfigFault.{ConfigFault}
 use Rattle.tsc_config.specs.declared.fault.ConfigFault.TheVariants.{MissingKey}
 use Rattle.tsc_config.specs.declared.kinds.PolicyType.{PolicyType}
@@ -142,6 +142,10 @@ parts_here join_is.Not None f = absurd (cc f)
 parts_here join_is.And (Some _) f = absurd (cc f)
 parts_here join_is.Drop (Some _) f = absurd (cc f)
 parts_here join_is.Not (Some _) f = absurd (cc f)
+parts_here join_is.FirstMatch None f = absurd (cc f)
+parts_here join_is.FirstMatch (Some value) f = absurd (cc f)
+parts_here join_is.Share None f = absurd (cc f)
+parts_here join_is.Share (Some value) f = absurd (cc f)
 
 -- the policy tables that a policy table without a fault is made of
 abbrev Nested : Join → Members → Type 0
@@ -361,7 +365,7 @@ sound (Some (array items)) e = (e, refl)
 sound None e = cc
 sound (Some _) e = cc
 
-whole : (members : Members) → table_fault members ≡ None → HasPolicies members (config_of members).policies
+whole : (members : Members) → table_fault members ≡ None → HasPolicies members (policies_of (get_member (codes "policies") members))
 whole members e =
     let p = sound (get_member (codes "policies") members) (table_parts members e).4 in
     let items : Items = items_of (get_member (codes "policies") members) in record {
@@ -372,5 +376,14 @@ whole members e =
           (t.0, t.1, subst P (sym t.2) (policy_keys t.0 t.3));
     }
 
+matched_whole : (members : Members) → table_fault members ≡ None → HasMatched members (config_of members).policies
+matched_whole members e = record {
+  is_first = truth_of (get_member (codes "sample_on_first_match") members);
+  at_key = truth (codes "sample_on_first_match") members (get_member (codes "sample_on_first_match") members) refl (table_parts members e).8;
+  given = policies_of (get_member (codes "policies") members);
+  has = whole members e;
+  are = refl;
+}
+
 pub reads_policies : ReadsPolicies
-reads_policies text config e = read_as (λ members c. HasPolicies members c.policies) whole text config e
+reads_policies text config e = read_as (λ members c. HasMatched members c.policies) matched_whole text config e

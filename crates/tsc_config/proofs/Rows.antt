@@ -1,9 +1,9 @@
 -- The numbers of a configuration's settings, computed on the definitions: each key's default, its range, and what lies just outside.
 -- No clause needs them: they show what the words of `Values` and `Faults` say, which code and contracts follow. The table below repeats no definition.
-use Rattle.std.specs.Prelude.{◌≡◌, ℕ, ℤ, pos, negsuc, Bool, true, false, List, [], ◌∷◌, map, codes, Option, Some, None, refl}
+use Rattle.std.specs.Prelude.{◌≡◌, ℕ, ℤ, pos, negsuc, Bool, true, false, List, [], ◌∷◌, map, length, codes, Option, Some, None, refl}
 use lib.Ieee.{to_unsigned, of_int, mul, div, eq}
 use Rattle.std.specs.Float.{Float, nan, inf, fin, round_with}
-use Rattle.toml.specs.Data.{string, integer, boolean, table, Members, no_members, member}
+use Rattle.toml.specs.Data.{string, integer, boolean, array, table, no_items, Members, no_members, member}
 use Rattle.tsc_config.specs.Keys.{is_key, is_setting, all_types, type_name, type_named}
 use Rattle.tsc_config.specs.Faults.{least, config_fault_number, numbers_fault, sizes_fault, choices_fault, cache_fault, rows_fault, twice_fault}
 use Rattle.tsc_config.specs.declared.kinds.PolicyType.{PolicyType}
@@ -121,6 +121,10 @@ listens_by_default : (config_of no_members).listen ≡ codes "127.0.0.1:4318"
 listens_by_default = refl
 
 -- gzip is taken only where the key says so
+-- with `sample_on_first_match` one policy stands for the others
+one_for_all : map (λ (first : Bool). length (config_of (member (codes "sample_on_first_match") (boolean first) (member (codes "policies") (array no_items) no_members))).policies) (true ∷ false ∷ []) ≡ 1 ∷ 0 ∷ []
+one_for_all = refl
+
 takes_gzip : (config_of no_members).accept_gzip ∷ (config_of (member (codes "accept_gzip") (boolean true) no_members)).accept_gzip
     ∷ (config_of (member (codes "accept_gzip") (boolean false) no_members)).accept_gzip ∷ [] ≡ false ∷ true ∷ false ∷ []
 takes_gzip = refl

@@ -86,7 +86,7 @@ text key default given None e f = inl (e, refl)
 text key default given (Some (string bytes)) e f = inr e
 text key default given (Some _) e f = cc
 
-truth : (key : List ℕ) (given : Members) (at : Option Data) → get_member key given ≡ at → optional truth_fault at ≡ None → IsTruthAt given key (truth_of at)
+pub truth : (key : List ℕ) (given : Members) (at : Option Data) → get_member key given ≡ at → optional truth_fault at ≡ None → IsTruthAt given key (truth_of at)
 truth key given None e f = inl (e, refl)
 truth key given (Some (boolean value)) e f = inr e
 truth key given (Some _) e f = cc
@@ -126,6 +126,7 @@ cache given (Some _) e f = cc
 pub table_parts : (members : Members) → table_fault members ≡ None → (numbers_fault members ≡ None) × (sizes_fault members ≡ None) × (optional text_fault (get_member (codes "listen") members) ≡ None)
     × (optional cache_fault (get_member (codes "decision_cache") members) ≡ None) × (required policies_fault (get_member (codes "policies") members) ≡ None)
     × (optional truth_fault (get_member (codes "accept_gzip") members) ≡ None) × (choices_fault members ≡ None) × (twice_fault members ≡ None)
+    × (optional truth_fault (get_member (codes "sample_on_first_match") members) ≡ None)
 unfolding table_fault keys_fault
 table_parts members e =
     let t = neither (least (unknown_fault table_is.Config members) (twice_fault members)) _ e in
@@ -133,9 +134,10 @@ table_parts members e =
     let s = neither (sizes_fault members) _ n.1 in
     let l = neither (optional text_fault (get_member (codes "listen") members)) _ s.1 in
     let g = neither (optional truth_fault (get_member (codes "accept_gzip") members)) _ l.1 in
-    let h = neither (choices_fault members) _ g.1 in
+    let m = neither (optional truth_fault (get_member (codes "sample_on_first_match") members)) _ g.1 in
+    let h = neither (choices_fault members) _ m.1 in
     let c = neither (optional cache_fault (get_member (codes "decision_cache") members)) _ h.1 in
-    (n.0, s.0, l.0, c.0, c.1, g.0, h.0, (neither (unknown_fault table_is.Config members) (twice_fault members) t.0).1)
+    (n.0, s.0, l.0, c.0, c.1, g.0, h.0, (neither (unknown_fault table_is.Config members) (twice_fault members) t.0).1, m.0)
 
 -- each row of the table's numbers has no fault
 whole : (members : Members) → table_fault members ≡ None → HasSettings members (config_of members)

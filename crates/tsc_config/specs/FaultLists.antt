@@ -185,6 +185,7 @@ abbrev pub other_settings : List Setting
 other_settings =
     optional (codes "listen") value_is.Text
     ∷ optional (codes "accept_gzip") value_is.Truth
+    ∷ optional (codes "sample_on_first_match") value_is.Truth
     ∷ choice_setting choice_is.QueueFull
     ∷ choice_setting choice_is.OutputFault
     ∷ choice_setting choice_is.DoubleValues

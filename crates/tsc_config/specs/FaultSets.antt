@@ -184,9 +184,10 @@ HasFault members fault =
     ⊎ (SizesHave members fault
     ⊎ ((optional text_fault (get_member (codes "listen") members) ≡ Some fault)
     ⊎ ((optional truth_fault (get_member (codes "accept_gzip") members) ≡ Some fault)
+    ⊎ ((optional truth_fault (get_member (codes "sample_on_first_match") members) ≡ Some fault)
     ⊎ (ChoicesHave members fault
     ⊎ (OptionalHas CacheHas (get_member (codes "decision_cache") members) fault
-    ⊎ RequiredHas PoliciesHave (get_member (codes "policies") members) fault))))))
+    ⊎ RequiredHas PoliciesHave (get_member (codes "policies") members) fault)))))))
 
 -- the text of a configuration with this table, if it is TOML, has this fault
 abbrev pub DocumentHas : Option Members → ConfigFault → Type 0

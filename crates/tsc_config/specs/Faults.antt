@@ -269,9 +269,10 @@ abbrev pub others_fault : Members → Option ConfigFault
 others_fault members =
     least (optional text_fault (get_member (codes "listen") members))
     (least (optional truth_fault (get_member (codes "accept_gzip") members))
+    (least (optional truth_fault (get_member (codes "sample_on_first_match") members))
     (least (choices_fault members)
     (least (optional cache_fault (get_member (codes "decision_cache") members))
-    (required policies_fault (get_member (codes "policies") members)))))
+    (required policies_fault (get_member (codes "policies") members))))))
 
 -- the rows of the whole table: a key more is a row more
 unfoldable pub table_fault : Members → Option ConfigFault

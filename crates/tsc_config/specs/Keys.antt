@@ -97,7 +97,7 @@ is_key table_is.Config key =
     || bytes_eq key (number_row number_is.QueueCapacity).name || bytes_eq key (number_row number_is.ExportCapacity).name
     || bytes_eq key (number_row number_is.SendBatchSize).name || bytes_eq key (number_row number_is.MaxConnections).name || bytes_eq key (number_row number_is.MemoryLimit).name
     || bytes_eq key (number_row number_is.Tick).name
-    || bytes_eq key (codes "listen") || bytes_eq key (codes "accept_gzip")
+    || bytes_eq key (codes "listen") || bytes_eq key (codes "accept_gzip") || bytes_eq key (codes "sample_on_first_match")
     || bytes_eq key (choice_row choice_is.QueueFull).name || bytes_eq key (choice_row choice_is.OutputFault).name || bytes_eq key (choice_row choice_is.DoubleValues).name || bytes_eq key (codes "close_at_end_of_input")
     || bytes_eq key (codes "admin")
 is_key table_is.DecisionCache key = bytes_eq key (codes "sampled_cache_size") || bytes_eq key (codes "non_sampled_cache_size")
@@ -139,11 +139,13 @@ type_at members = type_found (get_member (codes "type") members)
 
 -- ---- types that are made of other policies
 
--- the type of policy that is joined so
+-- the type of policy that is joined so; of what has no type of its own this says nothing that counts
 abbrev pub join_type : Join → PolicyType
 join_type join_is.And = type_is.And
 join_type join_is.Not = type_is.Not
 join_type join_is.Drop = type_is.Drop
+join_type join_is.FirstMatch = type_is.And
+join_type join_is.Share = type_is.And
 
 -- its name, which is also the key of its settings
 abbrev pub join_name : Join → List ℕ
@@ -154,6 +156,8 @@ abbrev pub sub_key : Join → List ℕ
 sub_key join_is.And = codes "and_sub_policy"
 sub_key join_is.Not = codes "not_sub_policy"
 sub_key join_is.Drop = codes "drop_sub_policy"
+sub_key join_is.FirstMatch = codes "and_sub_policy"
+sub_key join_is.Share = codes "and_sub_policy"
 
 -- how the policies of a type are joined; of a type that isn't made of others this says nothing that counts
 abbrev pub join_of : Option PolicyType → Join

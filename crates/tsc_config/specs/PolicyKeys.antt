@@ -17,6 +17,7 @@ use Rattle.tsc_config.specs.Keys.{join_name, sub_key, join_at}
 use Rattle.tsc_config.specs.Percentages.{over_ten_thousand}
 use Rattle.tsc_config.specs.Reading.{reading}
 use Rattle.tsc_config.specs.Settings.{IsNumberAt}
+use Rattle.tsc_config.specs.Values.{matched}
 use Rattle.tsc_config.specs.declared.config.Config.{Config}
 
 -- ---- one key
@@ -201,7 +202,15 @@ pub record HasPolicies (members : Members) (policies : List Policy) : Type 0 whe
   pub each : (place : ℕ) (deeper : List ℕ) (policy : Policy) → policy_at policies place deeper ≡ Some policy
       → (of : Members) × (value_at (items_of (get_member (codes "policies") members)) place deeper ≡ Some (table of)) × IsPolicy of policy
 
+-- the policies are those of their key, or with `sample_on_first_match` the one that is made of them
+pub record HasMatched (members : Members) (policies : List Policy) : Type 0 where
+  pub is_first : Bool
+  pub at_key : IsTruthAt members (codes "sample_on_first_match") is_first
+  pub given : List Policy
+  pub has : HasPolicies members given
+  pub are : policies ≡ matched is_first given
+
 -- a text that is read as a configuration is a document with these policies
 abbrev pub ReadsPolicies : Type 0
 ReadsPolicies = (text : List ℕ) (config : Config) → reading text ≡ Ok config
-    → (members : Members) × (parse_document text ≡ Some members) × HasPolicies members config.policies
+    → (members : Members) × (parse_document text ≡ Some members) × HasMatched members config.policies

@@ -1,5 +1,5 @@
 -- What the table of a configuration gives. Of a table with a fault this says nothing that counts.
-use Rattle.std.specs.Prelude.{suc, ℕ, ℤ, pos, negsuc, Bool, false, List, [], ◌∷◌, codes, Option, Some, None, option_and_then, if◌then◌else◌, nat_lt, ◌<◌, ◌≤◌}
+use Rattle.std.specs.Prelude.{suc, ℕ, ℤ, pos, negsuc, Bool, true, false, List, [], ◌∷◌, codes, Option, Some, None, option_and_then, if◌then◌else◌, nat_lt, ◌<◌, ◌≤◌}
 use Rattle.std.specs.Option.{unwrap_or}
 use Rattle.std.specs.Str.{bytes_eq}
 use Rattle.toml.specs.Data.{Data, as_str, as_array, string, integer, boolean, array, table, Items, no_items, item, Members, no_members, member, get_member}
@@ -230,6 +230,19 @@ abbrev pub policies_of : Option Data → List Policy
 policies_of None = []
 policies_of (Some value) = policies_value value
 
+-- one policy that is made of these, of which the first match decides
+abbrev pub first_match : List Policy → Policy
+first_match policies = record { name = []; kind = kind_is.Joined join_is.FirstMatch policies }
+
+-- the policies, or with `sample_on_first_match` the one that is made of them
+abbrev pub matched : Bool → List Policy → List Policy
+matched false policies = policies
+matched true policies = first_match policies ∷ []
+
+-- the policies of a table
+abbrev pub policies_given : Members → List Policy
+policies_given members = matched (truth_of (get_member (codes "sample_on_first_match") members)) (policies_of (get_member (codes "policies") members))
+
 -- the numbers of a configuration are of use: none is 0, there is a trace for each shard, and lanes and shards are few
 abbrev pub InRange : Config → Type 0
 InRange config = record {
@@ -255,7 +268,7 @@ config_of members = record {
   num_traces = positive_by (number_row number_is.NumTraces) members;
   sampled_cache_size = cache_size (codes "sampled_cache_size") (get_member (codes "decision_cache") members);
   non_sampled_cache_size = cache_size (codes "non_sampled_cache_size") (get_member (codes "decision_cache") members);
-  policies = policies_of (get_member (codes "policies") members);
+  policies = policies_given members;
   lanes = positive_by (number_row number_is.Lanes) members;
   shards = positive_by (number_row number_is.Shards) members;
   queue_capacity = positive_by (number_row number_is.QueueCapacity) members;

@@ -31,8 +31,10 @@ fn others_fault(table: &Table) -> Option<ConfigFault>
     let listen = optional_fault(table, "listen", ValueKind::Text);
     let cache = cache_at_fault(table);
     let gzip = optional_fault(table, "accept_gzip", ValueKind::Truth);
+    let first = optional_fault(table, "sample_on_first_match", ValueKind::Truth);
     let tables = least(cache, required_policies_fault(table));
-    least(listen, least(gzip, least(choices_fault(table), tables)))
+    let choices = least(choices_fault(table), tables);
+    least(listen, least(gzip, least(first, choices)))
 }
 
 /// The fault of the names of the keys: one that the table of a configuration doesn't have, or two of one setting.

@@ -13,7 +13,7 @@ pub fn join_type(join: Join) -> PolicyType
     ensures { result ≡ spec.join_type join }
 {
     match join {
-        Join::And => PolicyType::And,
+        Join::And | Join::FirstMatch | Join::Share => PolicyType::And,
         Join::Not => PolicyType::Not,
         Join::Drop => PolicyType::Drop,
     }
@@ -24,7 +24,7 @@ pub fn sub_key(join: Join) -> &'static str
     ensures { result.now ≡ spec.sub_key join }
 {
     match join {
-        Join::And => "and_sub_policy",
+        Join::And | Join::FirstMatch | Join::Share => "and_sub_policy",
         Join::Not => "not_sub_policy",
         Join::Drop => "drop_sub_policy",
     }

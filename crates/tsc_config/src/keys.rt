@@ -67,6 +67,7 @@ pub fn is_key(kind: TableKind, key: &str) -> bool
                 | "tick_ms"
                 | "listen"
                 | "accept_gzip"
+                | "sample_on_first_match"
                 | "queue_full"
                 | "output_fault"
                 | "double_values"

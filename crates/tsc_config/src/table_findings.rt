@@ -64,7 +64,7 @@ fn add_twice(alloc: Global, table: &Table, findings: &mut Findings) -> Result<()
 }
 
 /// The settings of a configuration that are no tables.
-fn top_settings() -> [Setting; 19]
+fn top_settings() -> [Setting; 20]
     ensures { map setting_of result ≡ spec.top_settings }
 {
     [
@@ -82,6 +82,7 @@ fn top_settings() -> [Setting; 19]
         number_setting(NumberKey::MemoryLimit),
         Setting::Optional("listen", ValueKind::Text),
         Setting::Optional("accept_gzip", ValueKind::Truth),
+        Setting::Optional("sample_on_first_match", ValueKind::Truth),
         choice_setting(ChoiceKey::QueueFull),
         choice_setting(ChoiceKey::OutputFault),
         choice_setting(ChoiceKey::DoubleValues),

@@ -10,7 +10,7 @@ ghost use Rattle.tsc_config.specs.declared.kinds.NumberKey.TheVariants as number
 use crate::joins::{join_at, join_type, sub_key};
 use crate::keys::{member, type_at};
 use crate::kinds::{ChoiceKey, NumberKey, PolicyType};
-use crate::settings_values::{kind_in, natural_at, text_at, text_of};
+use crate::settings_values::{kind_in, natural_at, text_at, text_of, truth_at};
 use otlp_types::{List, Text};
 use policy_tree::{Join, Leaf, Policy, PolicyKind};
 use std::alloc::{AllocError, Global};
@@ -94,13 +94,32 @@ fn size_in(value: &Value, key: &str) -> usize
     }
 }
 
-/// The policies, in order.
+/// The policies, in order, or with `sample_on_first_match` the one that is made of them.
 pub fn policies_at(alloc: Global, table: &Table) -> Result<Vec<Policy>, AllocError>
-    ensures { IfOk result (λ list. list.items ≡ spec.policies_of (get_member (codes "policies") (table_view table.now))) }
+    ensures { IfOk result (λ list. list.items ≡ spec.policies_given (table_view table.now)) }
+{
+    let policies = listed_at(alloc, table)?;
+    if !truth_at(table, "sample_on_first_match") {
+        return Ok(policies.into_vec());
+    }
+    let mut list = Vec::new(alloc);
+    list.push(Policy {
+        name: Text::from_str(alloc, "")?,
+        kind: PolicyKind::Joined {
+            join: Join::FirstMatch,
+            policies,
+        },
+    })?;
+    Ok(list)
+}
+
+/// The policies at their key, in order.
+fn listed_at(alloc: Global, table: &Table) -> Result<List<Policy>, AllocError>
+    ensures { IfOk result (λ list. list ≡ spec.policies_of (get_member (codes "policies") (table_view table.now))) }
 {
     match member(table, "policies") {
-        Some(Value::Array(items)) => Ok(item_policies(alloc, items)?.into_vec()),
-        _ => Ok(Vec::new(alloc)),
+        Some(Value::Array(items)) => item_policies(alloc, items),
+        _ => Ok(List::new(alloc)),
     }
 }
 

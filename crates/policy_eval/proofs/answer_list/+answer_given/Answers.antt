@@ -9,9 +9,10 @@ use Rattle.policy_tree.specs.Meaning.{meaning, policy_meaning}
 use Rattle.policy_tree.specs.declared.policy.PolicyKind.TheFolds.{the_lemmas}
 use Rattle.policy_eval.specs.Policies.{plain}
 use Rattle.policy_eval.specs.Given.{answer_given, next_answer}
-use Rattle.policy_eval.specs.Meaning.{answer_of}
+use Rattle.policy_eval.specs.Meaning.{answer_of, joined_seen}
+use Rattle.policy_eval.specs.declared.answer.Seen.{Seen}
 use Rattle.policy_eval.proofs.Turns.{part_at}
-use Rattle.policy_eval.proofs.GivenTurns.{Part, part-first, part-more, part-stop, part-last}
+use Rattle.policy_eval.proofs.GivenTurns.{Taken, Part, part-first, part-more, part-stop, part-last}
 use Rattle.policy_eval.proofs.answer_list.+answer_given.Goals as goal
 
 copied-is : (o : Option (Bor Bool)) (d : Bool) → unwrap_or (option_copied o) d ≡ unwrap_or (option_map (λ (x : Bor Bool). x.now) o) d
@@ -27,21 +28,48 @@ next-at (b ∷ bs) (suc i) = next-at bs i
 pub loop-part-init : goal.loop-part-init
 loop-part-init t c =
     let parts = meaning c.as_slice-part-items.result.now in
-    let whole : policy_meaning c.args.policy.now ≡ joined c.in-Joined.join parts = let is = c.in-Joined.is in let items = c.as_slice-part-items.ensures in search (rules, the_lemmas) in
-    part-first c.args.answers.now c.args.spans.now (policy_meaning c.args.policy.now) c.in-Joined.join c.args.asked parts whole c.requires
+    let bs = c.args.answers.now in
+    let spans = c.args.spans.now in
+    let p = policy_meaning c.args.policy.now in
+    let whole : p ≡ joined c.in-Joined.join parts = let is = c.in-Joined.is in let items = c.as_slice-part-items.ensures in search (rules, the_lemmas) in
+    let P = λ (seen : Seen). Part bs spans p c.in-Joined.join parts c.args.asked parts c.args.asked seen in
+    subst P (sym c.none-seen.ensures) (part-first bs spans p c.in-Joined.join c.args.asked parts whole c.requires)
 
 pub loop-part-preserved : goal.loop-part-preserved
 loop-part-preserved t c =
-    let T = λ (r : Policies). Part c.args.answers.now c.args.spans.now (policy_meaning c.args.policy.now) c.in-Joined.join c.args.asked r c.loop-part.next in
-    let here = part_at T c.as_slice-part-items.result.now c.loop-part.part-index c.part-item.result c.loop-part-test.true c.part-item.is c.loop-part.invariant in
-    part-more c.args.answers.now c.args.spans.now (policy_meaning c.args.policy.now) c.in-Joined.join c.args.asked (policy_meaning c.part-item.result) (meaning (drop (c.loop-part.part-index + 1) c.as_slice-part-items.result.now)) c.loop-part.next c.answer_given-given.result.1 c.answer_given-given.result.0 here (record { answer = c.answer_given-given.ensures.answer; asked = c.answer_given-given.ensures.asked }) (sym c.samples.ensures ∙ c.if-not-samples.false)
+    let items = c.as_slice-part-items.result.now in
+    let i = c.loop-part.part-index in
+    let bs = c.args.answers.now in
+    let spans = c.args.spans.now in
+    let whole = policy_meaning c.args.policy.now in
+    let join = c.in-Joined.join in
+    let a = c.answer_given-given.result.0 in
+    let behind = c.answer_given-given.result.1 in
+    let seen = c.loop-part.seen in
+    let T = λ (r : Policies). Part bs spans whole join (meaning items) c.args.asked r c.loop-part.next seen in
+    let here = part_at T items i c.part-item.result c.loop-part-test.true c.part-item.is c.loop-part.invariant in
+    let taken : Taken bs spans (policy_meaning c.part-item.result) c.loop-part.next behind a = record { answer = c.answer_given-given.ensures.answer; asked = c.answer_given-given.ensures.asked } in
+    let rest = meaning (drop (i + 1) items) in
+    let W = λ (x : Seen). Part bs spans whole join (meaning items) c.args.asked rest behind x in
+    subst W (sym c.with-seen.ensures) (part-more bs spans whole join (meaning items) c.args.asked (policy_meaning c.part-item.result) rest c.loop-part.next behind seen a here taken (sym c.ends.ensures ∙ c.if-ends.false))
 
-pub returns-then-not-samples : goal.returns-then-not-samples
-returns-then-not-samples t c =
-    let T = λ (r : Policies). Part c.args.answers.now c.args.spans.now (policy_meaning c.args.policy.now) c.in-Joined.join c.args.asked r c.loop-part.next in
-    let here = part_at T c.as_slice-part-items.result.now c.loop-part.part-index c.part-item.result c.loop-part-test.true c.part-item.is c.loop-part.invariant in
-    let stop = part-stop c.args.answers.now c.args.spans.now (policy_meaning c.args.policy.now) c.in-Joined.join c.args.asked (policy_meaning c.part-item.result) (meaning (drop (c.loop-part.part-index + 1) c.as_slice-part-items.result.now)) c.loop-part.next c.answer_given-given.result.1 c.answer_given-given.result.0 here (record { answer = c.answer_given-given.ensures.answer; asked = c.answer_given-given.ensures.asked }) (sym c.samples.ensures ∙ c.if-not-samples.true) in
-    record { answer = c.joined.ensures ∙ stop.answer; asked = stop.asked }
+pub returns-then-ends : goal.returns-then-ends
+returns-then-ends t c =
+    let items = c.as_slice-part-items.result.now in
+    let i = c.loop-part.part-index in
+    let bs = c.args.answers.now in
+    let spans = c.args.spans.now in
+    let whole = policy_meaning c.args.policy.now in
+    let join = c.in-Joined.join in
+    let a = c.answer_given-given.result.0 in
+    let behind = c.answer_given-given.result.1 in
+    let seen = c.loop-part.seen in
+    let T = λ (r : Policies). Part bs spans whole join (meaning items) c.args.asked r c.loop-part.next seen in
+    let here = part_at T items i c.part-item.result c.loop-part-test.true c.part-item.is c.loop-part.invariant in
+    let taken : Taken bs spans (policy_meaning c.part-item.result) c.loop-part.next behind a = record { answer = c.answer_given-given.ensures.answer; asked = c.answer_given-given.ensures.asked } in
+    let rest = meaning (drop (i + 1) items) in
+    let stop = part-stop bs spans whole join (meaning items) c.args.asked (policy_meaning c.part-item.result) rest c.loop-part.next behind seen a here taken (sym c.ends.ensures ∙ c.if-ends.true) in
+    record { answer = c.joined.ensures ∙ ap (λ (x : Seen). answer_of (joined_seen join x)) c.with-seen.ensures ∙ stop.answer; asked = stop.asked }
 
 pub returns-after-loop-part : goal.returns-after-loop-part
 returns-after-loop-part t c =
@@ -49,9 +77,9 @@ returns-after-loop-part t c =
     let bs = c.args.answers.now in
     let spans = c.args.spans.now in
     let whole = policy_meaning c.args.policy.now in
-    let T = λ (ps : List Policy). Part bs spans whole c.in-Joined.join c.args.asked (meaning ps) c.loop-part.next in
+    let T = λ (ps : List Policy). Part bs spans whole c.in-Joined.join (meaning items) c.args.asked (meaning ps) c.loop-part.next c.loop-part.seen in
     let none : drop c.loop-part.part-index items ≡ [] = grind (arith, common_steps) in
-    let last = part-last bs spans whole c.in-Joined.join c.args.asked c.loop-part.next (subst T none c.loop-part.invariant) in
+    let last = part-last bs spans whole c.in-Joined.join (meaning items) c.args.asked c.loop-part.next c.loop-part.seen (subst T none c.loop-part.invariant) in
     record { answer = c.joined-in-Joined.ensures ∙ last.answer; asked = last.asked }
 
 pub returns-in-RateLimiting-clause-answer : goal.returns-in-RateLimiting-clause-answer

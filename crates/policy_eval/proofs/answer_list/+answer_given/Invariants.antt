@@ -7,4 +7,4 @@ abbrev pub decreases-answer_given : goal.decreases-answer_given
 decreases-answer_given l = goal.size-answer_given l
 
 abbrev pub invariant-loop-part : goal.invariant-loop-part
-invariant-loop-part l = Part l.answers l.spans (policy_meaning l.policy) l.join l.asked (meaning (drop l.part-index l.part-items)) l.next
+invariant-loop-part l = Part l.answers l.spans (policy_meaning l.policy) l.join (meaning l.part-items) l.asked (meaning (drop l.part-index l.part-items)) l.next l.seen

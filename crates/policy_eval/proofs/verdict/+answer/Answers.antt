@@ -1,38 +1,88 @@
 -- The answer of a policy.
 -- For the clause `answers` of `answer`.
-use Rattle.std.proofs.Common.{◌≡◌, ℕ, ◌+◌, ◌≤◌, drop, rules, sym, subst, ◌∙◌, arith}
+use Rattle.std.proofs.Common.{◌≡◌, ℕ, ◌+◌, ◌≤◌, List, [], drop, rules, sym, ap, subst, ◌∙◌, arith}
+use Rattle.std.proofs.lemmas.Grind.{common_steps}
+use Rattle.policy_tree.specs.declared.policy.Policy.{Policy}
 use Rattle.policy_tree.specs.Tree.{Policy as Meant, leaf, rate_limiting, joined, Policies, nodes}
 use Rattle.policy_tree.specs.Meaning.{meaning, policy_meaning}
 use Rattle.policy_tree.specs.declared.policy.PolicyKind.TheFolds.{the_lemmas}
 use Rattle.policy_eval.specs.declared.answer.Answer.{Answer}
+use Rattle.policy_eval.specs.declared.answer.Seen.{Seen}
+use Rattle.policy_eval.specs.Meaning.{answer_of, joined_seen}
 use Rattle.policy_eval.specs.Walks.{Answers}
-use Rattle.policy_eval.proofs.Turns.{Turn, turn-first, turn-more, turn-stop, answers-leaf, answers-rate, part_at, counted_nodes}
+use Rattle.policy_eval.proofs.Turns.{Turn, turn-first, turn-more, turn-stop, turn-last, answers-leaf, answers-rate, part_at, counted_nodes}
 use Rattle.policy_eval.proofs.verdict.+answer.Goals as goal
 
 pub loop-part-init : goal.loop-part-init
 loop-part-init g t c =
+    let S = g.row.L.Denot in
+    let H = g.L.Limiter.has_node in
+    let A = g.L.Limiter.asks in
+    let s0 = c.args.limiter.now in
+    let p = policy_meaning c.args.policy.now in
     let parts = meaning c.as_slice-part-items.result.now in
-    let whole : policy_meaning c.args.policy.now ≡ joined c.in-Joined.join parts = let is = c.in-Joined.is in let items = c.as_slice-part-items.ensures in search (rules, the_lemmas) in
-    turn-first g.row.L.Denot g.L.Limiter.has_node g.L.Limiter.asks c.args.limiter.now (policy_meaning c.args.policy.now) c.in-Joined.join c.args.node c.args.second c.args.spans.now parts whole c.requires.numbers c.requires.known
+    let whole : p ≡ joined c.in-Joined.join parts = let is = c.in-Joined.is in let items = c.as_slice-part-items.ensures in search (rules, the_lemmas) in
+    let P = λ (seen : Seen). Turn S H A s0 p c.in-Joined.join parts c.args.node c.args.second c.args.spans.now s0 parts (c.args.node + 1) seen in
+    subst P (sym c.none-seen.ensures) (turn-first S H A s0 p c.in-Joined.join parts c.args.node c.args.second c.args.spans.now whole c.requires.numbers c.requires.known)
 
 pub loop-part-preserved : goal.loop-part-preserved
 loop-part-preserved g t c =
-    let T = λ (r : Policies). Turn g.row.L.Denot g.L.Limiter.has_node g.L.Limiter.asks c.args.limiter.now (policy_meaning c.args.policy.now) c.in-Joined.join c.args.node c.args.second c.args.spans.now c.loop-part.limiter r c.loop-part.next in
-    let here = part_at T c.as_slice-part-items.result.now c.loop-part.part-index c.part-item.result c.loop-part-test.true c.part-item.is c.loop-part.invariant in
-    let rest = meaning (drop (c.loop-part.part-index + 1) c.as_slice-part-items.result.now) in
+    let S = g.row.L.Denot in
+    let H = g.L.Limiter.has_node in
+    let A = g.L.Limiter.asks in
+    let s0 = c.args.limiter.now in
+    let s = c.loop-part.limiter in
+    let after = c.answer-given.new.limiter in
+    let items = c.as_slice-part-items.result.now in
+    let whole = policy_meaning c.args.policy.now in
+    let join = c.in-Joined.join in
+    let seen = c.loop-part.seen in
+    let next = c.loop-part.next in
+    let T = λ (r : Policies). Turn S H A s0 whole join (meaning items) c.args.node c.args.second c.args.spans.now s r next seen in
+    let here = part_at T items c.loop-part.part-index c.part-item.result c.loop-part-test.true c.part-item.is c.loop-part.invariant in
+    let rest = meaning (drop (c.loop-part.part-index + 1) items) in
     let p = policy_meaning c.part-item.result in
-    let N = λ (k : ℕ). Turn g.row.L.Denot g.L.Limiter.has_node g.L.Limiter.asks c.args.limiter.now (policy_meaning c.args.policy.now) c.in-Joined.join c.args.node c.args.second c.args.spans.now c.answer-given.new.limiter rest (c.loop-part.next + k) in
+    let N = λ (k : ℕ). Turn S H A s0 whole join (meaning items) c.args.node c.args.second c.args.spans.now after rest (next + k) c.with-seen.result in
+    let W = λ (x : Seen). Turn S H A s0 whole join (meaning items) c.args.node c.args.second c.args.spans.now after rest (next + nodes p) x in
     let few : nodes p ≤ 64 = omega (arith, here.counted, here.within) in
     let count : c.count.result ≡ nodes p = c.count.ensures ∙ counted_nodes (nodes p) few in
-    subst N (sym count) (turn-more g.row.L.Denot g.L.Limiter.has_node g.L.Limiter.asks c.args.limiter.now (policy_meaning c.args.policy.now) c.in-Joined.join c.args.node c.args.second c.args.spans.now c.loop-part.limiter c.answer-given.new.limiter p rest c.loop-part.next c.answer-given.result here c.answer-given.ensures.answers c.answer-given.ensures.keeps (sym c.samples.ensures ∙ c.if-not-samples.false))
+    let more = turn-more S H A s0 whole join (meaning items) c.args.node c.args.second c.args.spans.now s after p rest next seen c.answer-given.result here c.answer-given.ensures.answers c.answer-given.ensures.keeps (sym c.ends.ensures ∙ c.if-ends.false) in
+    subst N (sym count) (subst W (sym c.with-seen.ensures) more)
 
-pub returns-then-not-samples-clause-answers : goal.returns-then-not-samples-clause-answers
-returns-then-not-samples-clause-answers g t c =
-    let T = λ (r : Policies). Turn g.row.L.Denot g.L.Limiter.has_node g.L.Limiter.asks c.args.limiter.now (policy_meaning c.args.policy.now) c.in-Joined.join c.args.node c.args.second c.args.spans.now c.loop-part.limiter r c.loop-part.next in
-    let here = part_at T c.as_slice-part-items.result.now c.loop-part.part-index c.part-item.result c.loop-part-test.true c.part-item.is c.loop-part.invariant in
-    let rest = meaning (drop (c.loop-part.part-index + 1) c.as_slice-part-items.result.now) in
-    let P = λ (a : Answer). Answers g.L.Limiter.asks (policy_meaning c.args.policy.now) c.args.node c.args.second c.args.spans.now a c.args.limiter.now c.answer-given.new.limiter in
-    subst P (sym c.joined.ensures) (turn-stop g.row.L.Denot g.L.Limiter.has_node g.L.Limiter.asks c.args.limiter.now (policy_meaning c.args.policy.now) c.in-Joined.join c.args.node c.args.second c.args.spans.now c.loop-part.limiter c.answer-given.new.limiter (policy_meaning c.part-item.result) rest c.loop-part.next c.answer-given.result here c.answer-given.ensures.answers (sym c.samples.ensures ∙ c.if-not-samples.true))
+pub returns-then-ends-clause-answers : goal.returns-then-ends-clause-answers
+returns-then-ends-clause-answers g t c =
+    let S = g.row.L.Denot in
+    let H = g.L.Limiter.has_node in
+    let A = g.L.Limiter.asks in
+    let s0 = c.args.limiter.now in
+    let s = c.loop-part.limiter in
+    let after = c.answer-given.new.limiter in
+    let items = c.as_slice-part-items.result.now in
+    let whole = policy_meaning c.args.policy.now in
+    let join = c.in-Joined.join in
+    let seen = c.loop-part.seen in
+    let next = c.loop-part.next in
+    let T = λ (r : Policies). Turn S H A s0 whole join (meaning items) c.args.node c.args.second c.args.spans.now s r next seen in
+    let here = part_at T items c.loop-part.part-index c.part-item.result c.loop-part-test.true c.part-item.is c.loop-part.invariant in
+    let rest = meaning (drop (c.loop-part.part-index + 1) items) in
+    let P = λ (a : Answer). Answers A whole c.args.node c.args.second c.args.spans.now a s0 after in
+    let stop = turn-stop S H A s0 whole join (meaning items) c.args.node c.args.second c.args.spans.now s after (policy_meaning c.part-item.result) rest next seen c.answer-given.result here c.answer-given.ensures.answers (sym c.ends.ensures ∙ c.if-ends.true) in
+    subst P (sym (c.joined.ensures ∙ ap (λ (x : Seen). answer_of (joined_seen join x)) c.with-seen.ensures)) stop
+
+pub returns-after-loop-part-clause-answers : goal.returns-after-loop-part-clause-answers
+returns-after-loop-part-clause-answers g t c =
+    let S = g.row.L.Denot in
+    let H = g.L.Limiter.has_node in
+    let A = g.L.Limiter.asks in
+    let s0 = c.args.limiter.now in
+    let items = c.as_slice-part-items.result.now in
+    let whole = policy_meaning c.args.policy.now in
+    let join = c.in-Joined.join in
+    let T = λ (ps : List Policy). Turn S H A s0 whole join (meaning items) c.args.node c.args.second c.args.spans.now c.loop-part.limiter (meaning ps) c.loop-part.next c.loop-part.seen in
+    let none : drop c.loop-part.part-index items ≡ [] = grind (arith, common_steps) in
+    let P = λ (a : Answer). Answers A whole c.args.node c.args.second c.args.spans.now a s0 c.loop-part.limiter in
+    let last = turn-last S H A s0 whole join (meaning items) c.args.node c.args.second c.args.spans.now c.loop-part.limiter c.loop-part.next c.loop-part.seen (subst T none c.loop-part.invariant) in
+    subst P (sym c.joined-in-Joined.ensures) last
 
 pub returns-in-RateLimiting-clause-answers : goal.returns-in-RateLimiting-clause-answers
 returns-in-RateLimiting-clause-answers g t c =

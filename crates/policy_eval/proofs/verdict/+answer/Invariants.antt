@@ -8,5 +8,5 @@ decreases-answer g l = goal.size-answer g l
 
 abbrev pub invariant-loop-part : goal.invariant-loop-part
 invariant-loop-part g l =
-    Turn g.row.L.Denot g.L.Limiter.has_node g.L.Limiter.asks l.fn.limiter (policy_meaning l.policy) l.join l.node l.second l.spans
-    l.limiter (meaning (drop l.part-index l.part-items)) l.next
+    Turn g.row.L.Denot g.L.Limiter.has_node g.L.Limiter.asks l.fn.limiter (policy_meaning l.policy) l.join (meaning l.part-items) l.node l.second l.spans
+    l.limiter (meaning (drop l.part-index l.part-items)) l.next l.seen
