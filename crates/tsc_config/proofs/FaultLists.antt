@@ -286,7 +286,7 @@ others_all members =
     (next_row (wanted_fault (value_is.Choice choice_is.OutputFault)) (get_member (codes "output_fault") members) _ _
     (next_row (wanted_fault (value_is.Choice choice_is.DoubleValues)) (get_member (codes "double_values") members) _ _
     (next_row truth_fault (get_member (codes "close_at_end_of_input") members) _ _
-    (last_row text_fault (get_member (codes "admin") members)))))))
+    (last_row text_fault (get_member (codes "admin") members))))))))
 
 -- the rows of some settings and of others
 rows_append : (xs ys : List Setting) (members : Members) → rows_faults (xs ++ ys) members ≡ rows_faults xs members ++ rows_faults ys members
