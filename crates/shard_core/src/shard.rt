@@ -1,5 +1,5 @@
 //! The buffer and the cache of a shard, and how it decides.
-ghost use Rattle.std.specs.Prelude.{◌≡◌, ◌⊎◌, ◌-◌, ◌^◌, min, ℕ, replicate, [], ◌∷◌, ◌++◌, ◌+◌, if◌then◌else◌, ◌<◌, ◌≤◌, max, Bool, IsTrue, IsSome, true, false, length, OnOk, IfOk, position, Some, None};
+ghost use Rattle.std.specs.Prelude.{◌≡◌, ◌⊎◌, ◌-◌, ◌^◌, min, ℕ, replicate, [], ◌∷◌, ◌++◌, ◌+◌, if◌then◌else◌, ◌<◌, ◌≤◌, max, Bool, IsTrue, IsSome, true, false, length, OnOk, IfOk, IsErr, position, Some, None};
 ghost use Rattle.span_ids.specs.declared.outcome.Reason.{Reason};
 ghost use Rattle.span_ids.specs.Same.{same_trace};
 ghost use Rattle.journal_theory.specs.Journal.{Journal, IsAnswered};
@@ -8,7 +8,8 @@ ghost use Rattle.policy_tree.specs.Meaning.{meaning};
 ghost use Rattle.policy_eval.specs.Meaning.{knows};
 ghost use Rattle.journal_theory.specs.Fate.{effect, effect_dealt, released_dealt, dropped_dealt};
 ghost use Rattle.decision_cache.specs.Lists.{empty_lists};
-ghost use Rattle.shard_core.specs.Taking.{Releases, answer_to_late};
+ghost use Rattle.shard_core.specs.Taking.{Releases, answer_to_late, is_kept};
+ghost use Rattle.trace_buffer.specs.Buffer.{Appended, Opened, is_new, opened_by, stands_undecided};
 ghost use Rattle.shard_core.specs.Holding.{KeepsAs, OpensAs, answer_to_append, leaves_forgotten};
 
 use crate::answer::{Decided, Taken};
@@ -185,13 +186,16 @@ impl Shard {
         self.clock = arrival.moment.max(self.clock);
         let trace = ids_of(&arrival).unwrap().trace;
         match self.buffer.find(trace) {
-            Some(State::Undecided) if !has_memory => Taken::Dropped(Reason::NoMemory),
-            Some(State::Undecided) => appended(self.buffer.append(arrival, self.clock)),
+            Some(State::Undecided) => {
+                appended(append(&mut self.buffer, arrival, self.clock, has_memory))
+            }
             Some(State::Decided(verdict)) => late(arrival, verdict),
             None => match self.cache.ask(trace) {
                 Some(verdict) => late(arrival, verdict),
-                None if !has_memory => Taken::Dropped(Reason::NoMemory),
-                None => opened(&mut self.cache, self.buffer.open(arrival, self.clock)),
+                None => opened(
+                    &mut self.cache,
+                    open(&mut self.buffer, arrival, self.clock, has_memory),
+                ),
             },
         }
     }
@@ -272,6 +276,44 @@ fn nothing_held(
     let cache = DecisionCache::new(alloc, setup.hashing, setup.sampled, setup.non_sampled)?;
     let buffer = TraceBuffer::new(alloc, setup.hashing, setup.limit)?;
     Ok((buffer, cache, ends))
+}
+
+/// Appends a span to its trace's episode, if there is memory.
+fn append(
+    buffer: &mut TraceBuffer,
+    arrival: Arrival,
+    clock: Moment,
+    has_memory: bool,
+) -> Result<(), (Arrival, AllocError)>
+    requires { stands_undecided arrival.rec.span.ids buffer.old.episodes ≡ true }
+    ensures appended { Appended buffer.old arrival arrival.rec.span.ids clock result buffer.new }
+    ensures no_memory { has_memory ≡ false → is_kept (answer_to_append result) ≡ false }
+{
+    if has_memory {
+        buffer.append(arrival, clock)
+    } else {
+        Err((arrival, AllocError))
+    }
+}
+
+/// Opens an episode with a span, if there is memory.
+fn open(
+    buffer: &mut TraceBuffer,
+    first: Arrival,
+    clock: Moment,
+    has_memory: bool,
+) -> Result<Option<Evicted>, (Arrival, AllocError)>
+    requires ids { IsSome first.rec.span.ids }
+    requires unknown { is_new first.rec.span.ids buffer.old.episodes ≡ true }
+    requires clock { opened_by clock buffer.old.episodes ≡ true }
+    ensures opened { Opened buffer.old first first.rec.span.ids clock result buffer.new }
+    ensures no_memory { has_memory ≡ false → IsErr result }
+{
+    if has_memory {
+        buffer.open(first, clock)
+    } else {
+        Err((first, AllocError))
+    }
 }
 
 /// What is answered to a late span, by the verdict of its trace.
