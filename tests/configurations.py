@@ -240,6 +240,27 @@ SETTINGS = {
         ('drop_sub_policy = [{ name = "b", type = "not", not = { not_sub_policy = 1 } }]', WRONG_TYPE),
         ("not_sub_policy = []", UNKNOWN_KEY),
     ],
+    "composite": [
+        (f"max_total_spans_per_second = 0, composite_sub_policy = [{ALL}]", TAKEN),
+        (f"max_total_spans_per_second = {WHOLE_TOP}, composite_sub_policy = [{ALL}]", TAKEN),
+        (f"max_total_spans_per_second = -1, composite_sub_policy = [{ALL}]", OUT_OF_RANGE),
+        (f'max_total_spans_per_second = "1", composite_sub_policy = [{ALL}]', WRONG_TYPE),
+        (f"composite_sub_policy = [{ALL}]", MISSING_KEY),
+        ("max_total_spans_per_second = 1", MISSING_KEY),
+        *((f"max_total_spans_per_second = 1, composite_sub_policy = {parts}", fault) for parts, fault in (
+            ("[]", EMPTY_LIST), ("{}", WRONG_TYPE), ("[1]", WRONG_TYPE), (ALL, WRONG_TYPE), (f"[{ALL}, {ALL}]", SAME_NAME), ('[{ name = "", type = "always_sample" }]', TAKEN),
+            ('[{ name = "b", type = "latency", latency = { threshold = 1 } }]', UNKNOWN_KEY))),
+        *((f"max_total_spans_per_second = 1, composite_sub_policy = [{ALL}], {more}", fault) for more, fault in (
+            ('policy_order = ["all"]', TAKEN), ('policy_order = ["other"]', OUT_OF_RANGE), ("policy_order = []", OUT_OF_RANGE), ('policy_order = ["all", "all"]', OUT_OF_RANGE),
+            ("policy_order = [1]", WRONG_TYPE), ('policy_order = "all"', WRONG_TYPE), ("rate_allocation = []", TAKEN), ("rate_allocation = {}", WRONG_TYPE), ("rate_allocation = [1]", WRONG_TYPE),
+            ("and_sub_policy = []", UNKNOWN_KEY), ("max_total = 1", UNKNOWN_KEY))),
+        *((f"max_total_spans_per_second = 1, composite_sub_policy = [{ALL}], rate_allocation = [{{ {share} }}]", fault) for share, fault in (
+            ('policy = "all", percent = 1', TAKEN), ('policy = "all", percent = 100', TAKEN), ('policy = "other", percent = 1', TAKEN), ('policy = "all", percent = 0', OUT_OF_RANGE),
+            ('policy = "all", percent = 101', OUT_OF_RANGE), ('policy = "all", percent = 1.0', WRONG_TYPE), ('policy = "all"', MISSING_KEY), ("percent = 1", MISSING_KEY),
+            ("policy = 1, percent = 1", WRONG_TYPE), ('policy = "all", percent = 1, share = 1', UNKNOWN_KEY))),
+        ('max_total_spans_per_second = 1, policy_order = ["b", "a"], composite_sub_policy = [{ name = "b", type = "always_sample" }, { name = "a", type = "always_sample" }]', TAKEN),
+        ('max_total_spans_per_second = 1, policy_order = ["a", "b"], composite_sub_policy = [{ name = "b", type = "always_sample" }, { name = "a", type = "always_sample" }]', OUT_OF_RANGE),
+    ],
 }
 
 
@@ -292,6 +313,11 @@ def status_policies(count, named, codes):
     return ", ".join(f'{{ name = "{min(n, named)}", type = "status_code", status_code = {{ {settings} }} }}' for n in range(count))
 
 
+def composite(parts):
+    """A composite of these parts; each counts as three policies, and as two levels."""
+    return f'{{ name = "c", type = "composite", composite = {{ max_total_spans_per_second = 1, composite_sub_policy = [{parts}] }} }}'
+
+
 def lists():
     """Lists of policies at their limits, at the top and within `and`s, and faults deep inside."""
     rows = [(0, 0, 1, EMPTY_LIST), (1, 1, 1, TAKEN), (64, 64, 2, TAKEN), (65, 64, 1, TOO_MANY), (65, 0, 0, TOO_MANY), (2, 0, 0, SAME_NAME), (2, 2, 0, NO_VALUES)]
@@ -303,6 +329,8 @@ def lists():
     yield nested(3, status_policies(1, 1, 0)), NO_VALUES
     yield nested(6, f'{{ name = "n", type = "not", not = {{ not_sub_policy = {ALL} }} }}'), TAKEN
     yield nested(7, f'{{ name = "n", type = "not", not = {{ not_sub_policy = {ALL} }} }}'), TOO_DEEP
+    yield from ((composite(status_policies(count, count, 1)), fault) for count, fault in ((21, TAKEN), (22, TOO_MANY)))
+    yield from ((nested(levels, composite(ALL)), fault) for levels, fault in ((5, TAKEN), (6, TOO_DEEP)))
     yield nested(3, '{ name = "a", type = "span_count", span_count = { min_spans = 2, max_spans = 1 } }'), CROSSED_BOUNDS
 
 

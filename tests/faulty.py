@@ -15,7 +15,7 @@ POLICIES = f"policies = [{ALL}]\n"
 EMPTY = "policies: a list of policies is empty (fault 7.1)"
 NO_VALUES = "policies: the values or status codes of a policy are an empty list (fault 7.6)"
 SAME_NAME = "policies: two policies of one list have the same name (fault 7.4)"
-TYPES = "always_sample, latency, status_code, string_attribute, numeric_attribute, boolean_attribute, span_count, rate_limiting, probabilistic, trace_state, trace_flags, and, not, drop"
+TYPES = "always_sample, latency, status_code, string_attribute, numeric_attribute, boolean_attribute, span_count, rate_limiting, probabilistic, trace_state, trace_flags, and, not, drop, composite"
 
 # A name, a text, and its lines; of a text without a fault there is none.
 ROWS = [
@@ -113,6 +113,15 @@ ROWS = [
         "policies[1].not.not_sub_policy: a table is wanted (fault 4)",
         "policies[2].drop: missing (fault 3)",
         EMPTY,
+    ]),
+    ("within composite", 'policies = [{ name = "a", type = "composite", composite = { total = 1, policy_order = ["x", 1], rate_allocation = [{ policy = "x", percent = 0 }, 1, { policy = "x", percent = 3 }],'
+     ' composite_sub_policy = [{ name = "x", type = "always_sample" }] } }]', [
+        "policies[0].composite.total: no such key (fault 2)",
+        "policies[0].composite.max_total_spans_per_second: missing (fault 3)",
+        "policies[0].composite.policy_order[1]: a text is wanted (fault 4)",
+        "policies[0].composite.rate_allocation[0]: a table of policy, a text, and percent, from 1 to 100, is wanted (fault 5)",
+        "policies[0].composite.rate_allocation[1]: a table of policy, a text, and percent, from 1 to 100, is wanted (fault 4)",
+        "policies[0].composite.policy_order: not the names of composite_sub_policy, as they stand there (fault 5)",
     ]),
     ("two of one name", f"lanes = 0\npolicies = [{ALL}, {ALL}]", ["lanes: 0 is not from 1 to 64 (fault 5)", SAME_NAME]),
     ("nothing between bounds", 'policies = [{ name = "a", type = "span_count", span_count = { min_spans = 3, max_spans = 2 } }]', ["policies: the bounds of a policy leave nothing between them (fault 7.5)"]),

@@ -212,6 +212,36 @@ def policies_of_policies(folder):
         one_run(folder, f"policies of policies {number}", kinds, [(one_span, None) for one_span in spans], is_kept)
 
 
+def composite(total, *kinds, **percents):
+    """A composite of parts named a, b and c, with percentages by their names."""
+    tables = ", ".join(policy(name, *of) for name, of in zip("abc", kinds))
+    order = ", ".join(f'"{name}"' for name, _ in zip("abc", kinds))
+    shares = ", ".join(f'{{ policy = "{name}", percent = {percent} }}' for name, percent in percents.items())
+    return "composite", f"max_total_spans_per_second = {total}, policy_order = [{order}], composite_sub_policy = [{tables}], rate_allocation = [{shares}]"
+
+
+def composites(folder):
+    """The first part that samples decides, by its share; a trace of two spans with `env` as `dev`."""
+    never = ("span_count", "min_spans = 9")
+    against = ("string_attribute", 'key = "env", values = ["dev"], invert_match = true')
+    in_favour = ("string_attribute", 'key = "env", values = ["prod"], invert_match = true')
+    one, two = (("rate_limiting", f"spans_per_second = {limit}") for limit in (1, 2))
+    rows = [
+        ([composite(0, ALWAYS)], False), ([composite(1, ALWAYS)], False), ([composite(2, ALWAYS)], True), ([composite(WHOLE_TOP, ALWAYS)], True), ([composite(9, never)], False),
+        ([composite(3, ALWAYS, never)], False), ([composite(4, ALWAYS, never)], True), ([composite(5, ALWAYS, never, never)], False), ([composite(6, ALWAYS, never, never)], True),
+        ([composite(4, ALWAYS, a=50)], True), ([composite(4, ALWAYS, a=49)], False), ([composite(200, ALWAYS, a=1)], True), ([composite(199, ALWAYS, a=1)], False), ([composite(2, ALWAYS, a=100)], True),
+        ([composite(WHOLE_TOP, ALWAYS, a=100)], True), ([composite(4, never, ALWAYS, a=100)], True), ([composite(3, never, ALWAYS, a=100)], False), ([composite(100, ALWAYS, ALWAYS, a=1)], False),
+        ([composite(100, never, ALWAYS, a=99, b=2)], True), ([composite(100, never, ALWAYS, a=99, b=1)], False), ([composite(1, ALWAYS), ALWAYS], True), ([composite(2, ALWAYS), against], False),
+        ([composite(2, in_favour)], True), ([composite(9, against)], False), ([composite(9, against, ALWAYS)], True), ([composite(4, one, two)], True), ([composite(2, one, two)], False),
+        ([composite(9, joined("drop", ALWAYS))], False), ([composite(9, joined("drop", ALWAYS), ALWAYS)], True), ([composite(9, composite(1, ALWAYS), ALWAYS)], True), ([composite(4, composite(2, ALWAYS))], True),
+        ([joined("not", composite(1, ALWAYS))], True), ([joined("not", composite(2, ALWAYS))], False), ([joined("and", ALWAYS, composite(2, ALWAYS))], True), ([joined("drop", composite(2, ALWAYS)), ALWAYS], False),
+        ([joined("drop", composite(1, ALWAYS)), ALWAYS], True), ([in_favour, composite(1, ALWAYS)], False),
+    ]  # fmt: skip
+    for number, (kinds, is_kept) in enumerate(rows):
+        spans = [(span(n, attributes=[attribute("env", stringValue="dev")]), None) for n in (1, 2)]
+        one_run(folder, f"composite {number}", kinds, spans, is_kept)
+
+
 def first_matches(folder):
     """The first policy that samples or drops ends the asking, and what was answered up to it decides; a trace of two spans with `env` as `dev`."""
     never = ("span_count", "min_spans = 9")
@@ -231,5 +261,5 @@ def first_matches(folder):
 
 
 if __name__ == "__main__":
-    for write in (latencies, times_at_the_top, status_codes, span_counts, rates, attributes, percentages, trace_states, trace_flags, policies_together, policies_of_policies, first_matches):
+    for write in (latencies, times_at_the_top, status_codes, span_counts, rates, attributes, percentages, trace_states, trace_flags, policies_together, policies_of_policies, composites, first_matches):
         write(sys.argv[1])

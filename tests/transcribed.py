@@ -113,6 +113,15 @@ def made_of(kind, *parts):
     return kind, f"{kind}_sub_policy = " + (tables[0] if kind == "not" else f"[{', '.join(tables)}]")
 
 
+def composite(total, percents, *parts):
+    """A composite in the order of its parts; the first ones have these percentages."""
+    names = [f"test-composite-policy-{number}" for number in range(1, len(parts) + 1)]
+    order = ", ".join(f'"{name}"' for name in names)
+    tables = ", ".join(policy(name, *part) for name, part in zip(names, parts))
+    shares = ", ".join(f'{{ policy = "{name}", percent = {percent} }}' for name, percent in zip(names, percents))
+    return "composite", f"max_total_spans_per_second = {total}, policy_order = [{order}], composite_sub_policy = [{tables}], rate_allocation = [{shares}]"
+
+
 AND = made_of("and", FIFTY_TO_HUNDRED, TWO_VALUES)
 DROP_PROBES = made_of("drop", LIVE)
 BACKWARDS = made_of("and", OTHERS, ALWAYS)
@@ -191,8 +200,24 @@ ROWS = [
         (EVERY - {5, 7, 10}) | (chosen(5 * 10**4) & {7}) | {10},
     ),
     ("a practical example that keeps the rest", [BACKWARDS, made_of("and", TEAM_A, SLOW), made_of("and", TEAM_A, made_of("not", LIVE), ALWAYS)], EVERY - {7}),
-    # What its composite orders: a number first, then two values, then all, without their shares.
+    # Its composite: a number first, then two values, then all; and the same with shares of 5, 2 and 3 spans a second.
     ("the parts of a composite", [FROM_FIFTY, TWO_VALUES, ALWAYS], EVERY),
+    ("the composite", [composite(1000, (50, 25), FROM_FIFTY, TWO_VALUES, ALWAYS)], EVERY),
+    ("the composite of 10 spans", [composite(10, (50, 25), FROM_FIFTY, TWO_VALUES, ALWAYS)], {1, 2, 4, 5, 10}),
+    # Errors have 2 spans a second, and so do the others: 1 and 3 of one span each.
+    ("a composite of errors and all", [composite(4, (50,), ERROR, ALWAYS)], {1, 2, 3}),
+    ("errors beside a limit", [ERROR, rate(3)], {1, 2, 10}),
+]
+
+# The same with `sample_on_first_match: true`.
+FIRST_ROWS = [
+    # Errors ask no limiter, so 1, 3 and 5 are let through.
+    ("errors before a limit", [ERROR, rate(3)], {1, 2, 3, 5, 10}),
+    ("all before an inverted attribute", [ALWAYS, NO_HEALTH], EVERY),
+    ("all behind an inverted attribute", [NO_HEALTH, ALWAYS], EVERY - {7}),
+    ("all before a drop", [ALWAYS, DROP_PROBES], EVERY),
+    ("all behind a drop", [DROP_PROBES, ALWAYS], EVERY - {7}),
+    ("errors behind an inverted attribute", [NO_HEALTH, ERROR], {2, 10}),
 ]
 
 
@@ -201,10 +226,11 @@ def main(folder):
     resource_spans = [
         dict({"resource": {"attributes": resource}} if resource else {}, scopeSpans=[{"spans": [one]}]) for spans in TRACES.values() for one, resource in spans
     ]
-    for name, kinds, kept in ROWS:
+    rows = [("transcribed", {}, *row) for row in ROWS] + [("first match of", {"sample_on_first_match": "true"}, *row) for row in FIRST_ROWS]
+    for what, more, name, kinds, kept in rows:
         tables = ",\n    ".join(policy(f"test-policy-{number}", *kind) for number, kind in enumerate(kinds, 1))
-        settings = {"decision_wait_ms": 10000, "num_traces": 100, "decision_cache": "{ sampled_cache_size = 100000, non_sampled_cache_size = 100000 }"}
-        run = Run(folder, f"transcribed {name}", settings, f"policies = [\n    {tables},\n]\n", lambda records, kept=kept: int(records[0][2]["traceId"], 16) in kept)
+        settings = {"decision_wait_ms": 10000, "num_traces": 100, "decision_cache": "{ sampled_cache_size = 100000, non_sampled_cache_size = 100000 }", **more}
+        run = Run(folder, f"{what} {name}", settings, f"policies = [\n    {tables},\n]\n", lambda records, kept=kept: int(records[0][2]["traceId"], 16) in kept)
         run.receive(1, resource_spans)
         run.finish()
 

@@ -6,6 +6,7 @@ use Rattle.toml.specs.Data.{Data, string, integer, float, boolean, array, table,
 use Rattle.tsc_config.proofs.FaultSets.{least_is_one}
 use Rattle.policy_tree.specs.declared.policy.Join.{Join}
 use Rattle.policy_tree.specs.declared.policy.Join.TheVariants as join_is
+use Rattle.tsc_config.specs.Composites.{is_ordered}
 use Rattle.tsc_config.specs.Percentages.{percentage_of}
 use Rattle.tsc_config.specs.Keys.{ChoiceRow, choice_row, has_unknown_key, type_name, type_at, type_of, code_of, join_type, join_name, sub_key, join_at}
 use Rattle.tsc_config.specs.Faults.{config_fault_number, least, optional, required, unknown_fault, integer_fault, whole_fault, truth_fault, text_fault, choice_fault, type_fault, code_fault, percentage_fault, named_fault, items_fault, array_fault, item_fault, wanted_fault, each_setting_fault}
@@ -111,9 +112,23 @@ arrays : (f : Data → Option ConfigFault) → ((value : Data) → IsSmall (f va
 arrays f each (array items) = all_items f each items
 arrays f each _ = wrong
 
+allocations : (value : Data) → IsSmall (spec.allocation_fault value)
+allocations (table members) =
+    both _ _ (unknown table_is.Allocation members)
+    (both _ _ (requiredly text_fault texts (get_member (codes "policy") members)) (requiredly (integer_fault (pos 1) (pos 100)) (integers (pos 1) (pos 100)) (get_member (codes "percent") members)))
+allocations _ = wrong
+
+order : (join : Join) (members : Members) → IsSmall (spec.order_fault join members)
+order join_is.FirstMatch members = either (is_ordered (get_member (codes "policy_order") members) (get_member (codes "composite_sub_policy") members)) _ _ none (only OutOfRange (omega arith))
+order join_is.And members = none
+order join_is.Not members = none
+order join_is.Drop members = none
+order join_is.Share members = none
+
 items : (kind : ItemKind) (value : Data) → IsSmall (item_fault kind value)
 items item_is.Text value = texts value
 items item_is.StatusCode value = status_codes value
+items item_is.Allocation value = allocations value
 
 values : (kind : ValueKind) (value : Data) → IsSmall (wanted_fault kind value)
 values (value_is.Integer lowest greatest) value = integers lowest greatest value
@@ -142,6 +157,7 @@ settings_at type_is.TraceFlags _ nested n = none
 settings_at type_is.And _ nested n = n
 settings_at type_is.Not _ nested n = n
 settings_at type_is.Drop _ nested n = n
+settings_at type_is.Composite _ nested n = n
 settings_at kind members nested n = requiredly (spec.settings_fault kind) (settings kind) (get_member (type_name kind) members)
 
 typed : (found : Option PolicyType) (members : Members) (nested : Option ConfigFault) → IsSmall nested → IsSmall (spec.typed_fault_where found members nested)
@@ -172,7 +188,8 @@ mutual
   parts join (member key value rest) = either (bytes_eq key (join_name join)) _ _ (parts_settings join value) (parts join rest)
 
   parts_settings : (join : Join) (value : Data) → IsSmall (spec.parts_settings_fault join value)
-  parts_settings join (table members) = both _ _ (unknown (table_is.Settings (join_type join)) members) (sub_policies join members)
+  parts_settings join (table members) =
+      both _ _ (unknown (table_is.Settings (join_type join)) members) (both _ _ (each (spec_settings (join_type join)) members) (both _ _ (order join members) (sub_policies join members)))
   parts_settings join _ = wrong
 
   sub_policies : (join : Join) (members : Members) → IsSmall (spec.sub_policies_fault join members)
@@ -183,6 +200,7 @@ mutual
   sub_value join_is.And (array items) = policy_items items
   sub_value join_is.Not (table members) = policy_table members (spec.parts_fault (join_at members) members) (parts (join_at members) members)
   sub_value join_is.Drop (array items) = policy_items items
+  sub_value join_is.FirstMatch (array items) = policy_items items
   sub_value _ _ = wrong
 
 sizes : (greatest : ℤ) (at : Option Data) (least_number : ℤ) → IsSmall (optional (integer_fault least_number greatest) at)

@@ -12,7 +12,7 @@ use Rattle.policy_tree.specs.declared.fault.PolicyFault.{PolicyFault}
 use Rattle.policy_tree.specs.declared.policy.Join.{Join}
 use Rattle.policy_tree.specs.declared.policy.Join.TheVariants as join_is
 use Rattle.tsc_config.specs.Keys.{has_unknown_key, is_key, type_name, type_at, join_type, join_name, sub_key, join_at}
-use Rattle.tsc_config.specs.Faults.{optional, required, unknown_fault, integer_fault, text_fault, truth_fault, type_fault, item_fault, wanted_fault, twice_fault}
+use Rattle.tsc_config.specs.Faults.{optional, required, unknown_fault, integer_fault, text_fault, truth_fault, type_fault, item_fault, wanted_fault, order_fault, twice_fault}
 use Rattle.tsc_config.specs.FaultSets.{IsLeastOf, OptionalHas, RequiredHas, SomeItemHas, ValueHas, KeyHas, SomeSettingHas, RowsHave, SettingsHave, SettingsAtHave, TypedHas, PolicyTableHas, PoliciesHave, SomePolicyHas, PolicyHas, PartsHave, PartsSettingsHave, SubPoliciesHave, SubValueHas, CacheHas, NumbersHave, SizesHave, ChoicesHave, HasFault, DocumentHas, TextHas}
 use Rattle.tsc_config.specs.FaultLists as spec
 use Rattle.tsc_config.specs.FaultLists.{faults_in, ListsAll, listed, unknown_faults, items_faults, value_faults, optional_faults, required_faults, setting_faults, rows_faults, settings_faults, head_settings, is_joined, typed_faults, own_faults, policy_table_faults, number_settings, size_settings, other_settings, top_settings, cache_settings, table_faults, of_policies, given_faults, document_faults, text_faults}
@@ -171,6 +171,7 @@ typed_all (Some kind) members Nested nested n =
     of type_is.And = n
     of type_is.Not = n
     of type_is.Drop = n
+    of type_is.Composite = n
     of k =
         ended (RequiredHas (SettingsHave k) (get_member (type_name k) members)) (required_faults (settings_faults (table_is.Settings k) (settings k)) (get_member (type_name k) members))
         (required_all (SettingsHave k) (settings_faults (table_is.Settings k) (settings k)) (settings_all k) (get_member (type_name k) members))
@@ -212,7 +213,10 @@ mutual
 
   parts_settings_all : (join : Join) (value : Data) → ListsAll (PartsSettingsHave join value) (spec.parts_settings_faults join value)
   parts_settings_all join (table members) =
-      both (λ fault. unknown_fault (table_is.Settings (join_type join)) members ≡ Some fault) (SubPoliciesHave join members) _ _ (unknown_all (table_is.Settings (join_type join)) members) (sub_policies_all join members)
+      both (λ fault. unknown_fault (table_is.Settings (join_type join)) members ≡ Some fault)
+      (λ fault. RowsHave (join_type join) members fault ⊎ ((order_fault join members ≡ Some fault) ⊎ SubPoliciesHave join members fault)) _ _ (unknown_all (table_is.Settings (join_type join)) members)
+      (both (RowsHave (join_type join) members) (λ fault. (order_fault join members ≡ Some fault) ⊎ SubPoliciesHave join members fault) _ _ (rows_all (settings (join_type join)) members)
+      (both (λ fault. order_fault join members ≡ Some fault) (SubPoliciesHave join members) _ _ (row (order_fault join members)) (sub_policies_all join members)))
   parts_settings_all join _ = one WrongType
 
   sub_policies_all : (join : Join) (members : Members) → ListsAll (SubPoliciesHave join members) (spec.sub_policies_faults join members)
@@ -225,6 +229,7 @@ mutual
   sub_value_all join_is.Not (table members) =
       policy_table_all members (PartsHave (join_at members) members) (spec.parts_faults (join_at members) members) (parts_all (join_at members) members)
   sub_value_all join_is.Drop (array items) = policy_items_all items
+  sub_value_all join_is.FirstMatch (array items) = policy_items_all items
   sub_value_all _ _ = one WrongType
 
 -- ---- the whole text

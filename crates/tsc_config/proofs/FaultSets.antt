@@ -7,7 +7,7 @@ use Rattle.toml.specs.Data.{Data, array, table, Items, no_items, item, Members, 
 use Rattle.policy_tree.specs.declared.policy.Join.{Join}
 use Rattle.policy_tree.specs.declared.policy.Join.TheVariants as join_is
 use Rattle.tsc_config.specs.Keys.{type_name, type_at, join_type, join_name, sub_key, join_at}
-use Rattle.tsc_config.specs.Faults.{config_fault_number, least, optional, required, unknown_fault, integer_fault, text_fault, truth_fault, type_fault, items_fault, array_fault, item_fault, wanted_fault, each_setting_fault, twice_fault}
+use Rattle.tsc_config.specs.Faults.{config_fault_number, least, optional, required, unknown_fault, integer_fault, text_fault, truth_fault, type_fault, items_fault, array_fault, item_fault, wanted_fault, each_setting_fault, order_fault, twice_fault}
 use Rattle.tsc_config.specs.Faults as spec
 use Rattle.tsc_config.specs.FaultSets.{IsLeastOf, OptionalHas, RequiredHas, SomeItemHas, ArrayHas, ValueHas, KeyHas, SomeSettingHas, RowsHave, SettingsHave, SettingsAtHave, TypedHas, PolicyTableHas, PoliciesHave, SomePolicyHas, PolicyHas, PartsHave, PartsSettingsHave, SubPoliciesHave, SubValueHas, CacheHas, NumbersHave, SizesHave, ChoicesHave, HasFault}
 use Rattle.tsc_config.specs.PolicySettings.{Setting, settings}
@@ -138,6 +138,7 @@ settings_at_least type_is.TraceFlags members Nested nested n = none
 settings_at_least type_is.And members Nested nested n = n
 settings_at_least type_is.Not members Nested nested n = n
 settings_at_least type_is.Drop members Nested nested n = n
+settings_at_least type_is.Composite members Nested nested n = n
 settings_at_least kind members Nested nested n = required_least (SettingsHave kind) (spec.settings_fault kind) (settings_least kind) (get_member (type_name kind) members)
 
 typed_least : (found : Option PolicyType) (members : Members) (Nested : ConfigFault → Type 0) (nested : Option ConfigFault) → IsLeastOf Nested nested → IsLeastOf (TypedHas found members Nested) (spec.typed_fault_where found members nested)
@@ -174,7 +175,10 @@ mutual
 
   parts_settings_least : (join : Join) (value : Data) → IsLeastOf (PartsSettingsHave join value) (spec.parts_settings_fault join value)
   parts_settings_least join (table members) =
-      both (λ fault. unknown_fault (table_is.Settings (join_type join)) members ≡ Some fault) (SubPoliciesHave join members) _ _ (row _) (sub_policies_least join members)
+      both (λ fault. unknown_fault (table_is.Settings (join_type join)) members ≡ Some fault)
+      (λ fault. RowsHave (join_type join) members fault ⊎ ((order_fault join members ≡ Some fault) ⊎ SubPoliciesHave join members fault)) _ _ (row _)
+      (both (RowsHave (join_type join) members) (λ fault. (order_fault join members ≡ Some fault) ⊎ SubPoliciesHave join members fault) _ _ (each_least (settings (join_type join)) members)
+      (both (λ fault. order_fault join members ≡ Some fault) (SubPoliciesHave join members) _ _ (row _) (sub_policies_least join members)))
   parts_settings_least join _ = alone WrongType
 
   sub_policies_least : (join : Join) (members : Members) → IsLeastOf (SubPoliciesHave join members) (spec.sub_policies_fault join members)
@@ -187,6 +191,7 @@ mutual
   sub_value_least join_is.Not (table members) =
       policy_table_least members (PartsHave (join_at members) members) (spec.parts_fault (join_at members) members) (parts_least (join_at members) members)
   sub_value_least join_is.Drop (array items) = policy_items_least items
+  sub_value_least join_is.FirstMatch (array items) = policy_items_least items
   sub_value_least _ _ = alone WrongType
 
 cache_least : (value : Data) → IsLeastOf (CacheHas value) (spec.cache_fault value)

@@ -9,3 +9,4 @@ mod Rows
 mod Settings
 mod SettingKeys
 mod PolicyKeys
+pub mod Shares

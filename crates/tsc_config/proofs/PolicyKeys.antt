@@ -1,6 +1,6 @@
 -- Each policy has what stands at the keys of its table.
 -- For `policies_are_of_their_keys`.
-use Rattle.std.proofs.Common.{◌≡◌, ℕ, ◌+◌, pos, negsuc, zero, suc, Bool, true, false, ◌⊎◌, inl, inr, refl, ap, sym, subst, ◌∙◌, arith, codes, List, [], ◌∷◌, length, slice_get, Option, None, Some, if◌then◌else◌, Ordering, Less, Equal, Greater}
+use Rattle.std.proofs.Common.{◌≡◌, ℕ, ◌+◌, pos, negsuc, zero, suc, Bool, true, false, ◌⊎◌, inl, inr, refl, ap, sym, subst, ◌∙◌, arith, codes, List, [], ◌∷◌, map, length, slice_get, Option, None, Some, if◌then◌else◌, Ordering, Less, Equal, Greater}
 use Rattle.std.proofs.lemmas.Slice.Eq.{bytes_eq-Decides}
 use Rattle.std.proofs.lemmas.Map.Text.{is_eq-slice_cmp}
 use Rattle.std.specs.Str.{bytes_eq}
@@ -21,11 +21,12 @@ use Rattle.tsc_config.proofs.Settings.{neither, natural, truth, table_parts, rea
 use Rattle.policy_tree.specs.declared.policy.Join.{Join}
 use Rattle.policy_tree.specs.declared.policy.Join.TheVariants as join_is
 use Rattle.tsc_config.specs.Keys.{type_name, type_named, type_found, type_at, join_type, join_name, sub_key, join_of, join_at}
-use Rattle.tsc_config.specs.Faults.{optional, required, unknown_fault, natural_fault, text_fault, named_fault, array_fault, type_fault, percentage_fault, truth_fault, whole_fault, code_fault, rows_fault, settings_fault, settings_at_fault, typed_fault_where, policy_table_fault, policy_fault, policy_items_fault, policies_fault, typed_fault, parts_fault, parts_settings_fault, sub_policies_fault, sub_value_fault, table_fault, least}
-use Rattle.tsc_config.specs.Values.{found_before, natural_of, truth_of, attribute, leaf_in, kind_in, always, kind_by, kind_typed, policy_of, item_policies, policies_of, parts_policies, parts_settings, sub_policies, sub_value, policy_value, config_of}
-use Rattle.tsc_config.specs.PolicyKeys.{IsText, count_items, IsNatural, IsNaturalOrZero, IsTyped, IsWanted, IsLeaf, IsLayer, IsKind, IsPolicy, ArePartsAt, items_of, part_items, settings_items, nested_items, value_at, parts_in, parts_of, parts_at, policy_at, HasPolicies, HasMatched, ReadsPolicies}
+use Rattle.tsc_config.specs.Composites.{is_ordered}
+use Rattle.tsc_config.specs.Faults.{optional, required, order_fault, allocation_fault, unknown_fault, natural_fault, text_fault, named_fault, array_fault, type_fault, percentage_fault, truth_fault, whole_fault, code_fault, rows_fault, settings_fault, settings_at_fault, typed_fault_where, policy_table_fault, policy_fault, policy_items_fault, policies_fault, typed_fault, parts_fault, parts_settings_fault, sub_policies_fault, sub_value_fault, table_fault, least}
+use Rattle.tsc_config.specs.Values.{found_before, natural_of, items_at, share_limit, percent_among, limiter_beside, within_share, composite_of, truth_of, attribute, leaf_in, kind_in, always, kind_by, kind_typed, policy_of, item_policies, policies_of, parts_policies, parts_settings, sub_policies, sub_value, policy_value, config_of}
+use Rattle.tsc_config.specs.PolicyKeys.{IsText, IsComposite, first_in, unshared, count_items, IsNatural, IsNaturalOrZero, IsTyped, IsWanted, IsLeaf, IsLayer, IsKind, IsPolicy, ArePartsAt, items_of, part_items, settings_items, nested_items, value_at, parts_in, parts_of, parts_at, policy_at, HasPolicies, HasMatched, ReadsPolicies}
 use Rattle.tsc_config.specs.declared.fault.ConfigFault.{ConfigFault}
-use Rattle.tsc_config.specs.declared.fault.ConfigFault.TheVariants.{MissingKey}
+use Rattle.tsc_config.specs.declared.fault.ConfigFault.TheVariants.{MissingKey, OutOfRange}
 use Rattle.tsc_config.specs.declared.kinds.PolicyType.{PolicyType}
 use Rattle.tsc_config.specs.declared.kinds.PolicyType.TheVariants as type_is
 use Rattle.tsc_config.specs.declared.kinds.TableKind.TheVariants as table_is
@@ -142,8 +143,9 @@ parts_here join_is.Not None f = absurd (cc f)
 parts_here join_is.And (Some _) f = absurd (cc f)
 parts_here join_is.Drop (Some _) f = absurd (cc f)
 parts_here join_is.Not (Some _) f = absurd (cc f)
+parts_here join_is.FirstMatch (Some (array items)) f = record { parts = refl; sound = f; counted = (items, refl, as_many items f) }
 parts_here join_is.FirstMatch None f = absurd (cc f)
-parts_here join_is.FirstMatch (Some value) f = absurd (cc f)
+parts_here join_is.FirstMatch (Some _) f = absurd (cc f)
 parts_here join_is.Share None f = absurd (cc f)
 parts_here join_is.Share (Some value) f = absurd (cc f)
 
@@ -155,6 +157,8 @@ Nested join members = record {
   parts : parts_policies join members ≡ item_policies (part_items join (get_member (sub_key join) settings));
   sound : policy_items_fault (part_items join (get_member (sub_key join) settings)) ≡ None;
   counted : ArePartsAt join (get_member (sub_key join) settings) (parts_policies join members);
+  rows : rows_fault (join_type join) settings ≡ None;
+  ordered : order_fault join settings ≡ None;
 }
 
 nested : (join : Join) (members : Members) → parts_fault join members ≡ None → Nested join members
@@ -162,12 +166,14 @@ nested join members e = at_name (get_member (join_name join) members) refl (sym 
   where
     at_name : (at : Option Data) → get_member (join_name join) members ≡ at → looked (Some MissingKey) (parts_settings_fault join) at ≡ None → Nested join members
     at_name (Some (table settings)) a f =
-        let h = parts_here join (get_member (sub_key join) settings)
-        (sym (sub_fault_found join settings) ∙ (neither (unknown_fault (table_is.Settings (join_type join)) settings) (sub_policies_fault join settings) f).1) in
+        let known = (neither (unknown_fault (table_is.Settings (join_type join)) settings) (least (rows_fault (join_type join) settings) (least (order_fault join settings) (sub_policies_fault join settings))) f).1 in
+        let rows = neither (rows_fault (join_type join) settings) (least (order_fault join settings) (sub_policies_fault join settings)) known in
+        let order = neither (order_fault join settings) (sub_policies_fault join settings) rows.1 in
+        let h = parts_here join (get_member (sub_key join) settings) (sym (sub_fault_found join settings) ∙ order.1) in
         let same : parts_policies join members ≡ looked [] (sub_value join) (get_member (sub_key join) settings)
         = parts_found join members ∙ ap (looked [] (parts_settings join)) a ∙ sub_found join settings in
         let P : List Policy → Type 0 = λ ps. ArePartsAt join (get_member (sub_key join) settings) ps in
-        record { settings = settings; at_name = a; parts = same ∙ h.parts; sound = h.sound; counted = subst P (sym same) h.counted }
+        record { settings = settings; at_name = a; parts = same ∙ h.parts; sound = h.sound; counted = subst P (sym same) h.counted; rows = rows.0; ordered = order.0 }
     at_name None a f = absurd (cc f)
     at_name (Some _) a f = absurd (cc f)
 
@@ -192,12 +198,47 @@ always_by (Some _) = refl
 is_leaf : (members : Members) (leaf : Leaf) → IsLeaf members leaf → IsKind members (kind_is.Leaf leaf)
 is_leaf members leaf h = is_layer members _ (PolicyKind-F.Leaf leaf) (rolls-Leaf leaf) h
 
--- a policy that is made of others
-is_joined : (join : Join) (members : Members) → IsText members (codes "type") (join_name join) → parts_fault join members ≡ None → IsKind members (kind_is.Joined join (parts_policies join members))
-is_joined join members named e =
+-- a policy that is made of others, and isn't a composite
+abbrev IsSimple : Join → Type 0
+IsSimple join_is.FirstMatch = ⊥
+IsSimple _ = Unit {0}
+
+simple_layer : (join : Join) (members : Members) (parts : List Policy) → IsSimple join → (settings : Members) × IsTyped members (join_name join) settings × ArePartsAt join (get_member (sub_key join) settings) parts → IsLayer members (PolicyKind-F.Joined join parts)
+simple_layer join_is.And members parts s h = h
+simple_layer join_is.Not members parts s h = h
+simple_layer join_is.Drop members parts s h = h
+simple_layer join_is.Share members parts s h = h
+simple_layer join_is.FirstMatch members parts s h = absurd s
+
+is_joined : (join : Join) (members : Members) → IsSimple join → IsText members (codes "type") (join_name join) → parts_fault join members ≡ None → IsKind members (kind_is.Joined join (parts_policies join members))
+is_joined join members s named e =
     let n = nested join members e in
     is_layer members _ (PolicyKind-F.Joined join (parts_policies join members)) (rolls-Joined join (parts_policies join members))
-    (n.settings, record { typed = named; at_name = n.at_name }, n.counted)
+    (simple_layer join members (parts_policies join members) s (n.settings, record { typed = named; at_name = n.at_name }, n.counted))
+
+-- a composite: its settings give the total and the shares
+is_composite : (members : Members) → IsText members (codes "type") (codes "composite") → parts_fault join_is.FirstMatch members ≡ None
+    → IsKind members (kind_is.Joined join_is.FirstMatch (composite_of (get_member (codes "composite") members) (parts_policies join_is.FirstMatch members)))
+is_composite members named e =
+    let n = nested join_is.FirstMatch members e in
+    let parts = parts_policies join_is.FirstMatch members in
+    let rows = three (required natural_fault (get_member (codes "max_total_spans_per_second") n.settings)) (optional (array_fault text_fault) (get_member (codes "policy_order") n.settings))
+    (optional (array_fault allocation_fault) (get_member (codes "rate_allocation") n.settings)) n.rows in
+    let layer : IsComposite members (composite_of (get_member (codes "composite") members) parts) = record {
+      settings = n.settings;
+      typed = record { typed = named; at_name = n.at_name };
+      given = parts;
+      at_parts = n.counted;
+      at_order = allowed (is_ordered (get_member (codes "policy_order") n.settings) (get_member (codes "composite_sub_policy") n.settings)) n.ordered;
+      total = natural_of (get_member (codes "max_total_spans_per_second") n.settings);
+      at_total = natural_keys (get_member (codes "max_total_spans_per_second") n.settings) rows.0;
+      are = ap (λ (at : Option Data). composite_of at parts) n.at_name;
+    } in
+    is_layer members _ (PolicyKind-F.Joined join_is.FirstMatch (composite_of (get_member (codes "composite") members) parts)) (rolls-Joined join_is.FirstMatch (composite_of (get_member (codes "composite") members) parts)) layer
+  where
+    allowed : (r : Bool) → (if r then None else Some OutOfRange) ≡ None → r ≡ true
+    allowed true f = refl
+    allowed false f = absurd (cc f)
 
 abbrev parts : PolicyType → Members → List Policy
 parts kind members = parts_policies (join_of (Some kind)) members
@@ -207,9 +248,10 @@ kind_keys : (kind : PolicyType) (members : Members) → IsText members (codes "t
 unfolding leaf_in
 kind_keys type_is.AlwaysSample members named e = let P : PolicyKind → Type 0 = λ k. IsKind members k in
     subst P (sym (always_by (get_member (codes "always_sample") members))) (is_leaf members leaf_is.AlwaysSample named)
-kind_keys type_is.And members named e = is_joined join_is.And members named e
-kind_keys type_is.Not members named e = is_joined join_is.Not members named e
-kind_keys type_is.Drop members named e = is_joined join_is.Drop members named e
+kind_keys type_is.And members named e = is_joined join_is.And members tt named e
+kind_keys type_is.Not members named e = is_joined join_is.Not members tt named e
+kind_keys type_is.Drop members named e = is_joined join_is.Drop members tt named e
+kind_keys type_is.Composite members named e = is_composite members named e
 kind_keys type_is.Latency members named e = by_settings type_is.Latency members
     (λ settings typed f. let n = two_naturals settings (codes "threshold_ms") (codes "upper_threshold_ms") f in is_leaf members _ (settings, typed, n.0, n.1)) named e
 kind_keys type_is.StatusCode members named e = by_settings type_is.StatusCode members
@@ -309,19 +351,50 @@ abbrev HasParts : Option PolicyType → Members → PolicyKind → Type 0
 HasParts found members kind =
     (parts_of kind ≡ []) ⊎ ((parts_fault (join_of found) members ≡ None) × (parts_of kind ≡ parts_policies (join_of found) members))
 
-joined_parts : (kind : PolicyType) (join : Join) (members : Members) → typed_fault (kind) members (parts_fault join members) ≡ None → settings_at_fault kind members (parts_fault join members) ≡ parts_fault join members
+-- the parts within their shares are those that were given
+unshared_are : (total count : ℕ) (allocations : Items) (parts : List Policy) → unshared (map (within_share total count allocations) parts) ≡ parts
+unshared_are total count allocations [] = refl
+unshared_are total count allocations (part ∷ rest) =
+    let limiter = limiter_beside (share_limit total count (percent_among part.name allocations)) part.name in
+    let inner = part ∷ limiter ∷ [] in
+    let others = unshared (map (within_share total count allocations) rest) in
+    let same : out-PolicyKind (kind_is.Joined join_is.Share inner) ≡ PolicyKind-F.Joined join_is.Share inner
+    = sym (ap out-PolicyKind (rolls-Joined join_is.Share inner)) ∙ out-roll-PolicyKind (PolicyKind-F.Joined join_is.Share inner) in
+    ap (λ (layer : PolicyKind-F PolicyKind Policy). first_in layer others) same ∙ ap (λ (ps : List Policy). part ∷ ps) (unshared_are total count allocations rest)
+
+composite_parts : (members : Members) → typed_fault type_is.Composite members (parts_fault join_is.FirstMatch members) ≡ None
+    → (parts_fault join_is.FirstMatch members ≡ None) × (parts_of (kind_is.Joined join_is.FirstMatch (composite_of (get_member (codes "composite") members) (parts_policies join_is.FirstMatch members))) ≡ parts_policies join_is.FirstMatch members)
+composite_parts members e =
+    let f = (neither (unknown_fault (table_is.Policy type_is.Composite) members) (settings_at_fault type_is.Composite members (parts_fault join_is.FirstMatch members)) e).1 in
+    let n = nested join_is.FirstMatch members f in
+    let parts = parts_policies join_is.FirstMatch members in
+    let shares = composite_of (get_member (codes "composite") members) parts in (
+      f,
+      parts_are _ (PolicyKind-F.Joined join_is.FirstMatch shares) (rolls-Joined join_is.FirstMatch shares) ∙ ap (λ (at : Option Data). unshared (composite_of at parts)) n.at_name
+          ∙ unshared_are (natural_of (get_member (codes "max_total_spans_per_second") n.settings)) (length parts) (items_at (get_member (codes "rate_allocation") n.settings)) parts,
+    )
+
+joined_parts : (kind : PolicyType) (join : Join) (members : Members) → IsSimple join → typed_fault (kind) members (parts_fault join members) ≡ None → settings_at_fault kind members (parts_fault join members) ≡ parts_fault join members
     → (parts_fault join members ≡ None) × (parts_of (kind_is.Joined join (parts_policies join members)) ≡ parts_policies join members)
-joined_parts kind join members e same = (
+joined_parts kind join members s e same = (
   sym same ∙ (neither (unknown_fault (table_is.Policy kind) members) (settings_at_fault kind members (parts_fault join members)) e).1,
-  parts_are _ (PolicyKind-F.Joined join (parts_policies join members)) (rolls-Joined join (parts_policies join members)),
+  parts_are _ (PolicyKind-F.Joined join (parts_policies join members)) (rolls-Joined join (parts_policies join members)) ∙ simple_parts join (parts_policies join members) s,
 )
+  where
+    simple_parts : (j : Join) (parts : List Policy) → IsSimple j → parts_in (PolicyKind-F.Joined j parts) ≡ parts
+    simple_parts join_is.And parts s = refl
+    simple_parts join_is.Not parts s = refl
+    simple_parts join_is.Drop parts s = refl
+    simple_parts join_is.Share parts s = refl
+    simple_parts join_is.FirstMatch parts s = absurd s
 
 parts_typed : (found : Option PolicyType) (members : Members) → typed_fault_where found members (parts_fault (join_of found) members) ≡ None
     → HasParts found members (kind_typed found members (parts_policies (join_of found) members))
 parts_typed None members e = inl (none_in leaf_is.AlwaysSample)
-parts_typed (Some type_is.And) members e = inr (joined_parts type_is.And join_is.And members e refl)
-parts_typed (Some type_is.Not) members e = inr (joined_parts type_is.Not join_is.Not members e refl)
-parts_typed (Some type_is.Drop) members e = inr (joined_parts type_is.Drop join_is.Drop members e refl)
+parts_typed (Some type_is.And) members e = inr (joined_parts type_is.And join_is.And members tt e refl)
+parts_typed (Some type_is.Not) members e = inr (joined_parts type_is.Not join_is.Not members tt e refl)
+parts_typed (Some type_is.Drop) members e = inr (joined_parts type_is.Drop join_is.Drop members tt e refl)
+parts_typed (Some type_is.Composite) members e = inr (composite_parts members e)
 parts_typed (Some type_is.TraceFlags) members e = inl (none_in leaf_is.TraceFlags)
 parts_typed (Some kind) members e = inl (no_parts kind (get_member (type_name kind) members))
 

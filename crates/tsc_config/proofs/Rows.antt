@@ -3,14 +3,15 @@
 use Rattle.std.specs.Prelude.{◌≡◌, ℕ, ℤ, pos, negsuc, Bool, true, false, List, [], ◌∷◌, map, length, codes, Option, Some, None, refl}
 use lib.Ieee.{to_unsigned, of_int, mul, div, eq}
 use Rattle.std.specs.Float.{Float, nan, inf, fin, round_with}
-use Rattle.toml.specs.Data.{string, integer, boolean, array, table, no_items, Members, no_members, member}
+use Rattle.toml.specs.Data.{Data, string, integer, boolean, array, table, Items, no_items, item, Members, no_members, member}
 use Rattle.tsc_config.specs.Keys.{is_key, is_setting, all_types, type_name, type_named}
 use Rattle.tsc_config.specs.Faults.{least, config_fault_number, numbers_fault, sizes_fault, choices_fault, cache_fault, rows_fault, twice_fault}
 use Rattle.tsc_config.specs.declared.kinds.PolicyType.{PolicyType}
 use Rattle.tsc_config.specs.declared.kinds.PolicyType.TheVariants as type_is
 use Rattle.tsc_config.specs.declared.kinds.TableKind.TheVariants as table_is
 use Rattle.tsc_config.specs.Percentages.{ten_thousandths, percentage_of}
-use Rattle.tsc_config.specs.Values.{config_of, salt_by}
+use Rattle.tsc_config.specs.Composites.{is_order}
+use Rattle.tsc_config.specs.Values.{config_of, salt_by, share_limit, percent_among}
 use Rattle.tsc_config.specs.declared.config.Config.{Config}
 use Rattle.tsc_config.specs.declared.fault.ConfigFault.{ConfigFault}
 use Rattle.tsc_config.specs.declared.fault.ConfigFault.TheVariants.{NotToml, UnknownKey, MissingKey, WrongType, OutOfRange, TooFewTraces, NoMemory}
@@ -121,6 +122,30 @@ listens_by_default : (config_of no_members).listen ≡ codes "127.0.0.1:4318"
 listens_by_default = refl
 
 -- gzip is taken only where the key says so
+-- ten spans a second: one of three equal shares, a quarter, and all; and one share of none
+shares : map (share_limit 10 3) (None ∷ Some 25 ∷ Some 100 ∷ []) ≡ 3 ∷ 2 ∷ 10 ∷ []
+shares = refl
+
+shares_of_none : share_limit 10 0 None ≡ 10
+shares_of_none = refl
+
+-- two items on one part, of which the first counts, and one beyond 100 percent
+abbrev allocation : (name : List ℕ) → (percent : ℕ) → Data
+allocation name percent = table (member (codes "policy") (string name) (member (codes "percent") (integer (pos percent)) no_members))
+
+percentages_of_parts : map (λ (name : List ℕ). percent_among name (item (allocation (codes "a") 50) (item (allocation (codes "a") 40) (item (allocation (codes "b") 101) no_items)))) (codes "a" ∷ codes "b" ∷ codes "c" ∷ []) ≡ Some 50 ∷ None ∷ None ∷ []
+percentages_of_parts = refl
+
+-- the names of two parts: in their order, in the other, and of one alone
+abbrev named : List ℕ → Data
+named name = table (member (codes "name") (string name) no_members)
+
+abbrev two_parts : Items
+two_parts = item (named (codes "a")) (item (named (codes "b")) no_items)
+
+orders : map (λ (order : Items). is_order order two_parts) (item (string (codes "a")) (item (string (codes "b")) no_items) ∷ item (string (codes "b")) (item (string (codes "a")) no_items) ∷ item (string (codes "a")) no_items ∷ no_items ∷ []) ≡ true ∷ false ∷ false ∷ false ∷ []
+orders = refl
+
 -- with `sample_on_first_match` one policy stands for the others
 one_for_all : map (λ (first : Bool). length (config_of (member (codes "sample_on_first_match") (boolean first) (member (codes "policies") (array no_items) no_members))).policies) (true ∷ false ∷ []) ≡ 1 ∷ 0 ∷ []
 one_for_all = refl
@@ -233,6 +258,7 @@ own =
     ∷ record { kind = type_is.And; keys = codes "and_sub_policy" ∷ []; other = codes "policies" }
     ∷ record { kind = type_is.Not; keys = codes "not_sub_policy" ∷ []; other = codes "and_sub_policy" }
     ∷ record { kind = type_is.Drop; keys = codes "drop_sub_policy" ∷ []; other = codes "not_sub_policy" }
+    ∷ record { kind = type_is.Composite; keys = codes "max_total_spans_per_second" ∷ codes "policy_order" ∷ codes "rate_allocation" ∷ codes "composite_sub_policy" ∷ []; other = codes "spans_per_second" }
     ∷ []
 
 own_settings : map (λ (o : Own). map (is_setting o.kind) o.keys) own ≡ map (λ (o : Own). map (λ key. true) o.keys) own
@@ -243,7 +269,7 @@ other_keys = refl
 
 -- where a policy has no settings, a key is missing of each type that has a required one
 missing_settings : map (λ (kind : PolicyType). rows_fault kind no_members) all_types
-    ≡ None ∷ Some MissingKey ∷ Some MissingKey ∷ Some MissingKey ∷ Some MissingKey ∷ Some MissingKey ∷ Some MissingKey ∷ Some MissingKey ∷ Some MissingKey ∷ Some MissingKey ∷ None ∷ None ∷ None ∷ None ∷ []
+    ≡ None ∷ Some MissingKey ∷ Some MissingKey ∷ Some MissingKey ∷ Some MissingKey ∷ Some MissingKey ∷ Some MissingKey ∷ Some MissingKey ∷ Some MissingKey ∷ Some MissingKey ∷ None ∷ None ∷ None ∷ None ∷ Some MissingKey ∷ []
 missing_settings = refl
 
 -- each type by its name

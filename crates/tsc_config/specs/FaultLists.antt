@@ -10,7 +10,7 @@ use Rattle.policy_tree.specs.declared.policy.Join.{Join}
 use Rattle.policy_tree.specs.declared.policy.Join.TheVariants as join_is
 use Rattle.tsc_config.specs.PolicySettings.{Setting, required, optional, settings}
 use Rattle.tsc_config.specs.Keys.{number_row, choice_row, is_key, type_name, type_at, join_type, join_name, sub_key, join_at}
-use Rattle.tsc_config.specs.Faults.{item_fault, wanted_fault, twice_fault}
+use Rattle.tsc_config.specs.Faults.{item_fault, wanted_fault, order_fault, twice_fault}
 use Rattle.tsc_config.specs.Values.{config_of}
 use Rattle.tsc_config.specs.declared.config.Config.{Config}
 use Rattle.tsc_config.specs.declared.fault.ConfigFault.{ConfigFault}
@@ -87,6 +87,7 @@ abbrev pub is_joined : Option PolicyType → Bool
 is_joined (Some type_is.And) = true
 is_joined (Some type_is.Not) = true
 is_joined (Some type_is.Drop) = true
+is_joined (Some type_is.Composite) = true
 is_joined _ = false
 
 -- those of the settings of a policy table of this type, where it isn't made of others
@@ -96,6 +97,7 @@ own_faults type_is.TraceFlags _ = []
 own_faults type_is.And _ = []
 own_faults type_is.Not _ = []
 own_faults type_is.Drop _ = []
+own_faults type_is.Composite _ = []
 own_faults kind members = required_faults (settings_faults (table_is.Settings kind) (settings kind)) (get_member (type_name kind) members)
 
 -- those of a policy table beside `name`, `type` and the policies that it is made of: only where its type is known
@@ -134,7 +136,8 @@ abbrev mutual
 
   -- the settings of such a policy are wanted
   pub parts_settings_faults : Join → Data → List ConfigFault
-  parts_settings_faults join (table members) = unknown_faults (table_is.Settings (join_type join)) members ++ sub_policies_faults join members
+  parts_settings_faults join (table members) =
+      unknown_faults (table_is.Settings (join_type join)) members ++ (rows_faults (settings (join_type join)) members ++ (listed (order_fault join members) ++ sub_policies_faults join members))
   parts_settings_faults join _ = WrongType ∷ []
 
   -- in its settings the policies that are joined are wanted
@@ -147,6 +150,7 @@ abbrev mutual
   sub_value_faults join_is.And (array items) = policy_items_faults items
   sub_value_faults join_is.Not (table members) = policy_table_faults members (parts_faults (join_at members) members)
   sub_value_faults join_is.Drop (array items) = policy_items_faults items
+  sub_value_faults join_is.FirstMatch (array items) = policy_items_faults items
   sub_value_faults _ _ = WrongType ∷ []
 
 -- ---- the whole text

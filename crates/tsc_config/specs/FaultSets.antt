@@ -8,7 +8,7 @@ use Rattle.policy_tree.specs.declared.fault.PolicyFault.{PolicyFault}
 use Rattle.policy_tree.specs.declared.policy.Join.{Join}
 use Rattle.policy_tree.specs.declared.policy.Join.TheVariants as join_is
 use Rattle.tsc_config.specs.Keys.{type_name, type_at, join_type, join_name, sub_key, join_at}
-use Rattle.tsc_config.specs.Faults.{config_fault_number, optional, required, unknown_fault, integer_fault, text_fault, truth_fault, choice_fault, type_fault, item_fault, wanted_fault, twice_fault}
+use Rattle.tsc_config.specs.Faults.{config_fault_number, optional, required, unknown_fault, integer_fault, text_fault, truth_fault, choice_fault, type_fault, item_fault, wanted_fault, order_fault, twice_fault}
 use Rattle.tsc_config.specs.PolicySettings.{Setting, settings}
 use Rattle.tsc_config.specs.declared.policy_settings.ValueKind.{ValueKind}
 use Rattle.tsc_config.specs.declared.policy_settings.ValueKind.TheVariants as value_is
@@ -77,6 +77,7 @@ SettingsAtHave type_is.TraceFlags _ Nested fault = ⊥
 SettingsAtHave type_is.And _ Nested fault = Nested fault
 SettingsAtHave type_is.Not _ Nested fault = Nested fault
 SettingsAtHave type_is.Drop _ Nested fault = Nested fault
+SettingsAtHave type_is.Composite _ Nested fault = Nested fault
 SettingsAtHave kind members Nested fault = RequiredHas (SettingsHave kind) (get_member (type_name kind) members) fault
 
 -- a policy table has this fault beside `name` and `type`: only where its type is known
@@ -115,7 +116,9 @@ abbrev mutual
 
   -- the settings of such a policy have this fault
   pub PartsSettingsHave : Join → Data → ConfigFault → Type 0
-  PartsSettingsHave join (table members) fault = (unknown_fault (table_is.Settings (join_type join)) members ≡ Some fault) ⊎ SubPoliciesHave join members fault
+  PartsSettingsHave join (table members) fault =
+      (unknown_fault (table_is.Settings (join_type join)) members ≡ Some fault)
+      ⊎ (RowsHave (join_type join) members fault ⊎ ((order_fault join members ≡ Some fault) ⊎ SubPoliciesHave join members fault))
   PartsSettingsHave join _ fault = fault ≡ WrongType
 
   -- the policies that are joined have this fault
@@ -129,6 +132,7 @@ abbrev mutual
   SubValueHas join_is.And (array items) fault = SomePolicyHas items fault
   SubValueHas join_is.Not (table members) fault = PolicyTableHas members (PartsHave (join_at members) members) fault
   SubValueHas join_is.Drop (array items) fault = SomePolicyHas items fault
+  SubValueHas join_is.FirstMatch (array items) fault = SomePolicyHas items fault
   SubValueHas _ _ fault = fault ≡ WrongType
 
 -- the table of the caches of decisions has this fault

@@ -4,6 +4,7 @@ use Rattle.std.specs.Option.{is_some}
 use Rattle.std.specs.Str.{bytes_eq}
 use Rattle.toml.specs.Data.{Data, string, integer, float, boolean, array, table, Items, no_items, item, Members, no_members, member, get_member}
 use Rattle.tsc_config.specs.PolicySettings.{Setting, settings}
+use Rattle.tsc_config.specs.Composites.{is_ordered}
 use Rattle.tsc_config.specs.Percentages.{percentage_of}
 use Rattle.tsc_config.specs.Keys.{NumberRow, number_row, ChoiceRow, choice_row, has_unknown_key, type_name, type_of, type_at, code_of, join_type, join_name, sub_key, join_at}
 use Rattle.policy_tree.specs.declared.policy.Join.{Join}
@@ -120,10 +121,18 @@ percentage_fault (integer number) = named_fault (percentage_of (integer number))
 percentage_fault (float number) = named_fault (percentage_of (float number))
 percentage_fault _ = Some WrongType
 
+-- the share of a part of a composite is wanted: a table of its name and a percentage
+abbrev pub allocation_fault : Data → Option ConfigFault
+allocation_fault (table members) =
+    least (unknown_fault table_is.Allocation members)
+    (least (required text_fault (get_member (codes "policy") members)) (required (integer_fault (pos 1) (pos 100)) (get_member (codes "percent") members)))
+allocation_fault _ = Some WrongType
+
 -- what is wanted of an item
 abbrev pub item_fault : ItemKind → Data → Option ConfigFault
 item_fault item_is.Text = text_fault
 item_fault item_is.StatusCode = code_fault
+item_fault item_is.Allocation = allocation_fault
 
 -- what is wanted of a value
 abbrev pub wanted_fault : ValueKind → Data → Option ConfigFault
@@ -162,6 +171,7 @@ settings_at_fault type_is.TraceFlags _ nested = None
 settings_at_fault type_is.And _ nested = nested
 settings_at_fault type_is.Not _ nested = nested
 settings_at_fault type_is.Drop _ nested = nested
+settings_at_fault type_is.Composite _ nested = nested
 settings_at_fault kind members nested = required (settings_fault kind) (get_member (type_name kind) members)
 
 -- the rows of a policy table of a known type, beside `name` and `type`
@@ -179,6 +189,11 @@ policy_table_fault members nested =
     least (least (required text_fault (get_member (codes "name") members))
     (required type_fault (get_member (codes "type") members)))
     (typed_fault_where (type_at members) members nested)
+
+-- where a composite has an order it is wanted to name the parts, as they stand there
+abbrev pub order_fault : Join → Members → Option ConfigFault
+order_fault join_is.FirstMatch members = if is_ordered (get_member (codes "policy_order") members) (get_member (codes "composite_sub_policy") members) then None else Some OutOfRange
+order_fault _ _ = None
 
 abbrev mutual
   -- an array of policy tables is wanted
@@ -203,7 +218,8 @@ abbrev mutual
 
   -- the settings of such a policy are wanted
   pub parts_settings_fault : Join → Data → Option ConfigFault
-  parts_settings_fault join (table members) = least (unknown_fault (table_is.Settings (join_type join)) members) (sub_policies_fault join members)
+  parts_settings_fault join (table members) =
+      least (unknown_fault (table_is.Settings (join_type join)) members) (least (rows_fault (join_type join) members) (least (order_fault join members) (sub_policies_fault join members)))
   parts_settings_fault join _ = Some WrongType
 
   -- in its settings the policies that are joined are wanted
@@ -216,6 +232,7 @@ abbrev mutual
   sub_value_fault join_is.And (array items) = policy_items_fault items
   sub_value_fault join_is.Not (table members) = policy_table_fault members (parts_fault (join_at members) members)
   sub_value_fault join_is.Drop (array items) = policy_items_fault items
+  sub_value_fault join_is.FirstMatch (array items) = policy_items_fault items
   sub_value_fault _ _ = Some WrongType
 
 -- the sizes of the caches of decisions are wanted

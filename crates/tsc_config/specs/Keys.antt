@@ -66,6 +66,7 @@ type_name type_is.TraceFlags = codes "trace_flags"
 type_name type_is.And = codes "and"
 type_name type_is.Not = codes "not"
 type_name type_is.Drop = codes "drop"
+type_name type_is.Composite = codes "composite"
 
 -- a policy of this type has settings
 abbrev pub has_settings : PolicyType → Bool
@@ -78,6 +79,7 @@ abbrev pub is_sub_key : PolicyType → List ℕ → Bool
 is_sub_key type_is.And key = bytes_eq key (codes "and_sub_policy")
 is_sub_key type_is.Not key = bytes_eq key (codes "not_sub_policy")
 is_sub_key type_is.Drop key = bytes_eq key (codes "drop_sub_policy")
+is_sub_key type_is.Composite key = bytes_eq key (codes "composite_sub_policy")
 is_sub_key _ key = false
 
 -- one of these settings has this key
@@ -103,6 +105,7 @@ is_key table_is.Config key =
 is_key table_is.DecisionCache key = bytes_eq key (codes "sampled_cache_size") || bytes_eq key (codes "non_sampled_cache_size")
 is_key (table_is.Policy kind) key = bytes_eq key (codes "name") || bytes_eq key (codes "type") || has_settings kind && bytes_eq key (type_name kind)
 is_key (table_is.Settings kind) key = is_setting kind key
+is_key table_is.Allocation key = bytes_eq key (codes "policy") || bytes_eq key (codes "percent")
 
 -- some key isn't one of the keys of a table of this kind
 abbrev pub has_unknown_key : TableKind → Members → Bool
@@ -113,7 +116,7 @@ has_unknown_key kind (member key value rest) = not (is_key kind key) || has_unkn
 abbrev pub all_types : List PolicyType
 all_types =
     type_is.AlwaysSample ∷ type_is.Latency ∷ type_is.StatusCode ∷ type_is.StringAttribute ∷ type_is.NumericAttribute ∷ type_is.BooleanAttribute ∷ type_is.SpanCount
-    ∷ type_is.RateLimiting ∷ type_is.Probabilistic ∷ type_is.TraceState ∷ type_is.TraceFlags ∷ type_is.And ∷ type_is.Not ∷ type_is.Drop ∷ []
+    ∷ type_is.RateLimiting ∷ type_is.Probabilistic ∷ type_is.TraceState ∷ type_is.TraceFlags ∷ type_is.And ∷ type_is.Not ∷ type_is.Drop ∷ type_is.Composite ∷ []
 
 -- the first of these types that a text names
 abbrev pub type_among : List PolicyType → List ℕ → Option PolicyType
@@ -144,7 +147,7 @@ abbrev pub join_type : Join → PolicyType
 join_type join_is.And = type_is.And
 join_type join_is.Not = type_is.Not
 join_type join_is.Drop = type_is.Drop
-join_type join_is.FirstMatch = type_is.And
+join_type join_is.FirstMatch = type_is.Composite
 join_type join_is.Share = type_is.And
 
 -- its name, which is also the key of its settings
@@ -156,13 +159,14 @@ abbrev pub sub_key : Join → List ℕ
 sub_key join_is.And = codes "and_sub_policy"
 sub_key join_is.Not = codes "not_sub_policy"
 sub_key join_is.Drop = codes "drop_sub_policy"
-sub_key join_is.FirstMatch = codes "and_sub_policy"
+sub_key join_is.FirstMatch = codes "composite_sub_policy"
 sub_key join_is.Share = codes "and_sub_policy"
 
 -- how the policies of a type are joined; of a type that isn't made of others this says nothing that counts
 abbrev pub join_of : Option PolicyType → Join
 join_of (Some type_is.Not) = join_is.Not
 join_of (Some type_is.Drop) = join_is.Drop
+join_of (Some type_is.Composite) = join_is.FirstMatch
 join_of _ = join_is.And
 
 -- how those of a policy table are

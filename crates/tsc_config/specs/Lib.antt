@@ -1,8 +1,9 @@
--- To be read in this order: Percentages, PolicySettings, Keys, Faults, Values, Reading (what a text is read as); Settings and PolicyKeys (of each key, without the reading); FaultSets (for provers); FaultLists (all faults of a text).
+-- To be read in this order: Percentages, PolicySettings, Keys, Composites, Faults, Values, Reading (what a text is read as); Settings and PolicyKeys (of each key, without the reading); FaultSets (for provers); FaultLists (all faults of a text).
 pub mod FaultSets
 pub mod FaultLists
 pub mod Faults
 pub mod Percentages
+pub mod Composites
 pub mod PolicySettings
 pub mod Keys
 pub mod Reading

@@ -1,5 +1,5 @@
 -- What each policy has from its table, key by key, for each type of policy: what stands at the key, or the key's default.
-use Rattle.std.specs.Prelude.{◌≡◌, ℕ, ◌+◌, ◌*◌, ◌≤◌, ℤ, pos, negsuc, Bool, true, false, List, [], ◌∷◌, length, slice_get, ◌⊎◌, codes, Option, Some, None, Ok}
+use Rattle.std.specs.Prelude.{◌≡◌, ℕ, ◌+◌, ◌*◌, ◌≤◌, ℤ, pos, negsuc, Bool, true, false, List, [], ◌∷◌, map, length, slice_get, ◌⊎◌, codes, Option, Some, None, Ok}
 use Rattle.std.specs.Float.{Float}
 use lib.Ieee.{eq}
 use Rattle.toml.specs.Data.{Data, string, integer, float, boolean, array, table, Items, no_items, item, Members, get_member, get_item}
@@ -17,7 +17,8 @@ use Rattle.tsc_config.specs.Keys.{join_name, sub_key, join_at}
 use Rattle.tsc_config.specs.Percentages.{over_ten_thousand}
 use Rattle.tsc_config.specs.Reading.{reading}
 use Rattle.tsc_config.specs.Settings.{IsNumberAt}
-use Rattle.tsc_config.specs.Values.{matched}
+use Rattle.tsc_config.specs.Composites.{is_ordered}
+use Rattle.tsc_config.specs.Values.{matched, items_at, within_share}
 use Rattle.tsc_config.specs.declared.config.Config.{Config}
 
 -- ---- one key
@@ -133,11 +134,23 @@ abbrev pub ArePartsAt : Join → Option Data → (parts : List Policy) → Type 
 ArePartsAt join_is.Not at parts = (value : Data) × (at ≡ Some value) × (length parts ≡ 1)
 ArePartsAt _ at parts = (items : Items) × (at ≡ Some (array items)) × (length parts ≡ count_items items)
 
+-- the parts of a composite are as many as the items of an array, whose names its order has, if it has one; each stands within its share of the total
+pub record IsComposite (members : Members) (parts : List Policy) : Type 0 where
+  pub settings : Members
+  pub typed : IsTyped members (codes "composite") settings
+  pub given : List Policy
+  pub at_parts : ArePartsAt join_is.FirstMatch (get_member (codes "composite_sub_policy") settings) given
+  pub at_order : is_ordered (get_member (codes "policy_order") settings) (get_member (codes "composite_sub_policy") settings) ≡ true
+  pub total : ℕ
+  pub at_total : IsNatural settings (codes "max_total_spans_per_second") total
+  pub are : parts ≡ map (within_share total (length given) (items_at (get_member (codes "rate_allocation") settings))) given
+
 -- what a policy samples, by the keys of its table
 abbrev pub IsLayer : Members → PolicyKind-F PolicyKind Policy → Type 0
 IsLayer members (PolicyKind-F.Leaf leaf) = IsLeaf members leaf
 IsLayer members (PolicyKind-F.RateLimiting limit) =
     (settings : Members) × IsTyped members (codes "rate_limiting") settings × IsNatural settings (codes "spans_per_second") limit
+IsLayer members (PolicyKind-F.Joined join_is.FirstMatch parts) = IsComposite members parts
 IsLayer members (PolicyKind-F.Joined join parts) =
     (settings : Members) × IsTyped members (join_name join) settings × ArePartsAt join (get_member (sub_key join) settings) parts
 
@@ -178,8 +191,19 @@ abbrev pub value_at : Items → (place : ℕ) → (deeper : List ℕ) → Option
 value_at items place [] = get_item place items
 value_at items place (next ∷ deeper) = value_at (nested_items (get_item place items)) next deeper
 
--- the policies inside a policy
+-- the first policy that this layer is made of, before others
+abbrev pub first_in : PolicyKind-F PolicyKind Policy → List Policy → List Policy
+first_in (PolicyKind-F.Joined join (first ∷ _)) rest = first ∷ rest
+first_in _ rest = rest
+
+-- the parts within their shares: each is the first policy that its share is made of
+abbrev pub unshared : List Policy → List Policy
+unshared [] = []
+unshared (share ∷ rest) = first_in (out-PolicyKind share.kind) (unshared rest)
+
+-- the policies inside a policy; of a composite those within its shares
 abbrev pub parts_in : PolicyKind-F PolicyKind Policy → List Policy
+parts_in (PolicyKind-F.Joined join_is.FirstMatch parts) = unshared parts
 parts_in (PolicyKind-F.Joined join parts) = parts
 parts_in _ = []
 

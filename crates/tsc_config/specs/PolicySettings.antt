@@ -41,4 +41,9 @@ settings type_is.SpanCount = required (codes "min_spans") natural ∷ optional (
 settings type_is.RateLimiting = required (codes "spans_per_second") natural ∷ []
 settings type_is.Probabilistic = optional (codes "hash_salt") value_is.Text ∷ required (codes "sampling_percentage") value_is.Percentage ∷ []
 settings type_is.TraceState = required (codes "key") value_is.Text ∷ required (codes "values") (value_is.Array item_is.Text) ∷ []
+settings type_is.Composite = required (codes "max_total_spans_per_second") natural ∷ optional (codes "policy_order") (value_is.Array item_is.Text) ∷ optional (codes "rate_allocation") (value_is.Array item_is.Allocation) ∷ []
 settings _ = []
+
+-- those of the share of a part of a composite
+abbrev pub allocation_settings : List Setting
+allocation_settings = required (codes "policy") value_is.Text ∷ required (codes "percent") (value_is.Integer (pos 1) (pos 100)) ∷ []

@@ -1,5 +1,5 @@
 -- What the table of a configuration gives. Of a table with a fault this says nothing that counts.
-use Rattle.std.specs.Prelude.{suc, ℕ, ℤ, pos, negsuc, Bool, true, false, List, [], ◌∷◌, codes, Option, Some, None, option_and_then, if◌then◌else◌, nat_lt, ◌<◌, ◌≤◌}
+use Rattle.std.specs.Prelude.{suc, ℕ, ℤ, pos, negsuc, Bool, true, false, List, [], ◌∷◌, codes, Option, Some, None, option_and_then, if◌then◌else◌, nat_lt, nat_le, ◌&&◌, ◌*◌, ◌/◌, max, map, length, ◌<◌, ◌≤◌}
 use Rattle.std.specs.Option.{unwrap_or}
 use Rattle.std.specs.Str.{bytes_eq}
 use Rattle.toml.specs.Data.{Data, as_str, as_array, string, integer, boolean, array, table, Items, no_items, item, Members, no_members, member, get_member}
@@ -12,6 +12,7 @@ use Rattle.policy_tree.specs.declared.policy.Leaf.{Leaf}
 use Rattle.policy_tree.specs.declared.policy.Leaf.TheVariants as leaf_is
 use Rattle.policy_tree.specs.declared.policy.Wanted.{Wanted}
 use Rattle.policy_tree.specs.declared.policy.Wanted.TheVariants.{StringAmong, NumberWithin, Boolean}
+use Rattle.tsc_config.specs.Composites.{is_text}
 use Rattle.tsc_config.specs.Percentages.{percentage_of}
 use Rattle.tsc_config.specs.Keys.{NumberRow, number_row, ChoiceRow, choice_row, type_name, type_at, code_of, join_name, sub_key, join_at}
 use Rattle.tsc_config.specs.declared.kinds.ChoiceKey.TheVariants as choice_is
@@ -174,12 +175,62 @@ abbrev pub kind_by : PolicyType → Option Data → PolicyKind
 kind_by kind None = always
 kind_by kind (Some value) = kind_of kind value
 
+-- a percentage from 1 to 100
+abbrev pub percent_value : Option Data → Option ℕ
+percent_value (Some (integer (pos number))) = if nat_le 1 number && nat_le number 100 then Some number else None
+percent_value _ = None
+
+-- the percentage of the part of that name, by the item that tells it
+abbrev pub percent_by : (name : List ℕ) → Data → Option ℕ
+percent_by name (table members) = if is_text name (get_member (codes "policy") members) then percent_value (get_member (codes "percent") members) else None
+percent_by name _ = None
+
+-- the first of two, where it is there
+abbrev pub first_percent : Option ℕ → Option ℕ → Option ℕ
+first_percent None second = second
+first_percent (Some percent) second = Some percent
+
+-- by the first of these items that tells it
+abbrev pub percent_among : (name : List ℕ) → Items → Option ℕ
+percent_among name no_items = None
+percent_among name (item value rest) = first_percent (percent_by name value) (percent_among name rest)
+
+-- a percentage of the total, rounded down, or one of so many equal shares
+abbrev pub share_limit : (total count : ℕ) → (percent : Option ℕ) → ℕ
+share_limit total count None = total / max count 1
+share_limit total count (Some percent) = total * percent / 100
+
+-- a name for a limiter beside a policy, which isn't that policy's
+abbrev pub beside : (name : List ℕ) → List ℕ
+beside [] = codes "limit"
+beside (first ∷ rest) = []
+
+-- the limiter of a part
+abbrev pub limiter_beside : (limit : ℕ) → (name : List ℕ) → Policy
+limiter_beside limit name = record { name = beside name; kind = kind_is.RateLimiting limit }
+
+-- a part, one of so many, within its share of the total in spans per second
+abbrev pub within_share : (total count : ℕ) → (allocations : Items) → Policy → Policy
+within_share total count allocations part =
+    record { name = part.name; kind = kind_is.Joined join_is.Share (part ∷ limiter_beside (share_limit total count (percent_among part.name allocations)) part.name ∷ []) }
+
+-- the parts of a composite with these settings, each within its share
+abbrev pub shares_of : Members → List Policy → List Policy
+shares_of settings parts =
+    map (within_share (natural_of (get_member (codes "max_total_spans_per_second") settings)) (length parts) (items_at (get_member (codes "rate_allocation") settings))) parts
+
+-- the same by the value at the key of its settings
+abbrev pub composite_of : Option Data → List Policy → List Policy
+composite_of (Some (table settings)) parts = shares_of settings parts
+composite_of _ parts = []
+
 -- what a policy of this type samples, with these policies where it is made of others
 abbrev pub kind_typed : Option PolicyType → Members → (nested : List Policy) → PolicyKind
 kind_typed None _ nested = always
 kind_typed (Some type_is.And) _ nested = kind_is.Joined join_is.And nested
 kind_typed (Some type_is.Not) _ nested = kind_is.Joined join_is.Not nested
 kind_typed (Some type_is.Drop) _ nested = kind_is.Joined join_is.Drop nested
+kind_typed (Some type_is.Composite) members nested = kind_is.Joined join_is.FirstMatch (composite_of (get_member (codes "composite") members) nested)
 kind_typed (Some type_is.TraceFlags) _ nested = kind_is.Leaf leaf_is.TraceFlags
 kind_typed (Some kind) members nested = kind_by kind (get_member (type_name kind) members)
 
@@ -223,6 +274,7 @@ abbrev mutual
   sub_value join_is.And (array items) = item_policies items
   sub_value join_is.Not (table members) = policy_of members (parts_policies (join_at members) members) ∷ []
   sub_value join_is.Drop (array items) = item_policies items
+  sub_value join_is.FirstMatch (array items) = item_policies items
   sub_value _ _ = []
 
 -- the policies of the array at a key

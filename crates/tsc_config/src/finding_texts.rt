@@ -130,8 +130,20 @@ pub fn item_text(
             let item = shown(alloc, item)?;
             format!(in alloc; "{place}: {item} is none of OK, ERROR, UNSET")
         }
+        (ItemKind::Allocation, _) => wrong_text(
+            alloc,
+            place,
+            "a table of policy, a text, and percent, from 1 to 100,",
+        ),
         _ => wrong_text(alloc, place, "a text"),
     }
+}
+
+/// The text that the order of a composite is another one than that of its parts.
+pub fn order_text(alloc: Global, place: &str) -> Result<String, AllocError> {
+    format!(in alloc;
+        "{place}.policy_order: not the names of composite_sub_policy, as they stand there"
+    )
 }
 
 /// What is said of policies that have this fault.

@@ -13,9 +13,10 @@ pub fn join_type(join: Join) -> PolicyType
     ensures { result ≡ spec.join_type join }
 {
     match join {
-        Join::And | Join::FirstMatch | Join::Share => PolicyType::And,
+        Join::And | Join::Share => PolicyType::And,
         Join::Not => PolicyType::Not,
         Join::Drop => PolicyType::Drop,
+        Join::FirstMatch => PolicyType::Composite,
     }
 }
 
@@ -24,9 +25,10 @@ pub fn sub_key(join: Join) -> &'static str
     ensures { result.now ≡ spec.sub_key join }
 {
     match join {
-        Join::And | Join::FirstMatch | Join::Share => "and_sub_policy",
+        Join::And | Join::Share => "and_sub_policy",
         Join::Not => "not_sub_policy",
         Join::Drop => "drop_sub_policy",
+        Join::FirstMatch => "composite_sub_policy",
     }
 }
 
@@ -37,6 +39,7 @@ pub fn join_at(table: &Table) -> Join
     match type_at(table) {
         Some(PolicyType::Not) => Join::Not,
         Some(PolicyType::Drop) => Join::Drop,
+        Some(PolicyType::Composite) => Join::FirstMatch,
         _ => Join::And,
     }
 }

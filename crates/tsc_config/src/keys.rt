@@ -27,6 +27,7 @@ fn is_setting(kind: PolicyType, key: &str) -> bool
             PolicyType::And => key == "and_sub_policy",
             PolicyType::Not => key == "not_sub_policy",
             PolicyType::Drop => key == "drop_sub_policy",
+            PolicyType::Composite => key == "composite_sub_policy",
             _ => false,
         }
 }
@@ -81,6 +82,7 @@ pub fn is_key(kind: TableKind, key: &str) -> bool
             matches!(key, "name" | "type") || has_settings(kind) && key == kind.name()
         }
         TableKind::Settings(kind) => is_setting(kind, key),
+        TableKind::Allocation => matches!(key, "policy" | "percent"),
     }
 }
 

@@ -19,6 +19,7 @@ pub enum PolicyType {
     And,
     Not,
     Drop,
+    Composite,
 }
 
 impl PolicyType {
@@ -41,6 +42,7 @@ impl PolicyType {
             PolicyType::And,
             PolicyType::Not,
             PolicyType::Drop,
+            PolicyType::Composite,
         ]
     }
 
@@ -63,6 +65,7 @@ impl PolicyType {
             PolicyType::And => "and",
             PolicyType::Not => "not",
             PolicyType::Drop => "drop",
+            PolicyType::Composite => "composite",
         }
     }
 }
@@ -144,4 +147,6 @@ pub enum TableKind {
     Policy(PolicyType),
     /// The settings of a policy of this type.
     Settings(PolicyType),
+    /// The share of a part of a composite.
+    Allocation,
 }

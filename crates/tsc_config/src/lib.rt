@@ -7,6 +7,7 @@
 //! that a text can be read is a test.
 #![tactic(auto)]
 
+mod composites;
 mod config;
 mod fault;
 mod fault_walk;

@@ -5,12 +5,13 @@ ghost use Rattle.toml.specs.View.{view, table_view, array_view};
 ghost use Rattle.tsc_config.specs.Keys.{type_name};
 ghost use Rattle.tsc_config.specs.Faults as spec;
 
+use crate::composites::order_fault;
 use crate::fault::{ConfigFault, least};
 use crate::joins::{join_at, join_type, sub_key};
 use crate::keys::{member, type_at, unknown_fault};
 use crate::kinds::{PolicyType, TableKind};
 use crate::policy_settings::ValueKind;
-use crate::settings_faults::{required_fault, settings_fault};
+use crate::settings_faults::{required_fault, rows_fault, settings_fault};
 use policy_tree::Join;
 use toml::value::Array;
 use toml::{Table, Value};
@@ -66,7 +67,12 @@ fn parts_settings_fault(join: Join, value: &Value) -> Option<ConfigFault>
     match value {
         Value::Table(table) => {
             let keys = unknown_fault(TableKind::Settings(join_type(join)), table);
-            least(keys, sub_policies_fault(join, table))
+            let rows = rows_fault(join_type(join), table);
+            let order = order_fault(join, table);
+            least(
+                keys,
+                least(rows, least(order, sub_policies_fault(join, table))),
+            )
         }
         _ => Some(ConfigFault::WrongType),
     }
@@ -94,7 +100,9 @@ fn sub_value_fault(join: Join, value: &Value) -> Option<ConfigFault>
             table,
             parts_fault(join_at(table), table),
         ),
-        (Join::And | Join::Drop, Value::Array(items)) => policy_items_fault(items),
+        (Join::And | Join::Drop | Join::FirstMatch, Value::Array(items)) => {
+            policy_items_fault(items)
+        }
         _ => Some(ConfigFault::WrongType),
     }
 }
@@ -129,7 +137,7 @@ fn settings_at_fault(
 {
     match kind {
         PolicyType::AlwaysSample | PolicyType::TraceFlags => None,
-        PolicyType::And | PolicyType::Not | PolicyType::Drop => nested,
+        PolicyType::And | PolicyType::Not | PolicyType::Drop | PolicyType::Composite => nested,
         _ => required_settings_fault(kind, table),
     }
 }

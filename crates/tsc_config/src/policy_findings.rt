@@ -2,10 +2,12 @@
 ghost use Rattle.std.specs.Prelude.{◌≡◌, ◌++◌, OnOk, if◌then◌else◌};
 ghost use Rattle.toml.specs.View.{view, table_view, array_view};
 ghost use Rattle.tsc_config.specs.FaultLists as spec;
+ghost use Rattle.tsc_config.specs.Faults as faults;
 ghost use Rattle.tsc_config.specs.Keys.{type_at};
 
+use crate::composites::order_fault;
 use crate::fault::ConfigFault;
-use crate::finding_texts::{item_place, key_place, wrong_text};
+use crate::finding_texts::{item_place, key_place, order_text, wrong_text};
 use crate::findings::Findings;
 use crate::joins::{join_at, join_type, sub_key};
 use crate::keys::{member, type_at};
@@ -104,6 +106,8 @@ fn add_parts_settings(
         Value::Table(table) => {
             let kind = TableKind::Settings(join_type(join));
             add_unknown(alloc, place, kind, table, findings)?;
+            add_rows(alloc, place, join_type(join).settings(), table, findings)?;
+            add_order(alloc, place, join, table, findings)?;
             add_sub_policies(alloc, place, join, table, findings)
         }
         _ => findings.add(ConfigFault::WrongType, wrong_text(alloc, place, "a table")?),
@@ -149,7 +153,7 @@ fn add_sub_value(
                 Ok(())
             }
         }
-        (Join::And | Join::Drop, Value::Array(items)) => {
+        (Join::And | Join::Drop | Join::FirstMatch, Value::Array(items)) => {
             add_policy_items(alloc, place, items, findings)
         }
         (Join::Not, _) => findings.add(
@@ -163,13 +167,29 @@ fn add_sub_value(
     }
 }
 
+/// Adds the fault that a composite's order doesn't name its parts as they stand there.
+fn add_order(
+    alloc: Global,
+    place: &str,
+    join: Join,
+    table: &Table,
+    findings: &mut Findings,
+) -> Result<(), AllocError>
+    ensures { OnOk result (findings.new ≡ findings.old ++ spec.listed (faults.order_fault join (table_view table.now))) }
+{
+    match order_fault(join, table) {
+        Some(fault) => findings.add(fault, order_text(alloc, place)?),
+        None => Ok(()),
+    }
+}
+
 /// Whether the type of a policy table is made of other policies.
 fn is_joined(table: &Table) -> bool
     ensures { result ≡ spec.is_joined (type_at (table_view table.now)) }
 {
     matches!(
         type_at(table),
-        Some(PolicyType::And | PolicyType::Not | PolicyType::Drop)
+        Some(PolicyType::And | PolicyType::Not | PolicyType::Drop | PolicyType::Composite)
     )
 }
 
@@ -213,7 +233,8 @@ fn add_own(
         | PolicyType::TraceFlags
         | PolicyType::And
         | PolicyType::Not
-        | PolicyType::Drop => Ok(()),
+        | PolicyType::Drop
+        | PolicyType::Composite => Ok(()),
         _ => {
             let here = key_place(alloc, place, kind.name())?;
             let settings = TableKind::Settings(kind);

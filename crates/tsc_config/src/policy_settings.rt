@@ -10,6 +10,8 @@ pub enum ItemKind {
     Text,
     /// A text that names a status code.
     StatusCode,
+    /// A table: the share of a part of a composite.
+    Allocation,
 }
 
 /// What a value is to be.
@@ -114,6 +116,11 @@ impl PolicyType {
             PolicyType::TraceState => &[
                 Setting::Required("key", ValueKind::Text),
                 Setting::Required("values", ValueKind::Array(ItemKind::Text)),
+            ],
+            PolicyType::Composite => &[
+                Setting::Required("max_total_spans_per_second", NATURAL),
+                Setting::Optional("policy_order", ValueKind::Array(ItemKind::Text)),
+                Setting::Optional("rate_allocation", ValueKind::Array(ItemKind::Allocation)),
             ],
             PolicyType::AlwaysSample
             | PolicyType::TraceFlags

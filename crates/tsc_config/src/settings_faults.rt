@@ -1,6 +1,6 @@
 //! The least fault of the settings of a policy.
 ghost use Rattle.std.specs.Prelude.{◌≡◌, map};
-ghost use Rattle.toml.specs.Data.{get_member, string};
+ghost use Rattle.toml.specs.Data.{get_member, string, table as table_data};
 ghost use Rattle.toml.specs.View.{view, table_view, array_view};
 ghost use Rattle.tsc_config.specs.Faults as spec;
 ghost use Rattle.tsc_config.specs.Keys.{choice_row};
@@ -27,7 +27,8 @@ pub fn settings_fault(kind: PolicyType, value: &Value) -> Option<ConfigFault>
     }
 }
 
-fn rows_fault(kind: PolicyType, table: &Table) -> Option<ConfigFault>
+/// The fault of the settings of a policy of this type, but for the policies that it is made of.
+pub fn rows_fault(kind: PolicyType, table: &Table) -> Option<ConfigFault>
     ensures { result ≡ spec.rows_fault kind (table_view table.now) }
 {
     each_setting_fault(kind.settings(), table)
@@ -90,8 +91,28 @@ pub fn item_fault(item: &Value, kind: ItemKind) -> Option<ConfigFault>
             Some(_) => None,
             None => Some(ConfigFault::OutOfRange),
         },
+        (ItemKind::Allocation, Value::Table(table)) => allocation_fault(table),
         _ => Some(ConfigFault::WrongType),
     }
+}
+
+/// The fault of the share of a part of a composite.
+fn allocation_fault(table: &Table) -> Option<ConfigFault>
+    ensures { result ≡ spec.allocation_fault (table_data (table_view table.now)) }
+{
+    let keys = unknown_fault(TableKind::Allocation, table);
+    let policy = match member(table, "policy") {
+        Some(Value::String(_)) => None,
+        Some(_) => Some(ConfigFault::WrongType),
+        None => Some(ConfigFault::MissingKey),
+    };
+    let percent = match member(table, "percent") {
+        Some(Value::Integer(number)) if 1 <= *number && *number <= 100 => None,
+        Some(Value::Integer(_)) => Some(ConfigFault::OutOfRange),
+        Some(_) => Some(ConfigFault::WrongType),
+        None => Some(ConfigFault::MissingKey),
+    };
+    least(keys, least(policy, percent))
 }
 
 /// The fault of a value.

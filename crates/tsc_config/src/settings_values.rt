@@ -63,7 +63,8 @@ fn leaf_in(alloc: Global, kind: PolicyType, settings: &Table) -> Result<Leaf, Al
         | PolicyType::RateLimiting
         | PolicyType::And
         | PolicyType::Not
-        | PolicyType::Drop => Ok(Leaf::AlwaysSample),
+        | PolicyType::Drop
+        | PolicyType::Composite => Ok(Leaf::AlwaysSample),
     }
 }
 
@@ -159,7 +160,7 @@ pub fn text_of(alloc: Global, value: &Value) -> Result<Text, AllocError>
 }
 
 /// The items of the array at a key, none where there is no array.
-fn items_at<'a>(settings: &'a Table, key: &str) -> &'a [Value]
+pub fn items_at<'a>(settings: &'a Table, key: &str) -> &'a [Value]
     ensures { items_view result.now ≡ spec.items_at (get_member key.now (table_view settings.now)) }
 {
     match member(settings, key) {

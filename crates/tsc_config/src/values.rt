@@ -7,6 +7,7 @@ ghost use Rattle.tsc_config.specs.Keys.{choice_row, number_row, type_name};
 ghost use Rattle.tsc_config.specs.Values as spec;
 ghost use Rattle.tsc_config.specs.declared.kinds.NumberKey.TheVariants as number_is;
 
+use crate::composites::composite_of;
 use crate::joins::{join_at, join_type, sub_key};
 use crate::keys::{member, type_at};
 use crate::kinds::{ChoiceKey, NumberKey, PolicyType};
@@ -191,7 +192,9 @@ fn sub_value(alloc: Global, join: Join, value: &Value) -> Result<List<Policy>, A
 {
     match (join, value) {
         (Join::Not, Value::Table(table)) => one_policy(alloc, table),
-        (Join::And | Join::Drop, Value::Array(items)) => item_policies(alloc, items),
+        (Join::And | Join::Drop | Join::FirstMatch, Value::Array(items)) => {
+            item_policies(alloc, items)
+        }
         _ => Ok(List::new(alloc)),
     }
 }
@@ -239,6 +242,10 @@ fn kind_typed(
         Some(PolicyType::Drop) => Ok(PolicyKind::Joined {
             join: Join::Drop,
             policies: nested,
+        }),
+        Some(PolicyType::Composite) => Ok(PolicyKind::Joined {
+            join: Join::FirstMatch,
+            policies: composite_of(alloc, table, nested)?,
         }),
         Some(PolicyType::TraceFlags) => Ok(PolicyKind::Leaf(Leaf::TraceFlags)),
         Some(kind) => kind_by(alloc, kind, table),
