@@ -7,7 +7,7 @@ use crate::outcome::Fate;
 use crate::rule::{Retry, Verdict};
 use std::sync::Wait;
 
-/// Tries a batch until the backend took it or it is given up, and settles it.
+/// Tries a batch until the backend took it or it is to be given up. That is settled by the caller.
 pub fn deliver<B: Backend, R: Wait>(rt: &R, rule: &Retry, backend: &mut B, batch: &[u8]) -> Fate
     ensures { Delivers (B.log backend.old) (B.log backend.new) batch.now result }
 {
@@ -18,15 +18,9 @@ pub fn deliver<B: Backend, R: Wait>(rt: &R, rule: &Retry, backend: &mut B, batch
         let random = backend.random();
         let elapsed = backend.now().saturating_sub(began);
         match rule.verdict(outcome, wait, random, elapsed, backend.left()) {
-            Verdict::Taken => {
-                backend.settle(batch, Fate::Delivered);
-                return Fate::Delivered;
-            }
+            Verdict::Taken => return Fate::Delivered,
             Verdict::Waits(milliseconds) => backend.wait(milliseconds),
-            Verdict::Ends => {
-                backend.settle(batch, Fate::GivenUp);
-                return Fate::GivenUp;
-            }
+            Verdict::Ends => return Fate::GivenUp,
         }
         wait = rule.next_wait(wait);
     }

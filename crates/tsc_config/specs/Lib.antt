@@ -4,6 +4,7 @@ pub mod FaultLists
 pub mod Faults
 pub mod Percentages
 pub mod PolicySettings
+pub mod Exports
 pub mod Keys
 pub mod Reading
 pub mod Values

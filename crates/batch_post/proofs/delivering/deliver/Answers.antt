@@ -1,7 +1,28 @@
-use Rattle.std.proofs.Common.{◌∙◌, sym, ap, List, ◌++◌, ◌∷◌, []}
-use Rattle.batch_post.specs.Logs.{Entry, tried}
-use Rattle.batch_post.proofs.Attempts.{verdict_again, all_again, one_more}
+use Rattle.std.proofs.Common.{sym, ◌++◌, ◌∷◌, []}
+use Rattle.batch_post.proofs.Attempts.{verdict_again, verdict_taken, verdict_ends, all_again, tried_on, tried_last}
 use Rattle.batch_post.proofs.delivering.deliver.Goals as goal
+
+pub returns-in-Taken : goal.returns-in-Taken
+returns-in-Taken g c =
+    let log = g.B.Backend.log in
+    let outcome = c.attempt-outcome.result in (
+      c.loop.invariant.0,
+      outcome,
+      c.loop.invariant.1,
+      verdict_taken c.args.rule.now outcome c.loop.wait c.random-random.result c.saturating_sub-elapsed.result c.left.result (sym c.in-Taken.ensures),
+      tried_last (log c.args.backend.now) (log c.loop.backend) (log c.attempt-outcome.new.self) (log c.random-random.new.self) c.args.batch.now c.loop.invariant.0 outcome c.loop.invariant.2 c.attempt-outcome.ensures c.random-random.ensures,
+    )
+
+pub returns-in-Ends : goal.returns-in-Ends
+returns-in-Ends g c =
+    let log = g.B.Backend.log in
+    let outcome = c.attempt-outcome.result in (
+      c.loop.invariant.0,
+      outcome,
+      c.loop.invariant.1,
+      verdict_ends c.args.rule.now outcome c.loop.wait c.random-random.result c.saturating_sub-elapsed.result c.left.result (sym c.in-Ends.ensures),
+      tried_last (log c.args.backend.now) (log c.loop.backend) (log c.attempt-outcome.new.self) (log c.random-random.new.self) c.args.batch.now c.loop.invariant.0 outcome c.loop.invariant.2 c.attempt-outcome.ensures c.random-random.ensures,
+    )
 
 pub loop-preserved : goal.loop-preserved
 loop-preserved g c =
@@ -11,6 +32,5 @@ loop-preserved g c =
     let again = verdict_again c.args.rule.now outcome c.loop.wait c.random-random.result c.saturating_sub-elapsed.result c.left.result c.in-Waits.milliseconds (sym c.in-Waits.ensures) in (
       before ++ outcome ∷ [],
       all_again before outcome c.loop.invariant.1 again,
-      c.wait.ensures ∙ (c.random-random.ensures ∙ (c.attempt-outcome.ensures
-          ∙ (ap (λ (es : List Entry). es ++ tried c.args.batch.now outcome ∷ []) c.loop.invariant.2 ∙ one_more c.args.batch.now (log c.args.backend.now) before outcome))),
+      tried_on (log c.args.backend.now) (log c.loop.backend) (log c.attempt-outcome.new.self) (log c.random-random.new.self) (log c.wait.new.self) c.args.batch.now before outcome c.loop.invariant.2 c.attempt-outcome.ensures c.random-random.ensures c.wait.ensures,
     )
