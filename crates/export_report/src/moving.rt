@@ -36,6 +36,7 @@ pub fn moved(report: &Report, spans: u64) -> Result<Report, BookFull>
 fn copy(report: &Report, moved: &mut Report, reason: Reason) -> Result<(), BookFull>
     ensures added { OnOk result (moved.new ≡ with_added (Dropped reason) (slice_index report.now (place_of (Dropped reason))) moved.old) }
     ensures full { OnErr result (2 ^ 64 ≤ slice_index moved.old (place_of (Dropped reason)) + slice_index report.now (place_of (Dropped reason))) }
+    ensures small { slice_index report.now (place_of (Dropped reason)) < 2 ^ 64 }
 {
     let count = Count::Dropped(reason);
     moved.add(count, report.number(count))

@@ -42,6 +42,7 @@ pub struct SocketBackend<'t, V, R> {
 }
 
 /// The time of an attempt.
+#[derive(Drop)]
 struct Attempt<'a, R> {
     rt: &'a R,
     began: Option<Instant>,
