@@ -37,6 +37,7 @@ pub fn charge_of(
     let charge = Charge {
         stop: StopMark::new(),
         board: Board::new(alloc, config.shards)?,
+        silent: Board::new(alloc, config.shards)?,
         loads: Arc::new(alloc, Loads::new(alloc, config.lanes as usize)?)?,
         configuration: text?,
         admin: config.admin.try_clone(alloc)?,

@@ -49,6 +49,12 @@ pub struct Board {
     decided_not_sampled: AtomicU64,
     late_sampled: AtomicU64,
     shards: Vec<ShardCells>,
+    /// Spans of the batch that the backend is given up for now, which the exporter counts as handed over.
+    pending: AtomicU64,
+    /// Spans that were given up since the backend didn't take them.
+    given_up: AtomicU64,
+    /// Spans that the backend rejected.
+    rejected: AtomicU64,
 }
 
 impl Board {
@@ -76,6 +82,9 @@ impl Board {
             decided_not_sampled: AtomicU64::new(0),
             late_sampled: AtomicU64::new(0),
             shards: cells,
+            pending: AtomicU64::new(0),
+            given_up: AtomicU64::new(0),
+            rejected: AtomicU64::new(0),
         })
     }
 
@@ -97,16 +106,40 @@ impl Board {
             // The report's counts are 0 before.
             let _ = report.add(count, number);
         }
+        let given_up = self.given_up.load(Ordering::Relaxed);
+        // Spans are counted at one place only, so no sum passes 2^64-1.
+        let _ = report.add(Count::Dropped(Reason::ExporterDown), given_up);
         report
     }
 
     /// How many spans wait: those that were received, and were neither handed over nor given up.
     pub fn waiting(&self) -> u64 {
-        let mut ended: u64 = 0;
+        let mut ended = self.given_up.load(Ordering::Relaxed);
         for place in 1..PLACES {
             ended = ended.saturating_add(self.cell(place).load(Ordering::Relaxed));
         }
         self.received.load(Ordering::Relaxed).saturating_sub(ended)
+    }
+
+    /// The backend took a line of so many bytes.
+    pub fn delivered(&self, bytes: u64) {
+        self.output_bytes.fetch_add(bytes, Ordering::Relaxed);
+        self.lines.fetch_add(1, Ordering::Relaxed);
+    }
+
+    /// The backend is given up for a batch of so many spans, which the exporter counts next as handed over.
+    pub fn gives_up(&self, spans: u64) {
+        self.pending.store(spans, Ordering::Relaxed);
+    }
+
+    /// The backend rejected so many spans of a batch that it took.
+    pub fn rejects(&self, spans: u64) {
+        self.rejected.fetch_add(spans, Ordering::Relaxed);
+    }
+
+    /// How many spans the backend rejected.
+    pub fn rejected(&self) -> u64 {
+        self.rejected.load(Ordering::Relaxed)
     }
 
     /// The output took these bytes, which may end a line.
@@ -193,7 +226,12 @@ impl Gate for Board {
     }
 
     fn counted(&self, place: usize, spans: u64) {
-        self.cell(place).fetch_add(spans, Ordering::Relaxed);
+        let is_handed = place == Count::Handed.place();
+        if is_handed && self.pending.swap(0, Ordering::Relaxed) > 0 {
+            self.given_up.fetch_add(spans, Ordering::Relaxed);
+        } else {
+            self.cell(place).fetch_add(spans, Ordering::Relaxed);
+        }
     }
 
     fn holds(&self, shard: u16, load: ShardLoad) {

@@ -21,6 +21,8 @@ pub struct Charge {
     pub stop: StopMark,
     /// The counts while it runs.
     pub board: Board,
+    /// A board that nobody reads, for a sink whose lines are told otherwise.
+    pub silent: Board,
     /// How many connections each lane has.
     pub loads: Arc<Loads, Global>,
     /// The configuration, as it was read.

@@ -8,6 +8,7 @@ use Rattle.policy_tree.specs.declared.policy.Join.{Join}
 use Rattle.policy_tree.specs.declared.policy.Join.TheVariants as join_is
 use Rattle.tsc_config.specs.Composites.{is_ordered}
 use Rattle.tsc_config.specs.Percentages.{percentage_of}
+use Rattle.tsc_config.specs.Exports.{export_settings, is_endpoint}
 use Rattle.tsc_config.specs.Keys.{ChoiceRow, choice_row, has_unknown_key, type_name, type_at, type_of, code_of, join_type, join_name, sub_key, join_at}
 use Rattle.tsc_config.specs.Faults.{config_fault_number, least, optional, required, unknown_fault, integer_fault, whole_fault, truth_fault, text_fault, choice_fault, type_fault, code_fault, percentage_fault, named_fault, items_fault, array_fault, item_fault, wanted_fault, each_setting_fault}
 use Rattle.tsc_config.specs.Faults as spec
@@ -91,6 +92,10 @@ named : {A : Type 0} → (found : Option A) → IsSmall (named_fault found)
 named None = only OutOfRange (omega arith)
 named (Some found) = none
 
+endpoints : (value : Data) → IsSmall (spec.endpoint_fault value)
+endpoints (string text) = either (is_endpoint text) _ _ none (only OutOfRange (omega arith))
+endpoints _ = wrong
+
 types : (value : Data) → IsSmall (type_fault value)
 types (string text) = named (type_of (string text))
 types _ = wrong
@@ -135,6 +140,7 @@ values (value_is.Integer lowest greatest) value = integers lowest greatest value
 values value_is.Whole value = wholes value
 values value_is.Truth value = truths value
 values value_is.Text value = texts value
+values value_is.Endpoint value = endpoints value
 values value_is.PolicyType value = types value
 values (value_is.Choice key) value = choices (choice_row key) value
 values value_is.Percentage value = percentages value
@@ -212,6 +218,10 @@ caches (table members) =
     (both _ _ (sizes (pos 1000000) (get_member (codes "sampled_cache_size") members) (pos 0)) (sizes (pos 1000000) (get_member (codes "non_sampled_cache_size") members) (pos 0)))
 caches _ = wrong
 
+exports : (value : Data) → IsSmall (spec.export_fault value)
+exports (table members) = both _ _ (unknown table_is.Export members) (each export_settings members)
+exports _ = wrong
+
 pub table_small : (members : Members) → IsSmall (spec.table_fault members)
 unfolding spec.table_fault spec.keys_fault
 table_small members =
@@ -237,4 +247,5 @@ table_small members =
     (both _ _ (optionally truth_fault truths (get_member (codes "close_at_end_of_input") members))
     (optionally text_fault texts (get_member (codes "admin") members))))))
     (both _ _ (optionally spec.cache_fault caches (get_member (codes "decision_cache") members))
-    (requiredly spec.policies_fault policies (get_member (codes "policies") members)))))))))
+    (both _ _ (optionally spec.export_fault exports (get_member (codes "export") members))
+    (requiredly spec.policies_fault policies (get_member (codes "policies") members))))))))))

@@ -11,9 +11,10 @@ use Rattle.policy_tree.specs.Faults.{fault_of_policies}
 use Rattle.policy_tree.specs.declared.fault.PolicyFault.{PolicyFault}
 use Rattle.policy_tree.specs.declared.policy.Join.{Join}
 use Rattle.policy_tree.specs.declared.policy.Join.TheVariants as join_is
+use Rattle.tsc_config.specs.Exports.{export_settings}
 use Rattle.tsc_config.specs.Keys.{has_unknown_key, is_key, type_name, type_at, join_type, join_name, sub_key, join_at}
 use Rattle.tsc_config.specs.Faults.{optional, required, unknown_fault, integer_fault, text_fault, truth_fault, type_fault, item_fault, wanted_fault, order_fault, twice_fault}
-use Rattle.tsc_config.specs.FaultSets.{IsLeastOf, OptionalHas, RequiredHas, SomeItemHas, ValueHas, KeyHas, SomeSettingHas, RowsHave, SettingsHave, SettingsAtHave, TypedHas, PolicyTableHas, PoliciesHave, SomePolicyHas, PolicyHas, PartsHave, PartsSettingsHave, SubPoliciesHave, SubValueHas, CacheHas, NumbersHave, SizesHave, ChoicesHave, HasFault, DocumentHas, TextHas}
+use Rattle.tsc_config.specs.FaultSets.{IsLeastOf, OptionalHas, RequiredHas, SomeItemHas, ValueHas, KeyHas, SomeSettingHas, RowsHave, SettingsHave, SettingsAtHave, TypedHas, PolicyTableHas, PoliciesHave, SomePolicyHas, PolicyHas, PartsHave, PartsSettingsHave, SubPoliciesHave, SubValueHas, CacheHas, ExportHas, NumbersHave, SizesHave, ChoicesHave, HasFault, DocumentHas, TextHas}
 use Rattle.tsc_config.specs.FaultLists as spec
 use Rattle.tsc_config.specs.FaultLists.{faults_in, ListsAll, listed, unknown_faults, items_faults, value_faults, optional_faults, required_faults, setting_faults, rows_faults, settings_faults, head_settings, is_joined, typed_faults, own_faults, policy_table_faults, number_settings, size_settings, other_settings, top_settings, cache_settings, table_faults, of_policies, given_faults, document_faults, text_faults}
 use Rattle.tsc_config.specs.PolicySettings.{Setting, settings}
@@ -243,6 +244,11 @@ cache_all (table members) =
     (both (λ fault. optional f sampled ≡ Some fault) (λ fault. optional f other ≡ Some fault) _ _ (single f sampled) (ended (λ fault. optional f other ≡ Some fault) _ (single f other)))
 cache_all _ = one WrongType
 
+export_all : (value : Data) → ListsAll (ExportHas value) (settings_faults table_is.Export export_settings value)
+export_all (table members) =
+    both (λ fault. unknown_fault table_is.Export members ≡ Some fault) (SomeSettingHas export_settings members) _ _ (unknown_all table_is.Export members) (rows_all export_settings members)
+export_all _ = one WrongType
+
 -- rows, one or more
 last_row : (f : Data → Option ConfigFault) (at : Option Data) → ListsAll (λ fault. optional f at ≡ Some fault) (optional_faults (λ value. listed (f value)) at ++ [])
 last_row f at = ended (λ fault. optional f at ≡ Some fault) (optional_faults (λ value. listed (f value)) at) (single f at)
@@ -309,7 +315,8 @@ top_all members =
     (both (NumbersHave members) (λ fault. SizesHave members fault ⊎ Others members fault) _ _ (numbers_all members) (both (SizesHave members) (Others members) _ _ (sizes_all members) (others_all members)))
 
 abbrev Tables : Members → ConfigFault → Type 0
-Tables members fault = OptionalHas CacheHas (get_member (codes "decision_cache") members) fault ⊎ RequiredHas PoliciesHave (get_member (codes "policies") members) fault
+Tables members fault =
+    OptionalHas CacheHas (get_member (codes "decision_cache") members) fault ⊎ (OptionalHas ExportHas (get_member (codes "export") members) fault ⊎ RequiredHas PoliciesHave (get_member (codes "policies") members) fault)
 
 abbrev Keys : Members → ConfigFault → Type 0
 Keys members fault = (unknown_fault table_is.Config members ≡ Some fault) ⊎ (twice_fault members ≡ Some fault)
@@ -343,9 +350,11 @@ table_all members =
     (both (Keys members) (λ fault. Top members fault ⊎ Tables members fault) _ _
     (both (λ fault. unknown_fault table_is.Config members ≡ Some fault) (λ fault. twice_fault members ≡ Some fault) _ _ (unknown_all table_is.Config members) (row (twice_fault members)))
     (both (Top members) (Tables members) _ _ (top_all members)
-    (both (OptionalHas CacheHas (get_member (codes "decision_cache") members)) (RequiredHas PoliciesHave (get_member (codes "policies") members)) _ _
+    (both (OptionalHas CacheHas (get_member (codes "decision_cache") members)) _ _ _
     (optional_all CacheHas (settings_faults table_is.DecisionCache cache_settings) cache_all (get_member (codes "decision_cache") members))
-    (required_all PoliciesHave spec.policies_faults policies_all (get_member (codes "policies") members)))))
+    (both (OptionalHas ExportHas (get_member (codes "export") members)) (RequiredHas PoliciesHave (get_member (codes "policies") members)) _ _
+    (optional_all ExportHas (settings_faults table_is.Export export_settings) export_all (get_member (codes "export") members))
+    (required_all PoliciesHave spec.policies_faults policies_all (get_member (codes "policies") members))))))
 
 few_all : (few : Type 0) (r : Bool) → (r ≡ true → few) → (few → r ≡ true) → ListsAll (λ fault. (fault ≡ TooFewTraces) × few) (if r then TooFewTraces ∷ [] else [])
 few_all few true to from fault = (λ c. ((one TooFewTraces fault).0 c, to refl), λ h. (one TooFewTraces fault).1 h.0)

@@ -6,10 +6,11 @@ use Rattle.std.specs.Str.{bytes_eq}
 use Rattle.toml.specs.Data.{Data, array, table, Items, no_items, item, Members, no_members, member, get_member}
 use Rattle.policy_tree.specs.declared.policy.Join.{Join}
 use Rattle.policy_tree.specs.declared.policy.Join.TheVariants as join_is
+use Rattle.tsc_config.specs.Exports.{export_settings}
 use Rattle.tsc_config.specs.Keys.{type_name, type_at, join_type, join_name, sub_key, join_at}
 use Rattle.tsc_config.specs.Faults.{config_fault_number, least, optional, required, unknown_fault, integer_fault, text_fault, truth_fault, type_fault, items_fault, array_fault, item_fault, wanted_fault, each_setting_fault, order_fault, twice_fault}
 use Rattle.tsc_config.specs.Faults as spec
-use Rattle.tsc_config.specs.FaultSets.{IsLeastOf, OptionalHas, RequiredHas, SomeItemHas, ArrayHas, ValueHas, KeyHas, SomeSettingHas, RowsHave, SettingsHave, SettingsAtHave, TypedHas, PolicyTableHas, PoliciesHave, SomePolicyHas, PolicyHas, PartsHave, PartsSettingsHave, SubPoliciesHave, SubValueHas, CacheHas, NumbersHave, SizesHave, ChoicesHave, HasFault}
+use Rattle.tsc_config.specs.FaultSets.{IsLeastOf, OptionalHas, RequiredHas, SomeItemHas, ArrayHas, ValueHas, KeyHas, SomeSettingHas, RowsHave, SettingsHave, SettingsAtHave, TypedHas, PolicyTableHas, PoliciesHave, SomePolicyHas, PolicyHas, PartsHave, PartsSettingsHave, SubPoliciesHave, SubValueHas, CacheHas, ExportHas, NumbersHave, SizesHave, ChoicesHave, HasFault}
 use Rattle.tsc_config.specs.PolicySettings.{Setting, settings}
 use Rattle.tsc_config.specs.declared.policy_settings.ValueKind.{ValueKind}
 use Rattle.tsc_config.specs.declared.policy_settings.ValueKind.TheVariants as value_is
@@ -227,6 +228,10 @@ seven_rows : (a b c d e f g : Option ConfigFault)
 seven_rows a b c d e f g =
     both (λ fault. a ≡ Some fault) (λ fault. (b ≡ Some fault) ⊎ ((c ≡ Some fault) ⊎ ((d ≡ Some fault) ⊎ ((e ≡ Some fault) ⊎ ((f ≡ Some fault) ⊎ (g ≡ Some fault)))))) _ _ (row a) (six_rows b c d e f g)
 
+export_least : (value : Data) → IsLeastOf (ExportHas value) (spec.export_fault value)
+export_least (table members) = both (λ fault. unknown_fault table_is.Export members ≡ Some fault) (SomeSettingHas export_settings members) _ _ (row _) (each_least export_settings members)
+export_least _ = alone WrongType
+
 pub table_least : (members : Members) → IsLeastOf (HasFault members) (spec.table_fault members)
 unfolding spec.table_fault spec.keys_fault
 table_least members =
@@ -244,4 +249,5 @@ table_least members =
     (both (λ fault. gzip ≡ Some fault) _ _ _ (row gzip)
     (both (λ fault. first ≡ Some fault) _ _ _ (row first)
     (both (ChoicesHave members) _ _ _ (five_rows _ _ _ _ _)
-    (both (OptionalHas CacheHas (get_member (codes "decision_cache") members)) (RequiredHas PoliciesHave (get_member (codes "policies") members)) _ _ cache policies)))))))
+    (both (OptionalHas CacheHas (get_member (codes "decision_cache") members)) _ _ _ cache
+    (both (OptionalHas ExportHas (get_member (codes "export") members)) (RequiredHas PoliciesHave (get_member (codes "policies") members)) _ _ (optional_least ExportHas spec.export_fault export_least (get_member (codes "export") members)) policies))))))))

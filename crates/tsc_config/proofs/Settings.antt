@@ -9,12 +9,13 @@ use Rattle.toml.specs.Data.{Data, string, integer, boolean, table, Members, get_
 use Rattle.toml.specs.Parse.{parse_document}
 use Rattle.policy_tree.specs.Faults.{fault_of_policies}
 use Rattle.policy_tree.specs.declared.fault.PolicyFault.{PolicyFault}
-use Rattle.tsc_config.specs.Faults.{config_fault_number, least, optional, required, unknown_fault, integer_fault, text_fault, truth_fault, choice_fault, choices_fault, cache_fault, numbers_fault, sizes_fault, policies_fault, table_fault, keys_fault, twice_fault}
+use Rattle.tsc_config.specs.Faults.{config_fault_number, least, optional, required, unknown_fault, integer_fault, text_fault, truth_fault, choice_fault, choices_fault, cache_fault, endpoint_fault, export_fault, each_setting_fault, numbers_fault, sizes_fault, policies_fault, table_fault, keys_fault, twice_fault}
 use Rattle.tsc_config.specs.Keys.{ChoiceRow, choice_row}
 use Rattle.tsc_config.specs.declared.kinds.ChoiceKey.TheVariants as choice_is
 use Rattle.tsc_config.specs.Reading.{reading, reading_of, reading_unless, reading_where}
-use Rattle.tsc_config.specs.Settings.{IsNumberAtEither, IsTextAt, IsTruthAt, IsChoiceAt, IsCacheSize, HasSettings, ReadsSettings}
-use Rattle.tsc_config.specs.Values.{config_of, positive_of, natural_of, first_found, cache_size, address_of, truth_of, is_other}
+use Rattle.tsc_config.specs.Exports.{export_settings, is_endpoint}
+use Rattle.tsc_config.specs.Settings.{IsNumberAtEither, IsTextAt, IsTruthAt, IsChoiceAt, IsCacheSize, HasExport, IsExportAt, HasSettings, ReadsSettings}
+use Rattle.tsc_config.specs.Values.{config_of, positive_of, natural_of, first_found, cache_size, address_of, truth_of, is_other, text_of, number_or, export_in, export_of}
 use Rattle.tsc_config.specs.declared.config.Config.{Config}
 use Rattle.tsc_config.specs.declared.fault.ConfigFault.{ConfigFault}
 use Rattle.tsc_config.specs.declared.fault.ConfigFault.TheVariants.{OutOfRange, TooFewTraces, UnknownKey}
@@ -122,11 +123,55 @@ cache given (Some (table sizes)) e f =
     )
 cache given (Some _) e f = cc
 
+numbered : (default lowest greatest : ℕ) (at : Option Data) → optional (integer_fault (pos lowest) (pos greatest)) at ≡ None → NumberOf at default lowest greatest (number_or default at)
+numbered default lowest greatest None e = inl (refl, refl)
+numbered default lowest greatest (Some (integer (pos n))) e = inr (refl, least_of, most_of)
+  where
+    both_of : int_le (pos lowest) (pos n) && int_le (pos n) (pos greatest) ≡ true
+    both_of = allowed (int_le (pos lowest) (pos n) && int_le (pos n) (pos greatest)) e
+
+    least_of : lowest ≤ n
+    least_of = grind (arith, nat_tests, both_of)
+
+    most_of : n ≤ greatest
+    most_of = grind (arith, nat_tests, both_of)
+numbered default lowest greatest (Some (integer (negsuc n))) e = cc
+numbered default lowest greatest (Some _) e = cc
+
+endpoint : (at : Option Data) → required endpoint_fault at ≡ None → (at ≡ Some (string (text_of at))) × (is_endpoint (text_of at) ≡ true)
+endpoint None e = cc
+endpoint (Some (string text)) e = (refl, allowed (is_endpoint text) e)
+endpoint (Some _) e = cc
+
+-- the table of `export`
+has_export : (given : Members) → each_setting_fault export_settings given ≡ None → HasExport given (export_in given)
+has_export given e =
+    let address = neither (required endpoint_fault (get_member (codes "endpoint") given)) _ e in
+    let timeout = neither (optional (integer_fault (pos 1) (pos 600000)) (get_member (codes "timeout_ms") given)) _ address.1 in
+    let initial = neither (optional (integer_fault (pos 1) (pos 3600000)) (get_member (codes "retry_initial_ms") given)) _ timeout.1 in
+    let longest = neither (optional (integer_fault (pos 1) (pos 3600000)) (get_member (codes "retry_max_ms") given)) _ initial.1 in
+    let patience = neither (optional (integer_fault (pos 0) (pos 86400000)) (get_member (codes "retry_for_ms") given)) _ longest.1 in
+    let close = neither (optional (integer_fault (pos 0) (pos 3600000)) (get_member (codes "close_wait_ms") given)) None patience.1 in
+    let found = endpoint (get_member (codes "endpoint") given) address.0 in record {
+      endpoint = found.0;
+      form = found.1;
+      timeout = numbered 10000 1 600000 (get_member (codes "timeout_ms") given) timeout.0;
+      retry_initial = numbered 500 1 3600000 (get_member (codes "retry_initial_ms") given) initial.0;
+      retry_max = numbered 30000 1 3600000 (get_member (codes "retry_max_ms") given) longest.0;
+      retry_for = numbered 300000 0 86400000 (get_member (codes "retry_for_ms") given) patience.0;
+      close_wait = numbered 10000 0 3600000 (get_member (codes "close_wait_ms") given) close.0;
+    }
+
+exports : (given : Members) (at : Option Data) → get_member (codes "export") given ≡ at → optional export_fault at ≡ None → IsExportAt given (export_of at)
+exports given None e f = inl (e, refl)
+exports given (Some (table settings)) e f = inr (settings, e, has_export settings (neither (unknown_fault table_is.Export settings) _ f).1)
+exports given (Some _) e f = cc
+
 -- each part of a table without a fault has none
 pub table_parts : (members : Members) → table_fault members ≡ None → (numbers_fault members ≡ None) × (sizes_fault members ≡ None) × (optional text_fault (get_member (codes "listen") members) ≡ None)
     × (optional cache_fault (get_member (codes "decision_cache") members) ≡ None) × (required policies_fault (get_member (codes "policies") members) ≡ None)
     × (optional truth_fault (get_member (codes "accept_gzip") members) ≡ None) × (choices_fault members ≡ None) × (twice_fault members ≡ None)
-    × (optional truth_fault (get_member (codes "sample_on_first_match") members) ≡ None)
+    × (optional truth_fault (get_member (codes "sample_on_first_match") members) ≡ None) × (optional export_fault (get_member (codes "export") members) ≡ None)
 unfolding table_fault keys_fault
 table_parts members e =
     let t = neither (least (unknown_fault table_is.Config members) (twice_fault members)) _ e in
@@ -137,7 +182,8 @@ table_parts members e =
     let m = neither (optional truth_fault (get_member (codes "sample_on_first_match") members)) _ g.1 in
     let h = neither (choices_fault members) _ m.1 in
     let c = neither (optional cache_fault (get_member (codes "decision_cache") members)) _ h.1 in
-    (n.0, s.0, l.0, c.0, c.1, g.0, h.0, (neither (unknown_fault table_is.Config members) (twice_fault members) t.0).1, m.0)
+    let x = neither (optional export_fault (get_member (codes "export") members)) _ c.1 in
+    (n.0, s.0, l.0, c.0, x.1, g.0, h.0, (neither (unknown_fault table_is.Config members) (twice_fault members) t.0).1, m.0, x.0)
 
 -- each row of the table's numbers has no fault
 whole : (members : Members) → table_fault members ≡ None → HasSettings members (config_of members)
@@ -178,6 +224,7 @@ whole members e =
       waits_for_room = choice (choice_row choice_is.QueueFull) members (get_member (codes "queue_full") members) refl queue_full.0;
       stops_at_output_fault = choice (choice_row choice_is.OutputFault) members (get_member (codes "output_fault") members) refl output.0;
       keeps_doubles = choice (choice_row choice_is.DoubleValues) members (get_member (codes "double_values") members) refl doubles.0;
+      export = exports members (get_member (codes "export") members) refl t.9;
       close_at_end_of_input = truth (codes "close_at_end_of_input") members (get_member (codes "close_at_end_of_input") members) refl close.0;
     }
 

@@ -9,6 +9,7 @@ use Rattle.policy_tree.specs.declared.fault.PolicyFault.{PolicyFault}
 use Rattle.policy_tree.specs.declared.policy.Join.{Join}
 use Rattle.policy_tree.specs.declared.policy.Join.TheVariants as join_is
 use Rattle.tsc_config.specs.PolicySettings.{Setting, required, optional, settings}
+use Rattle.tsc_config.specs.Exports.{export_settings}
 use Rattle.tsc_config.specs.Keys.{number_row, choice_row, is_key, type_name, type_at, join_type, join_name, sub_key, join_at}
 use Rattle.tsc_config.specs.Faults.{item_fault, wanted_fault, order_fault, twice_fault}
 use Rattle.tsc_config.specs.Values.{config_of}
@@ -210,7 +211,8 @@ cache_settings =
 abbrev pub tables_faults : Members → List ConfigFault
 tables_faults members =
     optional_faults (settings_faults table_is.DecisionCache cache_settings) (get_member (codes "decision_cache") members)
-    ++ required_faults policies_faults (get_member (codes "policies") members)
+    ++ (optional_faults (settings_faults table_is.Export export_settings) (get_member (codes "export") members)
+    ++ required_faults policies_faults (get_member (codes "policies") members))
 
 -- the faults of the table of a configuration
 abbrev pub table_faults : Members → List ConfigFault

@@ -7,6 +7,7 @@ use Rattle.policy_tree.specs.Faults.{fault_of_policies}
 use Rattle.policy_tree.specs.declared.fault.PolicyFault.{PolicyFault}
 use Rattle.policy_tree.specs.declared.policy.Join.{Join}
 use Rattle.policy_tree.specs.declared.policy.Join.TheVariants as join_is
+use Rattle.tsc_config.specs.Exports.{export_settings}
 use Rattle.tsc_config.specs.Keys.{type_name, type_at, join_type, join_name, sub_key, join_at}
 use Rattle.tsc_config.specs.Faults.{config_fault_number, optional, required, unknown_fault, integer_fault, text_fault, truth_fault, choice_fault, type_fault, item_fault, wanted_fault, order_fault, twice_fault}
 use Rattle.tsc_config.specs.PolicySettings.{Setting, settings}
@@ -143,6 +144,11 @@ CacheHas (table members) fault =
     ⊎ (optional (integer_fault (pos 0) (pos 1000000)) (get_member (codes "non_sampled_cache_size") members) ≡ Some fault))
 CacheHas _ fault = fault ≡ WrongType
 
+-- the table of `export` has this fault
+abbrev pub ExportHas : Data → ConfigFault → Type 0
+ExportHas (table members) fault = (unknown_fault table_is.Export members ≡ Some fault) ⊎ SomeSettingHas export_settings members fault
+ExportHas _ fault = fault ≡ WrongType
+
 -- the number at this key isn't one from 1 to the greatest
 abbrev pub NumberHas : Members → (key : List ℕ) → (greatest : ℤ) → ConfigFault → Type 0
 NumberHas members key greatest fault = optional (integer_fault (pos 1) greatest) (get_member key members) ≡ Some fault
@@ -191,7 +197,8 @@ HasFault members fault =
     ⊎ ((optional truth_fault (get_member (codes "sample_on_first_match") members) ≡ Some fault)
     ⊎ (ChoicesHave members fault
     ⊎ (OptionalHas CacheHas (get_member (codes "decision_cache") members) fault
-    ⊎ RequiredHas PoliciesHave (get_member (codes "policies") members) fault)))))))
+    ⊎ (OptionalHas ExportHas (get_member (codes "export") members) fault
+    ⊎ RequiredHas PoliciesHave (get_member (codes "policies") members) fault))))))))
 
 -- the text of a configuration with this table, if it is TOML, has this fault
 abbrev pub DocumentHas : Option Members → ConfigFault → Type 0

@@ -6,6 +6,7 @@ use Rattle.toml.specs.Data.{Data, string, integer, float, boolean, array, table,
 use Rattle.tsc_config.specs.PolicySettings.{Setting, settings}
 use Rattle.tsc_config.specs.Composites.{is_ordered}
 use Rattle.tsc_config.specs.Percentages.{percentage_of}
+use Rattle.tsc_config.specs.Exports.{export_settings, is_endpoint}
 use Rattle.tsc_config.specs.Keys.{NumberRow, number_row, ChoiceRow, choice_row, has_unknown_key, type_name, type_of, type_at, code_of, join_type, join_name, sub_key, join_at}
 use Rattle.policy_tree.specs.declared.policy.Join.{Join}
 use Rattle.policy_tree.specs.declared.policy.Join.TheVariants as join_is
@@ -66,6 +67,11 @@ number_fault row members = optional (integer_fault (pos row.lowest) (pos row.gre
 abbrev pub text_fault : Data → Option ConfigFault
 text_fault (string text) = None
 text_fault _ = Some WrongType
+
+-- a text of the form `http://HOST:PORT/PATH` is wanted
+abbrev pub endpoint_fault : Data → Option ConfigFault
+endpoint_fault (string text) = if is_endpoint text then None else Some OutOfRange
+endpoint_fault _ = Some WrongType
 
 -- a text was found to name something of its list, or not
 abbrev pub named_fault : {A : Type 0} → Option A → Option ConfigFault
@@ -140,6 +146,7 @@ wanted_fault (value_is.Integer lowest greatest) = integer_fault lowest greatest
 wanted_fault value_is.Whole = whole_fault
 wanted_fault value_is.Truth = truth_fault
 wanted_fault value_is.Text = text_fault
+wanted_fault value_is.Endpoint = endpoint_fault
 wanted_fault value_is.PolicyType = type_fault
 wanted_fault (value_is.Choice key) = choice_fault (choice_row key)
 wanted_fault value_is.Percentage = percentage_fault
@@ -243,6 +250,11 @@ cache_fault (table members) =
     (optional (integer_fault (pos 0) (pos 1000000)) (get_member (codes "non_sampled_cache_size") members)))
 cache_fault _ = Some WrongType
 
+-- the settings of `export` are wanted
+abbrev pub export_fault : Data → Option ConfigFault
+export_fault (table members) = least (unknown_fault table_is.Export members) (each_setting_fault export_settings members)
+export_fault _ = Some WrongType
+
 -- both names of the wait from a trace's root on stand there
 unfoldable pub twice_fault : Members → Option ConfigFault
 twice_fault members =
@@ -289,7 +301,8 @@ others_fault members =
     (least (optional truth_fault (get_member (codes "sample_on_first_match") members))
     (least (choices_fault members)
     (least (optional cache_fault (get_member (codes "decision_cache") members))
-    (required policies_fault (get_member (codes "policies") members))))))
+    (least (optional export_fault (get_member (codes "export") members))
+    (required policies_fault (get_member (codes "policies") members)))))))
 
 -- the rows of the whole table: a key more is a row more
 unfoldable pub table_fault : Members → Option ConfigFault

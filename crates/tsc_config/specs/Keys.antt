@@ -101,8 +101,11 @@ is_key table_is.Config key =
     || bytes_eq key (number_row number_is.Tick).name
     || bytes_eq key (codes "listen") || bytes_eq key (codes "accept_gzip") || bytes_eq key (codes "sample_on_first_match")
     || bytes_eq key (choice_row choice_is.QueueFull).name || bytes_eq key (choice_row choice_is.OutputFault).name || bytes_eq key (choice_row choice_is.DoubleValues).name || bytes_eq key (codes "close_at_end_of_input")
-    || bytes_eq key (codes "admin")
+    || bytes_eq key (codes "admin") || bytes_eq key (codes "export")
 is_key table_is.DecisionCache key = bytes_eq key (codes "sampled_cache_size") || bytes_eq key (codes "non_sampled_cache_size")
+is_key table_is.Export key =
+    bytes_eq key (codes "endpoint") || bytes_eq key (codes "timeout_ms") || bytes_eq key (codes "retry_initial_ms") || bytes_eq key (codes "retry_max_ms") || bytes_eq key (codes "retry_for_ms")
+    || bytes_eq key (codes "close_wait_ms")
 is_key (table_is.Policy kind) key = bytes_eq key (codes "name") || bytes_eq key (codes "type") || has_settings kind && bytes_eq key (type_name kind)
 is_key (table_is.Settings kind) key = is_setting kind key
 is_key table_is.Allocation key = bytes_eq key (codes "policy") || bytes_eq key (codes "percent")

@@ -5,6 +5,7 @@ pub mod Faults
 pub mod Percentages
 pub mod Composites
 pub mod PolicySettings
+pub mod Exports
 pub mod Keys
 pub mod Reading
 pub mod Values

@@ -3,7 +3,9 @@ use Rattle.std.specs.Prelude.{[], ◌≡◌, ℕ, ◌≤◌, pos, Bool, true, fa
 use Rattle.toml.specs.Data.{string, integer, boolean, table, Members, get_member}
 use Rattle.toml.specs.Parse.{parse_document}
 use Rattle.tsc_config.specs.Reading.{reading}
+use Rattle.tsc_config.specs.Exports.{is_endpoint}
 use Rattle.tsc_config.specs.declared.config.Config.{Config}
+use Rattle.tsc_config.specs.declared.exports.Export.{Export}
 
 -- the number of a key: its default, where it doesn't stand there; else the whole number there, which is within these bounds
 abbrev pub IsNumberAt : Members → (key : List ℕ) → (default lowest greatest : ℕ) → (number : ℕ) → Type 0
@@ -40,6 +42,22 @@ IsCacheSize members key size =
     ((get_member (codes "decision_cache") members ≡ None) × (size ≡ 0))
     ⊎ ((sizes : Members) × (get_member (codes "decision_cache") members ≡ Some (table sizes)) × IsNumberAt sizes key 0 0 1000000 size)
 
+-- the table of `export`: an address of this form, and each number its default or a whole number within its bounds
+pub record HasExport (members : Members) (export : Export) : Type 0 where
+  pub endpoint : get_member (codes "endpoint") members ≡ Some (string export.endpoint)
+  pub form : is_endpoint export.endpoint ≡ true
+  pub timeout : IsNumberAt members (codes "timeout_ms") 10000 1 600000 export.timeout
+  pub retry_initial : IsNumberAt members (codes "retry_initial_ms") 500 1 3600000 export.retry_initial
+  pub retry_max : IsNumberAt members (codes "retry_max_ms") 30000 1 3600000 export.retry_max
+  pub retry_for : IsNumberAt members (codes "retry_for_ms") 300000 0 86400000 export.retry_for
+  pub close_wait : IsNumberAt members (codes "close_wait_ms") 10000 0 3600000 export.close_wait
+
+-- nothing is sent where there is no such table
+abbrev pub IsExportAt : Members → Export → Type 0
+IsExportAt members export =
+    ((get_member (codes "export") members ≡ None) × (export.endpoint ≡ []))
+    ⊎ ((given : Members) × (get_member (codes "export") members ≡ Some (table given)) × HasExport given export)
+
 -- each key of a table: its default, its least and greatest number, and the setting that has its value
 pub record HasSettings (members : Members) (config : Config) : Type 0 where
   pub decision_wait : IsNumberAt members (codes "decision_wait_ms") 30000 1 3600000 config.decision_wait
@@ -62,6 +80,7 @@ pub record HasSettings (members : Members) (config : Config) : Type 0 where
   pub keeps_doubles : IsChoiceAt members (codes "double_values") (codes "discard") (codes "keep") config.keeps_doubles
   pub close_at_end_of_input : IsTruthAt members (codes "close_at_end_of_input") config.close_at_end_of_input
   pub admin : IsTextAt members (codes "admin") [] config.admin
+  pub export : IsExportAt members config.export
 
 -- a text that is read as a configuration is a document with these settings
 abbrev pub ReadsSettings : Type 0

@@ -20,6 +20,7 @@ use Rattle.tsc_config.specs.declared.kinds.NumberKey.TheVariants as number_is
 use Rattle.tsc_config.specs.declared.kinds.PolicyType.{PolicyType}
 use Rattle.tsc_config.specs.declared.kinds.PolicyType.TheVariants as type_is
 use Rattle.tsc_config.specs.declared.config.Config.{Config}
+use Rattle.tsc_config.specs.declared.exports.Export.{Export}
 
 -- a number from 1 to the greatest; any other value counts as absent
 abbrev pub positive_value : (default greatest : ℕ) → Data → ℕ
@@ -312,6 +313,35 @@ InRange config = record {
   ticks : 0 < config.tick;
 }
 
+-- the number at a key, at least 0, or its default
+abbrev pub number_value : (default : ℕ) → Data → ℕ
+number_value default (integer (pos number)) = number
+number_value default _ = default
+
+abbrev pub number_or : (default : ℕ) → Option Data → ℕ
+number_or default None = default
+number_or default (Some value) = number_value default value
+
+-- what the table of `export` gives
+abbrev pub export_in : Members → Export
+export_in members = record {
+  endpoint = text_of (get_member (codes "endpoint") members);
+  timeout = number_or 10000 (get_member (codes "timeout_ms") members);
+  retry_initial = number_or 500 (get_member (codes "retry_initial_ms") members);
+  retry_max = number_or 30000 (get_member (codes "retry_max_ms") members);
+  retry_for = number_or 300000 (get_member (codes "retry_for_ms") members);
+  close_wait = number_or 10000 (get_member (codes "close_wait_ms") members);
+}
+
+abbrev pub export_value : Data → Export
+export_value (table members) = export_in members
+export_value _ = export_in no_members
+
+-- what stands at `export`, where nothing is as an empty table
+abbrev pub export_of : Option Data → Export
+export_of None = export_in no_members
+export_of (Some value) = export_value value
+
 -- the configuration of a table
 abbrev pub config_of : Members → Config
 config_of members = record {
@@ -336,4 +366,5 @@ config_of members = record {
   stops_at_output_fault = is_other (choice_row choice_is.OutputFault) (get_member (choice_row choice_is.OutputFault).name members);
   keeps_doubles = is_other (choice_row choice_is.DoubleValues) (get_member (choice_row choice_is.DoubleValues).name members);
   close_at_end_of_input = truth_of (get_member (codes "close_at_end_of_input") members);
+  export = export_of (get_member (codes "export") members);
 }

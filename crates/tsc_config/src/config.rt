@@ -8,6 +8,7 @@ ghost use Rattle.tsc_config.specs.Values.{InRange, config_of};
 ghost use Rattle.tsc_config.specs.declared.fault.ConfigFault.{ConfigFault};
 ghost use Rattle.tsc_config.specs.declared.fault.ConfigFault.TheVariants.{NoMemory};
 
+use crate::exports::{Export, export_at};
 use crate::fault::ConfigFault;
 use crate::fault_walk::table_fault;
 use crate::kinds::{ChoiceKey, NumberKey};
@@ -79,6 +80,8 @@ pub struct Config {
     pub keeps_doubles: bool,
     /// Whether the end of the standard input closes the collector (this project's option `close_at_end_of_input`).
     pub close_at_end_of_input: bool,
+    /// Where the lines are sent to, in place of being printed (this project's option `export`).
+    pub export: Export,
 }
 
 impl Config {
@@ -200,5 +203,6 @@ fn given_by(alloc: Global, table: &Table, policies: Policies) -> Result<Config, 
         stops_at_output_fault: is_other_at(table, ChoiceKey::OutputFault),
         keeps_doubles: is_other_at(table, ChoiceKey::DoubleValues),
         close_at_end_of_input: truth_at(table, "close_at_end_of_input"),
+        export: export_at(alloc, table)?,
     })
 }

@@ -5,6 +5,7 @@ ghost use Rattle.toml.specs.View.{view, table_view};
 ghost use Rattle.tsc_config.specs.Faults as spec;
 ghost use Rattle.tsc_config.specs.Keys.{choice_row, number_row};
 
+use crate::exports::export_at_fault;
 use crate::fault::{ConfigFault, least};
 use crate::keys::{member, unknown_fault};
 use crate::kinds::{ChoiceKey, NumberKey, TableKind};
@@ -32,7 +33,9 @@ fn others_fault(table: &Table) -> Option<ConfigFault>
     let cache = cache_at_fault(table);
     let gzip = optional_fault(table, "accept_gzip", ValueKind::Truth);
     let first = optional_fault(table, "sample_on_first_match", ValueKind::Truth);
-    let tables = least(cache, required_policies_fault(table));
+    let export = export_at_fault(table);
+    let policies = required_policies_fault(table);
+    let tables = least(cache, least(export, policies));
     let choices = least(choices_fault(table), tables);
     least(listen, least(gzip, least(first, choices)))
 }

@@ -86,6 +86,9 @@ pub fn value_text(
             let (_, default, other) = key.row();
             format!(in alloc; "{place}: {value} is none of {default}, {other}")
         }
+        ValueKind::Endpoint => {
+            format!(in alloc; "{place}: {value} is not of the form http://HOST:PORT/PATH")
+        }
         ValueKind::PolicyType => {
             let names = type_names(alloc)?;
             format!(in alloc; "{place}: {value} is none of {names}")
@@ -111,7 +114,8 @@ fn type_text(wanted: ValueKind) -> &'static str {
     match wanted {
         ValueKind::Integer(..) | ValueKind::Whole => "a whole number",
         ValueKind::Truth => "true or false",
-        ValueKind::Text | ValueKind::PolicyType | ValueKind::Choice(_) => "a text",
+        ValueKind::Text | ValueKind::Endpoint | ValueKind::PolicyType | ValueKind::Choice(_) =>
+            "a text",
         ValueKind::Percentage => "a number",
         ValueKind::Array(_) => "an array",
     }

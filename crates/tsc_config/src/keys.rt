@@ -74,9 +74,21 @@ pub fn is_key(kind: TableKind, key: &str) -> bool
                 | "double_values"
                 | "close_at_end_of_input"
                 | "admin"
+                | "export"
         ),
         TableKind::DecisionCache => {
             matches!(key, "sampled_cache_size" | "non_sampled_cache_size")
+        }
+        TableKind::Export => {
+            matches!(
+                key,
+                "endpoint"
+                    | "timeout_ms"
+                    | "retry_initial_ms"
+                    | "retry_max_ms"
+                    | "retry_for_ms"
+                    | "close_wait_ms"
+            )
         }
         TableKind::Policy(kind) => {
             matches!(key, "name" | "type") || has_settings(kind) && key == kind.name()

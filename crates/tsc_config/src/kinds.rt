@@ -143,6 +143,8 @@ pub enum TableKind {
     Config,
     /// The sizes of the caches of decisions.
     DecisionCache,
+    /// Where the lines are sent to.
+    Export,
     /// A policy.
     Policy(PolicyType),
     /// The settings of a policy of this type.

@@ -9,6 +9,7 @@
 
 mod composites;
 mod config;
+mod exports;
 mod fault;
 mod fault_walk;
 mod finding_texts;
@@ -28,6 +29,7 @@ mod table_findings;
 mod values;
 
 pub use config::{Config, read};
+pub use exports::Export;
 pub use fault::ConfigFault;
 pub use findings::Finding;
 pub use table_findings::faults;

@@ -22,6 +22,8 @@ pub enum ValueKind {
     Whole,
     Truth,
     Text,
+    /// A text of the form `http://HOST:PORT/PATH`.
+    Endpoint,
     /// A text that names a type of policy.
     PolicyType,
     /// One of the two texts of this key.

@@ -6,6 +6,7 @@ ghost use Rattle.tsc_config.specs.Faults as spec;
 ghost use Rattle.tsc_config.specs.Keys.{choice_row};
 ghost use Rattle.tsc_config.specs.PolicySettings.{setting_of};
 
+use crate::exports::is_endpoint;
 use crate::fault::{ConfigFault, least};
 use crate::keys::{code_of, member, type_of, unknown_fault};
 use crate::kinds::{ChoiceKey, PolicyType, TableKind};
@@ -35,7 +36,7 @@ pub fn rows_fault(kind: PolicyType, table: &Table) -> Option<ConfigFault>
 }
 
 /// The least fault of these settings.
-fn each_setting_fault(settings: &[Setting], table: &Table) -> Option<ConfigFault>
+pub fn each_setting_fault(settings: &[Setting], table: &Table) -> Option<ConfigFault>
     ensures { result ≡ spec.each_setting_fault (map setting_of settings.now) (table_view table.now) }
 {
     let mut fault = None;
@@ -132,6 +133,13 @@ pub fn value_fault(value: &Value, wanted: ValueKind) -> Option<ConfigFault>
         (ValueKind::Text, Value::String(_)) => None,
         (ValueKind::Array(kind), Value::Array(items)) => items_fault(items, kind),
         (ValueKind::Choice(key), Value::String(text)) => choice_fault(key, text.as_str()),
+        (ValueKind::Endpoint, Value::String(text)) => {
+            if is_endpoint(text.as_bytes()) {
+                None
+            } else {
+                Some(ConfigFault::OutOfRange)
+            }
+        }
         (ValueKind::PolicyType, Value::String(_)) => match type_of(value) {
             Some(_) => None,
             None => Some(ConfigFault::OutOfRange),

@@ -7,6 +7,7 @@ ghost use Rattle.tsc_config.specs.PolicySettings.{setting_of};
 ghost use Rattle.tsc_config.specs.Reading.{reading};
 ghost use Rattle.tsc_config.specs.Values.{config_of};
 
+use crate::exports::export_settings;
 use crate::fault::ConfigFault;
 use crate::fault_walk::twice_fault;
 use crate::finding_texts::{policy_fault_text, twice_text};
@@ -128,6 +129,10 @@ fn add_tables(alloc: Global, table: &Table, findings: &mut Findings) -> Result<(
             value,
             findings,
         )?;
+    }
+    if let Some(value) = member(table, "export") {
+        let kind = TableKind::Export;
+        add_settings(alloc, "export", kind, export_settings(), value, findings)?;
     }
     match member(table, "policies") {
         Some(value) => add_policies(alloc, value, findings),

@@ -1,0 +1,5 @@
+-- Reading order: Rules (what each answer means), Logs (what was tried and settled), Deliveries (what deliveries did), Sinks (a sink whose lines are batches).
+pub mod Rules
+pub mod Logs
+pub mod Deliveries
+pub mod Sinks

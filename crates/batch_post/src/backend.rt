@@ -1,0 +1,33 @@
+//! What takes batches.
+ghost use Rattle.std.specs.Prelude.{◌∷◌, [], List, Option};
+ghost use Rattle.batch_post.specs.Logs.{Entry, Grows, settled, tried};
+
+use crate::outcome::{Fate, Outcome};
+
+/// A backend, as one sees it who delivers batches to it.
+pub trait Backend {
+    /// What was tried, and what was settled, in order, where that is known.
+    ghost log: { Self → Option (List Entry) };
+
+    /// Tries to hand a batch over, and answers how that ended.
+    fn attempt(&mut self, batch: &[u8]) -> Outcome
+        ensures { Grows (log self.old) (log self.new) (tried batch.now result ∷ []) };
+
+    /// A batch was delivered or given up.
+    fn settle(&mut self, batch: &[u8], fate: Fate)
+        ensures { Grows (log self.old) (log self.new) (settled batch.now fate ∷ []) };
+
+    /// Waits for so many milliseconds, or less where the collector closes meanwhile.
+    fn wait(&mut self, milliseconds: u64)
+        ensures { Grows (log self.old) (log self.new) [] };
+
+    /// A moment, in milliseconds.
+    fn now(&self) -> u64;
+
+    /// A random number.
+    fn random(&mut self) -> u64
+        ensures { Grows (log self.old) (log self.new) [] };
+
+    /// How many milliseconds are left, once the collector closes.
+    fn left(&self) -> Option<u64>;
+}

@@ -1,0 +1,28 @@
+//! The delivery of one batch.
+ghost use Rattle.std.specs.Prelude.{◌≡◌};
+ghost use Rattle.batch_post.specs.Deliveries.{Delivers};
+
+use crate::backend::Backend;
+use crate::outcome::Fate;
+use crate::rule::{Retry, Verdict};
+use std::sync::Wait;
+
+/// Tries a batch until the backend took it or it is to be given up. That is settled by the caller.
+pub fn deliver<B: Backend, R: Wait>(rt: &R, rule: &Retry, backend: &mut B, batch: &[u8]) -> Fate
+    ensures { Delivers (B.log backend.old) (B.log backend.new) batch.now result }
+{
+    let began = backend.now();
+    let mut wait = rule.initial;
+    for _ in rt.forever() {
+        let outcome = backend.attempt(batch);
+        let random = backend.random();
+        let elapsed = backend.now().saturating_sub(began);
+        match rule.verdict(outcome, wait, random, elapsed, backend.left()) {
+            Verdict::Taken => return Fate::Delivered,
+            Verdict::Waits(milliseconds) => backend.wait(milliseconds),
+            Verdict::Ends => return Fate::GivenUp,
+        }
+        wait = rule.next_wait(wait);
+    }
+    unreachable!()
+}

@@ -1,0 +1,19 @@
+//! The delivery of batches to a backend, one after the other (OTLP 1.x, OTLP/HTTP, "Failures" and "Throttling").
+//!
+//! [`deliver`] tries one batch until the backend took it or it is to be given up, and [`BatchSink`] is a sink whose lines are the batches. They know no threads and no sockets: what tries, tells the time and
+//! waits is a [`Backend`]. `specs/Rules` says what each answer means and how long is waited, `specs/Deliveries` what a delivery did.
+#![tactic(auto)]
+
+mod backend;
+mod delivering;
+mod outcome;
+mod rule;
+mod sink;
+mod spans;
+
+pub use backend::Backend;
+pub use delivering::deliver;
+pub use outcome::{Fate, Outcome};
+pub use rule::{Retry, Verdict};
+pub use sink::BatchSink;
+pub use spans::Spans;

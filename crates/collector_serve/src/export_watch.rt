@@ -1,0 +1,36 @@
+//! The collector, as its backend sees it.
+use crate::board::Board;
+use crate::stop_mark::StopMark;
+use batch_post::Fate;
+use http_lane::Stop;
+use post_socket::Watch;
+
+/// A mark to stop, and a board that is told what was delivered.
+#[derive(Drop)]
+pub struct ExportWatch<'s> {
+    stop: &'s StopMark,
+    board: &'s Board,
+}
+
+impl<'s> ExportWatch<'s> {
+    /// With this mark and this board.
+    pub fn new(stop: &'s StopMark, board: &'s Board) -> Self {
+        ExportWatch { stop, board }
+    }
+}
+
+impl<'s> Watch for ExportWatch<'s> {
+    fn is_closing(&self) -> bool {
+        self.stop.is_set()
+    }
+
+    fn settled(&self, bytes: u64, fate: Fate) {
+        if fate == Fate::Delivered {
+            self.board.delivered(bytes);
+        }
+    }
+
+    fn rejected(&self, spans: u64) {
+        self.board.rejects(spans);
+    }
+}

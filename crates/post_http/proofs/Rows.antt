@@ -1,0 +1,27 @@
+-- For how long answers ask to wait, computed.
+use Rattle.std.proofs.Common.{◌≡◌, ℕ, List, [], ◌∷◌, Some, None, codes, refl}
+use Rattle.post_http.specs.Waits.{seconds_of, wait_in}
+
+seven_seconds : seconds_of (codes "7") ≡ Some 7
+seven_seconds = refl
+
+two_minutes : seconds_of (codes "0120") ≡ Some 120
+two_minutes = refl
+
+at_most_the_longest : seconds_of (codes "1000001") ≡ Some 1000000
+at_most_the_longest = refl
+
+no_digits : seconds_of [] ≡ None
+no_digits = refl
+
+a_date : seconds_of (codes "Wed, 21 Oct 2015 07:28:00 GMT") ≡ None
+a_date = refl
+
+signed : seconds_of (codes "-1") ≡ None
+signed = refl
+
+the_first_of_its_name : wait_in ((codes "Server", codes "3") ∷ (codes "RETRY-after", codes "5") ∷ (codes "Retry-After", codes "9") ∷ []) ≡ Some 5
+the_first_of_its_name = refl
+
+no_such_field : wait_in ((codes "Retry", codes "3") ∷ []) ≡ None
+no_such_field = refl

@@ -1,0 +1,10 @@
+use Rattle.std.proofs.Common.{◌≤◌, length, drop}
+use Rattle.post_http.specs.Answers.{SeesBehind}
+use Rattle.post_http.proofs.reading.heads_in.Given as goal
+
+-- the rest of the bytes stands behind interim heads
+abbrev pub invariant-loop : goal.invariant-loop
+invariant-loop l = record {
+  fits : l.at ≤ length l.bytes;
+  behind : SeesBehind l.bytes l.client (drop l.at l.bytes);
+}

@@ -1,0 +1,242 @@
+//! The backend.
+ghost use Rattle.std.specs.Prelude.{None};
+
+use crate::rejected::rejected_in;
+use crate::watch::Watch;
+use batch_post::{Backend, Fate, Outcome};
+use http1::Header;
+use post_http::{Answer, Patience, Posted, head_of, post};
+use std::alloc::Global;
+use std::io::ErrorKind;
+use std::net::{Net, TcpStream, ToSocketAddrs};
+use std::random::RandomSource;
+use std::time::{Clock, Duration, Instant};
+use std::{io, thread};
+
+/// So long a wait lasts at least before it is looked whether the collector closes, in milliseconds.
+const SLICE: u64 = 50;
+
+/// Where a backend is, and how long is waited for it, in milliseconds.
+#[derive(Clone, Copy)]
+pub struct Settings<'t> {
+    /// Its host and port.
+    pub authority: &'t str,
+    /// The path of requests.
+    pub path: &'t str,
+    /// How long an attempt may take.
+    pub timeout: u64,
+    /// How long batches are tried once the collector closes.
+    pub close_wait: u64,
+}
+
+/// A backend at an address.
+#[derive(Drop)]
+pub struct SocketBackend<'t, V, R> {
+    rt: &'t R,
+    alloc: Global,
+    settings: Settings<'t>,
+    watch: &'t V,
+    began: Option<Instant>,
+    closing_since: Option<u64>,
+    stream: Option<TcpStream>,
+}
+
+/// The time of an attempt.
+#[derive(Drop)]
+struct Attempt<'a, R> {
+    rt: &'a R,
+    began: Option<Instant>,
+    limit: u64,
+}
+
+impl<'a, R: Clock> Patience for Attempt<'a, R> {
+    fn is_over(&self) -> bool {
+        self.limit <= elapsed(self.rt, &self.began)
+    }
+}
+
+/// How many milliseconds have passed, and 0 where the clock can't be read.
+fn elapsed<R: Clock>(rt: &R, began: &Option<Instant>) -> u64 {
+    let Some(began) = began else {
+        return 0;
+    };
+    match began.elapsed(rt) {
+        Ok(duration) => u64::try_from(duration.as_millis()).unwrap_or(u64::MAX),
+        Err(_) => 0,
+    }
+}
+
+impl<'t, V: Watch, R: Net<Stream = TcpStream> + Clock + RandomSource> SocketBackend<'t, V, R> {
+    /// A backend to which nothing was sent. The address is looked up and connected to at the first attempt.
+    pub fn new(rt: &'t R, alloc: Global, settings: Settings<'t>, watch: &'t V) -> Self {
+        SocketBackend {
+            rt,
+            alloc,
+            settings,
+            watch,
+            began: Instant::now(rt).ok(),
+            closing_since: None,
+            stream: None,
+        }
+    }
+
+    /// Notes when the collector began to close.
+    fn look(&mut self) {
+        if self.closing_since.is_none() && self.watch.is_closing() {
+            self.closing_since = Some(elapsed(self.rt, &self.began));
+        }
+    }
+
+    /// How long an attempt may take now, which is at least a millisecond.
+    fn limit(&self) -> u64 {
+        let limit = match self.left() {
+            Some(left) => left.min(self.settings.timeout),
+            None => self.settings.timeout,
+        };
+        limit.max(1)
+    }
+
+    /// The connection that is kept, where its peer neither closed it nor sent anything, or a new one.
+    fn connection(&mut self, limit: u64) -> io::Result<TcpStream> {
+        let patience = Duration::from_millis(limit);
+        let kept = self.stream.take();
+        let stream = match kept {
+            Some(stream) if is_quiet(&stream) => stream,
+            _ => connect(self.rt, self.settings.authority, patience)?,
+        };
+        stream.set_read_timeout(Some(patience))?;
+        stream.set_write_timeout(Some(patience))?;
+        Ok(stream)
+    }
+
+    /// Posts a batch on a connection, and keeps that where it can be used again.
+    fn exchange(&mut self, batch: &[u8]) -> Option<Answer> {
+        let fields = [
+            Header {
+                name: b"Host",
+                value: self.settings.authority.as_bytes(),
+            },
+            Header {
+                name: b"Content-Type",
+                value: b"application/json",
+            },
+        ];
+        let path = self.settings.path.as_bytes();
+        let head = head_of(self.alloc, path, &fields, batch.len()).ok()?;
+        let limit = self.limit();
+        let patience = Attempt {
+            rt: self.rt,
+            began: Instant::now(self.rt).ok(),
+            limit,
+        };
+        let stream = self.connection(limit).ok()?;
+        let (mut reader, mut writer) = (&stream, &stream);
+        match post(
+            self.alloc,
+            &mut reader,
+            &mut writer,
+            &patience,
+            &head,
+            batch,
+        ) {
+            Posted::Answered(answer) => {
+                if answer.keeps {
+                    self.stream = Some(stream);
+                }
+                Some(answer)
+            }
+            _ => None,
+        }
+    }
+}
+
+/// A connection to the first address of a host that takes one.
+fn connect<R: Net<Stream = TcpStream>>(
+    rt: &R,
+    authority: &str,
+    patience: Duration,
+) -> io::Result<TcpStream> {
+    let mut last = io::Error::from(ErrorKind::AddrNotAvailable);
+    for at in authority.to_socket_addrs(rt)? {
+        match TcpStream::connect_timeout(rt, &at, patience) {
+            Ok(stream) => {
+                stream.set_nodelay(true)?;
+                return Ok(stream);
+            }
+            Err(error) => last = error,
+        }
+    }
+    Err(last)
+}
+
+/// Whether nothing came on a connection, not even its end.
+fn is_quiet(stream: &TcpStream) -> bool {
+    let mut byte = [0u8; 1];
+    if stream.set_nonblocking(true).is_err() {
+        return false;
+    }
+    let peeked = stream.peek(&mut byte);
+    let is_quiet = matches!(peeked, Err(error) if error.kind() == ErrorKind::WouldBlock);
+    is_quiet && stream.set_nonblocking(false).is_ok()
+}
+
+impl<'t, V: Watch, R: Net<Stream = TcpStream> + Clock + RandomSource> Backend
+    for SocketBackend<'t, V, R> {
+    ghost log = { λ b. None };
+
+    fn attempt(&mut self, batch: &[u8]) -> Outcome {
+        self.look();
+        if self.left() == Some(0) {
+            return Outcome::NoAnswer;
+        }
+        let Some(answer) = self.exchange(batch) else {
+            return Outcome::NoAnswer;
+        };
+        if answer.status == 200 {
+            let rejected = rejected_in(self.alloc, &answer.body);
+            self.watch.rejected(rejected);
+        }
+        let asked = answer
+            .retry_after
+            .map(|seconds| seconds.saturating_mul(1000));
+        Outcome::Answered(answer.status, asked)
+    }
+
+    fn settle(&mut self, batch: &[u8], fate: Fate) {
+        self.watch.settled(batch.len() as u64, fate);
+    }
+
+    fn wait(&mut self, milliseconds: u64) {
+        let began = elapsed(self.rt, &self.began);
+        for _ in 0..=milliseconds / SLICE {
+            let waited = elapsed(self.rt, &self.began).saturating_sub(began);
+            if milliseconds <= waited {
+                return;
+            }
+            self.look();
+            if self.left() == Some(0) {
+                return;
+            }
+            let slice = (milliseconds - waited).min(SLICE);
+            thread::sleep(self.rt, Duration::from_millis(slice));
+        }
+    }
+
+    fn now(&self) -> u64 {
+        elapsed(self.rt, &self.began)
+    }
+
+    fn random(&mut self) -> u64 {
+        let mut bytes = [0u8; 8];
+        match self.rt.fill_bytes(&mut bytes) {
+            Ok(()) => u64::from_le_bytes(bytes),
+            Err(_) => 0,
+        }
+    }
+
+    fn left(&self) -> Option<u64> {
+        let since = self.closing_since?;
+        let closing = elapsed(self.rt, &self.began).saturating_sub(since);
+        Some(self.settings.close_wait.saturating_sub(closing))
+    }
+}

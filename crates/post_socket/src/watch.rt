@@ -1,0 +1,14 @@
+//! Who watches a backend.
+use batch_post::Fate;
+
+/// The collector, as its backend sees it.
+pub trait Watch {
+    /// Whether it closes.
+    fn is_closing(&self) -> bool;
+
+    /// A batch of so many bytes was delivered or given up.
+    fn settled(&self, bytes: u64, fate: Fate);
+
+    /// The backend took a batch but for so many of its spans (OTLP 1.x, "Partial Success").
+    fn rejected(&self, spans: u64);
+}

@@ -1,0 +1,216 @@
+"""Checks of `tsc serve` with `[export]`: a backend that fails by a script, and what it has in the end.
+
+The backend takes one connection after the other; each request takes the next step of its script, and where that is at its end is answered 200.
+"""
+
+import json
+import socket
+import struct
+import threading
+import time
+
+from collector import ALL, Failure, body_of, post, want
+
+OK = b"HTTP/1.1 200 OK\r\nContent-Type: application/json\r\nContent-Length: 2\r\n\r\n{}"
+FAST = "decision_wait_ms = 50\ntick_ms = 20\n"
+
+
+def answer(status, fields="", body=b"{}"):
+    """An answer with a length."""
+    return f"HTTP/1.1 {status} Said\r\n{fields}Content-Length: {len(body)}\r\n\r\n".encode() + body
+
+
+def span(number):
+    """A span of a trace of its own."""
+    return {"traceId": f"{number + 1:032x}", "spanId": f"{number + 1:016x}"}
+
+
+def ids_in(body):
+    """The ids of the spans of a body."""
+    return [s["spanId"] for r in json.loads(body)["resourceSpans"] for g in r["scopeSpans"] for s in g["spans"]]
+
+
+class Backend:
+    """A backend with a script. A step is the pieces of an answer, a number of bytes of the body after which it resets the connection, or a
+    wait in seconds before it answers 200."""
+
+    def __init__(self, script=(), listens=True):
+        self.script, self.requests, self.taken = list(script), [], []
+        self.lock = threading.Lock()
+        self.listener = socket.socket()
+        self.listener.setsockopt(socket.SOL_SOCKET, socket.SO_REUSEADDR, 1)
+        self.listener.bind(("127.0.0.1", 0))
+        self.port = self.listener.getsockname()[1]
+        if listens:
+            self.listen()
+
+    def listen(self):
+        """Takes connections from now on."""
+        self.listener.listen(16)
+        threading.Thread(target=self.serve, daemon=True).start()
+
+    def serve(self):
+        """Takes connections."""
+        while True:
+            try:
+                connection, _ = self.listener.accept()
+            except OSError:
+                return
+            threading.Thread(target=self.serve_one, args=(connection,), daemon=True).start()
+
+    def serve_one(self, connection):
+        """Answers the requests of a connection."""
+        left = b""
+        try:
+            while True:
+                while b"\r\n\r\n" not in left:
+                    more = connection.recv(65536)
+                    if not more:
+                        return
+                    left += more
+                head, left = left.split(b"\r\n\r\n", 1)
+                fields = dict(line.lower().split(": ", 1) for line in head.decode().split("\r\n")[1:])
+                with self.lock:
+                    step = self.script.pop(0) if self.script else [OK]
+                length = int(fields["content-length"])
+                stop = step if isinstance(step, int) else length
+                while len(left) < min(stop, length):
+                    left += connection.recv(65536)
+                if isinstance(step, int):
+                    connection.setsockopt(socket.SOL_SOCKET, socket.SO_LINGER, struct.pack("ii", 1, 0))
+                    return
+                body, left = left[:length], left[length:]
+                with self.lock:
+                    self.requests.append((head.decode(), body))
+                if isinstance(step, float):
+                    time.sleep(step)
+                    step = [OK]
+                if b" 200 " in b"".join(step):
+                    with self.lock:
+                        self.taken.append(body)
+                for piece in step:
+                    connection.sendall(piece)
+                    time.sleep(0.01 if len(step) > 1 else 0)
+                if b"Connection: close" in b"".join(step):
+                    return
+        except OSError:
+            return
+        finally:
+            connection.close()
+
+    def settings(self, more=""):
+        """The settings of a collector that sends here."""
+        waits = "timeout_ms = 1000\nretry_initial_ms = 50\nretry_max_ms = 200\nclose_wait_ms = 5000\n"
+        return f'[export]\nendpoint = "http://127.0.0.1:{self.port}/v1/traces"\n' + (more or waits)
+
+
+def send(collector, first, count=1):
+    """Spans in one request."""
+    want("the answer", collector.ask(post(body_of([span(i) for i in range(first, first + count)])))[::2], (200, "{}"))
+
+
+def until(what, test, seconds=20):
+    """Waits until something holds."""
+    for _ in range(seconds * 50):
+        if test():
+            return
+        time.sleep(0.02)
+    raise Failure(f"{what}: not within {seconds} seconds")
+
+
+def delivers(start):
+    """A line is one request, byte for byte, and nothing but the report is printed."""
+    backend = Backend()
+    collector = start(FAST + ALL + backend.settings())
+    send(collector, 0)
+    until("the request", lambda: backend.requests)
+    lines, numbers = collector.close()
+    line = b'{"resourceSpans":[{"scopeSpans":[{"spans":[{"spanId":"0000000000000001","traceId":"00000000000000000000000000000001"}]}]}]}\n'
+    head = f"POST /v1/traces HTTP/1.1\r\nHost: 127.0.0.1:{backend.port}\r\nContent-Type: application/json\r\ncontent-length: {len(line)}"
+    want("the requests", backend.requests, [(head, line)])
+    want("the lines", lines, [])
+    want("the report", numbers, [1, 1, 0, 0, 0, 0, 0, 0, 0])
+
+
+def tries_again(start):
+    """What may be tried again is, on a connection that is made again where it breaks; each line arrives once, in order."""
+    chunked = [b"HTTP/1.1 200 OK\r\nTransfer-Encoding: chunked\r\n\r\n", b"2\r\n{", b"}\r\n0", b"\r\n\r\n"]
+    script = [[answer(503, "Retry-After: 1\r\n")], [answer(429)], [answer(502)], [answer(504)], 10, [OK[:20]], [b"unasked"]]
+    script += [[b"HTTP/1.1 100 Continue\r\n\r\n", OK], chunked, [OK.replace(b"\r\n\r\n", b"\r\nConnection: close\r\n\r\n")], [OK[i : i + 1] for i in range(len(OK))]]
+    backend = Backend(script)
+    collector = start(FAST + ALL + backend.settings())
+    began = time.time()
+    for number in range(5):
+        send(collector, number)
+        until("the line", lambda n=number: len(backend.taken) >= n + 1)
+        if number == 0 and time.time() - began < 1:
+            raise Failure("Retry-After was not waited for")
+    want("what arrived", [ids_in(body) for body in backend.taken[-5:]], [[f"{n + 1:016x}"] for n in range(5)])
+    want("the report", collector.close()[1], [5, 5, 0, 0, 0, 0, 0, 0, 0])
+
+
+def gives_up(start):
+    """An answer that is neither 200 nor one to try again gives the batch up, which is counted, and the next one is delivered."""
+    backend = Backend([[answer(400)], [OK], [answer(500)], [answer(202)]])
+    collector = start(FAST + ALL + backend.settings())
+    for number in range(5):
+        send(collector, number)
+        until("the request", lambda n=number: len(backend.requests) >= n + 1)
+    want("how many requests", len(backend.requests), 5)
+    want("what arrived", [ids_in(body) for body in backend.taken], [["0000000000000002"], ["0000000000000005"]])
+    want("the report", collector.close()[1], [5, 2, 0, 0, 0, 0, 0, 0, 3])
+
+
+def waits_for_a_backend(start):
+    """A backend that listens two seconds late has all lines."""
+    backend = Backend(listens=False)
+    collector = start(FAST + ALL + backend.settings())
+    for number in range(10):
+        send(collector, number)
+    time.sleep(2)
+    backend.listen()
+    until("the lines", lambda: sum(len(ids_in(body)) for body in backend.taken) == 10)
+    want("the report", collector.close()[1], [10, 10, 0, 0, 0, 0, 0, 0, 0])
+
+
+def late_answer(start):
+    """An answer behind the time of an attempt is none: the line is sent again, and counted once."""
+    backend = Backend([2.0])
+    collector = start(FAST + ALL + backend.settings())
+    send(collector, 0)
+    until("the lines", lambda: len(backend.taken) >= 2)
+    want("the report", collector.close()[1], [1, 1, 0, 0, 0, 0, 0, 0, 0])
+
+
+def patience_ends(start):
+    """A line that is not taken within `retry_for_ms` is given up; so is one at the close, behind `close_wait_ms`."""
+    backend = Backend([[answer(503)]] * 10000)
+    waits = "timeout_ms = 500\nretry_initial_ms = 20\nretry_max_ms = 50\nretry_for_ms = 300\nclose_wait_ms = 400\n"
+    collector = start(FAST + ALL + backend.settings(waits))
+    send(collector, 0)
+    time.sleep(1)
+    tries = len(backend.requests)
+    send(collector, 1)
+    began = time.time()
+    want("the report", collector.close()[1], [2, 0, 0, 0, 0, 0, 0, 0, 2])
+    if tries < 3 or time.time() - began > 5:
+        raise Failure(f"{tries} tries, and a close of {time.time() - began:.1f} seconds")
+
+
+def under_load(start):
+    """Of 20,000 spans a backend that fails one request in ten has each that is counted as handed over, once."""
+    script = [[answer(503)] if n % 10 == 9 else [answer(400)] if n % 50 == 24 else [OK] for n in range(100000)]
+    backend = Backend(script)
+    collector = start(FAST + "queue_capacity = 65536\nexport_capacity = 65536\nsend_batch_size = 100\n" + ALL + backend.settings())
+    for first in range(0, 20000, 500):
+        send(collector, first, 500)
+    numbers = collector.close()[1]
+    have = [number for body in backend.taken for number in ids_in(body)]
+    want("repeats", len(have) - len(set(have)), 0)
+    want("what the backend has", len(have), numbers[1])
+    want("the sum", numbers[1] + numbers[8], 20000)
+    if numbers[8] == 0:
+        raise Failure("no batch was given up")
+
+
+CHECKS = [delivers, tries_again, gives_up, waits_for_a_backend, late_answer, patience_ends, under_load]
