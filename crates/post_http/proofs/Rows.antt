@@ -1,5 +1,5 @@
 -- For how long answers ask to wait, computed.
-use Rattle.std.proofs.Common.{◌≡◌, ℕ, List, [], ◌∷◌, Some, None, codes, refl}
+use Rattle.std.proofs.Common.{◌≡◌, [], ◌∷◌, Some, None, codes, refl}
 use Rattle.http1.specs.Text.{eq_ignore_case}
 use Rattle.post_http.specs.Waits.{seconds_of, wait_in}
 
