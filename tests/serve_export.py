@@ -31,8 +31,8 @@ def ids_in(body):
 
 
 class Backend:
-    """A backend with a script. A step is the pieces of an answer, a number of bytes of the body after which it resets the connection, or a
-    wait in seconds before it answers 200."""
+    """A backend with a script. A step is a list of the pieces of an answer, a tuple of those behind which it ends the connection, a number of
+    bytes of the body after which it resets the connection, or a wait in seconds before it answers 200."""
 
     def __init__(self, script=(), listens=True):
         self.script, self.requests, self.taken = list(script), [], []
@@ -91,7 +91,7 @@ class Backend:
                 for piece in step:
                     connection.sendall(piece)
                     time.sleep(0.01 if len(step) > 1 else 0)
-                if b"Connection: close" in b"".join(step):
+                if isinstance(step, tuple) or b"Connection: close" in b"".join(step):
                     return
         except OSError:
             return
@@ -147,6 +147,22 @@ def tries_again(start):
             raise Failure("Retry-After was not waited for")
     want("what arrived", [ids_in(body) for body in backend.taken[-5:]], [[f"{n + 1:016x}"] for n in range(5)])
     want("the report", collector.close()[1], [5, 5, 0, 0, 0, 0, 0, 0, 0])
+
+
+def no_answers(start):
+    """What breaks off after any byte, is too long or is framed twice is no answer, and the line is sent again; up to the connection's end is one."""
+    script = [(OK[:end],) for end in range(len(OK))]
+    script += [(b"HTTP/1.1 200 OK\r\nX: " + b"a" * 70000,), (b"HTTP/1.1 200 OK\r\nContent-Length: 70000\r\n\r\n" + b"a" * 70000,)]
+    script += [(OK.replace(b"\r\n\r\n", b"\r\nTransfer-Encoding: chunked\r\n\r\n"),), (b"HTTP/1.1 200 OK\r\nTransfer-Encoding: chunked\r\n\r\n2\r\n{}\r\n0\r\n",)]
+    script += [(b"HTTP/1.0 200 OK\r\n\r\n{}",)]
+    tries = len(script)
+    backend = Backend(script)
+    waits = "timeout_ms = 1000\nretry_initial_ms = 1\nretry_max_ms = 1\n"
+    collector = start(FAST + ALL + backend.settings(waits))
+    send(collector, 0)
+    until("the tries", lambda: len(backend.requests) == tries)
+    want("the report", collector.close()[1], [1, 1, 0, 0, 0, 0, 0, 0, 0])
+    want("how many requests", len(backend.requests), tries)
 
 
 def gives_up(start):
@@ -213,4 +229,4 @@ def under_load(start):
         raise Failure("no batch was given up")
 
 
-CHECKS = [delivers, tries_again, gives_up, waits_for_a_backend, late_answer, patience_ends, under_load]
+CHECKS = [delivers, tries_again, no_answers, gives_up, waits_for_a_backend, late_answer, patience_ends, under_load]

@@ -13,6 +13,7 @@ from pathlib import Path
 TOP = Path(__file__).resolve().parent.parent
 DEFINITION = TOP / "crates/tsc_config/specs/Settings.antt"
 CACHES = "decision_cache"
+EXPORT = "export"
 
 
 def bounds(text):
@@ -36,6 +37,12 @@ def cache_numbers():
     text = DEFINITION.read_text()
     row = re.search(r"IsNumberAt sizes key (\d+ \d+ \d+) size", text).group(1)
     return {key: bounds(row) for key in re.findall(r'^  pub \w+ : IsCacheSize members \(codes "(\w+)"\) ', text, re.M)}
+
+
+def export_numbers():
+    """The same of each key of a whole number of the table `export`."""
+    rows = re.findall(r'^  pub \w+ : IsNumberAt given \(codes "(\w+)"\) (\d+ \d+ \d+) ', DEFINITION.read_text(), re.M)
+    return {key: bounds(row) for key, row in rows}
 
 
 def readme_numbers():
@@ -70,9 +77,9 @@ def readme_others():
 
 def differences():
     """A line for each difference."""
-    wanted = top_numbers() | cache_numbers()
+    wanted = top_numbers() | cache_numbers() | export_numbers()
     said = readme_numbers()
-    if not top_numbers() or not cache_numbers():
+    if not top_numbers() or not cache_numbers() or not export_numbers():
         yield f"{DEFINITION} has no rows"
     for key in sorted(wanted.keys() | said.keys()):
         if said.get(key) != [wanted.get(key)]:
@@ -81,7 +88,7 @@ def differences():
         if readme_others().get(key) != [(default, 2)]:
             yield f"README.md has {readme_others().get(key)} for {key}, whose default is {default} (default, values told)"
     example = tomllib.loads((TOP / "examples/every_key.toml").read_text())
-    for place, keys in ((example, top_numbers()), (example.get(CACHES, {}), cache_numbers())):
+    for place, keys in ((example, top_numbers()), (example.get(CACHES, {}), cache_numbers()), (example.get(EXPORT, {}), export_numbers())):
         numbers = {key for key, value in place.items() if type(value) is int}
         yield from (f"examples/every_key.toml and the definition differ in {key}" for key in sorted(numbers ^ (keys.keys() - other_names())))
     yield from (f"examples/every_key.toml has no {key}" for key in sorted(other_keys().keys() - example.keys()))

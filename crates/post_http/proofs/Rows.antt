@@ -1,5 +1,6 @@
 -- For how long answers ask to wait, computed.
-use Rattle.std.proofs.Common.{◌≡◌, ℕ, List, [], ◌∷◌, Some, None, codes, refl}
+use Rattle.std.proofs.Common.{◌≡◌, [], ◌∷◌, Some, None, codes, refl}
+use Rattle.http1.specs.Text.{eq_ignore_case}
 use Rattle.post_http.specs.Waits.{seconds_of, wait_in}
 
 seven_seconds : seconds_of (codes "7") ≡ Some 7
@@ -21,7 +22,9 @@ signed : seconds_of (codes "-1") ≡ None
 signed = refl
 
 the_first_of_its_name : wait_in ((codes "Server", codes "3") ∷ (codes "RETRY-after", codes "5") ∷ (codes "Retry-After", codes "9") ∷ []) ≡ Some 5
+unfolding eq_ignore_case
 the_first_of_its_name = refl
 
 no_such_field : wait_in ((codes "Retry", codes "3") ∷ []) ≡ None
+unfolding eq_ignore_case
 no_such_field = refl

@@ -1,6 +1,6 @@
 -- What a client sees, read by read.
 -- For the contracts of `heads_in` and `body_in`.
-use Rattle.std.proofs.Common.{◌≡◌, ℕ, Bool, true, false, cond, ◌&&◌, List, [], ◌∷◌, ◌++◌, length, drop, take, map, Option, Ok, refl, sym, ap, subst, ◌∙◌, append-nil, append_assoc, inl, inr, ◌⊎◌}
+use Rattle.std.proofs.Common.{◌≡◌, ℕ, Bool, true, false, cond, ◌&&◌, List, [], ◌∷◌, ◌++◌, length, drop, take, map, Option, Ok, refl, sym, ap, subst, ◌∙◌, append-nil, append_assoc, inl, inr, ◌⊎◌, IsFalse}
 use Rattle.httparse.specs.Spans.{span_bytes, header_bytes}
 use Rattle.httparse.specs.declared.spans.HeaderSpan.{HeaderSpan}
 use Rattle.httparse.specs.declared.spans.ResponseSpans.{ResponseSpans}
@@ -16,7 +16,7 @@ use Rattle.http1.specs.declared.decode.Decoder.TheVariants.{Length, Chunked, Unt
 use Rattle.http1.specs.Conn.{awaits_head, no_progress}
 use Rattle.std.proofs.Math.Seq.{drop-length}
 use Rattle.http1.specs.Decoder.{Starves, AwaitsTrailers}
-use Rattle.http1.specs.Client.{new_client, closed_client, cut_short, client_eof, at_eof, is_written, ClientReads, ReadsAt, ReadsFirst, after_piece}
+use Rattle.http1.specs.Client.{new_client, closed_client, cut_short, client_eof, at_eof, is_written, ClientReads, ReadsAt, ReadsFirst, after_piece, is_interim}
 use Rattle.http1.specs.ClientTrace.{Seen, SeenResponse, Trace, observe, nothing, reads, stops, peer_closes, IsBetween}
 use Rattle.http1.specs.ServerTrace.{headers_at}
 use Rattle.post_http.specs.Waits.{wait_in}
@@ -56,6 +56,28 @@ sees_interim bytes c new input spans read r e sees h later rest t =
     let s = sees (observe c.method input spans (Informational r) later) rest (reads_event c new input spans read (Informational r) later rest e h t) in
     (s.0, s.1 ++ seen_head c input spans r later ∷ [], s.2, s.3 ∙ sym (append_assoc s.1 (seen_head c input spans r later ∷ []) later.responses))
 
+-- a read of one event that is the read of another one
+same_event : (consumed : ℕ) (e f : Event ResponseSpans) → (let x : Progress ResponseSpans = record { consumed = consumed; event = e } in x) ≡ no_progress f → e ≡ f
+same_event consumed e f h = ap (λ (p : Progress ResponseSpans). p.event) h
+
+-- the head of an answer that isn't interim
+head_in : (at : Reading) (c new : Client) (input : List ℕ) (spans : List HeaderSpan) (consumed : ℕ) (r : ResponseSpans) → ReadsAt at c input spans new (record { consumed = consumed; event = Head r }) → IsFalse (is_interim r.code)
+head_in Reads.Head c new input spans consumed r h = first (awaits_head c.writing) h
+  where
+    first : (b : Bool) → ReadsFirst b c input spans new (record { consumed = consumed; event = Head r }) → IsFalse (is_interim r.code)
+    first true h = let e : Head r ≡ Paused = same_event consumed (Head r) Paused h.1 in cc
+    first false h = h.0
+head_in (Reads.Body d) c new input spans consumed r h = absurd h.1
+head_in Reads.Done c new input spans consumed r h = let e : Head r ≡ Closed = same_event consumed (Head r) Closed h.0 in cc
+head_in Reads.Upgraded c new input spans consumed r h = let e : Head r ≡ UpgradedTo = same_event consumed (Head r) UpgradedTo h.0 in cc
+head_in Reads.Closed c new input spans consumed r h = let e : Head r ≡ Closed = same_event consumed (Head r) Closed h.0 in cc
+head_in (Reads.Failed f) c new input spans consumed r h = absurd h
+
+-- the read with its event
+at_event : (c new : Client) (input : List ℕ) (spans : List HeaderSpan) (read : Progress ResponseSpans) (event : Event ResponseSpans) → read.event ≡ event → ClientReads c input spans new read
+    → ClientReads c input spans new (record { consumed = read.consumed; event = event })
+at_event c new input spans read event e h = subst (λ (x : Event ResponseSpans). ClientReads c input spans new (record { consumed = read.consumed; event = x })) e h
+
 -- behind the head of a final answer its body is seen
 pub sees_final : (bytes : List ℕ) (c new : Client) (input : List ℕ) (spans : List HeaderSpan) (read : Progress ResponseSpans) (r : ResponseSpans) (wait : Option ℕ) → read.event ≡ Head r → SeesBehind bytes c input
     → ClientReads c input spans new read → wait ≡ wait_in (map (header_bytes input) (take r.headers spans))
@@ -63,7 +85,7 @@ pub sees_final : (bytes : List ℕ) (c new : Client) (input : List ℕ) (spans :
 sees_final bytes c new input spans read r wait is_head sees h e later rest none t =
     let s = sees (observe c.method input spans (Head r) later) rest (reads_event c new input spans read (Head r) later rest is_head h t) in
     let last = seen_head c input spans r later in
-    (last, record { seen = s.0; rest = rest; trace = s.2; before = s.1; are = s.3 ∙ ap (λ (rs : List SeenResponse). s.1 ++ last ∷ rs) none }, refl, e, refl)
+    (last, record { seen = s.0; rest = rest; trace = s.2; before = s.1; are = s.3 ∙ ap (λ (rs : List SeenResponse). s.1 ++ last ∷ rs) none; is_final = head_in c.reading c new input spans read.consumed r (at_event c new input spans read (Head r) is_head h) }, refl, e, refl)
 
 pub body_first : (c : Client) (bytes : List ℕ) → SeesBody c bytes [] c bytes
 body_first c bytes later rest t = t
@@ -85,10 +107,6 @@ between_cycle : (c : Client) (keeps : Bool) → IsBetween (cond keeps (new_clien
 between_cycle c true = tt
 between_cycle c false = tt
 
--- a read of one event that is the read of another one
-same_event : (consumed : ℕ) (e f : Event ResponseSpans) → (let x : Progress ResponseSpans = record { consumed = consumed; event = e } in x) ≡ no_progress f → e ≡ f
-same_event consumed e f h = ap (λ (p : Progress ResponseSpans). p.event) h
-
 end_in : (at : Reading) (c new : Client) (input : List ℕ) (spans : List HeaderSpan) (consumed count : ℕ) → ReadsAt at c input spans new (record { consumed = consumed; event = End count }) → IsBetween new.reading
 end_in Reads.Head c new input spans consumed count h = first (awaits_head c.writing) h
   where
@@ -103,11 +121,6 @@ end_in Reads.Done c new input spans consumed count h = let e : End count ≡ Clo
 end_in Reads.Upgraded c new input spans consumed count h = let e : End count ≡ UpgradedTo = same_event consumed (End count) UpgradedTo h.0 in cc
 end_in Reads.Closed c new input spans consumed count h = let e : End count ≡ Closed = same_event consumed (End count) Closed h.0 in cc
 end_in (Reads.Failed f) c new input spans consumed count h = absurd h
-
--- the read with its event
-at_event : (c new : Client) (input : List ℕ) (spans : List HeaderSpan) (read : Progress ResponseSpans) (event : Event ResponseSpans) → read.event ≡ event → ClientReads c input spans new read
-    → ClientReads c input spans new (record { consumed = read.consumed; event = event })
-at_event c new input spans read event e h = subst (λ (x : Event ResponseSpans). ClientReads c input spans new (record { consumed = read.consumed; event = x })) e h
 
 pub body_end : (start : Client) (bytes so_far : List ℕ) (c new : Client) (input : List ℕ) (spans : List HeaderSpan) (read : Progress ResponseSpans) (count : ℕ) → read.event ≡ End count → SeesBody start bytes so_far c input
     → ClientReads c input spans new read → SeesAll start bytes so_far

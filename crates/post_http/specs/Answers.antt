@@ -1,9 +1,9 @@
 -- What bytes hold that came behind a request, by `http1`'s client.
-use Rattle.std.specs.Prelude.{◌≡◌, ℕ, ◌≤◌, List, [], ◌∷◌, ◌++◌, length, map, drop, Option}
+use Rattle.std.specs.Prelude.{◌≡◌, ℕ, ◌≤◌, List, [], ◌∷◌, ◌++◌, length, map, drop, Option, IsFalse}
 use Rattle.http1.specs.declared.client.Client.{Client}
 use Rattle.http1.specs.declared.conn.Limits.{Limits}
 use Rattle.http1.specs.declared.framing.MethodKind.{MethodKind}
-use Rattle.http1.specs.Client.{new_client}
+use Rattle.http1.specs.Client.{new_client, is_interim}
 use Rattle.http1.specs.ClientTrace.{Seen, SeenResponse, Trace}
 use Rattle.post_http.specs.declared.answer.Answer.{Answer}
 use Rattle.post_http.specs.declared.answer.Found.{Found}
@@ -21,13 +21,14 @@ limits = record { max_head_len = 65536; max_extensions_len = 16384; max_trailers
 abbrev pub LeadsTo : Client → Client → Type 0
 LeadsTo a b = (stream : List ℕ) (seen : Seen) (rest : List ℕ) → Trace b stream seen rest → Trace a stream seen rest
 
--- a client that reads these bytes sees responses of which the last is this one, behind interim ones
+-- a client that reads these bytes sees responses of which the last is this one, which is final (RFC 9110, section 15)
 pub record EndsWith (bytes : List ℕ) (last : SeenResponse) : Type 0 where
   pub seen : Seen
   pub rest : List ℕ
   pub trace : Trace (new_client limits) bytes seen rest
   pub before : List SeenResponse
   pub are : seen.responses ≡ before ++ last ∷ []
+  pub is_final : IsFalse (is_interim last.status)
 
 -- what an answer tells of a response
 pub record Tells (last : SeenResponse) (a : Answer) : Type 0 where

@@ -43,14 +43,14 @@ IsCacheSize members key size =
     ⊎ ((sizes : Members) × (get_member (codes "decision_cache") members ≡ Some (table sizes)) × IsNumberAt sizes key 0 0 1000000 size)
 
 -- the table of `export`: an address of this form, and each number its default or a whole number within its bounds
-pub record HasExport (members : Members) (export : Export) : Type 0 where
-  pub endpoint : get_member (codes "endpoint") members ≡ Some (string export.endpoint)
+pub record HasExport (given : Members) (export : Export) : Type 0 where
+  pub endpoint : get_member (codes "endpoint") given ≡ Some (string export.endpoint)
   pub form : is_endpoint export.endpoint ≡ true
-  pub timeout : IsNumberAt members (codes "timeout_ms") 10000 1 600000 export.timeout
-  pub retry_initial : IsNumberAt members (codes "retry_initial_ms") 500 1 3600000 export.retry_initial
-  pub retry_max : IsNumberAt members (codes "retry_max_ms") 30000 1 3600000 export.retry_max
-  pub retry_for : IsNumberAt members (codes "retry_for_ms") 300000 0 86400000 export.retry_for
-  pub close_wait : IsNumberAt members (codes "close_wait_ms") 10000 0 3600000 export.close_wait
+  pub timeout : IsNumberAt given (codes "timeout_ms") 10000 1 600000 export.timeout
+  pub retry_initial : IsNumberAt given (codes "retry_initial_ms") 500 1 3600000 export.retry_initial
+  pub retry_max : IsNumberAt given (codes "retry_max_ms") 30000 1 3600000 export.retry_max
+  pub retry_for : IsNumberAt given (codes "retry_for_ms") 300000 0 86400000 export.retry_for
+  pub close_wait : IsNumberAt given (codes "close_wait_ms") 10000 0 3600000 export.close_wait
 
 -- nothing is sent where there is no such table
 abbrev pub IsExportAt : Members → Export → Type 0
