@@ -4,6 +4,8 @@ use Rattle.std.specs.Prelude.{◌≡◌, ℕ, ℤ, pos, negsuc, Bool, true, fals
 use lib.Ieee.{to_unsigned, of_int, mul, div, eq}
 use Rattle.std.specs.Float.{Float, nan, inf, fin, round_with}
 use Rattle.toml.specs.Data.{Data, string, integer, boolean, array, table, Items, no_items, item, Members, no_members, member}
+use Rattle.tsc_config.specs.Exports.{is_endpoint}
+use Rattle.tsc_config.specs.declared.exports.Export.{Export}
 use Rattle.tsc_config.specs.Keys.{is_key, is_setting, all_types, type_name, type_named}
 use Rattle.tsc_config.specs.Faults.{least, config_fault_number, numbers_fault, sizes_fault, choices_fault, cache_fault, rows_fault, twice_fault}
 use Rattle.tsc_config.specs.declared.kinds.PolicyType.{PolicyType}
@@ -318,3 +320,37 @@ whole_percentages = refl
 
 salts : map salt_by ([] ∷ codes "own" ∷ []) ≡ codes "default-hash-seed" ∷ codes "own" ∷ []
 salts = refl
+
+-- where lines are sent to: nowhere by default, and by numbers of which no two are the same
+nowhere_by_default : (config_of no_members).export.endpoint ≡ []
+nowhere_by_default = refl
+
+sent_by_default : Export
+sent_by_default = (config_of (member (codes "export") (table (member (codes "endpoint") (string (codes "http://h:1/p")) no_members)) no_members)).export
+
+waits_by_default : (sent_by_default.timeout ≡ 10000) × (sent_by_default.retry_initial ≡ 500) × (sent_by_default.retry_max ≡ 30000) × (sent_by_default.retry_for ≡ 300000) × (sent_by_default.close_wait ≡ 10000)
+unfolding sent_by_default
+waits_by_default = (refl, refl, refl, refl, refl)
+
+numbers_of_export : Members
+numbers_of_export =
+    member (codes "export") (table (member (codes "endpoint") (string (codes "http://h:1/p"))
+    (member (codes "timeout_ms") (integer (pos 2)) (member (codes "retry_initial_ms") (integer (pos 3)) (member (codes "retry_max_ms") (integer (pos 5))
+    (member (codes "retry_for_ms") (integer (pos 7)) (member (codes "close_wait_ms") (integer (pos 11)) no_members))))))) no_members
+
+sent_so : (config_of numbers_of_export).export ≡ record { endpoint = codes "http://h:1/p"; timeout = 2; retry_initial = 3; retry_max = 5; retry_for = 7; close_wait = 11 }
+unfolding numbers_of_export
+sent_so = refl
+
+-- the form of an address
+an_address : is_endpoint (codes "http://h/") ≡ true
+an_address = refl
+
+no_path : is_endpoint (codes "http://h:4318") ≡ false
+no_path = refl
+
+no_host : is_endpoint (codes "http:///v1/traces") ≡ false
+no_host = refl
+
+other_scheme : is_endpoint (codes "https://h/v1") ≡ false
+other_scheme = refl
