@@ -17,6 +17,7 @@ use Rattle.policy_tree.specs.declared.policy.Leaf.TheVariants as leaf_is
 use Rattle.policy_tree.specs.declared.policy.PolicyKind.TheViews.{out-PolicyKind, roll-PolicyKind, out-roll-PolicyKind}
 use Rattle.policy_tree.specs.declared.policy.Wanted.{Wanted}
 use Rattle.tsc_config.proofs.SettingKeys.{type_is_named, text_keys, natural_keys, whole_keys, truth_keys, required_truth, salt_keys, percentage_keys, texts_keys, codes_keys}
+use Rattle.tsc_config.proofs.Shares.{turned, unshared_are}
 use Rattle.tsc_config.proofs.Settings.{neither, natural, truth, table_parts, read_as}
 use Rattle.policy_tree.specs.declared.policy.Join.{Join}
 use Rattle.policy_tree.specs.declared.policy.Join.TheVariants as join_is
@@ -79,14 +80,6 @@ two_naturals settings low high e =
     (natural_keys (get_member low settings) n.0, natural 9223372036854775807 (get_member high settings) n.1)
 
 -- ---- the policies that a policy is made of
-
-same : (a b : Bool) → (a ≡ true → b ≡ true) → (b ≡ true → a ≡ true) → a ≡ b
-same true b f g = sym (f refl)
-same false true f g = g refl
-same false false f g = refl
-
-turned : (k l : List ℕ) → bytes_eq l k ≡ bytes_eq k l
-turned k l = same (bytes_eq l k) (bytes_eq k l) (λ e. (bytes_eq-Decides k l).1 (sym ((bytes_eq-Decides l k).0 e))) (λ e. (bytes_eq-Decides l k).1 (sym ((bytes_eq-Decides k l).0 e)))
 
 -- what is made of the value at a key, where it stands there
 abbrev looked : {X : Type 0} → X → (Data → X) → Option Data → X
@@ -350,17 +343,6 @@ no_parts kind (Some _) = none_in leaf_is.AlwaysSample
 abbrev HasParts : Option PolicyType → Members → PolicyKind → Type 0
 HasParts found members kind =
     (parts_of kind ≡ []) ⊎ ((parts_fault (join_of found) members ≡ None) × (parts_of kind ≡ parts_policies (join_of found) members))
-
--- the parts within their shares are those that were given
-unshared_are : (total count : ℕ) (allocations : Items) (parts : List Policy) → unshared (map (within_share total count allocations) parts) ≡ parts
-unshared_are total count allocations [] = refl
-unshared_are total count allocations (part ∷ rest) =
-    let limiter = limiter_beside (share_limit total count (percent_among part.name allocations)) part.name in
-    let inner = part ∷ limiter ∷ [] in
-    let others = unshared (map (within_share total count allocations) rest) in
-    let same : out-PolicyKind (kind_is.Joined join_is.Share inner) ≡ PolicyKind-F.Joined join_is.Share inner
-    = sym (ap out-PolicyKind (rolls-Joined join_is.Share inner)) ∙ out-roll-PolicyKind (PolicyKind-F.Joined join_is.Share inner) in
-    ap (λ (layer : PolicyKind-F PolicyKind Policy). first_in layer others) same ∙ ap (λ (ps : List Policy). part ∷ ps) (unshared_are total count allocations rest)
 
 composite_parts : (members : Members) → typed_fault type_is.Composite members (parts_fault join_is.FirstMatch members) ≡ None
     → (parts_fault join_is.FirstMatch members ≡ None) × (parts_of (kind_is.Joined join_is.FirstMatch (composite_of (get_member (codes "composite") members) (parts_policies join_is.FirstMatch members))) ≡ parts_policies join_is.FirstMatch members)
