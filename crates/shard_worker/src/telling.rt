@@ -42,13 +42,18 @@ pub fn next_telling(item: &Item, told: Option<Moment>) -> Option<Moment> {
     }
 }
 
-/// Tells what the shard of this number holds.
+/// Tells what the shard of this number holds, if it is to be told now, and answers when it was told last.
 pub fn tell_load<C: Room, G: Gate>(
     gate: &G,
     number: u16,
     shard: &Shard,
     receiver: &Receiver<Item, C>,
-) {
+    told: Option<Moment>,
+    telling: Option<Moment>,
+) -> Option<Moment> {
+    if telling.is_none() {
+        return told;
+    }
     let (traces, spans) = shard.waiting();
     let queued = receiver.len();
     gate.holds(
@@ -59,4 +64,5 @@ pub fn tell_load<C: Room, G: Gate>(
             spans,
         },
     );
+    telling
 }
