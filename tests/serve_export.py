@@ -85,13 +85,14 @@ class Backend:
                 if isinstance(step, float):
                     time.sleep(step)
                     step = [OK]
-                if b" 200 " in b"".join(step):
+                whole = b"".join(step)
+                if b" 200 " in whole and b"\r\n\r\n" in whole:
                     with self.lock:
                         self.taken.append(body)
                 for piece in step:
                     connection.sendall(piece)
                     time.sleep(0.01 if len(step) > 1 else 0)
-                if isinstance(step, tuple) or b"Connection: close" in b"".join(step):
+                if isinstance(step, tuple) or b"Connection: close" in whole:
                     return
         except OSError:
             return
