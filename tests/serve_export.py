@@ -10,6 +10,7 @@ import threading
 import time
 
 from collector import ALL, Failure, body_of, post, want
+from serve_admin import asked, free_port, scrape
 
 OK = b"HTTP/1.1 200 OK\r\nContent-Type: application/json\r\nContent-Length: 2\r\n\r\n{}"
 FAST = "decision_wait_ms = 50\ntick_ms = 20\n"
@@ -178,6 +179,20 @@ def gives_up(start):
     want("the report", collector.close()[1], [5, 2, 0, 0, 0, 0, 0, 0, 3])
 
 
+def rejected_spans(start):
+    """Spans that the backend took and rejected are told apart, and no line is sent again for them."""
+    partly = b'{"partialSuccess":{"rejectedSpans":"2","errorMessage":"no"}}'
+    backend, admin = Backend([[answer(200, body=partly)], [answer(200, body=partly.replace(b'"2"', b"1"))]]), free_port()
+    collector = start(FAST + ALL + f'admin = "127.0.0.1:{admin}"\n' + backend.settings())
+    for number in range(3):
+        send(collector, 10 * number, 5)
+        until("the request", lambda n=number: len(backend.requests) >= n + 1)
+    until("the numbers", lambda: scrape(admin)["tsc_spans_rejected_total"] == 3)
+    want("the answer to /close", asked(admin, post(b"", "/close"))[::2], (200, "{}"))
+    want("the report", collector.end()[1], [15, 15, 0, 0, 0, 0, 0, 0, 0])
+    want("how many requests", len(backend.requests), 3)
+
+
 def waits_for_a_backend(start):
     """A backend that listens two seconds late has all lines."""
     backend = Backend(listens=False)
@@ -230,4 +245,4 @@ def under_load(start):
         raise Failure("no batch was given up")
 
 
-CHECKS = [delivers, tries_again, no_answers, gives_up, waits_for_a_backend, late_answer, patience_ends, under_load]
+CHECKS = [delivers, tries_again, no_answers, gives_up, rejected_spans, waits_for_a_backend, late_answer, patience_ends, under_load]

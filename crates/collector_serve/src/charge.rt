@@ -61,6 +61,7 @@ impl Charge {
             decided_not_sampled,
             late_sampled,
             late_not_sampled,
+            rejected: self.board.rejected(),
         }
     }
 }

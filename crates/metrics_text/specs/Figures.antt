@@ -5,7 +5,7 @@ use Rattle.metrics_text.specs.declared.metrics.Metrics.{Metrics}
 use Rattle.metrics_text.specs.declared.kind.FamilyKind.{FamilyKind}
 use Rattle.metrics_text.specs.declared.kind.FamilyKind.TheVariants.{Counter, Gauge}
 use Rattle.metrics_text.specs.declared.figure.Figure.{Figure}
-use Rattle.metrics_text.specs.declared.figure.Figure.TheVariants.{SpansWaiting, ReceivedBytes, SentBytes, Lines, OutputBytes, Memory, Answered200, Answered400, Answered404, Answered405, Answered408, Answered413, Answered415, Answered431, Answered503, DecidedSampled, DecidedNotSampled, LateSampled, LateNotSampled}
+use Rattle.metrics_text.specs.declared.figure.Figure.TheVariants.{SpansWaiting, ReceivedBytes, SentBytes, Lines, OutputBytes, Memory, Answered200, Answered400, Answered404, Answered405, Answered408, Answered413, Answered415, Answered431, Answered503, DecidedSampled, DecidedNotSampled, LateSampled, LateNotSampled, Rejected}
 use Rattle.metrics_text.specs.Families.{word_of, head_lines, sample, sample_line}
 
 -- what is told of a number: its name, what its family's head says, where it is the first of it and else nothing, the family's kind, and its labels
@@ -48,6 +48,7 @@ figure_row DecidedSampled = by_decision (codes "tsc_traces_decided_total") (code
 figure_row DecidedNotSampled = by_decision (codes "tsc_traces_decided_total") [] (codes "not_sampled")
 figure_row LateSampled = by_decision (codes "tsc_spans_late_total") (codes "Spans whose trace was decided before.") (codes "sampled")
 figure_row LateNotSampled = by_decision (codes "tsc_spans_late_total") [] (codes "not_sampled")
+figure_row Rejected = single (codes "tsc_spans_rejected_total") (codes "Spans of delivered lines that the backend rejected.") Counter
 
 -- the values
 abbrev pub figure_value : Metrics → Figure → ℕ
@@ -70,13 +71,14 @@ figure_value metrics DecidedSampled = metrics.decided_sampled
 figure_value metrics DecidedNotSampled = metrics.decided_not_sampled
 figure_value metrics LateSampled = metrics.late_sampled
 figure_value metrics LateNotSampled = metrics.late_not_sampled
+figure_value metrics Rejected = metrics.rejected
 
 -- each once, in their order
 abbrev pub all_figures : List Figure
 all_figures =
     SpansWaiting ∷ ReceivedBytes ∷ SentBytes ∷ Lines ∷ OutputBytes ∷ Memory
     ∷ Answered200 ∷ Answered400 ∷ Answered404 ∷ Answered405 ∷ Answered408 ∷ Answered413 ∷ Answered415 ∷ Answered431 ∷ Answered503
-    ∷ DecidedSampled ∷ DecidedNotSampled ∷ LateSampled ∷ LateNotSampled ∷ []
+    ∷ DecidedSampled ∷ DecidedNotSampled ∷ LateSampled ∷ LateNotSampled ∷ Rejected ∷ []
 
 -- the lines in front of a family's first number
 abbrev pub head_of : FigureRow → List ℕ

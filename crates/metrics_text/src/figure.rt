@@ -47,6 +47,8 @@ pub enum Figure {
     LateSampled,
     /// Spans whose trace was decided before as not sampled.
     LateNotSampled,
+    /// Spans of lines that were delivered which the backend rejected.
+    Rejected,
 }
 
 impl Figure {
@@ -172,6 +174,12 @@ impl Figure {
                 FamilyKind::Counter,
                 "{decision=\"not_sampled\"}",
             ),
+            Figure::Rejected => (
+                "tsc_spans_rejected_total",
+                "Spans of delivered lines that the backend rejected.",
+                FamilyKind::Counter,
+                "",
+            ),
         }
     }
 
@@ -199,6 +207,7 @@ impl Figure {
             Figure::DecidedNotSampled => metrics.decided_not_sampled,
             Figure::LateSampled => metrics.late_sampled,
             Figure::LateNotSampled => metrics.late_not_sampled,
+            Figure::Rejected => metrics.rejected,
         }
     }
 }

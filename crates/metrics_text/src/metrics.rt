@@ -48,6 +48,8 @@ pub struct Metrics {
     pub late_sampled: u64,
     /// How many spans came to a trace that was decided before as not sampled.
     pub late_not_sampled: u64,
+    /// How many spans of lines that were delivered the backend rejected.
+    pub rejected: u64,
 }
 
 /// What a shard holds, as it told last.

@@ -212,6 +212,7 @@ fn put_figures(text: &mut String, metrics: &Metrics) -> Result<(), AllocError>
         Figure::DecidedNotSampled,
         Figure::LateSampled,
         Figure::LateNotSampled,
+        Figure::Rejected,
     ];
     for figure in figures {
         put_figure(text, metrics, figure)?;
