@@ -64,7 +64,7 @@ fn take(
 ) -> Result<Entry, AllocError> {
     let item = item_of(alloc, kind, moment, past.entries.len() as u64)?;
     holds(rt, !shard.has_due() && !shard.finished(), &kind);
-    let taken = shard.take(item, true);
+    let taken = shard.take(item);
     let is_right = match kind {
         Kind::Span(_, _, finding) => past.may_answer(finding, &taken),
         Kind::Tick => matches!(taken, Taken::Ticked),
