@@ -28,7 +28,7 @@ fn answer_of(alloc: Global, read: Result<Request, Bad>) -> Result<Answer, AllocE
 
 /// Whether one pass takes a body. `Err` where memory was refused.
 fn is_plain(alloc: Global, body: &[u8]) -> Result<bool, AllocError> {
-    match plain_request(alloc, body) {
+    match plain_request(alloc, false, body) {
         Ok(found) => Ok(found.is_some()),
         Err(_) => Err(AllocError),
     }
