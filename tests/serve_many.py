@@ -5,7 +5,6 @@ import os
 import resource
 import socket
 import time
-from concurrent.futures import ProcessPoolExecutor
 
 from collector import ALL, ERROR_SPAN, Failure, body_of, post, want
 from serve_limits import at_most, side_by_side, spans_by_number
@@ -99,12 +98,6 @@ def open_files(collector):
     return len(os.listdir(f"/proc/{collector.process.pid}/fd"))
 
 
-def kibibytes(collector):
-    """Its memory."""
-    with open(f"/proc/{collector.process.pid}/status", encoding="utf-8") as file:
-        return next(int(line.split()[1]) for line in file if line.startswith("VmRSS"))
-
-
 def comes_back_to(collector, count, seconds):
     """Waits until it has no more files open than so many."""
     began = time.monotonic()
@@ -126,36 +119,24 @@ def stays_behind_its_refusal(start):
     want("the report", collector.close()[1], [0] * 9)
 
 
-def connect_and_leave(port, count):
-    """So many connections of one request without spans each, one after the other; returns how many were answered 200."""
-    request, reset, answered = post(b"{}"), b"\1\0\0\0\0\0\0\0", 0
-    for _ in range(count):
-        with socket.create_connection(("127.0.0.1", port)) as client:
-            client.setsockopt(socket.SOL_SOCKET, socket.SO_LINGER, reset)
-            client.sendall(request)
-            heard = client.recv(4096)
-            while heard and not heard.endswith(b"{}"):
-                more = client.recv(4096)
-                heard = heard + more if more else b""
-            answered += heard.startswith(b"HTTP/1.1 200 ")
-    return answered
-
-
-def two_hundred_thousand_short_ones(start):
-    """Two hundred thousand connections of one request each leave no open file and no memory behind."""
-    collector = start("lanes = 4\n" + ALL)
+def twenty_thousand_short_ones(start):
+    """Twenty thousand connections of one request each leave no open file behind."""
+    collector = start("lanes = 4\nnum_traces = 100000\nqueue_capacity = 65536\n" + ALL)
     want("the answer", collector.ask(post(body_of([ERROR_SPAN])))[::2], (200, "{}"))
-    with ProcessPoolExecutor(4) as clients:
-        for count in (2_000, 50_000):
-            time.sleep(0.3)
-            before, memory = open_files(collector), kibibytes(collector)
-            answered = list(clients.map(connect_and_leave, [collector.port] * 4, [count] * 4))
-            want("how many were answered", answered, [count] * 4)
-            comes_back_to(collector, before, 10)
-    more = kibibytes(collector) - memory
-    if more > 1024:
-        raise Failure(f"{more} KiB more are taken than before")
-    want("the report", collector.close()[1], [1, 1, 0, 0, 0, 0, 0, 0, 0])
+    time.sleep(0.3)
+    before = open_files(collector)
+
+    def asks(at):
+        for number in range(5000):
+            client = collector.client()
+            client.socket.setsockopt(socket.SOL_SOCKET, socket.SO_LINGER, b"\1\0\0\0\0\0\0\0")
+            client.send(post(body_of(spans_by_number(5000 * at + number, 1))))
+            want("the answer", client.answer()[::2], (200, "{}"))
+            client.close()
+
+    side_by_side(asks, range(4))
+    comes_back_to(collector, before, 10)
+    want("the report", collector.close()[1], [20_001, 20_001, 0, 0, 0, 0, 0, 0, 0])
 
 
 def few_may_be_open(start):
@@ -241,5 +222,5 @@ def reads_nothing(start):
     deaf.close()
 
 
-CHECKS = [beside_idle_ones, numbered_by_connection, tricklers, stays_behind_its_refusal, two_hundred_thousand_short_ones]
+CHECKS = [beside_idle_ones, numbered_by_connection, tricklers, stays_behind_its_refusal, twenty_thousand_short_ones]
 CHECKS += [few_may_be_open, few_open_files, refusals_arrive, reads_nothing]
