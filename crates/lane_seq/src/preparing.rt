@@ -126,7 +126,7 @@ pub fn count_invalid(arrivals: &[Arrival]) -> usize
 {
     let mut count = 0;
     for arrival in arrivals {
-        if arrival.rec.span.ids.is_none() {
+        if arrival.rec.span.get().ids.is_none() {
             count += 1;
         }
     }

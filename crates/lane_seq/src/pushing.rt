@@ -55,7 +55,7 @@ fn push_to<P: Port<Item>>(port: &mut P, arrival: Arrival) -> u64
 fn trace_of(arrival: &Arrival) -> Option<TraceId>
     ensures { result ≡ option_map (λ ids. ids.trace) arrival.now.rec.span.ids }
 {
-    match &arrival.rec.span.ids {
+    match &arrival.rec.span.get().ids {
         Some(ids) => Some(ids.trace),
         None => None,
     }

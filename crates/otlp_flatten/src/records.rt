@@ -4,13 +4,13 @@ ghost use Rattle.std.specs.List.{sum_by};
 ghost use Rattle.otlp_flatten.specs.Flat.{record_with, scope_records, resource_records, records_of};
 
 use otlp_types::{
-    List, Record, Request, Resource, ResourceSpans, Scope, ScopeSpans, Shared, Span, Text,
+    Boxed, List, Record, Request, Resource, ResourceSpans, Scope, ScopeSpans, Shared, Span, Text,
 };
 use std::alloc::{AllocError, Global};
 
 /// The spans of a request in document order: resource, scope, span (`trace.proto` v1). `Err` only where memory was refused.
 ///
-/// Room for all of them is taken once, at the start. Each span is moved; spans of one resource, or of one scope, share it.
+/// Room for all of them is taken once, at the start. Each span is moved into memory of its own; spans of one resource, or of one scope, share it.
 pub fn flatten(alloc: Global, request: Request) -> Result<Vec<Record>, AllocError>
     ensures { IfOk result (λ records. records.items ≡ records_of request) }
 {
@@ -109,10 +109,11 @@ fn push_scope(
         ≡ records.old.items ++ scope_records resource.now.value resource.now.schema_url group) }
 {
     let scope = Parent::new(alloc, group.scope, group.schema_url)?;
-    push_spans(records, resource, &scope, group.spans)
+    push_spans(alloc, records, resource, &scope, group.spans)
 }
 
 fn push_spans(
+    alloc: Global,
     records: &mut Vec<Record>,
     resource: &Parent<Resource>,
     scope: &Parent<Scope>,
@@ -122,13 +123,14 @@ fn push_spans(
         ++ map (record_with resource.now.value resource.now.schema_url scope.now.value scope.now.schema_url) spans) }
 {
     for span in spans.into_vec() {
-        let record = record_with(resource, scope, span)?;
+        let record = record_with(alloc, resource, scope, span)?;
         records.push(record)?;
     }
     Ok(())
 }
 
 fn record_with(
+    alloc: Global,
     resource: &Parent<Resource>,
     scope: &Parent<Scope>,
     span: Span,
@@ -136,6 +138,7 @@ fn record_with(
     ensures { IfOk result (λ r. r ≡ record_with resource.now.value resource.now.schema_url
         scope.now.value scope.now.schema_url span) }
 {
+    let span = Boxed::new(alloc, span)?;
     let resource = resource.share()?;
     let scope = scope.share()?;
     Ok(Record {

@@ -8,7 +8,6 @@ ghost use Rattle.otlp_flatten.specs.Runs.{resource_of, scope_of, IsRun};
 use crate::same::Same;
 use otlp_types::{Arrival, Record, Span};
 use std::alloc::Global;
-use std::mem;
 
 /// What holds a record.
 pub trait HasRecord {
@@ -32,7 +31,7 @@ impl HasRecord for Record {
     }
 
     fn take_span(&mut self, alloc: Global) -> Span {
-        mem::replace(&mut self.span, Span::empty(alloc))
+        self.span.replace(Span::empty(alloc))
     }
 }
 
@@ -44,7 +43,7 @@ impl HasRecord for Arrival {
     }
 
     fn take_span(&mut self, alloc: Global) -> Span {
-        mem::replace(&mut self.rec.span, Span::empty(alloc))
+        self.rec.span.replace(Span::empty(alloc))
     }
 }
 

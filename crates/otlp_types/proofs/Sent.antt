@@ -5,6 +5,7 @@ use Rattle.otlp_types.proofs.value.AnyValue.TheLaws.TheKnot as knot
 use Rattle.otlp_types.proofs.list.List.TheSendSync as list
 use Rattle.otlp_types.proofs.list.Text.TheSendSync as text
 use Rattle.otlp_types.proofs.shared.Shared.TheSendSync as shared
+use Rattle.otlp_types.proofs.boxed.Boxed.TheSendSync as boxed
 use Rattle.otlp_types.proofs.span.Ids.TheSendSync as ids
 use Rattle.otlp_types.proofs.span.Status.TheSendSync as status
 use Rattle.span_ids.proofs.keys.ArrivalKey.TheSendSync as key
@@ -46,8 +47,11 @@ link_send = search (sendable, list.the_send, text.the_send, pair_send) depth 40
 pub span_field : IsSend (span.the_field).row
 span_field = search (sendable, list.the_send, text.the_send, pair_send, event_send, link_send, ids.the_send, status.the_field_send) depth 20
 
+pub span_send : IsSend span.the_row
+span_send = search (sendable, span_field) depth 20
+
 pub rec_field : IsSend (rec.the_field).row
-rec_field = search (sendable, shared.the_send, text.the_send, text.the_sync, resource_send, resource_sync, scope_send, scope_sync, span_field) depth 20
+rec_field = search (sendable, shared.the_send, text.the_send, text.the_sync, resource_send, resource_sync, scope_send, scope_sync, boxed.the_send, span_send) depth 20
 
 pub arrival_field : IsSend (arrival.the_field).row
 arrival_field = search (sendable, rec_field, key.the_field_send) depth 20

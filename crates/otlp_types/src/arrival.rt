@@ -1,6 +1,7 @@
 //! Records, arrivals, and what goes through the queues.
 ghost use Rattle.std.specs.Prelude.{◌≡◌, IfOk};
 
+use crate::boxed::Boxed;
 use crate::list::{Text, TryClone};
 use crate::request::{Resource, Scope};
 use crate::shared::Shared;
@@ -10,14 +11,15 @@ use std::alloc::{AllocError, Global};
 
 /// A span with the resource and the scope that it was sent under, and the schema URLs of both.
 ///
-/// What it was sent under it shares with the other spans of its request.
+/// What it was sent under it shares with the other spans of its request. The span lies in memory of its own, so that a
+/// record, and each slot of a queue, takes few bytes before a span is there.
 #[derive(Drop)]
 pub struct Record {
     pub resource: Shared<Resource>,
     pub resource_schema_url: Shared<Text>,
     pub scope: Shared<Scope>,
     pub scope_schema_url: Shared<Text>,
-    pub span: Span,
+    pub span: Boxed<Span>,
 }
 
 /// A received span.
@@ -58,7 +60,7 @@ impl TryClone for Record {
             resource_schema_url: self.resource_schema_url.share()?,
             scope: self.scope.share()?,
             scope_schema_url: self.scope_schema_url.share()?,
-            span: self.span.try_clone(alloc)?,
+            span: Boxed::new(alloc, self.span.get().try_clone(alloc)?)?,
         })
     }
 }

@@ -1,11 +1,12 @@
 //! Requests to take traces as plain data, their spans as records, and what goes between the parts.
 //!
 //! A contract sees each type as plain data: a [`List`] is the list of its elements and a [`Text`] the list of its
-//! bytes, so that a copy equals its source; a [`Shared`] is the value that it holds. Fields that have their default are
+//! bytes, so that a copy equals its source; a [`Shared`] or a [`Boxed`] is the value that it holds. Fields that have their default are
 //! empty, 0 or `None`.
 #![tactic(auto)]
 
 mod arrival;
+mod boxed;
 mod double;
 mod list;
 mod request;
@@ -14,6 +15,7 @@ mod span;
 mod value;
 
 pub use arrival::{Arrival, Item, Record, Shipment};
+pub use boxed::Boxed;
 pub use double::Double;
 pub use list::{List, Text, TryClone};
 pub use request::{Request, Resource, ResourceSpans, Scope, ScopeSpans};

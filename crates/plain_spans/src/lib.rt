@@ -4,7 +4,7 @@
 ghost use Rattle.std.specs.Prelude.{◌≡◌, Some, is_none, IfOk, IfSome};
 ghost use Rattle.span_ids.specs.Id.{id_of};
 
-use otlp_types::{Arrival, Ids, Record, Resource, Scope, Shared, Span, Text};
+use otlp_types::{Arrival, Boxed, Ids, Record, Resource, Scope, Shared, Span, Text};
 use span_ids::{ArrivalKey, ConnKey, SpanId, TraceId};
 use std::alloc::{AllocError, Global};
 
@@ -66,7 +66,7 @@ pub fn plain_record(
         resource_schema_url,
         scope,
         scope_schema_url,
-        span,
+        span: Boxed::new(alloc, span)?,
     })
 }
 

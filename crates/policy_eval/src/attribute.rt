@@ -9,7 +9,7 @@ use policy_tree::Wanted;
 pub fn matches(key: &str, wanted: &Wanted, spans: &[Arrival]) -> bool
     ensures { result ≡ matches key.now wanted.now spans.now }
 {
-    spans.iter().any(|arrival| has_wanted(key, wanted, arrival.rec.span.attributes.as_slice())
+    spans.iter().any(|arrival| has_wanted(key, wanted, arrival.rec.span.get().attributes.as_slice())
         || has_wanted(
             key,
             wanted,

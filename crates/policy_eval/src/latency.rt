@@ -21,7 +21,7 @@ fn latest_end(spans: &[Arrival]) -> u64
 {
     let mut latest = 0;
     for arrival in spans {
-        latest = arrival.rec.span.end_time_unix_nano.max(latest);
+        latest = arrival.rec.span.get().end_time_unix_nano.max(latest);
     }
     latest
 }
@@ -32,9 +32,9 @@ fn earliest_start(spans: &[Arrival]) -> u64
     let Some((first, rest)) = spans.split_first() else {
         return 0;
     };
-    let mut earliest = first.rec.span.start_time_unix_nano;
+    let mut earliest = first.rec.span.get().start_time_unix_nano;
     for arrival in rest {
-        earliest = arrival.rec.span.start_time_unix_nano.min(earliest);
+        earliest = arrival.rec.span.get().start_time_unix_nano.min(earliest);
     }
     earliest
 }

@@ -47,17 +47,17 @@ fn has_status(codes: &[i32], spans: &[Arrival]) -> bool
 {
     spans
         .iter()
-        .any(|arrival| codes.contains(&arrival.rec.span.status.code))
+        .any(|arrival| codes.contains(&arrival.rec.span.get().status.code))
 }
 
 fn has_state(key: &str, values: &[Text], spans: &[Arrival]) -> bool
     ensures { result ≡ has_state key.now values.now spans.now }
 {
-    spans.iter().any(|arrival| has_member(key, values, arrival.rec.span.trace_state.as_str()))
+    spans.iter().any(|arrival| has_member(key, values, arrival.rec.span.get().trace_state.as_str()))
 }
 
 fn is_flagged(spans: &[Arrival]) -> bool
     ensures { result ≡ is_flagged spans.now }
 {
-    spans.iter().any(|arrival| arrival.rec.span.flags % 2 == 1)
+    spans.iter().any(|arrival| arrival.rec.span.get().flags % 2 == 1)
 }

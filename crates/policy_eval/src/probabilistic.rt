@@ -31,7 +31,7 @@ fn hash_of(salt: &str, spans: &[Arrival]) -> u128
     ensures { result ≡ fnv_1a (salt.now ++ trace_of spans.now) }
 {
     let salted = hash_on(OFFSET_BASIS, salt.as_bytes());
-    let hash = match spans.first().and_then(|first| first.rec.span.ids) {
+    let hash = match spans.first().and_then(|first| first.rec.span.get().ids) {
         Some(ids) => hash_on(salted, &ids.trace.bytes()),
         None => salted,
     };

@@ -388,5 +388,5 @@ fn decided(verdict: Verdict, spans: Vec<Arrival>) -> Decided
 fn ids_of(arrival: &Arrival) -> Option<Ids>
     ensures { result ≡ arrival.now.rec.span.ids }
 {
-    arrival.rec.span.ids
+    arrival.rec.span.get().ids
 }

@@ -128,7 +128,7 @@ fn effect_of_span(
 ) -> Result<Effect, AllocError>
     ensures { IfOk result (λ effect. effect ≡ effect_of_span (settings_of settings.now) (reverse before.now) refused arrival.now arrival.now.rec.span.ids) }
 {
-    let Some(ids) = arrival.rec.span.ids else {
+    let Some(ids) = arrival.rec.span.get().ids else {
         return Ok(no_effect(alloc));
     };
     if refused {

@@ -123,7 +123,7 @@ fn is_root_at(opening: &Opening, at: usize, entry: &Entry) -> bool
 fn is_root(arrival: &Arrival) -> bool
     ensures { result ≡ is_root arrival.now }
 {
-    match arrival.rec.span.ids {
+    match arrival.rec.span.get().ids {
         None => false,
         Some(ids) => ids.parent.is_none(),
     }

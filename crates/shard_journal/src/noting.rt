@@ -65,7 +65,7 @@ fn note_item(
     ensures { (before : Journal) → at ≡ length before → now ≡ clock (entry.now ∷ before) → OnOk result (noted.new ≡ after_item (settings_of settings.now) entry.now before entry.now.item noted.old) }
 {
     match &entry.item {
-        Item::Span(arrival) => match arrival.rec.span.ids {
+        Item::Span(arrival) => match arrival.rec.span.get().ids {
             None => Ok(()),
             Some(ids) => {
                 if entry.refused {

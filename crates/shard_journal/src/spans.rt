@@ -55,7 +55,7 @@ pub fn is_span_of(opening: &Opening, at: usize, arrival: &Arrival) -> bool
 fn is_of_trace(trace: TraceId, arrival: &Arrival) -> bool
     ensures { result ≡ is_of_trace trace arrival.now }
 {
-    match arrival.rec.span.ids {
+    match arrival.rec.span.get().ids {
         None => false,
         Some(ids) => trace == ids.trace,
     }

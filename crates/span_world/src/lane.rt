@@ -147,7 +147,7 @@ pub fn goes_to(shards: usize, shard: usize, arrival: &Arrival) -> bool
     requires { 0 < shards }
     ensures { result ≡ goes_to shards shard arrival.now }
 {
-    match arrival.rec.span.ids {
+    match arrival.rec.span.get().ids {
         None => false,
         Some(ids) => shard_of(ids.trace, shards) == shard,
     }
@@ -191,7 +191,7 @@ fn routable(alloc: Global, new: &[Arrival]) -> Result<Vec<Arrival>, AllocError>
 {
     let mut routable = Vec::new(alloc);
     for arrival in new {
-        if arrival.rec.span.ids.is_some() {
+        if arrival.rec.span.get().ids.is_some() {
             routable.push(arrival.try_clone(alloc)?)?;
         }
     }
@@ -204,7 +204,7 @@ fn without_ids(alloc: Global, new: &[Arrival]) -> Result<Vec<DroppedSpan>, Alloc
 {
     let mut keys = Vec::new(alloc);
     for arrival in new {
-        if arrival.rec.span.ids.is_none() {
+        if arrival.rec.span.get().ids.is_none() {
             keys.push(dropped(Reason::InvalidId, arrival))?;
         }
     }

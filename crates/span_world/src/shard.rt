@@ -100,7 +100,7 @@ impl Shard {
         let Some(first) = self.queue.front() else {
             return Ok(None);
         };
-        let ids = first.rec.span.ids;
+        let ids = first.rec.span.get().ids;
         if self.dealt < look.due() || !look.marks_apply(settings, refused, lost, ids) {
             return Ok(None);
         }

@@ -7,7 +7,7 @@ use std::alloc::{AllocError, Global};
 
 /// A span as it was received. Its trace is the last byte of the trace's id, and 0 where its ids are invalid.
 fn kept_of(key: ArrivalKey, moment: u64, rec: &Record) -> Kept {
-    let (trace, root) = match rec.span.ids {
+    let (trace, root) = match rec.span.get().ids {
         None => (0, false),
         Some(ids) => (ids.trace.bytes()[15], ids.parent.is_none()),
     };
@@ -15,7 +15,7 @@ fn kept_of(key: ArrivalKey, moment: u64, rec: &Record) -> Kept {
         key,
         moment,
         trace,
-        error: rec.span.status.code == 2,
+        error: rec.span.get().status.code == 2,
         root,
     }
 }
@@ -320,5 +320,5 @@ fn are_like(kept: &[Kept], spans: &[Arrival]) -> bool {
     kept.len() == spans.len()
         && kept.iter().zip(spans).all(|(k, s)| k.key == s.key
             && k.moment == s.moment
-            && k.error == (s.rec.span.status.code == 2))
+            && k.error == (s.rec.span.get().status.code == 2))
 }
