@@ -12,6 +12,7 @@ from serve import PER_REQUEST, Collector, request
 
 BODY = request(0).partition(b"\r\n\r\n")[2]
 ONE = b'{"resourceSpans":[{"scopeSpans":[{"spans":[{"traceId":"5b8efff798038103d269b633813fc60c","spanId":"eee19b7ec3c1b174"}]}]}]}'
+ROUNDS = 9
 LUA = 'wrk.method = "POST"\nwrk.headers["Content-Type"] = "application/json"\nlocal file = io.open("%s", "rb")\nwrk.body = file:read("*a")\n'
 
 
@@ -60,27 +61,38 @@ def told(what, rate, half, most, errors, count):
     print(f"{what}: {rate:.0f} requests a second, half within {half:.2f} ms, 99 % within {most:.2f} ms; {count} in all; {'; '.join(errors) or 'no error'}", flush=True)
 
 
-def beside_idle(program):
-    """Sixteen busy connections on four lanes, alone and beside 10,000 idle ones."""
-    collector = Many(program, 4, 16384)
-    told("16 busy, one span a request, 4 lanes", *wrk(collector.port, 16, 10, ONE))
-    collector.close()
-    collector = Many(program, 4, 16384)
-    before = collector.kibibytes()
+def many_idle(port, count):
+    """So many connections that say nothing."""
     idle = []
-    for at in range(10_000):
+    for at in range(count):
         of = socket.socket()
         of.bind((f"127.0.0.{at // 5000 + 2}", 0))
-        of.connect(("127.0.0.1", collector.port))
+        of.connect(("127.0.0.1", port))
         idle.append(of)
+    return idle
+
+
+def beside_idle(program):
+    """Sixteen busy connections on four lanes, alone and beside 10,000 idle ones: of two collectors in turn."""
+    alone, beside = Many(program, 4, 16384), Many(program, 4, 16384)
+    before = beside.kibibytes()
+    idle = many_idle(beside.port, 10_000)
     time.sleep(2)
-    more = collector.kibibytes() - before
-    print(f"10,000 idle connections: {collector.files()} open files, {more} KiB more, {more * 1024 / 10_000:.0f} bytes each", flush=True)
-    used = collector.cpu()
+    more = beside.kibibytes() - before
+    print(f"10,000 idle connections: {beside.files()} open files, {more} KiB more, {more * 1024 / 10_000:.0f} bytes each", flush=True)
+    used = beside.cpu()
     time.sleep(10)
-    print(f"with 10,000 idle: {(collector.cpu() - used) * 10:.2f} % of a core", flush=True)
-    told("16 busy beside 10,000 idle", *wrk(collector.port, 16, 10, ONE))
-    print(f"the close: {collector.close():.2f} s", flush=True)
+    print(f"with 10,000 idle: {(beside.cpu() - used) * 10:.2f} % of a core", flush=True)
+    found = {alone: [], beside: []}
+    for _ in range(ROUNDS):
+        for of, rounds in found.items():
+            rounds.append(wrk(of.port, 16, 5, ONE))
+    for what, rounds in (("alone", found[alone]), ("beside 10,000 idle", found[beside])):
+        rates, most = sorted(it[0] for it in rounds), sorted(it[2] for it in rounds)
+        errors = sorted({it for of in rounds for it in of[3]})
+        print(f"16 busy, one span a request, 4 lanes, {what}: 99 % within {most[ROUNDS // 2]:.2f} ms in the middle of {ROUNDS} rounds ({most[0]:.2f} to {most[-1]:.2f}), {rates[ROUNDS // 2]:.0f} requests a second; {'; '.join(errors) or 'no error'}", flush=True)
+    alone.close()
+    print(f"the close: {beside.close():.2f} s", flush=True)
     for of in idle:
         of.close()
 

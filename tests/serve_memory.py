@@ -13,10 +13,18 @@ SPANS = 500
 NONE = 'policies = [{ name = "none", type = "latency", latency = { threshold_ms = 60000 } }]\n'
 
 
-def flood_span(trace, number):
-    """A span of about a kilobyte."""
+def flood_form():
+    """A request of spans of about a kilobyte, in which their ids are to be filled in."""
     attributes = [{"key": f"http.request.header.x-{i:02}", "value": {"stringValue": "abcdefghij" * 4}} for i in range(8)]
-    return {"traceId": f"{trace + 1:032x}", "spanId": f"{number + 1:016x}", "name": "GET /orders", "attributes": attributes}
+    return body_of([{"traceId": "%032x", "spanId": "%016x", "name": "GET /orders", "attributes": attributes}] * SPANS)
+
+
+FORM = flood_form()
+
+
+def flood_request(trace_of, first):
+    """A request of the spans from a number on."""
+    return post(FORM % tuple(it + 1 for i in range(first, first + SPANS) for it in (trace_of(i), i)))
 
 
 def mebibytes(collector):
@@ -34,7 +42,7 @@ def flood(collector, trace_of, requests):
         client = collector.client()
         for number in range(requests // 4):
             first = (requests // 4 * at + number) * SPANS
-            client.send(post(body_of([flood_span(trace_of(first + i), first + i) for i in range(SPANS)])))
+            client.send(flood_request(trace_of, first))
             status, fields, text = client.answer()
             if status == 200:
                 want("the body", text, "{}")
@@ -52,7 +60,7 @@ def held_within_its_limit(start, trace_of):
     """A flood that waits is refused once the process takes its limit, and nothing of what was taken is lost."""
     settings = f"memory_limit_mib = {LIMIT}\nlanes = 4\nshards = 2\nnum_traces = 1000000\nqueue_capacity = 8192\ndecision_wait_ms = 3600000\n"
     collector = start(settings + NONE, limits=[(resource.RLIMIT_AS, (8 << 30))])
-    taken, refused = flood(collector, trace_of, 600)
+    taken, refused = flood(collector, trace_of, 2000)
     if not refused or taken < 100:
         raise Failure(f"{taken} requests were taken, and {refused} refused")
     most = mebibytes(collector)[1]
@@ -67,7 +75,7 @@ def one_trace(start):
 
 
 def many_traces(start):
-    """A flood of traces of one span."""
+    """A flood of a million traces of one span."""
     held_within_its_limit(start, lambda number: number)
 
 
@@ -90,7 +98,7 @@ def takes_again(start):
         client = collector.client()
         for number in range(150):
             first = (150 * at + number) * SPANS
-            data = post(body_of([flood_span(first + i, first + i) for i in range(SPANS)]))
+            data = flood_request(lambda number: number, first)
             for _ in range(6000):
                 client.send(data)
                 if client.answer()[0] == 200:
