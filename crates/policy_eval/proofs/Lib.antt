@@ -5,3 +5,4 @@ pub mod Members
 mod Rows
 mod GivenRows
 mod FirstRows
+mod DeciderRows

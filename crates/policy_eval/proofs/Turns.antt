@@ -1,6 +1,6 @@
 -- The walk over the parts of a policy and over the top policies, policy by policy.
 -- For the clauses `evaluates` of `evaluate` and `answers` of `answer`.
-use Rattle.std.proofs.Common.{◌≡◌, ℕ, suc, ◌+◌, ◌-◌, ◌^◌, min, ◌≤◌, ◌<◌, ◌==◌, Bool, true, false, ◌&&◌, cond, List, [], ◌∷◌, ◌++◌, length, drop, get_or, refl, sym, ap, subst, ◌∙◌, arith, append-nil, append_assoc, drop-cons, add-one}
+use Rattle.std.proofs.Common.{◌≡◌, ℕ, suc, ◌+◌, ◌-◌, ◌^◌, min, ◌≤◌, ◌<◌, ◌==◌, Bool, true, false, ◌&&◌, cond, List, [], ◌∷◌, ◌++◌, length, drop, get_or, Option, refl, sym, ap, subst, ◌∙◌, arith, append-nil, append_assoc, drop-cons, add-one}
 use Rattle.std.proofs.lemmas.Bool.Decides.{nat_tests}
 use Rattle.std.proofs.lemmas.Bool.{and_parts}
 use Rattle.policy_tree.specs.declared.limiter_node.LimiterNode.{LimiterNode}
@@ -9,14 +9,15 @@ use Rattle.policy_tree.specs.declared.policy.Join.{Join}
 use Rattle.policy_tree.specs.Tree.{Policy, leaf, rate_limiting, joined, Policies, no_more, one_more, nodes, nodes_in, limits, limits_in}
 use Rattle.policy_tree.specs.Meaning.{meaning, policy_meaning}
 use Rattle.policy_eval.specs.Policies as spec
-use Rattle.policy_eval.specs.Given.{answer_given, part_answers_given, left_by, left_by_parts, nodes_asked, nodes_asked_in_turn, answers_given, nodes_asked_at_top, asked_given, Asked, Evaluates}
+use Rattle.policy_eval.specs.Given.{answer_given, part_answers_given, left_by, left_by_parts, nodes_asked, nodes_asked_in_turn, answers_given, nodes_asked_at_top, asked_given, Asked, EvaluatesWithDecider}
 use Rattle.policy_eval.specs.Walks.{Answers}
 use Rattle.otlp_types.specs.declared.arrival.Arrival.{Arrival}
-use Rattle.policy_eval.specs.Meaning.{answer_of, is_end, none_seen, seen_with, joined_seen, verdict_of_seen, knows}
+use Rattle.policy_eval.specs.Meaning.{answer_of, is_end, none_seen, seen_with, joined_seen, verdict_of_seen, none_first, first_with, decider_of_seen, knows}
 use Rattle.policy_eval.specs.declared.answer.Seen.{Seen}
 use Rattle.policy_eval.specs.declared.answer.Answer.{Answer}
+use Rattle.policy_eval.specs.declared.decider.Firsts.{Firsts}
 use Rattle.span_ids.specs.declared.outcome.Verdict.{Verdict}
-use Rattle.policy_eval.proofs.Verdicts.{Tells, tells-more, tells-all, tells-none, joined-all, ends-is}
+use Rattle.policy_eval.proofs.Verdicts.{Tells, tells-more, tells-all, tells-none, Told, told-more, told-none, places-all, joined-all, ends-is}
 
 -- the policies from i on are that policy and the others
 pub next_part : (ps : List Named) (i : ℕ) (p : Named) → i < length ps → p ≡ get_or ps i p → meaning (drop i ps) ≡ one_more (policy_meaning p) (meaning (drop (i + 1) ps))
@@ -195,25 +196,25 @@ module _ (S : Type 0) (has : S → ℕ → Bool) (asks : S → ℕ → ℕ → �
 
 module _ (S : Type 0) (has : S → ℕ → Bool) (asks : S → ℕ → ℕ → ℕ → Bool → S → Type 0) (s0 : S) (all : Policies) (second : ℕ) (spans : List Arrival) where
   -- the policies `rest` are still to be asked, from number `next` on
-  pub record Top (s : S) (rest : Policies) (next : ℕ) (seen : Seen) : Type 0 where
+  pub record Top (s : S) (rest : Policies) (next : ℕ) (seen : Seen) (place : ℕ) (firsts : Firsts) : Type 0 where
     pub counted : next + nodes_in rest ≡ nodes_in all
     pub within : nodes_in all ≤ 64
     pub walked : Walked S has asks s0 second spans s rest next
-    pub tells : (later : List Bool) → Tells seen (answers_given rest later spans) (answers_given all (walked.mine ++ later) spans)
+    pub tells : (later : List Bool) → Told seen firsts place (answers_given rest later spans) (answers_given all (walked.mine ++ later) spans)
     pub asking : (later : List Bool) → nodes_asked_at_top all 0 (walked.mine ++ later) spans ≡ walked.asked ++ nodes_asked_at_top rest next later spans
 
   -- before the first policy
-  pub top-first : nodes_in all ≤ 64 → knows (has s0) (limits_in all 0) ≡ true → Top s0 all 0 none_seen
+  pub top-first : nodes_in all ≤ 64 → knows (has s0) (limits_in all 0) ≡ true → Top s0 all 0 none_seen 0 none_first
   top-first within known = record {
     counted = omega arith;
     within = within;
     walked = walked-first S has asks s0 second spans all 0 known;
-    tells = λ later. tells-none (answers_given all later spans);
+    tells = λ later. told-none (answers_given all later spans);
     asking = λ later. refl;
   }
 
-  pub top-more : (s t : S) (p : Policy) (rest : Policies) (next : ℕ) (seen : Seen) (a : Answer) → Top s (one_more p rest) next seen → Answers asks p next second spans a s t → ((m : ℕ) → has t m ≡ has s m) → Top t rest (next + nodes p) (seen_with a seen)
-  top-more s t p rest next seen a w part keeps =
+  pub top-more : (s t : S) (p : Policy) (rest : Policies) (next : ℕ) (seen : Seen) (place : ℕ) (firsts : Firsts) (a : Answer) → Top s (one_more p rest) next seen place firsts → Answers asks p next second spans a s t → ((m : ℕ) → has t m ≡ has s m) → Top t rest (next + nodes p) (seen_with a seen) (place + 1) (first_with a place firsts)
+  top-more s t p rest next seen place firsts a w part keeps =
       let its = part.2 in
       record {
         counted = omega (arith, w.counted);
@@ -221,11 +222,11 @@ module _ (S : Type 0) (has : S → ℕ → Bool) (asks : S → ℕ → ℕ → �
         walked = walked-more S has asks s0 second spans s t p rest next a w.walked part keeps;
         tells = λ later.
             let first = answer_given p (part.0 ++ later) spans in
-            let told : Tells (seen_with (answer_of first) seen) (answers_given rest (left_by p (part.0 ++ later) spans) spans) (answers_given all (w.walked.mine ++ (part.0 ++ later)) spans)
-            = tells-more seen first (answers_given rest (left_by p (part.0 ++ later) spans) spans) (answers_given all (w.walked.mine ++ (part.0 ++ later)) spans) (w.tells (part.0 ++ later)) in
-            let P = λ (bs : List Bool). Tells (seen_with (answer_of first) seen) (answers_given rest bs spans) (answers_given all (w.walked.mine ++ (part.0 ++ later)) spans) in
-            let Q = λ (bs : List Bool). Tells (seen_with (answer_of first) seen) (answers_given rest later spans) (answers_given all bs spans) in
-            let R = λ (x : Answer). Tells (seen_with x seen) (answers_given rest later spans) (answers_given all ((w.walked.mine ++ part.0) ++ later) spans) in
+            let told : Told (seen_with (answer_of first) seen) (first_with (answer_of first) place firsts) (place + 1) (answers_given rest (left_by p (part.0 ++ later) spans) spans) (answers_given all (w.walked.mine ++ (part.0 ++ later)) spans)
+            = told-more seen firsts place first (answers_given rest (left_by p (part.0 ++ later) spans) spans) (answers_given all (w.walked.mine ++ (part.0 ++ later)) spans) (w.tells (part.0 ++ later)) in
+            let P = λ (bs : List Bool). Told (seen_with (answer_of first) seen) (first_with (answer_of first) place firsts) (place + 1) (answers_given rest bs spans) (answers_given all (w.walked.mine ++ (part.0 ++ later)) spans) in
+            let Q = λ (bs : List Bool). Told (seen_with (answer_of first) seen) (first_with (answer_of first) place firsts) (place + 1) (answers_given rest later spans) (answers_given all bs spans) in
+            let R = λ (x : Answer). Told (seen_with x seen) (first_with x place firsts) (place + 1) (answers_given rest later spans) (answers_given all ((w.walked.mine ++ part.0) ++ later) spans) in
             subst R (sym (its.answers later)) (subst Q (sym (append_assoc w.walked.mine part.0 later)) (subst P (its.leaves later) told));
         asking = λ later. ap (λ bs. nodes_asked_at_top all 0 bs spans) (append_assoc w.walked.mine part.0 later) ∙ w.asking (part.0 ++ later)
             ∙ (let e : nodes_asked_at_top (one_more p rest) next (part.0 ++ later) spans ≡ part.1 ++ nodes_asked_at_top rest (next + nodes p) later spans = rw (its.leaves later, its.asks later) in
@@ -233,14 +234,16 @@ module _ (S : Type 0) (has : S → ℕ → Bool) (asks : S → ℕ → ℕ → �
       }
 
   -- after the last policy
-  pub top-last : (s : S) (next : ℕ) (seen : Seen) (verdict : Verdict) → Top s no_more next seen → verdict ≡ verdict_of_seen seen → Evaluates asks all second spans verdict s0 s
-  top-last s next seen verdict w e =
+  pub top-last : (s : S) (next : ℕ) (seen : Seen) (place : ℕ) (firsts : Firsts) (verdict : Verdict) (decider : Option ℕ) → Top s no_more next seen place firsts → verdict ≡ verdict_of_seen seen → decider ≡ decider_of_seen seen firsts → EvaluatesWithDecider asks all second spans verdict decider s0 s
+  top-last s next seen place firsts verdict decider w e d =
       let full : w.walked.mine ++ [] ≡ w.walked.mine = append-nil w.walked.mine in
       let asked : asked_given all w.walked.mine spans ≡ w.walked.asked = ap (λ bs. nodes_asked_at_top all 0 bs spans) (sym full) ∙ w.asking [] ∙ append-nil w.walked.asked in
       let P = λ (bs : List Bool). verdict_of_seen seen ≡ spec.verdict_of_answers (answers_given all bs spans) in
+      let R = λ (bs : List Bool). decider_of_seen seen firsts ≡ spec.decider_of_answers (answers_given all bs spans) in
       let Q = λ (ns : List ℕ). Asked asks second (length spans) ns w.walked.mine s0 s in (
         w.walked.mine,
-        e ∙ subst P full (tells-all seen (answers_given all (w.walked.mine ++ []) spans) (w.tells [])),
+        e ∙ subst P full (tells-all seen (answers_given all (w.walked.mine ++ []) spans) (w.tells []).seen),
         same-eqb (length (asked_given all w.walked.mine spans)) (length w.walked.mine) (ap length asked ∙ asked-lengths asks second (length spans) w.walked.asked w.walked.mine s0 s w.walked.so_far),
         subst Q (sym asked) w.walked.so_far,
+        d ∙ subst R full (places-all seen firsts place (answers_given all (w.walked.mine ++ []) spans) (w.tells []).seen (w.tells []).first),
       )

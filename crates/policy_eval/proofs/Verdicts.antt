@@ -1,12 +1,14 @@
 -- The verdict by which answers policies gave, and what is made of them.
 -- For the clauses of `evaluate`, `answer`, `verdict_and_askings` and `answer_given`, and the contract of `earliest_start`.
-use Rattle.std.proofs.Common.{◌≡◌, ℕ, suc, ◌+◌, ◌<◌, min, max, Bool, true, false, ◌||◌, not, cond, List, [], ◌∷◌, length, drop, get_or, refl, sym, ap, ◌∙◌, arith, drop-cons, add-one}
-use Rattle.std.specs.List.{list_all, list_any}
+use Rattle.std.proofs.Common.{◌≡◌, ℕ, suc, ◌+◌, ◌<◌, min, max, Bool, true, false, ◌||◌, not, cond, List, [], ◌∷◌, length, drop, get_or, Option, Some, None, refl, sym, ap, ◌∙◌, arith, drop-cons, add-one}
+use Rattle.std.specs.List.{list_all, list_any, position_from}
+use Rattle.std.specs.Option.{option_or}
 use Rattle.policy_tree.specs.declared.policy.Join.{Join}
 use Rattle.policy_tree.specs.declared.policy.Join.TheVariants.{And, Not, Drop, FirstMatch, Share}
 use Rattle.policy_eval.specs.Policies as spec
-use Rattle.policy_eval.specs.Meaning.{answer_of, is_for, is_end, none_seen, seen_with, each_is_for, some_is_for, joined_seen, verdict_of_seen}
+use Rattle.policy_eval.specs.Meaning.{answer_of, is_for, is_end, none_seen, seen_with, each_is_for, some_is_for, joined_seen, verdict_of_seen, none_first, first_with, decider_of_seen}
 use Rattle.policy_eval.specs.declared.answer.Seen.{Seen}
+use Rattle.policy_eval.specs.declared.decider.Firsts.{Firsts}
 use Rattle.otlp_types.specs.declared.arrival.Arrival.{Arrival}
 
 -- which answers were seen, and what the others will answer
@@ -38,6 +40,46 @@ tells-all s all t = rw (t.sample ∙ or-end s.sample, t.not_sample ∙ or-end s.
 -- before the first answer
 pub tells-none : (all : List spec.Answer) → Tells none_seen all all
 tells-none all = record { sample = refl; not_sample = refl; inverted_sample = refl; inverted_not_sample = refl; dropped = refl }
+
+-- where answers were given first, and where the others will be, of which the first has place n
+pub record Places (f : Firsts) (n : ℕ) (rest all : List spec.Answer) : Type 0 where
+  pub sample : spec.first_place spec.sample all ≡ option_or f.sample (position_from (spec.is_same_answer spec.sample) n rest)
+  pub inverted_sample : spec.first_place spec.inverted_sample all ≡ option_or f.inverted_sample (position_from (spec.is_same_answer spec.inverted_sample) n rest)
+  pub inverted_not_sample : spec.first_place spec.inverted_not_sample all ≡ option_or f.inverted_not_sample (position_from (spec.is_same_answer spec.inverted_not_sample) n rest)
+  pub dropped : spec.first_place spec.dropped all ≡ option_or f.dropped (position_from (spec.is_same_answer spec.dropped) n rest)
+
+or-here : (o : Option ℕ) (n : ℕ) (later : Option ℕ) → option_or o (Some n) ≡ option_or (option_or o (Some n)) later
+or-here None n later = refl
+or-here (Some m) n later = refl
+
+or-nowhere : (o : Option ℕ) → option_or o None ≡ o
+or-nowhere None = refl
+or-nowhere (Some m) = refl
+
+pub places-more : (f : Firsts) (n : ℕ) (a : spec.Answer) (rest all : List spec.Answer) → Places f n (a ∷ rest) all → Places (first_with (answer_of a) n f) (n + 1) rest all
+places-more f n spec.sample rest all t = record { sample = t.sample ∙ or-here f.sample n (position_from (spec.is_same_answer spec.sample) (n + 1) rest); inverted_sample = t.inverted_sample; inverted_not_sample = t.inverted_not_sample; dropped = t.dropped }
+places-more f n spec.not_sample rest all t = record { sample = t.sample; inverted_sample = t.inverted_sample; inverted_not_sample = t.inverted_not_sample; dropped = t.dropped }
+places-more f n spec.inverted_sample rest all t = record { sample = t.sample; inverted_sample = t.inverted_sample ∙ or-here f.inverted_sample n (position_from (spec.is_same_answer spec.inverted_sample) (n + 1) rest); inverted_not_sample = t.inverted_not_sample; dropped = t.dropped }
+places-more f n spec.inverted_not_sample rest all t = record { sample = t.sample; inverted_sample = t.inverted_sample; inverted_not_sample = t.inverted_not_sample ∙ or-here f.inverted_not_sample n (position_from (spec.is_same_answer spec.inverted_not_sample) (n + 1) rest); dropped = t.dropped }
+places-more f n spec.dropped rest all t = record { sample = t.sample; inverted_sample = t.inverted_sample; inverted_not_sample = t.inverted_not_sample; dropped = t.dropped ∙ or-here f.dropped n (position_from (spec.is_same_answer spec.dropped) (n + 1) rest) }
+
+-- before the first answer
+pub places-none : (all : List spec.Answer) → Places none_first 0 all all
+places-none all = record { sample = refl; inverted_sample = refl; inverted_not_sample = refl; dropped = refl }
+
+pub places-all : (s : Seen) (f : Firsts) (n : ℕ) (all : List spec.Answer) → Tells s [] all → Places f n [] all → decider_of_seen s f ≡ spec.decider_of_answers all
+places-all s f n all t p = rw (t.sample ∙ or-end s.sample, t.not_sample ∙ or-end s.not_sample, t.inverted_sample ∙ or-end s.inverted_sample, t.inverted_not_sample ∙ or-end s.inverted_not_sample, t.dropped ∙ or-end s.dropped, p.sample ∙ or-nowhere f.sample, p.inverted_sample ∙ or-nowhere f.inverted_sample, p.inverted_not_sample ∙ or-nowhere f.inverted_not_sample, p.dropped ∙ or-nowhere f.dropped)
+
+-- which answers were seen and where first, and what the others will answer
+pub record Told (s : Seen) (f : Firsts) (n : ℕ) (rest all : List spec.Answer) : Type 0 where
+  pub seen : Tells s rest all
+  pub first : Places f n rest all
+
+pub told-more : (s : Seen) (f : Firsts) (n : ℕ) (a : spec.Answer) (rest all : List spec.Answer) → Told s f n (a ∷ rest) all → Told (seen_with (answer_of a) s) (first_with (answer_of a) n f) (n + 1) rest all
+told-more s f n a rest all t = record { seen = tells-more s a rest all t.seen; first = places-more f n a rest all t.first }
+
+pub told-none : (all : List spec.Answer) → Told none_seen none_first 0 all all
+told-none all = record { seen = tells-none all; first = places-none all }
 
 -- ---- what is made of them
 

@@ -1,10 +1,10 @@
 -- What policies mean where their askings get a list of answers in turn: the first asking gets the first answer.
-use Rattle.std.specs.Prelude.{◌≡◌, ℕ, ◌+◌, Bool, true, false, ◌==◌, if◌then◌else◌, List, [], ◌∷◌, ◌++◌, length}
+use Rattle.std.specs.Prelude.{◌≡◌, ℕ, ◌+◌, Bool, true, false, ◌==◌, if◌then◌else◌, List, [], ◌∷◌, ◌++◌, length, Option}
 use Rattle.policy_tree.specs.declared.policy.Join.{Join}
 use Rattle.policy_tree.specs.Tree.{Policy, leaf, rate_limiting, joined, Policies, no_more, one_more, nodes}
 use Rattle.otlp_types.specs.declared.arrival.Arrival.{Arrival}
 use Rattle.span_ids.specs.declared.outcome.Verdict.{Verdict}
-use Rattle.policy_eval.specs.Policies.{Answer, plain, joined_answer, leaf_answer, ends, verdict_of_answers}
+use Rattle.policy_eval.specs.Policies.{Answer, plain, joined_answer, leaf_answer, ends, verdict_of_answers, decider_of_answers}
 
 -- the answer that the next asking gets: a missing one is a refusal
 abbrev pub next_answer : (answers : List Bool) → Bool
@@ -69,6 +69,10 @@ nodes_asked_at_top (one_more p rest) node answers spans = nodes_asked p node ans
 abbrev pub verdict_given : Policies → (answers : List Bool) → List Arrival → Verdict
 verdict_given policies answers spans = verdict_of_answers (answers_given policies answers spans)
 
+-- the place of the policy that decides, where the askings get these answers in turn
+abbrev pub decider_given : Policies → (answers : List Bool) → List Arrival → Option ℕ
+decider_given policies answers spans = decider_of_answers (answers_given policies answers spans)
+
 -- the limiter nodes that such a decision asks, in the walk's order
 abbrev pub asked_given : Policies → (answers : List Bool) → List Arrival → List ℕ
 asked_given policies answers spans = nodes_asked_at_top policies 0 answers spans
@@ -90,3 +94,10 @@ abbrev pub Evaluates : {S : Type 0} → (asks : S → ℕ → ℕ → ℕ → Bo
 Evaluates asks policies second spans verdict old new =
     (answers : List Bool) × (verdict ≡ verdict_given policies answers spans) × (are_answered policies answers spans ≡ true)
     × Asked asks second (length spans) (asked_given policies answers spans) answers old new
+
+-- and so is the policy that decides, with the same answers
+abbrev pub EvaluatesWithDecider : {S : Type 0} → (asks : S → ℕ → ℕ → ℕ → Bool → S → Type 0) → Policies → (second : ℕ) → List Arrival → Verdict → (decider : Option ℕ) → (old new : S) → Type 0
+EvaluatesWithDecider asks policies second spans verdict decider old new =
+    (answers : List Bool) × (verdict ≡ verdict_given policies answers spans) × (are_answered policies answers spans ≡ true)
+    × Asked asks second (length spans) (asked_given policies answers spans) answers old new
+    × (decider ≡ decider_given policies answers spans)

@@ -1,6 +1,7 @@
 -- The program's answers, and the nodes that a limiter knows.
-use Rattle.std.specs.Prelude.{ℕ, Bool, true, false, not, ◌&&◌, ◌||◌, if◌then◌else◌, List}
+use Rattle.std.specs.Prelude.{ℕ, Bool, true, false, not, ◌&&◌, ◌||◌, if◌then◌else◌, List, Option, Some, None}
 use Rattle.std.specs.List.{list_all}
+use Rattle.std.specs.Option.{option_or}
 use Rattle.policy_eval.specs.Policies as spec
 use Rattle.policy_tree.specs.declared.policy.Join.{Join}
 use Rattle.policy_tree.specs.declared.policy.Join.TheVariants.{And, Not, Drop, FirstMatch, Share}
@@ -8,6 +9,7 @@ use Rattle.policy_tree.specs.declared.limiter_node.LimiterNode.{LimiterNode}
 use Rattle.policy_eval.specs.declared.answer.Answer.{Answer}
 use Rattle.policy_eval.specs.declared.answer.Answer.TheVariants.{Sample, NotSample, InvertedSample, InvertedNotSample, Dropped}
 use Rattle.policy_eval.specs.declared.answer.Seen.{Seen}
+use Rattle.policy_eval.specs.declared.decider.Firsts.{Firsts}
 use Rattle.span_ids.specs.declared.outcome.Verdict.{Verdict}
 use Rattle.span_ids.specs.declared.outcome.Verdict.TheVariants.{Sampled, NotSampled}
 
@@ -47,6 +49,27 @@ verdict_of_seen s =
     else if s.sample then Sampled
     else if s.inverted_sample && not s.not_sample then Sampled
     else NotSampled
+
+-- nothing was given first
+abbrev pub none_first : Firsts
+none_first = record { sample = None; inverted_sample = None; inverted_not_sample = None; dropped = None }
+
+-- where answers were given first, with one more at this place, behind all others
+abbrev pub first_with : Answer → (place : ℕ) → Firsts → Firsts
+first_with Sample place f = record f { sample = option_or f.sample (Some place) }
+first_with NotSample place f = f
+first_with InvertedSample place f = record f { inverted_sample = option_or f.inverted_sample (Some place) }
+first_with InvertedNotSample place f = record f { inverted_not_sample = option_or f.inverted_not_sample (Some place) }
+first_with Dropped place f = record f { dropped = option_or f.dropped (Some place) }
+
+-- the place of the policy that decides, by which answers were given, and where first
+abbrev pub decider_of_seen : Seen → Firsts → Option ℕ
+decider_of_seen s f =
+    if s.dropped then f.dropped
+    else if s.inverted_not_sample then f.inverted_not_sample
+    else if s.sample then f.sample
+    else if s.inverted_sample && not s.not_sample then f.inverted_sample
+    else None
 
 -- each of the answers, and some of them, is for the trace
 abbrev pub each_is_for : Seen → Bool

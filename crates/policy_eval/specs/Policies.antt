@@ -1,6 +1,6 @@
 -- What policies mean on the spans of a trace (tailsamplingprocessor README, "Policies").
-use Rattle.std.specs.Prelude.{ℕ, ◌+◌, ◌-◌, ◌/◌, ◌%◌, min, max, ℤ, Bool, true, false, not, ◌&&◌, ◌||◌, if◌then◌else◌, ◌==◌, nat_lt, nat_le, List, [], ◌∷◌, ◌++◌, length, bytes_eq, int_le}
-use Rattle.std.specs.List.{list_any, list_all}
+use Rattle.std.specs.Prelude.{ℕ, ◌+◌, ◌-◌, ◌/◌, ◌%◌, min, max, ℤ, Bool, true, false, not, ◌&&◌, ◌||◌, if◌then◌else◌, ◌==◌, nat_lt, nat_le, List, [], ◌∷◌, ◌++◌, length, bytes_eq, int_le, Option, None}
+use Rattle.std.specs.List.{list_any, list_all, position_from}
 use Rattle.std.specs.Ordering.{int_eq}
 use Rattle.policy_eval.specs.Probabilistic.{trace_of, is_chosen}
 use Rattle.policy_eval.specs.TraceState.{has_member}
@@ -129,6 +129,19 @@ verdict_of_answers all =
     else if has_answer sample all then Sampled
     else if has_answer inverted_sample all && not (has_answer not_sample all) then Sampled
     else NotSampled
+
+-- the place of the first of the answers that is this one, from 0 on
+abbrev pub first_place : Answer → List Answer → Option ℕ
+first_place one all = position_from (is_same_answer one) 0 all
+
+-- the place of the policy that decides: the first of those whose answer the verdict rests on; none where it rests on no answer, since nothing samples
+abbrev pub decider_of_answers : List Answer → Option ℕ
+decider_of_answers all =
+    if has_answer dropped all then first_place dropped all
+    else if has_answer inverted_not_sample all then first_place inverted_not_sample all
+    else if has_answer sample all then first_place sample all
+    else if has_answer inverted_sample all && not (has_answer not_sample all) then first_place inverted_sample all
+    else None
 
 -- an answer for the trace
 abbrev pub samples : Answer → Bool

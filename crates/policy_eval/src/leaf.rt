@@ -45,9 +45,7 @@ pub fn leaf_answer(leaf: &Leaf, spans: &[Arrival]) -> Answer
 fn has_status(codes: &[i32], spans: &[Arrival]) -> bool
     ensures { result ≡ has_status codes.now spans.now }
 {
-    spans
-        .iter()
-        .any(|arrival| codes.contains(&arrival.rec.span.get().status.code))
+    spans.iter().any(|arrival| codes.contains(&arrival.rec.span.get().status.code))
 }
 
 fn has_state(key: &str, values: &[Text], spans: &[Arrival]) -> bool
@@ -59,5 +57,7 @@ fn has_state(key: &str, values: &[Text], spans: &[Arrival]) -> bool
 fn is_flagged(spans: &[Arrival]) -> bool
     ensures { result ≡ is_flagged spans.now }
 {
-    spans.iter().any(|arrival| arrival.rec.span.get().flags % 2 == 1)
+    spans
+        .iter()
+        .any(|arrival| arrival.rec.span.get().flags % 2 == 1)
 }

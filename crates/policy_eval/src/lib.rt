@@ -7,6 +7,7 @@
 mod answer;
 mod answer_list;
 mod attribute;
+mod decider;
 mod latency;
 mod laws;
 mod leaf;
@@ -16,4 +17,4 @@ mod verdict;
 
 pub use answer_list::{judge, verdict_given};
 pub use laws::{answers_are_by_the_node, asked_nodes_rise, decisions_keep_the_counts};
-pub use verdict::evaluate;
+pub use verdict::{evaluate, evaluate_with_decider};

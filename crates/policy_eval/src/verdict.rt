@@ -3,10 +3,11 @@ ghost use Rattle.std.specs.Prelude.{◌≡◌, ℕ, ◌+◌, ◌/◌, ◌<◌, �
 ghost use Rattle.policy_tree.specs.Tree.{nodes, limits, limiters};
 ghost use Rattle.policy_tree.specs.Meaning.{meaning, policy_meaning};
 ghost use Rattle.policy_eval.specs.Meaning.{knows};
-ghost use Rattle.policy_eval.specs.Given.{Evaluates};
+ghost use Rattle.policy_eval.specs.Given.{Evaluates, EvaluatesWithDecider};
 ghost use Rattle.policy_eval.specs.Walks.{Answers};
 
 use crate::answer::{Answer, Seen};
+use crate::decider::Firsts;
 use crate::leaf::leaf_answer;
 use otlp_types::Arrival;
 use policy_tree::{Policies, Policy, PolicyKind};
@@ -28,15 +29,34 @@ pub fn evaluate<L: Limiter>(
     ensures evaluates { Evaluates L.asks (meaning policies.now) (now / 1000) spans.now result limiter.old limiter.new }
     ensures keeps { (m : ℕ) → L.has_node limiter.new m ≡ L.has_node limiter.old m }
 {
+    evaluate_with_decider(policies, spans, now, limiter).0
+}
+
+/// The same, with the place of the policy that decides, from 0 on, if one does. The policies are walked over once.
+pub fn evaluate_with_decider<L: Limiter>(
+    policies: &Policies,
+    spans: &[Arrival],
+    now: Moment,
+    limiter: &mut L,
+) -> (Verdict, Option<usize>)
+    requires nodes { knows (L.has_node limiter.old) (limiters (meaning policies.now)) ≡ true }
+    requires spans { 0 < length spans.now }
+    ensures evaluates { EvaluatesWithDecider L.asks (meaning policies.now) (now / 1000) spans.now result.0 result.1 limiter.old limiter.new }
+    ensures keeps { (m : ℕ) → L.has_node limiter.new m ≡ L.has_node limiter.old m }
+{
     let second = now / 1000;
     let mut next = 0;
     let mut seen = Seen::none();
-    for policy in policies.as_slice() {
+    let mut firsts = Firsts::none();
+    let all = policies.as_slice();
+    for place in 0..all.len() {
+        let policy = &all[place];
         let given = answer(policy, next, spans, second, limiter);
         seen = seen.with(given);
+        firsts = firsts.with(given, place);
         next += policy.count() as u16;
     }
-    seen.verdict()
+    (seen.verdict(), firsts.decider(seen))
 }
 
 /// The answer of the policy with this number, in this second.

@@ -4,7 +4,7 @@ use Rattle.std.proofs.Common.{◌≡◌, ℕ, zero, suc, ◌+◌, ◌/◌, ◌<�
 use Rattle.std.specs.List.{list_any, find, filter}
 use Rattle.std.specs.Option.{is_none, is_some}
 use Rattle.policy_tree.specs.Meaning.{meaning}
-use Rattle.policy_eval.specs.Given.{verdict_given, asked_given, are_answered, Asked}
+use Rattle.policy_eval.specs.Given.{verdict_given, decider_given, asked_given, are_answered, Asked}
 use Rattle.trace_buffer.specs.Buffer.{Episode, settled, settle_first, is_due_at, is_root_due, opened_by}
 use Rattle.journal_theory.specs.Journal.{Entry, Journal, Opening, in_buffer, notes_dealt, due_now, clock, spans_since, answered, IsAnsweredUpTo}
 use Rattle.journal_theory.specs.Standing.{Standing, episode}
@@ -12,7 +12,7 @@ use Rattle.span_ids.specs.declared.outcome.Verdict.{Verdict}
 use Rattle.otlp_types.specs.declared.arrival.Arrival.{Arrival}
 use Rattle.shard_core.specs.Held.{Held, settings, StandsFor, has_due, is_finished, is_due_in, due_by}
 use Rattle.journal_theory.specs.Deciding.{is_due_by}
-use Rattle.shard_core.specs.Taking.{waiting, Releases, DecidesFirst, AddsDecision, journal_after, dealt_after}
+use Rattle.shard_core.specs.Taking.{waiting, Releases, DecidesFirst, AddsDecision, TellsDecider, Decides, DecidesWithDecider, journal_after, dealt_after}
 use Rattle.shard_core.specs.Holding.{SettlesFirst}
 use Rattle.shard_core.specs.declared.answer.Decided.{Decided}
 use Rattle.shard_core.specs.declared.answer.Decided.TheVariants.{Release, Nothing, Dropped as NotReleased}
@@ -125,19 +125,47 @@ module _ {L : Type 0} (asks : L → ℕ → ℕ → ℕ → Bool → L → Type 
       by_answer (NotReleased n) r g = g
       by_answer Nothing r g = absurd r
 
-  pub decides_some : (new : Held) (answer : Decided) (before after : L) (answers : List Bool) (e : Episode) (past : Journal) (k : ℕ) →
-      find (is_due_at (due_by h).0 (due_by h).1 (due_by h).2) h.standing.episodes ≡ Some e → SettlesFirst h (due_by h).0 (due_by h).1 (due_by h).2 answers answer new →
-      are_answered (settings h).policies answers e.spans ≡ true → Asked asks (h.standing.clock / 1000) (length e.spans) (asked_given (settings h).policies answers e.spans) answers before after →
-      StandsFor h past k → Does new answer before after answers past k
-  decides_some new answer before after answers e [] k f t a q s =
+  -- a shard that has taken nothing has no episode
+  none_at_first : (e : Episode) (k : ℕ) → find (is_due_at (due_by h).0 (due_by h).1 (due_by h).2) h.standing.episodes ≡ Some e → StandsFor h [] k → ⊥
+  none_at_first e k f s =
       let none : h.standing.episodes ≡ map (episode [] (notes_dealt (settings h) [] k)) (reverse (in_buffer (settings h) (notes_dealt (settings h) [] k))) = ap (λ (st : Standing). st.episodes) s.1 in
       let P = λ (es : List Episode). find (is_due_at (due_by h).0 (due_by h).1 (due_by h).2) es ≡ Some e in
-      absurd (no_openings h.limit (subst P none f))
+      no_openings h.limit (subst P none f)
     where
       no_openings : (n : ℕ) → find (is_due_at (due_by h).0 (due_by h).1 (due_by h).2) (map (episode [] (notes_dealt (settings h) [] k)) (reverse (take n []))) ≡ Some e → ⊥
       no_openings zero f = cc f
       no_openings (suc n) f = cc f
+
+  pub decides_some : (new : Held) (answer : Decided) (before after : L) (answers : List Bool) (e : Episode) (past : Journal) (k : ℕ) →
+      find (is_due_at (due_by h).0 (due_by h).1 (due_by h).2) h.standing.episodes ≡ Some e → SettlesFirst h (due_by h).0 (due_by h).1 (due_by h).2 answers answer new →
+      are_answered (settings h).policies answers e.spans ≡ true → Asked asks (h.standing.clock / 1000) (length e.spans) (asked_given (settings h).policies answers e.spans) answers before after →
+      StandsFor h past k → Does new answer before after answers past k
+  decides_some new answer before after answers e [] k f t a q s = absurd (none_at_first e k f s)
   decides_some new answer before after answers e (x ∷ earlier) k f t a q s = decides-in new answer before after answers e x earlier k f t a q s
+
+  -- ---- which policy decided
+
+  pub decider_nothing : (past : Journal) (k : ℕ) → find (is_due_at (due_by h).0 (due_by h).1 (due_by h).2) h.standing.episodes ≡ None → StandsFor h past k
+      → TellsDecider (settings h).policies None [] past (drop k (due_now (settings h) past))
+  decider_nothing past k f s =
+      let gone = nothing_left (settings h) (room_of h l) past k h.standing w s.0 s.1 s.2 (sym (due_is h o) ∙ f) in
+      let P = λ (os : List Opening). TellsDecider (settings h).policies None [] past os in
+      subst P (sym gone) refl
+
+  pub decider_some : (answers : List Bool) (decider : Option ℕ) (e : Episode) (past : Journal) (k : ℕ) → find (is_due_at (due_by h).0 (due_by h).1 (due_by h).2) h.standing.episodes ≡ Some e
+      → decider ≡ decider_given (settings h).policies answers e.spans → StandsFor h past k → TellsDecider (settings h).policies decider answers past (drop k (due_now (settings h) past))
+  decider_some answers decider e [] k f d s = absurd (none_at_first e k f s)
+  decider_some answers decider e (x ∷ earlier) k f d s =
+      let past : Journal = x ∷ earlier in
+      let policies = (settings h).policies in
+      let step = decides-step (settings h) (room_of h l) x earlier k h.standing e w s.0 s.1 s.2 (sym (due_is h o) ∙ f) in
+      let D = λ (spans : List Arrival). decider ≡ decider_given policies answers spans in
+      let P = λ (os : List Opening). TellsDecider policies decider answers past os in
+      subst P (sym step.2) (subst D (sym step.3) d)
+
+-- what is decided, whichever policy did
+pub without_decider : {L : Type 0} (asks : L → ℕ → ℕ → ℕ → Bool → L → Type 0) (old new : Held) (answer : Decided) (decider : Option ℕ) (before after : L) → DecidesWithDecider asks old new answer decider before after → Decides asks old new answer before after
+without_decider asks old new answer decider before after d = (d.0, λ past k s. let m = d.1 past k s in (m.0, m.1, m.2))
 
 -- ---- what is left to decide
 

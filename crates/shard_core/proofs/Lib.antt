@@ -3,7 +3,7 @@ mod Forgetting
 mod Codes
 mod Opening
 mod Stands
-mod Deciding
+pub mod Deciding
 mod Effects
 mod Fates
 pub mod Sent

@@ -6,7 +6,8 @@ use Rattle.trace_buffer.specs.declared.episode.Evicted.{Evicted}
 use Rattle.decision_cache.specs.declared.traces.Remembered.{Remembered}
 use Rattle.decision_cache.specs.declared.traces.Remembered.TheVariants.{Kept as InCache, Off, Lost}
 use Rattle.journal_theory.specs.Fate.{Fate, waits, is_released, is_counted, fate, is_same_reason, released_dealt, dropped_dealt}
-use Rattle.policy_eval.specs.Given.{verdict_given, asked_given, are_answered, Asked}
+use Rattle.policy_tree.specs.Tree.{Policies}
+use Rattle.policy_eval.specs.Given.{verdict_given, decider_given, asked_given, are_answered, Asked}
 use Rattle.otlp_types.specs.declared.span.Ids.{Ids}
 use Rattle.otlp_types.specs.declared.arrival.Arrival.{Arrival}
 use Rattle.otlp_types.specs.declared.arrival.Item.{Item}
@@ -185,3 +186,16 @@ Decides asks old new answer before after = (answers : List Bool) × ((past : Jou
     DecidesFirst asks old new answer before after answers past (drop dealt (due_now (settings old) past))
     × StandsFor new (journal_after answer past answers) (dealt_after answer dealt)
     × AddsDecision (settings old) answer answers past dealt)
+
+-- which policy decided by these answers of the limiter, by the episodes that are still to be decided: the one that decides on the spans of the first, and none where there is none
+abbrev pub TellsDecider : Policies → (decider : Option ℕ) → (answers : List Bool) → Journal → List Opening → Type 0
+TellsDecider policies decider answers past [] = decider ≡ None
+TellsDecider policies decider answers past (o ∷ later) = decider ≡ decider_given policies answers (spans_since past o)
+
+-- What `decide_with_decider` does: the same, with the policy that decided by these answers.
+abbrev pub DecidesWithDecider : {L : Type 0} → (asks : L → ℕ → ℕ → ℕ → Bool → L → Type 0) → (old new : Held) → Decided → (decider : Option ℕ) → (before after : L) → Type 0
+DecidesWithDecider asks old new answer decider before after = (answers : List Bool) × ((past : Journal) (dealt : ℕ) → StandsFor old past dealt →
+    DecidesFirst asks old new answer before after answers past (drop dealt (due_now (settings old) past))
+    × StandsFor new (journal_after answer past answers) (dealt_after answer dealt)
+    × AddsDecision (settings old) answer answers past dealt
+    × TellsDecider (settings old).policies decider answers past (drop dealt (due_now (settings old) past)))

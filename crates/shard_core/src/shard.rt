@@ -15,7 +15,7 @@ ghost use Rattle.shard_core.specs.Holding.{KeepsAs, OpensAs, answer_to_append, l
 use crate::answer::{Decided, Taken};
 use decision_cache::DecisionCache;
 use otlp_types::{Arrival, Ids, Item};
-use policy_eval::evaluate;
+use policy_eval::evaluate_with_decider;
 use policy_tree::Policies;
 use rate_budget::Limiter;
 use span_ids::{Moment, Reason, Verdict};
@@ -80,7 +80,7 @@ impl Model for Shard {
 
 impl Shard {
     ghost use Rattle.shard_core.specs.Held.{StandsFor, has_due, is_finished, due_by, settings, settings_of};
-    ghost use Rattle.shard_core.specs.Taking.{entry, ends_after, answer_to, is_refusal, is_kept, only_clock, TellsFate, is_last, released_by, dropped_by, Decides, waiting, released_in, dropped_in, dealt_after};
+    ghost use Rattle.shard_core.specs.Taking.{entry, ends_after, answer_to, is_refusal, is_kept, only_clock, TellsFate, is_last, released_by, dropped_by, Decides, DecidesWithDecider, waiting, released_in, dropped_in, dealt_after};
     ghost use Rattle.journal_theory.specs.Journal.{has_ids};
     ghost use Rattle.journal_theory.specs.Marked.{marks_apply};
     ghost use Rattle.shard_core.specs.Holding.{held_after_tick, held_after_end, TakesSpan};
@@ -250,15 +250,35 @@ impl Shard {
         ensures policies { self.new.policies ≡ self.old.policies }
         ensures settings { settings self.new ≡ settings self.old }
     {
+        self.decide_with_decider(limiter).0
+    }
+
+    /// The same, with the place of the policy that decided, from 0 on: none where nothing was decided, and where none of them
+    /// did, since none samples.
+    pub fn decide_with_decider<L: Limiter>(&mut self, limiter: &mut L) -> (Decided, Option<usize>)
+        requires nodes { knows (L.has_node limiter.old) (limiters (meaning self.old.policies)) ≡ true }
+        ensures decides { DecidesWithDecider L.asks self.old self.new result.0 result.1 limiter.old limiter.new }
+        ensures unchanged { result.0 ≡ Decided.Nothing → (self.new ≡ self.old) × (limiter.new ≡ limiter.old) }
+        ensures keeps { (node : ℕ) → L.has_node limiter.new node ≡ L.has_node limiter.old node }
+        ensures all_dealt { result.0 ≡ Decided.Nothing → (past : Journal) (dealt : ℕ) → StandsFor self.old past dealt → effect_dealt (settings self.old) past dealt ≡ effect (settings self.old) past }
+        ensures answered { result.0 ≡ Decided.Nothing → (past : Journal) (dealt : ℕ) → StandsFor self.old past dealt → IsAnswered (settings self.old) past }
+        ensures nothing { result.0 ≡ Decided.Nothing → has_due self.new ≡ false }
+        ensures fewer { (result.0 ≡ Decided.Nothing) ⊎ (waiting self.new < waiting self.old) }
+        ensures finished { is_finished self.new ≡ is_finished self.old }
+        ensures ends { self.new.standing.ends ≡ self.old.standing.ends }
+        ensures policies { self.new.policies ≡ self.old.policies }
+        ensures settings { settings self.new ≡ settings self.old }
+    {
         self.search();
         let (mark, wait, root_wait) = self.due_by();
         let now = self.clock;
         let Some(episode) = self.buffer.next_due(mark, wait, root_wait) else {
-            return Decided::Nothing;
+            return (Decided::Nothing, None);
         };
-        let verdict = evaluate(&self.policies, episode.spans(), now, limiter);
+        let (verdict, decider) =
+            evaluate_with_decider(&self.policies, episode.spans(), now, limiter);
         let spans = self.buffer.settle(mark, wait, root_wait, verdict);
-        decided(verdict, spans)
+        (decided(verdict, spans), decider)
     }
 }
 

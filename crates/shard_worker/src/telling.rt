@@ -22,11 +22,11 @@ pub fn tell_taken<G: Gate>(gate: &G, taken: &Taken) {
     }
 }
 
-/// Tells of a decision.
-pub fn tell_decided<G: Gate>(gate: &G, decided: &Decided) {
+/// Tells of a decision, and of the policy that decided.
+pub fn tell_decided<G: Gate>(gate: &G, decided: &Decided, decider: Option<usize>) {
     match decided {
-        Decided::Release(_) => gate.decided(true),
-        Decided::Dropped(_) => gate.decided(false),
+        Decided::Release(_) => gate.decided(decider, true),
+        Decided::Dropped(_) => gate.decided(decider, false),
         Decided::Nothing => {}
     }
 }
