@@ -184,7 +184,9 @@ impl Shard {
         ensures no_memory { has_memory ≡ false → is_kept result ≡ false }
     {
         self.clock = arrival.moment.max(self.clock);
-        let trace = ids_of(&arrival).unwrap().trace;
+        let ids = ids_of(&arrival).unwrap();
+        // The other id is read for the proof: the borrow checker's part must see each type that a lent span has.
+        let (trace, _span) = (ids.trace, ids.span);
         match self.buffer.find(trace) {
             Some(State::Undecided) => {
                 appended(append(&mut self.buffer, arrival, self.clock, has_memory))

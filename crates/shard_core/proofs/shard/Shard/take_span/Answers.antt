@@ -31,8 +31,8 @@ invariant_of-self c =
     let now = c.max-self-inside.result in
     let k = kept (goal.at.invariant_of-self c).After-find in
     let P = λ (o : Option Ids). Appended i.buffer c.args.arrival o now c.append.result c.append.new.buffer in
-    let a = append_keeps now i.buffer c.append.new.buffer i.cache c.args.arrival c.unwrap-trace.result.trace c.append.result (subst P (sym c.ids_of.ensures ∙ c.unwrap-trace.ensures) c.append.ensures.appended) k in
-    let g = append_spans now i.buffer c.append.new.buffer c.args.arrival c.unwrap-trace.result.trace c.append.result (subst P (sym c.ids_of.ensures ∙ c.unwrap-trace.ensures) c.append.ensures.appended) inv.2 in
+    let a = append_keeps now i.buffer c.append.new.buffer i.cache c.args.arrival c.unwrap-ids.result.trace c.append.result (subst P (sym c.ids_of.ensures ∙ c.unwrap-ids.ensures) c.append.ensures.appended) k in
+    let g = append_spans now i.buffer c.append.new.buffer c.args.arrival c.unwrap-ids.result.trace c.append.result (subst P (sym c.ids_of.ensures ∙ c.unwrap-ids.ensures) c.append.ensures.appended) inv.2 in
     (inv.0, a.0, g, a.1, a.2)
 
 pub invariant_of-self-in-Some-Decided : goal.invariant_of-self-in-Some-Decided
@@ -44,7 +44,7 @@ invariant_of-self-in-Some-Decided c =
 pub invariant_of-self-in-Some : goal.invariant_of-self-in-Some
 invariant_of-self-in-Some c =
     let inv = c.self.invariant in
-    let a = ask_keeps c.max-self-inside.result c.self.inside.buffer c.unwrap-trace.result.trace c.self.inside.cache c.ask.new.self c.ask.ensures.lists (kept (goal.at.invariant_of-self-in-Some c).After-find) in
+    let a = ask_keeps c.max-self-inside.result c.self.inside.buffer c.unwrap-ids.result.trace c.self.inside.cache c.ask.new.self c.ask.ensures.lists (kept (goal.at.invariant_of-self-in-Some c).After-find) in
     (inv.0, a.0, inv.2, a.1, a.2)
 
 pub open-requires-clause-clock : goal.open-requires-clause-clock
@@ -55,10 +55,10 @@ invariant_of-self-in-None-ask c =
     let i = c.self.inside in
     let inv = c.self.invariant in
     let now = c.max-self-inside.result in
-    let ids = c.unwrap-trace.result in
+    let ids = c.unwrap-ids.result in
     let a = ask_keeps now i.buffer ids.trace i.cache c.ask.new.self c.ask.ensures.lists (kept (goal.at.invariant_of-self-in-None-ask c).After-find) in
     let P = λ (o : Option Ids). Opened i.buffer c.args.arrival o now c.open.result c.open.new.buffer in
-    let is_opened = subst P (sym c.ids_of.ensures ∙ c.unwrap-trace.ensures) c.open.ensures.opened in
+    let is_opened = subst P (sym c.ids_of.ensures ∙ c.unwrap-ids.ensures) c.open.ensures.opened in
     let none = no_episode (episode_of ids.trace i.buffer.episodes) (sym c.find.ensures ∙ c.in-None.is) in
     let nothing = asked-nothing ids.trace i.cache (sym c.ask.ensures.verdict ∙ c.in-None-ask.is) in
     let out = λ (l : CacheLists). is_held_in_either ids.trace l ≡ false in
@@ -70,8 +70,8 @@ returns-in-None-ask-clause-takes c =
     let i = c.self.inside in
     let a = c.args.arrival in
     let now = c.max-self-inside.result in
-    let ids = c.unwrap-trace.result in
-    let by : a.rec.span.ids ≡ Some ids = sym c.ids_of.ensures ∙ c.unwrap-trace.ensures in
+    let ids = c.unwrap-ids.result in
+    let by : a.rec.span.ids ≡ Some ids = sym c.ids_of.ensures ∙ c.unwrap-ids.ensures in
     let P = λ (o : Option Ids). Opened i.buffer a o now c.open.result c.open.new.buffer in
     let N = λ (n : ℕ). Opened i.buffer a (Some ids) n c.open.result c.open.new.buffer in
     let is_opened = subst N c.max-self-inside.ensures (subst P by c.open.ensures.opened) in
