@@ -277,8 +277,12 @@ impl Shard {
         let Some(episode) = self.buffer.next_due(mark, wait, root_wait) else {
             return (Decided::Nothing, None);
         };
-        let (verdict, decider) =
-            evaluate_with_decider(&self.policies, episode.spans(), now, limiter);
+        let (verdict, decider) = evaluate_with_decider(
+            &self.policies,
+            episode.spans(),
+            now,
+            limiter,
+        );
         let spans = self.buffer.settle(mark, wait, root_wait, verdict);
         (decided(verdict, spans), decider)
     }

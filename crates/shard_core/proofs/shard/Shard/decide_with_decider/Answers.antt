@@ -52,8 +52,12 @@ returns-in_default-clause-decides g c =
     let none = none_found (the_view c.self.inside) _ c.self.inside.buffer.episodes (c.due_by-mark.ensures ∙ ap due_by (sym c.self.view_is)) (sym c.next_due.ensures ∙ ap option_copied c.in_default.is) in
     let P = λ (x : Held). DecidesWithDecider asks x x Nothing None limiter limiter in
     let Q = λ (x : Held). DecidesWithDecider asks x c.search.new.self Nothing None limiter limiter in
-    let does = λ past k s. let did = decides_nothing asks (the_view c.self.inside) inv.0 inv.1 inv.3 limiter past k none s in (did.0, did.1, did.2, decider_nothing asks (the_view c.self.inside) inv.0 inv.1 inv.3 past k none s) in
-    subst Q c.search.ensures (subst P c.self.view_is ([], does))
+    subst Q c.search.ensures (subst P c.self.view_is (
+      [],
+      λ past k s.
+          let did = decides_nothing asks (the_view c.self.inside) inv.0 inv.1 inv.3 limiter past k none s in
+          (did.0, did.1, did.2, decider_nothing asks (the_view c.self.inside) inv.0 inv.1 inv.3 past k none s),
+    ))
 
 pub returns-in_default-clause-all_dealt : goal.returns-in_default-clause-all_dealt
 returns-in_default-clause-all_dealt g c = λ _ past k s.
