@@ -4,6 +4,8 @@ import json
 import os
 import resource
 import socket
+import subprocess
+import sys
 import time
 
 from collector import ALL, ERROR_SPAN, Failure, body_of, post, want
@@ -98,6 +100,12 @@ def open_files(collector):
     return len(os.listdir(f"/proc/{collector.process.pid}/fd"))
 
 
+def kibibytes(collector):
+    """The memory that it takes."""
+    with open(f"/proc/{collector.process.pid}/status", encoding="utf-8") as file:
+        return next(int(line.split()[1]) for line in file if line.startswith("VmRSS"))
+
+
 def comes_back_to(collector, count, seconds):
     """Waits until it has no more files open than so many."""
     began = time.monotonic()
@@ -119,24 +127,26 @@ def stays_behind_its_refusal(start):
     want("the report", collector.close()[1], [0] * 9)
 
 
-def twenty_thousand_short_ones(start):
-    """Twenty thousand connections of one request each leave no open file behind."""
-    collector = start("lanes = 4\nnum_traces = 100000\nqueue_capacity = 65536\n" + ALL)
+def short_ones(collector, count):
+    """So many short connections by each of four programs, all answered."""
+    words = [sys.executable, os.path.join(os.path.dirname(__file__), "short_connections.py"), str(collector.port), str(count)]
+    clients = [subprocess.Popen(words, stdout=subprocess.PIPE) for _ in range(4)]
+    want("how many were answered", [int(it.communicate()[0]) for it in clients], [count] * 4)
+
+
+def two_hundred_thousand_short_ones(start):
+    """Two hundred thousand connections of one request each leave no open file and no memory behind."""
+    collector = start("lanes = 4\n" + ALL)
     want("the answer", collector.ask(post(body_of([ERROR_SPAN])))[::2], (200, "{}"))
+    short_ones(collector, 2_000)
     time.sleep(0.3)
-    before = open_files(collector)
-
-    def asks(at):
-        for number in range(5000):
-            client = collector.client()
-            client.socket.setsockopt(socket.SOL_SOCKET, socket.SO_LINGER, b"\1\0\0\0\0\0\0\0")
-            client.send(post(body_of(spans_by_number(5000 * at + number, 1))))
-            want("the answer", client.answer()[::2], (200, "{}"))
-            client.close()
-
-    side_by_side(asks, range(4))
+    before, memory = open_files(collector), kibibytes(collector)
+    short_ones(collector, 50_000)
     comes_back_to(collector, before, 10)
-    want("the report", collector.close()[1], [20_001, 20_001, 0, 0, 0, 0, 0, 0, 0])
+    more = kibibytes(collector) - memory
+    if more > 1024:
+        raise Failure(f"{more} KiB more are taken than before")
+    want("the report", collector.close()[1], [1, 1, 0, 0, 0, 0, 0, 0, 0])
 
 
 def few_may_be_open(start):
@@ -222,5 +232,5 @@ def reads_nothing(start):
     deaf.close()
 
 
-CHECKS = [beside_idle_ones, numbered_by_connection, tricklers, stays_behind_its_refusal, twenty_thousand_short_ones]
+CHECKS = [beside_idle_ones, numbered_by_connection, tricklers, stays_behind_its_refusal, two_hundred_thousand_short_ones]
 CHECKS += [few_may_be_open, few_open_files, refusals_arrive, reads_nothing]

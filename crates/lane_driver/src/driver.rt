@@ -55,9 +55,9 @@ pub struct TurnDriver<'l, P: Stop> {
     /// One that was taken of the listener, and one that the lane has but for which there is no link.
     arrived: Option<TcpStream>,
     orphan: Option<usize>,
-    /// Connections may wait: from this moment on they are taken, and now so many more.
+    /// Connections may wait, since this moment or not before it, and now so many more are taken.
     may_take: bool,
-    take_from: u64,
+    since: u64,
     to_take: usize,
     walk: Walk,
     /// The moment from which on no request goes on, once the mark to stop is set.
@@ -91,7 +91,7 @@ impl<'l, P: Stop> TurnDriver<'l, P> {
             arrived: None,
             orphan: None,
             may_take: true,
-            take_from: 0,
+            since: 0,
             to_take: 0,
             walk: Walk::new(),
             stopping: None,
@@ -186,7 +186,7 @@ impl<'l, P: Stop> TurnDriver<'l, P> {
         ensures { (next : Next) → result ≡ Follows.Do next → FitsNext next (length piece.old) }
     {
         self.to_take = self.to_take.saturating_sub(1);
-        self.take_from = self.links.patience(self.now);
+        self.since = self.now;
         if self.links.is_beyond_limit() {
             return self.make_room(piece, u64::MAX);
         }
@@ -214,7 +214,7 @@ impl<'l, P: Stop> TurnDriver<'l, P> {
         requires { 0 < length piece.old }
         ensures { (next : Next) → result ≡ Follows.Do next → FitsNext next (length piece.old) }
     {
-        self.take_from = self.now.saturating_add(NAP);
+        self.since = self.now.saturating_add(NAP);
         self.make_room(piece, self.now.saturating_add(IDLE_LIMIT - GRACE))
     }
 
@@ -327,7 +327,7 @@ impl<'l, P: Stop> TurnDriver<'l, P> {
     fn wait<R: Wait + Clock>(&mut self, rt: &R) {
         let mut limit = self.walk.next.saturating_sub(self.now).min(NAP);
         if self.may_take {
-            limit = limit.min(self.take_from.saturating_sub(self.now));
+            limit = limit.min(self.links.takes_from(self.since).saturating_sub(self.now));
         }
         if self.links.ready_count() > 0 {
             limit = 0;
@@ -339,7 +339,7 @@ impl<'l, P: Stop> TurnDriver<'l, P> {
             self.stopping = Some(self.now.saturating_add(STOP_LIMIT));
             self.may_take = true;
         }
-        if self.may_take && self.now >= self.take_from {
+        if self.may_take && self.now >= self.links.takes_from(self.since) {
             self.to_take = (self.links.len() / 8).saturating_add(1);
         }
         self.to_serve = self.links.ready_count();
@@ -355,7 +355,7 @@ impl<'l, P: Stop> TurnDriver<'l, P> {
             match self.readiness.next() {
                 Some(Ready::Listener) => {
                     if !self.may_take {
-                        self.take_from = self.links.patience(self.now);
+                        self.since = self.now;
                     }
                     self.may_take = true;
                 }
@@ -386,7 +386,6 @@ impl<'l, P: Stop> TurnDriver<'l, P> {
         }
         self.watch_deadline(place);
         self.links.list(place);
-        self.take_from = self.take_from.max(self.links.patience(self.now));
     }
 
     /// The connection of the link at the place that was told had a turn.

@@ -72,17 +72,17 @@ impl Links {
         self.slab.len() >= self.limit
     }
 
-    /// From when on a new connection is taken: at once by the lane that has the fewest, and by those that have an eighth more at
-    /// most, so that the one that has least to do takes it; by another the sooner the fewer more it has. One that has no room for
-    /// it leaves it to the others for a while.
-    pub fn patience(&self, now: u64) -> u64 {
+    /// From when on a connection is taken that may wait since a moment: at once by the lane that has the fewest, and by those that
+    /// have an eighth more at most, so that the one that has least to do takes it; by another the sooner the fewer more it has. One
+    /// that has no room for it leaves it to the others for a while.
+    pub fn takes_from(&self, since: u64) -> u64 {
         if self.is_at_limit() {
-            return now.saturating_add(NAP);
+            return since.saturating_add(NAP);
         }
         let least = self.loads.least();
         let fewest = least.saturating_add(least / 8);
         let more = (self.slab.len() as u64).saturating_sub(fewest);
-        now.saturating_add(more.saturating_mul(PATIENCE).min(MOST_PATIENCE))
+        since.saturating_add(more.saturating_mul(PATIENCE).min(MOST_PATIENCE))
     }
 
     /// Whether more are open than may be.
