@@ -19,7 +19,7 @@ abbrev pub value_at : (key : List ℕ) → List Default → Option Data
 value_at key [] = None
 value_at key (row ∷ rest) = if is_eq (slice_cmp nat_cmp key row.name) then Some row.value else value_at key rest
 
-or_none : (a : Option Data) → or_else a None ≡ a
+pub or_none : (a : Option Data) → or_else a None ≡ a
 or_none None = refl
 or_none (Some x) = refl
 
@@ -28,7 +28,7 @@ or_chain None true v more = refl
 or_chain None false v more = refl
 or_chain (Some x) b v more = refl
 
-equal_from : (o : Ordering) → is_eq o ≡ true → o ≡ Equal
+pub equal_from : (o : Ordering) → is_eq o ≡ true → o ≡ Equal
 equal_from Less h = cc
 equal_from Equal h = refl
 equal_from Greater h = cc

@@ -1,28 +1,14 @@
 -- The members of a table with what stands at some keys by default.
-use Rattle.std.specs.Prelude.{ℕ, false, List, [], ◌∷◌, Option, None, Some, if◌then◌else◌}
+use Rattle.std.specs.Prelude.{ℕ, List, [], ◌∷◌, Option, None, Some, if◌then◌else◌}
 use Rattle.std.specs.Option.{is_some}
 use Rattle.std.specs.Cmp.Lexicographic.{slice_cmp}
 use Rattle.std.specs.Ordering.{nat_cmp, match_ordering}
-use Rattle.toml.specs.Data.{Data, string, integer, boolean, table, Members, no_members, member, get_member}
-use Rattle.config_text.specs.declared.defaults.Plain.{Plain}
-use Rattle.config_text.specs.declared.defaults.Plain.TheVariants as plain_is
-use Rattle.config_text.specs.declared.defaults.Default as code
+use Rattle.toml.specs.Data.{Data, table, Members, no_members, member, get_member}
 
 -- a key, and what its table has by default
 pub record Default : Type 0 where
   pub name : List ℕ
   pub value : Data
-
--- the program's value
-abbrev pub plain_value : Plain → Data
-plain_value (plain_is.Number number) = integer number
-plain_value (plain_is.Text text) = string text.now
-plain_value plain_is.Off = boolean false
-plain_value plain_is.Empty = table no_members
-
--- the program's key and value
-abbrev pub default_of : code.Default → Default
-default_of it = record { name = it.name.now; value = plain_value it.value }
 
 -- members with a value at a key, in the order of the keys, in place of what stood there
 abbrev pub put_member : (key : List ℕ) → Data → Members → Members

@@ -3,8 +3,9 @@ ghost use Rattle.std.specs.Prelude.{◌≡◌, map, option_map, IfOk, string_byt
 ghost use Rattle.toml.specs.Data.{get_member};
 ghost use Rattle.toml.specs.View.{view, table_view};
 ghost use Rattle.config_text.specs.Members as spec;
+ghost use Rattle.config_text.specs.Plain.{default_of, plain_value};
 
-use crate::defaults::{Default, Plain};
+use crate::plain::{Default, Plain};
 use std::alloc::{AllocError, Global};
 use toml::{Table, Value};
 
@@ -25,7 +26,7 @@ pub fn put(alloc: Global, table: &mut Table, key: &str, value: Value) -> Result<
 
 /// A value by default.
 pub fn plain(alloc: Global, value: Plain) -> Result<Value, AllocError>
-    ensures { IfOk result (λ v. view v ≡ spec.plain_value value) }
+    ensures { IfOk result (λ v. view v ≡ plain_value value) }
 {
     match value {
         Plain::Number(number) => Ok(Value::Integer(number)),
@@ -37,7 +38,7 @@ pub fn plain(alloc: Global, value: Plain) -> Result<Value, AllocError>
 
 /// Puts a default at its key, where nothing stands there.
 pub fn put_default(alloc: Global, table: &mut Table, row: &Default) -> Result<(), AllocError>
-    ensures { IfOk result (λ _. table_view table.new ≡ spec.with_default (spec.default_of row.now) (table_view table.old)) }
+    ensures { IfOk result (λ _. table_view table.new ≡ spec.with_default (default_of row.now) (table_view table.old)) }
 {
     if member(table, row.name).is_some() {
         return Ok(());
@@ -47,7 +48,7 @@ pub fn put_default(alloc: Global, table: &mut Table, row: &Default) -> Result<()
 
 /// Puts each of these defaults at its key, where nothing stands there.
 pub fn put_each(alloc: Global, table: &mut Table, rows: &[Default]) -> Result<(), AllocError>
-    ensures { IfOk result (λ _. table_view table.new ≡ spec.with_each (map spec.default_of rows.now) (table_view table.old)) }
+    ensures { IfOk result (λ _. table_view table.new ≡ spec.with_each (map default_of rows.now) (table_view table.old)) }
 {
     for row in rows {
         put_default(alloc, table, row)?;
@@ -57,7 +58,7 @@ pub fn put_each(alloc: Global, table: &mut Table, rows: &[Default]) -> Result<()
 
 /// A copy of a value that, where it is a table, has each of these defaults.
 pub fn copy_with(alloc: Global, value: &Value, rows: &[Default]) -> Result<Value, AllocError>
-    ensures { IfOk result (λ v. view v ≡ spec.value_with (map spec.default_of rows.now) (view value.now)) }
+    ensures { IfOk result (λ v. view v ≡ spec.value_with (map default_of rows.now) (view value.now)) }
 {
     match value.clone()? {
         Value::Table(mut members) => {
@@ -75,7 +76,7 @@ pub fn put_inner(
     key: &str,
     rows: &[Default],
 ) -> Result<(), AllocError>
-    ensures { IfOk result (λ _. table_view table.new ≡ spec.with_inner key.now (map spec.default_of rows.now) (table_view table.old)) }
+    ensures { IfOk result (λ _. table_view table.new ≡ spec.with_inner key.now (map default_of rows.now) (table_view table.old)) }
 {
     let Some(value) = member(table, key) else {
         return Ok(());

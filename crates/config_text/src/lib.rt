@@ -5,3 +5,7 @@
 mod defaults;
 mod depth;
 mod filling;
+mod plain;
+mod writing;
+
+pub use writing::settings_in_force;

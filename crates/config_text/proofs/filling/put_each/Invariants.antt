@@ -1,6 +1,7 @@
 use Rattle.std.proofs.Common.{◌≡◌, map, drop}
 use Rattle.toml.specs.View.{table_view}
-use Rattle.config_text.specs.Members.{default_of, with_each}
+use Rattle.config_text.specs.Members.{with_each}
+use Rattle.config_text.specs.Plain.{default_of}
 use Rattle.config_text.proofs.filling.put_each.Given as goal
 
 -- the table with the defaults that are left is what it is to become
