@@ -5,3 +5,4 @@ pub mod Alike
 pub mod SameReading
 pub mod Standing
 pub mod Texts
+pub mod Completed

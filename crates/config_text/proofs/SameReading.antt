@@ -43,6 +43,7 @@ root_elsewhere key m h = of (is_some (get_member (codes "decision_wait_after_roo
     of false = unfilled key (number_default number_is.RootWait ∷ []) m (rw h refl)
 
 above : (key : List ℕ) (m : Members) → Apart key (codes "export") → Apart key (codes "decision_cache") → get_member key (with_defaults m) ≡ get_member key (outer m)
+unfolding with_defaults
 above key m a b =
     inner_elsewhere key (codes "export") export_defaults (with_inner (codes "decision_cache") cache_defaults (outer m)) a
     ∙ inner_elsewhere key (codes "decision_cache") cache_defaults (outer m) b
@@ -168,6 +169,7 @@ unfolding is_key
 cache_known = refl
 
 all_known : (m : Members) → has_unknown_key table_is.Config (with_defaults m) ≡ has_unknown_key table_is.Config m
+unfolding with_defaults
 all_known m =
     inner_known table_is.Config (codes "export") export_defaults (with_inner (codes "decision_cache") cache_defaults (outer m)) export_known
     ∙ inner_known table_is.Config (codes "decision_cache") cache_defaults (outer m) cache_known
@@ -177,6 +179,7 @@ all_known m =
 -- ---- the table of caches
 
 pub cache_here : (m : Members) → get_member (codes "decision_cache") (with_defaults m) ≡ inner_value cache_defaults (or_else (get_member (codes "decision_cache") m) (Some (table no_members)))
+unfolding with_defaults
 cache_here m =
     inner_elsewhere (codes "decision_cache") (codes "export") export_defaults (with_inner (codes "decision_cache") cache_defaults (outer m)) refl
     ∙ inner_here (codes "decision_cache") cache_defaults (outer m)
@@ -209,6 +212,7 @@ non_sampled_of (Some _) = refl
 -- ---- the table of `export`
 
 pub export_here : (m : Members) → get_member (codes "export") (with_defaults m) ≡ inner_value export_defaults (get_member (codes "export") m)
+unfolding with_defaults
 export_here m =
     inner_here (codes "export") export_defaults (with_inner (codes "decision_cache") cache_defaults (outer m))
     ∙ ap (inner_value export_defaults)

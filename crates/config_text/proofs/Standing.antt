@@ -13,6 +13,7 @@ use Rattle.config_text.proofs.Within.{inner_value, inner_stands, each_stands, al
 use Rattle.tsc_config.specs.declared.kinds.NumberKey.TheVariants as number_is
 
 settings_stand : (m : Members) → HasEach defaults (with_defaults m)
+unfolding with_defaults
 settings_stand m = all_stand defaults defaults (with_defaults m) here refl
   where
     here : (key : List ℕ) → is_some (value_at key defaults) ≡ true → is_some (get_member key (with_defaults m)) ≡ true

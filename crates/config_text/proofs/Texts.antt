@@ -23,5 +23,5 @@ tells_each text written m e f other g w = (with_defaults m, f, is_whole m)
 
 -- a text that is no document, or whose table can't be written
 pub nothing_told : (text : List ℕ) (m : Members) → parse_document text ≡ Some m → (IsWritable (with_defaults m) → ⊥) → (other : Members) → parse_document text ≡ Some other → IsWritable (with_defaults other) → ⊥
-nothing_told text m e no other g w =
-    let same : other ≡ m = some_same other m (sym g ∙ e) in no (rw (← same) w)
+nothing_told text m e unwritable other g w =
+    let same : other ≡ m = some_same other m (sym g ∙ e) in unwritable (rw (← same) w)

@@ -14,7 +14,7 @@ abbrev pub with_root_wait : Members → Members
 with_root_wait members = if is_some (get_member (number_row number_is.RootReceived).name members) then members else with_default (number_default number_is.RootWait) members
 
 -- the table of a configuration with its defaults
-abbrev pub with_defaults : Members → Members
+unfoldable pub with_defaults : Members → Members
 with_defaults members = with_inner (codes "export") export_defaults (with_inner (codes "decision_cache") cache_defaults (with_each defaults (with_root_wait members)))
 
 -- something stands at the key of each of these defaults

@@ -4,31 +4,31 @@ ghost use Rattle.config_text.specs.Defaults as spec;
 ghost use Rattle.config_text.specs.Plain.{default_of};
 ghost use Rattle.tsc_config.specs.declared.kinds.NumberKey.TheVariants.{RootWait};
 
-use crate::plain::{Default, Plain};
+use crate::plain::Default;
 
 /// The keys of a configuration's table, but for the wait from a trace's root on, which has two names.
 pub fn settings() -> &'static [Default]
     ensures { map default_of result.now ≡ spec.defaults }
 {
     &[
-        Default { name: "decision_wait_ms", value: Plain::Number(30_000) },
-        Default { name: "num_traces", value: Plain::Number(50_000) },
-        Default { name: "decision_cache", value: Plain::Empty },
-        Default { name: "lanes", value: Plain::Number(1) },
-        Default { name: "shards", value: Plain::Number(1) },
-        Default { name: "queue_capacity", value: Plain::Number(1024) },
-        Default { name: "send_batch_size", value: Plain::Number(512) },
-        Default { name: "export_capacity", value: Plain::Number(1024) },
-        Default { name: "max_connections", value: Plain::Number(1024) },
-        Default { name: "memory_limit_mib", value: Plain::Number(0) },
-        Default { name: "tick_ms", value: Plain::Number(1000) },
-        Default { name: "listen", value: Plain::Text("127.0.0.1:4318") },
-        Default { name: "accept_gzip", value: Plain::Off },
-        Default { name: "queue_full", value: Plain::Text("partial") },
-        Default { name: "output_fault", value: Plain::Text("discard") },
-        Default { name: "close_at_end_of_input", value: Plain::Off },
-        Default { name: "double_values", value: Plain::Text("discard") },
-        Default { name: "sample_on_first_match", value: Plain::Off },
+        Default::Number("decision_wait_ms", 30_000),
+        Default::Number("num_traces", 50_000),
+        Default::Empty("decision_cache"),
+        Default::Number("lanes", 1),
+        Default::Number("shards", 1),
+        Default::Number("queue_capacity", 1024),
+        Default::Number("send_batch_size", 512),
+        Default::Number("export_capacity", 1024),
+        Default::Number("max_connections", 1024),
+        Default::Number("memory_limit_mib", 0),
+        Default::Number("tick_ms", 1000),
+        Default::Text("listen", "127.0.0.1:4318"),
+        Default::Off("accept_gzip"),
+        Default::Text("queue_full", "partial"),
+        Default::Text("output_fault", "discard"),
+        Default::Off("close_at_end_of_input"),
+        Default::Text("double_values", "discard"),
+        Default::Off("sample_on_first_match"),
     ]
 }
 
@@ -36,7 +36,7 @@ pub fn settings() -> &'static [Default]
 pub fn root_wait() -> Default
     ensures { default_of result ≡ spec.number_default RootWait }
 {
-    Default { name: "root_wait_ms", value: Plain::Number(0) }
+    Default::Number("root_wait_ms", 0)
 }
 
 /// The keys of the table of caches of decisions.
@@ -44,8 +44,8 @@ pub fn cache_sizes() -> &'static [Default]
     ensures { map default_of result.now ≡ spec.cache_defaults }
 {
     &[
-        Default { name: "sampled_cache_size", value: Plain::Number(0) },
-        Default { name: "non_sampled_cache_size", value: Plain::Number(0) },
+        Default::Number("sampled_cache_size", 0),
+        Default::Number("non_sampled_cache_size", 0),
     ]
 }
 
@@ -54,10 +54,10 @@ pub fn export_waits() -> &'static [Default]
     ensures { map default_of result.now ≡ spec.export_defaults }
 {
     &[
-        Default { name: "timeout_ms", value: Plain::Number(10_000) },
-        Default { name: "retry_initial_ms", value: Plain::Number(500) },
-        Default { name: "retry_max_ms", value: Plain::Number(30_000) },
-        Default { name: "retry_for_ms", value: Plain::Number(300_000) },
-        Default { name: "close_wait_ms", value: Plain::Number(10_000) },
+        Default::Number("timeout_ms", 10_000),
+        Default::Number("retry_initial_ms", 500),
+        Default::Number("retry_max_ms", 30_000),
+        Default::Number("retry_for_ms", 300_000),
+        Default::Number("close_wait_ms", 10_000),
     ]
 }

@@ -3,9 +3,9 @@ ghost use Rattle.std.specs.Prelude.{◌≡◌, map, option_map, IfOk, string_byt
 ghost use Rattle.toml.specs.Data.{get_member};
 ghost use Rattle.toml.specs.View.{view, table_view};
 ghost use Rattle.config_text.specs.Members as spec;
-ghost use Rattle.config_text.specs.Plain.{default_of, plain_value};
+ghost use Rattle.config_text.specs.Plain.{default_of};
 
-use crate::plain::{Default, Plain};
+use crate::plain::Default;
 use std::alloc::{AllocError, Global};
 use toml::{Table, Value};
 
@@ -24,26 +24,14 @@ pub fn put(alloc: Global, table: &mut Table, key: &str, value: Value) -> Result<
     Ok(())
 }
 
-/// A value by default.
-pub fn plain(alloc: Global, value: Plain) -> Result<Value, AllocError>
-    ensures { IfOk result (λ v. view v ≡ plain_value value) }
-{
-    match value {
-        Plain::Number(number) => Ok(Value::Integer(number)),
-        Plain::Text(text) => Value::string(alloc, text),
-        Plain::Off => Ok(Value::Boolean(false)),
-        Plain::Empty => Ok(Value::Table(Table::new(alloc))),
-    }
-}
-
 /// Puts a default at its key, where nothing stands there.
 pub fn put_default(alloc: Global, table: &mut Table, row: &Default) -> Result<(), AllocError>
     ensures { IfOk result (λ _. table_view table.new ≡ spec.with_default (default_of row.now) (table_view table.old)) }
 {
-    if member(table, row.name).is_some() {
+    if member(table, row.name()).is_some() {
         return Ok(());
     }
-    put(alloc, table, row.name, plain(alloc, row.value)?)
+    put(alloc, table, row.name(), row.value(alloc)?)
 }
 
 /// Puts each of these defaults at its key, where nothing stands there.

@@ -1,5 +1,5 @@
 //! The settings in force, as a text.
-ghost use Rattle.std.specs.Prelude.{◌≡◌, ¬◌, None, Some, IfOk, IfSome, string_bytes};
+ghost use Rattle.std.specs.Prelude.{◌≡◌, None, Some, IfOk, IfSome, string_bytes};
 ghost use Rattle.toml.specs.Parse.{parse_document};
 ghost use Rattle.toml.specs.View.{table_view};
 ghost use Rattle.tsc_config.specs.Reading.{reading};
@@ -22,23 +22,28 @@ const DEEPEST: u32 = 80;
 ///
 /// A text that is no TOML, or whose tables nest deeper than 80, is given as it is; neither is one of a configuration's. `Err`
 /// where memory is refused.
-#[tactic(auto, using(crate::proofs::Texts::reads_the_same, crate::proofs::Texts::tells_each, crate::proofs::Texts::is_its_text))]
 pub fn settings_in_force(alloc: Global, text: &str) -> Result<String, AllocError>
     ensures reads { IfOk result (λ s. reading (string_bytes s) ≡ reading text.now) }
     ensures table { IfOk result (λ s. IsTextWithDefaults text.now (string_bytes s)) }
     ensures whole { IfOk result (λ s. TellsEach text.now (string_bytes s)) }
 {
     match toml::table_from_str(alloc, text) {
-        Ok(mut table) => {
-            complete(alloc, &mut table)?;
-            match text_of(alloc, &table)? {
-                Some(whole) => Ok(whole),
-                None => String::from_str(alloc, text),
-            }
-        }
+        Ok(mut table) => match whole_text(alloc, &mut table)? {
+            Some(whole) => Ok(whole),
+            None => String::from_str(alloc, text),
+        },
         Err(error) if error.is_memory() => Err(AllocError),
         Err(_) => String::from_str(alloc, text),
     }
+}
+
+/// The text of a configuration's table with its defaults, which are put into it, or `None` where that can't be written.
+fn whole_text(alloc: Global, table: &mut Table) -> Result<Option<String>, AllocError>
+    ensures back { IfOk result (λ found. IfSome found (λ s. parse_document (string_bytes s) ≡ Some (with_defaults (table_view table.old)))) }
+    ensures none { IfOk result (λ found. found ≡ None → ¬ IsWritable (with_defaults (table_view table.old))) }
+{
+    complete(alloc, table)?;
+    text_of(alloc, table)
 }
 
 /// Puts each default into the table of a configuration, where nothing stands at its key.
@@ -48,7 +53,8 @@ fn complete(alloc: Global, table: &mut Table) -> Result<(), AllocError>
     put_root_wait(alloc, table)?;
     put_each(alloc, table, settings())?;
     put_inner(alloc, table, "decision_cache", cache_sizes())?;
-    put_inner(alloc, table, "export", export_waits())
+    put_inner(alloc, table, "export", export_waits())?;
+    Ok(())
 }
 
 /// Puts the wait from a trace's root on there, where nothing stands at either of its names.
