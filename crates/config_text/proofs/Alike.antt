@@ -1,10 +1,10 @@
 -- Two tables of which all that is read is the same are read as the same.
 -- For the clause `reads` of `settings_in_force`.
-use Rattle.std.proofs.Common.{◌≡◌, Option, List, [], codes, refl, ap, ◌∙◌}
+use Rattle.std.proofs.Common.{◌≡◌, Option, codes, refl, ap}
 use Rattle.toml.specs.Data.{Members, get_member}
-use Rattle.tsc_config.specs.Faults.{least, optional, required, unknown_fault, number_fault, choice_at_fault, text_fault, truth_fault, cache_fault, export_fault, policies_fault, twice_fault, keys_fault, numbers_fault, sizes_fault, choices_fault, others_fault, table_fault}
+use Rattle.tsc_config.specs.Faults.{least, optional, required, number_fault, choice_at_fault, text_fault, truth_fault, cache_fault, export_fault, policies_fault, twice_fault, keys_fault, numbers_fault, sizes_fault, choices_fault, others_fault, table_fault}
 use Rattle.tsc_config.specs.Keys.{number_row, choice_row, has_unknown_key}
-use Rattle.tsc_config.specs.Reading.{reading_of_table, reading_unless}
+use Rattle.tsc_config.specs.Reading.{reading_of_table}
 use Rattle.tsc_config.specs.Values.{positive_by, natural_of, first_found, cache_size, address_of, truth_of, is_other, export_of, config_of}
 use Rattle.tsc_config.specs.declared.fault.ConfigFault.{ConfigFault}
 use Rattle.tsc_config.specs.declared.kinds.ChoiceKey.{ChoiceKey}
@@ -99,7 +99,7 @@ configs_alike m n e =
       e.close,
       e.export,
     )
-      refl
+    refl
 
 pub readings_alike : (m n : Members) → Alike m n → reading_of_table m ≡ reading_of_table n
 readings_alike m n e = rw (faults_alike m n e, configs_alike m n e) refl

@@ -6,3 +6,4 @@ pub mod SameReading
 pub mod Standing
 pub mod Texts
 pub mod Completed
+pub mod WholeRows

@@ -1,6 +1,6 @@
 -- A table with its defaults is read as the table.
 -- For the clause `reads` of `settings_in_force`.
-use Rattle.std.proofs.Common.{◌≡◌, ℕ, Bool, true, false, ◌&&◌, List, [], ◌∷◌, Option, Some, None, codes, pos, refl, sym, ap, ◌∙◌, if◌then◌else◌, nat_cmp, is_eq}
+use Rattle.std.proofs.Common.{◌≡◌, ℕ, Bool, true, false, ◌&&◌, List, [], ◌∷◌, Option, Some, None, codes, pos, refl, ap, ◌∙◌, if◌then◌else◌, nat_cmp, is_eq}
 use Rattle.std.specs.Cmp.Lexicographic.{slice_cmp}
 use Rattle.std.specs.Option.{is_some}
 use Rattle.toml.specs.Data.{Data, string, integer, boolean, table, Members, no_members, get_member}
@@ -8,7 +8,7 @@ use Rattle.tsc_config.specs.Exports.{export_settings}
 use Rattle.tsc_config.specs.Faults.{optional, required, unknown_fault, number_fault, integer_fault, choice_fault, choice_at_fault, text_fault, truth_fault, endpoint_fault, cache_fault, export_fault, each_setting_fault, twice_fault}
 use Rattle.tsc_config.specs.Keys.{number_row, choice_row, is_key, has_unknown_key}
 use Rattle.tsc_config.specs.Reading.{reading_of_table}
-use Rattle.tsc_config.specs.Values.{positive_by, positive_of, natural_of, first_found, cache_size, size_in, address_of, truth_of, is_other, text_of, number_or, export_in, export_of}
+use Rattle.tsc_config.specs.Values.{positive_by, positive_of, natural_of, first_found, cache_size, address_of, truth_of, is_other, number_or, export_in, export_of}
 use Rattle.tsc_config.specs.declared.exports.Export.{Export}
 use Rattle.tsc_config.specs.declared.fault.ConfigFault.{ConfigFault}
 use Rattle.tsc_config.specs.declared.fault.ConfigFault.TheVariants.{UnknownKey}
@@ -184,7 +184,7 @@ cache_here m =
     inner_elsewhere (codes "decision_cache") (codes "export") export_defaults (with_inner (codes "decision_cache") cache_defaults (outer m)) refl
     ∙ inner_here (codes "decision_cache") cache_defaults (outer m)
     ∙ ap (inner_value cache_defaults)
-      (each (codes "decision_cache") defaults (with_root_wait m) ∙ ap (λ o. or_else o (Some (table no_members))) (root_elsewhere (codes "decision_cache") m refl))
+    (each (codes "decision_cache") defaults (with_root_wait m) ∙ ap (λ o. or_else o (Some (table no_members))) (root_elsewhere (codes "decision_cache") m refl))
 
 caches : (A : Type 0) (f : Option Data → A) (m : Members) → ((at : Option Data) → f (inner_value cache_defaults (or_else at (Some (table no_members)))) ≡ f at)
     → f (get_member (codes "decision_cache") (with_defaults m)) ≡ f (get_member (codes "decision_cache") m)
@@ -195,8 +195,8 @@ unfolding is_key
 cache_fault_of None = refl
 cache_fault_of (Some (table sizes)) =
     both _ _ _ _ (known table_is.DecisionCache cache_defaults sizes cache_keys)
-      (both _ _ _ _ (filled (Option ConfigFault) (optional (integer_fault (pos 0) (pos 1000000))) (codes "sampled_cache_size") cache_defaults (integer (pos 0)) sizes refl refl)
-      (filled (Option ConfigFault) (optional (integer_fault (pos 0) (pos 1000000))) (codes "non_sampled_cache_size") cache_defaults (integer (pos 0)) sizes refl refl))
+    (both _ _ _ _ (filled (Option ConfigFault) (optional (integer_fault (pos 0) (pos 1000000))) (codes "sampled_cache_size") cache_defaults (integer (pos 0)) sizes refl refl)
+    (filled (Option ConfigFault) (optional (integer_fault (pos 0) (pos 1000000))) (codes "non_sampled_cache_size") cache_defaults (integer (pos 0)) sizes refl refl))
 cache_fault_of (Some _) = refl
 
 sampled_of : (at : Option Data) → cache_size (codes "sampled_cache_size") (inner_value cache_defaults (or_else at (Some (table no_members)))) ≡ cache_size (codes "sampled_cache_size") at
@@ -216,8 +216,8 @@ unfolding with_defaults
 export_here m =
     inner_here (codes "export") export_defaults (with_inner (codes "decision_cache") cache_defaults (outer m))
     ∙ ap (inner_value export_defaults)
-      (inner_elsewhere (codes "export") (codes "decision_cache") cache_defaults (outer m) refl
-      ∙ unfilled (codes "export") defaults (with_root_wait m) refl ∙ root_elsewhere (codes "export") m refl)
+    (inner_elsewhere (codes "export") (codes "decision_cache") cache_defaults (outer m) refl
+    ∙ unfilled (codes "export") defaults (with_root_wait m) refl ∙ root_elsewhere (codes "export") m refl)
 
 exported : (A : Type 0) (f : Option Data → A) (m : Members) → ((at : Option Data) → f (inner_value export_defaults at) ≡ f at)
     → f (get_member (codes "export") (with_defaults m)) ≡ f (get_member (codes "export") m)
@@ -226,11 +226,11 @@ exported A f m same = ap f (export_here m) ∙ same (get_member (codes "export")
 each_export_fault : (given : Members) → each_setting_fault export_settings (with_each export_defaults given) ≡ each_setting_fault export_settings given
 each_export_fault given =
     both _ _ _ _ (ap (required endpoint_fault) (unfilled (codes "endpoint") export_defaults given refl))
-      (both _ _ _ _ (filled (Option ConfigFault) (optional (integer_fault (pos 1) (pos 600000))) (codes "timeout_ms") export_defaults (integer (pos 10000)) given refl refl)
-      (both _ _ _ _ (filled (Option ConfigFault) (optional (integer_fault (pos 1) (pos 3600000))) (codes "retry_initial_ms") export_defaults (integer (pos 500)) given refl refl)
-      (both _ _ _ _ (filled (Option ConfigFault) (optional (integer_fault (pos 1) (pos 3600000))) (codes "retry_max_ms") export_defaults (integer (pos 30000)) given refl refl)
-      (both _ _ _ _ (filled (Option ConfigFault) (optional (integer_fault (pos 0) (pos 86400000))) (codes "retry_for_ms") export_defaults (integer (pos 300000)) given refl refl)
-      (both _ _ _ _ (filled (Option ConfigFault) (optional (integer_fault (pos 0) (pos 3600000))) (codes "close_wait_ms") export_defaults (integer (pos 10000)) given refl refl) refl)))))
+    (both _ _ _ _ (filled (Option ConfigFault) (optional (integer_fault (pos 1) (pos 600000))) (codes "timeout_ms") export_defaults (integer (pos 10000)) given refl refl)
+    (both _ _ _ _ (filled (Option ConfigFault) (optional (integer_fault (pos 1) (pos 3600000))) (codes "retry_initial_ms") export_defaults (integer (pos 500)) given refl refl)
+    (both _ _ _ _ (filled (Option ConfigFault) (optional (integer_fault (pos 1) (pos 3600000))) (codes "retry_max_ms") export_defaults (integer (pos 30000)) given refl refl)
+    (both _ _ _ _ (filled (Option ConfigFault) (optional (integer_fault (pos 0) (pos 86400000))) (codes "retry_for_ms") export_defaults (integer (pos 300000)) given refl refl)
+    (both _ _ _ _ (filled (Option ConfigFault) (optional (integer_fault (pos 0) (pos 3600000))) (codes "close_wait_ms") export_defaults (integer (pos 10000)) given refl refl) refl)))))
 
 export_fault_of : (at : Option Data) → optional export_fault (inner_value export_defaults at) ≡ optional export_fault at
 export_fault_of None = refl

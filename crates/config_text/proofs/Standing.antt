@@ -1,6 +1,6 @@
 -- In a table with its defaults stands each key that has one.
 -- For the clause `whole` of `settings_in_force`.
-use Rattle.std.proofs.Common.{◌≡◌, ℕ, Bool, true, false, ◌||◌, List, [], ◌∷◌, Option, Some, None, codes, refl, ap, ◌∙◌, if◌then◌else◌}
+use Rattle.std.proofs.Common.{◌≡◌, ℕ, Bool, true, false, ◌||◌, List, [], ◌∷◌, Option, Some, None, codes, refl, if◌then◌else◌}
 use Rattle.std.specs.List.{list_all}
 use Rattle.std.specs.Option.{is_some}
 use Rattle.toml.specs.Data.{Data, table, Members, no_members, get_member}
@@ -19,7 +19,7 @@ settings_stand m = all_stand defaults defaults (with_defaults m) here refl
     here : (key : List ℕ) → is_some (value_at key defaults) ≡ true → is_some (get_member key (with_defaults m)) ≡ true
     here key h =
         inner_stands key (codes "export") export_defaults (with_inner (codes "decision_cache") cache_defaults (outer m))
-          (inner_stands key (codes "decision_cache") cache_defaults (outer m) (each_stands key defaults (with_root_wait m) h))
+        (inner_stands key (codes "decision_cache") cache_defaults (outer m) (each_stands key defaults (with_root_wait m) h))
 
 or_true : (a : Bool) → a || true ≡ true
 or_true true = refl

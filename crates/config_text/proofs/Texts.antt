@@ -1,10 +1,10 @@
 -- What is known of a text once its table was read, completed and written.
 -- For the clauses of `settings_in_force`.
-use Rattle.std.proofs.Common.{◌≡◌, ℕ, List, Option, Some, None, refl, sym, ap, ◌∙◌}
+use Rattle.std.proofs.Common.{◌≡◌, ℕ, List, Some, sym, ap, ◌∙◌}
 use Rattle.toml.specs.Data.{Members}
 use Rattle.toml.specs.Parse.{parse_document}
 use Rattle.tsc_config.specs.Reading.{reading, reading_of}
-use Rattle.config_text.specs.Whole.{IsTextWithDefaults, IsWhole, IsWritable, TellsEach, with_defaults}
+use Rattle.config_text.specs.Whole.{IsTextWithDefaults, IsWritable, TellsEach, with_defaults}
 use Rattle.config_text.proofs.SameReading.{same_reading}
 use Rattle.config_text.proofs.Standing.{is_whole}
 

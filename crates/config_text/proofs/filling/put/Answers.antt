@@ -1,4 +1,3 @@
-use Rattle.std.proofs.Common.{◌≡◌, sym}
 use Rattle.config_text.proofs.Put.{put_entry}
 use Rattle.config_text.proofs.filling.put.Goals as goal
 
