@@ -14,6 +14,7 @@ import time
 import senders
 import serve_admin
 import serve_close
+import serve_config
 import serve_limits
 import serve_many
 import serve_memory
@@ -336,7 +337,7 @@ def main():
     """Runs each check on each program."""
     checks = [one_error, serve_on_loopback, asks_behind_the_close, is_kept_while_it_runs, keep_alive, chunked, expect, refusals, broken_clients, many_clients]
     checks += [queues_of_four, closes_under_way, refused_address, reader_is_gone] + ([under_curl] if has_curl() else [])
-    run_checks(sys.argv[1:], checks + senders.CHECKS + serve_limits.CHECKS + serve_many.CHECKS + serve_admin.CHECKS + serve_close.CHECKS + serve_memory.CHECKS)
+    run_checks(sys.argv[1:], checks + senders.CHECKS + serve_limits.CHECKS + serve_many.CHECKS + serve_admin.CHECKS + serve_config.CHECKS + serve_close.CHECKS + serve_memory.CHECKS)
 
 
 if __name__ == "__main__":

@@ -1,8 +1,14 @@
 //! What a collector opens before it runs: its addresses, and what is shared with those in charge.
+ghost use Rattle.std.specs.Prelude.{◌≡◌, ℕ, List, Ok, IsUtf8, IfOk, string_bytes};
+ghost use Rattle.std.specs.Arc.{arc_value};
+ghost use Rattle.tsc_config.specs.Reading.{reading};
+ghost use Rattle.collector_main.specs.Configuration.{file_of};
+
 use crate::configuration::FileFault;
 use collector_serve::{
     Board, Charge, MEMORY_ACCOUNT, StopMark, close_at_end, listen, start_admin, start_memory_watch,
 };
+use config_text::settings_in_force;
 use lane_driver::Loads;
 use otlp_types::TryClone;
 use std::alloc::{AllocError, Global};
@@ -17,7 +23,9 @@ use std::{fs, io};
 use tsc_config::Config;
 
 /// A copy of what was read of the configuration's file, for those in charge, and nothing where it wasn't read.
-pub fn copy_of(alloc: Global, file: &Result<Vec<u8>, FileFault>) -> Result<String, AllocError> {
+pub fn copy_of(alloc: Global, file: &Result<Vec<u8>, FileFault>) -> Result<String, AllocError>
+    ensures { IfOk result (λ copy. (bytes : List ℕ) → file_of (λ v. v.items) file.now ≡ Ok bytes → IsUtf8 bytes → string_bytes copy ≡ bytes) }
+{
     let mut copy = Vec::new(alloc);
     if let Ok(bytes) = file {
         copy.extend_from_slice(bytes)?;
@@ -28,18 +36,21 @@ pub fn copy_of(alloc: Global, file: &Result<Vec<u8>, FileFault>) -> Result<Strin
     }
 }
 
-/// What is shared with those in charge of a collector, whose configuration's file has this text.
+/// What is shared with those in charge of a collector, whose configuration's file has this text. They are told the settings that are
+/// in force by it, as a text that is read as the same configuration.
 pub fn charge_of(
     alloc: Global,
     text: Result<String, AllocError>,
     config: &Config,
-) -> Result<Arc<Charge, Global>, AllocError> {
+) -> Result<Arc<Charge, Global>, AllocError>
+    ensures { IfOk result (λ charge. IfOk text (λ read. reading (string_bytes (arc_value charge).configuration) ≡ reading (string_bytes read))) }
+{
     let charge = Charge {
+        configuration: settings_in_force(alloc, text?.as_str())?,
         stop: StopMark::new(),
         board: Board::new(alloc, config.shards)?,
         silent: Board::new(alloc, config.shards)?,
         loads: Arc::new(alloc, Loads::new(alloc, config.lanes as usize)?)?,
-        configuration: text?,
         admin: config.admin.try_clone(alloc)?,
     };
     Ok(Arc::new(alloc, charge)?)

@@ -1,0 +1,11 @@
+//! The settings that are in force by a configuration, as a text: what the configuration says, and beside it the default of each key
+//! that it doesn't name. The text is read as the same configuration.
+#![tactic(auto)]
+
+mod defaults;
+mod depth;
+mod filling;
+mod plain;
+mod writing;
+
+pub use writing::settings_in_force;

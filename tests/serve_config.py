@@ -1,0 +1,72 @@
+"""Checks of `GET /config`: the settings in force, as a configuration's text that is read as the same."""
+
+import os
+import re
+import subprocess
+import tomllib
+
+from collector import ALL, want
+from serve_admin import asked, free_port, get
+from settings import TOP, cache_numbers, export_numbers, other_names, readme_numbers
+
+CACHES, ROOT_WAIT = "decision_cache", "root_wait_ms"
+
+
+def defaults():
+    """The README's default of each key that has one: those of the table of caches within it, and those of `export` left out."""
+    numbers = {key: rows[0][0] for key, rows in readme_numbers().items()}
+    top = {key: number for key, number in numbers.items() if key not in cache_numbers() | export_numbers() and key not in other_names()}
+    others = re.findall(r"^\| `(\w+)`: [^|]* \| (?:true or false|`\w+` \([^|]*) \| (`\w+`|false)[^|]* \|", (TOP / "README.md").read_text(), re.M)
+    top |= {key: text.strip("`") if text.startswith("`") else False for key, text in others}
+    return top | {CACHES: {key: numbers[key] for key in cache_numbers()}}
+
+
+def with_defaults(settings):
+    """What a configuration sets, with the defaults of the README's table."""
+    whole = defaults() | settings
+    if other_names() & settings.keys():
+        del whole[ROOT_WAIT]
+    return whole | {CACHES: defaults()[CACHES] | settings.get(CACHES, {})}
+
+
+def examples():
+    """Texts without `listen` and `admin`: one that sets next to nothing, one that sets parts of tables and the other name of a key, and two examples."""
+    yield ALL
+    yield 'decision_wait_after_root_received_ms = 7\nnum_traces = 9\nqueue_full = "retry"\n' + ALL + f"[{CACHES}]\nnon_sampled_cache_size = 3\n"
+    yield 'root_wait_ms = 1\nclose_at_end_of_input = false\n"tick_ms" = 0x10\n' + ALL.replace("all", "a\\u00fc\\\"b")
+    for name in ("serve", "every_key"):
+        lines = (TOP / f"examples/{name}.toml").read_text().splitlines(keepends=True)
+        export = next((number for number, line in enumerate(lines) if line.startswith("[export]")), None)
+        if export is not None:
+            behind = next((number for number, line in enumerate(lines) if number > export and line.startswith("[")), len(lines))
+            del lines[export:behind]
+        yield "".join(line for line in lines if not line.startswith(("listen ", "admin ", "close_at_end_of_input ")))
+
+
+def validated(program, folder, text):
+    """What `tsc validate` says of a text."""
+    path = os.path.join(folder, "told.toml")
+    with open(path, "w", encoding="utf-8") as file:
+        file.write(text)
+    ran = subprocess.run([program, "validate", path], stdin=subprocess.DEVNULL, capture_output=True, timeout=60, check=False)
+    return ran.returncode, ran.stdout, ran.stderr
+
+
+def settings_in_force(start):
+    """`/config` tells what was set and the README's defaults; it has no fault, and of a collector that runs by it, `/config` tells the same text."""
+    for settings in examples():
+        admin = free_port()
+        collector = start(f'admin = "127.0.0.1:{admin}"\n' + settings)
+        status, fields, text = asked(admin, get("/config"))
+        want("the status", status, 200)
+        addresses = {"listen": f"127.0.0.1:{collector.port}", "admin": f"127.0.0.1:{admin}"}
+        want("the settings", tomllib.loads(text), with_defaults(tomllib.loads(settings) | addresses))
+        want("its faults", validated(start.program, collector.folder.name, text), (0, b"ok\n", b""))
+        again = free_port()
+        lines = [(f'{key} = "{address}"\n', f'{key} = "127.0.0.1:{port}"\n') for (key, address), port in zip(addresses.items(), (None, again))]
+        second = start(text.replace(lines[0][0], "").replace(*lines[1]))
+        wanted = text.replace(lines[0][0], f'listen = "127.0.0.1:{second.port}"\n').replace(*lines[1])
+        want("what is told of a collector that runs by it", asked(again, get("/config")), (200, fields | {"content-length": str(len(wanted.encode()))}, wanted))
+
+
+CHECKS = [settings_in_force]
