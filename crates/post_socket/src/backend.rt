@@ -23,6 +23,8 @@ pub struct Settings<'t> {
     pub authority: &'t str,
     /// The path of requests.
     pub path: &'t str,
+    /// The fields of requests, but for the length of the body.
+    pub fields: &'t [Header<'t>],
     /// How long an attempt may take.
     pub timeout: u64,
     /// How long batches are tried once the collector closes.
@@ -111,18 +113,8 @@ impl<'t, V: Watch, R: Net<Stream = TcpStream> + Clock + RandomSource> SocketBack
 
     /// Posts a batch on a connection, and keeps that where it can be used again.
     fn exchange(&mut self, batch: &[u8]) -> Option<Answer> {
-        let fields = [
-            Header {
-                name: b"Host",
-                value: self.settings.authority.as_bytes(),
-            },
-            Header {
-                name: b"Content-Type",
-                value: b"application/json",
-            },
-        ];
         let path = self.settings.path.as_bytes();
-        let head = head_of(self.alloc, path, &fields, batch.len()).ok()?;
+        let head = head_of(self.alloc, path, self.settings.fields, batch.len()).ok()?;
         let limit = self.limit();
         let patience = Attempt {
             rt: self.rt,

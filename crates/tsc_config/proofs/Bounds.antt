@@ -9,6 +9,7 @@ use Rattle.policy_tree.specs.declared.policy.Join.TheVariants as join_is
 use Rattle.tsc_config.specs.Composites.{is_ordered}
 use Rattle.tsc_config.specs.Percentages.{percentage_of}
 use Rattle.tsc_config.specs.Exports.{export_settings, is_endpoint}
+use Rattle.tsc_config.specs.Headers.{may_be_sent}
 use Rattle.tsc_config.specs.Keys.{ChoiceRow, choice_row, has_unknown_key, type_name, type_at, type_of, code_of, join_type, join_name, sub_key, join_at}
 use Rattle.tsc_config.specs.Faults.{config_fault_number, least, optional, required, unknown_fault, integer_fault, whole_fault, truth_fault, text_fault, choice_fault, type_fault, code_fault, percentage_fault, named_fault, items_fault, array_fault, item_fault, wanted_fault, each_setting_fault}
 use Rattle.tsc_config.specs.Faults as spec
@@ -96,6 +97,15 @@ endpoints : (value : Data) → IsSmall (spec.endpoint_fault value)
 endpoints (string text) = either (is_endpoint text) _ _ none (only OutOfRange (omega arith))
 endpoints _ = wrong
 
+fields : (members : Members) → IsSmall (spec.fields_fault members)
+fields no_members = none
+fields (member name (string text) rest) = both _ _ (either (may_be_sent name text) _ _ none (only OutOfRange (omega arith))) (fields rest)
+fields (member name _ rest) = both _ _ wrong (fields rest)
+
+headers : (value : Data) → IsSmall (spec.headers_fault value)
+headers (table members) = fields members
+headers _ = wrong
+
 types : (value : Data) → IsSmall (type_fault value)
 types (string text) = named (type_of (string text))
 types _ = wrong
@@ -141,6 +151,7 @@ values value_is.Whole value = wholes value
 values value_is.Truth value = truths value
 values value_is.Text value = texts value
 values value_is.Endpoint value = endpoints value
+values value_is.Headers value = headers value
 values value_is.PolicyType value = types value
 values (value_is.Choice key) value = choices (choice_row key) value
 values value_is.Percentage value = percentages value

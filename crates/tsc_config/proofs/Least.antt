@@ -15,7 +15,7 @@ least_none : (a : Option ConfigFault) → least a None ≡ a
 least_none None = refl
 least_none (Some a) = refl
 
-least_assoc : (a b c : Option ConfigFault) → least (least a b) c ≡ least a (least b c)
+pub least_assoc : (a b c : Option ConfigFault) → least (least a b) c ≡ least a (least b c)
 least_assoc None b c = refl
 least_assoc (Some a) None c = refl
 least_assoc (Some a) (Some b) None = least_none (least (Some a) (Some b))

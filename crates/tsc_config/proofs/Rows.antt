@@ -4,7 +4,10 @@ use Rattle.std.specs.Prelude.{◌≡◌, ℕ, ℤ, pos, negsuc, Bool, true, fals
 use lib.Ieee.{to_unsigned, of_int, mul, div, eq}
 use Rattle.std.specs.Float.{Float, nan, inf, fin, round_with}
 use Rattle.toml.specs.Data.{Data, string, integer, boolean, array, table, Items, no_items, item, Members, no_members, member}
+use Rattle.httparse.specs.Grammar.{is_token_byte}
+use Rattle.http1.specs.Text.{eq_ignore_case}
 use Rattle.tsc_config.specs.Exports.{is_endpoint}
+use Rattle.tsc_config.specs.Headers.{may_be_sent}
 use Rattle.tsc_config.specs.declared.exports.Export.{Export}
 use Rattle.tsc_config.specs.Keys.{is_key, is_setting, all_types, type_name, type_named}
 use Rattle.tsc_config.specs.Faults.{least, config_fault_number, numbers_fault, sizes_fault, choices_fault, cache_fault, rows_fault, twice_fault}
@@ -328,17 +331,27 @@ nowhere_by_default = refl
 sent_by_default : Export
 sent_by_default = (config_of (member (codes "export") (table (member (codes "endpoint") (string (codes "http://h:1/p")) no_members)) no_members)).export
 
-waits_by_default : (sent_by_default.timeout ≡ 10000) × (sent_by_default.retry_initial ≡ 500) × (sent_by_default.retry_max ≡ 30000) × (sent_by_default.retry_for ≡ 300000) × (sent_by_default.close_wait ≡ 10000)
+waits_by_default : (sent_by_default.timeout ≡ 10000) × (sent_by_default.retry_initial ≡ 500) × (sent_by_default.retry_max ≡ 30000) × (sent_by_default.retry_for ≡ 300000) × (sent_by_default.close_wait ≡ 10000) × (sent_by_default.queue_batches ≡ 256) × (sent_by_default.headers ≡ [])
 unfolding sent_by_default
-waits_by_default = (refl, refl, refl, refl, refl)
+waits_by_default = (refl, refl, refl, refl, refl, refl, refl)
 
 numbers_of_export : Members
 numbers_of_export =
     member (codes "export") (table (member (codes "endpoint") (string (codes "http://h:1/p"))
     (member (codes "timeout_ms") (integer (pos 2)) (member (codes "retry_initial_ms") (integer (pos 3)) (member (codes "retry_max_ms") (integer (pos 5))
-    (member (codes "retry_for_ms") (integer (pos 7)) (member (codes "close_wait_ms") (integer (pos 11)) no_members))))))) no_members
+    (member (codes "retry_for_ms") (integer (pos 7)) (member (codes "close_wait_ms") (integer (pos 11)) (member (codes "queue_batches") (integer (pos 13))
+    (member (codes "headers") (table (member (codes "Authorization") (string (codes "Bearer x")) (member (codes "X-Tenant") (string (codes "t1")) no_members))) no_members))))))))) no_members
 
-sent_so : (config_of numbers_of_export).export ≡ record { endpoint = codes "http://h:1/p"; timeout = 2; retry_initial = 3; retry_max = 5; retry_for = 7; close_wait = 11 }
+sent_so : (config_of numbers_of_export).export ≡ record {
+  endpoint = codes "http://h:1/p";
+  timeout = 2;
+  retry_initial = 3;
+  retry_max = 5;
+  retry_for = 7;
+  close_wait = 11;
+  queue_batches = 13;
+  headers = record { name = codes "Authorization"; value = codes "Bearer x" } ∷ record { name = codes "X-Tenant"; value = codes "t1" } ∷ [];
+}
 unfolding numbers_of_export
 sent_so = refl
 
@@ -354,3 +367,17 @@ no_host = refl
 
 other_scheme : is_endpoint (codes "https://h/v1") ≡ false
 other_scheme = refl
+
+-- fields that may be sent with each request, and such as may not: of a name that is no token, or that a request has of its own, in whatever case; of a value with white space at an end, or a line feed
+a_field : map (λ (name : List ℕ). may_be_sent name (codes "a b")) (codes "X-Tenant" ∷ codes "authorization" ∷ codes "" ∷ codes "a b" ∷ codes "Host" ∷ codes "content-Type" ∷ codes "CONTENT-LENGTH" ∷ [])
+    ≡ true ∷ true ∷ false ∷ false ∷ false ∷ false ∷ false ∷ []
+unfolding is_token_byte eq_ignore_case
+a_field = refl
+
+a_value : map (may_be_sent (codes "x")) ([] ∷ codes "Bearer abc" ∷ codes " a" ∷ codes "a " ∷ (97 ∷ 9 ∷ []) ∷ (97 ∷ 10 ∷ 98 ∷ []) ∷ (97 ∷ 13 ∷ 98 ∷ []) ∷ (195 ∷ 164 ∷ []) ∷ []) ≡ true ∷ true ∷ false ∷ false ∷ false ∷ false ∷ false ∷ true ∷ []
+unfolding is_token_byte eq_ignore_case
+a_value = refl
+
+other_names : map (λ (name : List ℕ). may_be_sent name []) (codes "Content-Encoding" ∷ codes "Transfer-Encoding" ∷ codes "Connection" ∷ codes "Expect" ∷ codes "Upgrade" ∷ codes "X-Host" ∷ []) ≡ false ∷ false ∷ false ∷ false ∷ false ∷ true ∷ []
+unfolding is_token_byte eq_ignore_case
+other_names = refl

@@ -5,16 +5,17 @@ use Rattle.std.proofs.lemmas.Bool.Decides.{nat_tests}
 use Rattle.std.proofs.lemmas.Slice.Eq.{bytes_eq-Decides}
 use Rattle.std.specs.Option.{is_some}
 use Rattle.std.specs.Str.{bytes_eq}
-use Rattle.toml.specs.Data.{Data, string, integer, boolean, table, Members, get_member}
+use Rattle.toml.specs.Data.{Data, string, integer, boolean, table, Members, get_member, no_members, member}
 use Rattle.toml.specs.Parse.{parse_document}
 use Rattle.policy_tree.specs.Faults.{fault_of_policies}
 use Rattle.policy_tree.specs.declared.fault.PolicyFault.{PolicyFault}
-use Rattle.tsc_config.specs.Faults.{config_fault_number, least, optional, required, unknown_fault, integer_fault, text_fault, truth_fault, choice_fault, choices_fault, cache_fault, endpoint_fault, export_fault, each_setting_fault, numbers_fault, sizes_fault, policies_fault, table_fault, keys_fault, twice_fault}
+use Rattle.tsc_config.specs.Faults.{config_fault_number, least, optional, required, unknown_fault, integer_fault, text_fault, truth_fault, choice_fault, choices_fault, cache_fault, endpoint_fault, field_fault, fields_fault, headers_fault, export_fault, each_setting_fault, numbers_fault, sizes_fault, policies_fault, table_fault, keys_fault, twice_fault}
 use Rattle.tsc_config.specs.Keys.{ChoiceRow, choice_row}
 use Rattle.tsc_config.specs.declared.kinds.ChoiceKey.TheVariants as choice_is
 use Rattle.tsc_config.specs.Reading.{reading, reading_of, reading_unless, reading_where}
 use Rattle.tsc_config.specs.Exports.{export_settings, is_endpoint}
-use Rattle.tsc_config.specs.Settings.{IsNumberAtEither, IsTextAt, IsTruthAt, IsChoiceAt, IsCacheSize, HasExport, IsExportAt, HasSettings, ReadsSettings}
+use Rattle.tsc_config.specs.Headers.{may_be_sent, value_of, fields_in, headers_of, AreFields}
+use Rattle.tsc_config.specs.Settings.{IsNumberAtEither, IsTextAt, IsTruthAt, IsChoiceAt, IsCacheSize, AreHeadersAt, HasExport, IsExportAt, HasSettings, ReadsSettings}
 use Rattle.tsc_config.specs.Values.{config_of, positive_of, natural_of, first_found, cache_size, address_of, truth_of, is_other, text_of, number_or, export_in, export_of}
 use Rattle.tsc_config.specs.declared.config.Config.{Config}
 use Rattle.tsc_config.specs.declared.fault.ConfigFault.{ConfigFault}
@@ -143,6 +144,23 @@ endpoint None e = cc
 endpoint (Some (string text)) e = (refl, allowed (is_endpoint text) e)
 endpoint (Some _) e = cc
 
+-- the fields of a table without a fault
+field_parts : (name : List ℕ) (value : Data) → field_fault name value ≡ None → (value ≡ string (value_of value)) × (may_be_sent name (value_of value) ≡ true)
+field_parts name (string text) e = (refl, allowed (may_be_sent name text) e)
+field_parts name _ e = cc
+
+are_fields : (fields : Members) → fields_fault fields ≡ None → AreFields fields (fields_in fields)
+are_fields no_members e = tt
+are_fields (member name value rest) e =
+    let parts = neither (field_fault name value) (fields_fault rest) e in
+    let one = field_parts name value parts.0 in
+    (refl, one.0, one.1, are_fields rest parts.1)
+
+header_fields : (given : Members) (at : Option Data) → get_member (codes "headers") given ≡ at → optional headers_fault at ≡ None → AreHeadersAt given (codes "headers") (headers_of at)
+header_fields given None e f = inl (e, refl)
+header_fields given (Some (table fields)) e f = inr (fields, e, are_fields fields f)
+header_fields given (Some _) e f = cc
+
 -- the table of `export`
 has_export : (given : Members) → each_setting_fault export_settings given ≡ None → HasExport given (export_in given)
 has_export given e =
@@ -151,7 +169,9 @@ has_export given e =
     let initial = neither (optional (integer_fault (pos 1) (pos 3600000)) (get_member (codes "retry_initial_ms") given)) _ timeout.1 in
     let longest = neither (optional (integer_fault (pos 1) (pos 3600000)) (get_member (codes "retry_max_ms") given)) _ initial.1 in
     let patience = neither (optional (integer_fault (pos 0) (pos 86400000)) (get_member (codes "retry_for_ms") given)) _ longest.1 in
-    let close = neither (optional (integer_fault (pos 0) (pos 3600000)) (get_member (codes "close_wait_ms") given)) None patience.1 in
+    let close = neither (optional (integer_fault (pos 0) (pos 3600000)) (get_member (codes "close_wait_ms") given)) _ patience.1 in
+    let batches = neither (optional (integer_fault (pos 1) (pos 65536)) (get_member (codes "queue_batches") given)) _ close.1 in
+    let headers = neither (optional headers_fault (get_member (codes "headers") given)) None batches.1 in
     let found = endpoint (get_member (codes "endpoint") given) address.0 in record {
       endpoint = found.0;
       form = found.1;
@@ -160,6 +180,8 @@ has_export given e =
       retry_max = numbered 30000 1 3600000 (get_member (codes "retry_max_ms") given) longest.0;
       retry_for = numbered 300000 0 86400000 (get_member (codes "retry_for_ms") given) patience.0;
       close_wait = numbered 10000 0 3600000 (get_member (codes "close_wait_ms") given) close.0;
+      queue_batches = numbered 256 1 65536 (get_member (codes "queue_batches") given) batches.0;
+      headers = header_fields given (get_member (codes "headers") given) refl headers.0;
     }
 
 exports : (given : Members) (at : Option Data) → get_member (codes "export") given ≡ at → optional export_fault at ≡ None → IsExportAt given (export_of at)

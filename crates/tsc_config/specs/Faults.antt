@@ -7,6 +7,7 @@ use Rattle.tsc_config.specs.PolicySettings.{Setting, settings}
 use Rattle.tsc_config.specs.Composites.{is_ordered}
 use Rattle.tsc_config.specs.Percentages.{percentage_of}
 use Rattle.tsc_config.specs.Exports.{export_settings, is_endpoint}
+use Rattle.tsc_config.specs.Headers.{may_be_sent}
 use Rattle.tsc_config.specs.Keys.{NumberRow, number_row, ChoiceRow, choice_row, has_unknown_key, type_name, type_of, type_at, code_of, join_type, join_name, sub_key, join_at}
 use Rattle.policy_tree.specs.declared.policy.Join.{Join}
 use Rattle.policy_tree.specs.declared.policy.Join.TheVariants as join_is
@@ -72,6 +73,21 @@ text_fault _ = Some WrongType
 abbrev pub endpoint_fault : Data → Option ConfigFault
 endpoint_fault (string text) = if is_endpoint text then None else Some OutOfRange
 endpoint_fault _ = Some WrongType
+
+-- a text is wanted that may be sent in a field of this name
+abbrev pub field_fault : (name : List ℕ) → Data → Option ConfigFault
+field_fault name (string text) = if may_be_sent name text then None else Some OutOfRange
+field_fault name _ = Some WrongType
+
+-- the least fault among some fields
+abbrev pub fields_fault : Members → Option ConfigFault
+fields_fault no_members = None
+fields_fault (member name value rest) = least (field_fault name value) (fields_fault rest)
+
+-- a table of fields is wanted
+abbrev pub headers_fault : Data → Option ConfigFault
+headers_fault (table members) = fields_fault members
+headers_fault _ = Some WrongType
 
 -- a text was found to name something of its list, or not
 abbrev pub named_fault : {A : Type 0} → Option A → Option ConfigFault
@@ -147,6 +163,7 @@ wanted_fault value_is.Whole = whole_fault
 wanted_fault value_is.Truth = truth_fault
 wanted_fault value_is.Text = text_fault
 wanted_fault value_is.Endpoint = endpoint_fault
+wanted_fault value_is.Headers = headers_fault
 wanted_fault value_is.PolicyType = type_fault
 wanted_fault (value_is.Choice key) = choice_fault (choice_row key)
 wanted_fault value_is.Percentage = percentage_fault

@@ -4,8 +4,10 @@ use Rattle.toml.specs.Data.{string, integer, boolean, table, Members, get_member
 use Rattle.toml.specs.Parse.{parse_document}
 use Rattle.tsc_config.specs.Reading.{reading}
 use Rattle.tsc_config.specs.Exports.{is_endpoint}
+use Rattle.tsc_config.specs.Headers.{AreFields}
 use Rattle.tsc_config.specs.declared.config.Config.{Config}
 use Rattle.tsc_config.specs.declared.exports.Export.{Export}
+use Rattle.tsc_config.specs.declared.headers.HeaderField.{HeaderField}
 
 -- the number of a key: its default, where it doesn't stand there; else the whole number there, which is within these bounds
 abbrev pub IsNumberAt : Members → (key : List ℕ) → (default lowest greatest : ℕ) → (number : ℕ) → Type 0
@@ -42,7 +44,13 @@ IsCacheSize members key size =
     ((get_member (codes "decision_cache") members ≡ None) × (size ≡ 0))
     ⊎ ((sizes : Members) × (get_member (codes "decision_cache") members ≡ Some (table sizes)) × IsNumberAt sizes key 0 0 1000000 size)
 
--- the table of `export`: an address of this form, and each number its default or a whole number within its bounds
+-- the fields at a key: none, where nothing stands there; else those of the table there, each of which may be sent
+abbrev pub AreHeadersAt : Members → (key : List ℕ) → List HeaderField → Type 0
+AreHeadersAt given key headers =
+    ((get_member key given ≡ None) × (headers ≡ []))
+    ⊎ ((fields : Members) × (get_member key given ≡ Some (table fields)) × AreFields fields headers)
+
+-- the table of `export`: an address of this form, each number its default or a whole number within its bounds, and fields that may be sent
 pub record HasExport (given : Members) (export : Export) : Type 0 where
   pub endpoint : get_member (codes "endpoint") given ≡ Some (string export.endpoint)
   pub form : is_endpoint export.endpoint ≡ true
@@ -51,6 +59,8 @@ pub record HasExport (given : Members) (export : Export) : Type 0 where
   pub retry_max : IsNumberAt given (codes "retry_max_ms") 30000 1 3600000 export.retry_max
   pub retry_for : IsNumberAt given (codes "retry_for_ms") 300000 0 86400000 export.retry_for
   pub close_wait : IsNumberAt given (codes "close_wait_ms") 10000 0 3600000 export.close_wait
+  pub queue_batches : IsNumberAt given (codes "queue_batches") 256 1 65536 export.queue_batches
+  pub headers : AreHeadersAt given (codes "headers") export.headers
 
 -- nothing is sent where there is no such table
 abbrev pub IsExportAt : Members → Export → Type 0

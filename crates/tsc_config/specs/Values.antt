@@ -13,6 +13,7 @@ use Rattle.policy_tree.specs.declared.policy.Leaf.TheVariants as leaf_is
 use Rattle.policy_tree.specs.declared.policy.Wanted.{Wanted}
 use Rattle.policy_tree.specs.declared.policy.Wanted.TheVariants.{StringAmong, NumberWithin, Boolean}
 use Rattle.tsc_config.specs.Composites.{is_text}
+use Rattle.tsc_config.specs.Headers.{headers_of}
 use Rattle.tsc_config.specs.Percentages.{percentage_of}
 use Rattle.tsc_config.specs.Keys.{NumberRow, number_row, ChoiceRow, choice_row, type_name, type_at, code_of, join_name, sub_key, join_at}
 use Rattle.tsc_config.specs.declared.kinds.ChoiceKey.TheVariants as choice_is
@@ -331,6 +332,8 @@ export_in members = record {
   retry_max = number_or 30000 (get_member (codes "retry_max_ms") members);
   retry_for = number_or 300000 (get_member (codes "retry_for_ms") members);
   close_wait = number_or 10000 (get_member (codes "close_wait_ms") members);
+  queue_batches = number_or 256 (get_member (codes "queue_batches") members);
+  headers = headers_of (get_member (codes "headers") members);
 }
 
 abbrev pub export_value : Data → Export

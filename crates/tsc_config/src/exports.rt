@@ -9,12 +9,13 @@ ghost use Rattle.tsc_config.specs.PolicySettings.{setting_of};
 ghost use Rattle.tsc_config.specs.Values.{export_in, export_of, export_value, number_or, number_value, text_of};
 
 use crate::fault::{ConfigFault, least};
+use crate::headers::{HeaderField, headers_at};
 use crate::keys::{member, unknown_fault};
 use crate::kinds::TableKind;
 use crate::policy_settings::{Setting, ValueKind};
 use crate::settings_faults::each_setting_fault;
 use crate::settings_values::text_of;
-use otlp_types::Text;
+use otlp_types::{List, Text};
 use std::alloc::{AllocError, Global};
 use toml::{Table, Value};
 
@@ -33,6 +34,10 @@ pub struct Export {
     pub retry_for: u64,
     /// How long lines are tried once the collector closes, from 0 to 3600000.
     pub close_wait: u64,
+    /// How many full batches wait for the backend, over all shards, from 1 to 65536.
+    pub queue_batches: u64,
+    /// The fields that each request has beside its own, in the order of their names.
+    pub headers: List<HeaderField>,
 }
 
 /// The settings of `export`.
@@ -46,6 +51,8 @@ pub fn export_settings() -> &'static [Setting]
         Setting::Optional("retry_max_ms", ValueKind::Integer(1, 3_600_000)),
         Setting::Optional("retry_for_ms", ValueKind::Integer(0, 86_400_000)),
         Setting::Optional("close_wait_ms", ValueKind::Integer(0, 3_600_000)),
+        Setting::Optional("queue_batches", ValueKind::Integer(1, 65_536)),
+        Setting::Optional("headers", ValueKind::Headers),
     ]
 }
 
@@ -139,6 +146,8 @@ fn defaults(alloc: Global) -> Result<Export, AllocError>
         retry_max: 30_000,
         retry_for: 300_000,
         close_wait: 10_000,
+        queue_batches: 256,
+        headers: List::new(alloc),
     })
 }
 
@@ -156,6 +165,8 @@ fn export_in(alloc: Global, settings: &Table) -> Result<Export, AllocError>
         retry_max: number_or(settings, "retry_max_ms", 30_000),
         retry_for: number_or(settings, "retry_for_ms", 300_000),
         close_wait: number_or(settings, "close_wait_ms", 10_000),
+        queue_batches: number_or(settings, "queue_batches", 256),
+        headers: headers_at(alloc, settings)?,
     })
 }
 

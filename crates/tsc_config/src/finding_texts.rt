@@ -76,6 +76,9 @@ pub fn value_text(
     if fault == ConfigFault::WrongType {
         return wrong_text(alloc, place, type_text(wanted));
     }
+    if let ValueKind::Headers = wanted {
+        return headers_text(alloc, place);
+    }
     let value = shown(alloc, value)?;
     match wanted {
         ValueKind::Integer(0, i64::MAX) => format!(in alloc; "{place}: {value} is below 0"),
@@ -95,6 +98,13 @@ pub fn value_text(
         }
         _ => format!(in alloc; "{place}: {value} is not from 0 to 100 with at most four decimals"),
     }
+}
+
+/// What is said of fields of which one can't be sent. It shows none of them: they may be secret.
+fn headers_text(alloc: Global, place: &str) -> Result<String, AllocError> {
+    format!(in alloc;
+        "{place}: a name or a text that can't be sent, or a field that is the collector's own"
+    )
 }
 
 /// The names of the types of policy.
@@ -118,6 +128,7 @@ fn type_text(wanted: ValueKind) -> &'static str {
             "a text",
         ValueKind::Percentage => "a number",
         ValueKind::Array(_) => "an array",
+        ValueKind::Headers => "a table of texts",
     }
 }
 

@@ -88,6 +88,8 @@ pub fn is_key(kind: TableKind, key: &str) -> bool
                     | "retry_max_ms"
                     | "retry_for_ms"
                     | "close_wait_ms"
+                    | "queue_batches"
+                    | "headers"
             )
         }
         TableKind::Policy(kind) => {

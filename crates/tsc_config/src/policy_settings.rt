@@ -24,6 +24,8 @@ pub enum ValueKind {
     Text,
     /// A text of the form `http://HOST:PORT/PATH`.
     Endpoint,
+    /// A table of fields of a request: their names and texts.
+    Headers,
     /// A text that names a type of policy.
     PolicyType,
     /// One of the two texts of this key.

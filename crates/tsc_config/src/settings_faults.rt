@@ -8,6 +8,7 @@ ghost use Rattle.tsc_config.specs.PolicySettings.{setting_of};
 
 use crate::exports::is_endpoint;
 use crate::fault::{ConfigFault, least};
+use crate::headers::fields_fault;
 use crate::keys::{code_of, member, type_of, unknown_fault};
 use crate::kinds::{ChoiceKey, PolicyType, TableKind};
 use crate::percentages::percentage_of;
@@ -140,6 +141,7 @@ pub fn value_fault(value: &Value, wanted: ValueKind) -> Option<ConfigFault>
                 Some(ConfigFault::OutOfRange)
             }
         }
+        (ValueKind::Headers, Value::Table(table)) => fields_fault(table),
         (ValueKind::PolicyType, Value::String(_)) => match type_of(value) {
             Some(_) => None,
             None => Some(ConfigFault::OutOfRange),
