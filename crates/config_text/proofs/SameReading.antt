@@ -5,7 +5,7 @@ use Rattle.std.specs.Cmp.Lexicographic.{slice_cmp}
 use Rattle.std.specs.Option.{is_some}
 use Rattle.toml.specs.Data.{Data, string, integer, boolean, table, Members, no_members, get_member}
 use Rattle.tsc_config.specs.Exports.{export_settings}
-use Rattle.tsc_config.specs.Faults.{optional, required, unknown_fault, number_fault, integer_fault, choice_fault, choice_at_fault, text_fault, truth_fault, endpoint_fault, cache_fault, export_fault, each_setting_fault, twice_fault}
+use Rattle.tsc_config.specs.Faults.{optional, required, unknown_fault, number_fault, integer_fault, choice_fault, choice_at_fault, text_fault, truth_fault, endpoint_fault, headers_fault, cache_fault, export_fault, each_setting_fault, twice_fault}
 use Rattle.tsc_config.specs.Keys.{number_row, choice_row, is_key, has_unknown_key}
 use Rattle.tsc_config.specs.Reading.{reading_of_table}
 use Rattle.tsc_config.specs.Values.{positive_by, positive_of, natural_of, first_found, cache_size, address_of, truth_of, is_other, number_or, export_in, export_of}
@@ -230,7 +230,9 @@ each_export_fault given =
     (both _ _ _ _ (filled (Option ConfigFault) (optional (integer_fault (pos 1) (pos 3600000))) (codes "retry_initial_ms") export_defaults (integer (pos 500)) given refl refl)
     (both _ _ _ _ (filled (Option ConfigFault) (optional (integer_fault (pos 1) (pos 3600000))) (codes "retry_max_ms") export_defaults (integer (pos 30000)) given refl refl)
     (both _ _ _ _ (filled (Option ConfigFault) (optional (integer_fault (pos 0) (pos 86400000))) (codes "retry_for_ms") export_defaults (integer (pos 300000)) given refl refl)
-    (both _ _ _ _ (filled (Option ConfigFault) (optional (integer_fault (pos 0) (pos 3600000))) (codes "close_wait_ms") export_defaults (integer (pos 10000)) given refl refl) refl)))))
+    (both _ _ _ _ (filled (Option ConfigFault) (optional (integer_fault (pos 0) (pos 3600000))) (codes "close_wait_ms") export_defaults (integer (pos 10000)) given refl refl)
+    (both _ _ _ _ (filled (Option ConfigFault) (optional (integer_fault (pos 1) (pos 65536))) (codes "queue_batches") export_defaults (integer (pos 256)) given refl refl)
+    (both _ _ _ _ (ap (optional headers_fault) (unfilled (codes "headers") export_defaults given refl)) refl)))))))
 
 export_fault_of : (at : Option Data) → optional export_fault (inner_value export_defaults at) ≡ optional export_fault at
 export_fault_of None = refl
@@ -245,7 +247,9 @@ export_in_of given =
     let longest = filled ℕ (number_or 30000) (codes "retry_max_ms") export_defaults (integer (pos 30000)) given refl refl in
     let patience = filled ℕ (number_or 300000) (codes "retry_for_ms") export_defaults (integer (pos 300000)) given refl refl in
     let close = filled ℕ (number_or 10000) (codes "close_wait_ms") export_defaults (integer (pos 10000)) given refl refl in
-    rw (endpoint, timeout, initial, longest, patience, close) refl
+    let batches = filled ℕ (number_or 256) (codes "queue_batches") export_defaults (integer (pos 256)) given refl refl in
+    let headers = unfilled (codes "headers") export_defaults given refl in
+    rw (endpoint, timeout, initial, longest, patience, close, batches, headers) refl
 
 export_of_it : (at : Option Data) → export_of (inner_value export_defaults at) ≡ export_of at
 export_of_it None = refl

@@ -51,7 +51,7 @@ defaults =
 abbrev pub cache_defaults : List Default
 cache_defaults = counted (codes "sampled_cache_size") 0 ∷ counted (codes "non_sampled_cache_size") 0 ∷ []
 
--- the keys of the table of `export`, but for the address, which is required
+-- the keys of the table of `export`, but for the address, which is required, and `headers`, which have no default
 abbrev pub export_defaults : List Default
 export_defaults =
     counted (codes "timeout_ms") 10000
@@ -59,4 +59,5 @@ export_defaults =
     ∷ counted (codes "retry_max_ms") 30000
     ∷ counted (codes "retry_for_ms") 300000
     ∷ counted (codes "close_wait_ms") 10000
+    ∷ counted (codes "queue_batches") 256
     ∷ []

@@ -49,8 +49,9 @@ pub fn cache_sizes() -> &'static [Default]
     ]
 }
 
-/// The keys of the table of `export`, in milliseconds, but for the address, which is required.
-pub fn export_waits() -> &'static [Default]
+/// The keys of the table of `export`, but for the address, which is required, and `headers`, which have no default. Times are in
+/// milliseconds.
+pub fn export_settings() -> &'static [Default]
     ensures { map default_of result.now ≡ spec.export_defaults }
 {
     &[
@@ -59,5 +60,6 @@ pub fn export_waits() -> &'static [Default]
         Default::Number("retry_max_ms", 30_000),
         Default::Number("retry_for_ms", 300_000),
         Default::Number("close_wait_ms", 10_000),
+        Default::Number("queue_batches", 256),
     ]
 }

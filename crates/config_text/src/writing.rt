@@ -5,7 +5,7 @@ ghost use Rattle.toml.specs.View.{table_view};
 ghost use Rattle.tsc_config.specs.Reading.{reading};
 ghost use Rattle.config_text.specs.Whole.{IsTextWithDefaults, IsWritable, TellsEach, with_defaults, with_root_wait};
 
-use crate::defaults::{cache_sizes, export_waits, root_wait, settings};
+use crate::defaults::{cache_sizes, export_settings, root_wait, settings};
 use crate::depth::members_are_within;
 use crate::filling::{member, put_default, put_each, put_inner};
 use std::alloc::{AllocError, Global};
@@ -53,7 +53,7 @@ fn complete(alloc: Global, table: &mut Table) -> Result<(), AllocError>
     put_root_wait(alloc, table)?;
     put_each(alloc, table, settings())?;
     put_inner(alloc, table, "decision_cache", cache_sizes())?;
-    put_inner(alloc, table, "export", export_waits())?;
+    put_inner(alloc, table, "export", export_settings())?;
     Ok(())
 }
 
