@@ -58,7 +58,7 @@ def flood(collector, trace_of, requests):
 
 def held_within_its_limit(start, trace_of):
     """A flood that waits is refused once the process takes its limit, and nothing of what was taken is lost."""
-    settings = f"memory_limit_mib = {LIMIT}\nlanes = 4\nshards = 2\nnum_traces = 1000000\nqueue_capacity = 8192\ndecision_wait_ms = 3600000\n"
+    settings = f"memory_limit_mib = {LIMIT}\nlanes = 4\nshards = 2\nnum_traces = 1000000\nqueue_capacity = 8192\nqueue_full = 'retry'\ndecision_wait_ms = 3600000\n"
     collector = start(settings + NONE, limits=[(resource.RLIMIT_AS, (8 << 30))])
     taken, refused = flood(collector, trace_of, 2000)
     if not refused or taken < 100:
@@ -81,7 +81,7 @@ def many_traces(start):
 
 def takes_again(start):
     """Behind a flood that was decided requests are taken again, and a client that sends again loses nothing."""
-    settings = f"memory_limit_mib = {LIMIT}\nlanes = 4\nshards = 2\nnum_traces = 1000000\nqueue_capacity = 8192\ndecision_wait_ms = 500\ntick_ms = 50\n"
+    settings = f"memory_limit_mib = {LIMIT}\nlanes = 4\nshards = 2\nnum_traces = 1000000\nqueue_capacity = 8192\nqueue_full = 'retry'\ndecision_wait_ms = 500\ntick_ms = 50\n"
     collector = start(settings + ALL)
     again, most = [], []
     done = threading.Event()

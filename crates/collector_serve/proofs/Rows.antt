@@ -32,8 +32,12 @@ more_than_an_eighth : memory_after (state 801 70) 901 80 ≡ state 901 40
 more_than_an_eighth = refl
 
 -- spans are refused from there on
-shorter : map (is_shorter 800) (800 ∷ 900 ∷ 901 ∷ []) ≡ false ∷ false ∷ true ∷ []
+shorter : map (λ taken. is_shorter (state 901 40) taken 80) (800 ∷ 900 ∷ 901 ∷ []) ≡ false ∷ false ∷ true ∷ []
 shorter = refl
+
+-- and while fewer wait than when it grew so far, they are kept
+fewer_wait : map (is_shorter (state 901 40) 901) (81 ∷ 80 ∷ 79 ∷ 41 ∷ []) ≡ true ∷ true ∷ false ∷ false ∷ []
+fewer_wait = refl
 
 -- it takes what it may again: all is as at the start
 back : memory_after (state 901 40) 799 80 ≡ state 800 0

@@ -18,9 +18,9 @@ memory_after state taken waiting =
     else if nat_le taken state.most then state
     else record state { most = taken; release = release_of state.limit taken waiting }
 
--- where requests are refused, and the process is more than an eighth beyond its limit, no more spans are kept
-abbrev pub is_shorter : (limit taken : ℕ) → Bool
-is_shorter limit taken = nat_lt (limit + limit / 8) taken
+-- where requests are refused, and the process is more than an eighth beyond its limit, no more spans are kept, unless fewer wait than when it grew to its size: then those are kept in what was freed
+abbrev pub is_shorter : MemoryState → (taken waiting : ℕ) → Bool
+is_shorter state taken waiting = nat_lt (state.limit + state.limit / 8) taken && nat_le state.release (waiting / 2)
 
 -- then requests are refused
 abbrev pub is_short : MemoryState → (taken waiting : ℕ) → Bool

@@ -49,13 +49,14 @@ impl MemoryRule {
         }
         self.limit < taken && self.release < waiting
     }
-}
 
-/// Whether a process that may take so many bytes, and takes so many, is to keep no more spans where its requests are refused.
-pub fn is_shorter(limit: u64, taken: u64) -> bool
-    ensures { result ≡ is_shorter limit taken }
-{
-    limit.saturating_add(limit / 8) < taken
+    /// Whether no more spans are to be kept where requests are refused, now that the process takes so many bytes and so many spans
+    /// wait: it is more than an eighth beyond its limit, and as many wait as when it grew so far.
+    pub fn is_shorter(&self, taken: u64, waiting: u64) -> bool
+        ensures { result ≡ is_shorter self.now taken waiting }
+    {
+        self.limit.saturating_add(self.limit / 8) < taken && self.release <= waiting / 2
+    }
 }
 
 /// So many spans may wait again, of so many that waited when the process grew to this size.

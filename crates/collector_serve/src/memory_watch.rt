@@ -1,6 +1,6 @@
 //! The thread that looks at what memory the process takes, and refuses requests while it is too much, and spans while it is more still.
 use crate::charge::Charge;
-use crate::memory_rule::{MemoryRule, is_shorter};
+use crate::memory_rule::MemoryRule;
 use std::alloc::Global;
 use std::io::{Read, Seek, SeekFrom};
 use std::sync::{Arc, Wait};
@@ -47,8 +47,9 @@ fn watch<F: Read + Seek + Drop, R: Wait + Clock>(rt: &R, limit: u64, account: F,
         let mut pause = MOST_PAUSE;
         if let Ok(taken) = bytes_taken(&mut account) {
             charge.board.takes(taken);
-            let is_short = rule.is_short(taken, charge.board.waiting());
-            let is_shorter = is_short && is_shorter(limit, taken);
+            let waiting = charge.board.waiting();
+            let is_short = rule.is_short(taken, waiting);
+            let is_shorter = is_short && rule.is_shorter(taken, waiting);
             charge.board.brake().set(is_short, is_shorter);
             pause = pause_before(limit, taken);
         }
