@@ -36,8 +36,8 @@ pub fn charge_of(
 ) -> Result<Arc<Charge, Global>, AllocError> {
     let charge = Charge {
         stop: StopMark::new(),
-        board: Board::new(alloc, config.shards)?,
-        silent: Board::new(alloc, config.shards)?,
+        board: Board::new(alloc, config.shards, &config.policies)?,
+        silent: Board::new(alloc, config.shards, &config.policies)?,
         loads: Arc::new(alloc, Loads::new(alloc, config.lanes as usize)?)?,
         configuration: text?,
         admin: config.admin.try_clone(alloc)?,
