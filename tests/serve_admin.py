@@ -47,6 +47,16 @@ def scrape(port):
     return {name: int(value) for name, value in (line.rsplit(" ", 1) for line in samples)}
 
 
+def decided_of(numbers, policy):
+    """How many traces this policy decided, as sampled and as not sampled, and how many none did."""
+    return [numbers[f'tsc_traces_decided_total{{policy="{it}",decision="{decision}"}}'] for it in (policy, "") for decision in ("sampled", "not_sampled")]
+
+
+def late_of(numbers):
+    """How many spans came to traces that were decided as sampled, and as not sampled."""
+    return [numbers[f'tsc_spans_late_total{{decision="{decision}"}}'] for decision in ("sampled", "not_sampled")]
+
+
 def in_charge(start):
     """The second address tells health, numbers and configuration, and closes; the first one doesn't close any more."""
     admin = free_port()
@@ -68,8 +78,8 @@ def in_charge(start):
     want("the bytes that came", numbers["tsc_received_bytes_total"], sum(len(data) for data in requests))
     want("the output", [numbers["tsc_lines_total"], numbers["tsc_output_bytes_total"]], [1, os.path.getsize(collector.printed)])
     want("what waits", numbers["tsc_spans_waiting"], 0)
-    names = ["tsc_traces_decided_total", "tsc_spans_late_total"]
-    want("decisions and late spans", [numbers[f'{name}{{decision="{it}"}}'] for name in names for it in ("sampled", "not_sampled")], [1, 0, 0, 0])
+    want("the decisions", decided_of(numbers, "all"), [1, 0, 0, 0])
+    want("late spans", late_of(numbers), [0, 0])
     if numbers["tsc_uptime_seconds"] > 60 or numbers['tsc_build_info{version="0.1.0"}'] != 1 or not 100 < numbers["tsc_sent_bytes_total"] < 1000:
         raise Failure(f"the other numbers: {numbers}")
     if not 1 << 20 < numbers["process_resident_memory_bytes"] < 1 << 30:
@@ -103,11 +113,10 @@ def told_by_shards(start):
     roots = [{**ERROR_SPAN, "traceId": f"{trace:032x}", "spanId": f"{9:016x}", "parentSpanId": ""} for trace in range(1, 6)]
     roots += [{"traceId": f"{trace:032x}", "spanId": f"{9:016x}"} for trace in range(6, 16)]
     collector.ask(post(body_of(roots)))
-    names = ["tsc_traces_decided_total", "tsc_spans_late_total"]
-    decided = lambda: [numbers[f'{name}{{decision="{it}"}}'] for numbers in [scrape(admin)] for name in names for it in ("sampled", "not_sampled")]
-    comes_to("the decisions", decided, [5, 10, 0, 0])
+    decided = lambda: [number for numbers in [scrape(admin)] for number in decided_of(numbers, "e") + late_of(numbers)]
+    comes_to("the decisions", decided, [5, 0, 0, 10, 0, 0])
     collector.ask(post(body_of([{"traceId": f"{trace:032x}", "spanId": f"{10:016x}"} for trace in range(1, 16)])))
-    comes_to("late spans", decided, [5, 10, 5, 10])
+    comes_to("late spans", decided, [5, 0, 0, 10, 5, 10])
     comes_to("what waits in the shards then", sums, [15, 45, 0])
     want("the answer to /close", asked(admin, post(b"", "/close"))[::2], (200, "{}"))
     want("the report", collector.end()[1], [120, 25, 0, 0, 0, 0, 85, 10, 0])

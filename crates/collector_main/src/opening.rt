@@ -48,8 +48,8 @@ pub fn charge_of(
     let charge = Charge {
         configuration: settings_in_force(alloc, text?.as_str())?,
         stop: StopMark::new(),
-        board: Board::new(alloc, config.shards)?,
-        silent: Board::new(alloc, config.shards)?,
+        board: Board::new(alloc, config.shards, &config.policies)?,
+        silent: Board::new(alloc, config.shards, &config.policies)?,
         loads: Arc::new(alloc, Loads::new(alloc, config.lanes as usize)?)?,
         admin: config.admin.try_clone(alloc)?,
     };

@@ -1,7 +1,9 @@
 //! What all threads of a run have counted, for readers while it runs.
 use drop_ledger::{Count, Report};
 use lane_queue::{Brake, Gate, Place, ShardLoad};
-use metrics_text::ShardNumbers;
+use metrics_text::{PolicyNumbers, ShardNumbers};
+use otlp_types::{Text, TryClone};
+use policy_tree::Policies;
 use span_ids::Reason;
 use std::alloc::{AllocError, Global};
 use std::sync::atomic::{AtomicU64, Ordering};
@@ -28,6 +30,25 @@ impl ShardCells {
     }
 }
 
+/// What a policy decided so far, by its name.
+#[derive(Drop)]
+struct PolicyCells {
+    name: Text,
+    sampled: AtomicU64,
+    not_sampled: AtomicU64,
+}
+
+impl PolicyCells {
+    /// It decided nothing.
+    fn new(name: Text) -> Self {
+        PolicyCells {
+            name,
+            sampled: AtomicU64::new(0),
+            not_sampled: AtomicU64::new(0),
+        }
+    }
+}
+
 /// The nine counts, as they grow. Each addition of a thread is added here when it was made, so a number that is read never
 /// goes down, and is that of the report once all threads have ended. No contract says so: a thread that reads is in no run.
 #[derive(Drop)]
@@ -45,8 +66,8 @@ pub struct Board {
     lines: AtomicU64,
     output_bytes: AtomicU64,
     memory_bytes: AtomicU64,
-    decided_sampled: AtomicU64,
-    decided_not_sampled: AtomicU64,
+    /// What no policy decided, and then what each did, in order.
+    policies: Vec<PolicyCells>,
     late_sampled: AtomicU64,
     shards: Vec<ShardCells>,
     /// Spans of the batch that the backend is given up for now, which the exporter counts as handed over.
@@ -58,12 +79,13 @@ pub struct Board {
 }
 
 impl Board {
-    /// Nothing was counted, and requests are taken, by so many shards.
-    pub fn new(alloc: Global, shards: usize) -> Result<Self, AllocError> {
+    /// Nothing was counted, and requests are taken, by so many shards that decide by these policies.
+    pub fn new(alloc: Global, shards: usize, policies: &Policies) -> Result<Self, AllocError> {
         let mut cells = Vec::new(alloc);
         for _ in 0..shards {
             cells.push(ShardCells::new())?;
         }
+        let policies = policy_cells(alloc, policies)?;
         Ok(Board {
             received: AtomicU64::new(0),
             handed: AtomicU64::new(0),
@@ -78,8 +100,7 @@ impl Board {
             lines: AtomicU64::new(0),
             output_bytes: AtomicU64::new(0),
             memory_bytes: AtomicU64::new(0),
-            decided_sampled: AtomicU64::new(0),
-            decided_not_sampled: AtomicU64::new(0),
+            policies,
             late_sampled: AtomicU64::new(0),
             shards: cells,
             pending: AtomicU64::new(0),
@@ -157,10 +178,30 @@ impl Board {
         (lines, self.output_bytes.load(Ordering::Relaxed))
     }
 
-    /// How many traces were decided, as sampled and as not sampled.
-    pub fn decisions(&self) -> (u64, u64) {
-        let sampled = self.decided_sampled.load(Ordering::Relaxed);
-        (sampled, self.decided_not_sampled.load(Ordering::Relaxed))
+    /// How many traces each policy decided; behind all, without a name, how many none decided, and one without a name.
+    pub fn decisions(&self, alloc: Global) -> Result<Vec<PolicyNumbers>, AllocError> {
+        let mut numbers = Vec::new(alloc);
+        let mut unnamed = PolicyNumbers {
+            name: Text::new(alloc),
+            sampled: 0,
+            not_sampled: 0,
+        };
+        for cells in &self.policies {
+            let sampled = cells.sampled.load(Ordering::Relaxed);
+            let not_sampled = cells.not_sampled.load(Ordering::Relaxed);
+            if cells.name.as_str().is_empty() {
+                unnamed.sampled = unnamed.sampled.saturating_add(sampled);
+                unnamed.not_sampled = unnamed.not_sampled.saturating_add(not_sampled);
+            } else {
+                numbers.push(PolicyNumbers {
+                    name: cells.name.try_clone(alloc)?,
+                    sampled,
+                    not_sampled,
+                })?;
+            }
+        }
+        numbers.push(unnamed)?;
+        Ok(numbers)
     }
 
     /// How many spans came to traces that were decided before, as sampled and as not sampled.
@@ -218,6 +259,16 @@ impl Board {
     }
 }
 
+/// Cells for what no policy decides, and then for what each does, in order.
+fn policy_cells(alloc: Global, policies: &Policies) -> Result<Vec<PolicyCells>, AllocError> {
+    let mut cells = Vec::new(alloc);
+    cells.push(PolicyCells::new(Text::new(alloc)))?;
+    for policy in policies.as_slice() {
+        cells.push(PolicyCells::new(policy.name.try_clone(alloc)?))?;
+    }
+    Ok(cells)
+}
+
 impl Gate for Board {
     fn reach(&self, _place: Place) {}
 
@@ -242,11 +293,18 @@ impl Gate for Board {
         }
     }
 
-    fn decided(&self, is_sampled: bool) {
+    fn decided(&self, decider: Option<usize>, is_sampled: bool) {
+        let place = match decider {
+            Some(place) => place.saturating_add(1),
+            None => 0,
+        };
+        let Some(cells) = self.policies.get(place) else {
+            return;
+        };
         if is_sampled {
-            self.decided_sampled.fetch_add(1, Ordering::Relaxed);
+            cells.sampled.fetch_add(1, Ordering::Relaxed);
         } else {
-            self.decided_not_sampled.fetch_add(1, Ordering::Relaxed);
+            cells.not_sampled.fetch_add(1, Ordering::Relaxed);
         }
     }
 

@@ -36,7 +36,6 @@ impl Charge {
     fn metrics(&self, uptime_seconds: u64) -> Metrics {
         let traffic = &self.loads.traffic;
         let (lines, output_bytes) = self.board.written();
-        let (decided_sampled, decided_not_sampled) = self.board.decisions();
         let (late_sampled, late_not_sampled) = self.board.late();
         Metrics {
             report: self.board.report(),
@@ -57,8 +56,6 @@ impl Charge {
             answered_415: traffic.answered(415),
             answered_431: traffic.answered(431),
             answered_503: traffic.answered(503),
-            decided_sampled,
-            decided_not_sampled,
             late_sampled,
             late_not_sampled,
             rejected: self.board.rejected(),
@@ -90,13 +87,14 @@ impl<'c> Admin for InCharge<'c> {
     ghost use Rattle.metrics_text.specs.Text.{metrics_text};
     ghost use Rattle.metrics_text.specs.declared.metrics.Metrics.{Metrics};
     ghost use Rattle.metrics_text.specs.declared.metrics.ShardNumbers.{ShardNumbers};
+    ghost use Rattle.metrics_text.specs.declared.metrics.PolicyNumbers.{PolicyNumbers};
     ghost use Rattle.std.specs.Prelude.{List};
 
     ghost is_closed = { λ a. a.is_closed };
 
     ghost stops = { λ a said. ⊤ };
 
-    ghost tells = { λ a text. (metrics : Metrics) × (shards : List ShardNumbers) × (text ≡ metrics_text metrics shards) };
+    ghost tells = { λ a text. (metrics : Metrics) × (policies : List PolicyNumbers) × (shards : List ShardNumbers) × (text ≡ metrics_text metrics policies shards) };
 
     ghost configuration = { λ a. string_bytes a.charge.now.configuration };
 
@@ -111,8 +109,9 @@ impl<'c> Admin for InCharge<'c> {
 
     fn metrics(&self, alloc: Global) -> Result<String, AllocError> {
         let metrics = self.charge.metrics(self.uptime_seconds);
+        let policies = self.charge.board.decisions(alloc)?;
         let shards = self.charge.board.shards(alloc)?;
-        let text = metrics_text(alloc, &metrics, &shards)?;
+        let text = metrics_text(alloc, &metrics, &policies, &shards)?;
         Ok(text)
     }
 

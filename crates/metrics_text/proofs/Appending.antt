@@ -73,3 +73,7 @@ six-families a b c d e f figures shards none spans dropped whole most text n s t
     ∙ ap (λ (x : List ℕ). x ++ (figures ++ shards))
     (u ∙ ap (λ (x : List ℕ). x ++ (d ++ (e ++ f))) (t ∙ ap (λ (x : List ℕ). x ++ c) (s ∙ ap (λ (x : List ℕ). x ++ (a ++ b)) n))
     ∙ simp (append_assoc, append-nil))
+
+-- two texts more, one after the other
+pub both-more : (policies shards most more text : List ℕ) → more ≡ most ++ policies → text ≡ more ++ shards → text ≡ most ++ (policies ++ shards)
+both-more policies shards most more text v w = w ∙ ap (λ (x : List ℕ). x ++ shards) v ∙ append_assoc most policies shards

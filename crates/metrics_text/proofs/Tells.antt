@@ -14,13 +14,15 @@ use Rattle.metrics_text.specs.declared.kind.FamilyKind.{FamilyKind}
 use Rattle.metrics_text.specs.declared.kind.FamilyKind.TheVariants.{Counter, Gauge}
 use Rattle.metrics_text.specs.declared.metrics.Metrics.{Metrics}
 use Rattle.metrics_text.specs.declared.figure.Figure.{Figure}
-use Rattle.metrics_text.specs.declared.figure.Figure.TheVariants.{SpansWaiting, ReceivedBytes, SentBytes, Lines, OutputBytes, Memory, Answered200, Answered400, Answered404, Answered405, Answered408, Answered413, Answered415, Answered431, Answered503, DecidedSampled, DecidedNotSampled, LateSampled, LateNotSampled, Rejected}
+use Rattle.metrics_text.specs.declared.figure.Figure.TheVariants.{SpansWaiting, ReceivedBytes, SentBytes, Lines, OutputBytes, Memory, Answered200, Answered400, Answered404, Answered405, Answered408, Answered413, Answered415, Answered431, Answered503, LateSampled, LateNotSampled, Rejected}
 use Rattle.metrics_text.specs.Figures.{all_figures, figure_row, figure_text, figure_value, figures_text, head_of}
 use Rattle.metrics_text.specs.declared.metrics.ShardNumbers.{ShardNumbers}
 use Rattle.metrics_text.specs.declared.figure.ShardFigure.{ShardFigure}
 use Rattle.metrics_text.specs.declared.figure.ShardFigure.TheVariants.{Queued, Traces, Spans}
 use Rattle.metrics_text.specs.Shards.{shard_line, shard_lines, shard_row, shard_text, shard_value, shards_text}
-use Rattle.metrics_text.specs.Text.{OfShard, TellsAll}
+use Rattle.metrics_text.specs.declared.metrics.PolicyNumbers.{PolicyNumbers}
+use Rattle.metrics_text.specs.Deciders.{decided_labels, decided_line, decided_lines, decided_name, policies_text}
+use Rattle.metrics_text.specs.Text.{OfPolicy, OfShard, TellsAll, names}
 use Rattle.metrics_text.specs.Families.{build, connections, dropped, dropped_sample, families, family, family_text, handed, head_lines, labelled, number_of, reason_word, reasons, received, sample, sample_line, uptime, word_of}
 
 -- ---- a number, and a line feed behind it
@@ -151,11 +153,9 @@ same_values a b s Answered413 = s.1.1.1.1.1.1.1.1.1.1.1.0
 same_values a b s Answered415 = s.1.1.1.1.1.1.1.1.1.1.1.1.0
 same_values a b s Answered431 = s.1.1.1.1.1.1.1.1.1.1.1.1.1.0
 same_values a b s Answered503 = s.1.1.1.1.1.1.1.1.1.1.1.1.1.1.0
-same_values a b s DecidedSampled = s.1.1.1.1.1.1.1.1.1.1.1.1.1.1.1.0
-same_values a b s DecidedNotSampled = s.1.1.1.1.1.1.1.1.1.1.1.1.1.1.1.1.0
-same_values a b s LateSampled = s.1.1.1.1.1.1.1.1.1.1.1.1.1.1.1.1.1.0
-same_values a b s LateNotSampled = s.1.1.1.1.1.1.1.1.1.1.1.1.1.1.1.1.1.1.0
-same_values a b s Rejected = s.1.1.1.1.1.1.1.1.1.1.1.1.1.1.1.1.1.1.1.0
+same_values a b s LateSampled = s.1.1.1.1.1.1.1.1.1.1.1.1.1.1.1.0
+same_values a b s LateNotSampled = s.1.1.1.1.1.1.1.1.1.1.1.1.1.1.1.1.0
+same_values a b s Rejected = s.1.1.1.1.1.1.1.1.1.1.1.1.1.1.1.1.1.0
 
 -- ---- shards
 
@@ -205,31 +205,72 @@ all_shards_told xs ys h k same e =
     let s = family_told Spans xs ys [] [] h k same t.1 in
     same_shards xs ys same q.0 t.0 s.0
 
--- what stands behind the family of the spans that were given up, and behind that of the connections
-abbrev from_uptime : Metrics → List ShardNumbers → List ℕ
-from_uptime m xs = family_text (uptime m) ++ (family_text build ++ (figures_text m ++ shards_text xs))
+-- ---- policies
 
-abbrev from_connections : Metrics → List ShardNumbers → List ℕ
-from_connections m xs = family_text (connections m) ++ from_uptime m xs
+two_is : (one other rest us : List ℕ) → ((one ++ other) ++ rest) ++ us ≡ one ++ (other ++ (rest ++ us))
+two_is one other rest us = simp append_assoc
+
+-- the lines of a policy of this name, and what stands behind them
+abbrev both_lines : (name : List ℕ) → (sampled not_sampled : ℕ) → (rest : List ℕ) → List ℕ
+both_lines name sampled not_sampled rest = decided_line name (codes "sampled") sampled ++ (decided_line name (codes "not_sampled") not_sampled ++ rest)
+
+abbrev lines_of : List PolicyNumbers → List ℕ
+lines_of ps = concat (map decided_lines ps)
+
+same_policy : (p q : PolicyNumbers) → p.name ≡ q.name → p.sampled ≡ q.sampled → p.not_sampled ≡ q.not_sampled → p ≡ q
+same_policy p q name sampled not_sampled =
+    let of : List ℕ → ℕ → ℕ → PolicyNumbers = λ name sampled not_sampled. record { name = name; sampled = sampled; not_sampled = not_sampled } in
+    ap (λ n. of n p.sampled p.not_sampled) name ∙ ap (λ n. of q.name n p.not_sampled) sampled ∙ ap (λ n. of q.name q.sampled n) not_sampled
+
+policies_told : (ps qs : List PolicyNumbers) (us vs : List ℕ) → AllByRecursion OfPolicy ps → AllByRecursion OfPolicy qs → names ps ≡ names qs → lines_of ps ++ us ≡ lines_of qs ++ vs → (ps ≡ qs) × (us ≡ vs)
+policies_told [] [] us vs h k same e = (refl, e)
+policies_told [] (q ∷ qs) us vs h k same e = absurd (cc same)
+policies_told (p ∷ ps) [] us vs h k same e = absurd (cc same)
+policies_told (p ∷ ps) (q ∷ qs) us vs h k same e =
+    let name : p.name ≡ q.name = cc same in
+    let others : names ps ≡ names qs = ap (drop 1) same in
+    let lines : both_lines p.name p.sampled p.not_sampled (lines_of ps ++ us) ≡ both_lines p.name q.sampled q.not_sampled (lines_of qs ++ vs)
+    = sym (two_is (decided_line p.name (codes "sampled") p.sampled) (decided_line p.name (codes "not_sampled") p.not_sampled) (lines_of ps) us)
+    ∙ e
+    ∙ two_is (decided_line q.name (codes "sampled") q.sampled) (decided_line q.name (codes "not_sampled") q.not_sampled) (lines_of qs) vs
+    ∙ ap (λ n. both_lines n q.sampled q.not_sampled (lines_of qs ++ vs)) (sym name) in
+    let one = line_told decided_name (decided_labels p.name (codes "sampled")) p.sampled q.sampled (decided_line p.name (codes "not_sampled") p.not_sampled ++ (lines_of ps ++ us)) (decided_line p.name (codes "not_sampled") q.not_sampled ++ (lines_of qs ++ vs)) h.0.0 k.0.0 lines in
+    let two = line_told decided_name (decided_labels p.name (codes "not_sampled")) p.not_sampled q.not_sampled (lines_of ps ++ us) (lines_of qs ++ vs) h.0.1 k.0.1 one.1 in
+    let more = policies_told ps qs us vs h.1 k.1 others two.1 in
+    let first : p ≡ q = same_policy p q name one.0 two.0 in
+    let rest : ps ≡ qs = more.0 in (rw (first, rest) refl, more.1)
+
+decided_told : (ps qs : List PolicyNumbers) (us vs : List ℕ) → AllByRecursion OfPolicy ps → AllByRecursion OfPolicy qs → names ps ≡ names qs → policies_text ps ++ us ≡ policies_text qs ++ vs → (ps ≡ qs) × (us ≡ vs)
+decided_told ps qs us vs h k same e =
+    let head : List ℕ = head_lines decided_name (codes "Traces that were decided, by the policy that decided.") (word_of Counter) in
+    policies_told ps qs us vs h k same (strip head _ _ (sym (append_assoc head (lines_of ps) us) ∙ e ∙ append_assoc head (lines_of qs) vs))
+
+-- what stands behind the family of the spans that were given up, and behind that of the connections
+abbrev from_uptime : Metrics → List PolicyNumbers → List ShardNumbers → List ℕ
+from_uptime m ps xs = family_text (uptime m) ++ (family_text build ++ (figures_text m ++ (policies_text ps ++ shards_text xs)))
+
+abbrev from_connections : Metrics → List PolicyNumbers → List ShardNumbers → List ℕ
+from_connections m ps xs = family_text (connections m) ++ from_uptime m ps xs
 
 six_then : (r h d c u b f : List ℕ) → (r ++ (h ++ (d ++ (c ++ (u ++ (b ++ [])))))) ++ f ≡ r ++ (h ++ (d ++ (c ++ (u ++ (b ++ f)))))
 six_then r h d c u b f = simp (append_assoc, append-nil)
 
-whole_is : (m : Metrics) (xs : List ShardNumbers) → concat (map family_text (families m)) ++ (figures_text m ++ shards_text xs)
-    ≡ family_text (received m.report) ++ (family_text (handed m.report) ++ (family_text (dropped m.report) ++ from_connections m xs))
-whole_is m xs =
-    six_then (family_text (received m.report)) (family_text (handed m.report)) (family_text (dropped m.report)) (family_text (connections m)) (family_text (uptime m)) (family_text build) (figures_text m ++ shards_text xs)
+whole_is : (m : Metrics) (ps : List PolicyNumbers) (xs : List ShardNumbers) → concat (map family_text (families m)) ++ (figures_text m ++ (policies_text ps ++ shards_text xs))
+    ≡ family_text (received m.report) ++ (family_text (handed m.report) ++ (family_text (dropped m.report) ++ from_connections m ps xs))
+whole_is m ps xs =
+    six_then (family_text (received m.report)) (family_text (handed m.report)) (family_text (dropped m.report)) (family_text (connections m)) (family_text (uptime m)) (family_text build) (figures_text m ++ (policies_text ps ++ shards_text xs))
 
 pub all_told : TellsAll
-all_told a b xs ys x y hx hy same e =
+all_told a b ps qs xs ys x y hp hq called hx hy same e =
     let r = single_told (codes "tsc_spans_received_total") (codes "Spans of requests that were read.") [] Counter (number_of a.report Received) (number_of b.report Received)
-    (family_text (handed a.report) ++ (family_text (dropped a.report) ++ from_connections a xs)) (family_text (handed b.report) ++ (family_text (dropped b.report) ++ from_connections b ys))
-    (x.counts Received) (y.counts Received) (sym (whole_is a xs) ∙ e ∙ whole_is b ys) in
+    (family_text (handed a.report) ++ (family_text (dropped a.report) ++ from_connections a ps xs)) (family_text (handed b.report) ++ (family_text (dropped b.report) ++ from_connections b qs ys))
+    (x.counts Received) (y.counts Received) (sym (whole_is a ps xs) ∙ e ∙ whole_is b qs ys) in
     let h = single_told (codes "tsc_spans_handed_total") (codes "Spans whose line the sink took whole.") [] Counter (number_of a.report Handed) (number_of b.report Handed)
-    (family_text (dropped a.report) ++ from_connections a xs) (family_text (dropped b.report) ++ from_connections b ys) (x.counts Handed) (y.counts Handed) r.1 in
-    let d = dropped_told a.report b.report (from_connections a xs) (from_connections b ys) x.counts y.counts h.1 in
-    let o = single_told (codes "tsc_connections_open") (codes "Connections that are open.") [] Gauge a.open_connections b.open_connections (from_uptime a xs) (from_uptime b ys) x.open_connections y.open_connections d.1 in
-    let u = single_told (codes "tsc_uptime_seconds") (codes "Seconds since the collector began.") [] Gauge a.uptime_seconds b.uptime_seconds (family_text build ++ (figures_text a ++ shards_text xs)) (family_text build ++ (figures_text b ++ shards_text ys)) x.uptime_seconds y.uptime_seconds o.1 in
-    let f = figures_told a b all_figures (shards_text xs) (shards_text ys) x.figures y.figures (strip (family_text build) (figures_text a ++ shards_text xs) (figures_text b ++ shards_text ys) u.1) in
-    let s = all_shards_told xs ys hx hy same f.1 in
-    (record { counts = same_counts a.report b.report r.0 h.0 d.0; open_connections = o.0; uptime_seconds = u.0; figures = same_values a b f.0 }, s)
+    (family_text (dropped a.report) ++ from_connections a ps xs) (family_text (dropped b.report) ++ from_connections b qs ys) (x.counts Handed) (y.counts Handed) r.1 in
+    let d = dropped_told a.report b.report (from_connections a ps xs) (from_connections b qs ys) x.counts y.counts h.1 in
+    let o = single_told (codes "tsc_connections_open") (codes "Connections that are open.") [] Gauge a.open_connections b.open_connections (from_uptime a ps xs) (from_uptime b qs ys) x.open_connections y.open_connections d.1 in
+    let u = single_told (codes "tsc_uptime_seconds") (codes "Seconds since the collector began.") [] Gauge a.uptime_seconds b.uptime_seconds (family_text build ++ (figures_text a ++ (policies_text ps ++ shards_text xs))) (family_text build ++ (figures_text b ++ (policies_text qs ++ shards_text ys))) x.uptime_seconds y.uptime_seconds o.1 in
+    let f = figures_told a b all_figures (policies_text ps ++ shards_text xs) (policies_text qs ++ shards_text ys) x.figures y.figures (strip (family_text build) (figures_text a ++ (policies_text ps ++ shards_text xs)) (figures_text b ++ (policies_text qs ++ shards_text ys)) u.1) in
+    let p = decided_told ps qs (shards_text xs) (shards_text ys) hp hq called f.1 in
+    let s = all_shards_told xs ys hx hy same p.1 in
+    (record { counts = same_counts a.report b.report r.0 h.0 d.0; open_connections = o.0; uptime_seconds = u.0; figures = same_values a b f.0 }, p.0, s)

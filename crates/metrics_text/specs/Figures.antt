@@ -5,7 +5,7 @@ use Rattle.metrics_text.specs.declared.metrics.Metrics.{Metrics}
 use Rattle.metrics_text.specs.declared.kind.FamilyKind.{FamilyKind}
 use Rattle.metrics_text.specs.declared.kind.FamilyKind.TheVariants.{Counter, Gauge}
 use Rattle.metrics_text.specs.declared.figure.Figure.{Figure}
-use Rattle.metrics_text.specs.declared.figure.Figure.TheVariants.{SpansWaiting, ReceivedBytes, SentBytes, Lines, OutputBytes, Memory, Answered200, Answered400, Answered404, Answered405, Answered408, Answered413, Answered415, Answered431, Answered503, DecidedSampled, DecidedNotSampled, LateSampled, LateNotSampled, Rejected}
+use Rattle.metrics_text.specs.declared.figure.Figure.TheVariants.{SpansWaiting, ReceivedBytes, SentBytes, Lines, OutputBytes, Memory, Answered200, Answered400, Answered404, Answered405, Answered408, Answered413, Answered415, Answered431, Answered503, LateSampled, LateNotSampled, Rejected}
 use Rattle.metrics_text.specs.Families.{word_of, head_lines, sample, sample_line}
 
 -- what is told of a number: its name, what its family's head says, where it is the first of it and else nothing, the family's kind, and its labels
@@ -44,8 +44,6 @@ figure_row Answered413 = answered [] (codes "413")
 figure_row Answered415 = answered [] (codes "415")
 figure_row Answered431 = answered [] (codes "431")
 figure_row Answered503 = answered [] (codes "503")
-figure_row DecidedSampled = by_decision (codes "tsc_traces_decided_total") (codes "Traces that were decided.") (codes "sampled")
-figure_row DecidedNotSampled = by_decision (codes "tsc_traces_decided_total") [] (codes "not_sampled")
 figure_row LateSampled = by_decision (codes "tsc_spans_late_total") (codes "Spans whose trace was decided before.") (codes "sampled")
 figure_row LateNotSampled = by_decision (codes "tsc_spans_late_total") [] (codes "not_sampled")
 figure_row Rejected = single (codes "tsc_spans_rejected_total") (codes "Spans of delivered lines that the backend rejected.") Counter
@@ -67,8 +65,6 @@ figure_value metrics Answered413 = metrics.answered_413
 figure_value metrics Answered415 = metrics.answered_415
 figure_value metrics Answered431 = metrics.answered_431
 figure_value metrics Answered503 = metrics.answered_503
-figure_value metrics DecidedSampled = metrics.decided_sampled
-figure_value metrics DecidedNotSampled = metrics.decided_not_sampled
 figure_value metrics LateSampled = metrics.late_sampled
 figure_value metrics LateNotSampled = metrics.late_not_sampled
 figure_value metrics Rejected = metrics.rejected
@@ -78,7 +74,7 @@ abbrev pub all_figures : List Figure
 all_figures =
     SpansWaiting ∷ ReceivedBytes ∷ SentBytes ∷ Lines ∷ OutputBytes ∷ Memory
     ∷ Answered200 ∷ Answered400 ∷ Answered404 ∷ Answered405 ∷ Answered408 ∷ Answered413 ∷ Answered415 ∷ Answered431 ∷ Answered503
-    ∷ DecidedSampled ∷ DecidedNotSampled ∷ LateSampled ∷ LateNotSampled ∷ Rejected ∷ []
+    ∷ LateSampled ∷ LateNotSampled ∷ Rejected ∷ []
 
 -- the lines in front of a family's first number
 abbrev pub head_of : FigureRow → List ℕ

@@ -1,4 +1,5 @@
 pub mod Families
 pub mod Figures
+pub mod Deciders
 pub mod Shards
 pub mod Text

@@ -39,10 +39,6 @@ pub enum Figure {
     Answered431,
     /// Requests that were answered 503.
     Answered503,
-    /// Traces that were decided as sampled.
-    DecidedSampled,
-    /// Traces that were decided as not sampled.
-    DecidedNotSampled,
     /// Spans whose trace was decided before as sampled.
     LateSampled,
     /// Spans whose trace was decided before as not sampled.
@@ -150,18 +146,6 @@ impl Figure {
                 FamilyKind::Counter,
                 "{code=\"503\"}",
             ),
-            Figure::DecidedSampled => (
-                "tsc_traces_decided_total",
-                "Traces that were decided.",
-                FamilyKind::Counter,
-                "{decision=\"sampled\"}",
-            ),
-            Figure::DecidedNotSampled => (
-                "tsc_traces_decided_total",
-                "",
-                FamilyKind::Counter,
-                "{decision=\"not_sampled\"}",
-            ),
             Figure::LateSampled => (
                 "tsc_spans_late_total",
                 "Spans whose trace was decided before.",
@@ -203,8 +187,6 @@ impl Figure {
             Figure::Answered415 => metrics.answered_415,
             Figure::Answered431 => metrics.answered_431,
             Figure::Answered503 => metrics.answered_503,
-            Figure::DecidedSampled => metrics.decided_sampled,
-            Figure::DecidedNotSampled => metrics.decided_not_sampled,
             Figure::LateSampled => metrics.late_sampled,
             Figure::LateNotSampled => metrics.late_not_sampled,
             Figure::Rejected => metrics.rejected,

@@ -3,6 +3,7 @@
 //! [`metrics_text`] is the whole of it; its bytes are those of `specs/Families`.
 #![tactic(auto)]
 
+mod deciders;
 mod figure;
 mod kind;
 mod law;
@@ -10,5 +11,5 @@ mod metrics;
 mod text;
 
 pub use law::tells_all;
-pub use metrics::{Metrics, ShardNumbers};
+pub use metrics::{Metrics, PolicyNumbers, ShardNumbers};
 pub use text::{VERSION, metrics_text};

@@ -1,5 +1,6 @@
 //! The numbers that are told.
 use drop_ledger::Report;
+use otlp_types::Text;
 
 /// The numbers of a collector at one moment.
 #[derive(Clone, Copy, PartialEq, Eq)]
@@ -40,16 +41,23 @@ pub struct Metrics {
     pub answered_431: u64,
     /// How many requests were answered 503.
     pub answered_503: u64,
-    /// How many traces were decided as sampled.
-    pub decided_sampled: u64,
-    /// How many traces were decided as not sampled.
-    pub decided_not_sampled: u64,
     /// How many spans came to a trace that was decided before as sampled.
     pub late_sampled: u64,
     /// How many spans came to a trace that was decided before as not sampled.
     pub late_not_sampled: u64,
     /// How many spans of lines that were delivered the backend rejected.
     pub rejected: u64,
+}
+
+/// What a policy decided.
+#[derive(Drop)]
+pub struct PolicyNumbers {
+    /// Its name; no text stands for the traces that no policy decided, and those of a policy without a name.
+    pub name: Text,
+    /// How many traces it decided as sampled.
+    pub sampled: u64,
+    /// How many traces it decided as not sampled.
+    pub not_sampled: u64,
 }
 
 /// What a shard holds, as it told last.

@@ -6,9 +6,10 @@ ghost use Rattle.metrics_text.specs.Shards.{shard_line, shard_lines, shard_text,
 ghost use Rattle.metrics_text.specs.Text.{metrics_text};
 ghost use Rattle.drop_ledger.specs.declared.count.Count.TheVariants.{Dropped};
 
+use crate::deciders::put_policies;
 use crate::figure::{Figure, ShardFigure};
 use crate::kind::FamilyKind;
-use crate::metrics::{Metrics, ShardNumbers};
+use crate::metrics::{Metrics, PolicyNumbers, ShardNumbers};
 use drop_ledger::{Count, Report};
 use span_ids::Reason;
 use std::alloc::{AllocError, Global};
@@ -17,7 +18,12 @@ use std::alloc::{AllocError, Global};
 pub const VERSION: &str = "0.1.0";
 
 /// Appends the two lines in front of a family's samples.
-fn put_head(text: &mut String, name: &str, help: &str, kind: FamilyKind) -> Result<(), AllocError>
+pub fn put_head(
+    text: &mut String,
+    name: &str,
+    help: &str,
+    kind: FamilyKind,
+) -> Result<(), AllocError>
     ensures { OnOk result (string_bytes text.new ≡ string_bytes text.old ++ head_lines name.now help.now (word_of kind)) }
 {
     let word = kind.word();
@@ -208,8 +214,6 @@ fn put_figures(text: &mut String, metrics: &Metrics) -> Result<(), AllocError>
         Figure::Answered415,
         Figure::Answered431,
         Figure::Answered503,
-        Figure::DecidedSampled,
-        Figure::DecidedNotSampled,
         Figure::LateSampled,
         Figure::LateNotSampled,
         Figure::Rejected,
@@ -271,20 +275,22 @@ fn put_shards(text: &mut String, shards: &[ShardNumbers]) -> Result<(), AllocErr
     Ok(())
 }
 
-/// The text of these numbers: a few lines for each family, in the order of `families`, then of `all_figures`, and then of
-/// `all_shard_figures`. Each line ends with a line feed.
+/// The text of these numbers: a few lines for each family, in the order of `families`, then of `all_figures`, then that of
+/// what the policies decided, and then those of `all_shard_figures`. Each line ends with a line feed.
 pub fn metrics_text(
     alloc: Global,
     metrics: &Metrics,
+    policies: &[PolicyNumbers],
     shards: &[ShardNumbers],
 ) -> Result<String, AllocError>
-    ensures { IfOk result (λ text. string_bytes text ≡ metrics_text metrics.now shards.now) }
+    ensures { IfOk result (λ text. string_bytes text ≡ metrics_text metrics.now policies.now shards.now) }
 {
     let mut text = String::new(alloc);
     put_spans(&mut text, &metrics.report)?;
     put_all_dropped(&mut text, &metrics.report)?;
     put_collector(&mut text, metrics)?;
     put_figures(&mut text, metrics)?;
+    put_policies(alloc, &mut text, policies)?;
     put_shards(&mut text, shards)?;
     Ok(text)
 }
