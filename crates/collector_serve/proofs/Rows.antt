@@ -1,6 +1,7 @@
--- Worked rows, computed: a process that may take 800 bytes.
--- They serve the definition that `MemoryRule` promises.
-use Rattle.std.specs.Prelude.{◌≡◌, ℕ, true, false, [], ◌∷◌, map, refl}
+-- Worked rows, computed: a process that may take 800 bytes, and requests to a backend.
+-- They serve the definitions that `MemoryRule`, `request_fields` and `with_export_room` promise.
+use Rattle.std.specs.Prelude.{◌≡◌, ℕ, true, false, [], ◌∷◌, map, codes, refl}
+use Rattle.collector_serve.specs.Requests.{room_of, request_fields}
 use Rattle.collector_serve.specs.Memory.{MemoryState, is_short, is_shorter, memory_after}
 
 abbrev state : (most release : ℕ) → MemoryState
@@ -42,3 +43,12 @@ fewer_wait = refl
 -- it takes what it may again: all is as at the start
 back : memory_after (state 901 40) 799 80 ≡ state 800 0
 back = refl
+
+-- the room of a shard: of the defaults, of three batches of ten spans for four shards, and of fewer than may wait anyway
+rooms : (room_of 256 512 1 1024 ≡ 131072) × (room_of 3 10 4 5 ≡ 7) × (room_of 1 1 64 2 ≡ 2)
+rooms = (refl, refl, refl)
+
+-- the fields of a request, with one of the configuration
+fields : request_fields (codes "h:1") (record { name = codes "X-Tenant"; value = codes "t1" } ∷ [])
+    ≡ (codes "Host", codes "h:1") ∷ (codes "Content-Type", codes "application/json") ∷ (codes "X-Tenant", codes "t1") ∷ []
+fields = refl
