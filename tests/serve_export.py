@@ -134,6 +134,19 @@ def delivers(start):
     want("the report", numbers, [1, 1, 0, 0, 0, 0, 0, 0, 0])
 
 
+def sends_headers(start):
+    """Each request has the fields of the configuration behind its own, the tries too."""
+    backend = Backend([[answer(503)]])
+    headers = 'headers = { Authorization = "Bearer a.b", X-Scope-OrgID = "tenant 1", x-empty = "" }\n'
+    collector = start(FAST + ALL + backend.settings() + headers)
+    send(collector, 0)
+    until("the requests", lambda: len(backend.requests) == 2)
+    want("the report", collector.close()[1], [1, 1, 0, 0, 0, 0, 0, 0, 0])
+    for head, body in backend.requests:
+        own = f"POST /v1/traces HTTP/1.1\r\nHost: 127.0.0.1:{backend.port}\r\nContent-Type: application/json\r\n"
+        want("the head", head, f"{own}Authorization: Bearer a.b\r\nX-Scope-OrgID: tenant 1\r\nx-empty: \r\ncontent-length: {len(body)}")
+
+
 def tries_again(start):
     """What may be tried again is, on a connection that is made again where it breaks; each line arrives once, in order."""
     chunked = [b"HTTP/1.1 200 OK\r\nTransfer-Encoding: chunked\r\n\r\n", b"2\r\n{", b"}\r\n0", b"\r\n\r\n"]
@@ -190,7 +203,7 @@ def rejected_spans(start):
     until("the numbers", lambda: scrape(admin)["tsc_spans_rejected_total"] == 3)
     want("the answer to /close", asked(admin, post(b"", "/close"))[::2], (200, "{}"))
     want("the report", collector.end()[1], [15, 15, 0, 0, 0, 0, 0, 0, 0])
-    want("how many requests", len(backend.requests), 3)
+    want("what came", sorted(number for _, body in backend.requests for number in ids_in(body)), [f"{10 * n + i + 1:016x}" for n in range(3) for i in range(5)])
 
 
 def waits_for_a_backend(start):
@@ -230,19 +243,37 @@ def patience_ends(start):
 
 
 def under_load(start):
-    """Of 20,000 spans a backend that fails one request in ten has each that is counted as handed over, once."""
+    """Of 100,000 spans of four clients a backend that fails one request in ten has each that is counted as handed over, once."""
     script = [[answer(503)] if n % 10 == 9 else [answer(400)] if n % 50 == 24 else [OK] for n in range(100000)]
     backend = Backend(script)
-    collector = start(FAST + "queue_capacity = 65536\nexport_capacity = 65536\nsend_batch_size = 100\n" + ALL + backend.settings())
-    for first in range(0, 20000, 500):
-        send(collector, first, 500)
+    waits = "timeout_ms = 30000\nretry_initial_ms = 20\nretry_max_ms = 50\nclose_wait_ms = 50000\n"
+    settings = 'queue_capacity = 65536\nexport_capacity = 65536\nsend_batch_size = 100\nqueue_full = "retry"\nlanes = 2\nshards = 2\n'
+    collector = start(FAST + settings + ALL + backend.settings(waits))
+    clients = [threading.Thread(target=send_until_taken, args=(collector, range(first, first + 25000, 500))) for first in range(0, 100000, 25000)]
+    for client in clients:
+        client.start()
+    for client in clients:
+        client.join()
     numbers = collector.close()[1]
     have = [number for body in backend.taken for number in ids_in(body)]
     want("repeats", len(have) - len(set(have)), 0)
     want("what the backend has", len(have), numbers[1])
-    want("the sum", numbers[1] + numbers[8], 20000)
+    want("the sum", numbers[1] + numbers[8], 100000)
+    want("received", numbers[0], 100000)
     if numbers[8] == 0:
         raise Failure("no batch was given up")
 
 
-CHECKS = [delivers, tries_again, no_answers, gives_up, rejected_spans, waits_for_a_backend, late_answer, patience_ends, under_load]
+def send_until_taken(collector, firsts):
+    """Requests of 500 spans on one connection; what is answered 503 is sent again."""
+    client = collector.client()
+    for first in firsts:
+        request = post(body_of([span(i) for i in range(first, first + 500)]))
+        for _ in range(2000):
+            client.send(request)
+            if client.answer()[0] == 200:
+                break
+            time.sleep(0.02)
+
+
+CHECKS = [delivers, sends_headers, tries_again, no_answers, gives_up, rejected_spans, waits_for_a_backend, late_answer, patience_ends, under_load]

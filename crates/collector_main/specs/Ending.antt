@@ -1,5 +1,5 @@
 -- The last text and the exit status, and how each outcome arises.
-use Rattle.std.specs.Prelude.{◌≡◌, ◌⊎◌, ◌++◌, ◌<◌, ℕ, Bool, true, false, not, List, [], ◌∷◌, map, length, slice_index, Option, Some, None, Result, codes, decimal, string_bytes, if◌then◌else◌}
+use Rattle.std.specs.Prelude.{◌≡◌, ◌⊎◌, ◌++◌, ◌<◌, ℕ, Bool, true, false, not, List, [], ◌∷◌, map, length, slice_index, Option, Some, None, Result, Ok, Err, codes, decimal, string_bytes, if◌then◌else◌}
 use Rattle.std.specs.List.{concat}
 use Rattle.std.specs.Io.KnownBytes.{Appends}
 use Rattle.std.specs.Str.{bytes_eq}
@@ -16,6 +16,7 @@ use Rattle.collector_main.specs.declared.program.Outcome.TheVariants.{Done, Sink
 use Rattle.collector_main.specs.declared.program.Outcome.TheVariants as is
 use Rattle.collector_main.specs.declared.program.Command.{Command}
 use Rattle.collector_main.specs.declared.program.Command.TheVariants.{Replay, Serve, Validate, Close, Help, Version}
+use Rattle.export_report.specs.Moves.{IsMoved, CannotMove}
 use Rattle.collector_main.specs.Outcomes.{outcome_of, served_to, exit_status}
 use Rattle.collector_main.specs.Configuration.{FileFails, IsConfigOf}
 use Rattle.collector_main.specs.Validating.{FileTells, fault_number}
@@ -187,12 +188,40 @@ pub record ServedTo (course : Course) (outcome : Outcome) : Type 0 where
   pub unread : course.unread_after ≡ course.unread
   pub outcome_is : outcome ≡ served_to answer
 
+-- how the program ends after a run whose lines were sent to a backend, of which it gave up so many spans: they are counted as given up, and not as handed over
+abbrev pub IsExportedTo : Result Report ServeFault → (given_up : ℕ) → Outcome → Type 0
+IsExportedTo (Ok report) given_up outcome =
+    ((told : List ℕ) × IsMoved given_up report told × (outcome ≡ Done told)) ⊎ (CannotMove given_up report × (outcome ≡ BookFull))
+IsExportedTo (Err fault) given_up outcome = outcome ≡ served_to (Err fault)
+
+-- by a configuration requests were taken, and the lines sent to a backend; or it couldn't be listened, or there was no memory, and nothing was done
+abbrev pub ExportsTo : Config → Outcome → Type 0
+ExportsTo config outcome =
+    (outcome ≡ CannotListen)
+    ⊎ ((sink : Option (List ℕ)) × (sink_after : Option (List ℕ)) × (failures : ℕ) × (answer : Result Report ServeFault) × (given_up : ℕ)
+    × SinkAnswers sink 0 sink_after failures answer × CoreRunTells config sink 0 sink_after failures answer × IsExportedTo answer given_up outcome)
+
 -- by a configuration requests were taken, and the run had an answer of this outcome; or it couldn't be listened, and nothing was done
-abbrev pub RunsTo : Config → (taken taken_after : Option (List ℕ)) → Outcome → Type 0
-RunsTo config taken taken_after outcome =
+abbrev pub PrintsTo : Config → (taken taken_after : Option (List ℕ)) → Outcome → Type 0
+PrintsTo config taken taken_after outcome =
     ((taken_after ≡ taken) × (outcome ≡ CannotListen))
     ⊎ ((failures : ℕ) × (answer : Result Report ServeFault) × SinkAnswers taken 0 taken_after failures answer × CoreRunTells config taken 0 taken_after failures answer
     × (outcome ≡ served_to answer))
+
+-- the lines were printed, or they were sent and nothing was printed
+abbrev pub RunsTo : Config → (taken taken_after : Option (List ℕ)) → Outcome → Type 0
+RunsTo config taken taken_after outcome = PrintsTo config taken taken_after outcome ⊎ ((taken_after ≡ taken) × ExportsTo config outcome)
+
+-- a configuration was read, and the run by it came to this outcome, where its lines were sent to a backend; nothing was read of a script, and nothing printed
+pub record ExportedTo (course : Course) (outcome : Outcome) : Type 0 where
+  pub config : Config
+  pub is_read : IsConfigOf course.file config
+  pub exports : ExportsTo config outcome
+  pub nothing : NothingDone course
+
+-- a run by a configuration came to this outcome
+abbrev pub RanOn : Course → Outcome → Type 0
+RanOn course outcome = ServedTo course outcome ⊎ ExportedTo course outcome
 
 -- a configuration was read, and nothing was done by it
 abbrev pub OnlyRead : Course → Type 0
@@ -204,9 +233,9 @@ Serves course Usage = ⊥
 Serves course (Script line) = ⊥
 Serves course Unreadable = FileFails course.file Unreadable × NothingDone course
 Serves course (Configuration fault) = FileFails course.file (Configuration fault) × NothingDone course
-Serves course NoMemory = (FileFails course.file NoMemory × NothingDone course) ⊎ ServedTo course NoMemory
+Serves course NoMemory = (FileFails course.file NoMemory × NothingDone course) ⊎ RanOn course NoMemory
 Serves course CannotListen = OnlyRead course
-Serves course outcome = ServedTo course outcome
+Serves course outcome = RanOn course outcome
 
 -- how an outcome arises by what is asked for
 abbrev pub Does : Course → Command → Outcome → Type 0

@@ -3,7 +3,7 @@ use Rattle.span_sink.specs.Sinks.{SinkState}
 use Rattle.pipeline.specs.Outcome.{SinkAnswers}
 use Rattle.pipeline.specs.Promise.{CoreRunTells}
 use Rattle.pipeline.specs.declared.fault.RunFault.TheVariants.{NoMemory}
-use Rattle.collector_main.proofs.running.serve_with.Goals as goal
+use Rattle.collector_main.proofs.running.print_with.Goals as goal
 
 pub returns : goal.returns
 returns g c =
