@@ -25,7 +25,7 @@ pub struct Charge {
     pub silent: Board,
     /// How many connections each lane has.
     pub loads: Arc<Loads, Global>,
-    /// The configuration, as it was read.
+    /// The settings in force, as a configuration's text.
     pub configuration: String,
     /// The address for those in charge, or nothing.
     pub admin: Text,

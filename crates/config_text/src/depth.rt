@@ -18,7 +18,7 @@ fn is_within(value: &Value, limit: u32) -> bool
     }
 }
 
-/// Whether each item does.
+/// Whether each item nests at most so deep.
 #[cycle(depth)]
 fn items_are_within(items: &Array, limit: u32) -> bool
     ensures { result ≡ nat_le (items_depth (array_view items.now)) limit }
@@ -31,7 +31,7 @@ fn items_are_within(items: &Array, limit: u32) -> bool
     true
 }
 
-/// Whether each member of a table does.
+/// Whether each value of a table nests at most so deep.
 #[cycle(depth)]
 pub fn members_are_within(members: &Table, limit: u32) -> bool
     ensures { result ≡ nat_le (members_depth (table_view members.now)) limit }

@@ -20,7 +20,7 @@ const DEEPEST: u32 = 80;
 /// stay as they are; `admin` and `export`, which have no default, aren't added, and of the two names of the wait from a trace's
 /// root on the one that is there stays.
 ///
-/// A text that is no TOML, or whose tables nest deeper than 80, is given as it is; neither is one of a configuration's. `Err`
+/// A text that is no TOML, or whose tables nest deeper than 80 (policies nest 8 deep), is given as it is. `Err`
 /// where memory is refused.
 pub fn settings_in_force(alloc: Global, text: &str) -> Result<String, AllocError>
     ensures reads { IfOk result (λ s. reading (string_bytes s) ≡ reading text.now) }
