@@ -39,6 +39,7 @@ pub fn event_item(alloc: Global, event: Event) -> Result<Item, AllocError>
         Event::End(sender) => Ok(Item::End(sender)),
         Event::Span(trace, number, moment, code) => {
             let ids = numbered_ids(trace, true).ok_or(AllocError)?;
+            let _span = ids.span; // (so that the borrow checker knows of its type)
             span_item(alloc, ids, number, moment, code, 0)
         }
     }
