@@ -10,7 +10,7 @@ import sys
 import threading
 import time
 
-from running import RECIPES, SETTINGS, TOP, Failure, Neighbour, all_came_back, free_port, ids_of, send_from_many, spans_of, want
+from running import RECIPES, SETTINGS, TOP, Failure, Neighbour, all_came_back, free_port, ids_of, post, send_from_many, spans_for, spans_of, want
 
 GZIP = "accept_gzip = true\n"
 CODEC = "usr/lib/python3/dist-packages"
@@ -210,8 +210,44 @@ def a_collector_that_is_away(here):
         raise Failure(f"{len(sent)} spans were sent, {len(spans_of(lines))} came")
 
 
+def a_million_to_the_collector(here):
+    """tsc sends what it keeps to the Collector, which hands it to a backend: of a million spans of 20 clients all come there, none twice."""
+    backend, listens = Backend(), free_port()
+    recipe = here.folder / "collector.yaml"
+    recipe.write_text(
+        f"receivers: {{ otlp: {{ protocols: {{ http: {{ endpoint: 127.0.0.1:{listens} }} }} }} }}\n"
+        f"exporters: {{ otlphttp: {{ traces_endpoint: 'http://127.0.0.1:{backend.port}/v1/traces', encoding: json, compression: none }} }}\n"
+        "service: { telemetry: { metrics: { level: none } }, pipelines: { traces: { receivers: [otlp], exporters: [otlphttp] } } }\n",
+        "utf-8",
+    )
+    core = Neighbour(here, [str(here.fetched / "collector" / "otelcore"), "--config", str(recipe)], listens)
+    export = f'[export]\nendpoint = "http://127.0.0.1:{listens}/v1/traces"\nclose_wait_ms = 600000\n'
+    collector = here.start('queue_full = "retry"\n' + SETTINGS + export)
+    each = int(os.environ.get("TSC_SPANS", "1000000")) // 20000
+
+    def work(client):
+        connection = http.client.HTTPConnection("127.0.0.1", collector.port, timeout=60)
+        for request in range(each):
+            while post(connection, spans_for(client, request, 1000)) == 503:
+                time.sleep(0.05)
+
+    clients = [threading.Thread(target=work, args=(it,)) for it in range(20)]
+    for it in clients:
+        it.start()
+    for it in clients:
+        it.join()
+    lines, numbers = collector.close()
+    core.end()
+    count = each * 20000
+    want("the lines that are printed", lines, [])
+    want("the report", numbers, [count, count, 0, 0, 0, 0, 0, 0, 0])
+    came = ids_of(backend.spans())
+    want("the spans at the backend, and those without repeats", (len(came), len(set(came))), (count, count))
+    backend.end()
+
+
 CHECKS = [
-    ten_thousand_between_two_pipelines, a_collector_that_is_away, the_second_tier, the_documented_example_is_read, ten_thousand_of_the_sdk,
+    ten_thousand_between_two_pipelines, a_million_to_the_collector, a_collector_that_is_away, the_second_tier, the_documented_example_is_read, ten_thousand_of_the_sdk,
     equal_by_the_codec,
     ten_thousand_by_the_codec,
 ]

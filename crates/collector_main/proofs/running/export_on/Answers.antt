@@ -19,4 +19,4 @@ returns g c =
     let ran = subst RanFrom begins c.serve_on-sink.ensures.ran in
     let By : Config → Type 0 = λ by. CoreRunTells by None 0 (known_bytes after.log) after.failures answer in
     let by = rooms.tells c.args.config (export_room c.args.config) None 0 (known_bytes after.log) after.failures answer (subst By c.with_export_room-config.ensures.room ran) in
-    inr (None, known_bytes after.log, after.failures, answer, c.given_up.result, tells, by, c.exported_to.ensures)
+    inr (None, known_bytes after.log, after.failures, answer, c.given_up-2.result, tells, by, c.exported_to.ensures)
