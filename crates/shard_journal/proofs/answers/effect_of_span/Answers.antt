@@ -1,5 +1,6 @@
-use Rattle.std.proofs.Common.{◌≡◌, reverse, ◌∙◌}
+use Rattle.std.proofs.Common.{◌≡◌, reverse, sym, ap, ◌∙◌}
 use Rattle.std.proofs.lemmas.Result.{IfOk-weaker}
+use Rattle.otlp_types.specs.declared.span.Span.{Span}
 use Rattle.journal_theory.specs.Fate.{Effect, effect_of_finding, effect_of_span}
 use Rattle.shard_journal.specs.Settings.{settings_of}
 use Rattle.shard_journal.specs.Found.{the_finding}
@@ -16,5 +17,5 @@ returns c =
     IfOk-weaker c.effect_of_finding.result
     (λ (x : Effect). x ≡ effect_of_finding s before l a f)
     (λ (x : Effect). x ≡ effect_of_span s before c.args.refused a a.rec.span.ids)
-    (λ x e. e ∙ span_effect s before c.args.refused a c.in-Some.ids l f c.if-refused.false c.in-Some.is c.in_ok-noted.ensures c.finding-found.ensures)
+    (λ x e. e ∙ span_effect s before c.args.refused a c.in-Some.ids l f c.if-refused.false (ap (λ (span : Span). span.ids) (sym c.get.ensures) ∙ c.in-Some.is) c.in_ok-noted.ensures c.finding-found.ensures)
     c.effect_of_finding.ensures
