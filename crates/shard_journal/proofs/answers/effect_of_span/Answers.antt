@@ -1,6 +1,5 @@
 use Rattle.std.proofs.Common.{◌≡◌, ap, reverse, sym, ◌∙◌}
 use Rattle.std.proofs.lemmas.Result.{IfOk-weaker}
-use Rattle.otlp_types.specs.declared.span.Span.{Span}
 use Rattle.journal_theory.specs.Fate.{Effect, effect_of_finding, effect_of_span}
 use Rattle.otlp_types.specs.declared.span.Span.{Span}
 use Rattle.shard_journal.specs.Settings.{settings_of}
