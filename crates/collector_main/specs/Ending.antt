@@ -1,5 +1,5 @@
 -- The last text and the exit status, and how each outcome arises.
-use Rattle.std.specs.Prelude.{◌≡◌, ◌⊎◌, ◌++◌, ◌<◌, ℕ, Bool, true, false, not, List, [], ◌∷◌, map, length, slice_index, Option, Some, None, Result, Ok, Err, codes, decimal, string_bytes, if◌then◌else◌}
+use Rattle.std.specs.Prelude.{◌≡◌, ◌⊎◌, ◌++◌, ◌<◌, ℕ, Bool, true, false, not, ◌==◌, List, [], ◌∷◌, map, length, slice_index, Option, Some, None, Result, Ok, Err, codes, decimal, string_bytes, if◌then◌else◌}
 use Rattle.std.specs.List.{concat}
 use Rattle.std.specs.Io.KnownBytes.{Appends}
 use Rattle.std.specs.Str.{bytes_eq}
@@ -177,10 +177,15 @@ Replays course (Configuration fault) = FileFails course.file (Configuration faul
 Replays course NoMemory = (FileFails course.file NoMemory × NothingDone course) ⊎ RanTo course NoMemory
 Replays course outcome = RanTo course outcome
 
--- a configuration was read, and the run on a listener by it had an answer of this outcome; what its threads did is a run of the core; nothing was read of a script
+-- a configuration doesn't say where lines are sent to, so they are printed
+abbrev pub prints : Config → Bool
+prints config = length config.export.endpoint == 0
+
+-- a configuration was read that says nowhere to send lines to, and the run on a listener by it had an answer of this outcome; what its threads did is a run of the core; nothing was read of a script
 pub record ServedTo (course : Course) (outcome : Outcome) : Type 0 where
   pub config : Config
   pub is_read : IsConfigOf course.file config
+  pub printed : prints config ≡ true
   pub failures_after : ℕ
   pub answer : Result Report ServeFault
   pub sink : SinkAnswers course.taken 0 course.taken_after failures_after answer
@@ -208,14 +213,16 @@ PrintsTo config taken taken_after outcome =
     ⊎ ((failures : ℕ) × (answer : Result Report ServeFault) × SinkAnswers taken 0 taken_after failures answer × CoreRunTells config taken 0 taken_after failures answer
     × (outcome ≡ served_to answer))
 
--- the lines were printed, or they were sent and nothing was printed
+-- the lines were printed where the configuration says nowhere to send them; else they were sent, and nothing was printed
 abbrev pub RunsTo : Config → (taken taken_after : Option (List ℕ)) → Outcome → Type 0
-RunsTo config taken taken_after outcome = PrintsTo config taken taken_after outcome ⊎ ((taken_after ≡ taken) × ExportsTo config outcome)
+RunsTo config taken taken_after outcome =
+    ((prints config ≡ true) × PrintsTo config taken taken_after outcome) ⊎ ((prints config ≡ false) × (taken_after ≡ taken) × ExportsTo config outcome)
 
--- a configuration was read, and the run by it came to this outcome, where its lines were sent to a backend; nothing was read of a script, and nothing printed
+-- a configuration was read that says where to send lines to, and the run by it came to this outcome; nothing was read of a script, and nothing printed
 pub record ExportedTo (course : Course) (outcome : Outcome) : Type 0 where
   pub config : Config
   pub is_read : IsConfigOf course.file config
+  pub sent : prints config ≡ false
   pub exports : ExportsTo config outcome
   pub nothing : NothingDone course
 

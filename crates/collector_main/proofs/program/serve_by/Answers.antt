@@ -1,8 +1,7 @@
-use Rattle.std.proofs.Common.{◌≡◌, Err, refl}
-use Rattle.pipeline.specs.declared.fault.RunFault.TheVariants.{NoMemory}
+use Rattle.std.proofs.Common.{◌≡◌, refl}
 use Rattle.collector_main.specs.Configuration.{file_of}
-use Rattle.collector_main.specs.Ending.{Course}
-use Rattle.collector_main.proofs.Serving.{Serves-ran, Serves-runs}
+use Rattle.collector_main.specs.Ending.{Course, prints}
+use Rattle.collector_main.proofs.Serving.{Serves-starved, Serves-runs}
 use Rattle.collector_main.proofs.program.serve_by.Goals as goal
 
 pub returns : goal.returns
@@ -27,7 +26,7 @@ returns-in_default g c = λ arguments unread.
       taken = g.W.Write.contents c.args.writer;
       taken_after = g.W.Write.contents c.args.writer;
     } in
-    Serves-ran now c.in-Ok.config 0 (Err NoMemory) c.in-Ok.ensures.is_read refl (refl, refl) tt
+    Serves-starved now c.in-Ok.config (prints c.in-Ok.config) refl c.in-Ok.ensures.is_read refl refl
 
 pub returns-then-is_err : goal.returns-then-is_err
 returns-then-is_err g c = λ arguments unread.
@@ -39,4 +38,4 @@ returns-then-is_err g c = λ arguments unread.
       taken = g.W.Write.contents c.args.writer;
       taken_after = g.W.Write.contents c.args.writer;
     } in
-    Serves-ran now c.in-Ok.config 0 (Err NoMemory) c.in-Ok.ensures.is_read refl (refl, refl) tt
+    Serves-starved now c.in-Ok.config (prints c.in-Ok.config) refl c.in-Ok.ensures.is_read refl refl
