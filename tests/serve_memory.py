@@ -13,13 +13,14 @@ SPANS = 500
 NONE = 'policies = [{ name = "none", type = "latency", latency = { threshold_ms = 60000 } }]\n'
 
 
-def flood_form():
-    """A request of spans of about a kilobyte, in which their ids are to be filled in."""
+def flood_span(trace_id, span_id):
+    """A span of about a kilobyte."""
     attributes = [{"key": f"http.request.header.x-{i:02}", "value": {"stringValue": "abcdefghij" * 4}} for i in range(8)]
-    return body_of([{"traceId": "%032x", "spanId": "%016x", "name": "GET /orders", "attributes": attributes}] * SPANS)
+    return {"traceId": trace_id, "spanId": span_id, "name": "GET /orders", "attributes": attributes}
 
 
-FORM = flood_form()
+# A request in which the ids are to be filled in.
+FORM = body_of([flood_span("%032x", "%016x")] * SPANS)
 
 
 def flood_request(trace_of, first):
@@ -81,7 +82,7 @@ def many_traces(start):
 
 def takes_again(start):
     """Behind a flood that was decided requests are taken again, and a client that sends again loses nothing."""
-    settings = f"memory_limit_mib = {LIMIT}\nlanes = 4\nshards = 2\nnum_traces = 1000000\nqueue_capacity = 8192\nqueue_full = 'retry'\ndecision_wait_ms = 500\ntick_ms = 50\n"
+    settings = f"memory_limit_mib = {LIMIT}\nlanes = 4\nshards = 2\nnum_traces = 1000000\nqueue_capacity = 8192\ndecision_wait_ms = 500\ntick_ms = 50\n"
     collector = start(settings + ALL)
     again, most = [], []
     done = threading.Event()
@@ -98,7 +99,7 @@ def takes_again(start):
         client = collector.client()
         for number in range(150):
             first = (150 * at + number) * SPANS
-            data = flood_request(lambda number: number, first)
+            data = post(body_of([flood_span(f"{first + i + 1:032x}", f"{first + i + 1:016x}") for i in range(SPANS)]))
             for _ in range(6000):
                 client.send(data)
                 if client.answer()[0] == 200:
