@@ -222,7 +222,7 @@ def a_million_to_the_collector(here):
     )
     core = Neighbour(here, [str(here.fetched / "collector" / "otelcore"), "--config", str(recipe)], listens)
     export = f'[export]\nendpoint = "http://127.0.0.1:{listens}/v1/traces"\nclose_wait_ms = 600000\n'
-    collector = here.start('queue_full = "retry"\n' + SETTINGS + export)
+    collector = here.start('num_traces = 1000000\nqueue_full = "retry"\n' + SETTINGS + export)
     each = int(os.environ.get("TSC_SPANS", "1000000")) // 20000
 
     def work(client):
