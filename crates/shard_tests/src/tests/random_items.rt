@@ -46,6 +46,7 @@ fn item_of(alloc: Global, kind: Kind, moment: u64, place: u64) -> Result<Item, A
         Kind::Span(trace, error, _) => {
             let id = TRACES.get(trace).copied().unwrap_or("");
             let ids = plain_ids(id, is_root(place as usize)).ok_or(AllocError)?;
+            let _span = ids.span; // (so that the borrow checker knows of its type)
             span_item(alloc, ids, place, moment, if error { 2 } else { 0 }, 0)
         }
         Kind::Tick => Ok(Item::Tick(moment)),

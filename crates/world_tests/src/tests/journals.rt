@@ -238,6 +238,7 @@ fn find_traces(
     let mut findings = [Finding::Opens; 4];
     for (trace, finding) in [1, 2, 3, 4].into_iter().zip(findings.iter_mut()) {
         let ids = numbered_ids(trace, true).ok_or(AllocError)?;
+        let _span = ids.span; // (so that the borrow checker knows of its type)
         *finding = finding_of(alloc, settings, journal, ids.trace)?;
     }
     Ok(findings)
@@ -250,6 +251,7 @@ fn remember_first(
     journal: &[Entry],
 ) -> Result<Option<Verdict>, AllocError> {
     let ids = numbered_ids(1, true).ok_or(AllocError)?;
+    let _span = ids.span; // (so that the borrow checker knows of its type)
     remembered(alloc, settings, journal, ids.trace)
 }
 
