@@ -127,6 +127,26 @@ def stays_behind_its_refusal(start):
     want("the report", collector.close()[1], [0] * 9)
 
 
+def twenty_thousand_short_ones(start):
+    """Twenty thousand connections of one request each leave no open file behind."""
+    collector = start("lanes = 4\nnum_traces = 100000\nqueue_capacity = 65536\n" + ALL)
+    want("the answer", collector.ask(post(body_of([ERROR_SPAN])))[::2], (200, "{}"))
+    time.sleep(0.3)
+    before = open_files(collector)
+
+    def asks(at):
+        for number in range(5000):
+            client = collector.client()
+            client.socket.setsockopt(socket.SOL_SOCKET, socket.SO_LINGER, b"\1\0\0\0\0\0\0\0")
+            client.send(post(body_of(spans_by_number(5000 * at + number, 1))))
+            want("the answer", client.answer()[::2], (200, "{}"))
+            client.close()
+
+    side_by_side(asks, range(4))
+    comes_back_to(collector, before, 10)
+    want("the report", collector.close()[1], [20_001, 20_001, 0, 0, 0, 0, 0, 0, 0])
+
+
 def short_ones(collector, count):
     """So many short connections by each of four programs, all answered."""
     words = [sys.executable, os.path.join(os.path.dirname(__file__), "short_connections.py"), str(collector.port), str(count)]
@@ -232,5 +252,5 @@ def reads_nothing(start):
     deaf.close()
 
 
-CHECKS = [beside_idle_ones, numbered_by_connection, tricklers, stays_behind_its_refusal, two_hundred_thousand_short_ones]
+CHECKS = [beside_idle_ones, numbered_by_connection, tricklers, stays_behind_its_refusal, twenty_thousand_short_ones, two_hundred_thousand_short_ones]
 CHECKS += [few_may_be_open, few_open_files, refusals_arrive, reads_nothing]
