@@ -1,5 +1,5 @@
 -- What is done after an answer, computed, and a log by hand.
-use Rattle.std.proofs.Common.{◌≡◌, ℕ, true, false, List, [], ◌∷◌, Some, None, refl}
+use Rattle.std.proofs.Common.{◌≡◌, [], ◌∷◌, Some, None, refl}
 use Rattle.batch_post.specs.declared.outcome.Outcome.TheVariants.{Answered, NoAnswer}
 use Rattle.batch_post.specs.declared.outcome.Fate.TheVariants.{Delivered, GivenUp}
 use Rattle.batch_post.specs.declared.rule.Retry.{Retry}
@@ -26,6 +26,9 @@ bad_gateway = refl
 
 unavailable_for_a_while : verdict_of usual (Answered 503 (Some 7000)) 500 0 0 None ≡ Waits 7000
 unavailable_for_a_while = refl
+
+asks_for_no_time : verdict_of usual (Answered 503 (Some 0)) 500 250 0 None ≡ Waits 250
+asks_for_no_time = refl
 
 gateway_is_late : verdict_of usual (Answered 504 None) 2000 1001 0 None ≡ Waits 2000
 gateway_is_late = refl

@@ -28,9 +28,9 @@ next_wait rule wait = min (min (wait * 2) most) rule.longest
 abbrev pub with_jitter : (wait random : ℕ) → ℕ
 with_jitter wait random = wait - random % (wait / 2 + 1)
 
--- how long is waited: as the answer asks, else this wait with jitter
+-- how long is waited: as the answer asks, where it asks for some time, else this wait with jitter
 abbrev pub wait_after : Outcome → (wait random : ℕ) → ℕ
-wait_after (Answered status (Some asked)) wait random = asked
+wait_after (Answered status (Some asked)) wait random = if asked == 0 then with_jitter wait random else asked
 wait_after (Answered status None) wait random = with_jitter wait random
 wait_after NoAnswer wait random = with_jitter wait random
 

@@ -6,6 +6,7 @@
 
 mod backend;
 mod delivering;
+mod keeping;
 mod outcome;
 mod rule;
 mod sink;
@@ -13,6 +14,7 @@ mod spans;
 
 pub use backend::Backend;
 pub use delivering::deliver;
+pub use keeping::KeepingSink;
 pub use outcome::{Fate, Outcome};
 pub use rule::{Retry, Verdict};
 pub use sink::BatchSink;

@@ -93,12 +93,12 @@ fn with_jitter(wait: u64, random: u64) -> u64
     wait - random % (wait / 2 + 1)
 }
 
-/// How long is waited after an attempt: as the answer asks, else for this long, with jitter.
+/// How long is waited after an attempt: as the answer asks, where it asks for some time, else for this long, with jitter.
 fn wait_after(outcome: Outcome, wait: u64, random: u64) -> u64
     ensures { result ≡ wait_after outcome wait random }
 {
     match outcome {
-        Outcome::Answered(_, Some(asked)) => asked,
+        Outcome::Answered(_, Some(asked)) if asked > 0 => asked,
         _ => with_jitter(wait, random),
     }
 }

@@ -232,7 +232,8 @@ each_export_fault given =
     (both _ _ _ _ (filled (Option ConfigFault) (optional (integer_fault (pos 0) (pos 86400000))) (codes "retry_for_ms") export_defaults (integer (pos 300000)) given refl refl)
     (both _ _ _ _ (filled (Option ConfigFault) (optional (integer_fault (pos 0) (pos 3600000))) (codes "close_wait_ms") export_defaults (integer (pos 10000)) given refl refl)
     (both _ _ _ _ (filled (Option ConfigFault) (optional (integer_fault (pos 1) (pos 65536))) (codes "queue_batches") export_defaults (integer (pos 256)) given refl refl)
-    (both _ _ _ _ (ap (optional headers_fault) (unfilled (codes "headers") export_defaults given refl)) refl)))))))
+    (both _ _ _ _ (filled (Option ConfigFault) (optional truth_fault) (codes "lines") export_defaults (boolean false) given refl refl)
+    (both _ _ _ _ (ap (optional headers_fault) (unfilled (codes "headers") export_defaults given refl)) refl))))))))
 
 export_fault_of : (at : Option Data) → optional export_fault (inner_value export_defaults at) ≡ optional export_fault at
 export_fault_of None = refl
@@ -248,8 +249,9 @@ export_in_of given =
     let patience = filled ℕ (number_or 300000) (codes "retry_for_ms") export_defaults (integer (pos 300000)) given refl refl in
     let close = filled ℕ (number_or 10000) (codes "close_wait_ms") export_defaults (integer (pos 10000)) given refl refl in
     let batches = filled ℕ (number_or 256) (codes "queue_batches") export_defaults (integer (pos 256)) given refl refl in
+    let lines = filled Bool truth_of (codes "lines") export_defaults (boolean false) given refl refl in
     let headers = unfilled (codes "headers") export_defaults given refl in
-    rw (endpoint, timeout, initial, longest, patience, close, batches, headers) refl
+    rw (endpoint, timeout, initial, longest, patience, close, batches, lines, headers) refl
 
 export_of_it : (at : Option Data) → export_of (inner_value export_defaults at) ≡ export_of at
 export_of_it None = refl

@@ -107,10 +107,11 @@ partly_caches = refl
 partly_export : get_member (codes "export") (with_defaults partly)
     ≡ Some (table (member (codes "close_wait_ms") (integer (pos 10000))
     (member (codes "endpoint") (string (codes "http://a/b"))
+    (member (codes "lines") (boolean false)
     (member (codes "queue_batches") (integer (pos 256))
     (member (codes "retry_for_ms") (integer (pos 5))
     (member (codes "retry_initial_ms") (integer (pos 500))
     (member (codes "retry_max_ms") (integer (pos 30000))
-    (member (codes "timeout_ms") (integer (pos 10000)) no_members))))))))
+    (member (codes "timeout_ms") (integer (pos 10000)) no_members)))))))))
 unfolding with_defaults partly
 partly_export = refl

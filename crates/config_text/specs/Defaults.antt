@@ -60,4 +60,5 @@ export_defaults =
     ∷ counted (codes "retry_for_ms") 300000
     ∷ counted (codes "close_wait_ms") 10000
     ∷ counted (codes "queue_batches") 256
+    ∷ off (codes "lines")
     ∷ []

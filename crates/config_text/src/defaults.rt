@@ -61,5 +61,6 @@ pub fn export_settings() -> &'static [Default]
         Default::Number("retry_for_ms", 300_000),
         Default::Number("close_wait_ms", 10_000),
         Default::Number("queue_batches", 256),
+        Default::Off("lines"),
     ]
 }

@@ -331,16 +331,16 @@ nowhere_by_default = refl
 sent_by_default : Export
 sent_by_default = (config_of (member (codes "export") (table (member (codes "endpoint") (string (codes "http://h:1/p")) no_members)) no_members)).export
 
-waits_by_default : (sent_by_default.timeout ≡ 10000) × (sent_by_default.retry_initial ≡ 500) × (sent_by_default.retry_max ≡ 30000) × (sent_by_default.retry_for ≡ 300000) × (sent_by_default.close_wait ≡ 10000) × (sent_by_default.queue_batches ≡ 256) × (sent_by_default.headers ≡ [])
+waits_by_default : (sent_by_default.timeout ≡ 10000) × (sent_by_default.retry_initial ≡ 500) × (sent_by_default.retry_max ≡ 30000) × (sent_by_default.retry_for ≡ 300000) × (sent_by_default.close_wait ≡ 10000) × (sent_by_default.queue_batches ≡ 256) × (sent_by_default.lines ≡ false) × (sent_by_default.headers ≡ [])
 unfolding sent_by_default
-waits_by_default = (refl, refl, refl, refl, refl, refl, refl)
+waits_by_default = (refl, refl, refl, refl, refl, refl, refl, refl)
 
 numbers_of_export : Members
 numbers_of_export =
     member (codes "export") (table (member (codes "endpoint") (string (codes "http://h:1/p"))
     (member (codes "timeout_ms") (integer (pos 2)) (member (codes "retry_initial_ms") (integer (pos 3)) (member (codes "retry_max_ms") (integer (pos 5))
-    (member (codes "retry_for_ms") (integer (pos 7)) (member (codes "close_wait_ms") (integer (pos 11)) (member (codes "queue_batches") (integer (pos 13))
-    (member (codes "headers") (table (member (codes "Authorization") (string (codes "Bearer x")) (member (codes "X-Tenant") (string (codes "t1")) no_members))) no_members))))))))) no_members
+    (member (codes "retry_for_ms") (integer (pos 7)) (member (codes "close_wait_ms") (integer (pos 11)) (member (codes "queue_batches") (integer (pos 13)) (member (codes "lines") (boolean true)
+    (member (codes "headers") (table (member (codes "Authorization") (string (codes "Bearer x")) (member (codes "X-Tenant") (string (codes "t1")) no_members))) no_members)))))))))) no_members
 
 sent_so : (config_of numbers_of_export).export ≡ record {
   endpoint = codes "http://h:1/p";
@@ -350,6 +350,7 @@ sent_so : (config_of numbers_of_export).export ≡ record {
   retry_for = 7;
   close_wait = 11;
   queue_batches = 13;
+  lines = true;
   headers = record { name = codes "Authorization"; value = codes "Bearer x" } ∷ record { name = codes "X-Tenant"; value = codes "t1" } ∷ [];
 }
 unfolding numbers_of_export

@@ -171,7 +171,8 @@ has_export given e =
     let patience = neither (optional (integer_fault (pos 0) (pos 86400000)) (get_member (codes "retry_for_ms") given)) _ longest.1 in
     let close = neither (optional (integer_fault (pos 0) (pos 3600000)) (get_member (codes "close_wait_ms") given)) _ patience.1 in
     let batches = neither (optional (integer_fault (pos 1) (pos 65536)) (get_member (codes "queue_batches") given)) _ close.1 in
-    let headers = neither (optional headers_fault (get_member (codes "headers") given)) None batches.1 in
+    let lines = neither (optional truth_fault (get_member (codes "lines") given)) _ batches.1 in
+    let headers = neither (optional headers_fault (get_member (codes "headers") given)) None lines.1 in
     let found = endpoint (get_member (codes "endpoint") given) address.0 in record {
       endpoint = found.0;
       form = found.1;
@@ -181,6 +182,7 @@ has_export given e =
       retry_for = numbered 300000 0 86400000 (get_member (codes "retry_for_ms") given) patience.0;
       close_wait = numbered 10000 0 3600000 (get_member (codes "close_wait_ms") given) close.0;
       queue_batches = numbered 256 1 65536 (get_member (codes "queue_batches") given) batches.0;
+      lines = truth (codes "lines") given (get_member (codes "lines") given) refl lines.0;
       headers = header_fields given (get_member (codes "headers") given) refl headers.0;
     }
 

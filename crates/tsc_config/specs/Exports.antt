@@ -4,7 +4,7 @@ use Rattle.std.specs.Str.{bytes_eq}
 use Rattle.tsc_config.specs.PolicySettings.{Setting, required, optional}
 use Rattle.tsc_config.specs.declared.policy_settings.ValueKind.TheVariants as value_is
 
--- the settings of `export`: the address, times in milliseconds, how many batches wait, and fields of requests
+-- the settings of `export`: the address, times in milliseconds, how many batches wait, whether lines are printed too, and fields of requests
 abbrev pub export_settings : List Setting
 export_settings =
     required (codes "endpoint") value_is.Endpoint
@@ -14,6 +14,7 @@ export_settings =
     ∷ optional (codes "retry_for_ms") (value_is.Integer (pos 0) (pos 86400000))
     ∷ optional (codes "close_wait_ms") (value_is.Integer (pos 0) (pos 3600000))
     ∷ optional (codes "queue_batches") (value_is.Integer (pos 1) (pos 65536))
+    ∷ optional (codes "lines") value_is.Truth
     ∷ optional (codes "headers") value_is.Headers
     ∷ []
 

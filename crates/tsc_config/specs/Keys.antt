@@ -105,7 +105,7 @@ is_key table_is.Config key =
 is_key table_is.DecisionCache key = bytes_eq key (codes "sampled_cache_size") || bytes_eq key (codes "non_sampled_cache_size")
 is_key table_is.Export key =
     bytes_eq key (codes "endpoint") || bytes_eq key (codes "timeout_ms") || bytes_eq key (codes "retry_initial_ms") || bytes_eq key (codes "retry_max_ms") || bytes_eq key (codes "retry_for_ms")
-    || bytes_eq key (codes "close_wait_ms") || bytes_eq key (codes "queue_batches") || bytes_eq key (codes "headers")
+    || bytes_eq key (codes "close_wait_ms") || bytes_eq key (codes "queue_batches") || bytes_eq key (codes "lines") || bytes_eq key (codes "headers")
 is_key (table_is.Policy kind) key = bytes_eq key (codes "name") || bytes_eq key (codes "type") || has_settings kind && bytes_eq key (type_name kind)
 is_key (table_is.Settings kind) key = is_setting kind key
 is_key table_is.Allocation key = bytes_eq key (codes "policy") || bytes_eq key (codes "percent")

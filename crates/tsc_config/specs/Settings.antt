@@ -50,7 +50,7 @@ AreHeadersAt given key headers =
     ((get_member key given ≡ None) × (headers ≡ []))
     ⊎ ((fields : Members) × (get_member key given ≡ Some (table fields)) × AreFields fields headers)
 
--- the table of `export`: an address of this form, each number its default or a whole number within its bounds, and fields that may be sent
+-- the table of `export`: an address of this form, each number its default or a whole number within its bounds, whether lines are printed too, and fields that may be sent
 pub record HasExport (given : Members) (export : Export) : Type 0 where
   pub endpoint : get_member (codes "endpoint") given ≡ Some (string export.endpoint)
   pub form : is_endpoint export.endpoint ≡ true
@@ -60,6 +60,7 @@ pub record HasExport (given : Members) (export : Export) : Type 0 where
   pub retry_for : IsNumberAt given (codes "retry_for_ms") 300000 0 86400000 export.retry_for
   pub close_wait : IsNumberAt given (codes "close_wait_ms") 10000 0 3600000 export.close_wait
   pub queue_batches : IsNumberAt given (codes "queue_batches") 256 1 65536 export.queue_batches
+  pub lines : IsTruthAt given (codes "lines") export.lines
   pub headers : AreHeadersAt given (codes "headers") export.headers
 
 -- nothing is sent where there is no such table

@@ -333,6 +333,7 @@ export_in members = record {
   retry_for = number_or 300000 (get_member (codes "retry_for_ms") members);
   close_wait = number_or 10000 (get_member (codes "close_wait_ms") members);
   queue_batches = number_or 256 (get_member (codes "queue_batches") members);
+  lines = truth_of (get_member (codes "lines") members);
   headers = headers_of (get_member (codes "headers") members);
 }
 

@@ -14,7 +14,7 @@ use crate::keys::{member, unknown_fault};
 use crate::kinds::TableKind;
 use crate::policy_settings::{Setting, ValueKind};
 use crate::settings_faults::each_setting_fault;
-use crate::settings_values::text_of;
+use crate::settings_values::{text_of, truth_at};
 use otlp_types::{List, Text};
 use std::alloc::{AllocError, Global};
 use toml::{Table, Value};
@@ -36,6 +36,8 @@ pub struct Export {
     pub close_wait: u64,
     /// How many full batches wait for the backend, over all shards, from 1 to 65536.
     pub queue_batches: u64,
+    /// Whether the lines are printed too.
+    pub lines: bool,
     /// The fields that each request has beside its own, in the order of their names.
     pub headers: List<HeaderField>,
 }
@@ -52,6 +54,7 @@ pub fn export_settings() -> &'static [Setting]
         Setting::Optional("retry_for_ms", ValueKind::Integer(0, 86_400_000)),
         Setting::Optional("close_wait_ms", ValueKind::Integer(0, 3_600_000)),
         Setting::Optional("queue_batches", ValueKind::Integer(1, 65_536)),
+        Setting::Optional("lines", ValueKind::Truth),
         Setting::Optional("headers", ValueKind::Headers),
     ]
 }
@@ -147,6 +150,7 @@ fn defaults(alloc: Global) -> Result<Export, AllocError>
         retry_for: 300_000,
         close_wait: 10_000,
         queue_batches: 256,
+        lines: false,
         headers: List::new(alloc),
     })
 }
@@ -166,6 +170,7 @@ fn export_in(alloc: Global, settings: &Table) -> Result<Export, AllocError>
         retry_for: number_or(settings, "retry_for_ms", 300_000),
         close_wait: number_or(settings, "close_wait_ms", 10_000),
         queue_batches: number_or(settings, "queue_batches", 256),
+        lines: truth_at(settings, "lines"),
         headers: headers_at(alloc, settings)?,
     })
 }

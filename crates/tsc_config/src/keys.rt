@@ -89,6 +89,7 @@ pub fn is_key(kind: TableKind, key: &str) -> bool
                     | "retry_for_ms"
                     | "close_wait_ms"
                     | "queue_batches"
+                    | "lines"
                     | "headers"
             )
         }

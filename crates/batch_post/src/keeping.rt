@@ -1,0 +1,116 @@
+//! A sink that prints each line and then sends it.
+ghost use Rattle.std.specs.Prelude.{◌≡◌, ◌<◌, ◌≤◌, ◌-◌, ◌^◌, Option, List, ℕ, false, length, take};
+ghost use Rattle.std.specs.Io.KnownBytes.{Appends};
+ghost use Rattle.span_sink.specs.LineSinks.{up_state};
+ghost use Rattle.batch_post.specs.Keeping.{KeepsLine};
+
+use span_sink::{LineSink, Sink, SinkFault};
+use std::marker::Model;
+
+/// A sink that prints each line, and sends it once it is printed whole. What it takes is what is printed. Once a write has failed, of
+/// either, it prints and sends nothing more.
+#[derive(Drop)]
+pub struct KeepingSink<L: Sink, S: Sink> {
+    lines: L,
+    sent: LineSink<S>,
+    failures: u64,
+    is_down: bool,
+}
+
+impl<L: Sink, S: Sink> Model for KeepingSink<L, S> {
+    ghost use Rattle.std.specs.Prelude.{◌≡◌, ◌<◌, ◌-◌, ◌^◌, false};
+    ghost use Rattle.batch_post.specs.Keeping.{KeepingState};
+
+    ghost Value = { KeepingState };
+
+    ghost view = { λ s. record { printed = L.taken s.lines; sent = s.sent; failures = s.failures; is_down = s.is_down } };
+
+    ghost invariant = { λ s. s.is_down ≡ false → (L.failures s.lines < 2 ^ 64 - 1) × (s.sent.is_down ≡ false) };
+}
+
+impl<L: Sink, S: Sink> KeepingSink<L, S> {
+    /// A sink that prints to the one and sends to the other.
+    pub fn new(lines: L, sent: S) -> Self
+        requires lines { L.failures lines < 2 ^ 64 - 1 }
+        requires sent { S.failures sent < 2 ^ 64 - 1 }
+        ensures { result ≡ record { printed = L.taken lines; sent = up_state (S.taken sent) (S.failures sent); failures = 0; is_down = false } }
+    {
+        KeepingSink {
+            lines,
+            sent: LineSink::new(sent),
+            failures: 0,
+            is_down: false,
+        }
+    }
+
+    /// Whether a write has failed.
+    pub fn is_down(&self) -> bool
+        ensures { result ≡ self.now.is_down }
+    {
+        self.is_down
+    }
+
+    /// Gives both sinks back.
+    pub fn end(self) -> (L, LineSink<S>)
+        ensures printed { L.taken result.0 ≡ self.printed }
+        ensures sent { result.1 ≡ self.sent }
+    {
+        let KeepingSink {
+            lines,
+            sent,
+            failures: _,
+            is_down: _,
+        } = self;
+        (lines, sent)
+    }
+
+    /// Prints a line and then sends it, and answers how many of its bytes were printed.
+    pub fn keep(&mut self, line: &[u8]) -> usize
+        requires up { self.old.is_down ≡ false }
+        ensures within { result ≤ length line.now }
+        ensures keeps { KeepsLine self.old line.now result self.new }
+    {
+        let printed = print(&mut self.lines, line);
+        self.is_down = printed < line.len() || self.sent.hand(line).is_err();
+        printed
+    }
+}
+
+impl<L: Sink, S: Sink> Sink for KeepingSink<L, S> {
+    ghost taken = { λ s. s.printed };
+
+    ghost failures = { λ s. s.failures };
+
+    fn write(&mut self, bytes: &[u8]) -> Result<usize, SinkFault> {
+        if bytes.is_empty() {
+            return Ok(0);
+        }
+        let printed = if self.is_down { 0 } else { self.keep(bytes) };
+        if printed == 0 {
+            self.failures += 1;
+            return Err(SinkFault::Failed);
+        }
+        Ok(printed)
+    }
+
+    fn failures(&self) -> u64 {
+        self.failures
+    }
+}
+
+/// Writes until all of the text is taken, or a write fails, and answers how many bytes were taken.
+fn print<L: Sink>(lines: &mut L, text: &[u8]) -> usize
+    requires { L.failures lines.old < 2 ^ 64 - 1 }
+    ensures within { result ≤ length text.now }
+    ensures taken { Appends (L.taken lines.old) (L.taken lines.new) (take result text.now) }
+    ensures whole { result ≡ length text.now → L.failures lines.new ≡ L.failures lines.old }
+{
+    let mut rest = text;
+    while !rest.is_empty() {
+        match lines.write(rest) {
+            Ok(count) => rest = &rest[count..],
+            Err(_) => return text.len() - rest.len(),
+        }
+    }
+    text.len()
+}
