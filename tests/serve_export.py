@@ -4,6 +4,7 @@ The backend takes one connection after the other; each request takes the next st
 """
 
 import json
+import os
 import socket
 import struct
 import threading
@@ -147,6 +148,47 @@ def sends_headers(start):
         want("the head", head, f"{own}Authorization: Bearer a.b\r\nX-Scope-OrgID: tenant 1\r\nx-empty: \r\ncontent-length: {len(body)}")
 
 
+def prints_too(start):
+    """With `lines` each line is printed as well, once and in order, byte for byte as it is sent, also one that is tried again or given up."""
+    backend = Backend([[OK], [answer(503)], [OK], [answer(400)], 10, [OK]])
+    collector = start(FAST + ALL + backend.settings() + "lines = true\n")
+    for number, requests in enumerate((1, 3, 4, 5)):
+        send(collector, number)
+        until("the requests", lambda n=requests: len(backend.requests) >= n)
+    lines, numbers = collector.close()
+    want("the report", numbers, [4, 3, 0, 0, 0, 0, 0, 0, 1])
+    want("the lines", [ids_in(line) for line in lines], [[f"{n + 1:016x}"] for n in range(4)])
+    want("what was sent", [body.decode() for _, body in backend.requests], [f"{lines[n]}\n" for n in (0, 1, 1, 2, 3)])
+
+
+def printing_ends(start):
+    """With `lines` a line that can't be printed isn't sent, and nothing is behind it: its spans are counted under 7, and the status is 1."""
+    backend, admin = Backend(), free_port()
+    reading, writing = os.pipe()
+    collector = start(FAST + ALL + f'admin = "127.0.0.1:{admin}"\n' + backend.settings() + "lines = true\n", output=writing)
+    os.close(writing)
+    send(collector, 0)
+    until("the request", lambda: backend.requests)
+    os.close(reading)
+    for number in (1, 2):
+        send(collector, number)
+        until("the count", lambda n=number: scrape(admin)['tsc_spans_dropped_total{reason="exporter_down"}'] == n)
+    want("the answer to /close", asked(admin, post(b"", "/close"))[::2], (200, "{}"))
+    collector.end(1)
+    want("what was sent", [ids_in(body) for _, body in backend.requests], [[f"{1:016x}"]])
+
+
+def no_time_is_no_wish(start):
+    """`Retry-After: 0` doesn't make the collector ask again at once: it waits as for an answer that says nothing."""
+    backend = Backend([[answer(503, "Retry-After: 0\r\n")]] * 1000)
+    waits = "timeout_ms = 500\nretry_initial_ms = 100\nretry_max_ms = 100\nretry_for_ms = 1000\n"
+    collector = start(FAST + ALL + backend.settings(waits))
+    send(collector, 0)
+    want("the report", collector.close()[1], [1, 0, 0, 0, 0, 0, 0, 0, 1])
+    if len(backend.requests) > 21:
+        raise Failure(f"{len(backend.requests)} requests in a second")
+
+
 def tries_again(start):
     """What may be tried again is, on a connection that is made again where it breaks; each line arrives once, in order."""
     chunked = [b"HTTP/1.1 200 OK\r\nTransfer-Encoding: chunked\r\n\r\n", b"2\r\n{", b"}\r\n0", b"\r\n\r\n"]
@@ -276,4 +318,4 @@ def send_until_taken(collector, firsts):
             time.sleep(0.02)
 
 
-CHECKS = [delivers, sends_headers, tries_again, no_answers, gives_up, rejected_spans, waits_for_a_backend, late_answer, patience_ends, under_load]
+CHECKS = [delivers, sends_headers, prints_too, printing_ends, no_time_is_no_wish, tries_again, no_answers, gives_up, rejected_spans, waits_for_a_backend, late_answer, patience_ends, under_load]

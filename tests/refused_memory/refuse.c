@@ -1,5 +1,6 @@
 /* Loaded ahead of the C library, this refuses one request for memory of a program: the one whose number, counted from 1, REFUSED_ALLOCATION
    holds. It says so on standard error. With COUNT_ALLOCATIONS set it refuses none, and says at the end how many there were.
+   With SENDER_ALONE set it counts and refuses only those of threads that have begun to connect to somewhere.
    Counted are all ways by which a program asks the C library: malloc, calloc, realloc, reallocarray, aligned_alloc, posix_memalign, memalign,
    valloc and pvalloc, and mapping memory that belongs to no file. */
 #define _GNU_SOURCE
@@ -10,6 +11,7 @@
 #include <stdlib.h>
 #include <string.h>
 #include <sys/mman.h>
+#include <sys/socket.h>
 #include <sys/syscall.h>
 #include <unistd.h>
 
@@ -18,10 +20,14 @@ static unsigned long refused;
 /* Requests so far. */
 static unsigned long made;
 static int is_on;
+/* Only those of senders count, and whether this thread is one. */
+static int is_for_senders;
+static __thread int is_sender;
 
 __attribute__((constructor)) static void start(void) {
     const char *number = getenv("REFUSED_ALLOCATION");
     refused = number ? strtoul(number, NULL, 10) : 0;
+    is_for_senders = getenv("SENDER_ALONE") != NULL;
     is_on = 1;
 }
 
@@ -45,7 +51,7 @@ void _exit(int status) {
 
 static int is_refused(void) {
     static const char said[] = "allocation refused\n";
-    if (!is_on || __sync_add_and_fetch(&made, 1) != refused)
+    if (!is_on || (is_for_senders && !is_sender) || __sync_add_and_fetch(&made, 1) != refused)
         return 0;
     (void)!write(2, said, sizeof said - 1);
     errno = ENOMEM;
@@ -57,6 +63,12 @@ static int is_refused(void) {
     static gives (*next)(__VA_ARGS__); \
     if (!next) \
         next = (gives (*)(__VA_ARGS__))dlsym(RTLD_NEXT, name)
+
+int connect(int socket, const struct sockaddr *address, socklen_t length) {
+    NEXT("connect", int, int, const struct sockaddr *, socklen_t);
+    is_sender = 1;
+    return next(socket, address, length);
+}
 
 void *malloc(size_t size) {
     NEXT("malloc", void *, size_t);

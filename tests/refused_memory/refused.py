@@ -1,7 +1,7 @@
 #!/usr/bin/env python3
 """Runs a program or a test once for each request for memory that it makes, and refuses that request (refuse.c; it needs a C compiler).
 
-usage: refused.py [--crates FOLDER] [--sample N] exchanges | readings | replays | CRATE[/WORD] ..
+usage: refused.py [--crates FOLDER] [--sample N] exchanges | readings | replays | sends | CRATE[/WORD] ..
 
 - exchanges: those of `http_table` that say `starves`. Each run must find that whole answers were written and that the counts are those of the answered
   requests, or end with status 1 and print nothing, where the table itself was refused its memory.
@@ -10,6 +10,9 @@ usage: refused.py [--crates FOLDER] [--sample N] exchanges | readings | replays 
 - replays: the program, on a script of two requests of one connection. A request for which memory is refused is answered 503 and takes no number, so
   that the other one is answered 200 and its span is handed over, or counted for want of memory; each span that was received is in one of the other
   counts. Or the program ends with status 5, or 3 and fault 8, before anything was read.
+- sends: the program with `[export]`, over four lines of which one is tried twice, one is cut off and one is given up; refused are the requests of the thread
+  that sends, behind its first connection. Each span is counted, and those that are counted as handed over are what the backend took; or the program ends
+  with status 1 and prints nothing, where the spans of a line that was given up couldn't be counted for want of memory.
 - CRATE: its tests, or those with WORD in their name. Each must answer as ever or end by the refusal.
 
 --sample N refuses N requests, spread evenly, in place of each. The programs must be built: rt run in http_table, reading_table and collector_main, rt test in CRATE;
@@ -18,17 +21,22 @@ import argparse
 import os
 import re
 import subprocess
+import sys
 import tempfile
+import time
 from pathlib import Path
 
 HERE = Path(__file__).resolve().parent
+sys.path.insert(0, str(HERE.parent))
+import collector
+import serve_export
 
 
 class Runs:
     """Runs a command with one request for memory refused, and counts what passed and what failed."""
 
-    def __init__(self, library, sample):
-        self.library, self.sample, self.passed, self.failed = library, sample, 0, 0
+    def __init__(self, work, sample):
+        self.work, self.library, self.sample, self.passed, self.failed = work, f"{work}/refuse.so", sample, 0, 0
         self.given = ""  # on standard input
 
     def run(self, words, folder, **more):
@@ -93,6 +101,50 @@ def replays(runs, crates):
     runs.given = ""
 
 
+def send_lines(runs, program, **more):
+    """A run of four lines of a span each. Returns the status, what was printed, what was said on standard error, and how many spans the backend took."""
+    ok = [serve_export.OK]
+    backend = serve_export.Backend([ok, [serve_export.answer(503)], ok, 10, ok, [serve_export.answer(400)]])
+    os.environ.update(LD_PRELOAD=runs.library, SENDER_ALONE="1", **more)
+    with open(f"{runs.work}/printed", "w+", encoding="utf-8") as printed:
+        try:
+            ran = collector.Collector(program, serve_export.FAST + collector.ALL + backend.settings(), output=printed)
+        finally:
+            for name in ("LD_PRELOAD", "SENDER_ALONE", *more):
+                del os.environ[name]
+        try:
+            for number, requests in enumerate((1, 3, 4, 5)):
+                serve_export.send(ran, number)
+                ended = time.time() + 0.5
+                while len(backend.requests) < requests and time.time() < ended:
+                    time.sleep(0.005)
+            ran.ask(collector.post(b"", "/close"))
+            status = ran.process.wait(timeout=60)
+            printed.seek(0)
+            return status, printed.read(), ran.process.stderr.read().decode(), len({it for body in backend.taken for it in serve_export.ids_in(body)})
+        finally:
+            ran.stop()
+            backend.listener.close()
+
+
+def sends(runs, crates):
+    program = f"{crates}/collector_main/out/collector_main"
+    count = int(re.findall(r"(?m)^allocations (\d+)$", send_lines(runs, program, COUNT_ALLOCATIONS="1")[2])[-1])
+    refused = 0
+    for number in range(1, count + 1) if not runs.sample else sorted({1 + count * at // runs.sample for at in range(runs.sample)}):
+        status, printed, said, taken = send_lines(runs, program, REFUSED_ALLOCATION=str(number))
+        refused += "allocation refused\n" in said
+        report = [int(it) for it in re.findall(r"(?m)^(?:received|handed|dropped \d) (\d+)$", printed)]
+        is_counted = status == 0 and len(report) == 9 and report[0] == 4 == sum(report[1:]) and report[1] == taken
+        good = is_counted or (status, printed) == (1, "")
+        runs.passed, runs.failed = runs.passed + good, runs.failed + (not good)
+        if not good:
+            print(f"sends, request {number}: status {status}, {taken} taken: {(printed + said)[-200:]!r}")
+    if not refused:
+        runs.failed += 1
+        print("sends: no request was refused")
+
+
 def tests(runs, crates, named):
     crate, _, word = named.partition("/")
     program = f"{crates}/{crate}/out/{crate}_tests"
@@ -112,9 +164,9 @@ def main():
     crates = os.path.abspath(words.crates)
     with tempfile.TemporaryDirectory() as work:
         subprocess.run(["cc", "-shared", "-fPIC", "-O1", "-o", f"{work}/refuse.so", HERE / "refuse.c", "-ldl"], check=True)
-        runs = Runs(f"{work}/refuse.so", words.sample)
+        runs = Runs(work, words.sample)
         for name in words.names:
-            {"exchanges": exchanges, "readings": readings, "replays": replays}.get(name, lambda *given: tests(*given, name))(runs, crates)
+            {"exchanges": exchanges, "readings": readings, "replays": replays, "sends": sends}.get(name, lambda *given: tests(*given, name))(runs, crates)
     print(f"{runs.passed} passed, {runs.failed} failed")
     return 1 if runs.failed or not runs.passed else 0
 

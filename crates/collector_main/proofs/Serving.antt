@@ -9,8 +9,9 @@ use Rattle.pipeline.specs.declared.fault.RunFault.TheVariants.{NoMemory, BookFul
 use Rattle.tsc_config.specs.declared.config.Config.{Config}
 use Rattle.collector_main.specs.Configuration.{IsConfigOf}
 use Rattle.collector_main.specs.Outcomes.{served_to}
-use Rattle.collector_main.specs.Ending.{Course, NothingDone, IsExportedTo, ExportsTo, RunsTo, Serves, ServedTo, ExportedTo, prints}
+use Rattle.collector_main.specs.Ending.{Course, IsExportedTo, SendsTo, RunsTo, Serves, ServedTo, ExportedTo, prints}
 use Rattle.collector_main.specs.declared.program.Outcome.{Outcome}
+use Rattle.collector_main.specs.declared.program.Outcome.TheVariants.{CannotListen}
 
 served : (course : Course) (config : Config) (failures : ℕ) (answer : Result Report RunFault) → IsConfigOf course.file config → prints config ≡ true → course.unread_after ≡ course.unread
     → SinkAnswers course.taken 0 course.taken_after failures answer → CoreRunTells config course.taken 0 course.taken_after failures answer → ServedTo course (served_to answer)
@@ -24,45 +25,46 @@ Serves-ran course config failures (Err NoMemory) read printed unread sink ran = 
 Serves-ran course config failures (Err BookFull) read printed unread sink ran = inl (served course config failures (Err BookFull) read printed unread sink ran)
 Serves-ran course config failures (Err (SinkDown report)) read printed unread sink ran = inl (served course config failures (Err (SinkDown report)) read printed unread sink ran)
 
--- what a run by a configuration answered whose lines were sent
-abbrev Sent : Config → Result Report RunFault → Outcome → Type 0
-Sent config answer outcome =
-    (sink : Option (List ℕ)) × (sink_after : Option (List ℕ)) × (failures : ℕ) × (given_up : ℕ)
-    × SinkAnswers sink 0 sink_after failures answer × CoreRunTells config sink 0 sink_after failures answer × IsExportedTo answer given_up outcome
+-- where a run whose lines were sent came to
+exported : (course : Course) (config : Config) (outcome : Outcome) → IsConfigOf course.file config → prints config ≡ false → course.unread_after ≡ course.unread
+    → SendsTo config course.taken course.taken_after outcome → ExportedTo course outcome
+exported course config outcome read sent unread to = record { config = config; is_read = read; sent = sent; sends = to; unread = unread }
 
-exports : (config : Config) (answer : Result Report RunFault) (outcome : Outcome) → Sent config answer outcome → ExportsTo config outcome
-exports config answer outcome h = inr (h.0, h.1, h.2, answer, h.3, h.4, h.5, h.6)
+Serves-sent : (course : Course) (config : Config) (answer : Result Report RunFault) (given_up : ℕ) (outcome : Outcome) → IsConfigOf course.file config → prints config ≡ false
+    → course.unread_after ≡ course.unread → SendsTo config course.taken course.taken_after outcome → IsExportedTo answer given_up outcome → Serves course outcome
+Serves-sent course config (Ok report) given_up outcome read sent unread to (inl told) =
+    subst (λ o. Serves course o) (sym told.2) (inr (subst (λ o. ExportedTo course o) told.2 (exported course config outcome read sent unread to)))
+Serves-sent course config (Ok report) given_up outcome read sent unread to (inr full) =
+    subst (λ o. Serves course o) (sym full.1) (inr (subst (λ o. ExportedTo course o) full.1 (exported course config outcome read sent unread to)))
+Serves-sent course config (Err NoMemory) given_up outcome read sent unread to is =
+    subst (λ o. Serves course o) (sym is) (inr (inr (subst (λ o. ExportedTo course o) is (exported course config outcome read sent unread to))))
+Serves-sent course config (Err BookFull) given_up outcome read sent unread to is =
+    subst (λ o. Serves course o) (sym is) (inr (subst (λ o. ExportedTo course o) is (exported course config outcome read sent unread to)))
+Serves-sent course config (Err (SinkDown report)) given_up outcome read sent unread to is =
+    subst (λ o. Serves course o) (sym is) (inr (subst (λ o. ExportedTo course o) is (exported course config outcome read sent unread to)))
 
-exported : (course : Course) (config : Config) (outcome : Outcome) → IsConfigOf course.file config → prints config ≡ false → NothingDone course → ExportsTo config outcome → ExportedTo course outcome
-exported course config outcome read sent nothing to = record { config = config; is_read = read; sent = sent; exports = to; nothing = nothing }
+-- nothing was done for want of memory, or since it couldn't be listened
+pub sends-starved : (config : Config) (lines : Bool) (taken taken_after : Option (List ℕ)) → config.export.lines ≡ lines → taken_after ≡ taken → SendsTo config taken taken_after (served_to (Err NoMemory))
+sends-starved config false taken taken_after is same = inl (is, same, inr (None, None, 0, Err NoMemory, 0, (refl, refl), tt, refl))
+sends-starved config true taken taken_after is same = inr (is, inr (0, Err NoMemory, 0, (same, refl), tt, refl))
 
-Serves-sent : (course : Course) (config : Config) (answer : Result Report RunFault) (outcome : Outcome) → IsConfigOf course.file config → prints config ≡ false → NothingDone course → Sent config answer outcome → Serves course outcome
-Serves-sent course config (Ok report) outcome read sent nothing h = ends h.6
-  where
-    to : ExportedTo course outcome
-    to = exported course config outcome read sent nothing (exports config (Ok report) outcome h)
-
-    ends : IsExportedTo (Ok report) h.3 outcome → Serves course outcome
-    ends (inl told) = subst (λ o. Serves course o) (sym told.2) (inr (subst (λ o. ExportedTo course o) told.2 to))
-    ends (inr full) = subst (λ o. Serves course o) (sym full.1) (inr (subst (λ o. ExportedTo course o) full.1 to))
-Serves-sent course config (Err NoMemory) outcome read sent nothing h =
-    subst (λ o. Serves course o) (sym h.6) (inr (inr (subst (λ o. ExportedTo course o) h.6 (exported course config outcome read sent nothing (exports config (Err NoMemory) outcome h)))))
-Serves-sent course config (Err BookFull) outcome read sent nothing h =
-    subst (λ o. Serves course o) (sym h.6) (inr (subst (λ o. ExportedTo course o) h.6 (exported course config outcome read sent nothing (exports config (Err BookFull) outcome h))))
-Serves-sent course config (Err (SinkDown report)) outcome read sent nothing h =
-    subst (λ o. Serves course o) (sym h.6) (inr (subst (λ o. ExportedTo course o) h.6 (exported course config outcome read sent nothing (exports config (Err (SinkDown report)) outcome h))))
+pub sends-unheard : (config : Config) (lines : Bool) (taken : Option (List ℕ)) → config.export.lines ≡ lines → SendsTo config taken taken CannotListen
+sends-unheard config false taken is = inl (is, refl, inl refl)
+sends-unheard config true taken is = inr (is, inl (refl, refl))
 
 -- there was no memory before the run
 pub Serves-starved : (course : Course) (config : Config) (is : Bool) → prints config ≡ is → IsConfigOf course.file config → course.unread_after ≡ course.unread → course.taken_after ≡ course.taken
     → Serves course (served_to (Err NoMemory))
 Serves-starved course config true printed read unread same = Serves-ran course config 0 (Err NoMemory) read printed unread (same, refl) tt
 Serves-starved course config false sent read unread same =
-    Serves-sent course config (Err NoMemory) (served_to (Err NoMemory)) read sent (unread, same) (None, None, 0, 0, (refl, refl), tt, refl)
+    Serves-sent course config (Err NoMemory) 0 (served_to (Err NoMemory)) read sent unread (sends-starved config config.export.lines course.taken course.taken_after refl same) refl
 
 -- where a run by a configuration came to
 pub Serves-runs : (course : Course) (config : Config) (outcome : Outcome) → IsConfigOf course.file config → course.unread_after ≡ course.unread
     → RunsTo config course.taken course.taken_after outcome → Serves course outcome
 Serves-runs course config outcome read unread (inl (printed, inl x)) = subst (λ o. Serves course o) (sym x.1) (config, read, (unread, x.0))
 Serves-runs course config outcome read unread (inl (printed, inr x)) = subst (λ o. Serves course o) (sym x.4) (Serves-ran course config x.0 x.1 read printed unread x.2 x.3)
-Serves-runs course config outcome read unread (inr (sent, same, inl x)) = subst (λ o. Serves course o) (sym x) (config, read, (unread, same))
-Serves-runs course config outcome read unread (inr (sent, same, inr x)) = Serves-sent course config x.3 outcome read sent (unread, same) (x.0, x.1, x.2, x.4, x.5, x.6, x.7)
+Serves-runs course config outcome read unread (inr (sent, inl (off, same, inl x))) = subst (λ o. Serves course o) (sym x) (config, read, (unread, same))
+Serves-runs course config outcome read unread (inr (sent, inl (off, same, inr x))) = Serves-sent course config x.3 x.4 outcome read sent unread (inl (off, same, inr x)) x.7
+Serves-runs course config outcome read unread (inr (sent, inr (on, inl x))) = subst (λ o. Serves course o) (sym x.1) (config, read, (unread, x.0))
+Serves-runs course config outcome read unread (inr (sent, inr (on, inr x))) = Serves-sent course config x.1 x.2 outcome read sent unread (inr (on, inr x)) x.5

@@ -1,5 +1,5 @@
 -- The last text and the exit status, and how each outcome arises.
-use Rattle.std.specs.Prelude.{◌≡◌, ◌⊎◌, ◌++◌, ◌<◌, ℕ, Bool, true, false, not, ◌==◌, List, [], ◌∷◌, map, length, slice_index, Option, Some, None, Result, Ok, Err, codes, decimal, string_bytes, if◌then◌else◌}
+use Rattle.std.specs.Prelude.{◌≡◌, ◌⊎◌, ◌++◌, ◌<◌, ◌^◌, ℕ, Bool, true, false, not, ◌==◌, List, [], ◌∷◌, map, length, slice_index, Option, Some, None, Result, Ok, Err, codes, decimal, string_bytes, if◌then◌else◌}
 use Rattle.std.specs.List.{concat}
 use Rattle.std.specs.Io.KnownBytes.{Appends}
 use Rattle.std.specs.Str.{bytes_eq}
@@ -193,6 +193,11 @@ pub record ServedTo (course : Course) (outcome : Outcome) : Type 0 where
   pub unread : course.unread_after ≡ course.unread
   pub outcome_is : outcome ≡ served_to answer
 
+-- the number of spans, where it can be counted; else more than can be
+abbrev pub spans_of : Option ℕ → ℕ
+spans_of (Some spans) = spans
+spans_of None = 2 ^ 64
+
 -- how the program ends after a run whose lines were sent to a backend, of which it gave up so many spans: they are counted as given up, and not as handed over
 abbrev pub IsExportedTo : Result Report ServeFault → (given_up : ℕ) → Outcome → Type 0
 IsExportedTo (Ok report) given_up outcome =
@@ -206,6 +211,18 @@ ExportsTo config outcome =
     ⊎ ((sink : Option (List ℕ)) × (sink_after : Option (List ℕ)) × (failures : ℕ) × (answer : Result Report ServeFault) × (given_up : ℕ)
     × SinkAnswers sink 0 sink_after failures answer × CoreRunTells config sink 0 sink_after failures answer × IsExportedTo answer given_up outcome)
 
+-- by a configuration requests were taken, and each line was printed before it was sent to a backend; or it couldn't be listened, or there was no memory, and nothing was done
+abbrev pub KeepsTo : Config → (taken taken_after : Option (List ℕ)) → Outcome → Type 0
+KeepsTo config taken taken_after outcome =
+    ((taken_after ≡ taken) × (outcome ≡ CannotListen))
+    ⊎ ((failures : ℕ) × (answer : Result Report ServeFault) × (given_up : ℕ)
+    × SinkAnswers taken 0 taken_after failures answer × CoreRunTells config taken 0 taken_after failures answer × IsExportedTo answer given_up outcome)
+
+-- the lines were sent, and printed too where the configuration says so; else nothing was printed
+abbrev pub SendsTo : Config → (taken taken_after : Option (List ℕ)) → Outcome → Type 0
+SendsTo config taken taken_after outcome =
+    ((config.export.lines ≡ false) × (taken_after ≡ taken) × ExportsTo config outcome) ⊎ ((config.export.lines ≡ true) × KeepsTo config taken taken_after outcome)
+
 -- by a configuration requests were taken, and the run had an answer of this outcome; or it couldn't be listened, and nothing was done
 abbrev pub PrintsTo : Config → (taken taken_after : Option (List ℕ)) → Outcome → Type 0
 PrintsTo config taken taken_after outcome =
@@ -213,18 +230,18 @@ PrintsTo config taken taken_after outcome =
     ⊎ ((failures : ℕ) × (answer : Result Report ServeFault) × SinkAnswers taken 0 taken_after failures answer × CoreRunTells config taken 0 taken_after failures answer
     × (outcome ≡ served_to answer))
 
--- the lines were printed where the configuration says nowhere to send them; else they were sent, and nothing was printed
+-- the lines were printed where the configuration says nowhere to send them; else they were sent
 abbrev pub RunsTo : Config → (taken taken_after : Option (List ℕ)) → Outcome → Type 0
 RunsTo config taken taken_after outcome =
-    ((prints config ≡ true) × PrintsTo config taken taken_after outcome) ⊎ ((prints config ≡ false) × (taken_after ≡ taken) × ExportsTo config outcome)
+    ((prints config ≡ true) × PrintsTo config taken taken_after outcome) ⊎ ((prints config ≡ false) × SendsTo config taken taken_after outcome)
 
--- a configuration was read that says where to send lines to, and the run by it came to this outcome; nothing was read of a script, and nothing printed
+-- a configuration was read that says where to send lines to, and the run by it came to this outcome; nothing was read of a script
 pub record ExportedTo (course : Course) (outcome : Outcome) : Type 0 where
   pub config : Config
   pub is_read : IsConfigOf course.file config
   pub sent : prints config ≡ false
-  pub exports : ExportsTo config outcome
-  pub nothing : NothingDone course
+  pub sends : SendsTo config course.taken course.taken_after outcome
+  pub unread : course.unread_after ≡ course.unread
 
 -- a run by a configuration came to this outcome
 abbrev pub RanOn : Course → Outcome → Type 0

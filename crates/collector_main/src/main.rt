@@ -11,6 +11,7 @@ mod configuration;
 mod opening;
 mod program;
 mod running;
+mod sending;
 mod validating;
 
 use crate::program::{program, without_memory};

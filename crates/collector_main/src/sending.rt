@@ -1,0 +1,216 @@
+//! The run of a collector whose lines are sent to a backend.
+ghost use Rattle.std.specs.Prelude.{◌≡◌, ◌<◌, ◌-◌, ◌^◌, vec_len};
+ghost use Rattle.tsc_config.specs.Values.{InRange};
+ghost use Rattle.pipeline.specs.Outcome.{SinkAnswers};
+ghost use Rattle.pipeline.specs.Promise.{CoreRunTells};
+ghost use Rattle.collector_main.specs.Ending.{SendsTo, ExportsTo, KeepsTo, IsExportedTo, spans_of};
+
+use crate::program::Outcome;
+use crate::running::served_to;
+use batch_post::{BatchSink, KeepingSink, Retry};
+use collector_serve::{
+    Charge, ExportWatch, LineSpans, StoppingSink, WallClock, drivers, request_fields, serve_on,
+    with_export_room,
+};
+use drop_ledger::Report;
+use export_report::moved;
+use lane_turns::Driver;
+use lane_worker::ByTurns;
+use otlp_types::TryClone;
+use pipeline::RunFault;
+use post_http::endpoint_of;
+use post_socket::{Settings, SocketBackend};
+use span_sink::{Sink, WriteSink};
+use std::alloc::Global;
+use std::io::{ErrorKind, Write};
+use std::net::{Net, TcpListener, TcpStream};
+use std::random::RandomSource;
+use std::sync::Wait;
+use std::thread::Threads;
+use std::time::Clock;
+use tsc_config::Config;
+
+/// Takes requests on a listener by a configuration, and sends the lines to a backend; it prints them too, where the configuration says so.
+pub fn send_with<
+    's,
+    T: Net<Listener = TcpListener, Stream = TcpStream>
+        + Threads
+        + Wait
+        + Clock
+        + RandomSource
+        + Sync,
+    W: Write + Drop,
+>(
+    rt: &T,
+    alloc: Global,
+    config: Config,
+    listener: &'s TcpListener,
+    shared: &'s Charge,
+    writer: W,
+) -> (W, Outcome)
+    requires { InRange config }
+    ensures { SendsTo config (W.contents writer) (W.contents result.0) result.1 }
+{
+    let drivers = match drivers(rt, alloc, &config, listener, &shared.loads, &shared.stop) {
+        Ok(drivers) => drivers,
+        Err(error) if error.kind() == ErrorKind::OutOfMemory => return (writer, Outcome::NoMemory),
+        Err(_) => return (writer, Outcome::CannotListen),
+    };
+    let Ok(address) = config.export.endpoint.try_clone(alloc) else {
+        return (writer, Outcome::NoMemory);
+    };
+    let Ok(headers) = config.export.headers.try_clone(alloc) else {
+        return (writer, Outcome::NoMemory);
+    };
+    let Some(endpoint) = endpoint_of(address.as_str()) else {
+        return (writer, Outcome::CannotListen);
+    };
+    let Ok(fields) = request_fields(alloc, endpoint.authority, headers.as_slice()) else {
+        return (writer, Outcome::NoMemory);
+    };
+    let settings = Settings {
+        authority: endpoint.authority,
+        path: endpoint.path,
+        fields: &fields,
+        timeout: config.export.timeout,
+        close_wait: config.export.close_wait,
+    };
+    if config.export.lines {
+        keep_on(rt, alloc, config, drivers, settings, shared, writer)
+    } else {
+        let outcome = export_on(rt, alloc, config, drivers, settings, shared);
+        (writer, outcome)
+    }
+}
+
+/// Takes requests by a configuration, and sends the lines to a backend with these settings.
+fn export_on<
+    's,
+    't,
+    D: Driver + Send + Drop,
+    T: Net<Listener = TcpListener, Stream = TcpStream>
+        + Threads
+        + Wait
+        + Clock
+        + RandomSource
+        + Sync,
+>(
+    rt: &T,
+    alloc: Global,
+    config: Config,
+    drivers: Vec<ByTurns<D>>,
+    settings: Settings<'t>,
+    shared: &'s Charge,
+) -> Outcome
+    requires ranges { InRange config }
+    requires drivers { vec_len drivers ≡ config.lanes }
+    ensures { ExportsTo config result }
+{
+    let watch = ExportWatch::new(&shared.stop, &shared.board);
+    let backend = SocketBackend::new(rt, alloc, settings, &watch);
+    let spans = LineSpans::new(alloc, &shared.board);
+    let batches = BatchSink::new(rt, retry_by(&config), backend, spans);
+    let (batches, answer) = serve_through(rt, alloc, config, drivers, batches, shared);
+    exported_to(answer, Some(batches.given_up()))
+}
+
+/// Takes requests by a configuration, prints the lines, and sends them to a backend with these settings.
+fn keep_on<
+    's,
+    't,
+    D: Driver + Send + Drop,
+    T: Net<Listener = TcpListener, Stream = TcpStream>
+        + Threads
+        + Wait
+        + Clock
+        + RandomSource
+        + Sync,
+    W: Write + Drop,
+>(
+    rt: &T,
+    alloc: Global,
+    config: Config,
+    drivers: Vec<ByTurns<D>>,
+    settings: Settings<'t>,
+    shared: &'s Charge,
+    writer: W,
+) -> (W, Outcome)
+    requires ranges { InRange config }
+    requires drivers { vec_len drivers ≡ config.lanes }
+    ensures { KeepsTo config (W.contents writer) (W.contents result.0) result.1 }
+{
+    let watch = ExportWatch::new(&shared.stop, &shared.board);
+    let backend = SocketBackend::new(rt, alloc, settings, &watch);
+    let spans = LineSpans::new(alloc, &shared.board);
+    let batches = BatchSink::new(rt, retry_by(&config), backend, spans);
+    let kept = KeepingSink::new(WriteSink::new(writer), batches);
+    let (kept, answer) = serve_through(rt, alloc, config, drivers, kept, shared);
+    let (printed, sent) = kept.end();
+    // A batch of which nothing is settled has spans that can't be counted.
+    let given_up = if sent.is_down() { None } else { Some(sent.end().given_up()) };
+    (printed.end(), exported_to(answer, given_up))
+}
+
+/// Takes requests by a configuration that says how many batches wait for a backend, and hands the lines to a sink.
+fn serve_through<
+    's,
+    D: Driver + Send + Drop,
+    T: Threads + Wait + Clock + RandomSource + Sync,
+    S: Sink + Drop,
+>(
+    rt: &T,
+    alloc: Global,
+    config: Config,
+    drivers: Vec<ByTurns<D>>,
+    sink: S,
+    shared: &'s Charge,
+) -> (S, Result<Report, RunFault>)
+    requires ranges { InRange config }
+    requires drivers { vec_len drivers ≡ config.lanes }
+    requires failures { S.failures sink < 2 ^ 64 - 1 }
+    ensures sink { SinkAnswers (S.taken sink) (S.failures sink) (S.taken result.0) (S.failures result.0) result.1 }
+    ensures ran { CoreRunTells config (S.taken sink) (S.failures sink) (S.taken result.0) (S.failures result.0) result.1 }
+{
+    let clock = WallClock::new(rt);
+    let stops = config.stops_at_output_fault;
+    let sink = StoppingSink::new(sink, &shared.stop, stops, &shared.silent);
+    let config = with_export_room(config);
+    let (sink, answer) = serve_on(
+        rt,
+        alloc,
+        config,
+        drivers,
+        sink,
+        &shared.board,
+        &shared.stop,
+        &clock,
+    );
+    (sink.end(), answer)
+}
+
+/// For how long a batch is tried.
+fn retry_by(config: &Config) -> Retry
+    ensures { result ≡ record { initial = config.now.export.retry_initial; longest = config.now.export.retry_max; patience = config.now.export.retry_for } }
+{
+    Retry {
+        initial: config.export.retry_initial,
+        longest: config.export.retry_max,
+        patience: config.export.retry_for,
+    }
+}
+
+/// How the program ends after a run whose lines were sent to a backend, of which it gave up so many spans, or more than can be counted.
+fn exported_to(answer: Result<Report, RunFault>, given_up: Option<u64>) -> Outcome
+    ensures { IsExportedTo answer (spans_of given_up) result }
+{
+    let Ok(report) = answer else {
+        return served_to(answer);
+    };
+    let Some(given_up) = given_up else {
+        return Outcome::BookFull;
+    };
+    match moved(&report, given_up) {
+        Ok(report) => Outcome::Done(report),
+        Err(_) => Outcome::BookFull,
+    }
+}
