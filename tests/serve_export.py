@@ -206,6 +206,20 @@ def tries_again(start):
     want("the report", collector.close()[1], [5, 5, 0, 0, 0, 0, 0, 0, 0])
 
 
+def tells_attempts(start):
+    """The numbers tell how many attempts were answered 200, otherwise, and not at all."""
+    backend, admin = Backend([[answer(503)], [answer(429)], 10, [OK], [answer(400)]]), free_port()
+    collector = start(FAST + ALL + f'admin = "127.0.0.1:{admin}"\n' + backend.settings())
+    names = [f'tsc_export_attempts_total{{result="{result}"}}' for result in ("taken", "refused", "unanswered")]
+    want("the numbers at the start", [scrape(admin)[name] for name in names], [0, 0, 0])
+    for number, requests in enumerate((3, 4, 5)):
+        send(collector, number)
+        until("the requests", lambda n=requests: len(backend.requests) >= n)
+    until("the numbers", lambda: [scrape(admin)[name] for name in names] == [2, 3, 1])
+    want("the answer to /close", asked(admin, post(b"", "/close"))[::2], (200, "{}"))
+    want("the report", collector.end()[1], [3, 2, 0, 0, 0, 0, 0, 0, 1])
+
+
 def no_answers(start):
     """What breaks off after any byte, is too long or is framed twice is no answer, and the line is sent again; up to the connection's end is one."""
     script = [(OK[:end],) for end in range(len(OK))]
@@ -318,4 +332,4 @@ def send_until_taken(collector, firsts):
             time.sleep(0.02)
 
 
-CHECKS = [delivers, sends_headers, prints_too, printing_ends, no_time_is_no_wish, tries_again, no_answers, gives_up, rejected_spans, waits_for_a_backend, late_answer, patience_ends, under_load]
+CHECKS = [delivers, sends_headers, prints_too, printing_ends, no_time_is_no_wish, tries_again, tells_attempts, no_answers, gives_up, rejected_spans, waits_for_a_backend, late_answer, patience_ends, under_load]

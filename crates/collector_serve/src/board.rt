@@ -1,4 +1,5 @@
 //! What all threads of a run have counted, for readers while it runs.
+use batch_post::Outcome;
 use drop_ledger::{Count, Report};
 use lane_queue::{Brake, Gate, Place, ShardLoad};
 use metrics_text::{PolicyNumbers, ShardNumbers};
@@ -76,6 +77,12 @@ pub struct Board {
     given_up: AtomicU64,
     /// Spans that the backend rejected.
     rejected: AtomicU64,
+    /// Attempts to send a line that were answered 200.
+    attempts_taken: AtomicU64,
+    /// Attempts to send a line that were answered otherwise.
+    attempts_refused: AtomicU64,
+    /// Attempts to send a line that had no answer.
+    attempts_unanswered: AtomicU64,
 }
 
 impl Board {
@@ -106,6 +113,9 @@ impl Board {
             pending: AtomicU64::new(0),
             given_up: AtomicU64::new(0),
             rejected: AtomicU64::new(0),
+            attempts_taken: AtomicU64::new(0),
+            attempts_refused: AtomicU64::new(0),
+            attempts_unanswered: AtomicU64::new(0),
         })
     }
 
@@ -161,6 +171,25 @@ impl Board {
     /// How many spans the backend rejected.
     pub fn rejected(&self) -> u64 {
         self.rejected.load(Ordering::Relaxed)
+    }
+
+    /// An attempt to send a line ended so.
+    pub fn attempts(&self, outcome: Outcome) {
+        let cell = match outcome {
+            Outcome::Answered(200, _) => &self.attempts_taken,
+            Outcome::Answered(..) => &self.attempts_refused,
+            Outcome::NoAnswer => &self.attempts_unanswered,
+        };
+        cell.fetch_add(1, Ordering::Relaxed);
+    }
+
+    /// How many attempts to send a line were answered 200, how many otherwise, and how many weren't answered.
+    pub fn attempted(&self) -> (u64, u64, u64) {
+        (
+            self.attempts_taken.load(Ordering::Relaxed),
+            self.attempts_refused.load(Ordering::Relaxed),
+            self.attempts_unanswered.load(Ordering::Relaxed),
+        )
     }
 
     /// The output took these bytes, which may end a line.

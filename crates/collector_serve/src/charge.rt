@@ -37,6 +37,7 @@ impl Charge {
         let traffic = &self.loads.traffic;
         let (lines, output_bytes) = self.board.written();
         let (late_sampled, late_not_sampled) = self.board.late();
+        let (attempts_taken, attempts_refused, attempts_unanswered) = self.board.attempted();
         Metrics {
             report: self.board.report(),
             open_connections: self.loads.sum(),
@@ -59,6 +60,9 @@ impl Charge {
             late_sampled,
             late_not_sampled,
             rejected: self.board.rejected(),
+            attempts_taken,
+            attempts_refused,
+            attempts_unanswered,
         }
     }
 }

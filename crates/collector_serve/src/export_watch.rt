@@ -1,7 +1,7 @@
 //! The collector, as its backend sees it.
 use crate::board::Board;
 use crate::stop_mark::StopMark;
-use batch_post::Fate;
+use batch_post::{Fate, Outcome};
 use http_lane::Stop;
 use post_socket::Watch;
 
@@ -22,6 +22,10 @@ impl<'s> ExportWatch<'s> {
 impl<'s> Watch for ExportWatch<'s> {
     fn is_closing(&self) -> bool {
         self.stop.is_set()
+    }
+
+    fn attempted(&self, outcome: Outcome) {
+        self.board.attempts(outcome);
     }
 
     fn settled(&self, bytes: u64, fate: Fate) {

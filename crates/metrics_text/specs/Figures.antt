@@ -5,7 +5,7 @@ use Rattle.metrics_text.specs.declared.metrics.Metrics.{Metrics}
 use Rattle.metrics_text.specs.declared.kind.FamilyKind.{FamilyKind}
 use Rattle.metrics_text.specs.declared.kind.FamilyKind.TheVariants.{Counter, Gauge}
 use Rattle.metrics_text.specs.declared.figure.Figure.{Figure}
-use Rattle.metrics_text.specs.declared.figure.Figure.TheVariants.{SpansWaiting, ReceivedBytes, SentBytes, Lines, OutputBytes, Memory, Answered200, Answered400, Answered404, Answered405, Answered408, Answered413, Answered415, Answered431, Answered503, LateSampled, LateNotSampled, Rejected}
+use Rattle.metrics_text.specs.declared.figure.Figure.TheVariants.{SpansWaiting, ReceivedBytes, SentBytes, Lines, OutputBytes, Memory, Answered200, Answered400, Answered404, Answered405, Answered408, Answered413, Answered415, Answered431, Answered503, LateSampled, LateNotSampled, Rejected, AttemptsTaken, AttemptsRefused, AttemptsUnanswered}
 use Rattle.metrics_text.specs.Families.{word_of, head_lines, sample, sample_line}
 
 -- what is told of a number: its name, what its family's head says, where it is the first of it and else nothing, the family's kind, and its labels
@@ -27,6 +27,10 @@ answered help code = record { name = codes "tsc_requests_total"; help = help; ki
 abbrev by_decision : (name help decision : List ℕ) → FigureRow
 by_decision name help decision = record { name = name; help = help; kind = Counter; labels = codes "{decision=\"" ++ (decision ++ codes "\"}") }
 
+-- a number of the family of attempts to send a line
+abbrev attempted : (help how : List ℕ) → FigureRow
+attempted help how = record { name = codes "tsc_export_attempts_total"; help = help; kind = Counter; labels = codes "{result=\"" ++ (how ++ codes "\"}") }
+
 -- the table
 abbrev pub figure_row : Figure → FigureRow
 figure_row SpansWaiting = single (codes "tsc_spans_waiting") (codes "Spans that were received, and neither handed over nor given up.") Gauge
@@ -47,6 +51,9 @@ figure_row Answered503 = answered [] (codes "503")
 figure_row LateSampled = by_decision (codes "tsc_spans_late_total") (codes "Spans whose trace was decided before.") (codes "sampled")
 figure_row LateNotSampled = by_decision (codes "tsc_spans_late_total") [] (codes "not_sampled")
 figure_row Rejected = single (codes "tsc_spans_rejected_total") (codes "Spans of delivered lines that the backend rejected.") Counter
+figure_row AttemptsTaken = attempted (codes "Attempts to send a line, by how they ended.") (codes "taken")
+figure_row AttemptsRefused = attempted [] (codes "refused")
+figure_row AttemptsUnanswered = attempted [] (codes "unanswered")
 
 -- the values
 abbrev pub figure_value : Metrics → Figure → ℕ
@@ -68,13 +75,16 @@ figure_value metrics Answered503 = metrics.answered_503
 figure_value metrics LateSampled = metrics.late_sampled
 figure_value metrics LateNotSampled = metrics.late_not_sampled
 figure_value metrics Rejected = metrics.rejected
+figure_value metrics AttemptsTaken = metrics.attempts_taken
+figure_value metrics AttemptsRefused = metrics.attempts_refused
+figure_value metrics AttemptsUnanswered = metrics.attempts_unanswered
 
 -- each once, in their order
 abbrev pub all_figures : List Figure
 all_figures =
     SpansWaiting ∷ ReceivedBytes ∷ SentBytes ∷ Lines ∷ OutputBytes ∷ Memory
     ∷ Answered200 ∷ Answered400 ∷ Answered404 ∷ Answered405 ∷ Answered408 ∷ Answered413 ∷ Answered415 ∷ Answered431 ∷ Answered503
-    ∷ LateSampled ∷ LateNotSampled ∷ Rejected ∷ []
+    ∷ LateSampled ∷ LateNotSampled ∷ Rejected ∷ AttemptsTaken ∷ AttemptsRefused ∷ AttemptsUnanswered ∷ []
 
 -- the lines in front of a family's first number
 abbrev pub head_of : FigureRow → List ℕ

@@ -45,6 +45,12 @@ pub enum Figure {
     LateNotSampled,
     /// Spans of lines that were delivered which the backend rejected.
     Rejected,
+    /// Attempts to send a line that were answered 200.
+    AttemptsTaken,
+    /// Attempts to send a line that were answered otherwise.
+    AttemptsRefused,
+    /// Attempts to send a line that had no answer.
+    AttemptsUnanswered,
 }
 
 impl Figure {
@@ -164,6 +170,24 @@ impl Figure {
                 FamilyKind::Counter,
                 "",
             ),
+            Figure::AttemptsTaken => (
+                "tsc_export_attempts_total",
+                "Attempts to send a line, by how they ended.",
+                FamilyKind::Counter,
+                "{result=\"taken\"}",
+            ),
+            Figure::AttemptsRefused => (
+                "tsc_export_attempts_total",
+                "",
+                FamilyKind::Counter,
+                "{result=\"refused\"}",
+            ),
+            Figure::AttemptsUnanswered => (
+                "tsc_export_attempts_total",
+                "",
+                FamilyKind::Counter,
+                "{result=\"unanswered\"}",
+            ),
         }
     }
 
@@ -190,6 +214,9 @@ impl Figure {
             Figure::LateSampled => metrics.late_sampled,
             Figure::LateNotSampled => metrics.late_not_sampled,
             Figure::Rejected => metrics.rejected,
+            Figure::AttemptsTaken => metrics.attempts_taken,
+            Figure::AttemptsRefused => metrics.attempts_refused,
+            Figure::AttemptsUnanswered => metrics.attempts_unanswered,
         }
     }
 }

@@ -1,6 +1,6 @@
 //! The numbers of a collector as a text that Prometheus reads (its text format, version 0.0.4).
 //!
-//! [`metrics_text`] is the whole of it; its bytes are those of `specs/Families`.
+//! [`metrics_text`] is the whole of it; its bytes are those of `specs/Text`.
 #![tactic(auto)]
 
 mod deciders;

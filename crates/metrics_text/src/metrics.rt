@@ -47,6 +47,12 @@ pub struct Metrics {
     pub late_not_sampled: u64,
     /// How many spans of lines that were delivered the backend rejected.
     pub rejected: u64,
+    /// How many attempts to send a line were answered 200.
+    pub attempts_taken: u64,
+    /// How many attempts to send a line were answered otherwise.
+    pub attempts_refused: u64,
+    /// How many attempts to send a line had no answer.
+    pub attempts_unanswered: u64,
 }
 
 /// What a policy decided.

@@ -217,6 +217,9 @@ fn put_figures(text: &mut String, metrics: &Metrics) -> Result<(), AllocError>
         Figure::LateSampled,
         Figure::LateNotSampled,
         Figure::Rejected,
+        Figure::AttemptsTaken,
+        Figure::AttemptsRefused,
+        Figure::AttemptsUnanswered,
     ];
     for figure in figures {
         put_figure(text, metrics, figure)?;

@@ -104,11 +104,26 @@ impl<'t, V: Watch, R: Net<Stream = TcpStream> + Clock + RandomSource> SocketBack
         let kept = self.stream.take();
         let stream = match kept {
             Some(stream) if is_quiet(&stream) => stream,
-            _ => connect(self.rt, self.settings.authority, patience)?,
+            _ => connect(self.rt, self.settings.authority, limit)?,
         };
         stream.set_read_timeout(Some(patience))?;
         stream.set_write_timeout(Some(patience))?;
         Ok(stream)
+    }
+
+    /// Tries to send a batch, and tells how many of its spans the backend rejected.
+    fn send(&mut self, batch: &[u8]) -> Outcome {
+        let Some(answer) = self.exchange(batch) else {
+            return Outcome::NoAnswer;
+        };
+        if answer.status == 200 {
+            let rejected = rejected_in(self.alloc, &answer.body);
+            self.watch.rejected(rejected);
+        }
+        let asked = answer
+            .retry_after
+            .map(|seconds| seconds.saturating_mul(1000));
+        Outcome::Answered(answer.status, asked)
     }
 
     /// Posts a batch on a connection, and keeps that where it can be used again.
@@ -142,15 +157,17 @@ impl<'t, V: Watch, R: Net<Stream = TcpStream> + Clock + RandomSource> SocketBack
     }
 }
 
-/// A connection to the first address of a host that takes one.
-fn connect<R: Net<Stream = TcpStream>>(
+/// A connection to the first address of a host that takes one, within so many milliseconds for all of them.
+fn connect<R: Net<Stream = TcpStream> + Clock>(
     rt: &R,
     authority: &str,
-    patience: Duration,
+    limit: u64,
 ) -> io::Result<TcpStream> {
+    let began = Instant::now(rt).ok();
     let mut last = io::Error::from(ErrorKind::AddrNotAvailable);
     for at in authority.to_socket_addrs(rt)? {
-        match TcpStream::connect_timeout(rt, &at, patience) {
+        let left = limit.saturating_sub(elapsed(rt, &began)).max(1);
+        match TcpStream::connect_timeout(rt, &at, Duration::from_millis(left)) {
             Ok(stream) => {
                 stream.set_nodelay(true)?;
                 return Ok(stream);
@@ -181,17 +198,9 @@ impl<'t, V: Watch, R: Net<Stream = TcpStream> + Clock + RandomSource> Backend
         if self.left() == Some(0) {
             return Outcome::NoAnswer;
         }
-        let Some(answer) = self.exchange(batch) else {
-            return Outcome::NoAnswer;
-        };
-        if answer.status == 200 {
-            let rejected = rejected_in(self.alloc, &answer.body);
-            self.watch.rejected(rejected);
-        }
-        let asked = answer
-            .retry_after
-            .map(|seconds| seconds.saturating_mul(1000));
-        Outcome::Answered(answer.status, asked)
+        let outcome = self.send(batch);
+        self.watch.attempted(outcome);
+        outcome
     }
 
     fn settle(&mut self, batch: &[u8], fate: Fate) {

@@ -1,10 +1,13 @@
 //! Who watches a backend.
-use batch_post::Fate;
+use batch_post::{Fate, Outcome};
 
 /// The collector, as its backend sees it.
 pub trait Watch {
     /// Whether it closes.
     fn is_closing(&self) -> bool;
+
+    /// An attempt to send a batch ended so.
+    fn attempted(&self, outcome: Outcome);
 
     /// A batch of so many bytes was delivered or given up.
     fn settled(&self, bytes: u64, fate: Fate);
