@@ -4,7 +4,7 @@ it isn't 0; one name a line on standard output.
 
     tests/configurations.py FOLDER
 
-The fault of each stands in the tables, by its number in OPERATING.md, and the bounds of whole numbers in the definition (tests/settings.py); none
+The fault of each stands in the tables, by its number in README.md, and the bounds of whole numbers in the definition (tests/settings.py); none
 of it is the program's answer. Of two faults the one with the lower number is told.
 """
 import sys

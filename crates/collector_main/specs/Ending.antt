@@ -204,14 +204,14 @@ IsExportedTo (Ok report) given_up outcome =
     ((told : List ℕ) × IsMoved given_up report told × (outcome ≡ Done told)) ⊎ (CannotMove given_up report × (outcome ≡ BookFull))
 IsExportedTo (Err fault) given_up outcome = outcome ≡ served_to (Err fault)
 
--- by a configuration requests were taken, and the lines sent to a backend; or it couldn't be listened, or there was no memory, and nothing was done
+-- by a configuration requests were taken, and the lines sent to a backend; or the address couldn't be listened at, or there was no memory, and nothing was done
 abbrev pub ExportsTo : Config → Outcome → Type 0
 ExportsTo config outcome =
     (outcome ≡ CannotListen)
     ⊎ ((sink : Option (List ℕ)) × (sink_after : Option (List ℕ)) × (failures : ℕ) × (answer : Result Report ServeFault) × (given_up : ℕ)
     × SinkAnswers sink 0 sink_after failures answer × CoreRunTells config sink 0 sink_after failures answer × IsExportedTo answer given_up outcome)
 
--- by a configuration requests were taken, and each line was printed before it was sent to a backend; or it couldn't be listened, or there was no memory, and nothing was done
+-- by a configuration requests were taken, and each line was printed before it was sent to a backend; or the address couldn't be listened at, or there was no memory, and nothing was done
 abbrev pub KeepsTo : Config → (taken taken_after : Option (List ℕ)) → Outcome → Type 0
 KeepsTo config taken taken_after outcome =
     ((taken_after ≡ taken) × (outcome ≡ CannotListen))
@@ -223,7 +223,7 @@ abbrev pub SendsTo : Config → (taken taken_after : Option (List ℕ)) → Outc
 SendsTo config taken taken_after outcome =
     ((config.export.lines ≡ false) × (taken_after ≡ taken) × ExportsTo config outcome) ⊎ ((config.export.lines ≡ true) × KeepsTo config taken taken_after outcome)
 
--- by a configuration requests were taken, and the run had an answer of this outcome; or it couldn't be listened, and nothing was done
+-- by a configuration requests were taken, and the run had an answer of this outcome; or the address couldn't be listened at, and nothing was done
 abbrev pub PrintsTo : Config → (taken taken_after : Option (List ℕ)) → Outcome → Type 0
 PrintsTo config taken taken_after outcome =
     ((taken_after ≡ taken) × (outcome ≡ CannotListen))

@@ -1,5 +1,6 @@
 //! `tsc serve` without its command line: the connections of a listener, ticks of the system's clock and a mark to stop, over
-//! the pipeline.
+//! the pipeline; beside it the address for those in charge, the look at the process's memory, and what a backend is told and
+//! tells where lines are sent.
 #![tactic(auto)]
 
 mod admin_thread;
