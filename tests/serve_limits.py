@@ -109,9 +109,10 @@ def ends_before_a_tick(start):
     """With a tick a minute it ends at the close, and not at the next tick."""
     collector = start("tick_ms = 60000\n" + ALL)
     want("the answer", collector.ask(post(body_of([ERROR_SPAN])))[::2], (200, "{}"))
+    time.sleep(0.5)  # so that it sleeps already
     began = time.monotonic()
     want("the report", collector.close()[1], [1, 1, 0, 0, 0, 0, 0, 0, 0])
-    at_most("the close", 5, began)
+    at_most("the close", 3, began)
 
 
 def accepts_soon(start):
