@@ -94,7 +94,7 @@ class Client:
 class Collector:
     """A running `tsc serve`, whose output goes to a file."""
 
-    def __init__(self, program, settings, output=None, limits=(), stdin=subprocess.DEVNULL):
+    def __init__(self, program, settings, output=None, limits=(), stdin=subprocess.DEVNULL, surroundings=()):
         with socket.socket() as probe:
             probe.bind(("127.0.0.1", 0))
             self.port = probe.getsockname()[1]
@@ -109,6 +109,7 @@ class Collector:
             stdin=stdin,
             stdout=self.file if output is None else output,
             stderr=subprocess.PIPE,
+            env={**os.environ, **dict(surroundings)},
             preexec_fn=lambda: [resource.setrlimit(which, (most, most)) for which, most in limits],
         )
         self.wait_for_port()
@@ -186,8 +187,8 @@ class Starter:
         self.program = program
         self.started = []
 
-    def __call__(self, settings, output=None, limits=(), stdin=subprocess.DEVNULL):
-        collector = Collector(self.program, settings, output, limits, stdin)
+    def __call__(self, settings, output=None, limits=(), stdin=subprocess.DEVNULL, surroundings=()):
+        collector = Collector(self.program, settings, output, limits, stdin, surroundings)
         self.started.append(collector)
         return collector
 

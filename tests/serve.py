@@ -16,6 +16,7 @@ import serve_admin
 import serve_close
 import serve_config
 import serve_export
+import serve_faults
 import serve_limits
 import serve_many
 import serve_memory
@@ -338,7 +339,7 @@ def main():
     """Runs each check on each program."""
     checks = [one_error, serve_on_loopback, asks_behind_the_close, is_kept_while_it_runs, keep_alive, chunked, expect, refusals, broken_clients, many_clients]
     checks += [queues_of_four, closes_under_way, refused_address, reader_is_gone] + ([under_curl] if has_curl() else [])
-    own = [senders, serve_limits, serve_many, serve_admin, serve_config, serve_close, serve_memory, serve_export]
+    own = [senders, serve_limits, serve_many, serve_faults, serve_admin, serve_config, serve_close, serve_memory, serve_export]
     run_checks(sys.argv[1:], checks + [check for it in own for check in it.CHECKS])
 
 

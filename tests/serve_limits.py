@@ -109,9 +109,10 @@ def ends_before_a_tick(start):
     """With a tick a minute it ends at the close, and not at the next tick."""
     collector = start("tick_ms = 60000\n" + ALL)
     want("the answer", collector.ask(post(body_of([ERROR_SPAN])))[::2], (200, "{}"))
+    time.sleep(0.5)  # so that it sleeps already
     began = time.monotonic()
     want("the report", collector.close()[1], [1, 1, 0, 0, 0, 0, 0, 0, 0])
-    at_most("the close", 5, began)
+    at_most("the close", 3, began)
 
 
 def accepts_soon(start):
@@ -145,6 +146,26 @@ def hands_over_soon(start):
     collector.close()
 
 
+def wakes_soon(start):
+    """Ten traces, each sent after a rest in which the exporter falls asleep: what is pushed wakes it. The five soonest are in the output at once."""
+    collector = start("decision_wait_ms = 1\ntick_ms = 1\n" + ALL)
+    client = collector.client()
+    waits = []
+    for number in range(10):
+        time.sleep(0.3)
+        began = time.monotonic()
+        client.send(post(body_of(spans_by_number(number, 1))))
+        want("the answer", client.answer()[::2], (200, "{}"))
+        while lines_in(collector.printed) <= number:
+            at_most(f"trace {number}", 30, began)
+            time.sleep(0.001)
+        waits.append(time.monotonic() - began)
+    if sum(sorted(waits)[:5]) > 0.6:
+        raise Failure(f"the five soonest of ten traces that came after a rest took {sum(sorted(waits)[:5]):.2f} s and not at most 0.6")
+    client.close()
+    collector.close()
+
+
 def few_lines(start):
     """Five thousand spans that are handed over at the close come in batches, and not each in a line of its own."""
     collector = start("send_batch_size = 512\nqueue_capacity = 8192\n" + ALL)
@@ -157,4 +178,4 @@ def few_lines(start):
 
 
 CHECKS = [too_many_open_files, few_traces, most_lanes_and_shards, five_thousand_connections, two_closes, ends_before_a_tick]
-CHECKS += [accepts_soon, hands_over_soon, few_lines]
+CHECKS += [accepts_soon, hands_over_soon, wakes_soon, few_lines]

@@ -1,0 +1,100 @@
+"""Checks of `tsc serve` on what sockets seldom do: reads that are interrupted, a client that waits in line at the close, one that never reads."""
+
+import os
+import shutil
+import socket
+import subprocess
+import tempfile
+import time
+
+from collector import ALL, ERROR_SPAN, Failure, body_of, post, want
+from serve_admin import asked, free_port
+from serve_limits import at_most
+from serve_many import comes_back_to, open_files
+
+SOURCE = os.path.join(os.path.dirname(os.path.abspath(__file__)), "interrupted_reads.c")
+
+
+def waits_until(what, holds):
+    """Waits until something holds, a minute at most."""
+    began = time.monotonic()
+    while not holds():
+        at_most(what, 60, began)
+        time.sleep(0.01)
+
+
+def interrupted_reads(start):
+    """The first read of each connection is interrupted: the connection goes on, and its request is answered once the rest of it came."""
+    admin, request = free_port(), post(body_of([ERROR_SPAN]))
+    with tempfile.TemporaryDirectory() as folder:
+        library, told = os.path.join(folder, "interrupted.so"), os.path.join(folder, "told")
+        subprocess.run(["cc", "-shared", "-fPIC", "-O1", "-o", library, SOURCE], check=True)
+        surroundings = {"LD_PRELOAD": library, "INTERRUPTED": told}
+        collector = start(f'admin = "127.0.0.1:{admin}"\n' + ALL, surroundings=surroundings)
+        waits_until("the first interruption", lambda: os.path.exists(told))
+        for _ in range(3):
+            before = os.path.getsize(told)
+            client = collector.client()
+            client.send(request[:40])
+            waits_until("an interruption", lambda: os.path.getsize(told) > before)
+            client.send(request[40:])
+            want("the answer behind an interrupted read", client.answer()[::2], (200, "{}"))
+            client.close()
+        want("the answer of the second address", asked(admin, post(b"", "/close"))[::2], (200, "{}"))
+        want("the report", collector.end()[1], [3, 3, 0, 0, 0, 0, 0, 0, 0])
+
+
+def is_refused(client):
+    """Whether a client that waited is told that the collector closes, and not cut off."""
+    try:
+        want("the answer to one that waits", client.answer()[::2], (503, '{"message":"closing"}'))
+        return True
+    except ConnectionResetError:
+        return False
+    finally:
+        client.close()
+
+
+def waits_at_the_close(start):
+    """Where one connection may be open and has a request under way, three others wait: at the close they are taken once it is cut, and refused. (A
+    machine that stands still for a tenth of a second may cut one of them off.)"""
+    admin, request = free_port(), post(body_of([ERROR_SPAN]))
+    collector = start(f'max_connections = 1\nadmin = "127.0.0.1:{admin}"\n' + ALL)
+    busy = collector.client()
+    busy.send(request[:40])
+    time.sleep(0.5)
+    waiting = [collector.client() for _ in range(3)]
+    for client in waiting:
+        client.send(request)
+    want("the answer to the close", asked(admin, post(b"", "/close"))[::2], (200, "{}"))
+    refused = [is_refused(client) for client in waiting]
+    if sum(refused) < 2:
+        raise Failure(f"of three that waited at the close {sum(refused)} were refused")
+    busy.close()
+    want("the report", collector.end()[1], [0] * 9)
+
+
+def never_reads(start):
+    """A client that sends requests and never reads an answer has its connection ended, thirty seconds after it took the last bytes."""
+    collector = start(ALL)
+    want("the answer to another", collector.ask(post(b"[]"))[0], 400)
+    time.sleep(0.5)
+    before = open_files(collector)
+    deaf = socket.socket()
+    # Short segments and small buffers, so that few answers wait on the way.
+    deaf.setsockopt(socket.IPPROTO_TCP, socket.TCP_MAXSEG, 536)
+    deaf.setsockopt(socket.SOL_SOCKET, socket.SO_RCVBUF, 4096)
+    deaf.setsockopt(socket.SOL_SOCKET, socket.SO_SNDBUF, 65536)
+    deaf.connect(("127.0.0.1", collector.port))
+    deaf.settimeout(5)
+    try:
+        while True:
+            deaf.sendall(post(b"[]") * 100)
+    except TimeoutError:
+        pass
+    comes_back_to(collector, before, 120)
+    deaf.close()
+    want("the report", collector.close()[1], [0] * 9)
+
+
+CHECKS = [waits_at_the_close, never_reads] + ([interrupted_reads] if shutil.which("cc") else [])
