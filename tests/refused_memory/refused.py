@@ -105,13 +105,9 @@ def send_lines(runs, program, **more):
     """A run of four lines of a span each. Returns the status, what was printed, what was said on standard error, and how many spans the backend took."""
     ok = [serve_export.OK]
     backend = serve_export.Backend([ok, [serve_export.answer(503)], ok, 10, ok, [serve_export.answer(400)]])
-    os.environ.update(LD_PRELOAD=runs.library, SENDER_ALONE="1", **more)
+    surroundings = {"LD_PRELOAD": runs.library, "SENDER_ALONE": "1", **more}
     with open(f"{runs.work}/printed", "w+", encoding="utf-8") as printed:
-        try:
-            ran = collector.Collector(program, serve_export.FAST + collector.ALL + backend.settings(), output=printed)
-        finally:
-            for name in ("LD_PRELOAD", "SENDER_ALONE", *more):
-                del os.environ[name]
+        ran = collector.Collector(program, serve_export.FAST + collector.ALL + backend.settings(), output=printed, surroundings=surroundings)
         try:
             for number, requests in enumerate((1, 3, 4, 5)):
                 serve_export.send(ran, number)
