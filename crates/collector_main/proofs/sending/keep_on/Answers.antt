@@ -1,4 +1,4 @@
-use Rattle.std.proofs.Common.{◌≡◌, ◌∙◌, ℕ, List, Option, inr, subst, sym}
+use Rattle.std.proofs.Common.{◌∙◌, ℕ, List, Option, inr, subst, sym}
 use Rattle.batch_post.specs.Keeping.{KeepingState}
 use Rattle.span_sink.specs.Sinks.{SinkState}
 use Rattle.pipeline.specs.Outcome.{SinkAnswers}

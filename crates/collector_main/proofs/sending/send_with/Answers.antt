@@ -1,5 +1,5 @@
-use Rattle.std.proofs.Common.{◌≡◌, refl}
-use Rattle.collector_main.proofs.Serving.{sends-starved, sends-unheard}
+use Rattle.std.proofs.Common.{refl}
+use Rattle.collector_main.proofs.Serving.{sends-starved}
 use Rattle.collector_main.proofs.sending.send_with.Goals as goal
 
 pub returns-in-Err : goal.returns-in-Err

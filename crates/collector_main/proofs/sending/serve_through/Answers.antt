@@ -1,4 +1,4 @@
-use Rattle.std.proofs.Common.{◌≡◌, sym, subst}
+use Rattle.std.proofs.Common.{sym, subst}
 use Rattle.pipeline.specs.Promise.{CoreRunTells}
 use Rattle.tsc_config.specs.declared.config.Config.{Config}
 use Rattle.collector_serve.specs.Requests.{export_room}
