@@ -1,6 +1,6 @@
 -- A run by a configuration is one by any other that differs from it only in how many spans wait for the output.
 -- For what `export_on` ensures.
-use Rattle.std.proofs.Common.{◌≡◌, ℕ, List, Option, Result, Ok, Err}
+use Rattle.std.proofs.Common.{ℕ, List, Option, Result, Ok, Err}
 use Rattle.drop_ledger.specs.declared.report.Report.{Report}
 use Rattle.span_sink.specs.LineSinks.{LineSinkState}
 use Rattle.pipeline.specs.Promise.{IsCoreRun, IsCoreRunBeyond, CoreRunTells}

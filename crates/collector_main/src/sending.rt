@@ -117,7 +117,6 @@ fn export_on<
 /// Takes requests by a configuration, prints the lines, and sends them to a backend with these settings.
 fn keep_on<
     's,
-    't,
     D: Driver + Send + Drop,
     T: Net<Listener = TcpListener, Stream = TcpStream>
         + Threads
@@ -127,11 +126,11 @@ fn keep_on<
         + Sync,
     W: Write + Drop,
 >(
-    rt: &T,
+    rt: &'s T,
     alloc: Global,
     config: Config,
     drivers: Vec<ByTurns<D>>,
-    settings: Settings<'t>,
+    settings: Settings<'s>,
     shared: &'s Charge,
     writer: W,
 ) -> (W, Outcome)
@@ -146,8 +145,10 @@ fn keep_on<
     let kept = KeepingSink::new(WriteSink::new(writer), batches);
     let (kept, answer) = serve_through(rt, alloc, config, drivers, kept, shared);
     let (printed, sent) = kept.end();
-    // A batch of which nothing is settled has spans that can't be counted.
-    let given_up = if sent.is_down() { None } else { Some(sent.end().given_up()) };
+    let is_down = sent.is_down();
+    let counted = sent.end().given_up();
+    // Where the sending failed, a batch was to be given up whose spans can't be counted.
+    let given_up = if is_down { None } else { Some(counted) };
     (printed.end(), exported_to(answer, given_up))
 }
 

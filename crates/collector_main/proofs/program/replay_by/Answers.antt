@@ -1,4 +1,4 @@
-use Rattle.std.proofs.Common.{◌≡◌, ℕ, List, Option, sym, ap, subst}
+use Rattle.std.proofs.Common.{ℕ, List, Option, sym, subst}
 use Rattle.span_sink.specs.Sinks.{SinkState}
 use Rattle.script_session.specs.Replay.{RunEnds}
 use Rattle.collector_main.specs.Configuration.{file_of}

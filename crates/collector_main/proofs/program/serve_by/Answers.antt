@@ -1,4 +1,4 @@
-use Rattle.std.proofs.Common.{◌≡◌, refl}
+use Rattle.std.proofs.Common.{refl}
 use Rattle.collector_main.specs.Configuration.{file_of}
 use Rattle.collector_main.specs.Ending.{Course, prints}
 use Rattle.collector_main.proofs.Serving.{Serves-starved, Serves-runs}

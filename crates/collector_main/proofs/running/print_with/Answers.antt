@@ -1,4 +1,4 @@
-use Rattle.std.proofs.Common.{◌≡◌, ◌∙◌, ℕ, List, Option, Err, inl, inr, refl, ap, sym, subst}
+use Rattle.std.proofs.Common.{◌∙◌, ℕ, List, Option, Err, inr, refl, ap, sym, subst}
 use Rattle.span_sink.specs.Sinks.{SinkState}
 use Rattle.pipeline.specs.Outcome.{SinkAnswers}
 use Rattle.pipeline.specs.Promise.{CoreRunTells}

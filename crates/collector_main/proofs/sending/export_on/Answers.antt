@@ -1,4 +1,4 @@
-use Rattle.std.proofs.Common.{◌≡◌, inr, subst}
+use Rattle.std.proofs.Common.{None, inr, subst}
 use Rattle.batch_post.specs.Deliveries.{known_bytes}
 use Rattle.batch_post.specs.Sinks.{BatchSinkState}
 use Rattle.pipeline.specs.Outcome.{SinkAnswers}
