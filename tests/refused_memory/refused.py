@@ -11,8 +11,8 @@ usage: refused.py [--crates FOLDER] [--sample N] exchanges | readings | replays 
   that the other one is answered 200 and its span is handed over, or counted for want of memory; each span that was received is in one of the other
   counts. Or the program ends with status 5, or 3 and fault 8, before anything was read.
 - sends: the program with `[export]`, over four lines of which one is tried twice, one is cut off and one is given up; refused are the requests of the thread
-  that sends, behind its first connection. Each span is counted, and those that are counted as handed over are what the backend took; or the program ends
-  with status 1 and prints nothing, where the spans of a line that was given up couldn't be counted for want of memory.
+  that sends, behind its first connection. Each span is counted, and those that are counted as handed over are what the backend took, but for one at most that it
+  took though its answer couldn't be read, and then refused; or the program ends with status 1 and prints nothing, where the spans of a line that was given up couldn't be counted for want of memory.
 - CRATE: its tests, or those with WORD in their name. Each must answer as ever or end by the refusal.
 
 --sample N refuses N requests, spread evenly, in place of each. The programs must be built: rt run in http_table, reading_table and collector_main, rt test in CRATE;
@@ -131,7 +131,7 @@ def sends(runs, crates):
         status, printed, said, taken = send_lines(runs, program, REFUSED_ALLOCATION=str(number))
         refused += "allocation refused\n" in said
         report = [int(it) for it in re.findall(r"(?m)^(?:received|handed|dropped \d) (\d+)$", printed)]
-        is_counted = status == 0 and len(report) == 9 and report[0] == 4 == sum(report[1:]) and report[1] == taken
+        is_counted = status == 0 and len(report) == 9 and report[0] == 4 == sum(report[1:]) and 0 <= taken - report[1] <= 1
         good = is_counted or (status, printed) == (1, "")
         runs.passed, runs.failed = runs.passed + good, runs.failed + (not good)
         if not good:
