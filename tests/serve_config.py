@@ -7,7 +7,7 @@ import tomllib
 
 from collector import ALL, want
 from serve_admin import asked, free_port, get
-from settings import TOP, cache_numbers, export_numbers, other_names, readme_numbers
+from settings import TOP, cache_numbers, export_numbers, export_truths, other_names, readme_numbers
 
 CACHES, ROOT_WAIT = "decision_cache", "root_wait_ms"
 
@@ -17,7 +17,7 @@ def defaults():
     numbers = {key: rows[0][0] for key, rows in readme_numbers().items()}
     top = {key: number for key, number in numbers.items() if key not in cache_numbers() | export_numbers() and key not in other_names()}
     others = re.findall(r"^\| `(\w+)`: [^|]* \| (?:true or false|`\w+` \([^|]*) \| (`\w+`|false)[^|]* \|", (TOP / "README.md").read_text(), re.M)
-    top |= {key: text.strip("`") if text.startswith("`") else False for key, text in others}
+    top |= {key: text.strip("`") if text.startswith("`") else False for key, text in others if key not in export_truths()}
     return top | {CACHES: {key: numbers[key] for key in cache_numbers()}}
 
 

@@ -56,6 +56,11 @@ def readme_numbers():
     return found
 
 
+def export_truths():
+    """The keys of `export` that are truth values."""
+    return set(re.findall(r'^  pub \w+ : IsTruthAt given \(codes "(\w+)"\) ', DEFINITION.read_text(), re.M))
+
+
 def other_keys():
     """Of each key of one of two texts the default and the other, and of each key of a truth value its default, as the README writes them."""
     text = DEFINITION.read_text()
