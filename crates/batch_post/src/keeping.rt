@@ -1,5 +1,5 @@
 //! A sink that prints each line and then sends it.
-ghost use Rattle.std.specs.Prelude.{◌≡◌, ◌<◌, ◌≤◌, ◌-◌, ◌^◌, Option, List, ℕ, false, length, take};
+ghost use Rattle.std.specs.Prelude.{◌≡◌, ◌<◌, ◌≤◌, ◌+◌, ◌-◌, ◌^◌, Option, List, ℕ, false, length, take};
 ghost use Rattle.std.specs.Io.KnownBytes.{Appends};
 ghost use Rattle.span_sink.specs.LineSinks.{up_state};
 ghost use Rattle.batch_post.specs.Keeping.{KeepsLine};
@@ -23,7 +23,7 @@ impl<L: Sink, S: Sink> Model for KeepingSink<L, S> {
 
     ghost Value = { KeepingState };
 
-    ghost view = { λ s. record { printed = L.taken s.lines; sent = s.sent; failures = s.failures; is_down = s.is_down } };
+    ghost view = { λ s. record { printed = L.taken s.lines; print_failures = L.failures s.lines; sent = s.sent; failures = s.failures; is_down = s.is_down } };
 
     ghost invariant = { λ s. s.is_down ≡ false → (L.failures s.lines < 2 ^ 64 - 1) × (s.sent.is_down ≡ false) };
 }
@@ -33,7 +33,7 @@ impl<L: Sink, S: Sink> KeepingSink<L, S> {
     pub fn new(lines: L, sent: S) -> Self
         requires lines { L.failures lines < 2 ^ 64 - 1 }
         requires sent { S.failures sent < 2 ^ 64 - 1 }
-        ensures { result ≡ record { printed = L.taken lines; sent = up_state (S.taken sent) (S.failures sent); failures = 0; is_down = false } }
+        ensures { result ≡ record { printed = L.taken lines; print_failures = L.failures lines; sent = up_state (S.taken sent) (S.failures sent); failures = 0; is_down = false } }
     {
         KeepingSink {
             lines,
@@ -43,16 +43,10 @@ impl<L: Sink, S: Sink> KeepingSink<L, S> {
         }
     }
 
-    /// Whether a write has failed.
-    pub fn is_down(&self) -> bool
-        ensures { result ≡ self.now.is_down }
-    {
-        self.is_down
-    }
-
     /// Gives both sinks back.
     pub fn end(self) -> (L, LineSink<S>)
         ensures printed { L.taken result.0 ≡ self.printed }
+        ensures print_failures { L.failures result.0 ≡ self.print_failures }
         ensures sent { result.1 ≡ self.sent }
     {
         let KeepingSink {
@@ -64,7 +58,7 @@ impl<L: Sink, S: Sink> KeepingSink<L, S> {
         (lines, sent)
     }
 
-    /// Prints a line and then sends it, and answers how many of its bytes were printed.
+    /// Prints a line and then sends it, and answers how many of its bytes were printed: all, or fewer where a write failed.
     pub fn keep(&mut self, line: &[u8]) -> usize
         requires up { self.old.is_down ≡ false }
         ensures within { result ≤ length line.now }
@@ -104,6 +98,7 @@ fn print<L: Sink>(lines: &mut L, text: &[u8]) -> usize
     ensures within { result ≤ length text.now }
     ensures taken { Appends (L.taken lines.old) (L.taken lines.new) (take result text.now) }
     ensures whole { result ≡ length text.now → L.failures lines.new ≡ L.failures lines.old }
+    ensures part { result < length text.now → L.failures lines.new ≡ L.failures lines.old + 1 }
 {
     let mut rest = text;
     while !rest.is_empty() {
