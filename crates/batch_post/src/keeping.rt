@@ -1,8 +1,8 @@
 //! A sink that prints each line and then sends it.
-ghost use Rattle.std.specs.Prelude.{◌≡◌, ◌<◌, ◌≤◌, ◌+◌, ◌-◌, ◌^◌, Option, List, ℕ, false, length, take};
-ghost use Rattle.std.specs.Io.KnownBytes.{Appends};
+ghost use Rattle.std.specs.Prelude.{◌≡◌, ◌<◌, ◌≤◌, ◌+◌, ◌-◌, ◌^◌, Option, List, ℕ, true, false, length, take, IfOk, OnOk, OnErr};
+ghost use Rattle.std.specs.Io.KnownBytes.{Appends, Keeps};
 ghost use Rattle.span_sink.specs.LineSinks.{up_state};
-ghost use Rattle.batch_post.specs.Keeping.{KeepsLine};
+ghost use Rattle.batch_post.specs.Keeping.{KeepsLine, StaysDown, printed_by};
 
 use span_sink::{LineSink, Sink, SinkFault};
 use std::marker::Model;
@@ -63,6 +63,7 @@ impl<L: Sink, S: Sink> KeepingSink<L, S> {
         requires up { self.old.is_down ≡ false }
         ensures within { result ≤ length line.now }
         ensures keeps { KeepsLine self.old line.now result self.new }
+        ensures failures { self.new.failures ≡ self.old.failures }
     {
         let printed = print(&mut self.lines, line);
         self.is_down = printed < line.len() || self.sent.hand(line).is_err();
@@ -75,7 +76,21 @@ impl<L: Sink, S: Sink> Sink for KeepingSink<L, S> {
 
     ghost failures = { λ s. s.failures };
 
-    fn write(&mut self, bytes: &[u8]) -> Result<usize, SinkFault> {
+    fn write(&mut self, bytes: &[u8]) -> Result<usize, SinkFault>
+        // what each sink does
+        requires { self.old.failures < 2 ^ 64 - 1 }
+        ensures within { IfOk result (λ count. count ≤ length bytes.now) }
+        ensures some { IfOk result (λ count. 0 < length bytes.now → 0 < count) }
+        ensures taken { IfOk result (λ count. Appends self.old.printed self.new.printed (take count bytes.now)) }
+        ensures no_failure { OnOk result (self.new.failures ≡ self.old.failures) }
+
+        ensures refused { OnErr result (Keeps self.old.printed self.new.printed) }
+        ensures one_failure { OnErr result (self.new.failures ≡ self.old.failures + 1) }
+
+        // what this one does besides
+        ensures up { self.old.is_down ≡ false → 0 < length bytes.now → KeepsLine self.old bytes.now (printed_by result) self.new }
+        ensures down { self.old.is_down ≡ true → StaysDown self.old self.new }
+    {
         if bytes.is_empty() {
             return Ok(0);
         }
