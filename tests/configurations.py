@@ -12,6 +12,7 @@ import sys
 from settings import top_numbers
 
 NOT_TOML, UNKNOWN_KEY, MISSING_KEY, WRONG_TYPE, OUT_OF_RANGE, TOO_FEW_TRACES = "123456"
+NOT_AN_EXPRESSION, EXPRESSION_TOO_BIG = "9", "10"
 EMPTY_LIST, TOO_DEEP, TOO_MANY, SAME_NAME, CROSSED_BOUNDS, NO_VALUES = (f"7.{number}" for number in range(1, 7))
 TAKEN = None
 ALL = '{ name = "all", type = "always_sample" }'
@@ -151,6 +152,12 @@ LINES = [
     ('export = { endpoint = "http://h/", retries = 3 }', UNKNOWN_KEY),
 ]
 
+def matching(expression):
+    """A policy on a regular expression, with a name of its own, inside an `and`."""
+    own = f'{{ name = "of {expression}", type = "string_attribute", string_attribute = {{ key = "k", enabled_regex_matching = true, values = ["{expression}"] }} }}'
+    return f'{{ name = "and {expression}", type = "and", and = {{ and_sub_policy = [{own}] }} }}, '
+
+
 # For each fault a line and the beginning of a list of policies that has it, by rising numbers.
 FAULTY = [
     ("lanes =\n", "", NOT_TOML),
@@ -160,6 +167,8 @@ FAULTY = [
     ("queue_capacity = 0\n", "", OUT_OF_RANGE),
     ("num_traces = 1\nshards = 2\n", "", TOO_FEW_TRACES),
     ("", f"{ALL}, ", SAME_NAME),
+    ("", matching("("), NOT_AN_EXPRESSION),
+    ("", matching("((a{999}){999}){9}"), EXPRESSION_TOO_BIG),
 ]
 
 # Settings of a policy of each type.
@@ -201,7 +210,18 @@ SETTINGS = {
         ('values = ["v"]', MISSING_KEY),
         ('key = "k"', MISSING_KEY),
         ('key = "k", values = ["v"], invert_match = 1', WRONG_TYPE),
-        ('key = "k", values = ["v"], enabled_regex_matching = true', UNKNOWN_KEY),
+        ('key = "k", values = ["v"], enabled_regex_matching = true', TAKEN),
+        ('key = "k", values = ["^a{2,3}$", "b|c"], enabled_regex_matching = true, cache_max_size = 1000', TAKEN),
+        ('key = "k", values = ["("], enabled_regex_matching = false, cache_max_size = 0', TAKEN),
+        ('key = "k", values = ["("]', TAKEN),
+        ('key = "k", values = ["a", "("], enabled_regex_matching = true', NOT_AN_EXPRESSION),
+        ('key = "k", values = ["(?=a)"], enabled_regex_matching = true', NOT_AN_EXPRESSION),
+        ('key = "k", values = ["((a{999}){999}){9}"], enabled_regex_matching = true', EXPRESSION_TOO_BIG),
+        ('key = "k", values = ["((a{999}){999}){9}", "("], enabled_regex_matching = true', NOT_AN_EXPRESSION),
+        ('key = "k", values = [], enabled_regex_matching = true', NO_VALUES),
+        ('key = "k", values = ["("], enabled_regex_matching = 1', WRONG_TYPE),
+        ('key = "k", values = ["v"], cache_max_size = -1', OUT_OF_RANGE),
+        ('key = "k", values = ["v"], cache_max_size = true', WRONG_TYPE),
     ],
     "numeric_attribute": [
         ('key = "k"', TAKEN),

@@ -105,6 +105,20 @@ ROWS = [
         "policies[2].boolean_attribute.value: missing (fault 3)",
         NO_VALUES,
     ]),
+    ("expressions", 'policies = [{ name = "a", type = "string_attribute", string_attribute = { key = "k", values = ["a.*", "(", "[b"], enabled_regex_matching = true } },'
+     ' { name = "b", type = "string_attribute", string_attribute = { key = "k", values = ["((a{999}){999}){9}", "*"], enabled_regex_matching = true } }]', [
+        'policies: "(" is no regular expression (fault 9)',
+        'policies: "[b" is no regular expression (fault 9)',
+        'policies: "*" is no regular expression (fault 9)',
+        'policies: "((a{999}){999}){9}" takes more than about 1 MiB, compiled (fault 10)',
+    ]),
+    ("expressions beside other faults", 'lanes = 0\npolicies = [{ name = "a", type = "string_attribute", string_attribute = { key = "k", values = ["("], enabled_regex_matching = true, cache_max_size = -1 } }]', [
+        "lanes: 0 is not from 1 to 64 (fault 5)",
+        "policies[0].string_attribute.cache_max_size: -1 is below 0 (fault 5)",
+        'policies: "(" is no regular expression (fault 9)',
+    ]),
+    ("expressions of refused policies", 'policies = [{ name = "a", type = "string_attribute", string_attribute = { key = "k", values = ["("], enabled_regex_matching = true } },'
+     ' { name = "a", type = "always_sample" }]', [SAME_NAME]),
     ("percentages", "policies = [" + ", ".join(f'{{ name = "{n}", type = "probabilistic", probabilistic = {{ sampling_percentage = {text} }} }}' for n, text in enumerate(("101", "12.34567", '"1"', "50"))) + "]", [
         "policies[0].probabilistic.sampling_percentage: 101 is not from 0 to 100 with at most four decimals (fault 5)",
         "policies[1].probabilistic.sampling_percentage: 12.34567 is not from 0 to 100 with at most four decimals (fault 5)",

@@ -18,9 +18,9 @@ class Run:
 
     def __init__(self, folder, name, settings, policies, is_kept):
         print(name)
-        self.script = open(f"{folder}/{name}.script", "w")
-        self.expected = open(f"{folder}/{name}.expected", "w")
-        with open(f"{folder}/{name}.toml", "w") as config:
+        self.script = open(f"{folder}/{name}.script", "w", encoding="utf-8")
+        self.expected = open(f"{folder}/{name}.expected", "w", encoding="utf-8")
+        with open(f"{folder}/{name}.toml", "w", encoding="utf-8") as config:
             config.write("".join(f"{key} = {value}\n" for key, value in settings.items()) + policies)
         self.shards = [{} for _ in range(settings.get("shards", 1))]
         self.share = settings.get("num_traces", 50000) // len(self.shards)
@@ -88,7 +88,7 @@ def line_of(records):
             scopes.append((of_scope, []))
         scopes[-1][1].append(span)
     request = [dict(resource, scopeSpans=[dict(scope, spans=spans) for scope, spans in scopes]) for resource, scopes in groups]
-    return json.dumps({"resourceSpans": request}, sort_keys=True, separators=(",", ":"))
+    return json.dumps({"resourceSpans": request}, sort_keys=True, ensure_ascii=False, separators=(",", ":"))
 
 
 def plain_span(trace, number, **fields):

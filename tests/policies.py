@@ -120,6 +120,64 @@ def attributes(folder):
             one_run(folder, f"inverted attribute {row} of the {place}", [(kind, f'key = "env", {settings}, invert_match = true')], spans, not is_in)
 
 
+def expressions(folder):
+    """An attribute of the last of two spans, or of its resource, against regular expressions: a match anywhere is one. In TOML they stand between single quotes."""
+    rows = [
+        ("^/health", "/health/live", True), ("^/health", "/api/health", False), ("health", "/api/healthz", True), ("health", "/api/Health", False), ("(?i)HEALTH", "/api/Health", True),
+        ("^/users/[0-9]+$", "/users/42", True), ("^/users/[0-9]+$", "/users/42/x", False), ("^/users/[0-9]+$", "/users/", False), (r"\d{3}", "ab123", True), (r"\d{3}", "ab12", False),
+        ("a.c", "abc", True), ("a.c", "a.c", True), ("a.c", "ac", False), ("a.c", "a\nc", False), ("(?s)a.c", "a\nc", True), (r"a\.c", "abc", False), (r"a\.c", "a.c", True),
+        ("", "anything", True), ("", "", True), ("^$", "", True), ("^$", "x", False), ("^.$", "\u00e9", True), ("^..$", "\u00e9", False), ("\u00e9", "caf\u00e9", True), (r"^\w+$", "\u00e9t\u00e9", True),
+        (r"\bfoo\b", "a foo b", True), (r"\bfoo\b", "a food b", False), ("^(GET|POST)$", "POST", True), ("^(GET|POST)$", "PUT", False), ("GET|POST", "POSTED", True), ("^[^/]*$", "a/b", False),
+        ("(a|a?)+$", "b", True), ("^(a|a?)+$", "aab", False), ("[[:upper:]]{2}", "aBCd", True), ("x*y", "zzy", True), ("x+y", "zzy", False), ("(?m)^b$", "a\nb\nc", True), ("^b$", "a\nb\nc", False),
+    ]  # fmt: skip
+    other = attribute("other", stringValue="/health/live")
+    for row, (expression, value, is_in) in enumerate(rows):
+        settings = f"key = \"url\", enabled_regex_matching = true, values = ['{expression}']"
+        having = [other, attribute("url", stringValue=value)]
+        for place, own, of_resource in (("span", having, [other]), ("resource", [other], having)):
+            spans = [(span(1, attributes=[other]), [other]), (span(2, attributes=own), of_resource)]
+            one_run(folder, f"expression {row} of the {place}", [("string_attribute", settings)], spans, is_in)
+            one_run(folder, f"inverted expression {row} of the {place}", [("string_attribute", settings + ", invert_match = true")], spans, not is_in)
+
+
+def expressions_and_values(folder):
+    """Two expressions, values that are no texts, the size that has no effect, and texts that look like expressions."""
+    matching = "enabled_regex_matching = true"
+    more = [
+        ("two expressions, the second of which matches", f"{matching}, values = ['^a', 'b$']", {"stringValue": "cb"}, True),
+        ("two expressions, none of which matches", f"{matching}, values = ['^a', 'b$']", {"stringValue": "ba"}, False),
+        ("an expression for a whole number", f"{matching}, values = ['1']", {"intValue": "1"}, False),
+        ("an expression for a truth value", f"{matching}, values = ['true']", {"boolValue": True}, False),
+        ("an expression, and a size of no effect", f"{matching}, cache_max_size = 0, values = ['^a']", {"stringValue": "ab"}, True),
+        ("no expression where none is wanted", "enabled_regex_matching = false, cache_max_size = 100, values = ['a.c', '(']", {"stringValue": "abc"}, False),
+        ("a text that looks like an expression", "values = ['a.c', '(']", {"stringValue": "("}, True),
+    ]
+    for name, settings, value, is_in in more:
+        one_run(folder, name, [("string_attribute", f'key = "url", {settings}')], [(span(1, attributes=[attribute("url", **value)]), None)], is_in)
+
+
+def expressions_together(folder):
+    """Policies on expressions beside and inside others; a trace of one span with `url` as `/health/live`."""
+    parts = [("string_attribute", f"key = \"url\", enabled_regex_matching = true, values = ['{expression}']") for expression in ("^/", "live$", "dead$")]
+    first, second, third = parts
+    together = [
+        ([third, second], True), ([third, third], False), ([joined("and", first, second)], True), ([joined("and", first, third)], False), ([joined("not", third)], True),
+        ([joined("drop", second), ALWAYS], False), ([joined("drop", third), ALWAYS], True), ([composite(9, third, second)], True), ([composite(9, third)], False),
+        ([joined("not", joined("and", first, second))], False), ([joined("and", joined("not", third), joined("and", second, first))], True),
+    ]  # fmt: skip
+    for number, (kinds, is_in) in enumerate(together):
+        one_run(folder, f"expressions together {number}", kinds, [(span(1, attributes=[attribute("url", stringValue="/health/live")]), None)], is_in)
+
+
+def long_texts(folder):
+    """A text of 1 MiB under expressions that take a time beyond all bounds where a matcher tries one way after the other."""
+    mebibyte = 2**20
+    rows = [("(a|a?)+$", "a" * mebibyte, True), ("^(a|a?)+$", "a" * (mebibyte - 1) + "b", False), ("^(a*)*(a*)*c", "a" * mebibyte, False), ("(x+x+)+y", "x" * mebibyte, False)]
+    for number, (expression, value, is_in) in enumerate(rows):
+        settings = f"key = \"url\", enabled_regex_matching = true, values = ['{expression}']"
+        one_run(folder, f"an expression for a long text {number}", [("string_attribute", settings)], [(span(1, attributes=[attribute("url", stringValue=value)]), None)], is_in)
+
+
 def fnv_1a(octets):
     """The 64-bit FNV-1a hash of bytes."""
     state = 0xCBF29CE484222325
@@ -261,5 +319,5 @@ def first_matches(folder):
 
 
 if __name__ == "__main__":
-    for write in (latencies, times_at_the_top, status_codes, span_counts, rates, attributes, percentages, trace_states, trace_flags, policies_together, policies_of_policies, composites, first_matches):
+    for write in (latencies, times_at_the_top, status_codes, span_counts, rates, attributes, expressions, expressions_and_values, expressions_together, long_texts, percentages, trace_states, trace_flags, policies_together, policies_of_policies, composites, first_matches):
         write(sys.argv[1])

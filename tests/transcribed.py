@@ -67,6 +67,8 @@ FROM_FIFTY = ("numeric_attribute", 'key = "key1", min_value = 50')
 ERROR = ("status_code", 'status_codes = ["ERROR"]')
 ERROR_OR_UNSET = ("status_code", 'status_codes = ["ERROR", "UNSET"]')
 TWO_VALUES = ("string_attribute", 'key = "key2", values = ["value1", "value2"]')
+MATCHING = ("string_attribute", "key = \"key2\", values = ['value1', 'val*'], enabled_regex_matching = true, cache_max_size = 10")
+NO_PROBES = ("string_attribute", r"""key = "http.route", values = ['\/live', '\/ready'], enabled_regex_matching = true, invert_match = true""")
 NO_HEALTH = ("string_attribute", 'key = "http.route", values = ["/live", "/ready"], invert_match = true')
 LIVE = ("string_attribute", 'key = "http.route", values = ["/live", "/ready"]')
 TEAM_A = ("string_attribute", 'key = "service.name", values = ["team_a"]')
@@ -76,6 +78,11 @@ STATE = ("trace_state", 'key = "key3", values = ["value1", "value2"]')
 FLAGS = ("trace_flags", None)
 TRUTH = ("boolean_attribute", 'key = "key4", value = true')
 NO_TRUTH = ("boolean_attribute", 'key = "key4", value = true, invert_match = true')
+
+
+def service(expression, more=""):
+    """Traces of services whose name has a match of a regular expression."""
+    return "string_attribute", f"key = \"service.name\", values = ['{expression}'], enabled_regex_matching = true{more}"
 
 
 def rate(limit):
@@ -148,6 +155,16 @@ ROWS = [
     ("string attribute of a resource", [TEAM_A], {5, 7, 10}),
     ("string attribute of another kind", [("string_attribute", 'key = "key4", values = ["true"]')], set()),
     ("inverted string attribute", [NO_HEALTH], EVERY - {7}),
+    # `val*` has a match in value2, too: its `va`.
+    ("regular expressions", [MATCHING], {5, 10}),
+    ("inverted regular expressions", [NO_PROBES], EVERY - {7}),
+    ("inverted regular expressions of another key", [("string_attribute", "key = \"http.url\", values = ['health'], enabled_regex_matching = true, invert_match = true")], EVERY),
+    ("regular expression of two teams", [service("team_[ab]")], {2, 5, 7, 10}),
+    ("regular expression of a whole name", [service("^team_a$")], {5, 7, 10}),
+    ("regular expression of a part of a name", [service("m_c")], {3}),
+    ("regular expression in another case", [service("TEAM")], set()),
+    ("regular expression in any case", [service("(?i)TEAM")], {2, 3, 5, 7, 10}),
+    ("inverted regular expression of each team", [service("^team_.$", ", invert_match = true")], EVERY - {2, 3, 5, 7, 10}),
     ("rate limiting of 35", [rate(35)], EVERY),
     # In the order of their arrival the traces have 1, 2, 1, 2, 1, 1, 1, 1, 21 and 2 spans.
     ("rate limiting of 10", [rate(10)], EVERY - {9, 10}),
@@ -170,6 +187,10 @@ ROWS = [
     # Both attributes hold for 5, 7 and 10, of 1, 1 and 2 spans, and only they ask the limiter.
     ("and of a team and a limit", [made_of("and", TEAM_A, rate(3))], {5, 7}),
     ("and of a limit and a team", [made_of("and", rate(10), TEAM_A)], {5, 7}),
+    ("and of a regular expression and an error", [made_of("and", service("^team_(a|c)"), ERROR)], {10}),
+    ("not of a regular expression", [made_of("not", service("team"))], EVERY - {2, 3, 5, 7, 10}),
+    ("drop of a regular expression", [made_of("drop", service("^team_[bc]$")), ALWAYS], EVERY - {2, 3}),
+    ("composite of regular expressions", [composite(100, (), service("_b$"), MATCHING)], {2, 5, 10}),
     ("not", [made_of("not", ERROR)], EVERY - {2, 10}),
     ("not of an and", [made_of("not", AND)], EVERY - {10}),
     ("not of an inverted attribute", [made_of("not", NO_HEALTH)], {7}),
@@ -190,9 +211,9 @@ ROWS = [
     ("flags, errors or a truth", [FLAGS, ERROR, TRUTH], {2, 6, 8, 10}),
     ("a tenth or errors", [share(10), ERROR], chosen(10**5) | {2, 10}),
     ("a tenth of a team, or errors", [made_of("and", TEAM_A, share(50)), ERROR], chosen(5 * 10**5) & {5, 7} | {2, 10}),
-    # The README's list of policies, without its regular expressions, limits of bytes, conditions in OTTL and composite.
-    ("the list of policies but for all", [RATHER_SLOW, FIFTY_TO_HUNDRED, ERROR, TWO_VALUES, SPANS, STATE, TRUTH, AND], {2, 3, 4, 5, 6, 8, 10}),
-    ("the list of policies", [ALWAYS, RATHER_SLOW, FIFTY_TO_HUNDRED, share(10), ERROR_OR_UNSET, TWO_VALUES, rate(35), NO_HEALTH, SPANS, STATE, TRUTH, AND, DROP_PROBES], EVERY - {7}),
+    # The README's list of policies, without its limits of bytes, conditions in OTTL and composite.
+    ("the list of policies but for all", [RATHER_SLOW, FIFTY_TO_HUNDRED, ERROR, TWO_VALUES, MATCHING, SPANS, STATE, TRUTH, AND], {2, 3, 4, 5, 6, 8, 10}),
+    ("the list of policies", [ALWAYS, RATHER_SLOW, FIFTY_TO_HUNDRED, share(10), ERROR_OR_UNSET, TWO_VALUES, MATCHING, rate(35), NO_PROBES, SPANS, STATE, TRUTH, AND, DROP_PROBES], EVERY - {7}),
     # Its practical example: other teams keep all; of team_a's probes few are kept, of its noisy endpoint few, and what is slow or an error.
     (
         "a practical example",

@@ -7,9 +7,9 @@ usage: refused.py [--crates FOLDER] [--sample N] exchanges | readings | replays 
   requests, or end with status 1 and print nothing, where the table itself was refused its memory.
 - readings: the table of `reading_table`. A body for which memory is refused is read again, so each run must print that no body is read otherwise, with
   status 1, or 0 where a list that gives up its spare room was refused that; or end with status 1 and print nothing.
-- replays: the program, on a script of two requests of one connection. A request for which memory is refused is answered 503 and takes no number, so
-  that the other one is answered 200 and its span is handed over, or counted for want of memory; each span that was received is in one of the other
-  counts. Or the program ends with status 5, or 3 and fault 8, before anything was read.
+- replays: the program, on a script of two requests of one connection, by errors.toml and by expression.toml. A request for which memory is refused is
+  answered 503 and takes no number, so that the other one is answered 200 and its span is handed over, or counted for want of memory; each span that was
+  received is in one of the other counts. Or the program ends with status 5, or 3 and fault 8, before anything was read.
 - sends: the program with `[export]`, over four lines of which one is tried twice, one is cut off and one is given up; refused are the requests of the thread
   that sends, behind its first connection. Each span is counted, and those that are counted as handed over are what the backend took, but for one at most that it
   took though its answer couldn't be read, and then refused; or the program ends with status 1 and prints nothing, where the spans of a line that was given up couldn't be counted for want of memory.
@@ -80,7 +80,7 @@ def readings(runs, crates):
 
 
 def replays(runs, crates):
-    span = '{"resourceSpans":[{"scopeSpans":[{"spans":[{"traceId":"5b8efff798038103d269b633813fc60c","spanId":"eee19b7ec3c1b174","status":{"code":2}}]}]}]}'
+    span = '{"resourceSpans":[{"scopeSpans":[{"spans":[{"traceId":"5b8efff798038103d269b633813fc60c","spanId":"eee19b7ec3c1b174","attributes":[{"key":"k","value":{"stringValue":"aab"}}],"status":{"code":2}}]}]}]}'
     counts = re.compile("received (\\d+)\nhanded (\\d+)\n" + "".join(f"dropped {reason} (\\d+)\n" for reason in range(1, 8)))
 
     def is_well(status, printed, _):
@@ -97,7 +97,8 @@ def replays(runs, crates):
         )
 
     runs.given = f"recv 1 1000 {span}\nrecv 1 1001 {span}\ntick 11000\n"
-    runs.each("replays", [f"{crates}/collector_main/out/collector_main", "replay", f"{HERE.parent.parent}/examples/errors.toml"], crates, is_well)
+    for name, config in (("replays", HERE.parent.parent / "examples/errors.toml"), ("replays by an expression", HERE / "expression.toml")):
+        runs.each(name, [f"{crates}/collector_main/out/collector_main", "replay", config], crates, is_well)
     runs.given = ""
 
 

@@ -1,9 +1,10 @@
 -- What is read of the configuration's file, and what that is read as.
 use Rattle.std.specs.Prelude.{◌≡◌, ◌≢◌, ◌≤◌, ◌+◌, ℕ, List, take, length, Option, Result, Ok, Err, IsUtf8, IfSome}
 use Rattle.std.specs.Option.{option_map}
+use Rattle.tsc_config.specs.FaultSets.{MayBeTooBig}
 use Rattle.tsc_config.specs.Reading.{reading}
 use Rattle.tsc_config.specs.declared.config.Config.{Config}
-use Rattle.tsc_config.specs.declared.fault.ConfigFault.TheVariants.{NoMemory as ReadsNothing}
+use Rattle.tsc_config.specs.declared.fault.ConfigFault.TheVariants.{NoMemory as ReadsNothing, ExpressionTooBig}
 use Rattle.collector_main.specs.declared.configuration.FileFault.{FileFault}
 use Rattle.collector_main.specs.declared.configuration.FileFault.TheVariants as file_is
 use Rattle.collector_main.specs.declared.program.Outcome.{Outcome}
@@ -30,10 +31,11 @@ IsText bytes = (length bytes ≤ greatest_length) × IsUtf8 bytes
 abbrev pub IsConfigIn : List ℕ → Config → Type 0
 IsConfigIn bytes config = IsText bytes × (reading bytes ≡ Ok config)
 
--- why bytes give no configuration: they are no such text, or this is the least fault of it; or there was no memory to read it
+-- why bytes give no configuration: they are no such text, or this is the least fault of it; or there was no memory to read it, or an expression takes too much
 abbrev pub BytesFail : List ℕ → Outcome → Type 0
 BytesFail bytes Unreadable = ¬ IsText bytes
-BytesFail bytes (Configuration fault) = IsText bytes × (fault ≢ ReadsNothing → reading bytes ≡ Err fault)
+BytesFail bytes (Configuration fault) =
+    IsText bytes × (fault ≢ ReadsNothing → fault ≢ ExpressionTooBig → reading bytes ≡ Err fault) × (fault ≡ ExpressionTooBig → MayBeTooBig (reading bytes))
 BytesFail bytes _ = ⊥
 
 -- the outcome of a file that was not read

@@ -2,6 +2,7 @@ pub mod Verdicts
 pub mod Turns
 pub mod GivenTurns
 pub mod Members
+pub mod Known
 mod Rows
 mod GivenRows
 mod FirstRows

@@ -7,7 +7,8 @@ use Rattle.policy_tree.specs.declared.policy.Join.TheVariants.{And, Not, Drop, F
 use Rattle.policy_tree.specs.Tree.{Policy, Policies, no_more, one_more, leaf, joined, and_policy, rate_limiting}
 use Rattle.policy_tree.specs.declared.policy.Leaf.{Leaf}
 use Rattle.policy_tree.specs.declared.policy.Leaf.TheVariants.{AlwaysSample, Latency, StatusCode, Attribute, SpanCount, Probabilistic, TraceState, TraceFlags}
-use Rattle.policy_tree.specs.declared.policy.Wanted.TheVariants.{StringAmong, NumberWithin, Boolean}
+use Rattle.policy_tree.specs.declared.policy.Wanted.TheVariants.{StringAmong, StringMatching, NumberWithin, Boolean}
+use Rattle.expression.proofs.Rows.{matches_on_literals}
 use Rattle.policy_eval.specs.Probabilistic.{fnv_1a, threshold, trace_of, is_chosen}
 use Rattle.policy_eval.specs.TraceState.{split_commas, trimmed, is_member}
 use Rattle.policy_eval.specs.Policies.{sample, not_sample, inverted_sample, inverted_not_sample, dropped, leaf_answer, is_slow, is_within, answers, verdict, verdict_of_answers, asked_nodes}
@@ -211,3 +212,15 @@ states = refl
 -- the flags of the last of two spans: none, sampled, random, both, and one of the upper ones with and without
 pub flags : map (λ (n : ℕ). leaf_answer TraceFlags (stated [] 2 ∷ stated [] n ∷ [])) (0 ∷ 1 ∷ 2 ∷ 3 ∷ 256 ∷ 4294967295 ∷ []) ≡ not_sample ∷ sample ∷ not_sample ∷ sample ∷ not_sample ∷ sample ∷ []
 flags = refl
+
+-- ---- regular expressions
+
+-- one that is anchored at the start, one that isn't, where the value has it in the middle, and two of which the second has a match
+pub expressions_of_values : map (λ (texts : List (List ℕ)). leaf_answer (Attribute (codes "env") (StringMatching texts) false) (in_env (codes "/a/b"))) ((codes "^/b" ∷ []) ∷ (codes "/b" ∷ []) ∷ (codes "^b" ∷ codes "/b$" ∷ []) ∷ []) ≡ not_sample ∷ sample ∷ sample ∷ []
+unfolding matches_on_literals
+expressions_of_values = refl
+
+-- inverted, and of a value that is no text
+pub expressions_inverted : map (λ (value : AnyValue). leaf_answer (Attribute (codes "env") (StringMatching (codes "^/a" ∷ [])) true) (arrival 0 0 0 (env value) [] ∷ [])) (Str (codes "/a/b") ∷ Str (codes "a/b") ∷ Truth true ∷ []) ≡ inverted_not_sample ∷ inverted_sample ∷ inverted_sample ∷ []
+unfolding matches_on_literals
+expressions_inverted = refl

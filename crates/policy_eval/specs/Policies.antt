@@ -2,12 +2,13 @@
 use Rattle.std.specs.Prelude.{ℕ, ◌+◌, ◌-◌, ◌/◌, ◌%◌, min, max, ℤ, Bool, true, false, not, ◌&&◌, ◌||◌, if◌then◌else◌, ◌==◌, nat_lt, nat_le, List, [], ◌∷◌, ◌++◌, length, bytes_eq, int_le, Option, None}
 use Rattle.std.specs.List.{list_any, list_all, position_from}
 use Rattle.std.specs.Ordering.{int_eq}
+use Rattle.expression.specs.Expressions.{is_match}
 use Rattle.policy_eval.specs.Probabilistic.{trace_of, is_chosen}
 use Rattle.policy_eval.specs.TraceState.{has_member}
 use Rattle.policy_tree.specs.declared.policy.Leaf.{Leaf}
 use Rattle.policy_tree.specs.declared.policy.Leaf.TheVariants as leaf_is
 use Rattle.policy_tree.specs.declared.policy.Wanted.{Wanted}
-use Rattle.policy_tree.specs.declared.policy.Wanted.TheVariants.{StringAmong, NumberWithin, Boolean}
+use Rattle.policy_tree.specs.declared.policy.Wanted.TheVariants.{StringAmong, StringMatching, NumberWithin, Boolean}
 use Rattle.policy_tree.specs.declared.policy.Join.{Join}
 use Rattle.policy_tree.specs.declared.policy.Join.TheVariants.{And, Not, Drop, FirstMatch, Share}
 use Rattle.policy_tree.specs.Tree.{Policy, leaf, rate_limiting, joined, Policies, no_more, one_more, nodes}
@@ -59,9 +60,14 @@ is_within least most n = nat_le least n && (most == 0 || nat_le n most)
 abbrev pub is_among : List (List ℕ) → List ℕ → Bool
 is_among values text = list_any (λ v. bytes_eq v text) values
 
+-- one of the expressions has a match in a text
+abbrev pub is_matched : List (List ℕ) → List ℕ → Bool
+is_matched expressions text = list_any (λ e. is_match e text) expressions
+
 -- the value of an attribute is of the wanted kind, and as it is wanted
 abbrev pub is_wanted : Wanted → AnyValue → Bool
 is_wanted (StringAmong values) (Str t) = is_among values t
+is_wanted (StringMatching expressions) (Str t) = is_matched expressions t
 is_wanted (NumberWithin least greatest) (Int n) = int_le least n && int_le n greatest
 is_wanted (Boolean true) (Truth b) = b
 is_wanted (Boolean false) (Truth b) = not b

@@ -1,36 +1,59 @@
 //! The attribute policies: what a span or its resource has under a key.
-ghost use Rattle.std.specs.Prelude.{◌≡◌};
-ghost use Rattle.policy_eval.specs.Policies.{matches, has_wanted, is_among, is_wanted};
+ghost use Rattle.std.specs.Prelude.{◌≡◌, true};
+ghost use Rattle.expression.specs.Expressions.{are_known};
+ghost use Rattle.policy_tree.specs.Expressions.{expressions_wanted};
+ghost use Rattle.policy_eval.specs.Policies.{matches, has_wanted, is_among, is_matched, is_wanted};
 
+use expression::Searches;
 use otlp_types::{AnyValue, Arrival, KeyValue, Text};
 use policy_tree::Wanted;
 
 /// Whether some span, or its resource, has an attribute of this key that is as wanted.
-pub fn matches(key: &str, wanted: &Wanted, spans: &[Arrival]) -> bool
-    ensures { result ≡ matches key.now wanted.now spans.now }
+pub fn matches(key: &str, wanted: &Wanted, spans: &[Arrival], searches: &mut Searches) -> bool
+    requires known { are_known searches.old (expressions_wanted wanted.now) ≡ true }
+    ensures found { result ≡ matches key.now wanted.now spans.now }
+    ensures same { searches.new ≡ searches.old }
 {
-    spans.iter().any(|arrival| has_wanted(key, wanted, arrival.rec.span.get().attributes.as_slice())
-        || has_wanted(
-            key,
-            wanted,
-            arrival.rec.resource.get().attributes.as_slice(),
-        ))
+    for arrival in spans {
+        let attributes = arrival.rec.span.get().attributes.as_slice();
+        if has_wanted(key, wanted, attributes, searches) {
+            return true;
+        }
+        let of_resource = arrival.rec.resource.get().attributes.as_slice();
+        if has_wanted(key, wanted, of_resource, searches) {
+            return true;
+        }
+    }
+    false
 }
 
-fn has_wanted(key: &str, wanted: &Wanted, attributes: &[KeyValue]) -> bool
-    ensures { result ≡ has_wanted key.now wanted.now attributes.now }
+fn has_wanted(key: &str, wanted: &Wanted, attributes: &[KeyValue], searches: &mut Searches) -> bool
+    requires known { are_known searches.old (expressions_wanted wanted.now) ≡ true }
+    ensures found { result ≡ has_wanted key.now wanted.now attributes.now }
+    ensures same { searches.new ≡ searches.old }
 {
-    attributes.iter().any(|attribute| attribute.key.as_str() == key
-        && is_wanted(wanted, &attribute.value))
+    for attribute in attributes {
+        if attribute.key.as_str() == key && is_wanted(wanted, &attribute.value, searches) {
+            return true;
+        }
+    }
+    false
 }
 
-fn is_wanted(wanted: &Wanted, value: &AnyValue) -> bool
-    ensures { result ≡ is_wanted wanted.now value.now }
+fn is_wanted(wanted: &Wanted, value: &AnyValue, searches: &mut Searches) -> bool
+    requires known { are_known searches.old (expressions_wanted wanted.now) ≡ true }
+    ensures wanted { result ≡ is_wanted wanted.now value.now }
+    ensures same { searches.new ≡ searches.old }
 {
     match (wanted, value) {
         (Wanted::StringAmong(values), AnyValue::Str(text)) => is_among(
             values.as_slice(),
             text.as_str(),
+        ),
+        (Wanted::StringMatching(expressions), AnyValue::Str(text)) => is_matched(
+            expressions.as_slice(),
+            text.as_str(),
+            searches,
         ),
         (
             Wanted::NumberWithin {
@@ -48,4 +71,18 @@ fn is_among(values: &[Text], text: &str) -> bool
     ensures { result ≡ is_among values.now text.now }
 {
     values.iter().any(|value| value.as_str() == text)
+}
+
+/// Whether one of these expressions has a match in the text.
+fn is_matched(expressions: &[Text], text: &str, searches: &mut Searches) -> bool
+    requires known { are_known searches.old expressions.now ≡ true }
+    ensures found { result ≡ is_matched expressions.now text.now }
+    ensures same { searches.new ≡ searches.old }
+{
+    for expression in expressions {
+        if searches.finds(expression.as_str(), text) {
+            return true;
+        }
+    }
+    false
 }

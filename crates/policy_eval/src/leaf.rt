@@ -1,5 +1,7 @@
 //! The answers of policies that have no parts and ask no limiter.
-ghost use Rattle.std.specs.Prelude.{◌≡◌};
+ghost use Rattle.std.specs.Prelude.{◌≡◌, true};
+ghost use Rattle.expression.specs.Expressions.{are_known};
+ghost use Rattle.policy_tree.specs.Expressions.{expressions_of_leaf};
 ghost use Rattle.policy_eval.specs.Policies.{has_status, has_state, is_flagged, leaf_answer};
 ghost use Rattle.policy_eval.specs.Meaning.{answer_of};
 
@@ -8,12 +10,15 @@ use crate::attribute::matches;
 use crate::latency::{is_slow, is_within};
 use crate::probabilistic::is_chosen;
 use crate::trace_state::has_member;
+use expression::Searches;
 use otlp_types::{Arrival, Text};
 use policy_tree::Leaf;
 
 /// What such a policy answers for the spans of a trace.
-pub fn leaf_answer(leaf: &Leaf, spans: &[Arrival]) -> Answer
-    ensures { result ≡ answer_of (leaf_answer leaf.now spans.now) }
+pub fn leaf_answer(leaf: &Leaf, spans: &[Arrival], searches: &mut Searches) -> Answer
+    requires known { are_known searches.old (expressions_of_leaf leaf.now) ≡ true }
+    ensures answer { result ≡ answer_of (leaf_answer leaf.now spans.now) }
+    ensures same { searches.new ≡ searches.old }
 {
     match leaf {
         Leaf::AlwaysSample => Answer::Sample,
@@ -26,7 +31,10 @@ pub fn leaf_answer(leaf: &Leaf, spans: &[Arrival]) -> Answer
             key,
             wanted,
             invert_match,
-        } => Answer::of_match(matches(key.as_str(), wanted, spans), *invert_match),
+        } => Answer::of_match(
+            matches(key.as_str(), wanted, spans, searches),
+            *invert_match,
+        ),
         Leaf::SpanCount {
             min_spans,
             max_spans,

@@ -1,6 +1,8 @@
 //! The walk over a tree of policies that asks limiters on its way.
 ghost use Rattle.std.specs.Prelude.{◌≡◌, ℕ, ◌+◌, ◌/◌, ◌<◌, ◌≤◌, Bool, true, length};
 ghost use Rattle.policy_tree.specs.Tree.{nodes, limits, limiters};
+ghost use Rattle.expression.specs.Expressions.{are_known};
+ghost use Rattle.policy_tree.specs.Expressions.{expressions_of, expressions_in};
 ghost use Rattle.policy_tree.specs.Meaning.{meaning, policy_meaning};
 ghost use Rattle.policy_eval.specs.Meaning.{knows};
 ghost use Rattle.policy_eval.specs.Given.{Evaluates, EvaluatesWithDecider};
@@ -9,6 +11,7 @@ ghost use Rattle.policy_eval.specs.Walks.{Answers};
 use crate::answer::{Answer, Seen};
 use crate::decider::Firsts;
 use crate::leaf::leaf_answer;
+use expression::Searches;
 use otlp_types::Arrival;
 use policy_tree::{Policies, Policy, PolicyKind};
 use rate_budget::Limiter;
@@ -17,19 +20,23 @@ use span_ids::{Moment, Verdict};
 /// The verdict of the policies on the spans of a trace, at this moment in milliseconds. It takes no memory.
 ///
 /// The limiter nodes are asked in the order of their numbers, each at most once, for the number of spans, in the second
-/// of the moment. Of the parts of a policy no further one is asked behind an answer that ends them.
+/// of the moment. Of the parts of a policy no further one is asked behind an answer that ends them. The searches know each
+/// expression of the policies (`searches_for`).
 pub fn evaluate<L: Limiter>(
     policies: &Policies,
     spans: &[Arrival],
     now: Moment,
     limiter: &mut L,
+    searches: &mut Searches,
 ) -> Verdict
     requires nodes { knows (L.has_node limiter.old) (limiters (meaning policies.now)) ≡ true }
     requires spans { 0 < length spans.now }
+    requires expressions { are_known searches.old (expressions_in (meaning policies.now)) ≡ true }
     ensures evaluates { Evaluates L.asks (meaning policies.now) (now / 1000) spans.now result limiter.old limiter.new }
     ensures keeps { (m : ℕ) → L.has_node limiter.new m ≡ L.has_node limiter.old m }
+    ensures same { searches.new ≡ searches.old }
 {
-    evaluate_with_decider(policies, spans, now, limiter).0
+    evaluate_with_decider(policies, spans, now, limiter, searches).0
 }
 
 /// The same, with the place of the policy that decides, from 0 on, if one does. The policies are walked over once.
@@ -38,11 +45,14 @@ pub fn evaluate_with_decider<L: Limiter>(
     spans: &[Arrival],
     now: Moment,
     limiter: &mut L,
+    searches: &mut Searches,
 ) -> (Verdict, Option<usize>)
     requires nodes { knows (L.has_node limiter.old) (limiters (meaning policies.now)) ≡ true }
     requires spans { 0 < length spans.now }
+    requires expressions { are_known searches.old (expressions_in (meaning policies.now)) ≡ true }
     ensures evaluates { EvaluatesWithDecider L.asks (meaning policies.now) (now / 1000) spans.now result.0 result.1 limiter.old limiter.new }
     ensures keeps { (m : ℕ) → L.has_node limiter.new m ≡ L.has_node limiter.old m }
+    ensures same { searches.new ≡ searches.old }
 {
     let second = now / 1000;
     let mut next = 0;
@@ -51,7 +61,7 @@ pub fn evaluate_with_decider<L: Limiter>(
     let all = policies.as_slice();
     for place in 0..all.len() {
         let policy = &all[place];
-        let given = answer(policy, next, spans, second, limiter);
+        let given = answer(policy, next, spans, second, limiter, searches);
         seen = seen.with(given);
         firsts = firsts.with(given, place);
         next += policy.count() as u16;
@@ -66,15 +76,18 @@ fn answer<L: Limiter>(
     spans: &[Arrival],
     second: u64,
     limiter: &mut L,
+    searches: &mut Searches,
 ) -> Answer
     requires numbers { node + nodes (policy_meaning policy.now) ≤ 64 }
     requires known { knows (L.has_node limiter.old) (limits (policy_meaning policy.now) node) ≡ true }
     requires spans { 0 < length spans.now }
+    requires expressions { are_known searches.old (expressions_of (policy_meaning policy.now)) ≡ true }
     ensures answers { Answers L.asks (policy_meaning policy.now) node second spans.now result limiter.old limiter.new }
     ensures keeps { (m : ℕ) → L.has_node limiter.new m ≡ L.has_node limiter.old m }
+    ensures same { searches.new ≡ searches.old }
 {
     match &policy.kind {
-        PolicyKind::Leaf(leaf) => leaf_answer(leaf, spans),
+        PolicyKind::Leaf(leaf) => leaf_answer(leaf, spans, searches),
         PolicyKind::RateLimiting { .. } => Answer::plain(limiter.ask(
             node,
             second,
@@ -84,7 +97,7 @@ fn answer<L: Limiter>(
             let mut next = node + 1;
             let mut seen = Seen::none();
             for part in policies.as_slice() {
-                let given = answer(part, next, spans, second, limiter);
+                let given = answer(part, next, spans, second, limiter, searches);
                 seen = seen.with(given);
                 if given.ends(*join) {
                     return Answer::joined(*join, seen);

@@ -5,7 +5,7 @@ use Rattle.policy_tree.specs.Tree.{Policies, no_more, one_more, leaf, rate_limit
 use Rattle.policy_tree.specs.declared.policy.Join.{Join}
 use Rattle.policy_tree.specs.declared.policy.Join.TheVariants.{And, Not, Drop}
 use Rattle.policy_tree.specs.declared.policy.Leaf.TheVariants.{AlwaysSample, Latency, StatusCode, Attribute, SpanCount, Probabilistic, TraceState, TraceFlags}
-use Rattle.policy_tree.specs.declared.policy.Wanted.TheVariants.{StringAmong, NumberWithin, Boolean}
+use Rattle.policy_tree.specs.declared.policy.Wanted.TheVariants.{StringAmong, StringMatching, NumberWithin, Boolean}
 use Rattle.policy_tree.specs.Faults.{has_crossed_bounds, has_no_values}
 
 -- latencies above 500 ms and up to 500, up to 499, from 500 on, and above 0 up to 1
@@ -20,7 +20,7 @@ counts = refl
 pub numbers : map has_crossed_bounds (Attribute [] (NumberWithin (pos 1) (pos 1)) false ∷ Attribute [] (NumberWithin (pos 1) (pos 0)) false ∷ []) ≡ false ∷ true ∷ []
 numbers = refl
 
-pub values : map has_no_values (StatusCode [] ∷ StatusCode (pos 2 ∷ []) ∷ Attribute [] (StringAmong []) false ∷ Attribute [] (StringAmong ([] ∷ [])) false ∷ Attribute [] (Boolean false) false ∷ AlwaysSample ∷ Probabilistic [] 0 ∷ []) ≡ true ∷ false ∷ true ∷ false ∷ false ∷ false ∷ false ∷ []
+pub values : map has_no_values (StatusCode [] ∷ StatusCode (pos 2 ∷ []) ∷ Attribute [] (StringAmong []) false ∷ Attribute [] (StringAmong ([] ∷ [])) false ∷ Attribute [] (StringMatching []) false ∷ Attribute [] (StringMatching ([] ∷ [])) false ∷ Attribute [] (Boolean false) false ∷ AlwaysSample ∷ Probabilistic [] 0 ∷ []) ≡ true ∷ false ∷ true ∷ false ∷ true ∷ false ∷ false ∷ false ∷ false ∷ []
 values = refl
 
 -- of a trace state no value is looked for, one is, and of the flags none has to be

@@ -67,6 +67,7 @@ has_doubled_names policies = is_doubled (map named policies)
 -- a value is to be one of no values
 abbrev pub wants_none : Wanted → Bool
 wants_none (wanted_is.StringAmong values) = length values == 0
+wants_none (wanted_is.StringMatching values) = length values == 0
 wants_none (wanted_is.NumberWithin least greatest) = false
 wants_none (wanted_is.Boolean value) = false
 
@@ -80,6 +81,7 @@ has_no_values _ = false
 -- a value is to be within bounds that leave nothing
 abbrev pub wants_crossed : Wanted → Bool
 wants_crossed (wanted_is.StringAmong values) = false
+wants_crossed (wanted_is.StringMatching values) = false
 wants_crossed (wanted_is.NumberWithin least greatest) = int_lt greatest least
 wants_crossed (wanted_is.Boolean value) = false
 

@@ -47,7 +47,7 @@ fn leaf_has_fault(leaf: &Leaf, fault: LeafFault) -> bool
         (Leaf::StatusCode { codes }, LeafFault::NoValues) => codes.is_empty(),
         (
             Leaf::Attribute {
-                wanted: Wanted::StringAmong(values),
+                wanted: Wanted::StringAmong(values) | Wanted::StringMatching(values),
                 ..
             },
             LeafFault::NoValues,

@@ -2,6 +2,7 @@
 //! (tailsamplingprocessor README, "Policies").
 #![tactic(auto)]
 
+mod expressions;
 mod fault;
 mod laws;
 mod leaves;

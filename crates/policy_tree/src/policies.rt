@@ -3,15 +3,17 @@ ghost use Rattle.std.specs.Prelude.{◌≡◌, ◌≤◌, ◌+◌, ◌++◌, fal
 ghost use Rattle.std.specs.Result.{result_err};
 ghost use Rattle.policy_tree.specs.Tree.{nodes, nodes_in, depth_in, has_empty_list, limits, limits_in, limiters};
 ghost use Rattle.policy_tree.specs.Meaning.{meaning, policy_meaning};
+ghost use Rattle.policy_tree.specs.Expressions.{expressions_in};
 ghost use Rattle.policy_tree.specs.Faults.{fault_of_policies};
 
+use crate::expressions::put_expressions_in;
 use crate::fault::PolicyFault;
 use crate::leaves::{LeafFault, some_has_fault};
 use crate::limiter_node::LimiterNode;
 use crate::names::has_doubled_names;
 use crate::policy::{Policy, PolicyKind};
 use crate::shape::{count_in, depth_in, has_empty_list};
-use otlp_types::TryClone;
+use otlp_types::{List, Text, TryClone};
 use std::alloc::{AllocError, Global};
 use std::marker::Model;
 
@@ -75,6 +77,15 @@ impl Policies {
     {
         let mut found = Vec::new(alloc);
         put_limiters_in(self.as_slice(), 0, &mut found)?;
+        Ok(found)
+    }
+
+    /// The texts of the regular expressions in the policies, each as often as it stands there.
+    pub fn expressions(&self, alloc: Global) -> Result<List<Text>, AllocError>
+        ensures { IfOk result (λ found. found ≡ expressions_in (meaning self.now)) }
+    {
+        let mut found = List::new(alloc);
+        put_expressions_in(alloc, self.as_slice(), &mut found)?;
         Ok(found)
     }
 }

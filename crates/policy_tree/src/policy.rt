@@ -92,6 +92,8 @@ pub enum Leaf {
 pub enum Wanted {
     /// One of these texts.
     StringAmong(List<Text>),
+    /// A text in which one of these regular expressions has a match, anywhere (`enabled_regex_matching`).
+    StringMatching(List<Text>),
     /// A whole number within these bounds, both included.
     NumberWithin { min_value: i64, max_value: i64 },
     /// This truth value.
@@ -203,6 +205,7 @@ impl TryClone for Wanted {
     fn try_clone(&self, alloc: Global) -> Result<Wanted, AllocError> {
         match self {
             Wanted::StringAmong(values) => Ok(Wanted::StringAmong(values.try_clone(alloc)?)),
+            Wanted::StringMatching(values) => Ok(Wanted::StringMatching(values.try_clone(alloc)?)),
             Wanted::NumberWithin {
                 min_value,
                 max_value,

@@ -16,3 +16,4 @@ pub mod Finish
 pub mod Leading
 pub mod CalmReplays
 mod Rows
+pub mod From

@@ -1,5 +1,5 @@
 -- How the open batch takes spans: words of private functions.
-use Rattle.std.specs.Prelude.{◌≡◌, ℕ, ◌+◌, ◌++◌, Bool, true, false, List, [], ◌∷◌, map, length, replicate, is_some, not, if◌then◌else◌, Option}
+use Rattle.std.specs.Prelude.{◌≡◌, ℕ, ◌+◌, ◌<◌, get_or, ◌++◌, Bool, true, false, List, [], ◌∷◌, map, length, replicate, is_some, not, if◌then◌else◌, Option}
 use Rattle.std.specs.List.{AllByRecursion, list_all, sum_by}
 use Rattle.span_ids.specs.declared.outcome.Reason.{Reason}
 use Rattle.otlp_types.specs.declared.arrival.Arrival.{Arrival}
@@ -144,6 +144,10 @@ pub record Taking (Takes : List Journal → List Asking → List Arrival → Typ
 pub record EachTakes (old : List Held) (first : Counts) (before : Export) (items : List (List Item)) (new : List Held) (last : Counts) (after : Export) : Type 0 where
   pub takes : (s : Settings) (pasts : List Journal) (asked : List Asking) → HaveSettings s old → HaveReleased old pasts → first ≡ limiter_counts s.policies asked
       → Taking (TakesEach s pasts asked items) s pasts before new last after
+
+-- the shards before this place are as they were
+abbrev pub StayBefore : (place : ℕ) → (old new : List Held) → Type 0
+StayBefore place old new = (k : ℕ) (h : Held) → k < place → get_or new k h ≡ get_or old k h
 
 -- the same in several rounds
 pub record RoundsTaken (old : List Held) (first : Counts) (before : Export) (rounds : List (List (List Item))) (new : List Held) (last : Counts) (after : Export) : Type 0 where

@@ -1,5 +1,5 @@
 //! What shards do with their queues, and where their spans go.
-ghost use Rattle.std.specs.Prelude.{◌≡◌, ℕ, ◌<◌, List, [], ◌∷◌, Bool, true, false, length, map, if◌then◌else◌};
+ghost use Rattle.std.specs.Prelude.{◌≡◌, ℕ, ◌+◌, ◌<◌, ◌≤◌, List, [], ◌∷◌, Bool, true, false, length, map, drop, if◌then◌else◌};
 ghost use Rattle.std.specs.List.{AllByRecursion, list_all};
 ghost use Rattle.rate_budget.specs.Budget.{limiter_counts, has_node};
 ghost use Rattle.journal_theory.specs.Journal.{Entry, Settings, has_ids};
@@ -7,7 +7,7 @@ ghost use Rattle.shard_core.specs.Held.{StandsFor, has_due, is_finished, setting
 ghost use Rattle.shard_core.specs.Taking.{ends_after, released_by, released_in, dropped_by, dropped_in};
 ghost use Rattle.script_run.specs.World.{Turn, to_each};
 ghost use Rattle.script_session.specs.Signals.{item_of};
-ghost use Rattle.script_session.specs.Pulling.{PullsAll, GoesOn, TakesItems, DecidesAll, has_nodes_of, has_all_nodes, AreOpen, AreQuiet, HaveSettings, EachTakes, RoundsTaken, rounds_of, is_queued, emptied, items_in, HoldsQueued};
+ghost use Rattle.script_session.specs.Pulling.{PullsAll, GoesOn, TakesItems, DecidesAll, has_nodes_of, has_all_nodes, AreOpen, AreQuiet, HaveSettings, EachTakes, RoundsTaken, StayBefore, rounds_of, is_queued, emptied, items_in, HoldsQueued};
 
 use crate::output::Output;
 use crate::signal::Signal;
@@ -124,7 +124,6 @@ pub fn drain<S: Sink>(
 }
 
 /// Each shard in its turn takes what its queue holds.
-#[tactic(auto, using(crate::proofs::Nodes::others_have_nodes, crate::proofs::Nodes::first_has_nodes, crate::proofs::Nodes::all_have_nodes))]
 pub fn take_queued<S: Sink>(
     shards: &mut [Shard],
     queues: &mut [ListPort<Item>],
@@ -144,14 +143,36 @@ pub fn take_queued<S: Sink>(
     ensures length { length shards.new ≡ length shards.old }
     ensures goes_on { GoesOn output.old output.new }
 {
-    let Some((shard, others)) = shards.split_first_mut() else {
-        return;
-    };
+    take_from(shards, 0, queues, limiter, output);
+}
+
+/// The same of the shards from this place on, of which these are the queues.
+fn take_from<S: Sink>(
+    shards: &mut [Shard],
+    place: usize,
+    queues: &mut [ListPort<Item>],
+    limiter: &mut Budgets,
+    output: &mut Output<S>,
+)
+    requires same { place + length queues.old ≡ length shards.old }
+    requires runs { AreOpen (drop place shards.old) }
+    requires queued { AllByRecursion HoldsQueued queues.old }
+    requires nodes { has_all_nodes limiter.old (drop place shards.old) ≡ true }
+    ensures takes { EachTakes (drop place shards.old) limiter.old output.old (items_in queues.old) (drop place shards.new) limiter.new output.new }
+    ensures nodes { has_all_nodes limiter.new (drop place shards.new) ≡ true }
+    ensures same_nodes { (node : ℕ) → has_node limiter.new node ≡ has_node limiter.old node }
+    ensures emptied { queues.new ≡ map emptied queues.old }
+    ensures quiet { (ends : List Bool) → AreQuiet ends (drop place shards.old) → AreQuiet ends (drop place shards.new) }
+    ensures settings { (s : Settings) → HaveSettings s (drop place shards.old) → HaveSettings s (drop place shards.new) }
+    ensures length { length shards.new ≡ length shards.old }
+    ensures before { StayBefore place shards.old shards.new }
+    ensures goes_on { GoesOn output.old output.new }
+{
     let Some((queue, rest)) = queues.split_first_mut() else {
         return;
     };
-    drain(shard, queue, limiter, output);
-    take_queued(others, rest, limiter, output);
+    drain(&mut shards[place], queue, limiter, output);
+    take_from(shards, place + 1, rest, limiter, output);
 }
 
 /// Where a request's spans were received, each shard in its turn takes what its queue holds.
@@ -180,7 +201,6 @@ pub fn take_received<S: Sink>(
 }
 
 /// Each shard in its turn is told the same, and decides by the one limiter.
-#[tactic(auto, using(crate::proofs::Nodes::others_have_nodes, crate::proofs::Nodes::first_has_nodes, crate::proofs::Nodes::all_have_nodes))]
 pub fn tell_each<S: Sink>(
     shards: &mut [Shard],
     limiter: &mut Budgets,
@@ -197,9 +217,31 @@ pub fn tell_each<S: Sink>(
     ensures length { length shards.new ≡ length shards.old }
     ensures goes_on { GoesOn output.old output.new }
 {
-    let Some((shard, others)) = shards.split_first_mut() else {
-        return;
-    };
-    take_item(shard, limiter, output, signal.item());
-    tell_each(others, limiter, output, signal);
+    tell_from(shards, 0, limiter, output, signal);
+}
+
+/// The same of the shards from this place on.
+fn tell_from<S: Sink>(
+    shards: &mut [Shard],
+    place: usize,
+    limiter: &mut Budgets,
+    output: &mut Output<S>,
+    signal: Signal,
+)
+    requires within { place ≤ length shards.old }
+    requires runs { AreOpen (drop place shards.old) }
+    requires nodes { has_all_nodes limiter.old (drop place shards.old) ≡ true }
+    ensures takes { EachTakes (drop place shards.old) limiter.old output.old (to_each (item_of signal) (drop place shards.old)) (drop place shards.new) limiter.new output.new }
+    ensures nodes { has_all_nodes limiter.new (drop place shards.new) ≡ true }
+    ensures same_nodes { (node : ℕ) → has_node limiter.new node ≡ has_node limiter.old node }
+    ensures quiet { (ends : List Bool) → AreQuiet ends (drop place shards.old) → AreQuiet (ends_after (item_of signal) ends) (drop place shards.new) }
+    ensures settings { (s : Settings) → HaveSettings s (drop place shards.old) → HaveSettings s (drop place shards.new) }
+    ensures length { length shards.new ≡ length shards.old }
+    ensures before { StayBefore place shards.old shards.new }
+    ensures goes_on { GoesOn output.old output.new }
+{
+    if place < shards.len() {
+        take_item(&mut shards[place], limiter, output, signal.item());
+        tell_from(shards, place + 1, limiter, output, signal);
+    }
 }

@@ -14,8 +14,9 @@ ghost use Rattle.shard_core.specs.Holding.{KeepsAs, OpensAs, answer_to_append, l
 
 use crate::answer::{Decided, Taken};
 use decision_cache::DecisionCache;
+use expression::Searches;
 use otlp_types::{Arrival, Ids, Item};
-use policy_eval::evaluate_with_decider;
+use policy_eval::{evaluate_with_decider, searches_for};
 use policy_tree::Policies;
 use rate_budget::Limiter;
 use span_ids::{Moment, Reason, Verdict};
@@ -51,6 +52,8 @@ pub struct ShardSetup {
 #[derive(Drop)]
 pub struct Shard {
     policies: Policies,
+    /// For the expressions of the policies.
+    searches: Searches,
     wait: Moment,
     root_wait: Moment,
     buffer: TraceBuffer,
@@ -65,6 +68,9 @@ impl Model for Shard {
     ghost use Rattle.shard_core.specs.Held.{Held, held_of};
     ghost use Rattle.shard_core.specs.Forgotten.{traces, have_spans, AreForgotten};
     ghost use Rattle.trace_buffer.specs.Buffer.{opened_by};
+    ghost use Rattle.expression.specs.Expressions.{are_known};
+    ghost use Rattle.policy_tree.specs.Expressions.{expressions_in};
+    ghost use Rattle.policy_tree.specs.Meaning.{meaning};
     ghost use Rattle.std.specs.Coded.{codes};
     ghost use Rattle.otlp_types.specs.contracts.value.AnyValue as any_value;
     ghost use Rattle.policy_tree.specs.contracts.policy.PolicyKind as kind;
@@ -75,7 +81,7 @@ impl Model for Shard {
 
     ghost view = { λ s. held_of s.policies s.wait s.root_wait s.buffer s.cache s.clock s.mark s.ends.items };
 
-    ghost invariant = { λ s. (0 < s.wait) × (0 < s.buffer.limit) × (have_spans s.buffer.episodes ≡ true) × (opened_by s.clock s.buffer.episodes ≡ true) × AreForgotten (traces s.buffer.episodes) s.cache };
+    ghost invariant = { λ s. (0 < s.wait) × (0 < s.buffer.limit) × (have_spans s.buffer.episodes ≡ true) × (opened_by s.clock s.buffer.episodes ≡ true) × AreForgotten (traces s.buffer.episodes) s.cache × (are_known s.searches (expressions_in (meaning s.policies)) ≡ true) };
 }
 
 impl Shard {
@@ -86,7 +92,7 @@ impl Shard {
     ghost use Rattle.shard_core.specs.Holding.{held_after_tick, held_after_end, TakesSpan};
     ghost use Rattle.trace_buffer.specs.Buffer.{traces_waiting, spans_waiting};
 
-    /// A shard that has taken nothing.
+    /// A shard that has taken nothing. `Err` where memory was refused, or an expression of the policies is none.
     pub fn new(alloc: Global, policies: Policies, setup: ShardSetup) -> Result<Shard, AllocError>
         requires waits { 0 < setup.wait }
         requires keeps_a_trace { 0 < setup.limit }
@@ -98,9 +104,11 @@ impl Shard {
         ensures running { IfOk result (λ shard. is_finished shard ≡ false) }
         ensures ends { IfOk result (λ shard. shard.standing.ends ≡ replicate setup.senders false) }
     {
+        let searches = searches_for(alloc, &policies)?;
         match nothing_held(alloc, setup) {
             Ok((buffer, cache, ends)) => Ok(Shard {
                 policies,
+                searches,
                 wait: setup.wait,
                 root_wait: setup.root_wait,
                 buffer,
@@ -282,6 +290,7 @@ impl Shard {
             episode.spans(),
             now,
             limiter,
+            &mut self.searches,
         );
         let spans = self.buffer.settle(mark, wait, root_wait, verdict);
         (decided(verdict, spans), decider)

@@ -15,7 +15,7 @@ use crate::noting::notes_of;
 use crate::settings::Settings;
 use crate::spans::spans_since;
 use otlp_types::{Arrival, Item, List, TryClone};
-use policy_eval::judge;
+use policy_eval::{judge, searches_for};
 use span_ids::{Reason, Verdict};
 use std::alloc::{AllocError, Global};
 
@@ -214,7 +214,9 @@ fn effect_answered(
     ensures { IfOk result (λ effect. effect ≡ effect_answered (settings_of settings.now) (reverse journal.now) answers.now opening.now) }
 {
     let spans = spans_since(alloc, journal, opening)?;
-    let Some(verdict) = judge(&settings.policies, spans.as_slice(), answers) else {
+    let mut searches = searches_for(alloc, &settings.policies)?;
+    let judged = judge(&settings.policies, spans.as_slice(), answers, &mut searches);
+    let Some(verdict) = judged else {
         return Ok(None);
     };
     let effect = effect_of_verdict(alloc, Reason::NotSampled, spans, verdict)?;

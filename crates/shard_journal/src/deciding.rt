@@ -9,7 +9,7 @@ use crate::noted::{Decision, Notes, Opening};
 use crate::settings::Settings;
 use crate::spans::spans_since;
 use otlp_types::List;
-use policy_eval::verdict_given;
+use policy_eval::{searches_for, verdict_given};
 use std::alloc::{AllocError, Global};
 
 /// The decision of the episode of an opening at a journal's end, by these answers.
@@ -23,7 +23,8 @@ fn decide(
     ensures { IfOk result (λ made. made ≡ without_spans (decision (settings_of settings.now) (reverse past.now) opening answers.now)) }
 {
     let spans = spans_since(alloc, past, &opening)?;
-    let verdict = verdict_given(&settings.policies, spans.as_slice(), answers);
+    let mut searches = searches_for(alloc, &settings.policies)?;
+    let verdict = verdict_given(&settings.policies, spans.as_slice(), answers, &mut searches);
     Ok(Decision::new(opening, verdict))
 }
 

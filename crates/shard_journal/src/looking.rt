@@ -1,5 +1,8 @@
 //! What looking back over a journal finds, kept so that questions about it take no memory.
-ghost use Rattle.std.specs.Prelude.{◌≡◌, reverse, is_some, IfOk};
+ghost use Rattle.std.specs.Prelude.{◌≡◌, true, reverse, is_some, IfOk};
+ghost use Rattle.expression.specs.Expressions.{are_known};
+ghost use Rattle.policy_tree.specs.Expressions.{expressions_in};
+ghost use Rattle.policy_tree.specs.Meaning.{meaning};
 ghost use Rattle.journal_theory.specs.Journal.{Journal};
 ghost use Rattle.journal_theory.specs.Marked.{marks_apply_to_ids};
 ghost use Rattle.shard_journal.specs.Settings.{settings_of};
@@ -12,6 +15,7 @@ use crate::finding::finding;
 use crate::noted::Notes;
 use crate::noting::notes_of;
 use crate::settings::Settings;
+use expression::Searches;
 use otlp_types::{Arrival, Ids, List};
 use policy_eval::judge;
 use std::alloc::{AllocError, Global};
@@ -61,12 +65,21 @@ impl LookBack {
     }
 
     /// Whether an episode is due at this place, of those due at the journal's last item in order of opening, and its
-    /// decision has as many askings as there are answers.
-    pub fn is_answered(&self, settings: &Settings, place: usize, answers: &[bool]) -> bool
-        ensures { (past : Journal) → self.now ≡ look_of (settings_of settings.now) past → result ≡ is_some (effect_answered_at (settings_of settings.now) past place answers.now) }
+    /// decision has as many askings as there are answers. The searches know each expression of the policies.
+    pub fn is_answered(
+        &self,
+        settings: &Settings,
+        place: usize,
+        answers: &[bool],
+        searches: &mut Searches,
+    ) -> bool
+        requires known { are_known searches.old (expressions_in (meaning settings.now.policies)) ≡ true }
+        ensures answered { (past : Journal) → self.now ≡ look_of (settings_of settings.now) past → result ≡ is_some (effect_answered_at (settings_of settings.now) past place answers.now) }
+        ensures same { searches.new ≡ searches.old }
     {
         if place < self.spans.len() {
-            judge(&settings.policies, self.spans[place].as_slice(), answers).is_some()
+            let spans = self.spans[place].as_slice();
+            judge(&settings.policies, spans, answers, searches).is_some()
         } else {
             false
         }

@@ -2,6 +2,9 @@
 ghost use Rattle.std.specs.Prelude.{◌≡◌, ◌++◌, ◌∷◌, [], Some, ◌+◌, ◌<◌, ◌≤◌, ◌==◌, ◌^◌, length, vec_capacity, drop, not, slice_index_or, IfOk, IfSome, OnOk, OnErr, is_some, reverse, IsTrue, true, false, if◌then◌else◌};
 ghost use Rattle.std.specs.List.{remove, list_any};
 ghost use Rattle.otlp_types.specs.declared.arrival.Arrival.{Arrival};
+ghost use Rattle.expression.specs.Expressions.{are_known};
+ghost use Rattle.policy_tree.specs.Expressions.{expressions_in};
+ghost use Rattle.policy_tree.specs.Meaning.{meaning};
 ghost use Rattle.journal_theory.specs.Journal.{has_ended, answered};
 ghost use Rattle.journal_theory.specs.Fate.{effect_of_taking, Effect as EffectData};
 ghost use Rattle.shard_journal.specs.Settings.{settings_of};
@@ -11,6 +14,7 @@ ghost use Rattle.world_theory.specs.Step.{is_empty};
 ghost use Rattle.span_world.specs.Answers.{may_take, entry_of_first, next_decision, is_span, queue_after};
 
 use crate::lane::Lane;
+use expression::Searches;
 use otlp_types::{Arrival, Item, List, TryClone};
 use shard_journal::{
     DroppedSpan, Effect, Entry, LookBack, Settings, decision_at, effect_of_taking, has_ended,
@@ -137,16 +141,25 @@ impl Shard {
         Ok(())
     }
 
-    /// Whether something is due, and there is one of these answers for each asking of its decision.
-    pub fn may_decide(&self, settings: &Settings, look: &LookBack, answers: &[bool]) -> bool
-        requires { look.now ≡ look_of (settings_of settings.now) self.now.journal }
+    /// Whether something is due, and there is one of these answers for each asking of its decision. The searches know each
+    /// expression of the policies.
+    pub fn may_decide(
+        &self,
+        settings: &Settings,
+        look: &LookBack,
+        answers: &[bool],
+        searches: &mut Searches,
+    ) -> bool
+        requires known { are_known searches.old (expressions_in (meaning settings.now.policies)) ≡ true }
+        requires look { look.now ≡ look_of (settings_of settings.now) self.now.journal }
         ensures enabled { result ≡ is_some (next_decision (settings_of settings.now) self.now answers.now) }
         ensures fits { IsTrue result → self.now.dealt + 1 < 2 ^ 64 }
+        ensures same { searches.new ≡ searches.old }
     {
         if self.dealt >= look.due() {
             return false;
         }
-        look.is_answered(settings, self.dealt, answers)
+        look.is_answered(settings, self.dealt, answers, searches)
     }
 
     /// The next decision is dealt with by these answers: what it releases is to be shipped, and what it counts is counted.

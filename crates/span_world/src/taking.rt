@@ -64,7 +64,8 @@ impl World {
             return Err(Refusal::NotEnabled);
         }
         let given = answers.as_slice();
-        if !self.shards[shard].may_decide(&self.settings, &self.looks[shard], given) {
+        let look = &self.looks[shard];
+        if !self.shards[shard].may_decide(&self.settings, look, given, &mut self.searches) {
             return Err(Refusal::NotEnabled);
         }
         let answers = List::from_vec(answers);

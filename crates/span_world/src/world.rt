@@ -8,7 +8,9 @@ ghost use Rattle.span_world.specs.Core.{config_of};
 use crate::config::Config;
 use crate::lane::Lane;
 use crate::shard::Shard;
+use expression::Searches;
 use otlp_types::{Arrival, List};
+use policy_eval::searches_for;
 use shard_journal::{DroppedSpan, LookBack, Settings};
 use std::alloc::{AllocError, Global};
 use std::collections::VecDeque;
@@ -20,6 +22,8 @@ use std::marker::Model;
 pub struct World {
     pub(crate) alloc: Global,
     pub(crate) settings: Settings,
+    /// For the expressions of the policies, so that whether a decision is enabled takes no memory.
+    pub(crate) searches: Searches,
     pub(crate) batch_size: usize,
     pub(crate) lanes: Vec<Lane>,
     pub(crate) shards: Vec<Shard>,
@@ -33,7 +37,10 @@ pub struct World {
 }
 
 impl Model for World {
-    ghost use Rattle.std.specs.Prelude.{◌≡◌, ◌+◌, length};
+    ghost use Rattle.std.specs.Prelude.{◌≡◌, ◌+◌, true, length};
+    ghost use Rattle.expression.specs.Expressions.{are_known};
+    ghost use Rattle.policy_tree.specs.Expressions.{expressions_in};
+    ghost use Rattle.policy_tree.specs.Meaning.{meaning};
     ghost use Rattle.shard_journal.specs.Settings.{settings_of};
     ghost use Rattle.span_world.specs.Core.{Core, LooksBack};
     ghost use Rattle.std.specs.Coded.{codes};
@@ -49,12 +56,12 @@ impl Model for World {
       world = record { lanes = w.lanes.items; shards = w.shards.items; exported = w.exported.items; batch = w.batch.items; handed = w.handed.items; counted = w.counted.items; down = w.down };
     } };
 
-    ghost invariant = { λ w. (w.settings.senders ≡ length w.lanes.items + 1) × LooksBack (settings_of w.settings) w.shards.items w.looks.items };
+    ghost invariant = { λ w. (w.settings.senders ≡ length w.lanes.items + 1) × LooksBack (settings_of w.settings) w.shards.items w.looks.items × (are_known w.searches (expressions_in (meaning w.settings.policies)) ≡ true) };
 }
 
 impl World {
     /// A world that has made no step, with so many lanes and shards. A configuration keeps a trace where its limit is at
-    /// least 1.
+    /// least 1. `Err` where memory was refused, or an expression of the policies is none.
     pub fn new(
         alloc: Global,
         lanes: u16,
@@ -74,10 +81,12 @@ impl World {
             non_sampled_size: config.non_sampled_size,
             senders: lanes as usize + 1,
         };
+        let searches = searches_for(alloc, &settings.policies)?;
         let (shards, looks) = new_shards(alloc, &settings, shards)?;
         Ok(World {
             alloc,
             settings,
+            searches,
             batch_size: config.batch_size,
             lanes: new_lanes(alloc, lanes as usize)?,
             shards,

@@ -1,6 +1,6 @@
 -- The faults that the walk over a table finds have a number below that of too few traces.
--- For the contract of `answers_least_fault`.
-use Rattle.std.proofs.Common.{◌≡◌, ◌<◌, ℤ, pos, Bool, true, false, ◌⊎◌, inl, inr, arith, codes, List, [], ◌∷◌, int_le, ◌&&◌, ◌||◌, Option, None, Some, if◌then◌else◌}
+-- For the contracts of `answers_least_fault` and `config_of`.
+use Rattle.std.proofs.Common.{◌≡◌, ◌<◌, ℤ, pos, Bool, true, false, ◌⊎◌, inl, inr, ap, arith, codes, List, [], ◌∷◌, int_le, ◌&&◌, ◌||◌, Option, None, Some, if◌then◌else◌}
 use Rattle.std.specs.Str.{bytes_eq}
 use Rattle.toml.specs.Data.{Data, string, integer, float, boolean, array, table, Items, no_items, item, Members, no_members, member, get_member}
 use Rattle.tsc_config.proofs.FaultSets.{least_is_one}
@@ -20,7 +20,7 @@ use Rattle.tsc_config.specs.declared.policy_settings.ItemKind.TheVariants as ite
 use Rattle.tsc_config.specs.declared.policy_settings.ValueKind.{ValueKind}
 use Rattle.tsc_config.specs.declared.policy_settings.ValueKind.TheVariants as value_is
 use Rattle.tsc_config.specs.declared.fault.ConfigFault.{ConfigFault}
-use Rattle.tsc_config.specs.declared.fault.ConfigFault.TheVariants.{UnknownKey, MissingKey, WrongType, OutOfRange}
+use Rattle.tsc_config.specs.declared.fault.ConfigFault.TheVariants.{UnknownKey, MissingKey, WrongType, OutOfRange, ExpressionTooBig}
 use Rattle.tsc_config.specs.declared.kinds.ChoiceKey.TheVariants as choice_is
 use Rattle.tsc_config.specs.declared.kinds.PolicyType.{PolicyType}
 use Rattle.tsc_config.specs.declared.kinds.PolicyType.TheVariants as type_is
@@ -260,3 +260,10 @@ table_small members =
     (both _ _ (optionally spec.cache_fault caches (get_member (codes "decision_cache") members))
     (both _ _ (optionally spec.export_fault exports (get_member (codes "export") members))
     (requiredly spec.policies_fault policies (get_member (codes "policies") members))))))))))
+
+-- so it isn't that an expression is too big
+pub table_not_big : (members : Members) (fault : ConfigFault) → spec.table_fault members ≡ Some fault → fault ≡ ExpressionTooBig → ⊥
+table_not_big members fault e big =
+    let low : config_fault_number fault < 6 = table_small members fault e in
+    let high : config_fault_number fault ≡ 10 = ap config_fault_number big in
+    absurd (omega (arith, low, high))

@@ -7,6 +7,7 @@ use Rattle.std.specs.Result.{result_err}
 use Rattle.std.specs.Str.{bytes_eq}
 use Rattle.toml.specs.Data.{Data, array, table, Items, no_items, item, Members, no_members, member, get_member}
 use Rattle.toml.specs.Parse.{parse_document}
+use Rattle.expression.specs.Expressions.{is_expression}
 use Rattle.policy_tree.specs.Faults.{fault_of_policies}
 use Rattle.policy_tree.specs.declared.fault.PolicyFault.{PolicyFault}
 use Rattle.policy_tree.specs.declared.policy.Join.{Join}
@@ -14,18 +15,18 @@ use Rattle.policy_tree.specs.declared.policy.Join.TheVariants as join_is
 use Rattle.tsc_config.specs.Exports.{export_settings}
 use Rattle.tsc_config.specs.Keys.{has_unknown_key, is_key, type_name, type_at, join_type, join_name, sub_key, join_at}
 use Rattle.tsc_config.specs.Faults.{optional, required, unknown_fault, integer_fault, text_fault, truth_fault, type_fault, item_fault, wanted_fault, order_fault, twice_fault}
-use Rattle.tsc_config.specs.FaultSets.{IsLeastOf, OptionalHas, RequiredHas, SomeItemHas, ValueHas, KeyHas, SomeSettingHas, RowsHave, SettingsHave, SettingsAtHave, TypedHas, PolicyTableHas, PoliciesHave, SomePolicyHas, PolicyHas, PartsHave, PartsSettingsHave, SubPoliciesHave, SubValueHas, CacheHas, ExportHas, NumbersHave, SizesHave, ChoicesHave, HasFault, DocumentHas, TextHas}
+use Rattle.tsc_config.specs.FaultSets.{IsLeastOf, OptionalHas, RequiredHas, SomeItemHas, ValueHas, KeyHas, SomeSettingHas, RowsHave, SettingsHave, SettingsAtHave, TypedHas, PolicyTableHas, PoliciesHave, SomePolicyHas, PolicyHas, PartsHave, PartsSettingsHave, SubPoliciesHave, SubValueHas, CacheHas, ExportHas, NumbersHave, SizesHave, ChoicesHave, HasFault, SomeIsNone, DocumentHas, TextHas}
 use Rattle.tsc_config.specs.FaultLists as spec
-use Rattle.tsc_config.specs.FaultLists.{faults_in, ListsAll, listed, unknown_faults, items_faults, value_faults, optional_faults, required_faults, setting_faults, rows_faults, settings_faults, head_settings, is_joined, typed_faults, own_faults, policy_table_faults, number_settings, size_settings, other_settings, top_settings, cache_settings, table_faults, of_policies, given_faults, document_faults, text_faults}
+use Rattle.tsc_config.specs.FaultLists.{ListsAll, listed, unknown_faults, items_faults, value_faults, optional_faults, required_faults, setting_faults, rows_faults, settings_faults, head_settings, is_joined, typed_faults, own_faults, policy_table_faults, number_settings, size_settings, other_settings, top_settings, cache_settings, table_faults, of_policies, expressions_faults, of_expressions, given_faults, document_faults, text_faults}
 use Rattle.tsc_config.specs.PolicySettings.{Setting, settings}
-use Rattle.tsc_config.specs.Reading.{reading}
+use Rattle.tsc_config.specs.Reading.{expressions_among, reading}
 use Rattle.tsc_config.specs.Values.{config_of}
 use Rattle.tsc_config.proofs.FaultSets.{as_well}
+use Rattle.tsc_config.proofs.SomeIsNone.{none_of_none, first_or_later, at_first, later}
 use Rattle.tsc_config.proofs.Whole.{text_least}
 use Rattle.tsc_config.specs.declared.config.Config.{Config}
 use Rattle.tsc_config.specs.declared.fault.ConfigFault.{ConfigFault}
-use Rattle.tsc_config.specs.declared.fault.ConfigFault.TheVariants.{NotToml, UnknownKey, MissingKey, WrongType, TooFewTraces, Policy}
-use Rattle.tsc_config.specs.declared.findings.Finding.{Finding}
+use Rattle.tsc_config.specs.declared.fault.ConfigFault.TheVariants.{NotToml, UnknownKey, MissingKey, WrongType, TooFewTraces, Policy, NotAnExpression}
 use Rattle.tsc_config.specs.declared.kinds.ChoiceKey.TheVariants as choice_is
 use Rattle.tsc_config.specs.declared.kinds.PolicyType.{PolicyType}
 use Rattle.tsc_config.specs.declared.kinds.PolicyType.TheVariants as type_is
@@ -367,18 +368,48 @@ of_policies_all (Some p) fault = (λ c. (p, refl, (one (Policy p) fault).0 c), b
     back : (q : PolicyFault) × (Some p ≡ Some q) × (fault ≡ Policy q) → Contains (Policy p ∷ []) fault
     back (q, e, f) = let here : p ≡ q = cc in (one (Policy p) fault).1 (rw here f)
 
-given_all : (config : Config) → ListsAll (λ fault. ((fault ≡ TooFewTraces) × (config.num_traces < config.shards))
-    ⊎ ((p : PolicyFault) × (fault_of_policies config.policies ≡ Some p) × (fault ≡ Policy p))) (given_faults config)
+expressions_all : (texts : List (List ℕ)) → ListsAll (λ fault. (fault ≡ NotAnExpression) × SomeIsNone texts) (expressions_faults texts)
+expressions_all [] = λ fault. (λ c. absurd (empty fault c), λ h. absurd (none_of_none h.1))
+expressions_all (text ∷ rest) = of (is_expression text) refl (expressions_all rest)
+  where
+    left : is_expression text ≡ true → (is_expression text ≡ false) ⊎ SomeIsNone rest → SomeIsNone rest
+    left n (inl m) = cc
+    left n (inr l) = l
+
+    of : (r : Bool) → is_expression text ≡ r → ListsAll (λ fault. (fault ≡ NotAnExpression) × SomeIsNone rest) (expressions_faults rest)
+        → ListsAll (λ fault. (fault ≡ NotAnExpression) × SomeIsNone (text ∷ rest)) ((if r then [] else NotAnExpression ∷ []) ++ expressions_faults rest)
+    of true n deeper = λ fault. (λ c. let h = (deeper fault).0 c in (h.0, later text rest h.1), λ h. (deeper fault).1 (h.0, left n (first_or_later text rest h.1)))
+    of false n deeper =
+        same (λ f. (f ≡ NotAnExpression) ⊎ ((f ≡ NotAnExpression) × SomeIsNone rest)) (λ f. (f ≡ NotAnExpression) × SomeIsNone (text ∷ rest)) ((NotAnExpression ∷ []) ++ expressions_faults rest)
+        (λ f h. (of_either f h, at_first text rest n)) (λ f h. inl h.0)
+        (both (λ f. f ≡ NotAnExpression) (λ f. (f ≡ NotAnExpression) × SomeIsNone rest) (NotAnExpression ∷ []) (expressions_faults rest) (one NotAnExpression) deeper)
+      where
+        of_either : (f : ConfigFault) → (f ≡ NotAnExpression) ⊎ ((f ≡ NotAnExpression) × SomeIsNone rest) → f ≡ NotAnExpression
+        of_either f (inl e) = e
+        of_either f (inr h) = h.0
+
+of_expressions_all : (found : Option PolicyFault) (texts : List (List ℕ)) → ListsAll (λ fault. (fault ≡ NotAnExpression) × (found ≡ None) × SomeIsNone texts) (of_expressions found texts)
+of_expressions_all None texts fault = (λ c. let h = (expressions_all texts fault).0 c in (h.0, refl, h.1), λ h. (expressions_all texts fault).1 (h.0, h.2))
+of_expressions_all (Some p) texts fault = (λ c. absurd (empty fault c), λ h. let wrong : Some p ≡ None = h.1 in cc)
+
+-- the faults beside those of the table
+abbrev Given : Config → ConfigFault → Type 0
+Given config fault =
+    ((fault ≡ TooFewTraces) × (config.num_traces < config.shards))
+    ⊎ (((p : PolicyFault) × (fault_of_policies config.policies ≡ Some p) × (fault ≡ Policy p))
+    ⊎ ((fault ≡ NotAnExpression) × (fault_of_policies config.policies ≡ None) × SomeIsNone (expressions_among config.policies)))
+
+given_all : (config : Config) → ListsAll (Given config) (given_faults config)
 given_all config =
-    both (λ fault. (fault ≡ TooFewTraces) × (config.num_traces < config.shards)) (λ fault. (p : PolicyFault) × (fault_of_policies config.policies ≡ Some p) × (fault ≡ Policy p)) _ _
+    both (λ fault. (fault ≡ TooFewTraces) × (config.num_traces < config.shards)) _ _ _
     (few_all (config.num_traces < config.shards) (nat_lt config.num_traces config.shards) (λ e. grind (arith, nat_tests)) (λ e. grind (arith, nat_tests)))
-    (of_policies_all (fault_of_policies config.policies))
+    (both (λ fault. (p : PolicyFault) × (fault_of_policies config.policies ≡ Some p) × (fault ≡ Policy p)) _ _ _
+    (of_policies_all (fault_of_policies config.policies)) (of_expressions_all (fault_of_policies config.policies) (expressions_among config.policies)))
 
 document_all : (document : Option Members) → ListsAll (DocumentHas document) (document_faults document)
 document_all None = one NotToml
 document_all (Some members) =
-    both (HasFault members) (λ fault. ((fault ≡ TooFewTraces) × ((config_of members).num_traces < (config_of members).shards))
-    ⊎ ((p : PolicyFault) × (fault_of_policies (config_of members).policies ≡ Some p) × (fault ≡ Policy p))) _ _ (table_all members) (given_all (config_of members))
+    both (HasFault members) (Given (config_of members)) _ _ (table_all members) (given_all (config_of members))
 
 pub text_all : (text : List ℕ) → ListsAll (TextHas text) (text_faults text)
 text_all text = document_all (parse_document text)
@@ -396,8 +427,3 @@ no_fault (first ∷ rest) (Err fault) least = (λ e. cc, λ h. cc)
 
 pub none_listed : (text : List ℕ) → (text_faults text ≡ []) ↔ IsOk (reading text)
 none_listed text = no_fault (text_faults text) (reading text) (least_listed text)
-
--- of findings with these faults there is none exactly where the text is read as a configuration
-pub none_found : (findings : List Finding) (text : List ℕ) → faults_in findings ≡ text_faults text → (findings ≡ []) ↔ IsOk (reading text)
-none_found [] text e = (λ same. (none_listed text).0 (sym e), λ read. refl)
-none_found (first ∷ rest) text e = (λ same. cc, λ read. let wrong : faults_in (first ∷ rest) ≡ [] = e ∙ (none_listed text).1 read in cc)

@@ -1,7 +1,6 @@
 -- Each policy has what stands at the keys of its table.
 -- For `policies_are_of_their_keys`.
-use Rattle.std.proofs.Common.{◌≡◌, ℕ, ◌+◌, pos, negsuc, zero, suc, Bool, true, false, ◌⊎◌, inl, inr, refl, ap, sym, subst, ◌∙◌, arith, codes, List, [], ◌∷◌, map, length, slice_get, Option, None, Some, if◌then◌else◌, Ordering, Less, Equal, Greater}
-use Rattle.std.proofs.lemmas.Slice.Eq.{bytes_eq-Decides}
+use Rattle.std.proofs.Common.{◌≡◌, ℕ, ◌+◌, pos, negsuc, zero, suc, Bool, true, false, ◌⊎◌, inl, inr, refl, ap, sym, subst, ◌∙◌, arith, codes, List, [], ◌∷◌, length, slice_get, Option, None, Some, if◌then◌else◌, Ordering, Less, Equal, Greater}
 use Rattle.std.proofs.lemmas.Map.Text.{is_eq-slice_cmp}
 use Rattle.std.specs.Str.{bytes_eq}
 use Rattle.std.specs.Ordering.{nat_cmp, is_eq, match_ordering}
@@ -16,7 +15,7 @@ use Rattle.policy_tree.specs.declared.policy.Leaf.{Leaf}
 use Rattle.policy_tree.specs.declared.policy.Leaf.TheVariants as leaf_is
 use Rattle.policy_tree.specs.declared.policy.PolicyKind.TheViews.{out-PolicyKind, roll-PolicyKind, out-roll-PolicyKind}
 use Rattle.policy_tree.specs.declared.policy.Wanted.{Wanted}
-use Rattle.tsc_config.proofs.SettingKeys.{type_is_named, text_keys, natural_keys, whole_keys, truth_keys, required_truth, salt_keys, percentage_keys, texts_keys, codes_keys}
+use Rattle.tsc_config.proofs.SettingKeys.{type_is_named, text_keys, natural_keys, whole_keys, truth_keys, required_truth, salt_keys, percentage_keys, texts_keys, codes_keys, wanted_keys}
 use Rattle.tsc_config.proofs.Shares.{turned, unshared_are}
 use Rattle.tsc_config.proofs.Settings.{neither, natural, truth, table_parts, read_as}
 use Rattle.policy_tree.specs.declared.policy.Join.{Join}
@@ -24,8 +23,8 @@ use Rattle.policy_tree.specs.declared.policy.Join.TheVariants as join_is
 use Rattle.tsc_config.specs.Keys.{type_name, type_named, type_found, type_at, join_type, join_name, sub_key, join_of, join_at}
 use Rattle.tsc_config.specs.Composites.{is_ordered}
 use Rattle.tsc_config.specs.Faults.{optional, required, order_fault, allocation_fault, unknown_fault, natural_fault, text_fault, named_fault, array_fault, type_fault, percentage_fault, truth_fault, whole_fault, code_fault, rows_fault, settings_fault, settings_at_fault, typed_fault_where, policy_table_fault, policy_fault, policy_items_fault, policies_fault, typed_fault, parts_fault, parts_settings_fault, sub_policies_fault, sub_value_fault, table_fault, least}
-use Rattle.tsc_config.specs.Values.{found_before, natural_of, items_at, share_limit, percent_among, limiter_beside, within_share, composite_of, truth_of, attribute, leaf_in, kind_in, always, kind_by, kind_typed, policy_of, item_policies, policies_of, parts_policies, parts_settings, sub_policies, sub_value, policy_value, config_of}
-use Rattle.tsc_config.specs.PolicyKeys.{IsText, IsComposite, first_in, unshared, count_items, IsNatural, IsNaturalOrZero, IsTyped, IsWanted, IsLeaf, IsLayer, IsKind, IsPolicy, ArePartsAt, items_of, part_items, settings_items, nested_items, value_at, parts_in, parts_of, parts_at, policy_at, HasPolicies, HasMatched, ReadsPolicies}
+use Rattle.tsc_config.specs.Values.{found_before, natural_of, items_at, composite_of, truth_of, attribute, leaf_in, kind_in, always, kind_by, kind_typed, policy_of, item_policies, policies_of, parts_policies, parts_settings, sub_policies, sub_value, policy_value, config_of}
+use Rattle.tsc_config.specs.PolicyKeys.{IsText, IsComposite, unshared, count_items, IsNatural, IsNaturalOrZero, IsTyped, IsWanted, IsLeaf, IsLayer, IsKind, IsPolicy, ArePartsAt, items_of, part_items, settings_items, nested_items, value_at, parts_in, parts_of, parts_at, policy_at, HasPolicies, HasMatched, ReadsPolicies}
 use Rattle.tsc_config.specs.declared.fault.ConfigFault.{ConfigFault}
 use Rattle.tsc_config.specs.declared.fault.ConfigFault.TheVariants.{MissingKey, OutOfRange}
 use Rattle.tsc_config.specs.declared.kinds.PolicyType.{PolicyType}
@@ -251,8 +250,11 @@ kind_keys type_is.StatusCode members named e = by_settings type_is.StatusCode me
     (λ settings typed f. is_leaf members _ (settings, typed, codes_keys (get_member (codes "status_codes") settings) (one (required (array_fault code_fault) (get_member (codes "status_codes") settings)) f))) named e
 kind_keys type_is.StringAttribute members named e = by_settings type_is.StringAttribute members
     (λ settings typed f.
-    let n = three (required text_fault (get_member (codes "key") settings)) (required (array_fault text_fault) (get_member (codes "values") settings)) (optional truth_fault (get_member (codes "invert_match") settings)) f in
-    is_leaf members _ (attribute_keys members settings (codes "string_attribute") _ typed n.0 n.1.1 (refl, texts_keys (get_member (codes "values") settings) n.1.0))) named e
+    let matching = get_member (codes "enabled_regex_matching") settings in
+    let k = neither (required text_fault (get_member (codes "key") settings)) _ f in
+    let n = four (required (array_fault text_fault) (get_member (codes "values") settings)) (optional truth_fault (get_member (codes "invert_match") settings)) (optional truth_fault matching) (optional natural_fault (get_member (codes "cache_max_size") settings)) k.1 in
+    is_leaf members _ (attribute_keys members settings (codes "string_attribute") _ typed k.0 n.1.0
+    (wanted_keys settings _ matching refl n.1.1.0 (texts_keys (get_member (codes "values") settings) n.0)))) named e
 kind_keys type_is.NumericAttribute members named e = by_settings type_is.NumericAttribute members
     (λ settings typed f.
     let n = four (required text_fault (get_member (codes "key") settings)) (optional whole_fault (get_member (codes "min_value") settings)) (optional whole_fault (get_member (codes "max_value") settings)) (optional truth_fault (get_member (codes "invert_match") settings)) f in

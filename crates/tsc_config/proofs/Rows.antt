@@ -16,10 +16,12 @@ use Rattle.tsc_config.specs.declared.kinds.PolicyType.TheVariants as type_is
 use Rattle.tsc_config.specs.declared.kinds.TableKind.TheVariants as table_is
 use Rattle.tsc_config.specs.Percentages.{ten_thousandths, percentage_of}
 use Rattle.tsc_config.specs.Composites.{is_order}
-use Rattle.tsc_config.specs.Values.{config_of, salt_by, share_limit, percent_among}
+use Rattle.tsc_config.specs.Values.{config_of, leaf_in, salt_by, share_limit, percent_among}
+use Rattle.policy_tree.specs.declared.policy.Leaf.TheVariants as leaf_is
+use Rattle.policy_tree.specs.declared.policy.Wanted.TheVariants.{StringAmong, StringMatching}
 use Rattle.tsc_config.specs.declared.config.Config.{Config}
 use Rattle.tsc_config.specs.declared.fault.ConfigFault.{ConfigFault}
-use Rattle.tsc_config.specs.declared.fault.ConfigFault.TheVariants.{NotToml, UnknownKey, MissingKey, WrongType, OutOfRange, TooFewTraces, NoMemory}
+use Rattle.tsc_config.specs.declared.fault.ConfigFault.TheVariants.{NotToml, UnknownKey, MissingKey, WrongType, OutOfRange, TooFewTraces, NoMemory, NotAnExpression, ExpressionTooBig}
 
 -- a key, the least number and the greatest that it may have, and the one below the least
 record Range : Type 0 where
@@ -253,7 +255,7 @@ abbrev own : List Own
 own =
     record { kind = type_is.Latency; keys = codes "threshold_ms" ∷ codes "upper_threshold_ms" ∷ []; other = codes "threshold" }
     ∷ record { kind = type_is.StatusCode; keys = codes "status_codes" ∷ []; other = codes "codes" }
-    ∷ record { kind = type_is.StringAttribute; keys = codes "key" ∷ codes "values" ∷ codes "invert_match" ∷ []; other = codes "value" }
+    ∷ record { kind = type_is.StringAttribute; keys = codes "key" ∷ codes "values" ∷ codes "invert_match" ∷ codes "enabled_regex_matching" ∷ codes "cache_max_size" ∷ []; other = codes "value" }
     ∷ record { kind = type_is.NumericAttribute; keys = codes "key" ∷ codes "min_value" ∷ codes "max_value" ∷ codes "invert_match" ∷ []; other = codes "value" }
     ∷ record { kind = type_is.BooleanAttribute; keys = codes "key" ∷ codes "value" ∷ codes "invert_match" ∷ []; other = codes "values" }
     ∷ record { kind = type_is.SpanCount; keys = codes "min_spans" ∷ codes "max_spans" ∷ []; other = codes "spans" }
@@ -272,6 +274,24 @@ own_settings = refl
 other_keys : map (λ (o : Own). is_setting o.kind o.other) own ≡ map (λ o. false) own
 other_keys = refl
 
+-- the settings of a text's policy that may be missing: the texts count as regular expressions only where that is true, whatever the size
+abbrev matching : (key : List ℕ) → Data → Members
+matching key value = member (codes "key") (string (codes "k")) (member (codes "values") (array (item (string (codes "a.")) (item (string (codes "b")) no_items))) (member key value no_members))
+
+texts_of_policy : map (leaf_in type_is.StringAttribute) (matching (codes "enabled_regex_matching") (boolean true) ∷ matching (codes "enabled_regex_matching") (boolean false) ∷ matching (codes "cache_max_size") (integer (pos 7)) ∷ [])
+    ≡ leaf_is.Attribute (codes "k") (StringMatching (codes "a." ∷ codes "b" ∷ [])) false
+    ∷ leaf_is.Attribute (codes "k") (StringAmong (codes "a." ∷ codes "b" ∷ [])) false
+    ∷ leaf_is.Attribute (codes "k") (StringAmong (codes "a." ∷ codes "b" ∷ [])) false ∷ []
+unfolding leaf_in
+texts_of_policy = refl
+
+-- their values: true or false, and a whole number from 0 to 2^63-1
+matching_ranges : map (λ (value : Data). rows_fault type_is.StringAttribute (matching (codes "enabled_regex_matching") value)) (boolean true ∷ boolean false ∷ integer (pos 1) ∷ []) ≡ None ∷ None ∷ Some WrongType ∷ []
+matching_ranges = refl
+
+size_ranges : map (λ (value : Data). rows_fault type_is.StringAttribute (matching (codes "cache_max_size") value)) (integer (pos 0) ∷ integer (pos 9223372036854775807) ∷ integer (negsuc 0) ∷ boolean true ∷ []) ≡ None ∷ None ∷ Some OutOfRange ∷ Some WrongType ∷ []
+size_ranges = refl
+
 -- where a policy has no settings, a key is missing of each type that has a required one
 missing_settings : map (λ (kind : PolicyType). rows_fault kind no_members) all_types
     ≡ None ∷ Some MissingKey ∷ Some MissingKey ∷ Some MissingKey ∷ Some MissingKey ∷ Some MissingKey ∷ Some MissingKey ∷ Some MissingKey ∷ Some MissingKey ∷ Some MissingKey ∷ None ∷ None ∷ None ∷ None ∷ Some MissingKey ∷ []
@@ -283,7 +303,7 @@ types_named = refl
 
 -- ---- the numbers of the faults
 
-fault_numbers : map config_fault_number (NotToml ∷ UnknownKey ∷ MissingKey ∷ WrongType ∷ OutOfRange ∷ TooFewTraces ∷ NoMemory ∷ []) ≡ 1 ∷ 2 ∷ 3 ∷ 4 ∷ 5 ∷ 6 ∷ 8 ∷ []
+fault_numbers : map config_fault_number (NotToml ∷ UnknownKey ∷ MissingKey ∷ WrongType ∷ OutOfRange ∷ TooFewTraces ∷ NoMemory ∷ NotAnExpression ∷ ExpressionTooBig ∷ []) ≡ 1 ∷ 2 ∷ 3 ∷ 4 ∷ 5 ∷ 6 ∷ 8 ∷ 9 ∷ 10 ∷ []
 fault_numbers = refl
 
 -- ---- percentages

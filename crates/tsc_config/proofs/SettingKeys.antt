@@ -11,8 +11,8 @@ use Rattle.tsc_config.specs.Percentages.{nearest_count, over_ten_thousand, ten_t
 use Rattle.tsc_config.proofs.Settings.{neither}
 use Rattle.tsc_config.specs.Keys.{type_name, all_types, type_among, type_named, code_named, code_of}
 use Rattle.tsc_config.specs.Faults.{optional, required, natural_fault, text_fault, named_fault, items_fault, array_fault, code_fault, percentage_fault, truth_fault, whole_fault}
-use Rattle.tsc_config.specs.Values.{found_before, natural_of, codes_of, item_codes, texts_of, item_texts, text_of, truth_of, whole_of, salt_by, percentage_at}
-use Rattle.tsc_config.specs.PolicyKeys.{AreTexts, IsCode, AreCodes, IsSaltAt, IsPercentage}
+use Rattle.tsc_config.specs.Values.{found_before, natural_of, codes_of, item_codes, texts_of, item_texts, text_of, truth_of, whole_of, texts_wanted, salt_by, percentage_at}
+use Rattle.tsc_config.specs.PolicyKeys.{AreTexts, IsWanted, IsCode, AreCodes, IsSaltAt, IsPercentage}
 use Rattle.tsc_config.specs.declared.fault.ConfigFault.{ConfigFault}
 use Rattle.tsc_config.specs.declared.fault.ConfigFault.TheVariants.{OutOfRange}
 use Rattle.tsc_config.specs.declared.kinds.PolicyType.{PolicyType}
@@ -140,3 +140,12 @@ are_codes (item value rest) e = of value (neither (code_fault value) (items_faul
 pub codes_keys : (at : Option Data) → required (array_fault code_fault) at ≡ None → (items : Items) × (at ≡ Some (array items)) × AreCodes items (codes_of at)
 codes_keys at e = let a = array_keys code_fault at e in
     let P : Option Data → Type 0 = λ at. AreCodes a.0 (codes_of at) in (a.0, a.1, subst P (sym a.1) (are_codes a.0 a.2))
+
+-- what is wanted of a text, by the truth value at the key that tells whether the values are regular expressions
+pub wanted_keys : (settings : Members) (values : List (List ℕ)) (at : Option Data) → get_member (codes "enabled_regex_matching") settings ≡ at → optional truth_fault at ≡ None
+    → (items : Items) × (get_member (codes "values") settings ≡ Some (array items)) × AreTexts items values
+    → IsWanted settings (texts_wanted (truth_of at) values) (codes "string_attribute")
+wanted_keys settings values None a e t = (refl, inl (a, refl), t)
+wanted_keys settings values (Some (boolean true)) a e t = (refl, a, t)
+wanted_keys settings values (Some (boolean false)) a e t = (refl, inr a, t)
+wanted_keys settings values (Some _) a e t = absurd (cc e)

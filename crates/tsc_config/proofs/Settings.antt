@@ -12,14 +12,14 @@ use Rattle.policy_tree.specs.declared.fault.PolicyFault.{PolicyFault}
 use Rattle.tsc_config.specs.Faults.{config_fault_number, least, optional, required, unknown_fault, integer_fault, text_fault, truth_fault, choice_fault, choices_fault, cache_fault, endpoint_fault, field_fault, fields_fault, headers_fault, export_fault, each_setting_fault, numbers_fault, sizes_fault, policies_fault, table_fault, keys_fault, twice_fault}
 use Rattle.tsc_config.specs.Keys.{ChoiceRow, choice_row}
 use Rattle.tsc_config.specs.declared.kinds.ChoiceKey.TheVariants as choice_is
-use Rattle.tsc_config.specs.Reading.{reading, reading_of, reading_unless, reading_where}
+use Rattle.tsc_config.specs.Reading.{expressions_among, some_is_none, reading, reading_of, reading_unless, reading_where}
 use Rattle.tsc_config.specs.Exports.{export_settings, is_endpoint}
 use Rattle.tsc_config.specs.Headers.{may_be_sent, value_of, fields_in, headers_of, AreFields}
 use Rattle.tsc_config.specs.Settings.{IsNumberAtEither, IsTextAt, IsTruthAt, IsChoiceAt, IsCacheSize, AreHeadersAt, HasExport, IsExportAt, HasSettings, ReadsSettings}
 use Rattle.tsc_config.specs.Values.{config_of, positive_of, natural_of, first_found, cache_size, address_of, truth_of, is_other, text_of, number_or, export_in, export_of}
 use Rattle.tsc_config.specs.declared.config.Config.{Config}
 use Rattle.tsc_config.specs.declared.fault.ConfigFault.{ConfigFault}
-use Rattle.tsc_config.specs.declared.fault.ConfigFault.TheVariants.{OutOfRange, TooFewTraces, UnknownKey}
+use Rattle.tsc_config.specs.declared.fault.ConfigFault.TheVariants.{OutOfRange, TooFewTraces, UnknownKey, NotAnExpression}
 use Rattle.tsc_config.specs.declared.kinds.TableKind.TheVariants as table_is
 
 -- no fault among two
@@ -253,8 +253,12 @@ whole members e =
     }
 
 -- what is read as a configuration is the table's, which has no fault
+all_are : (r : Bool) (made config : Config) → (if r then Err NotAnExpression else Ok made) ≡ Ok config → made ≡ config
+all_are true made config e = cc
+all_are false made config e = cc
+
 where_none : (found : Option PolicyFault) (made config : Config) → reading_where found made ≡ Ok config → made ≡ config
-where_none None made config e = cc
+where_none None made config e = all_are (some_is_none (expressions_among made.policies)) made config e
 where_none (Some fault) made config e = cc
 
 with_enough : (r : Bool) (made config : Config) → (if r then Err TooFewTraces else reading_where (fault_of_policies made.policies) made) ≡ Ok config → made ≡ config

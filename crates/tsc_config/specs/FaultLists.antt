@@ -1,21 +1,24 @@
 -- Every fault of a configuration: a list with one for each place that has one, in the order of the rows.
-use Rattle.std.specs.Prelude.{◌++◌, ◌↔◌, ℕ, pos, Bool, true, false, List, [], ◌∷◌, codes, Option, None, Some, if◌then◌else◌, nat_lt, map}
-use Rattle.std.specs.List.{Contains}
+use Rattle.std.specs.Prelude.{◌≡◌, ◌++◌, ◌↔◌, ℕ, pos, Bool, true, false, List, [], ◌∷◌, codes, Option, None, Some, if◌then◌else◌, nat_lt, map}
+use Rattle.std.specs.List.{All, Contains}
 use Rattle.std.specs.Str.{bytes_eq}
 use Rattle.toml.specs.Data.{Data, array, table, Items, no_items, item, Members, no_members, member, get_member}
 use Rattle.toml.specs.Parse.{parse_document}
+use Rattle.expression.specs.Expressions.{is_expression}
 use Rattle.policy_tree.specs.Faults.{fault_of_policies}
 use Rattle.policy_tree.specs.declared.fault.PolicyFault.{PolicyFault}
+use Rattle.policy_tree.specs.declared.policy.Policy as tree
 use Rattle.policy_tree.specs.declared.policy.Join.{Join}
 use Rattle.policy_tree.specs.declared.policy.Join.TheVariants as join_is
 use Rattle.tsc_config.specs.PolicySettings.{Setting, required, optional, settings}
 use Rattle.tsc_config.specs.Exports.{export_settings}
 use Rattle.tsc_config.specs.Keys.{number_row, choice_row, is_key, type_name, type_at, join_type, join_name, sub_key, join_at}
 use Rattle.tsc_config.specs.Faults.{item_fault, wanted_fault, order_fault, twice_fault}
+use Rattle.tsc_config.specs.Reading.{expressions_among}
 use Rattle.tsc_config.specs.Values.{config_of}
 use Rattle.tsc_config.specs.declared.config.Config.{Config}
 use Rattle.tsc_config.specs.declared.fault.ConfigFault.{ConfigFault}
-use Rattle.tsc_config.specs.declared.fault.ConfigFault.TheVariants.{NotToml, UnknownKey, MissingKey, WrongType, TooFewTraces, Policy}
+use Rattle.tsc_config.specs.declared.fault.ConfigFault.TheVariants.{NotToml, UnknownKey, MissingKey, WrongType, TooFewTraces, Policy, NotAnExpression, ExpressionTooBig}
 use Rattle.tsc_config.specs.declared.findings.Finding.{Finding}
 use Rattle.tsc_config.specs.declared.kinds.ChoiceKey.{ChoiceKey}
 use Rattle.tsc_config.specs.declared.kinds.ChoiceKey.TheVariants as choice_is
@@ -223,9 +226,27 @@ abbrev pub of_policies : Option PolicyFault → List ConfigFault
 of_policies None = []
 of_policies (Some fault) = Policy fault ∷ []
 
+-- that of a text that is wanted to be a regular expression
+abbrev pub expression_faults : List ℕ → List ConfigFault
+expression_faults text = if is_expression text then [] else NotAnExpression ∷ []
+
+-- one for each text that is none
+abbrev pub expressions_faults : List (List ℕ) → List ConfigFault
+expressions_faults [] = []
+expressions_faults (text ∷ rest) = expression_faults text ++ expressions_faults rest
+
+-- those of the expressions of policies, where these have no fault
+abbrev pub of_expressions : Option PolicyFault → List (List ℕ) → List ConfigFault
+of_expressions None texts = expressions_faults texts
+of_expressions (Some fault) texts = []
+
+-- those of the policies, and of their expressions
+abbrev pub policies_given_faults : List tree.Policy → List ConfigFault
+policies_given_faults policies = of_policies (fault_of_policies policies) ++ of_expressions (fault_of_policies policies) (expressions_among policies)
+
 -- those of what the table gives: a shard without a trace, and the policies' own
 abbrev pub given_faults : Config → List ConfigFault
-given_faults config = (if nat_lt config.num_traces config.shards then TooFewTraces ∷ [] else []) ++ of_policies (fault_of_policies config.policies)
+given_faults config = (if nat_lt config.num_traces config.shards then TooFewTraces ∷ [] else []) ++ policies_given_faults config.policies
 
 -- those of a document, where there is one
 abbrev pub document_faults : Option Members → List ConfigFault
@@ -235,6 +256,10 @@ document_faults (Some members) = table_faults members ++ given_faults (config_of
 -- those of a text
 abbrev pub text_faults : List ℕ → List ConfigFault
 text_faults text = document_faults (parse_document text)
+
+-- what is told: these faults, and behind them maybe that expressions are too big, which the text doesn't tell
+abbrev pub Tells : (faults told : List ConfigFault) → Type 0
+Tells faults told = (big : List ConfigFault) × (told ≡ faults ++ big) × All (λ fault. fault ≡ ExpressionTooBig) big
 
 -- the list has the faults of the set, and no others
 abbrev pub ListsAll : (Has : ConfigFault → Type 0) → List ConfigFault → Type 0

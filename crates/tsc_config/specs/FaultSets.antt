@@ -1,8 +1,10 @@
 -- The faults of a configuration as a set: each row may have one, and the least of all is answered.
-use Rattle.std.specs.Prelude.{◌≡◌, ℕ, ◌<◌, ◌≤◌, ℤ, pos, Bool, true, false, List, [], ◌∷◌, ◌⊎◌, codes, Option, None, Some}
+use Rattle.std.specs.Prelude.{◌≡◌, ◌≢◌, ℕ, ◌<◌, ◌≤◌, ℤ, pos, Bool, true, false, List, [], ◌∷◌, ◌⊎◌, codes, Option, None, Some, Result, Ok, Err}
+use Rattle.std.specs.List.{Contains}
 use Rattle.std.specs.Str.{bytes_eq}
 use Rattle.toml.specs.Data.{Data, array, table, Items, no_items, item, Members, no_members, member, get_member}
 use Rattle.toml.specs.Parse.{parse_document}
+use Rattle.expression.specs.Expressions.{is_expression}
 use Rattle.policy_tree.specs.Faults.{fault_of_policies}
 use Rattle.policy_tree.specs.declared.fault.PolicyFault.{PolicyFault}
 use Rattle.policy_tree.specs.declared.policy.Join.{Join}
@@ -13,9 +15,11 @@ use Rattle.tsc_config.specs.Faults.{config_fault_number, optional, required, unk
 use Rattle.tsc_config.specs.PolicySettings.{Setting, settings}
 use Rattle.tsc_config.specs.declared.policy_settings.ValueKind.{ValueKind}
 use Rattle.tsc_config.specs.declared.policy_settings.ValueKind.TheVariants as value_is
+use Rattle.tsc_config.specs.Reading.{expressions_among}
 use Rattle.tsc_config.specs.Values.{config_of}
+use Rattle.tsc_config.specs.declared.config.Config.{Config}
 use Rattle.tsc_config.specs.declared.fault.ConfigFault.{ConfigFault}
-use Rattle.tsc_config.specs.declared.fault.ConfigFault.TheVariants.{NotToml, MissingKey, WrongType, TooFewTraces, Policy}
+use Rattle.tsc_config.specs.declared.fault.ConfigFault.TheVariants.{NotToml, MissingKey, WrongType, TooFewTraces, Policy, NotAnExpression}
 use Rattle.tsc_config.specs.declared.kinds.PolicyType.{PolicyType}
 use Rattle.tsc_config.specs.declared.kinds.PolicyType.TheVariants as type_is
 use Rattle.tsc_config.specs.declared.kinds.TableKind.TheVariants as table_is
@@ -200,14 +204,24 @@ HasFault members fault =
     ⊎ (OptionalHas ExportHas (get_member (codes "export") members) fault
     ⊎ RequiredHas PoliciesHave (get_member (codes "policies") members) fault))))))))
 
--- the text of a configuration with this table, if it is TOML, has this fault
+-- some text that is wanted to be a regular expression is none
+abbrev pub SomeIsNone : List (List ℕ) → Type 0
+SomeIsNone texts = (text : List ℕ) × Contains texts text × (is_expression text ≡ false)
+
+-- the text of a configuration with this table, if it is TOML, has this fault. Expressions are those of policies without a fault of their own
 abbrev pub DocumentHas : Option Members → ConfigFault → Type 0
 DocumentHas None fault = fault ≡ NotToml
 DocumentHas (Some members) fault =
     HasFault members fault
     ⊎ (((fault ≡ TooFewTraces) × ((config_of members).num_traces < (config_of members).shards))
-    ⊎ ((of_policies : PolicyFault) × (fault_of_policies (config_of members).policies ≡ Some of_policies) × (fault ≡ Policy of_policies)))
+    ⊎ (((of_policies : PolicyFault) × (fault_of_policies (config_of members).policies ≡ Some of_policies) × (fault ≡ Policy of_policies))
+    ⊎ ((fault ≡ NotAnExpression) × (fault_of_policies (config_of members).policies ≡ None) × SomeIsNone (expressions_among (config_of members).policies))))
 
 -- the text of a configuration has this fault
 abbrev pub TextHas : List ℕ → ConfigFault → Type 0
 TextHas text fault = DocumentHas (parse_document text) fault
+
+-- `ExpressionTooBig` is in no set, since how much an expression takes isn't told by the text: it is answered only where what the text is read as is a configuration, and its policies have an expression
+abbrev pub MayBeTooBig : Result Config ConfigFault → Type 0
+MayBeTooBig (Ok config) = expressions_among config.policies ≢ []
+MayBeTooBig (Err fault) = ⊥

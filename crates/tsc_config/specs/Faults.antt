@@ -12,7 +12,7 @@ use Rattle.tsc_config.specs.Keys.{NumberRow, number_row, ChoiceRow, choice_row, 
 use Rattle.policy_tree.specs.declared.policy.Join.{Join}
 use Rattle.policy_tree.specs.declared.policy.Join.TheVariants as join_is
 use Rattle.tsc_config.specs.declared.fault.ConfigFault.{ConfigFault}
-use Rattle.tsc_config.specs.declared.fault.ConfigFault.TheVariants.{NotToml, UnknownKey, MissingKey, WrongType, OutOfRange, TooFewTraces, Policy, NoMemory}
+use Rattle.tsc_config.specs.declared.fault.ConfigFault.TheVariants.{NotToml, UnknownKey, MissingKey, WrongType, OutOfRange, TooFewTraces, Policy, NoMemory, NotAnExpression, ExpressionTooBig}
 use Rattle.tsc_config.specs.declared.kinds.ChoiceKey.TheVariants as choice_is
 use Rattle.tsc_config.specs.declared.kinds.NumberKey.TheVariants as number_is
 use Rattle.tsc_config.specs.declared.kinds.PolicyType.{PolicyType}
@@ -34,6 +34,8 @@ config_fault_number OutOfRange = 5
 config_fault_number TooFewTraces = 6
 config_fault_number (Policy fault) = 7
 config_fault_number NoMemory = 8
+config_fault_number NotAnExpression = 9
+config_fault_number ExpressionTooBig = 10
 
 -- the fault of less number, where there is one
 abbrev pub least : Option ConfigFault → Option ConfigFault → Option ConfigFault

@@ -10,7 +10,7 @@ use Rattle.policy_tree.specs.declared.policy.PolicyKind.TheOpen.{PolicyKind-F}
 use Rattle.policy_tree.specs.declared.policy.Leaf.{Leaf}
 use Rattle.policy_tree.specs.declared.policy.Leaf.TheVariants as leaf_is
 use Rattle.policy_tree.specs.declared.policy.Wanted.{Wanted}
-use Rattle.policy_tree.specs.declared.policy.Wanted.TheVariants.{StringAmong, NumberWithin, Boolean}
+use Rattle.policy_tree.specs.declared.policy.Wanted.TheVariants.{StringAmong, StringMatching, NumberWithin, Boolean}
 use Rattle.policy_tree.specs.declared.policy.Join.{Join}
 use Rattle.policy_tree.specs.declared.policy.Join.TheVariants as join_is
 use Rattle.tsc_config.specs.Keys.{join_name, sub_key, join_at}
@@ -92,7 +92,11 @@ pub record IsTyped (members : Members) (name : List ℕ) (settings : Members) : 
 -- what the value of an attribute is to be, by the settings of a policy, and the type of policy that wants it
 abbrev pub IsWanted : (settings : Members) → Wanted → (name : List ℕ) → Type 0
 IsWanted settings (StringAmong values) name =
-    (name ≡ codes "string_attribute") × ((items : Items) × (get_member (codes "values") settings ≡ Some (array items)) × AreTexts items values)
+    (name ≡ codes "string_attribute") × IsTruthAt settings (codes "enabled_regex_matching") false
+    × ((items : Items) × (get_member (codes "values") settings ≡ Some (array items)) × AreTexts items values)
+IsWanted settings (StringMatching values) name =
+    (name ≡ codes "string_attribute") × (get_member (codes "enabled_regex_matching") settings ≡ Some (boolean true))
+    × ((items : Items) × (get_member (codes "values") settings ≡ Some (array items)) × AreTexts items values)
 IsWanted settings (NumberWithin least greatest) name =
     (name ≡ codes "numeric_attribute")
     × IsWholeAt settings (codes "min_value") (negsuc 9223372036854775807) least

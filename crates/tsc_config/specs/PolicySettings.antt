@@ -33,7 +33,7 @@ natural = value_is.Integer (pos 0) (pos 9223372036854775807)
 abbrev pub settings : PolicyType → List Setting
 settings type_is.Latency = required (codes "threshold_ms") natural ∷ optional (codes "upper_threshold_ms") natural ∷ []
 settings type_is.StatusCode = required (codes "status_codes") (value_is.Array item_is.StatusCode) ∷ []
-settings type_is.StringAttribute = required (codes "key") value_is.Text ∷ required (codes "values") (value_is.Array item_is.Text) ∷ optional (codes "invert_match") value_is.Truth ∷ []
+settings type_is.StringAttribute = required (codes "key") value_is.Text ∷ required (codes "values") (value_is.Array item_is.Text) ∷ optional (codes "invert_match") value_is.Truth ∷ optional (codes "enabled_regex_matching") value_is.Truth ∷ optional (codes "cache_max_size") natural ∷ []
 settings type_is.NumericAttribute =
     required (codes "key") value_is.Text ∷ optional (codes "min_value") value_is.Whole ∷ optional (codes "max_value") value_is.Whole ∷ optional (codes "invert_match") value_is.Truth ∷ []
 settings type_is.BooleanAttribute = required (codes "key") value_is.Text ∷ required (codes "value") value_is.Truth ∷ optional (codes "invert_match") value_is.Truth ∷ []

@@ -1,23 +1,36 @@
 -- What a text is read as: a configuration, or the fault of least number that it has.
-use Rattle.std.specs.Prelude.{ℕ, List, Option, Some, None, Result, Ok, Err, if◌then◌else◌, nat_lt}
+use Rattle.std.specs.Prelude.{ℕ, Bool, not, List, Option, Some, None, Result, Ok, Err, if◌then◌else◌, nat_lt}
+use Rattle.std.specs.List.{list_any}
 use Rattle.toml.specs.Data.{Members}
 use Rattle.toml.specs.Parse.{parse_document}
+use Rattle.expression.specs.Expressions.{is_expression}
+use Rattle.policy_tree.specs.Expressions.{expressions_in}
 use Rattle.policy_tree.specs.Faults.{fault_of_policies}
+use Rattle.policy_tree.specs.Meaning.{meaning}
 use Rattle.policy_tree.specs.declared.fault.PolicyFault.{PolicyFault}
+use Rattle.policy_tree.specs.declared.policy.Policy.{Policy}
 use Rattle.tsc_config.specs.Faults.{table_fault}
 use Rattle.tsc_config.specs.Values.{config_of}
 use Rattle.tsc_config.specs.declared.config.Config.{Config}
 use Rattle.tsc_config.specs.declared.fault.ConfigFault.{ConfigFault}
-use Rattle.tsc_config.specs.declared.fault.ConfigFault.TheVariants.{NotToml, TooFewTraces, Policy}
+use Rattle.tsc_config.specs.declared.fault.ConfigFault.TheVariants as fault_is
 
--- the configuration where its policies have no fault
+-- the texts of the regular expressions in policies
+abbrev pub expressions_among : List Policy → List (List ℕ)
+expressions_among policies = expressions_in (meaning policies)
+
+-- one of these texts is no expression
+abbrev pub some_is_none : List (List ℕ) → Bool
+some_is_none texts = list_any (λ text. not (is_expression text)) texts
+
+-- the configuration where its policies have no fault, and their expressions are ones
 abbrev pub reading_where : Option PolicyFault → Config → Result Config ConfigFault
-reading_where (Some fault) config = Err (Policy fault)
-reading_where None config = Ok config
+reading_where (Some fault) config = Err (fault_is.Policy fault)
+reading_where None config = if some_is_none (expressions_among config.policies) then Err fault_is.NotAnExpression else Ok config
 
--- the configuration where there is a trace for each shard and its policies have no fault
+-- the configuration where there is a trace for each shard, too
 abbrev pub reading_with : Config → Result Config ConfigFault
-reading_with config = if nat_lt config.num_traces config.shards then Err TooFewTraces else reading_where (fault_of_policies config.policies) config
+reading_with config = if nat_lt config.num_traces config.shards then Err fault_is.TooFewTraces else reading_where (fault_of_policies config.policies) config
 
 -- the configuration where its table has no fault
 abbrev pub reading_unless : Option ConfigFault → Config → Result Config ConfigFault
@@ -30,7 +43,7 @@ reading_of_table members = reading_unless (table_fault members) (config_of membe
 
 -- what a document is read as, where there is one
 abbrev pub reading_of : Option Members → Result Config ConfigFault
-reading_of None = Err NotToml
+reading_of None = Err fault_is.NotToml
 reading_of (Some members) = reading_of_table members
 
 -- what a text is read as

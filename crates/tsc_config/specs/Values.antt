@@ -11,7 +11,7 @@ use Rattle.policy_tree.specs.declared.policy.Join.TheVariants as join_is
 use Rattle.policy_tree.specs.declared.policy.Leaf.{Leaf}
 use Rattle.policy_tree.specs.declared.policy.Leaf.TheVariants as leaf_is
 use Rattle.policy_tree.specs.declared.policy.Wanted.{Wanted}
-use Rattle.policy_tree.specs.declared.policy.Wanted.TheVariants.{StringAmong, NumberWithin, Boolean}
+use Rattle.policy_tree.specs.declared.policy.Wanted.TheVariants.{StringAmong, StringMatching, NumberWithin, Boolean}
 use Rattle.tsc_config.specs.Composites.{is_text}
 use Rattle.tsc_config.specs.Headers.{headers_of}
 use Rattle.tsc_config.specs.Percentages.{percentage_of}
@@ -142,6 +142,15 @@ percentage_at at = unwrap_or (option_and_then percentage_of at) 0
 abbrev pub attribute : Members → Wanted → Leaf
 attribute members wanted = leaf_is.Attribute (text_of (get_member (codes "key") members)) wanted (truth_of (get_member (codes "invert_match") members))
 
+-- one of these texts is wanted, or one in which one of them as a regular expression has a match
+abbrev pub texts_wanted : (are_expressions : Bool) → List (List ℕ) → Wanted
+texts_wanted false values = StringAmong values
+texts_wanted true values = StringMatching values
+
+-- the texts of settings, which are regular expressions where `enabled_regex_matching` is set (tailsamplingprocessor README, `string_attribute`)
+abbrev pub text_wanted : Members → Wanted
+text_wanted members = texts_wanted (truth_of (get_member (codes "enabled_regex_matching") members)) (texts_of (get_member (codes "values") members))
+
 -- the bounds of a wanted number
 abbrev pub number_wanted : Members → Wanted
 number_wanted members = NumberWithin (whole_of (negsuc 9223372036854775807) (get_member (codes "min_value") members)) (whole_of (pos 9223372036854775807) (get_member (codes "max_value") members))
@@ -150,7 +159,7 @@ number_wanted members = NumberWithin (whole_of (negsuc 9223372036854775807) (get
 unfoldable pub leaf_in : PolicyType → Members → Leaf
 leaf_in type_is.Latency members = leaf_is.Latency (natural_of (get_member (codes "threshold_ms") members)) (natural_of (get_member (codes "upper_threshold_ms") members))
 leaf_in type_is.StatusCode members = leaf_is.StatusCode (codes_of (get_member (codes "status_codes") members))
-leaf_in type_is.StringAttribute members = attribute members (StringAmong (texts_of (get_member (codes "values") members)))
+leaf_in type_is.StringAttribute members = attribute members (text_wanted members)
 leaf_in type_is.NumericAttribute members = attribute members (number_wanted members)
 leaf_in type_is.BooleanAttribute members = attribute members (Boolean (truth_of (get_member (codes "value") members)))
 leaf_in type_is.SpanCount members = leaf_is.SpanCount (natural_of (get_member (codes "min_spans") members)) (natural_of (get_member (codes "max_spans") members))

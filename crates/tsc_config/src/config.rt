@@ -1,14 +1,16 @@
 //! A configuration, and how a text is read as one.
-ghost use Rattle.std.specs.Prelude.{◌≡◌, ◌≢◌, ◌<◌, ◌≤◌, ◌/◌, Some, Ok, Err, IfOk, IfErr};
+ghost use Rattle.std.specs.Prelude.{◌≡◌, ◌≢◌, ◌<◌, ◌≤◌, ◌/◌, ◌⊎◌, Some, Ok, Err, IfOk, IfErr};
 ghost use Rattle.toml.specs.Errors.{IsBlank};
 ghost use Rattle.toml.specs.View.{table_view};
+ghost use Rattle.tsc_config.specs.FaultSets.{MayBeTooBig};
 ghost use Rattle.tsc_config.specs.Faults.{table_fault};
 ghost use Rattle.tsc_config.specs.Reading.{reading, reading_of_table};
 ghost use Rattle.tsc_config.specs.Values.{InRange, config_of};
 ghost use Rattle.tsc_config.specs.declared.fault.ConfigFault.{ConfigFault};
-ghost use Rattle.tsc_config.specs.declared.fault.ConfigFault.TheVariants.{NoMemory};
+ghost use Rattle.tsc_config.specs.declared.fault.ConfigFault.TheVariants.{NoMemory, ExpressionTooBig};
 
 use crate::exports::{Export, export_at};
+use crate::expressions::check_expressions;
 use crate::fault::ConfigFault;
 use crate::fault_walk::table_fault;
 use crate::kinds::{ChoiceKey, NumberKey};
@@ -115,20 +117,22 @@ impl Config {
 /// Reads a configuration from a TOML text: `decision_wait_ms`, a whole number from 1 to 3600000, else 30000;
 /// `root_wait_ms`, or by its other name `decision_wait_after_root_received_ms`, from 0 to 3600000, else 0; `num_traces`, from 1 to 1000000, else 50000; `decision_cache`, a table of
 /// `sampled_cache_size` and `non_sampled_cache_size`, each from 0 to 1000000, else 0; `policies`, a required array of policy tables with
-/// `name`, `type` and the settings of that type; `lanes` and `shards`, from 1 to 64, else 1; `queue_capacity` and
+/// `name`, `type` and the settings of that type; `sample_on_first_match`, true or false, else false; `lanes` and `shards`, from 1 to 64, else 1; `queue_capacity` and
 /// `export_capacity`, from 1 to 65536, else 1024; `send_batch_size`, from 1 to 8192, else 512; `max_connections`, from 1 to 65536, else 1024; `memory_limit_mib`, from 0
 /// to 1048576, else 0; `tick_ms`, from 1 to
 /// 60000, else 1000; `listen`, a text, else `127.0.0.1:4318`; `admin`, a text, else nothing; `accept_gzip` and `close_at_end_of_input`, true or false, else false; `queue_full`, `partial` or
 /// `retry`, else `partial`; `output_fault`, `discard` or `stop`, else `discard`; and `double_values`, `discard` or `keep`, else
-/// `discard`.
+/// `discard`; and `export`, a table with a required `endpoint` ([`Export`] has its keys), else nothing is sent. Of a
+/// `string_attribute` policy `values` are regular expressions where `enabled_regex_matching` is true (tailsamplingprocessor
+/// README); its `cache_max_size`, a whole number from 0, has no effect.
 ///
-/// `Err` is the fault of least number that the text has ([`crate::laws::answers_least_fault`]), or `NoMemory` where
-/// memory was refused. For a text of blanks and comments alone that is never so: it is answered that `policies` is
-/// missing.
-#[tactic(auto, using(crate::proofs::Blank::blank_has_fault))]
+/// `Err` is the fault of least number that the text has ([`crate::laws::answers_least_fault`]), `NoMemory` where memory was
+/// refused, or `ExpressionTooBig` for a text that has no other fault. For a text of blanks and comments alone these two are
+/// never so: it is answered that `policies` is missing.
 pub fn read(alloc: Global, text: &str) -> Result<Config, ConfigFault>
     ensures config { IfOk result (λ config. reading text.now ≡ Ok config) }
-    ensures fault { IfErr result (λ fault. fault ≢ NoMemory → reading text.now ≡ Err fault) }
+    ensures fault { IfErr result (λ fault. fault ≢ NoMemory → fault ≢ ExpressionTooBig → reading text.now ≡ Err fault) }
+    ensures too_big { IfErr result (λ fault. fault ≡ ExpressionTooBig → MayBeTooBig (reading text.now)) }
     ensures waits { IfOk result (λ config. 0 < config.decision_wait) }
     ensures keeps { IfOk result (λ config. 0 < config.num_traces) }
     ensures some_lane { IfOk result (λ config. 0 < config.lanes) }
@@ -141,7 +145,7 @@ pub fn read(alloc: Global, text: &str) -> Result<Config, ConfigFault>
     ensures batch { IfOk result (λ config. 0 < config.send_batch_size) }
     ensures connections { IfOk result (λ config. 0 < config.max_connections) }
     ensures ticks { IfOk result (λ config. 0 < config.tick) }
-    ensures memory { IfErr result (λ fault. fault ≡ NoMemory → ¬ IsBlank text.now) }
+    ensures memory { IfErr result (λ fault. (fault ≡ NoMemory) ⊎ (fault ≡ ExpressionTooBig) → ¬ IsBlank text.now) }
 {
     match toml::table_from_str(alloc, text) {
         Ok(table) => config_of(alloc, &table),
@@ -152,7 +156,8 @@ pub fn read(alloc: Global, text: &str) -> Result<Config, ConfigFault>
 
 fn config_of(alloc: Global, table: &Table) -> Result<Config, ConfigFault>
     ensures config { IfOk result (λ config. reading_of_table (table_view table.now) ≡ Ok config) }
-    ensures fault { IfErr result (λ fault. fault ≢ NoMemory → reading_of_table (table_view table.now) ≡ Err fault) }
+    ensures fault { IfErr result (λ fault. fault ≢ NoMemory → fault ≢ ExpressionTooBig → reading_of_table (table_view table.now) ≡ Err fault) }
+    ensures too_big { IfErr result (λ fault. fault ≡ ExpressionTooBig → MayBeTooBig (reading_of_table (table_view table.now))) }
     ensures ranges { IfOk result InRange }
     ensures of_table { IfErr result (λ fault. (found : ConfigFault) → table_fault (table_view table.now) ≡ Some found → fault ≡ found) }
 {
@@ -169,6 +174,7 @@ fn config_of(alloc: Global, table: &Table) -> Result<Config, ConfigFault>
         Ok(policies) => policies,
         Err(fault) => return Err(ConfigFault::Policy(fault)),
     };
+    check_expressions(alloc, &policies)?;
     match given_by(alloc, table, policies) {
         Ok(config) => Ok(config),
         Err(_) => Err(ConfigFault::NoMemory),

@@ -4,7 +4,7 @@ ghost use Rattle.tsc_config.specs.Faults as spec;
 
 use policy_tree::PolicyFault;
 
-/// Why a configuration is refused. Its number, from 1 to 8, orders the faults: the least that the text has is
+/// Why a configuration is refused. Its number, from 1 to 10, orders the faults: the least that the text has is
 /// answered.
 #[derive(Clone, Copy, PartialEq, Eq)]
 pub enum ConfigFault {
@@ -24,10 +24,15 @@ pub enum ConfigFault {
     Policy(PolicyFault),
     /// 8: memory was refused. Where it was refused while the text was parsed, the text may have any other fault.
     NoMemory,
+    /// 9: a text in `values` is no regular expression, where `enabled_regex_matching` is set (tailsamplingprocessor README,
+    /// `string_attribute`). It is looked at last: only where the text has none of the faults 1 to 7.
+    NotAnExpression,
+    /// 10: an expression, compiled, would take more than about 1 MiB, in a text that has none of the faults 1 to 7 and 9.
+    ExpressionTooBig,
 }
 
 impl ConfigFault {
-    /// The number of the fault, from 1 to 8. A program prints a policy fault as `7.P`, P being its own number.
+    /// The number of the fault, from 1 to 10. A program prints a policy fault as `7.P`, P being its own number.
     pub fn number(self) -> u8
         ensures { result ≡ spec.config_fault_number self }
     {
@@ -40,6 +45,8 @@ impl ConfigFault {
             ConfigFault::TooFewTraces => 6,
             ConfigFault::Policy(_) => 7,
             ConfigFault::NoMemory => 8,
+            ConfigFault::NotAnExpression => 9,
+            ConfigFault::ExpressionTooBig => 10,
         }
     }
 }

@@ -174,3 +174,13 @@ pub fn policy_fault_text(alloc: Global, fault: PolicyFault) -> Result<String, Al
     };
     format!(in alloc; "policies: {said}")
 }
+
+/// What is said of a text in `values` that is no regular expression.
+pub fn no_expression_text(alloc: Global, text: &str) -> Result<String, AllocError> {
+    format!(in alloc; "policies: {text:?} is no regular expression")
+}
+
+/// What is said of a regular expression in `values` that is too big.
+pub fn big_expression_text(alloc: Global, text: &str) -> Result<String, AllocError> {
+    format!(in alloc; "policies: {text:?} takes more than about 1 MiB, compiled")
+}

@@ -1,5 +1,5 @@
 //! The faults of a configuration that were found, where each stands and what would be right.
-ghost use Rattle.std.specs.Prelude.{◌≡◌, ◌++◌, [], ◌∷◌, OnOk};
+ghost use Rattle.std.specs.Prelude.{◌≡◌, ◌++◌, [], ◌∷◌, IfOk, OnOk};
 ghost use Rattle.tsc_config.specs.FaultLists as spec;
 ghost use Rattle.tsc_config.specs.declared.fault.ConfigFault.TheVariants.{MissingKey};
 
@@ -18,10 +18,12 @@ pub struct Finding {
     pub said: String,
 }
 
-/// What was found so far: to contracts the faults, in order.
+/// What was found so far: to contracts the faults that the text tells, in order.
 #[derive(Drop)]
 pub struct Findings {
     list: Vec<Finding>,
+    /// What is said of expressions that are too big, which the text doesn't tell.
+    big: Vec<String>,
 }
 
 impl Model for Findings {
@@ -41,6 +43,7 @@ impl Findings {
     {
         Findings {
             list: Vec::new(alloc),
+            big: Vec::new(alloc),
         }
     }
 
@@ -59,10 +62,33 @@ impl Findings {
         self.add(ConfigFault::MissingKey, missing_text(alloc, place)?)
     }
 
-    /// The findings, in order.
-    pub fn into_vec(self) -> Vec<Finding>
-        ensures { spec.faults_in result.items ≡ self }
+    /// One more expression that is too big.
+    pub fn add_big(&mut self, said: String) -> Result<(), AllocError>
+        ensures { OnOk result (self.new ≡ self.old) }
     {
-        self.list
+        self.big.push(said)?;
+        Ok(())
     }
+
+    /// The findings, in order, and behind them the expressions that are too big.
+    pub fn into_vec(self) -> Result<Vec<Finding>, AllocError>
+        ensures { IfOk result (λ found. spec.Tells self (spec.faults_in found.items)) }
+    {
+        with_big(self.list, self.big)
+    }
+}
+
+/// These findings, and behind them one for each expression that is too big, of which this is said.
+#[tactic(auto, using(crate::proofs::Told::told_alone))]
+fn with_big(findings: Vec<Finding>, big: Vec<String>) -> Result<Vec<Finding>, AllocError>
+    ensures { IfOk result (λ found. spec.Tells (spec.faults_in findings.items) (spec.faults_in found.items)) }
+{
+    let mut found = findings;
+    for said in big {
+        found.push(Finding {
+            fault: ConfigFault::ExpressionTooBig,
+            said,
+        })?;
+    }
+    Ok(found)
 }

@@ -3,13 +3,14 @@
 //! "send_batch_size"; the other keys are this project's own).
 //!
 //! The faults of the table are looked for first, in a walk that takes no memory; what the table gives is made only where
-//! there is none. No contract keeps [`read`] from answering that it found no memory, except for a text without keys:
+//! there is none, and the regular expressions of its policies are looked at last. No contract keeps [`read`] from answering that it found no memory, except for a text without keys:
 //! that a text can be read is a test.
 #![tactic(auto)]
 
 mod composites;
 mod config;
 mod exports;
+mod expressions;
 mod fault;
 mod fault_walk;
 mod finding_texts;

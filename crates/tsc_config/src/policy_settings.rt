@@ -96,6 +96,8 @@ impl PolicyType {
                 Setting::Required("key", ValueKind::Text),
                 Setting::Required("values", ValueKind::Array(ItemKind::Text)),
                 Setting::Optional("invert_match", ValueKind::Truth),
+                Setting::Optional("enabled_regex_matching", ValueKind::Truth),
+                Setting::Optional("cache_max_size", NATURAL),
             ],
             PolicyType::NumericAttribute => &[
                 Setting::Required("key", ValueKind::Text),

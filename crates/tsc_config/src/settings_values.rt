@@ -37,10 +37,7 @@ fn leaf_in(alloc: Global, kind: PolicyType, settings: &Table) -> Result<Leaf, Al
         PolicyType::StatusCode => Ok(Leaf::StatusCode {
             codes: item_codes(alloc, items_at(settings, "status_codes"))?,
         }),
-        PolicyType::StringAttribute => {
-            let values = item_texts(alloc, items_at(settings, "values"))?;
-            attribute(alloc, settings, Wanted::StringAmong(values))
-        }
+        PolicyType::StringAttribute => attribute(alloc, settings, text_wanted(alloc, settings)?),
         PolicyType::NumericAttribute => attribute(alloc, settings, number_wanted(settings)),
         PolicyType::BooleanAttribute => {
             let value = truth_at(settings, "value");
@@ -77,6 +74,19 @@ fn attribute(alloc: Global, settings: &Table, wanted: Wanted) -> Result<Leaf, Al
         wanted,
         invert_match: truth_at(settings, "invert_match"),
     })
+}
+
+/// The texts of settings, which are regular expressions where `enabled_regex_matching` is set (tailsamplingprocessor
+/// README, `string_attribute`).
+fn text_wanted(alloc: Global, settings: &Table) -> Result<Wanted, AllocError>
+    ensures { IfOk result (λ wanted. wanted ≡ spec.text_wanted (table_view settings.now)) }
+{
+    let values = item_texts(alloc, items_at(settings, "values"))?;
+    if truth_at(settings, "enabled_regex_matching") {
+        Ok(Wanted::StringMatching(values))
+    } else {
+        Ok(Wanted::StringAmong(values))
+    }
 }
 
 /// The bounds of a wanted number.

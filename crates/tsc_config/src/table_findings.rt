@@ -1,5 +1,5 @@
 //! Every fault of the text of a configuration.
-ghost use Rattle.std.specs.Prelude.{◌≡◌, ◌↔◌, ◌++◌, [], Some, IfOk, IsOk, OnOk, map};
+ghost use Rattle.std.specs.Prelude.{◌≡◌, ◌++◌, [], Some, IfOk, IsOk, OnOk, map};
 ghost use Rattle.toml.specs.View.{table_view};
 ghost use Rattle.tsc_config.specs.FaultLists as spec;
 ghost use Rattle.tsc_config.specs.Faults.{twice_fault};
@@ -8,6 +8,7 @@ ghost use Rattle.tsc_config.specs.Reading.{reading};
 ghost use Rattle.tsc_config.specs.Values.{config_of};
 
 use crate::exports::export_settings;
+use crate::expressions::add_expressions;
 use crate::fault::ConfigFault;
 use crate::fault_walk::twice_fault;
 use crate::finding_texts::{policy_fault_text, twice_text};
@@ -23,13 +24,21 @@ use std::alloc::{AllocError, Global};
 use toml::Table;
 
 /// Every fault of the text of a configuration, as [`crate::read`] reads it: those of its keys and values, a line for each
-/// place that has one, and then those of what they give, where a value with a fault counts as its key's default. There is
-/// none exactly where `read` gives a configuration, and else `read` refuses for that of least number
-/// ([`crate::laws::lists_each_fault`]). `Err` only where memory was refused.
-#[tactic(auto, using(crate::proofs::FaultLists::none_found))]
+/// place that has one, and then those of what they give, where a value with a fault counts as its key's default; of regular
+/// expressions those in policies without a fault of their own. Last come expressions that take too much memory, which the
+/// text doesn't tell. There is none exactly where `read` gives a configuration, and else `read` refuses for that of least
+/// number ([`crate::laws::lists_each_fault`]), but where memory is refused. `Err` only where memory was refused.
+#[tactic(auto, using(crate::proofs::Told::none_found))]
 pub fn faults(alloc: Global, text: &str) -> Result<Vec<Finding>, AllocError>
-    ensures faults { IfOk result (λ found. spec.faults_in found.items ≡ spec.text_faults text.now) }
-    ensures none { IfOk result (λ found. (found.items ≡ []) ↔ IsOk (reading text.now)) }
+    ensures faults { IfOk result (λ found. spec.Tells (spec.text_faults text.now) (spec.faults_in found.items)) }
+    ensures none { IfOk result (λ found. (found.items ≡ []) → IsOk (reading text.now)) }
+{
+    found_in(alloc, text)?.into_vec()
+}
+
+/// What is found in the text of a configuration.
+fn found_in(alloc: Global, text: &str) -> Result<Findings, AllocError>
+    ensures { IfOk result (λ findings. findings ≡ spec.text_faults text.now) }
 {
     let mut findings = Findings::new(alloc);
     match toml::table_from_str(alloc, text) {
@@ -37,7 +46,7 @@ pub fn faults(alloc: Global, text: &str) -> Result<Vec<Finding>, AllocError>
         Err(error) if error.is_memory() => return Err(AllocError),
         Err(_) => findings.add(ConfigFault::NotToml, String::from_str(alloc, "not TOML")?)?,
     }
-    Ok(findings.into_vec())
+    Ok(findings)
 }
 
 /// Adds the faults of the table of a configuration, and of what it gives.
@@ -150,7 +159,7 @@ fn add_given(alloc: Global, table: &Table, findings: &mut Findings) -> Result<()
         findings.add(ConfigFault::TooFewTraces, said)?;
     }
     match Policies::new(alloc, policies_at(alloc, table)?) {
-        Ok(_) => Ok(()),
+        Ok(policies) => add_expressions(alloc, &policies, findings),
         Err(fault) => {
             let said = policy_fault_text(alloc, fault)?;
             findings.add(ConfigFault::Policy(fault), said)

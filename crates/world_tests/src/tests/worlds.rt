@@ -4,10 +4,10 @@ ghost use Rattle.span_world.specs.Core.{config_of};
 
 use crate::tests::choices::{Choice, choose};
 use crate::tests::simulated::Simulated;
-use otlp_types::{List, Text};
+use otlp_types::{AnyValue, Boxed, KeyValue, List, Record, Span, Text};
 use plain_shards::{one_policy, policy_on};
 use plain_spans::{numbered_ids, plain_record};
-use policy_tree::{Join, Leaf, Policies, Policy, PolicyKind};
+use policy_tree::{Join, Leaf, Policies, Policy, PolicyKind, Wanted};
 use span_ids::Reason;
 use span_world::{Config, Refusal, Step, World};
 use std::alloc::{AllocError, Global};
@@ -31,7 +31,13 @@ fn config_of_one(policies: Policies) -> Config
 
 /// One span of a trace from its receipt at this moment to the tick at which it is due.
 fn due_span(alloc: Global, trace: u8, moment: u64) -> Result<Vec<Step>, AllocError> {
-    let records = vec![in alloc; plain_record(alloc, numbered_ids(trace, true), 0, 0, 0)?]?;
+    let rec = plain_record(alloc, numbered_ids(trace, true), 0, 0, 0)?;
+    due_record(alloc, rec, moment)
+}
+
+/// The same of this record.
+fn due_record(alloc: Global, rec: Record, moment: u64) -> Result<Vec<Step>, AllocError> {
+    let records = vec![in alloc; rec]?;
     let mut steps = vec![in alloc;
         Step::Receive {
             lane: 0,
@@ -229,6 +235,66 @@ fn one_answer_for_each_asking(rt: HostRuntime) -> Result<(), Fail> {
     for (answers, counted) in rows {
         let found = decided_by(&rt, rt.alloc(), answers)?;
         assert_eq!(rt; found, counted, "{answers:?}");
+    }
+    Ok(())
+}
+
+/// A policy on the targets of requests: one of these expressions has a match.
+fn on_targets(alloc: Global, expressions: &[&str]) -> Result<Policies, AllocError> {
+    let mut texts = List::new(alloc);
+    for expression in expressions {
+        texts.push(Text::from_str(alloc, expression)?)?;
+    }
+    let leaf = Leaf::Attribute {
+        key: Text::from_str(alloc, "http.target")?,
+        wanted: Wanted::StringMatching(texts),
+        invert_match: false,
+    };
+    one_policy(alloc, PolicyKind::Leaf(leaf))
+}
+
+/// A span of a request with this target.
+fn record_of_target(alloc: Global, target: &str) -> Result<Record, AllocError> {
+    let mut span = Span::empty(alloc);
+    span.ids = numbered_ids(1, true);
+    span.attributes.push(KeyValue {
+        key: Text::from_str(alloc, "http.target")?,
+        value: AnyValue::Str(Text::from_str(alloc, target)?),
+    })?;
+    let mut rec = plain_record(alloc, None, 0, 0, 0)?;
+    rec.span = Boxed::new(alloc, span)?;
+    Ok(rec)
+}
+
+/// Whether that policy decides on the trace of such a span, and whether for it.
+fn samples_target(
+    rt: &impl Abort,
+    alloc: Global,
+    expressions: &[&str],
+    target: &str,
+) -> Result<(bool, bool), AllocError> {
+    let config = config_of_one(on_targets(alloc, expressions)?);
+    let steps = due_record(alloc, record_of_target(alloc, target)?, 0)?;
+    let mut world = replayed(rt, alloc, config, steps)?;
+    let answers = Vec::new(alloc);
+    let decided = answered(world.step(Step::Decide { shard: 0, answers }))?;
+    Ok((decided == Ok(()), world.counted().is_empty()))
+}
+
+#[test]
+fn expressions_match_anywhere(rt: HostRuntime) -> Result<(), Fail> {
+    let rows: [(&[&str], &str, bool); 7] = [
+        (&["^/health"], "/healthz", true),
+        (&["^/health"], "/api/health", false),
+        (&["health"], "/api/healthz", true),
+        (&["health$"], "/api/healthz", false),
+        (&["/v[0-9]+/"], "/api/v12/users", true),
+        (&["^/health", "users"], "/api/v12/users", true),
+        (&["^/health", "Users"], "/api/v12/users", false),
+    ];
+    for (expressions, target, wanted) in rows {
+        let found = samples_target(&rt, rt.alloc(), expressions, target)?;
+        assert_eq!(rt; found, (true, wanted), "{target}");
     }
     Ok(())
 }

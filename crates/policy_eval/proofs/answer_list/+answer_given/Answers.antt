@@ -1,10 +1,12 @@
 -- The answer of a policy where a list of answers is given.
 -- For the clauses `answer` and `asked` of `answer_given`.
-use Rattle.std.proofs.Common.{◌≡◌, ℕ, zero, suc, ◌+◌, Bool, false, List, [], ◌∷◌, drop, get_or, Option, Some, None, Bor, rules, refl, sym, ap, subst, ◌∙◌, arith}
+use Rattle.std.proofs.Common.{◌≡◌, ℕ, zero, suc, ◌+◌, Bool, true, false, List, [], ◌∷◌, drop, get_or, Option, Some, None, Bor, rules, refl, sym, ap, subst, ◌∙◌, arith}
 use Rattle.std.specs.Option.{unwrap_or, option_map, option_copied}
 use Rattle.std.proofs.lemmas.Grind.{common_steps}
 use Rattle.policy_tree.specs.declared.policy.Policy.{Policy}
-use Rattle.policy_tree.specs.Tree.{leaf, rate_limiting, joined, Policies}
+use Rattle.policy_tree.specs.Tree.{Policy as Meant, leaf, rate_limiting, joined, Policies}
+use Rattle.policy_tree.specs.Expressions.{expressions_of}
+use Rattle.expression.specs.Expressions.{are_known}
 use Rattle.policy_tree.specs.Meaning.{meaning, policy_meaning}
 use Rattle.policy_tree.specs.declared.policy.PolicyKind.TheFolds.{the_lemmas}
 use Rattle.policy_eval.specs.Policies.{plain}
@@ -12,6 +14,7 @@ use Rattle.policy_eval.specs.Given.{answer_given, next_answer}
 use Rattle.policy_eval.specs.Meaning.{answer_of, joined_seen}
 use Rattle.policy_eval.specs.declared.answer.Seen.{Seen}
 use Rattle.policy_eval.proofs.Turns.{part_at}
+use Rattle.policy_eval.proofs.Known.{KnowsIn, known-at}
 use Rattle.policy_eval.proofs.GivenTurns.{Taken, Part, part-first, part-more, part-stop, part-last}
 use Rattle.policy_eval.proofs.answer_list.+answer_given.Goals as goal
 
@@ -33,7 +36,7 @@ loop-part-init t c =
     let p = policy_meaning c.args.policy.now in
     let whole : p ≡ joined c.in-Joined.join parts = let is = c.in-Joined.is in let items = c.as_slice-part-items.ensures in search (rules, the_lemmas) in
     let P = λ (seen : Seen). Part bs spans p c.in-Joined.join parts c.args.asked parts c.args.asked seen in
-    subst P (sym c.none-seen.ensures) (part-first bs spans p c.in-Joined.join c.args.asked parts whole c.requires)
+    (subst P (sym c.none-seen.ensures) (part-first bs spans p c.in-Joined.join c.args.asked parts whole c.requires.within), subst (λ (q : Meant). are_known c.args.searches.now (expressions_of q) ≡ true) whole c.requires.known, refl)
 
 pub loop-part-preserved : goal.loop-part-preserved
 loop-part-preserved t c =
@@ -47,11 +50,13 @@ loop-part-preserved t c =
     let behind = c.answer_given-given.result.1 in
     let seen = c.loop-part.seen in
     let T = λ (r : Policies). Part bs spans whole join (meaning items) c.args.asked r c.loop-part.next seen in
-    let here = part_at T items i c.part-item.result c.loop-part-test.true c.part-item.is c.loop-part.invariant in
+    let here = part_at T items i c.part-item.result c.loop-part-test.true c.part-item.is c.loop-part.invariant.0 in
     let taken : Taken bs spans (policy_meaning c.part-item.result) c.loop-part.next behind a = record { answer = c.answer_given-given.ensures.answer; asked = c.answer_given-given.ensures.asked } in
     let rest = meaning (drop (i + 1) items) in
     let W = λ (x : Seen). Part bs spans whole join (meaning items) c.args.asked rest behind x in
-    subst W (sym c.with-seen.ensures) (part-more bs spans whole join (meaning items) c.args.asked (policy_meaning c.part-item.result) rest c.loop-part.next behind seen a here taken (sym c.ends.ensures ∙ c.if-ends.false))
+    let known = known-at c.loop-part.searches items i c.part-item.result c.loop-part-test.true c.part-item.is c.loop-part.invariant.1 in
+    let same = c.answer_given-given.ensures.same in
+    (subst W (sym c.with-seen.ensures) (part-more bs spans whole join (meaning items) c.args.asked (policy_meaning c.part-item.result) rest c.loop-part.next behind seen a here taken (sym c.ends.ensures ∙ c.if-ends.false)), subst (λ s. KnowsIn s rest) (sym same) known.1, same ∙ c.loop-part.invariant.2)
 
 pub returns-then-ends : goal.returns-then-ends
 returns-then-ends t c =
@@ -65,11 +70,11 @@ returns-then-ends t c =
     let behind = c.answer_given-given.result.1 in
     let seen = c.loop-part.seen in
     let T = λ (r : Policies). Part bs spans whole join (meaning items) c.args.asked r c.loop-part.next seen in
-    let here = part_at T items i c.part-item.result c.loop-part-test.true c.part-item.is c.loop-part.invariant in
+    let here = part_at T items i c.part-item.result c.loop-part-test.true c.part-item.is c.loop-part.invariant.0 in
     let taken : Taken bs spans (policy_meaning c.part-item.result) c.loop-part.next behind a = record { answer = c.answer_given-given.ensures.answer; asked = c.answer_given-given.ensures.asked } in
     let rest = meaning (drop (i + 1) items) in
     let stop = part-stop bs spans whole join (meaning items) c.args.asked (policy_meaning c.part-item.result) rest c.loop-part.next behind seen a here taken (sym c.ends.ensures ∙ c.if-ends.true) in
-    record { answer = c.joined.ensures ∙ ap (λ (x : Seen). answer_of (joined_seen join x)) c.with-seen.ensures ∙ stop.answer; asked = stop.asked }
+    record { answer = c.joined.ensures ∙ ap (λ (x : Seen). answer_of (joined_seen join x)) c.with-seen.ensures ∙ stop.answer; asked = stop.asked; same = c.answer_given-given.ensures.same ∙ c.loop-part.invariant.2 }
 
 pub returns-after-loop-part : goal.returns-after-loop-part
 returns-after-loop-part t c =
@@ -79,8 +84,8 @@ returns-after-loop-part t c =
     let whole = policy_meaning c.args.policy.now in
     let T = λ (ps : List Policy). Part bs spans whole c.in-Joined.join (meaning items) c.args.asked (meaning ps) c.loop-part.next c.loop-part.seen in
     let none : drop c.loop-part.part-index items ≡ [] = grind (arith, common_steps) in
-    let last = part-last bs spans whole c.in-Joined.join (meaning items) c.args.asked c.loop-part.next c.loop-part.seen (subst T none c.loop-part.invariant) in
-    record { answer = c.joined-in-Joined.ensures ∙ last.answer; asked = last.asked }
+    let last = part-last bs spans whole c.in-Joined.join (meaning items) c.args.asked c.loop-part.next c.loop-part.seen (subst T none c.loop-part.invariant.0) in
+    record { answer = c.joined-in-Joined.ensures ∙ last.answer; asked = last.asked; same = c.loop-part.invariant.2 }
 
 pub returns-in-RateLimiting-clause-answer : goal.returns-in-RateLimiting-clause-answer
 returns-in-RateLimiting-clause-answer t c =
@@ -97,4 +102,9 @@ returns-in-Leaf-clause-answer t c =
     let left = drop c.args.asked c.args.answers.now in
     let spans = c.args.spans.now in
     let kind : policy_meaning c.args.policy.now ≡ leaf c.in-Leaf.leaf = let is = c.in-Leaf.is in search (rules, the_lemmas) in
-    c.leaf_answer.ensures ∙ ap (λ p. answer_of (answer_given p left spans)) (sym kind)
+    c.leaf_answer.ensures.answer ∙ ap (λ p. answer_of (answer_given p left spans)) (sym kind)
+
+pub leaf_answer-requires : goal.leaf_answer-requires
+leaf_answer-requires t c =
+    let kind : policy_meaning c.args.policy.now ≡ leaf c.in-Leaf.leaf = let is = c.in-Leaf.is in search (rules, the_lemmas) in
+    record { known = subst (λ (q : Meant). are_known c.args.searches.now (expressions_of q) ≡ true) kind c.requires.known }

@@ -1,6 +1,6 @@
 -- The answer of a policy.
 -- For the clause `answers` of `answer`.
-use Rattle.std.proofs.Common.{◌≡◌, ℕ, ◌+◌, ◌≤◌, List, [], drop, rules, sym, ap, subst, ◌∙◌, arith}
+use Rattle.std.proofs.Common.{◌≡◌, ℕ, ◌+◌, ◌≤◌, List, [], drop, true, rules, refl, sym, ap, subst, ◌∙◌, arith}
 use Rattle.std.proofs.lemmas.Grind.{common_steps}
 use Rattle.policy_tree.specs.declared.policy.Policy.{Policy}
 use Rattle.policy_tree.specs.Tree.{Policy as Meant, leaf, rate_limiting, joined, Policies, nodes}
@@ -11,6 +11,9 @@ use Rattle.policy_eval.specs.declared.answer.Seen.{Seen}
 use Rattle.policy_eval.specs.Meaning.{answer_of, joined_seen}
 use Rattle.policy_eval.specs.Walks.{Answers}
 use Rattle.policy_eval.proofs.Turns.{Turn, turn-first, turn-more, turn-stop, turn-last, answers-leaf, answers-rate, part_at, counted_nodes}
+use Rattle.policy_tree.specs.Expressions.{expressions_of}
+use Rattle.expression.specs.Expressions.{are_known}
+use Rattle.policy_eval.proofs.Known.{KnowsIn, known-at}
 use Rattle.policy_eval.proofs.verdict.+answer.Goals as goal
 
 pub loop-part-init : goal.loop-part-init
@@ -23,7 +26,7 @@ loop-part-init g t c =
     let parts = meaning c.as_slice-part-items.result.now in
     let whole : p ≡ joined c.in-Joined.join parts = let is = c.in-Joined.is in let items = c.as_slice-part-items.ensures in search (rules, the_lemmas) in
     let P = λ (seen : Seen). Turn S H A s0 p c.in-Joined.join parts c.args.node c.args.second c.args.spans.now s0 parts (c.args.node + 1) seen in
-    subst P (sym c.none-seen.ensures) (turn-first S H A s0 p c.in-Joined.join parts c.args.node c.args.second c.args.spans.now whole c.requires.numbers c.requires.known)
+    (subst P (sym c.none-seen.ensures) (turn-first S H A s0 p c.in-Joined.join parts c.args.node c.args.second c.args.spans.now whole c.requires.numbers c.requires.known), subst (λ (q : Meant). are_known c.args.searches.now (expressions_of q) ≡ true) whole c.requires.expressions, refl)
 
 pub loop-part-preserved : goal.loop-part-preserved
 loop-part-preserved g t c =
@@ -39,7 +42,7 @@ loop-part-preserved g t c =
     let seen = c.loop-part.seen in
     let next = c.loop-part.next in
     let T = λ (r : Policies). Turn S H A s0 whole join (meaning items) c.args.node c.args.second c.args.spans.now s r next seen in
-    let here = part_at T items c.loop-part.part-index c.part-item.result c.loop-part-test.true c.part-item.is c.loop-part.invariant in
+    let here = part_at T items c.loop-part.part-index c.part-item.result c.loop-part-test.true c.part-item.is c.loop-part.invariant.0 in
     let rest = meaning (drop (c.loop-part.part-index + 1) items) in
     let p = policy_meaning c.part-item.result in
     let N = λ (k : ℕ). Turn S H A s0 whole join (meaning items) c.args.node c.args.second c.args.spans.now after rest (next + k) c.with-seen.result in
@@ -47,7 +50,9 @@ loop-part-preserved g t c =
     let few : nodes p ≤ 64 = omega (arith, here.counted, here.within) in
     let count : c.count.result ≡ nodes p = c.count.ensures ∙ counted_nodes (nodes p) few in
     let more = turn-more S H A s0 whole join (meaning items) c.args.node c.args.second c.args.spans.now s after p rest next seen c.answer-given.result here c.answer-given.ensures.answers c.answer-given.ensures.keeps (sym c.ends.ensures ∙ c.if-ends.false) in
-    subst N (sym count) (subst W (sym c.with-seen.ensures) more)
+    let known = known-at c.loop-part.searches items c.loop-part.part-index c.part-item.result c.loop-part-test.true c.part-item.is c.loop-part.invariant.1 in
+    let same = c.answer-given.ensures.same in
+    (subst N (sym count) (subst W (sym c.with-seen.ensures) more), subst (λ s. KnowsIn s rest) (sym same) known.1, same ∙ c.loop-part.invariant.2)
 
 pub returns-then-ends-clause-answers : goal.returns-then-ends-clause-answers
 returns-then-ends-clause-answers g t c =
@@ -63,7 +68,7 @@ returns-then-ends-clause-answers g t c =
     let seen = c.loop-part.seen in
     let next = c.loop-part.next in
     let T = λ (r : Policies). Turn S H A s0 whole join (meaning items) c.args.node c.args.second c.args.spans.now s r next seen in
-    let here = part_at T items c.loop-part.part-index c.part-item.result c.loop-part-test.true c.part-item.is c.loop-part.invariant in
+    let here = part_at T items c.loop-part.part-index c.part-item.result c.loop-part-test.true c.part-item.is c.loop-part.invariant.0 in
     let rest = meaning (drop (c.loop-part.part-index + 1) items) in
     let P = λ (a : Answer). Answers A whole c.args.node c.args.second c.args.spans.now a s0 after in
     let stop = turn-stop S H A s0 whole join (meaning items) c.args.node c.args.second c.args.spans.now s after (policy_meaning c.part-item.result) rest next seen c.answer-given.result here c.answer-given.ensures.answers (sym c.ends.ensures ∙ c.if-ends.true) in
@@ -81,7 +86,7 @@ returns-after-loop-part-clause-answers g t c =
     let T = λ (ps : List Policy). Turn S H A s0 whole join (meaning items) c.args.node c.args.second c.args.spans.now c.loop-part.limiter (meaning ps) c.loop-part.next c.loop-part.seen in
     let none : drop c.loop-part.part-index items ≡ [] = grind (arith, common_steps) in
     let P = λ (a : Answer). Answers A whole c.args.node c.args.second c.args.spans.now a s0 c.loop-part.limiter in
-    let last = turn-last S H A s0 whole join (meaning items) c.args.node c.args.second c.args.spans.now c.loop-part.limiter c.loop-part.next c.loop-part.seen (subst T none c.loop-part.invariant) in
+    let last = turn-last S H A s0 whole join (meaning items) c.args.node c.args.second c.args.spans.now c.loop-part.limiter c.loop-part.next c.loop-part.seen (subst T none c.loop-part.invariant.0) in
     subst P (sym c.joined-in-Joined.ensures) last
 
 pub returns-in-RateLimiting-clause-answers : goal.returns-in-RateLimiting-clause-answers
@@ -100,4 +105,4 @@ returns-in-Leaf-clause-answers g t c =
     let A = g.L.Limiter.asks in
     let kind : policy_meaning c.args.policy.now ≡ leaf c.in-Leaf.leaf = let is = c.in-Leaf.is in search (rules, the_lemmas) in
     let P = λ (p : Meant). Answers A p c.args.node c.args.second c.args.spans.now c.leaf_answer.result c.args.limiter.now c.args.limiter.now in
-    subst P (sym kind) (answers-leaf S A c.args.second c.args.spans.now c.args.limiter.now c.in-Leaf.leaf c.args.node c.leaf_answer.result c.leaf_answer.ensures)
+    subst P (sym kind) (answers-leaf S A c.args.second c.args.spans.now c.args.limiter.now c.in-Leaf.leaf c.args.node c.leaf_answer.result c.leaf_answer.ensures.answer)

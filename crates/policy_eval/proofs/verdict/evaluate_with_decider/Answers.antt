@@ -1,6 +1,6 @@
 -- The verdict of the policies, and which of them decides.
 -- For the clauses `evaluates` and `keeps` of `evaluate_with_decider`.
-use Rattle.std.proofs.Common.{◌≡◌, ℕ, ◌+◌, ◌/◌, ◌≤◌, List, [], drop, rules, sym, subst, ◌∙◌, arith}
+use Rattle.std.proofs.Common.{◌≡◌, ℕ, ◌+◌, ◌/◌, ◌≤◌, List, [], drop, rules, refl, sym, subst, ◌∙◌, arith}
 use Rattle.std.proofs.lemmas.Grind.{common_steps}
 use Rattle.policy_tree.specs.declared.policy.Policy.{Policy}
 use Rattle.policy_tree.specs.Tree.{Policies, one_more, nodes, nodes_in}
@@ -9,6 +9,7 @@ use Rattle.policy_eval.specs.Meaning.{none_seen, none_first, first_with}
 use Rattle.policy_eval.specs.declared.answer.Seen.{Seen}
 use Rattle.policy_eval.specs.declared.decider.Firsts.{Firsts}
 use Rattle.policy_eval.proofs.Turns.{Top, top-first, top-more, top-last, next_part, counted_nodes}
+use Rattle.policy_eval.proofs.Known.{KnowsIn, known-at}
 use Rattle.policy_eval.proofs.verdict.evaluate_with_decider.Goals as goal
 
 pub loop-place-init : goal.loop-place-init
@@ -24,7 +25,7 @@ loop-place-init g c =
     let P = λ (seen : Seen). T all seen none_first in
     let F = λ (firsts : Firsts). T all c.none-seen.result firsts in
     let Q = λ (items : List Policy). T (meaning items) c.none-seen.result c.none-firsts.result in
-    subst Q (sym c.as_slice-all.ensures.policies) (subst F (sym c.none-firsts.ensures) (subst P (sym c.none-seen.ensures) first))
+    (subst Q (sym c.as_slice-all.ensures.policies) (subst F (sym c.none-firsts.ensures) (subst P (sym c.none-seen.ensures) first)), subst (λ (items : List Policy). KnowsIn c.args.searches.now (meaning items)) (sym c.as_slice-all.ensures.policies) c.requires.expressions, refl)
 
 pub loop-place-preserved : goal.loop-place-preserved
 loop-place-preserved g c =
@@ -45,13 +46,15 @@ loop-place-preserved g c =
     let place = c.loop-place.place in
     let firsts = c.loop-place.firsts in
     let T = λ (r : Policies). Top S H A s0 all second spans s r next c.loop-place.seen place firsts in
-    let here : T (one_more (policy_meaning p) rest) = subst T (next_part items i p c.loop-place-test.true c.index-all-place.is) c.loop-place.invariant in
+    let here : T (one_more (policy_meaning p) rest) = subst T (next_part items i p c.loop-place-test.true c.index-all-place.is) c.loop-place.invariant.0 in
     let N = λ (k : ℕ). Top S H A s0 all second spans t rest (next + k) c.with-seen.result (place + 1) c.with-firsts.result in
     let F = λ (f : Firsts). Top S H A s0 all second spans t rest (next + nodes (policy_meaning p)) c.with-seen.result (place + 1) f in
     let W = λ (x : Seen). Top S H A s0 all second spans t rest (next + nodes (policy_meaning p)) x (place + 1) (first_with c.answer-given.result place firsts) in
     let few : nodes (policy_meaning p) ≤ 64 = omega (arith, here.counted, here.within) in
     let count : c.count.result ≡ nodes (policy_meaning p) = c.count.ensures ∙ counted_nodes (nodes (policy_meaning p)) few in
-    subst N (sym count) (subst F (sym c.with-firsts.ensures) (subst W (sym c.with-seen.ensures) (top-more S H A s0 all second spans s t (policy_meaning p) rest next c.loop-place.seen place firsts c.answer-given.result here c.answer-given.ensures.answers c.answer-given.ensures.keeps)))
+    let known = known-at c.loop-place.searches items i p c.loop-place-test.true c.index-all-place.is c.loop-place.invariant.1 in
+    let same = c.answer-given.ensures.same in
+    (subst N (sym count) (subst F (sym c.with-firsts.ensures) (subst W (sym c.with-seen.ensures) (top-more S H A s0 all second spans s t (policy_meaning p) rest next c.loop-place.seen place firsts c.answer-given.result here c.answer-given.ensures.answers c.answer-given.ensures.keeps))), subst (λ s. KnowsIn s rest) (sym same) known.1, same ∙ c.loop-place.invariant.2)
 
 pub returns-clause-evaluates : goal.returns-clause-evaluates
 returns-clause-evaluates g c =
@@ -64,4 +67,4 @@ returns-clause-evaluates g c =
     let all = meaning c.args.policies.now in
     let T = λ (ps : List Policy). Top S H A s0 all (c.args.now / 1000) c.args.spans.now c.loop-place.limiter (meaning ps) c.loop-place.next c.loop-place.seen c.loop-place.place c.loop-place.firsts in
     let none : drop i items ≡ [] = grind (arith, common_steps) in
-    top-last S H A s0 all (c.args.now / 1000) c.args.spans.now c.loop-place.limiter c.loop-place.next c.loop-place.seen c.loop-place.place c.loop-place.firsts c.verdict.result c.decider.result (subst T none c.loop-place.invariant) c.verdict.ensures c.decider.ensures
+    top-last S H A s0 all (c.args.now / 1000) c.args.spans.now c.loop-place.limiter c.loop-place.next c.loop-place.seen c.loop-place.place c.loop-place.firsts c.verdict.result c.decider.result (subst T none c.loop-place.invariant.0) c.verdict.ensures c.decider.ensures

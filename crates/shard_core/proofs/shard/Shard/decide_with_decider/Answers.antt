@@ -32,7 +32,7 @@ invariant_of-self g c =
     let inv = c.self.invariant in
     let d = c.due_by-mark.result in
     let k = settle_keeps i.clock d.0 d.1 d.2 c.evaluate_with_decider-verdict.result.0 i.buffer c.settle-spans.new.self i.cache c.settle-spans.ensures.after (inv.1, inv.3, inv.4) in
-    (inv.0, k.0, settle_spans d.0 d.1 d.2 c.evaluate_with_decider-verdict.result.0 i.buffer c.settle-spans.new.self c.settle-spans.ensures.after inv.2, k.1, k.2)
+    (inv.0, k.0, settle_spans d.0 d.1 d.2 c.evaluate_with_decider-verdict.result.0 i.buffer c.settle-spans.new.self c.settle-spans.ensures.after inv.2, k.1, k.2, rw c.evaluate_with_decider-verdict.ensures.same inv.5)
 
 -- ---- no episode was due
 

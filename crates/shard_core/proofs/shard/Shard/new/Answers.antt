@@ -19,4 +19,4 @@ pub invariant_of-result : goal.invariant_of-result
 invariant_of-result c =
     let made = c.in-Ok.ensures in
     let k = new_keeps c.in-Ok.buffer c.in-Ok.cache c.args.setup.limit made.buffer c.requires.keeps_a_trace in
-    (c.requires.waits, k.0, ap (λ (b : Buffer). have_spans b.episodes) made.buffer, k.1, k.2)
+    (c.requires.waits, k.0, ap (λ (b : Buffer). have_spans b.episodes) made.buffer, k.1, k.2, c.in_ok-searches.ensures)

@@ -33,19 +33,19 @@ invariant_of-self c =
     let P = λ (o : Option Ids). Appended i.buffer c.args.arrival o now c.append.result c.append.new.buffer in
     let a = append_keeps now i.buffer c.append.new.buffer i.cache c.args.arrival c.unwrap-ids.result.trace c.append.result (subst P (sym c.ids_of.ensures ∙ c.unwrap-ids.ensures) c.append.ensures.appended) k in
     let g = append_spans now i.buffer c.append.new.buffer c.args.arrival c.unwrap-ids.result.trace c.append.result (subst P (sym c.ids_of.ensures ∙ c.unwrap-ids.ensures) c.append.ensures.appended) inv.2 in
-    (inv.0, a.0, g, a.1, a.2)
+    (inv.0, a.0, g, a.1, a.2, inv.5)
 
 pub invariant_of-self-in-Some-Decided : goal.invariant_of-self-in-Some-Decided
 invariant_of-self-in-Some-Decided c =
     let inv = c.self.invariant in
     let k = kept (goal.at.invariant_of-self-in-Some-Decided c).After-find in
-    (inv.0, k.0, inv.2, k.1, k.2)
+    (inv.0, k.0, inv.2, k.1, k.2, inv.5)
 
 pub invariant_of-self-in-Some : goal.invariant_of-self-in-Some
 invariant_of-self-in-Some c =
     let inv = c.self.invariant in
     let a = ask_keeps c.max-self-inside.result c.self.inside.buffer c.unwrap-ids.result.trace c.self.inside.cache c.ask.new.self c.ask.ensures.lists (kept (goal.at.invariant_of-self-in-Some c).After-find) in
-    (inv.0, a.0, inv.2, a.1, a.2)
+    (inv.0, a.0, inv.2, a.1, a.2, inv.5)
 
 pub open-requires-clause-clock : goal.open-requires-clause-clock
 open-requires-clause-clock c = (kept (goal.at.open-requires-clause-clock c).After-find).1
@@ -63,7 +63,7 @@ invariant_of-self-in-None-ask c =
     let nothing = asked-nothing ids.trace i.cache (sym c.ask.ensures.verdict ∙ c.in-None-ask.is) in
     let out = λ (l : CacheLists). is_held_in_either ids.trace l ≡ false in
     let r = opening_keeps now i.buffer c.open.new.buffer c.ask.new.self c.opened.new.cache c.args.arrival ids c.opened.result c.open.result is_opened c.opened.ensures none (subst out (sym (c.ask.ensures.lists ∙ nothing.1)) nothing.0) a in
-    (inv.0, r.0, opening_spans now i.buffer c.open.new.buffer c.args.arrival ids c.open.result is_opened inv.2, r.1, r.2)
+    (inv.0, r.0, opening_spans now i.buffer c.open.new.buffer c.args.arrival ids c.open.result is_opened inv.2, r.1, r.2, inv.5)
 
 pub returns-in-None-ask-clause-takes : goal.returns-in-None-ask-clause-takes
 returns-in-None-ask-clause-takes c =

@@ -29,17 +29,17 @@ none_there s past answers [] (suc place) e = refl
 none_there s past answers (o ∷ os) zero e = cc
 none_there s past answers (o ∷ os) (suc place) e = none_there s past answers os place e
 
-pub returns-else-place-len : goal.returns-else-place-len
-returns-else-place-len c = λ past e.
+pub returns-else-place-len-clause-answered : goal.returns-else-place-len-clause-answered
+returns-else-place-len-clause-answered c = λ past e.
     let s = settings_of c.args.settings.now in
     let spans = ap (λ (l : Look). l.spans) (c.self.view_is ∙ e) in
     none_there s past c.args.answers.now (due_now s past) c.args.place (ap (λ (x : List (List Arrival)). slice_get x c.args.place) (sym spans) ∙ slice_get_past c.self.inside.spans.items c.args.place (omega arith))
 
-pub returns-then-place-len : goal.returns-then-place-len
-returns-then-place-len c = λ past e.
+pub returns-then-place-len-clause-answered : goal.returns-then-place-len-clause-answered
+returns-then-place-len-clause-answered c = λ past e.
     let s = settings_of c.args.settings.now in
     let spans = ap (λ (l : Look). l.spans) (c.self.view_is ∙ e) in
     let within : c.args.place < length c.self.inside.spans.items = omega arith in
     let there = ap (λ (x : List (List Arrival)). slice_get x c.args.place) (sym spans) ∙ slice_get_read c.self.inside.spans.items (length c.self.inside.spans.items) c.args.place c.index.result.now refl within c.index.ensures in
     let answers = c.args.answers.now in
-    c.is_some.ensures ∙ ap is_some c.judge.ensures ∙ sym (some_if (are_answered s.policies answers c.as_slice.result.now) _) ∙ ap (are_answered s.policies answers) c.as_slice.ensures ∙ by_spans s past answers (due_now s past) c.args.place c.index.result.now there
+    c.is_some.ensures ∙ ap is_some c.judge.ensures.verdict ∙ sym (some_if (are_answered s.policies answers c.as_slice-spans.result.now) _) ∙ ap (are_answered s.policies answers) c.as_slice-spans.ensures ∙ by_spans s past answers (due_now s past) c.args.place c.index.result.now there

@@ -10,7 +10,7 @@ use Rattle.span_world.proofs.shard.Shard.may_decide.Goals as goal
 pub returns-then-self-due-clause-enabled : goal.returns-then-self-due-clause-enabled
 returns-then-self-due-clause-enabled c =
     let s = settings_of c.args.settings.now in
-    let due = ap (λ (l : Look). l.due) c.requires in
+    let due = ap (λ (l : Look). l.due) c.requires.look in
     let same = ap (λ (sh : Shard). length (due_now s sh.journal)) c.self.view_is in
     let l : length (due_now s (reverse c.self.inside.journal.items)) ≤ c.self.inside.dealt = omega (arith, due, same) in
     rw (← c.self.view_is) (ap is_some (sym (none_due s (reverse c.self.inside.journal.items) c.self.inside.dealt c.args.answers.now l)))

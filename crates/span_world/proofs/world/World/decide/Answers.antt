@@ -18,7 +18,7 @@ some_of (Some x) e = (x, refl)
 
 pub invariant_of-self-2 : goal.invariant_of-self-2
 invariant_of-self-2 c =
-    (c.self.invariant.0, looks_put (settings_of c.self.inside.settings) c.self.inside.shards.items c.self.inside.looks.items c.args.shard c.decide.new.self c.decide.new.look c.self.invariant.1 (c.in_ok-decide.ensures.look))
+    (c.self.invariant.0, looks_put (settings_of c.self.inside.settings) c.self.inside.shards.items c.self.inside.looks.items c.args.shard c.decide.new.self c.decide.new.look c.self.invariant.1 c.in_ok-decide.ensures.look, rw c.may_decide.ensures.same c.self.invariant.2)
 
 pub returns-in_err-decide : goal.returns-in_err-decide
 returns-in_err-decide c =

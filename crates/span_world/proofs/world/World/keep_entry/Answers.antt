@@ -19,7 +19,7 @@ returns-in_err-take c =
 
 pub invariant_of-self-2 : goal.invariant_of-self-2
 invariant_of-self-2 c =
-    (c.self.invariant.0, looks_put (settings_of c.self.inside.settings) c.self.inside.shards.items c.self.inside.looks.items c.args.shard c.take.new.self c.take.new.look c.self.invariant.1 c.in_ok-take.ensures.look)
+    (c.self.invariant.0, looks_put (settings_of c.self.inside.settings) c.self.inside.shards.items c.self.inside.looks.items c.args.shard c.take.new.self c.take.new.look c.self.invariant.1 c.in_ok-take.ensures.look, c.self.invariant.2)
 
 pub returns : goal.returns
 returns c =

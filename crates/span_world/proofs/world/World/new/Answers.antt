@@ -18,4 +18,5 @@ invariant_of-result c =
         non_sampled_size = c.args.config.non_sampled_size;
         senders = c.args.lanes + 1;
       })) c.args.shards),
+      rw c.searches.view_is c.in_ok-searches.ensures,
     )

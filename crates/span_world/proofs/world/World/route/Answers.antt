@@ -30,7 +30,7 @@ invariant_of-self-2 c =
     let p = placed (the_view c.self.inside) c.args.self.now c.self.view_is c.args.lane c.args.shard c.in-Some.place (sym c.next_for.ensures ∙ c.in-Some.is) in
     let k = read_is c.self.inside.shards.items c.args.shard c.index_mut.result.now p.has_shard c.index_mut.ensures.value in
     let lanes : c.self.inside.settings.senders ≡ length (slice_set c.self.inside.lanes.items c.args.lane c.queue_from.new.lane) + 1 = rw (length-set c.self.inside.lanes.items c.args.lane c.queue_from.new.lane) c.self.invariant.0 in
-    (lanes, looks_stay (settings_of c.self.inside.settings) c.self.inside.shards.items c.self.inside.looks.items c.args.shard c.index_mut.result.now c.queue_from.new.self c.self.invariant.1 k c.queue_from.ensures.journal)
+    (lanes, looks_stay (settings_of c.self.inside.settings) c.self.inside.shards.items c.self.inside.looks.items c.args.shard c.index_mut.result.now c.queue_from.new.self c.self.invariant.1 k c.queue_from.ensures.journal, c.self.invariant.2)
 
 pub returns : goal.returns
 returns c =
