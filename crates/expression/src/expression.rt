@@ -98,7 +98,8 @@ impl Expression {
         self.text.as_str()
     }
 
-    /// Whether the expression has a match in the value. It takes no memory.
+    /// Whether the expression has a match in the value. It takes no memory that can be refused: what the search keeps of
+    /// earlier ones grows as it goes.
     pub fn is_match(&mut self, value: &str) -> bool
         ensures found { result ≡ is_match self.old value.now }
         ensures same { self.new ≡ self.old }

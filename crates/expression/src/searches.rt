@@ -44,7 +44,8 @@ impl Searches {
         }
     }
 
-    /// Whether the expression of this text, which is among these, has a match in the value. It takes no memory.
+    /// Whether the expression of this text, which is among these, has a match in the value. It takes no memory
+    /// that can be refused: what the search keeps of earlier ones grows as it goes.
     pub fn finds(&mut self, text: &str, value: &str) -> bool
         requires known { is_known self.old text.now ≡ true }
         ensures found { result ≡ is_match text.now value.now }

@@ -17,7 +17,8 @@ use policy_tree::{Policies, Policy, PolicyKind};
 use rate_budget::Limiter;
 use span_ids::{Moment, Verdict};
 
-/// The verdict of the policies on the spans of a trace, at this moment in milliseconds. It takes no memory.
+/// The verdict of the policies on the spans of a trace, at this moment in milliseconds. It takes no memory that can be
+/// refused.
 ///
 /// The limiter nodes are asked in the order of their numbers, each at most once, for the number of spans, in the second
 /// of the moment. Of the parts of a policy no further one is asked behind an answer that ends them. The searches know each

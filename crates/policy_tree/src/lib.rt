@@ -1,5 +1,6 @@
 //! Sampling policies as plain data, and lists of them that are within their limits
-//! (tailsamplingprocessor README, "Policies").
+//! (tailsamplingprocessor README, "Policies"). What is said of them is read in this order: `specs/Tree` (the data), `Walk`
+//! (the limiter nodes in order), `Meaning` (what a list of policies means), `Faults`, `Expressions`.
 #![tactic(auto)]
 
 mod expressions;

@@ -242,7 +242,8 @@ impl Shard {
         self.buffer.search(mark, wait, root_wait);
     }
 
-    /// Decides the due trace that was opened first. It takes no memory; it waits only where the limiter does.
+    /// Decides the due trace that was opened first. It takes no memory that can be refused; it waits only where the limiter
+    /// does.
     ///
     /// The limiter is one of the policies' limiter nodes, and is asked just what they ask for the trace's spans. Where no
     /// trace is due it isn't asked.

@@ -1,4 +1,4 @@
-//! What looking back over a journal finds, kept so that questions about it take no memory.
+//! What looking back over a journal finds, kept so that questions about it take no memory that can be refused.
 ghost use Rattle.std.specs.Prelude.{◌≡◌, true, reverse, is_some, IfOk};
 ghost use Rattle.expression.specs.Expressions.{are_known};
 ghost use Rattle.policy_tree.specs.Expressions.{expressions_in};

@@ -22,12 +22,13 @@ use std::marker::Model;
 pub struct World {
     pub(crate) alloc: Global,
     pub(crate) settings: Settings,
-    /// For the expressions of the policies, so that whether a decision is enabled takes no memory.
+    /// For the expressions of the policies, so that whether a decision is enabled takes no memory that can be refused.
     pub(crate) searches: Searches,
     pub(crate) batch_size: usize,
     pub(crate) lanes: Vec<Lane>,
     pub(crate) shards: Vec<Shard>,
-    /// What looking back over each shard's journal found, so that whether a step is enabled takes no memory.
+    /// What looking back over each shard's journal found, so that whether a step is enabled takes no memory that can be
+    /// refused.
     pub(crate) looks: Vec<LookBack>,
     pub(crate) exported: VecDeque<Arrival>,
     pub(crate) batch: Vec<Arrival>,
