@@ -5,7 +5,8 @@ use Rattle.std.specs.Option.{option_and_then}
 use Rattle.policy_tree.specs.Tree.{Policies}
 use Rattle.policy_eval.specs.Given.{are_answered}
 use Rattle.policy_eval.specs.GivenLaws.{given-by}
-use Rattle.rate_budget.specs.Grant.{Asking, granted_after}
+use Rattle.policy_eval.specs.Amounts.{granted_on}
+use Rattle.rate_budget.specs.Grant.{Asking}
 use Rattle.journal_theory.specs.Journal.{Settings, Entry, Journal, Opening, clock, due_now, decision, spans_since, are_each_answered}
 use Rattle.journal_theory.specs.Fate.{effect_of_decision}
 use Rattle.journal_theory.proofs.Answering.{due-same, each-same}
@@ -34,7 +35,7 @@ each_fits policies past [] askings = refl
 each_fits policies past (o ∷ rest) askings =
     let spans = spans_since past o in
     let second = clock past / 1000 in
-    both _ _ (given-by policies (granted_after policies askings second (length spans)) spans).2 (each_fits policies past rest (asked_more policies askings second spans))
+    both _ _ (given-by policies (granted_on policies askings second spans) spans).2 (each_fits policies past rest (asked_more policies askings second spans))
   where
     both : (a b : Bool) → a ≡ true → b ≡ true → (a && b) ≡ true
     both true b e f = f

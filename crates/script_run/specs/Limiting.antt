@@ -1,22 +1,23 @@
 -- How the one limiter of a script answers the decisions of all shards.
-use Rattle.std.specs.Prelude.{ℕ, ◌/◌, Bool, List, [], ◌∷◌, ◌++◌, map, reverse, length}
+use Rattle.std.specs.Prelude.{ℕ, ◌/◌, Bool, List, [], ◌∷◌, ◌++◌, map, reverse}
 use Rattle.otlp_types.specs.declared.arrival.Arrival.{Arrival}
 use Rattle.policy_tree.specs.Tree.{Policies}
 use Rattle.policy_eval.specs.Policies.{asked_nodes}
-use Rattle.rate_budget.specs.Grant.{Asking, granted_after}
+use Rattle.policy_eval.specs.Amounts.{amount_at, granted_on}
+use Rattle.rate_budget.specs.Grant.{Asking}
 use Rattle.journal_theory.specs.Journal.{Settings, Entry, Journal, Opening, clock, due_now, spans_since}
 
 -- the limiter's answers to the decision on these spans in this second, in the order in which the policies ask, after these askings, the latest of which comes first
 abbrev pub answers_to : Policies → List Asking → (second : ℕ) → List Arrival → List Bool
 answers_to policies askings second spans =
-    let granted = granted_after policies askings second (length spans) in
+    let granted = granted_on policies askings second spans in
     map granted (asked_nodes policies granted spans)
 
 -- the askings with those of that decision, the latest first
 abbrev pub asked_more : Policies → List Asking → (second : ℕ) → List Arrival → List Asking
 asked_more policies askings second spans =
-    let granted = granted_after policies askings second (length spans) in
-    reverse (map (λ node. record { node = node; second = second; spans = length spans; granted = granted node }) (asked_nodes policies granted spans)) ++ askings
+    let granted = granted_on policies askings second spans in
+    reverse (map (λ node. record { node = node; second = second; amount = amount_at policies spans node; granted = granted node }) (asked_nodes policies granted spans)) ++ askings
 
 -- the answers to the decisions of these episodes at the journal's end, one after the other
 abbrev pub answers_in_turn : Policies → Journal → List Opening → List Asking → List (List Bool)

@@ -4,8 +4,9 @@ use Rattle.std.proofs.Common.{◌≡◌, ℕ, zero, suc, ◌+◌, ◌/◌, Bool,
 use Rattle.otlp_types.specs.declared.arrival.Arrival.{Arrival}
 use Rattle.policy_tree.specs.Tree.{Policies}
 use Rattle.policy_eval.specs.Given.{asked_given, Asked}
+use Rattle.policy_eval.specs.Amounts.{amount_at, granted_on}
 use Rattle.policy_eval.specs.AskingLaws.{askings_by, decides_by_counts}
-use Rattle.rate_budget.specs.Grant.{Asking, granted_after}
+use Rattle.rate_budget.specs.Grant.{Asking}
 use Rattle.rate_budget.specs.Budget.{limiter_counts, AsksBudgets}
 use Rattle.journal_theory.specs.Journal.{Entry, Settings, Journal, Opening, clock, due_now, spans_since}
 use Rattle.journal_theory.specs.Fate.{effect, effect_dealt, released_dealt, dropped_dealt}
@@ -88,15 +89,15 @@ pub record Answers (policies : Policies) (past : Journal) (asked : List Asking) 
   pub limiter_is : after ≡ limiter_counts policies (asked_more policies asked (clock past / 1000) (spans_since past o))
 
 answers-by : (policies : Policies) (past : Journal) (asked : List Asking) (o : Opening) (answers : List Bool) (before after : Counts) → before ≡ limiter_counts policies asked
-    → Asked AsksBudgets (clock past / 1000) (length (spans_since past o)) (asked_given policies answers (spans_since past o)) answers before after → Answers policies past asked o answers after
+    → Asked AsksBudgets (clock past / 1000) (amount_at policies (spans_since past o)) (asked_given policies answers (spans_since past o)) answers before after → Answers policies past asked o answers after
 answers-by policies past asked o answers before after is h =
     let second = clock past / 1000 in
     let spans = spans_since past o in
-    let granted = granted_after policies asked second (length spans) in
+    let granted = granted_on policies asked second spans in
     let d = decides_by_counts policies asked second spans answers before after is h in
     record {
       answers_are = d.answers_are ∙ ap (map granted) d.asked_are;
-      limiter_is = d.counts_are ∙ ap (λ (nodes : List ℕ). limiter_counts policies (reverse (askings_by granted second (length spans) nodes) ++ asked)) d.asked_are;
+      limiter_is = d.counts_are ∙ ap (λ (nodes : List ℕ). limiter_counts policies (reverse (askings_by granted second (amount_at policies spans) nodes) ++ asked)) d.asked_are;
     }
 
 -- the next of the decisions that are due was made: the limiter was asked at it
@@ -104,14 +105,14 @@ record Next (s : Settings) (e : Entry) (past : Turn) (dealt : ℕ) (answers : Li
   opening : Opening
   later : List Opening
   due : due_behind s e past dealt ≡ opening ∷ later
-  asked : Asked AsksBudgets (clock (e ∷ past.journal) / 1000) (length (spans_since (e ∷ past.journal) opening)) (asked_given s.policies answers (spans_since (e ∷ past.journal) opening)) answers lent last
+  asked : Asked AsksBudgets (clock (e ∷ past.journal) / 1000) (amount_at s.policies (spans_since (e ∷ past.journal) opening)) (asked_given s.policies answers (spans_since (e ∷ past.journal) opening)) answers lent last
 
 next-of : (s : Settings) (e : Entry) (past : Turn) (given : List (List Bool)) (dealt : ℕ) (mid new : Held) (lent last : Counts) (answer : Decided) (answers : List Bool) → (answer ≡ Nothing → ⊥) → settings mid ≡ s
     → (os : List Opening) → due_behind s e past dealt ≡ os → DecidesFirst AsksBudgets mid new answer lent last answers (given_to e past given) os → Next s e past dealt answers lent last
 next-of s e past given dealt mid new lent last answer answers some same [] due d = absurd (some d.0)
 next-of s e past given dealt mid new lent last answer answers some same (o ∷ later) due d =
     let spans = spans_since (e ∷ past.journal) o in
-    let P = λ (x : Settings). Asked AsksBudgets (clock (e ∷ past.journal) / 1000) (length spans) (asked_given x.policies answers spans) answers lent last in
+    let P = λ (x : Settings). Asked AsksBudgets (clock (e ∷ past.journal) / 1000) (amount_at x.policies spans) (asked_given x.policies answers spans) answers lent last in
     record { opening = o; later = later; due = due; asked = subst P same d.2 }
 
 -- what is due doesn't turn on the answers so far

@@ -4,6 +4,7 @@ use Rattle.std.proofs.Common.{◌≡◌, ℕ, zero, suc, ◌+◌, ◌/◌, ◌<�
 use Rattle.std.specs.List.{list_any, find, filter}
 use Rattle.std.specs.Option.{is_none, is_some}
 use Rattle.policy_tree.specs.Meaning.{meaning}
+use Rattle.policy_eval.specs.Amounts.{amount_at}
 use Rattle.policy_eval.specs.Given.{verdict_given, decider_given, asked_given, are_answered, Asked}
 use Rattle.trace_buffer.specs.Buffer.{Episode, settled, settle_first, is_due_at, is_root_due, opened_by}
 use Rattle.journal_theory.specs.Journal.{Entry, Journal, Opening, in_buffer, notes_dealt, due_now, clock, spans_since, answered, IsAnsweredUpTo}
@@ -93,7 +94,7 @@ module _ {L : Type 0} (asks : L → ℕ → ℕ → ℕ → Bool → L → Type 
 
   decides-in : (new : Held) (answer : Decided) (before after : L) (answers : List Bool) (e : Episode) (x : Entry) (earlier : Journal) (k : ℕ) → let past : Journal = x ∷ earlier in
       find (is_due_at (due_by h).0 (due_by h).1 (due_by h).2) h.standing.episodes ≡ Some e → SettlesFirst h (due_by h).0 (due_by h).1 (due_by h).2 answers answer new →
-      are_answered (settings h).policies answers e.spans ≡ true → Asked asks (h.standing.clock / 1000) (length e.spans) (asked_given (settings h).policies answers e.spans) answers before after →
+      are_answered (settings h).policies answers e.spans ≡ true → Asked asks (h.standing.clock / 1000) (amount_at (settings h).policies e.spans) (asked_given (settings h).policies answers e.spans) answers before after →
       StandsFor h past k → Does new answer before after answers past k
   decides-in new answer before after answers e x earlier k f t a q s =
       let past : Journal = x ∷ earlier in
@@ -104,7 +105,7 @@ module _ {L : Type 0} (asks : L → ℕ → ℕ → ℕ → Bool → L → Type 
       let v = verdict_given policies answers e.spans in
       let R = λ (spans : List Arrival). Releases answer spans (verdict_given policies answers spans) in
       let A = λ (spans : List Arrival). are_answered policies answers spans ≡ true in
-      let Q = λ (spans : List Arrival) (c : ℕ). Asked asks (c / 1000) (length spans) (asked_given policies answers spans) answers before after in
+      let Q = λ (spans : List Arrival) (c : ℕ). Asked asks (c / 1000) (amount_at policies spans) (asked_given policies answers spans) answers before after in
       let same = sym step.3 in
       let released = subst R same settle.0 in
       let fits = subst A same a in
@@ -138,7 +139,7 @@ module _ {L : Type 0} (asks : L → ℕ → ℕ → ℕ → Bool → L → Type 
 
   pub decides_some : (new : Held) (answer : Decided) (before after : L) (answers : List Bool) (e : Episode) (past : Journal) (k : ℕ) →
       find (is_due_at (due_by h).0 (due_by h).1 (due_by h).2) h.standing.episodes ≡ Some e → SettlesFirst h (due_by h).0 (due_by h).1 (due_by h).2 answers answer new →
-      are_answered (settings h).policies answers e.spans ≡ true → Asked asks (h.standing.clock / 1000) (length e.spans) (asked_given (settings h).policies answers e.spans) answers before after →
+      are_answered (settings h).policies answers e.spans ≡ true → Asked asks (h.standing.clock / 1000) (amount_at (settings h).policies e.spans) (asked_given (settings h).policies answers e.spans) answers before after →
       StandsFor h past k → Does new answer before after answers past k
   decides_some new answer before after answers e [] k f t a q s = absurd (none_at_first e k f s)
   decides_some new answer before after answers e (x ∷ earlier) k f t a q s = decides-in new answer before after answers e x earlier k f t a q s

@@ -7,6 +7,7 @@ use Rattle.decision_cache.specs.declared.traces.Remembered.{Remembered}
 use Rattle.decision_cache.specs.declared.traces.Remembered.TheVariants.{Kept as InCache, Off, Lost}
 use Rattle.journal_theory.specs.Fate.{Fate, waits, is_released, is_counted, fate, is_same_reason, released_dealt, dropped_dealt}
 use Rattle.policy_tree.specs.Tree.{Policies}
+use Rattle.policy_eval.specs.Amounts.{amount_at}
 use Rattle.policy_eval.specs.Given.{verdict_given, decider_given, asked_given, are_answered, Asked}
 use Rattle.otlp_types.specs.declared.span.Ids.{Ids}
 use Rattle.otlp_types.specs.declared.arrival.Arrival.{Arrival}
@@ -161,7 +162,7 @@ journal_after Nothing past answers = past
 journal_after _ past answers = answered past answers
 
 -- What `decide` does to a shard and a limiter by these answers of the limiter, by the episodes that are still to be decided: nothing, where none is;
--- else the first is decided on its spans as the policies say with these answers, and the limiter was asked just what they ask, in this second, for the number of its spans.
+-- else the first is decided on its spans as the policies say with these answers, and the limiter was asked just what they ask, in this second, for its spans or their bytes.
 abbrev pub DecidesFirst : {L : Type 0} → (asks : L → ℕ → ℕ → ℕ → Bool → L → Type 0) → (old new : Held) → Decided → (before after : L) → (answers : List Bool) → Journal → List Opening → Type 0
 DecidesFirst asks old new answer before after answers past [] = (answer ≡ Nothing) × (new ≡ old) × (after ≡ before)
 DecidesFirst asks old new answer before after answers past (o ∷ later) =
@@ -169,7 +170,7 @@ DecidesFirst asks old new answer before after answers past (o ∷ later) =
     let spans = spans_since past o in
     Releases answer spans (verdict_given policies answers spans)
     × (are_answered policies answers spans ≡ true)
-    × Asked asks (clock past / 1000) (length spans) (asked_given policies answers spans) answers before after
+    × Asked asks (clock past / 1000) (amount_at policies spans) (asked_given policies answers spans) answers before after
 
 -- what was released and counted by this answer
 abbrev pub AddsDecision : Settings → Decided → (answers : List Bool) → Journal → (dealt : ℕ) → Type 0

@@ -6,6 +6,7 @@ use Rattle.journal_theory.proofs.Answering.{no_more}
 use Rattle.otlp_types.specs.declared.arrival.Item.{Item}
 use Rattle.otlp_types.specs.declared.arrival.Item.TheVariants.{Span, Tick, End}
 use Rattle.policy_tree.specs.Tree.{Policies}
+use Rattle.policy_eval.specs.Amounts.{amount_at}
 use Rattle.policy_eval.specs.Given.{asked_given, are_answered, Asked}
 use Rattle.journal_theory.specs.Journal.{Entry, Settings, Journal, Opening, Notes, notes, due_at, due_now, undecided, have_ended, has_ended, spans_since, clock, answered, are_each_answered, IsAnsweredUpTo}
 use Rattle.shard_core.specs.Held.{Held, settings}
@@ -37,13 +38,13 @@ module _ (s : Settings) (e : Entry) (before : Journal) (more : List (List Bool))
 module _ {L : Type 0} (asks : L → ℕ → ℕ → ℕ → Bool → L → Type 0) (policies : Policies) (second : ℕ) (past : Journal) where
   asked-next : (k : ℕ) (os : List Opening) (given : List (List Bool)) (answers : List Bool) (o : Opening) (rest : List Opening) (old t u : L) → drop k os ≡ o ∷ rest →
       are_each_answered policies past (take k os) given ≡ true → AskedInTurn asks policies second (spans_since past) os given old t →
-      Asked asks second (length (spans_since past o)) (asked_given policies answers (spans_since past o)) answers t u →
+      Asked asks second (amount_at policies (spans_since past o)) (asked_given policies answers (spans_since past o)) answers t u →
       AskedInTurn asks policies second (spans_since past) os (given ++ answers ∷ []) old u
   asked-next k [] given answers o rest old t u e h a q = absurd (no_more k o rest e)
   asked-next zero (p ∷ os) [] answers o rest old t u e h a q =
       let same : o ≡ p = cc in
-      let P = λ (r : Opening). Asked asks second (length (spans_since past r)) (asked_given policies answers (spans_since past r)) answers t u in
-      let Q = λ (x : L). Asked asks second (length (spans_since past p)) (asked_given policies answers (spans_since past p)) answers x u in
+      let P = λ (r : Opening). Asked asks second (amount_at policies (spans_since past r)) (asked_given policies answers (spans_since past r)) answers t u in
+      let Q = λ (x : L). Asked asks second (amount_at policies (spans_since past p)) (asked_given policies answers (spans_since past p)) answers x u in
       (u, subst Q a (subst P same q), refl)
   asked-next zero (p ∷ os) (g ∷ given) answers o rest old t u e h a q = absurd (let x : false ≡ true = h in cc)
   asked-next (suc k) (p ∷ os) [] answers o rest old t u e h a q = absurd (let x : false ≡ true = h in cc)
@@ -53,7 +54,7 @@ module _ {L : Type 0} (asks : L → ℕ → ℕ → ℕ → Bool → L → Type 
 -- one more decision is answered
 asked_answered : {L : Type 0} (asks : L → ℕ → ℕ → ℕ → Bool → L → Type 0) (s : Settings) (first t u : L) (e : Entry) (before : Journal) (k : ℕ) (answers : List Bool) (o : Opening) (rest : List Opening) →
     let past : Journal = e ∷ before in drop k (due_now s past) ≡ o ∷ rest → IsAnsweredUpTo s past k → AskedBy asks s past first t →
-    Asked asks (clock past / 1000) (length (spans_since past o)) (asked_given s.policies answers (spans_since past o)) answers t u → AskedBy asks s (answered past answers) first u
+    Asked asks (clock past / 1000) (amount_at s.policies (spans_since past o)) (asked_given s.policies answers (spans_since past o)) answers t u → AskedBy asks s (answered past answers) first u
 asked_answered {L} asks s first t u e before k answers o rest due h a q =
     let past : Journal = e ∷ before in
     let more = e.answers ++ answers ∷ [] in

@@ -1,7 +1,8 @@
 -- How a limiter was asked at the decisions of a shard.
-use Rattle.std.specs.Prelude.{◌≡◌, ℕ, ◌/◌, Bool, List, [], ◌∷◌, length}
+use Rattle.std.specs.Prelude.{◌≡◌, ℕ, ◌/◌, Bool, List, [], ◌∷◌}
 use Rattle.otlp_types.specs.declared.arrival.Arrival.{Arrival}
 use Rattle.policy_tree.specs.Tree.{Policies}
+use Rattle.policy_eval.specs.Amounts.{amount_at}
 use Rattle.policy_eval.specs.Given.{asked_given, Asked}
 use Rattle.journal_theory.specs.Journal.{Settings, Journal, Opening, clock, due_now, spans_since}
 
@@ -10,7 +11,7 @@ abbrev pub AskedInTurn : {L : Type 0} → (asks : L → ℕ → ℕ → ℕ → 
 AskedInTurn asks policies second spans_of os [] old new = new ≡ old
 AskedInTurn asks policies second spans_of [] (a ∷ later) old new = ⊥
 AskedInTurn {L} asks policies second spans_of (o ∷ rest) (a ∷ later) old new =
-    (between : L) × Asked asks second (length (spans_of o)) (asked_given policies a (spans_of o)) a old between × AskedInTurn asks policies second spans_of rest later between new
+    (between : L) × Asked asks second (amount_at policies (spans_of o)) (asked_given policies a (spans_of o)) a old between × AskedInTurn asks policies second spans_of rest later between new
 
 -- Asked at the decisions of a journal, item by item, the limiter gave the answers that stand in its entries, and went from one state to the other.
 abbrev pub AskedBy : {L : Type 0} → (asks : L → ℕ → ℕ → ℕ → Bool → L → Type 0) → Settings → Journal → (old new : L) → Type 0

@@ -1,6 +1,7 @@
 use Rattle.std.proofs.Common.{◌≡◌, ℕ, ◌/◌, ◌<◌, false, true, Some, None, [], List, option_map, length, sym, ap, subst, ◌∙◌, inr}
 use Rattle.std.specs.List.{find}
 use Rattle.policy_tree.specs.Meaning.{meaning}
+use Rattle.policy_eval.specs.Amounts.{amount_at}
 use Rattle.policy_eval.specs.Given.{verdict_given, decider_given, asked_given, are_answered, Asked}
 use Rattle.trace_buffer.specs.Buffer.{Episode, Buffer, is_due_at, with_settled}
 use Rattle.otlp_types.specs.declared.arrival.Arrival.{Arrival}
@@ -107,7 +108,7 @@ returns-clause-decides g c =
     let answers = made.0 in
     let policies = meaning c.self.inside.policies in
     let A = λ (spans : List Arrival). are_answered policies answers spans ≡ true in
-    let Q = λ (spans : List Arrival). Asked asks (c.self.inside.clock / 1000) (length spans) (asked_given policies answers spans) answers before after in
+    let Q = λ (spans : List Arrival). Asked asks (c.self.inside.clock / 1000) (amount_at policies spans) (asked_given policies answers spans) answers before after in
     let decider = c.evaluate_with_decider-verdict.result.1 in
     let P = λ (x : Held). DecidesWithDecider asks x (new_held g c) c.decided.result decider before after in
     let D = λ (spans : List Arrival). decider ≡ decider_given policies answers spans in
