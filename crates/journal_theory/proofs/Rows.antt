@@ -52,7 +52,7 @@ always = one_more (leaf AlwaysSample) no_more
 
 -- two senders, a wait of ten seconds
 abbrev settings : Policies → (limit : Option ℕ) → (sampled non_sampled : ℕ) → Settings
-settings policies limit sampled non_sampled = record { policies = policies; wait = 10000; root_wait = 0; limit = limit; sampled_size = sampled; non_sampled_size = non_sampled; senders = 2 }
+settings policies limit sampled non_sampled = record { policies = policies; wait = 10000; root_wait = 0; maximum_size = 0; limit = limit; sampled_size = sampled; non_sampled_size = non_sampled; senders = 2 }
 
 -- no limit, and no caches
 abbrev plain : Settings
@@ -237,7 +237,7 @@ unfolding notes
 answered_well answers =
     let past = two_twos [] in
     let s = settings few None 0 0 in
-    are_each_answered few (reverse past) (due_now s (reverse past)) answers
+    are_each_answered s (reverse past) (due_now s (reverse past)) answers
 
 pub as_many_as_asked : map answered_well (((true ∷ []) ∷ (false ∷ []) ∷ []) ∷ ((true ∷ []) ∷ []) ∷ ((true ∷ []) ∷ [] ∷ []) ∷ ((true ∷ []) ∷ (false ∷ true ∷ []) ∷ []) ∷ []) ≡ true ∷ false ∷ false ∷ false ∷ []
 unfolding notes

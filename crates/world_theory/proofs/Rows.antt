@@ -262,7 +262,7 @@ spoil_while_down = refl
 -- ---- order
 
 abbrev of_two : Config
-of_two = record { policies = always; wait = 10; root_wait = 0; limit = Some 1; sampled_size = 1; non_sampled_size = 1; batch_size = 2 }
+of_two = record { policies = always; wait = 10; root_wait = 0; maximum_size = 0; limit = Some 1; sampled_size = 1; non_sampled_size = 1; batch_size = 2 }
 
 -- two requests of one trace: its spans keep their order from the lane to the batch
 pub batch_of_two : option_map handed_numbers (run of_two 1 1 (receive 0 0 0 (plain 1 ∷ []) ∷ receive 0 0 0 (plain 1 ∷ []) ∷ route 0 0 ∷ route 0 0 ∷ take 0 false false ∷ take 0 false false ∷ tick 0 10 ∷ decide 0 [] ∷ ship 0 ∷ ship 0 ∷ pull ∷ pull ∷ hand ∷ [])) ≡ Some ((0 ∷ 1 ∷ []) ∷ [])
