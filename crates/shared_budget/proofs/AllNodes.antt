@@ -33,7 +33,7 @@ new_seat_more : (tables : List TableId) (ls : List LimiterNode) (table : TableId
 new_seat_more [] [] table l seats number e = refl
 new_seat_more [] (x ∷ ls) table l seats number e = absurd (omega arith)
 new_seat_more (t ∷ tables) [] table l seats number e = absurd (omega arith)
-new_seat_more (t ∷ tables) (x ∷ ls) table l seats number e = ap (λ (xs : List Stand). (t, seated x.node x.spans_per_second seats number number []) ∷ xs) (new_seat_more tables ls table l seats number (omega arith))
+new_seat_more (t ∷ tables) (x ∷ ls) table l seats number e = ap (λ (xs : List Stand). (t, seated x.node x.limit seats number number []) ∷ xs) (new_seat_more tables ls table l seats number (omega arith))
 
 column_more : (tables : List TableId) (ls : List LimiterNode) (table : TableId) (l : LimiterNode) (seats from : ℕ) (all : List (List Stand)) (col : List Stand) → length tables ≡ length ls → AreNewSeatsFrom tables ls seats from all → AreNewFrom table l.node l.limit seats from col → length col ≡ length all →
     AreNewSeatsFrom (tables ++ table ∷ []) (ls ++ l ∷ []) seats from (with_column all col)

@@ -30,6 +30,7 @@ unchanged second n c pos s g = at (grants_of second n c) refl where
   now : (limit : Limit) (seconds amount : ℕ) → seconds ≡ 0 → still_spent limit seconds amount ≡ amount
   now (Spans per_second) seconds amount e = ap (λ k. still_spent (Spans per_second) k amount) e
   now (Bytes per_second burst) seconds amount e = ap (λ k. still_spent (Bytes per_second burst) k amount) e ∙ (let none : amount - per_second * 0 ≡ amount = omega arith in none)
+
   at : (b : Bool) → grants_of second n c ≡ b → grants_of second n c ≡ false
   at false e = e
   at true e =

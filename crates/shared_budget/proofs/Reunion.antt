@@ -84,9 +84,9 @@ uniting_end whole left first u none log one =
     let is : whole ≡ u.others = u.split ∙ ap (λ (xs : List Stand). xs ++ u.others) none in
     let stand = subst (All (StandsIn log)) (sym is) (u.parts log one.2 one.3) in
     let P : Stand → Type 0 = λ x. IsLegal x.1.node x.1.limit log × AreOfSeats x.1.seats log in
-    let legal : IsLegal u.one.1 u.one.2 log = subst (λ (y : ℕ × ℕ). IsLegal y.0 y.1 log) (λ i. (u.of.1 i, u.of.2 i)) one.0 in
+    let legal : IsLegal u.one.1 u.one.2 log = subst (λ (y : ℕ × Limit). IsLegal y.0 y.1 log) (λ i. (u.of.1 i, u.of.2 i)) one.0 in
     let within : AreOfSeats u.one.3 log = subst (λ m. AreOfSeats m log) u.of.3 one.1 in
-    let each = All-weaker (IsOfTheirs whole u.one) P (λ x o. (subst (λ (y : ℕ × ℕ). IsLegal y.0 y.1 log) (λ i. (sym o.1 i, sym o.2 i)) legal, subst (λ m. AreOfSeats m log) (sym o.3) within)) whole u.one.4 in
+    let each = All-weaker (IsOfTheirs whole u.one) P (λ x o. (subst (λ (y : ℕ × Limit). IsLegal y.0 y.1 log) (λ i. (sym o.1 i, sym o.2 i)) legal, subst (λ m. AreOfSeats m log) (sym o.3) within)) whole u.one.4 in
     (log, λ k d lt. ((each k d lt).0, (each k d lt).1, stand k d lt))
 
 pub none_left : (left : List Stand) → length left ≡ 0 → left ≡ []

@@ -135,7 +135,7 @@ asks second amount x views port v seat h at =
       (
         k.part.0.0,
         ap (λ (log : List Asked). record v { seen = e ∷ log; mine = e ∷ v.mine }) k.part.0.1,
-        subst (λ (y : ℕ × ℕ). IsLegal y.0 y.1 (e ∷ h.log)) (λ i. (sym k.of.of_node i, sym k.of.of_limit i)) legal,
+        subst (λ (y : ℕ × Limit). IsLegal y.0 y.1 (e ∷ h.log)) (λ i. (sym k.of.of_node i, sym k.of.of_limit i)) legal,
         k'.part.1,
       ),
     )
@@ -182,7 +182,7 @@ compares port v live x views h at =
         (
           h.log,
           (
-            subst (λ (y : ℕ × ℕ). IsLegal y.0 y.1 h.log) (λ i. (sym k.of.of_node i, sym k.of.of_limit i)) h.legal,
+            subst (λ (y : ℕ × Limit). IsLegal y.0 y.1 h.log) (λ i. (sym k.of.of_node i, sym k.of.of_limit i)) h.legal,
             subst (λ m. AreOfSeats m h.log) (sym k.of.of_seats) h.within,
             k.part,
             All-weaker (λ (p : Part). (h.owner p.seat ≡ port) × HasPart h.log p) (HasPart h.log) (λ p t. t.1) v.others k.taken,
@@ -204,7 +204,7 @@ pub begins : Kept (0 ∷ 0 ∷ []) (newcomer ∷ [])
 begins = record {
   owner = λ k. 0;
   n = 0;
-  l = 0;
+  l = Spans 0;
   s = 0;
   log = [];
   legal = tt;
