@@ -35,8 +35,8 @@ pub fn due_by_first_root()
     ensures { DueByFirstRoot }
 {}
 
-/// What is taken at the mark or after it makes no trace due by a root at that mark: so traces become due by their roots at
-/// ticks alone.
+/// What is taken at the mark or after it makes no trace due by a root at that mark: so traces become due by their roots
+/// at ticks alone.
 pub fn none_due_after_mark()
     ensures { NoneDueAfterMark }
 {}
