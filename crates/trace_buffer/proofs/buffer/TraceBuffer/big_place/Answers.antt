@@ -16,10 +16,7 @@ loop-place-init c = λ k d low l.
     let due = subst (λ (b : Buffer). DueAreTooBig c.args.mark c.args.wait c.args.root_wait c.args.start b.episodes) (sym c.self.view_is) c.requires.big in
     (elim (nat_lt k c.args.start) as (λ b. nat_lt k c.args.start ≡ b → is_due_at c.args.mark c.args.wait c.args.root_wait (get_or es k d) ≡ false) [
       | true ↦ λ e. none k d low (grind (arith, nat_tests))
-      | false ↦ λ e. (elim (nat_lt k (length es)) as (λ b. nat_lt k (length es) ≡ b → is_due_at c.args.mark c.args.wait c.args.root_wait (get_or es k d) ≡ false) [
-        | true ↦ λ i. not-due-outside c.args.mark c.args.wait c.args.root_wait c.args.start r es k d c.self.invariant.4 due (grind (arith, nat_tests)) (grind (arith, nat_tests)) (λ at. let low = at.0 in let first = c.max-place-start.ensures in absurd (omega (arith, l, low, first)))
-        | false ↦ λ i. absurd (omega arith)
-      ]) refl
+      | false ↦ λ e. not-due-outside c.args.mark c.args.wait c.args.root_wait c.args.start r es k d c.self.invariant.4 due (grind (arith, nat_tests)) (let len = c.len-held.ensures.len in omega (arith, l, len)) (λ at. let low = at.0 in absurd (omega (arith, l, low)))
     ]) refl
 
 pub unwrap-requires : goal.unwrap-requires
