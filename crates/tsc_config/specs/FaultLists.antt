@@ -178,7 +178,7 @@ number_settings =
     ∷ number_setting number_is.Tick
     ∷ []
 
--- the sizes of queues and batches, how many connections may be open, and the limit of memory
+-- the sizes of queues and batches, how many connections may be open, the limit of memory, and the size of a trace
 abbrev pub size_settings : List Setting
 size_settings =
     number_setting number_is.QueueCapacity
@@ -186,6 +186,7 @@ size_settings =
     ∷ number_setting number_is.SendBatchSize
     ∷ number_setting number_is.MaxConnections
     ∷ number_setting number_is.MemoryLimit
+    ∷ number_setting number_is.MaximumTraceSize
     ∷ []
 
 -- those that are no numbers

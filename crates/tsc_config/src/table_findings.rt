@@ -90,7 +90,7 @@ fn add_twice(alloc: Global, table: &Table, findings: &mut Findings) -> Result<()
 }
 
 /// The settings of a configuration that are no tables.
-fn top_settings() -> [Setting; 20]
+fn top_settings() -> [Setting; 21]
     ensures { map setting_of result ≡ spec.top_settings }
 {
     [
@@ -106,6 +106,7 @@ fn top_settings() -> [Setting; 20]
         number_setting(NumberKey::SendBatchSize),
         number_setting(NumberKey::MaxConnections),
         number_setting(NumberKey::MemoryLimit),
+        number_setting(NumberKey::MaximumTraceSize),
         Setting::Optional("listen", ValueKind::Text),
         Setting::Optional("accept_gzip", ValueKind::Truth),
         Setting::Optional("sample_on_first_match", ValueKind::Truth),
