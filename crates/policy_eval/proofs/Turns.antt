@@ -84,7 +84,7 @@ amounts-both amounts spans [] ns h k = k
 amounts-both amounts spans (m ∷ ms) ns h k = (h.0, amounts-both amounts spans ms ns h.1 k)
 
 amounts-parts : (amounts : ℕ → ℕ) (spans : List Arrival) (ms ns : List LimiterNode) → AreAmounts amounts spans (ms ++ ns) → AreAmounts amounts spans ms × AreAmounts amounts spans ns
-amounts-parts amounts spans [] ns h = ((), h)
+amounts-parts amounts spans [] ns h = (tt, h)
 amounts-parts amounts spans (m ∷ ms) ns h = let k = amounts-parts amounts spans ms ns h.1 in ((h.0, k.0), k.1)
 
 -- the numbers of limiter nodes, and of those behind them
@@ -97,7 +97,7 @@ same-eqb m n h = grind (arith, nat_tests)
 module _ (S : Type 0) (asks : S → ℕ → ℕ → ℕ → Bool → S → Type 0) (second : ℕ) (spans : List Arrival) where
   -- a policy that asks nothing
   pub answers-leaf : (s : S) (l : _) (node : ℕ) (a : Answer) → a ≡ answer_of (spec.leaf_answer l spans) → Answers asks (leaf l) node second spans a s s
-  answers-leaf s l node a e = ([], [], record { answers = λ later. e; leaves = λ later. refl; asks = λ later. refl }, refl, λ amounts h. ())
+  answers-leaf s l node a e = ([], [], record { answers = λ later. e; leaves = λ later. refl; asks = λ later. refl }, refl, λ amounts h. tt)
 
   -- a limiter
   pub answers-rate : (s t : S) (limit : Limit) (node : ℕ) (b : Bool) (a : Answer) → a ≡ answer_of (spec.plain b) → asks s node second (amount_of limit spans) b t → Answers asks (limiting limit) node second spans a s t
@@ -115,7 +115,7 @@ module _ (S : Type 0) (has : S → ℕ → Bool) (asks : S → ℕ → ℕ → �
     pub amounts_left : HasAmounts spans all (limits_in rest next)
 
   abbrev walked-first : (rest : Policies) (next : ℕ) → knows (has s0) (limits_in rest next) ≡ true → HasAmounts spans all (limits_in rest next) → Walked s0 rest next
-  walked-first rest next known amounts = record { known = known; kept = λ m. refl; mine = []; asked = []; so_far = refl; amounts_asked = λ amounts h. (); amounts_left = amounts }
+  walked-first rest next known amounts = record { known = known; kept = λ m. refl; mine = []; asked = []; so_far = refl; amounts_asked = λ amounts h. tt; amounts_left = amounts }
 
   abbrev walked-more : (s t : S) (p : Policy) (rest : Policies) (next : ℕ) (a : Answer) → Walked s (one_more p rest) next → Answers asks p next second spans a s t → ((m : ℕ) → has t m ≡ has s m) → Walked t rest (next + nodes p)
   walked-more s t p rest next a w part keeps = record {

@@ -103,7 +103,7 @@ counts_stay second amounts (m ∷ ms) (b ∷ bs) old new h =
 -- nodes behind the first one have its amount not
 amounts-behind : (spans : List Arrival) (l : LimiterNode) (ms ls : List LimiterNode) (behind : ℕ) → Rises (l.node + 1) behind (numbers ms) → AreAmounts (amount_among ls spans) spans ms → AreAmounts (amount_among (l ∷ ls) spans) spans ms
 unfolding amount_among
-amounts-behind spans l [] ls behind r h = ()
+amounts-behind spans l [] ls behind r h = tt
 amounts-behind spans l (m ∷ ms) ls behind r h =
     let other : (l.node == m.node) ≡ false = eqb-less l.node m.node (omega (arith, r.0)) in
     (rw other h.0, amounts-behind spans l ms ls behind (rises-lower (l.node + 1) (m.node + 1) behind (numbers ms) (omega (arith, r.0)) r.1) h.1)
@@ -111,7 +111,7 @@ amounts-behind spans l (m ∷ ms) ls behind r h =
 -- among nodes that rise each has the amount of its own limit
 amounts-rise : (spans : List Arrival) (ls : List LimiterNode) (first behind : ℕ) → Rises first behind (numbers ls) → AreAmounts (amount_among ls spans) spans ls
 unfolding amount_among
-amounts-rise spans [] first behind r = ()
+amounts-rise spans [] first behind r = tt
 amounts-rise spans (l ∷ ls) first behind r =
     let own : (l.node == l.node) ≡ true = grind (arith, nat_tests) in
     (rw own refl, amounts-behind spans l ls ls behind r.1 (amounts-rise spans ls (l.node + 1) behind r.1))

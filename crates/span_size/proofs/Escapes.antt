@@ -1,8 +1,13 @@
 -- How long a text is with its escapes.
 -- For the clauses of `escaped_len`, `key`, `string` and `id`.
-use Rattle.std.proofs.Common.{◌≡◌, ℕ, zero, suc, ◌+◌, ◌*◌, ◌/◌, ◌%◌, ◌<◌, ◌==◌, Bool, true, ◌&&◌, length, get_or, slice_index, take, List, [], ◌∷◌, inl, inr, refl, sym, ap, ◌∙◌, length-append, arith}
+use Rattle.std.proofs.Common.{◌≡◌, ℕ, zero, suc, ◌+◌, ◌*◌, ◌/◌, ◌%◌, ◌<◌, ◌==◌, Bool, true, ◌&&◌, length, get_or, slice_index, take, List, [], ◌∷◌, inl, inr, refl, sym, ap, ◌∙◌, length-append, arith, ◌-◌, drop, subst, ◌≤◌, ◌++◌}
+use Rattle.std.specs.Bool.{OnTrue}
+use Rattle.std.proofs.Math.Seq.{take-add}
+use Rattle.json.specs.Written.{PlainBetween}
+use Rattle.json.proofs.Printed.Plain.{escape_on_plain}
 use Rattle.std.proofs.lemmas.Bool.{and_parts, cases_lt, eqb-true}
-use Rattle.std.proofs.lemmas.List.Concat.{length-flat_map}
+use Rattle.std.proofs.lemmas.List.{take_all}
+use Rattle.std.proofs.lemmas.List.Concat.{length-flat_map, flat_map-append}
 use Rattle.std.proofs.lemmas.List.Sums.{sum_by_more}
 use Rattle.json.specs.Token.{key, string}
 use Rattle.json.specs.Print.{escape, escape_byte, quoted, token_text}
@@ -19,6 +24,23 @@ escaped-more s i h =
     length-flat_map escape_byte (take (i + 1) s)
     ∙ sum_by_more (λ x. length (escape_byte x)) s i 0 h
     ∙ ap (λ n. n + length (escape_byte (get_or s i 0))) (sym (length-flat_map escape_byte (take i s)))
+
+escaped-append : (xs ys : List ℕ) → escaped (xs ++ ys) ≡ escaped xs + escaped ys
+escaped-append xs ys = ap length (flat_map-append escape_byte xs ys) ∙ length-append (escape xs) (escape ys)
+
+-- the part from i up to j more
+pub escaped-part : (s : List ℕ) (i j : ℕ) → i ≤ j → escaped (take j s) ≡ escaped (take i s) + escaped (take (j - i) (drop i s))
+escaped-part s i j h =
+    let back : j ≡ i + (j - i) = omega arith in
+    ap (λ n. escaped (take n s)) back ∙ ap escaped (take-add i (j - i) s) ∙ escaped-append (take i s) (take (j - i) (drop i s))
+
+-- the part from i on is the last
+pub escaped-rest : (s : List ℕ) (i : ℕ) → i ≤ length s → escaped s ≡ escaped (take i s) + escaped (take (length s - i) (drop i s))
+escaped-rest s i h = ap escaped (sym (take_all (length s) s (omega arith))) ∙ escaped-part s i (length s) h
+
+-- a block of n bytes of which none needs an escape
+pub plain-block : (b : Bool) (d : List ℕ) (n : ℕ) → n ≡ length d → OnTrue b (PlainBetween d 0 n) → OnTrue b (escape d ≡ d)
+plain-block b d n e h = escape_on_plain b d (subst (λ (m : ℕ). OnTrue b (PlainBetween d 0 m)) e h)
 
 length-quoted : (s : List ℕ) → length (quoted s) ≡ escaped s + 2
 length-quoted s = let e = length-append (escape s) (34 ∷ []) in omega (arith, e)

@@ -4,3 +4,4 @@ pub mod Objects
 pub mod Defaults
 pub mod Names
 pub mod Totals
+mod Rows

@@ -6,11 +6,12 @@ ghost use Rattle.span_ids.specs.Id.{id_text};
 
 use crate::escaped::escaped_len;
 
-/// How many bytes a text has so far, up to 2^64 - 1, and whether a value has just ended there: a comma comes before
-/// the next one then.
+/// A text so far: its bytes, and whether a comma comes before the next value.
 #[derive(Drop)]
 pub struct Counter {
+    /// How many bytes were counted, up to 2^64 - 1.
     pub bytes: u64,
+    /// Whether a value has just ended.
     pub after_value: bool,
 }
 
@@ -37,24 +38,28 @@ impl Counter {
         self.after_value = ends_value;
     }
 
+    /// The brace that opens an object.
     pub fn begin_object(&mut self)
         ensures { Adds self.old self.new (begin_object ∷ []) }
     {
         self.token(1, true, false);
     }
 
+    /// The brace that closes an object.
     pub fn end_object(&mut self)
         ensures { Adds self.old self.new (end_object ∷ []) }
     {
         self.token(1, false, true);
     }
 
+    /// The bracket that opens an array.
     pub fn begin_array(&mut self)
         ensures { Adds self.old self.new (begin_array ∷ []) }
     {
         self.token(1, true, false);
     }
 
+    /// The bracket that closes an array.
     pub fn end_array(&mut self)
         ensures { Adds self.old self.new (end_array ∷ []) }
     {
@@ -82,6 +87,7 @@ impl Counter {
         self.token(text.len() as u64, true, true);
     }
 
+    /// A whole number.
     pub fn i64(&mut self, n: i64)
         ensures { Adds self.old self.new (number (signed_decimal n) ∷ []) }
     {
@@ -105,6 +111,7 @@ impl Counter {
         self.string(buffer.format(n));
     }
 
+    /// A truth value.
     pub fn boolean(&mut self, b: bool)
         ensures { Adds self.old self.new (boolean b ∷ []) }
     {

@@ -157,7 +157,7 @@ fn object_of_bool(out: &mut Counter, b: bool)
     out.end_object();
 }
 
-/// The object of an integer, as text. It is behind a reference, so that its value is known to be within its type's range.
+/// The object of an integer, as text, behind a reference, so that it is known to be within its type's range.
 fn object_of_integer(out: &mut Counter, n: &i64)
     ensures { AddsObject out.old out.new
         (fields_of ((codes "intValue", Some (string (signed_decimal n.now))) ∷ [])) }

@@ -27,7 +27,7 @@ pub fn span_size(span: &Span) -> u64
     counter.bytes
 }
 
-/// The size of spans in bytes: the sum of their sizes, up to 2^64 - 1.
+/// The size of spans in bytes: the sum of their sizes, up to 2^64 - 1. One span more adds its own size ([`sizes_add`]).
 pub fn size_of(spans: &[Arrival]) -> u64
     ensures { result ≡ size_of spans.now }
 {

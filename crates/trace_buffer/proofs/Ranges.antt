@@ -117,8 +117,8 @@ within-settled r es i x v h = within-set r (without_place i r) es i (settled v x
 -- ---- which are due
 
 -- those before the range, and those behind it, aren't due
-pub not-due-outside : (mark wait root_wait start : ℕ) (r : Range) (es : List Episode) (k : ℕ) (d : Episode) → AreWithin r es → DueAreTooBig mark wait root_wait start es → start ≤ k → k < length es → (IsIn r k → 0 ≡ 1) → is_due_at mark wait root_wait (get_or es k d) ≡ false
+pub not-due-outside : (mark wait root_wait start : ℕ) (r : Range) (es : List Episode) (k : ℕ) (d : Episode) → AreWithin r es → DueAreTooBig mark wait root_wait start es → start ≤ k → k < length es → (IsIn r k → ⊥) → is_due_at mark wait root_wait (get_or es k d) ≡ false
 not-due-outside mark wait root_wait start r es k d within due low l out = (elim (is_due_at mark wait root_wait (get_or es k d)) as (λ b. is_due_at mark wait root_wait (get_or es k d) ≡ b → b ≡ false) [
-  | true ↦ λ e. absurd (omega (arith, out (within k d l (due k d low l e))))
+  | true ↦ λ e. absurd (out (within k d l (due k d low l e)))
   | false ↦ λ e. refl
 ]) refl

@@ -75,8 +75,8 @@ not-due-appended mark wait root_wait clock true a e l small h =
     not-due-then (is_none e.verdict) (is_root_due mark root_wait e.first_root) (is_too_big e.maximum e.spans) (nat_le (e.moment + wait) mark) (is_root_due mark root_wait (root_before e.first_root clock a)) (is_too_big e.maximum (e.spans ++ a ∷ []))
     (sym (root-as-before mark wait root_wait clock e.first_root a l)) small h
 
--- one changes, and is due as it was
-searched-changed : (s : Search) (es : List Episode) (i : ℕ) (x y : Episode) → IsSearched s es → slice_get es i ≡ Some x → is_due_at s.mark s.wait s.root_wait y ≡ is_due_at s.mark s.wait s.root_wait x → IsSearched s (slice_set es i y)
+-- one changes, and isn't due where it wasn't
+searched-changed : (s : Search) (es : List Episode) (i : ℕ) (x y : Episode) → IsSearched s es → slice_get es i ≡ Some x → (is_due_at s.mark s.wait s.root_wait x ≡ false → is_due_at s.mark s.wait s.root_wait y ≡ false) → IsSearched s (slice_set es i y)
 searched-changed s es i x y h g same = (
   (let l = h.0 in let long = length-set es i y in omega (arith, l, long)),
   (elim (nat_lt i s.end) as (λ b. nat_lt i s.end ≡ b → AllWithin (λ e. is_due_at s.mark s.wait s.root_wait e ≡ false) (slice_set es i y) 0 s.end) [

@@ -91,7 +91,7 @@ pub returns-in-Limiting-clause-answer : goal.returns-in-Limiting-clause-answer
 returns-in-Limiting-clause-answer t c =
     let left = drop c.args.asked c.args.answers.now in
     let spans = c.args.spans.now in
-    let limit = c.in-Limiting.limit in
+    let limit = c.in-Limiting.field-0 in
     let kind : policy_meaning c.args.policy.now ≡ limiting limit = let is = c.in-Limiting.is in search (rules, the_lemmas) in
     let got : unwrap_or (option_copied c.get.result) false ≡ get_or c.args.answers.now c.args.asked false = copied-is c.get.result false ∙ c.get.ensures.lookup.4 (omega arith) false in
     let granted : c.unwrap_or-granted.result ≡ next_answer left = c.unwrap_or-granted.ensures ∙ ap (λ o. unwrap_or o false) c.copied.ensures ∙ got ∙ next-at c.args.answers.now c.args.asked in
