@@ -46,6 +46,8 @@ FAULTS = [
 LINES = [
     ("root_wait_ms = 0.5", WRONG_TYPE),
     ("root_wait = 0", UNKNOWN_KEY),
+    ("maximum_trace_size_bytes = 1.5", WRONG_TYPE),
+    ("maximum_trace_size = 0", UNKNOWN_KEY),
     ("decision_wait_after_root_received_ms = 0.5", WRONG_TYPE),
     ("decision_wait_after_root_received = 0", UNKNOWN_KEY),
     ("decision_wait_after_root_received_ms = 5\nroot_wait_ms = 5", UNKNOWN_KEY),

@@ -40,10 +40,10 @@ ROWS = [
     ]),
     ("each top key of another type", "\n".join(f"{key} = [1]" for key in (
         "decision_wait_ms", "root_wait_ms", "num_traces", "decision_cache", "lanes", "shards", "queue_capacity", "send_batch_size", "export_capacity",
-        "max_connections", "memory_limit_mib", "tick_ms", "listen", "accept_gzip", "sample_on_first_match", "queue_full", "output_fault", "double_values", "close_at_end_of_input", "admin", "export")) + "\npolicies = 1\n", [
+        "max_connections", "memory_limit_mib", "maximum_trace_size_bytes", "tick_ms", "listen", "accept_gzip", "sample_on_first_match", "queue_full", "output_fault", "double_values", "close_at_end_of_input", "admin", "export")) + "\npolicies = 1\n", [
         *(f"{key}: a whole number is wanted (fault 4)" for key in (
             "decision_wait_ms", "root_wait_ms", "num_traces", "lanes", "shards", "tick_ms", "queue_capacity", "export_capacity", "send_batch_size", "max_connections",
-            "memory_limit_mib")),
+            "memory_limit_mib", "maximum_trace_size_bytes")),
         "listen: a text is wanted (fault 4)",
         "accept_gzip: true or false is wanted (fault 4)",
         "sample_on_first_match: true or false is wanted (fault 4)",

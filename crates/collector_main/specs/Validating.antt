@@ -1,9 +1,10 @@
 -- What is told of a configuration that is validated.
-use Rattle.std.specs.Prelude.{◌≡◌, ◌≢◌, ◌++◌, ℕ, List, [], map, Result, Ok, Err, IsOk, codes, decimal, string_bytes, ⊤}
+use Rattle.std.specs.Prelude.{◌≡◌, ◌≢◌, ◌⊎◌, ◌++◌, ℕ, List, [], map, Result, Ok, Err, IsOk, IsErr, codes, decimal, string_bytes, ⊤}
 use Rattle.std.specs.List.{concat}
 use Rattle.policy_tree.specs.Faults.{policy_fault_number}
 use Rattle.tsc_config.specs.Faults.{config_fault_number}
-use Rattle.tsc_config.specs.FaultLists.{Tells, faults_in, text_faults}
+use Rattle.tsc_config.specs.FaultLists.{Tells, faults_in}
+use Rattle.tsc_config.specs.FaultSets.{MayBeTooBig}
 use Rattle.tsc_config.specs.Reading.{reading}
 use Rattle.tsc_config.specs.declared.fault.ConfigFault.{ConfigFault}
 use Rattle.tsc_config.specs.declared.fault.ConfigFault.TheVariants.{Policy}
@@ -26,11 +27,12 @@ line_of finding = string_bytes finding.said ++ (codes " (fault " ++ (fault_numbe
 abbrev pub lines_of : List Finding → List ℕ
 lines_of findings = concat (map line_of findings)
 
--- what is told of bytes: that they are no text that may be read; that it is read as a configuration; a line for each of its faults, and for expressions that are too big; or that there was no memory
+-- what is told of bytes: that they are no text that may be read; that it is read as a configuration; a line for each of its faults, and for expressions that are too big, of which the text must have that many; or that there was no memory
 abbrev pub BytesTell : List ℕ → Outcome → Type 0
 BytesTell bytes Unreadable = ¬ IsText bytes
 BytesTell bytes Valid = IsText bytes × IsOk (reading bytes)
-BytesTell bytes (Faulty lines) = IsText bytes × ((findings : List Finding) × (findings ≢ []) × Tells (text_faults bytes) (faults_in findings) × (string_bytes lines ≡ lines_of findings))
+BytesTell bytes (Faulty lines) =
+    IsText bytes × (IsErr (reading bytes) ⊎ MayBeTooBig (reading bytes)) × ((findings : List Finding) × (findings ≢ []) × Tells bytes (faults_in findings) × (string_bytes lines ≡ lines_of findings))
 BytesTell bytes NoMemory = ⊤
 BytesTell bytes _ = ⊥
 

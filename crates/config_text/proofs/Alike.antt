@@ -22,6 +22,7 @@ pub record Alike (m n : Members) : Type 0 where
   pub root_wait : natural_of (first_found (get_member (number_row number_is.RootWait).name m) (get_member (number_row number_is.RootReceived).name m))
       ≡ natural_of (first_found (get_member (number_row number_is.RootWait).name n) (get_member (number_row number_is.RootReceived).name n))
   pub limit : natural_of (get_member (number_row number_is.MemoryLimit).name m) ≡ natural_of (get_member (number_row number_is.MemoryLimit).name n)
+  pub trace_size : natural_of (get_member (number_row number_is.MaximumTraceSize).name m) ≡ natural_of (get_member (number_row number_is.MaximumTraceSize).name n)
   pub choice_faults : (key : ChoiceKey) → choice_at_fault (choice_row key) m ≡ choice_at_fault (choice_row key) n
   pub choices : (key : ChoiceKey) → is_other (choice_row key) (get_member (choice_row key).name m) ≡ is_other (choice_row key) (get_member (choice_row key).name n)
   pub listen_fault : optional text_fault (get_member (codes "listen") m) ≡ optional text_fault (get_member (codes "listen") n)
@@ -52,7 +53,7 @@ numbers_alike m n e =
 sizes_alike : (m n : Members) → Alike m n → sizes_fault m ≡ sizes_fault n
 sizes_alike m n e =
     both _ _ _ _ (e.number_faults number_is.QueueCapacity) (both _ _ _ _ (e.number_faults number_is.ExportCapacity) (both _ _ _ _ (e.number_faults number_is.SendBatchSize)
-    (both _ _ _ _ (e.number_faults number_is.MaxConnections) (e.number_faults number_is.MemoryLimit))))
+    (both _ _ _ _ (e.number_faults number_is.MaxConnections) (both _ _ _ _ (e.number_faults number_is.MemoryLimit) (e.number_faults number_is.MaximumTraceSize)))))
 
 choices_alike : (m n : Members) → Alike m n → choices_fault m ≡ choices_fault n
 choices_alike m n e =
@@ -89,6 +90,7 @@ configs_alike m n e =
       e.numbers number_is.SendBatchSize,
       e.numbers number_is.MaxConnections,
       e.limit,
+      e.trace_size,
       e.numbers number_is.Tick,
       e.listen,
       e.admin,

@@ -100,6 +100,7 @@ number_faults m number_is.ExportCapacity = number_fault_of number_is.ExportCapac
 number_faults m number_is.SendBatchSize = number_fault_of number_is.SendBatchSize m refl refl refl refl refl
 number_faults m number_is.MaxConnections = number_fault_of number_is.MaxConnections m refl refl refl refl refl
 number_faults m number_is.MemoryLimit = number_fault_of number_is.MemoryLimit m refl refl refl refl refl
+number_faults m number_is.MaximumTraceSize = number_fault_of number_is.MaximumTraceSize m refl refl refl refl refl
 number_faults m number_is.Tick = number_fault_of number_is.Tick m refl refl refl refl refl
 
 number_of : (key : NumberKey) (m : Members) → Apart (number_row key).name (codes "export") → Apart (number_row key).name (codes "decision_cache") → Apart (number_row key).name (codes "root_wait_ms")
@@ -121,6 +122,7 @@ numbers m number_is.ExportCapacity = number_of number_is.ExportCapacity m refl r
 numbers m number_is.SendBatchSize = number_of number_is.SendBatchSize m refl refl refl refl refl
 numbers m number_is.MaxConnections = number_of number_is.MaxConnections m refl refl refl refl refl
 numbers m number_is.MemoryLimit = number_of number_is.MemoryLimit m refl refl refl refl refl
+numbers m number_is.MaximumTraceSize = number_of number_is.MaximumTraceSize m refl refl refl refl refl
 numbers m number_is.Tick = number_of number_is.Tick m refl refl refl refl refl
 
 -- ---- choices
@@ -272,6 +274,7 @@ alike m = record {
   numbers = numbers m;
   root_wait = pair ℕ (λ root received. natural_of (first_found root received)) m refl;
   limit = plain ℕ natural_of (codes "memory_limit_mib") (integer (pos 0)) m refl refl refl refl refl;
+  trace_size = plain ℕ natural_of (codes "maximum_trace_size_bytes") (integer (pos 0)) m refl refl refl refl refl;
   choice_faults = choice_faults m;
   choices = choices m;
   listen_fault = plain (Option ConfigFault) (optional text_fault) (codes "listen") (string (codes "127.0.0.1:4318")) m refl refl refl refl refl;

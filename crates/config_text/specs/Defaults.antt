@@ -37,6 +37,7 @@ defaults =
     ∷ number_default number_is.ExportCapacity
     ∷ number_default number_is.MaxConnections
     ∷ number_default number_is.MemoryLimit
+    ∷ number_default number_is.MaximumTraceSize
     ∷ number_default number_is.Tick
     ∷ record { name = codes "listen"; value = string (codes "127.0.0.1:4318") }
     ∷ off (codes "accept_gzip")

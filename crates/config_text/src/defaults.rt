@@ -21,6 +21,7 @@ pub fn settings() -> &'static [Default]
         Default::Number("export_capacity", 1024),
         Default::Number("max_connections", 1024),
         Default::Number("memory_limit_mib", 0),
+        Default::Number("maximum_trace_size_bytes", 0),
         Default::Number("tick_ms", 1000),
         Default::Text("listen", "127.0.0.1:4318"),
         Default::Off("accept_gzip"),

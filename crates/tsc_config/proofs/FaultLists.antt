@@ -274,7 +274,8 @@ sizes_all members =
     (next_row (integer_fault (pos 1) (pos 65536)) (get_member (codes "export_capacity") members) _ _
     (next_row (integer_fault (pos 1) (pos 8192)) (get_member (codes "send_batch_size") members) _ _
     (next_row (integer_fault (pos 1) (pos 65536)) (get_member (codes "max_connections") members) _ _
-    (last_row (integer_fault (pos 0) (pos 1048576)) (get_member (codes "memory_limit_mib") members)))))
+    (next_row (integer_fault (pos 0) (pos 1048576)) (get_member (codes "memory_limit_mib") members) _ _
+    (last_row (integer_fault (pos 0) (pos 1073741824)) (get_member (codes "maximum_trace_size_bytes") members))))))
 
 -- what is no number
 abbrev Listens : Members → ConfigFault → Type 0

@@ -244,7 +244,7 @@ table_least members =
     let policies : IsLeastOf (RequiredHas PoliciesHave (get_member (codes "policies") members)) (required spec.policies_fault (get_member (codes "policies") members)) = required_least PoliciesHave spec.policies_fault policies_least (get_member (codes "policies") members) in
     both (λ fault. (keys ≡ Some fault) ⊎ (twice ≡ Some fault)) _ _ _ (rows keys twice)
     (both (NumbersHave members) _ _ _ (seven_rows _ _ _ _ _ _ _)
-    (both (SizesHave members) _ _ _ (five_rows _ _ _ _ _)
+    (both (SizesHave members) _ _ _ (six_rows _ _ _ _ _ _)
     (both (λ fault. listen ≡ Some fault) _ _ _ (row listen)
     (both (λ fault. gzip ≡ Some fault) _ _ _ (row gzip)
     (both (λ fault. first ≡ Some fault) _ _ _ (row first)

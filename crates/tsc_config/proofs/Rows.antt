@@ -45,6 +45,7 @@ ranges =
     ∷ record { key = codes "send_batch_size"; below = pos 0; lowest = 1; greatest = 8192; above = 8193 }
     ∷ record { key = codes "max_connections"; below = pos 0; lowest = 1; greatest = 65536; above = 65537 }
     ∷ record { key = codes "memory_limit_mib"; below = negsuc 0; lowest = 0; greatest = 1048576; above = 1048577 }
+    ∷ record { key = codes "maximum_trace_size_bytes"; below = negsuc 0; lowest = 0; greatest = 1073741824; above = 1073741825 }
     ∷ record { key = codes "tick_ms"; below = pos 0; lowest = 1; greatest = 60000; above = 60001 }
     ∷ []
 
@@ -102,7 +103,7 @@ cache_above_refused = refl
 -- the numbers of a configuration: those of the table, and of `decision_cache`
 abbrev numbers_of : Config → List ℕ
 numbers_of c =
-    c.decision_wait ∷ c.root_wait ∷ c.num_traces ∷ c.lanes ∷ c.shards ∷ c.queue_capacity ∷ c.export_capacity ∷ c.send_batch_size ∷ c.max_connections ∷ c.memory_limit_mib ∷ c.tick
+    c.decision_wait ∷ c.root_wait ∷ c.num_traces ∷ c.lanes ∷ c.shards ∷ c.queue_capacity ∷ c.export_capacity ∷ c.send_batch_size ∷ c.max_connections ∷ c.memory_limit_mib ∷ c.maximum_trace_size ∷ c.tick
     ∷ c.sampled_cache_size ∷ c.non_sampled_cache_size ∷ []
 
 -- a table with all keys, each with one of its numbers
@@ -113,7 +114,7 @@ members_of number (r ∷ rows) rest = member r.key (integer (pos (number r))) (m
 abbrev table_of : (Range → ℕ) → Members
 table_of number = members_of number ranges (member (codes "decision_cache") (table (members_of number cache_ranges no_members)) no_members)
 
-defaults : numbers_of (config_of no_members) ≡ 30000 ∷ 0 ∷ 50000 ∷ 1 ∷ 1 ∷ 1024 ∷ 1024 ∷ 512 ∷ 1024 ∷ 0 ∷ 1000 ∷ 0 ∷ 0 ∷ []
+defaults : numbers_of (config_of no_members) ≡ 30000 ∷ 0 ∷ 50000 ∷ 1 ∷ 1 ∷ 1024 ∷ 1024 ∷ 512 ∷ 1024 ∷ 0 ∷ 0 ∷ 1000 ∷ 0 ∷ 0 ∷ []
 defaults = refl
 
 no_second_address_by_default : (config_of no_members).admin ≡ []
@@ -207,10 +208,10 @@ unfolding is_key
 choice_keys = refl
 
 -- each key gives its own number
-lowest_values : numbers_of (config_of (table_of (λ r. r.lowest))) ≡ 1 ∷ 0 ∷ 1 ∷ 1 ∷ 1 ∷ 1 ∷ 1 ∷ 1 ∷ 1 ∷ 0 ∷ 1 ∷ 0 ∷ 0 ∷ []
+lowest_values : numbers_of (config_of (table_of (λ r. r.lowest))) ≡ 1 ∷ 0 ∷ 1 ∷ 1 ∷ 1 ∷ 1 ∷ 1 ∷ 1 ∷ 1 ∷ 0 ∷ 0 ∷ 1 ∷ 0 ∷ 0 ∷ []
 lowest_values = refl
 
-greatest_values : numbers_of (config_of (table_of (λ r. r.greatest))) ≡ 3600000 ∷ 3600000 ∷ 1000000 ∷ 64 ∷ 64 ∷ 65536 ∷ 65536 ∷ 8192 ∷ 65536 ∷ 1048576 ∷ 60000 ∷ 1000000 ∷ 1000000 ∷ []
+greatest_values : numbers_of (config_of (table_of (λ r. r.greatest))) ≡ 3600000 ∷ 3600000 ∷ 1000000 ∷ 64 ∷ 64 ∷ 65536 ∷ 65536 ∷ 8192 ∷ 65536 ∷ 1048576 ∷ 1073741824 ∷ 60000 ∷ 1000000 ∷ 1000000 ∷ []
 greatest_values = refl
 
 abbrev own_numbers : Members
@@ -225,10 +226,11 @@ own_numbers =
     (member (codes "send_batch_size") (integer (pos 19))
     (member (codes "max_connections") (integer (pos 37))
     (member (codes "memory_limit_mib") (integer (pos 41))
+    (member (codes "maximum_trace_size_bytes") (integer (pos 43))
     (member (codes "tick_ms") (integer (pos 23))
-    (member (codes "decision_cache") (table (member (codes "sampled_cache_size") (integer (pos 29)) (member (codes "non_sampled_cache_size") (integer (pos 31)) no_members))) no_members)))))))))))
+    (member (codes "decision_cache") (table (member (codes "sampled_cache_size") (integer (pos 29)) (member (codes "non_sampled_cache_size") (integer (pos 31)) no_members))) no_members))))))))))))
 
-own_values : numbers_of (config_of own_numbers) ≡ 2 ∷ 3 ∷ 5 ∷ 7 ∷ 11 ∷ 13 ∷ 17 ∷ 19 ∷ 37 ∷ 41 ∷ 23 ∷ 29 ∷ 31 ∷ []
+own_values : numbers_of (config_of own_numbers) ≡ 2 ∷ 3 ∷ 5 ∷ 7 ∷ 11 ∷ 13 ∷ 17 ∷ 19 ∷ 37 ∷ 41 ∷ 43 ∷ 23 ∷ 29 ∷ 31 ∷ []
 own_values = refl
 
 -- the wait from a root on by each of its two names, and by neither

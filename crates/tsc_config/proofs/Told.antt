@@ -1,11 +1,16 @@
--- What is told of a text: its faults, and behind them that expressions are too big.
+-- What is told of a text: its faults, and behind them that some of its expressions are too big.
 -- For the contract of `faults`.
-use Rattle.std.proofs.Common.{◌≡◌, ◌++◌, ℕ, zero, suc, refl, sym, ap, ◌∙◌, arith, append_assoc, append-nil, List, [], ◌∷◌, IsOk}
-use Rattle.std.specs.List.{All}
-use Rattle.std.proofs.lemmas.List.Elements.{All-append}
-use Rattle.tsc_config.specs.FaultLists.{Tells, faults_in, text_faults}
-use Rattle.tsc_config.specs.Reading.{reading}
+use Rattle.std.proofs.Common.{◌≡◌, ◌≢◌, ◌++◌, ℕ, zero, suc, ◌≤◌, ◌⊎◌, inl, inr, refl, ap, ◌∙◌, arith, List, [], ◌∷◌, Option, None, Some, Result, Ok, Err, IsOk, IsErr, IfOk, replicate, count_by, Vec}
+use Rattle.expression.specs.Expressions.{is_expression}
+use Rattle.policy_tree.specs.Faults.{fault_of_policies}
+use Rattle.policy_tree.specs.declared.fault.PolicyFault.{PolicyFault}
+use Rattle.tsc_config.specs.FaultLists.{Tells, faults_in, looked_at, policies_expressions, document_expressions, text_faults, text_expressions}
+use Rattle.tsc_config.specs.FaultSets.{MayBeTooBig}
+use Rattle.tsc_config.specs.Reading.{expressions_among, reading}
+use Rattle.tsc_config.specs.Values.{config_of}
 use Rattle.tsc_config.proofs.FaultLists.{none_listed}
+use Rattle.tsc_config.proofs.Settings.{read_as}
+use Rattle.tsc_config.specs.declared.config.Config.{Config}
 use Rattle.tsc_config.specs.declared.fault.ConfigFault.{ConfigFault}
 use Rattle.tsc_config.specs.declared.fault.ConfigFault.TheVariants.{ExpressionTooBig}
 use Rattle.tsc_config.specs.declared.findings.Finding.{Finding}
@@ -14,26 +19,35 @@ nothing : {A : Type 0} (xs ys : List A) → [] ≡ xs ++ ys → xs ≡ []
 nothing [] ys e = refl
 nothing (x ∷ xs) ys e = cc
 
--- of findings that tell these faults there is none only where the text is read as a configuration
-pub none_found : (findings : List Finding) (text : List ℕ) → Tells (text_faults text) (faults_in findings) → findings ≡ [] → IsOk (reading text)
-none_found [] text (big, e, all) same = (none_listed text).0 (nothing (text_faults text) big e)
+-- nothing is told only of a text that is read as a configuration
+pub none_found : (findings : List Finding) (text : List ℕ) → Tells text (faults_in findings) → findings ≡ [] → IsOk (reading text)
+none_found [] text (big, e, few) same = (none_listed text).0 (nothing (text_faults text) (replicate big ExpressionTooBig) e)
 none_found (first ∷ rest) text told same = cc
 
--- no expression is too big, or one more
-pub told_alone : (faults : List ConfigFault) → Tells faults faults
-told_alone faults = ([], sym (append-nil faults), λ k d h. absurd (omega (arith, h)))
+-- policies without an expression have none that is too big
+none_looked_at : (found : Option PolicyFault) (texts : List (List ℕ)) → texts ≡ [] → count_by is_expression (looked_at found texts) ≡ 0
+none_looked_at None texts e = rw e refl
+none_looked_at (Some fault) texts e = refl
 
-told_more : (faults told : List ConfigFault) → Tells faults told → Tells faults (told ++ (ExpressionTooBig ∷ []))
-told_more faults told (big, e, all) =
-    (big ++ (ExpressionTooBig ∷ []), ap (λ (fs : List ConfigFault). fs ++ (ExpressionTooBig ∷ [])) e ∙ append_assoc faults big (ExpressionTooBig ∷ []), All-append (λ fault. fault ≡ ExpressionTooBig) big (ExpressionTooBig ∷ []) all last)
+none_in_text : (text : List ℕ) (config : Config) → reading text ≡ Ok config → expressions_among config.policies ≡ [] → text_expressions text ≡ 0
+none_in_text text config e none =
+    let (members, parsed, same) = read_as (λ members made. config_of members ≡ made) (λ members f. refl) text config e in
+    ap document_expressions parsed ∙ (ap (λ (made : Config). policies_expressions made.policies) same ∙ none_looked_at (fault_of_policies config.policies) (expressions_among config.policies) none)
+
+none_big : (first : ConfigFault) (rest faults : List ConfigFault) (big most : ℕ) → faults ≡ [] → most ≡ 0 → big ≤ most → first ∷ rest ≡ faults ++ replicate big ExpressionTooBig → ⊥
+none_big first rest faults zero most same none few e = let wrong : first ∷ rest ≡ [] = e ∙ ap (λ (fs : List ConfigFault). fs ++ []) same in cc
+none_big first rest faults (suc big) most same none few e = absurd (omega (arith, none, few))
+
+-- something is told only of a text that has a fault, or is read as a configuration with an expression
+pub some_found : (findings : List Finding) (text : List ℕ) → Tells text (faults_in findings) → findings ≢ [] → IsErr (reading text) ⊎ MayBeTooBig (reading text)
+some_found [] text told some = absurd (some refl)
+some_found (first ∷ rest) text (big, e, few) some = of (reading text) refl
   where
-    last : All (λ fault. fault ≡ ExpressionTooBig) (ExpressionTooBig ∷ [])
-    last zero d h = refl
-    last (suc k) d h = absurd (omega (arith, h))
+    of : (answer : Result Config ConfigFault) → reading text ≡ answer → IsErr answer ⊎ MayBeTooBig answer
+    of (Err fault) f = inl refl
+    of (Ok config) f = inr (λ none. none_big first.fault (faults_in rest) (text_faults text) big (text_expressions text) ((none_listed text).1 (rw f refl)) (none_in_text text config f none) few e)
 
-faults_append : (findings : List Finding) (last : Finding) → faults_in (findings ++ (last ∷ [])) ≡ faults_in findings ++ (last.fault ∷ [])
-faults_append [] last = refl
-faults_append (first ∷ rest) last = ap (λ (fs : List ConfigFault). first.fault ∷ fs) (faults_append rest last)
-
-pub told_pushed : (faults : List ConfigFault) (findings : List Finding) (last : Finding) → last.fault ≡ ExpressionTooBig → Tells faults (faults_in findings) → Tells faults (faults_in (findings ++ (last ∷ [])))
-told_pushed faults findings last e told = rw (faults_append findings last, e) (told_more faults (faults_in findings) told)
+pub some_told : {A E : Type 0} (answer : Result (Vec Finding A) E) (text : List ℕ) (faults : List ConfigFault) (big : ℕ) → IfOk answer (λ found. faults_in found.items ≡ faults ++ replicate big ExpressionTooBig)
+    → faults ≡ text_faults text → big ≤ text_expressions text → IfOk answer (λ found. found.items ≢ [] → IsErr (reading text) ⊎ MayBeTooBig (reading text))
+some_told (Ok found) text faults big told same few = some_found found.items text (big, told ∙ ap (λ (fs : List ConfigFault). fs ++ replicate big ExpressionTooBig) same, few)
+some_told (Err e) text faults big told same few = told

@@ -1,6 +1,6 @@
 -- Every fault of a configuration: a list with one for each place that has one, in the order of the rows.
-use Rattle.std.specs.Prelude.{◌≡◌, ◌++◌, ◌↔◌, ℕ, pos, Bool, true, false, List, [], ◌∷◌, codes, Option, None, Some, if◌then◌else◌, nat_lt, map}
-use Rattle.std.specs.List.{All, Contains}
+use Rattle.std.specs.Prelude.{◌≡◌, ◌++◌, ◌↔◌, ℕ, ◌≤◌, pos, Bool, true, false, List, [], ◌∷◌, codes, Option, None, Some, if◌then◌else◌, nat_lt, map, replicate, count_by}
+use Rattle.std.specs.List.{Contains}
 use Rattle.std.specs.Str.{bytes_eq}
 use Rattle.toml.specs.Data.{Data, array, table, Items, no_items, item, Members, no_members, member, get_member}
 use Rattle.toml.specs.Parse.{parse_document}
@@ -178,7 +178,7 @@ number_settings =
     ∷ number_setting number_is.Tick
     ∷ []
 
--- the sizes of queues and batches, how many connections may be open, and the limit of memory
+-- the sizes of queues and batches, how many connections may be open, the limit of memory, and the size of a trace
 abbrev pub size_settings : List Setting
 size_settings =
     number_setting number_is.QueueCapacity
@@ -186,6 +186,7 @@ size_settings =
     ∷ number_setting number_is.SendBatchSize
     ∷ number_setting number_is.MaxConnections
     ∷ number_setting number_is.MemoryLimit
+    ∷ number_setting number_is.MaximumTraceSize
     ∷ []
 
 -- those that are no numbers
@@ -257,9 +258,27 @@ document_faults (Some members) = table_faults members ++ given_faults (config_of
 abbrev pub text_faults : List ℕ → List ConfigFault
 text_faults text = document_faults (parse_document text)
 
--- what is told: these faults, and behind them maybe that expressions are too big, which the text doesn't tell
-abbrev pub Tells : (faults told : List ConfigFault) → Type 0
-Tells faults told = (big : List ConfigFault) × (told ≡ faults ++ big) × All (λ fault. fault ≡ ExpressionTooBig) big
+-- the texts of policies that are looked at as expressions: where these have no fault
+abbrev pub looked_at : Option PolicyFault → List (List ℕ) → List (List ℕ)
+looked_at None texts = texts
+looked_at (Some fault) texts = []
+
+-- how many expressions policies have, where these have no fault
+abbrev pub policies_expressions : List tree.Policy → ℕ
+policies_expressions policies = count_by is_expression (looked_at (fault_of_policies policies) (expressions_among policies))
+
+-- how many the policies of a document have
+abbrev pub document_expressions : Option Members → ℕ
+document_expressions None = 0
+document_expressions (Some members) = policies_expressions (config_of members).policies
+
+-- how many those of a text have
+abbrev pub text_expressions : List ℕ → ℕ
+text_expressions text = document_expressions (parse_document text)
+
+-- what is told of a text: its faults, and behind them that some number of its expressions are too big. How many, it doesn't tell: where it has none, just its faults are told
+abbrev pub Tells : (text : List ℕ) → (told : List ConfigFault) → Type 0
+Tells text told = (big : ℕ) × (told ≡ text_faults text ++ replicate big ExpressionTooBig) × (big ≤ text_expressions text)
 
 -- the list has the faults of the set, and no others
 abbrev pub ListsAll : (Has : ConfigFault → Type 0) → List ConfigFault → Type 0

@@ -175,7 +175,8 @@ SizesHave members fault =
     ⊎ (NumberHas members (codes "export_capacity") (pos 65536) fault
     ⊎ (NumberHas members (codes "send_batch_size") (pos 8192) fault
     ⊎ (NumberHas members (codes "max_connections") (pos 65536) fault
-    ⊎ (optional (integer_fault (pos 0) (pos 1048576)) (get_member (codes "memory_limit_mib") members) ≡ Some fault))))
+    ⊎ ((optional (integer_fault (pos 0) (pos 1048576)) (get_member (codes "memory_limit_mib") members) ≡ Some fault)
+    ⊎ (optional (integer_fault (pos 0) (pos 1073741824)) (get_member (codes "maximum_trace_size_bytes") members) ≡ Some fault)))))
 
 -- what stands at this key is none of these two texts
 abbrev pub ChoiceHas : Members → (key default other : List ℕ) → ConfigFault → Type 0

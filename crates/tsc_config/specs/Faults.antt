@@ -294,14 +294,15 @@ numbers_fault members =
     (least (number_fault (number_row number_is.Shards) members)
     (number_fault (number_row number_is.Tick) members))))))
 
--- the rows of the sizes of queues and batches, of how many connections may be open, and of the limit of memory
+-- the rows of the sizes of queues and batches, of how many connections may be open, of the limit of memory, and of the size of a trace
 abbrev pub sizes_fault : Members → Option ConfigFault
 sizes_fault members =
     least (number_fault (number_row number_is.QueueCapacity) members)
     (least (number_fault (number_row number_is.ExportCapacity) members)
     (least (number_fault (number_row number_is.SendBatchSize) members)
     (least (number_fault (number_row number_is.MaxConnections) members)
-    (number_fault (number_row number_is.MemoryLimit) members))))
+    (least (number_fault (number_row number_is.MemoryLimit) members)
+    (number_fault (number_row number_is.MaximumTraceSize) members)))))
 
 -- the rows of the choices: what a full queue and a fault of the output do, what becomes of doubles, whether the end of the input closes, and the second address
 abbrev pub choices_fault : Members → Option ConfigFault

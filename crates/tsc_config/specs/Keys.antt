@@ -36,6 +36,7 @@ number_row number_is.ExportCapacity = record { name = codes "export_capacity"; d
 number_row number_is.SendBatchSize = record { name = codes "send_batch_size"; default = 512; lowest = 1; greatest = 8192 }
 number_row number_is.MaxConnections = record { name = codes "max_connections"; default = 1024; lowest = 1; greatest = 65536 }
 number_row number_is.MemoryLimit = record { name = codes "memory_limit_mib"; default = 0; lowest = 0; greatest = 1048576 }
+number_row number_is.MaximumTraceSize = record { name = codes "maximum_trace_size_bytes"; default = 0; lowest = 0; greatest = 1073741824 }
 number_row number_is.Tick = record { name = codes "tick_ms"; default = 1000; lowest = 1; greatest = 60000 }
 
 -- what a key of one of two texts has: its name, its default, and the other text
@@ -98,6 +99,7 @@ is_key table_is.Config key =
     || bytes_eq key (number_row number_is.Lanes).name || bytes_eq key (number_row number_is.Shards).name
     || bytes_eq key (number_row number_is.QueueCapacity).name || bytes_eq key (number_row number_is.ExportCapacity).name
     || bytes_eq key (number_row number_is.SendBatchSize).name || bytes_eq key (number_row number_is.MaxConnections).name || bytes_eq key (number_row number_is.MemoryLimit).name
+    || bytes_eq key (number_row number_is.MaximumTraceSize).name
     || bytes_eq key (number_row number_is.Tick).name
     || bytes_eq key (codes "listen") || bytes_eq key (codes "accept_gzip") || bytes_eq key (codes "sample_on_first_match")
     || bytes_eq key (choice_row choice_is.QueueFull).name || bytes_eq key (choice_row choice_is.OutputFault).name || bytes_eq key (choice_row choice_is.DoubleValues).name || bytes_eq key (codes "close_at_end_of_input")

@@ -83,6 +83,7 @@ pub record HasSettings (members : Members) (config : Config) : Type 0 where
   pub send_batch_size : IsNumberAt members (codes "send_batch_size") 512 1 8192 config.send_batch_size
   pub max_connections : IsNumberAt members (codes "max_connections") 1024 1 65536 config.max_connections
   pub memory_limit_mib : IsNumberAt members (codes "memory_limit_mib") 0 0 1048576 config.memory_limit_mib
+  pub maximum_trace_size : IsNumberAt members (codes "maximum_trace_size_bytes") 0 0 1073741824 config.maximum_trace_size
   pub tick : IsNumberAt members (codes "tick_ms") 1000 1 60000 config.tick
   pub listen : IsTextAt members (codes "listen") (codes "127.0.0.1:4318") config.listen
   pub accept_gzip : IsTruthAt members (codes "accept_gzip") config.accept_gzip

@@ -371,6 +371,7 @@ config_of members = record {
   send_batch_size = positive_by (number_row number_is.SendBatchSize) members;
   max_connections = positive_by (number_row number_is.MaxConnections) members;
   memory_limit_mib = natural_of (get_member (number_row number_is.MemoryLimit).name members);
+  maximum_trace_size = natural_of (get_member (number_row number_is.MaximumTraceSize).name members);
   tick = positive_by (number_row number_is.Tick) members;
   listen = address_of (codes "127.0.0.1:4318") (get_member (codes "listen") members);
   admin = address_of [] (get_member (codes "admin") members);

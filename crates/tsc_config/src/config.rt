@@ -61,6 +61,9 @@ pub struct Config {
     /// Mebibytes that the process may take before requests are refused, from 0 to 1048576, where 0 is off (this project's option
     /// `memory_limit_mib`).
     pub memory_limit_mib: u64,
+    /// How many bytes the spans of a trace take at most while it waits, from 0 to 1073741824, where 0 is off; one that grows
+    /// beyond that is decided at once as not sampled (tailsamplingprocessor README, `maximum_trace_size_bytes`).
+    pub maximum_trace_size: u64,
     /// The time between two ticks, at which it is looked for what is due, in milliseconds, from 1 to 60000 (this
     /// project's option `tick_ms`).
     pub tick: u64,
@@ -119,7 +122,7 @@ impl Config {
 /// `sampled_cache_size` and `non_sampled_cache_size`, each from 0 to 1000000, else 0; `policies`, a required array of policy tables with
 /// `name`, `type` and the settings of that type; `sample_on_first_match`, true or false, else false; `lanes` and `shards`, from 1 to 64, else 1; `queue_capacity` and
 /// `export_capacity`, from 1 to 65536, else 1024; `send_batch_size`, from 1 to 8192, else 512; `max_connections`, from 1 to 65536, else 1024; `memory_limit_mib`, from 0
-/// to 1048576, else 0; `tick_ms`, from 1 to
+/// to 1048576, else 0; `maximum_trace_size_bytes`, from 0 to 1073741824, else 0; `tick_ms`, from 1 to
 /// 60000, else 1000; `listen`, a text, else `127.0.0.1:4318`; `admin`, a text, else nothing; `accept_gzip` and `close_at_end_of_input`, true or false, else false; `queue_full`, `partial` or
 /// `retry`, else `partial`; `output_fault`, `discard` or `stop`, else `discard`; and `double_values`, `discard` or `keep`, else
 /// `discard`; and `export`, a table with a required `endpoint` ([`Export`] has its keys), else nothing is sent. Of a
@@ -201,6 +204,7 @@ fn given_by(alloc: Global, table: &Table, policies: Policies) -> Result<Config, 
         send_batch_size: positive_by(table, NumberKey::SendBatchSize) as usize,
         max_connections: positive_by(table, NumberKey::MaxConnections) as usize,
         memory_limit_mib: natural_at(table, NumberKey::MemoryLimit.row().0),
+        maximum_trace_size: natural_at(table, NumberKey::MaximumTraceSize.row().0),
         tick: positive_by(table, NumberKey::Tick),
         listen,
         admin,

@@ -25,9 +25,11 @@ pub enum ConfigFault {
     /// 8: memory was refused. Where it was refused while the text was parsed, the text may have any other fault.
     NoMemory,
     /// 9: a text in `values` is no regular expression, where `enabled_regex_matching` is set (tailsamplingprocessor README,
-    /// `string_attribute`). It is looked at last: only where the text has none of the faults 1 to 7.
+    /// `string_attribute`). [`crate::read`] answers it only of a text that has none of the faults 1 to 7; [`crate::faults`]
+    /// tells it beside others, but where the policies have a fault of their own (7).
     NotAnExpression,
-    /// 10: an expression, compiled, would take more than about 1 MiB, in a text that has none of the faults 1 to 7 and 9.
+    /// 10: an expression, compiled, would take more than about 1 MiB. [`crate::read`] answers it only of a text that has none
+    /// of the faults 1 to 7 and 9; [`crate::faults`] tells it behind all others, but where the policies have one (7).
     ExpressionTooBig,
 }
 

@@ -77,7 +77,8 @@ fn numbers_fault(table: &Table) -> Option<ConfigFault>
     least(wait, least(root_wait, least(received, counts)))
 }
 
-/// The fault of the sizes of queues and batches, of how many connections may be open, and of the limit of memory.
+/// The fault of the sizes of queues and batches, of how many connections may be open, of the limit of memory, and of the
+/// size of a trace.
 fn sizes_fault(table: &Table) -> Option<ConfigFault>
     ensures { result ≡ spec.sizes_fault (table_view table.now) }
 {
@@ -86,10 +87,9 @@ fn sizes_fault(table: &Table) -> Option<ConfigFault>
     let batch = number_fault(table, NumberKey::SendBatchSize);
     let connections = number_fault(table, NumberKey::MaxConnections);
     let memory = number_fault(table, NumberKey::MemoryLimit);
-    least(
-        queue,
-        least(export, least(batch, least(connections, memory))),
-    )
+    let trace = number_fault(table, NumberKey::MaximumTraceSize);
+    let limits = least(connections, least(memory, trace));
+    least(queue, least(export, least(batch, limits)))
 }
 
 /// The fault of the choices: what a full queue and a fault of the output do, what becomes of doubles, whether the end of

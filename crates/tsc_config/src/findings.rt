@@ -1,7 +1,7 @@
 //! The faults of a configuration that were found, where each stands and what would be right.
-ghost use Rattle.std.specs.Prelude.{◌≡◌, ◌++◌, [], ◌∷◌, IfOk, OnOk};
+ghost use Rattle.std.specs.Prelude.{◌≡◌, ◌++◌, [], ◌∷◌, IfOk, OnOk, length, replicate};
 ghost use Rattle.tsc_config.specs.FaultLists as spec;
-ghost use Rattle.tsc_config.specs.declared.fault.ConfigFault.TheVariants.{MissingKey};
+ghost use Rattle.tsc_config.specs.declared.fault.ConfigFault.TheVariants.{MissingKey, ExpressionTooBig};
 
 use crate::fault::ConfigFault;
 use crate::finding_texts::missing_text;
@@ -18,12 +18,10 @@ pub struct Finding {
     pub said: String,
 }
 
-/// What was found so far: to contracts the faults that the text tells, in order.
+/// What was found so far of what the text tells: to contracts the faults, in order.
 #[derive(Drop)]
 pub struct Findings {
     list: Vec<Finding>,
-    /// What is said of expressions that are too big, which the text doesn't tell.
-    big: Vec<String>,
 }
 
 impl Model for Findings {
@@ -43,7 +41,6 @@ impl Findings {
     {
         Findings {
             list: Vec::new(alloc),
-            big: Vec::new(alloc),
         }
     }
 
@@ -62,33 +59,17 @@ impl Findings {
         self.add(ConfigFault::MissingKey, missing_text(alloc, place)?)
     }
 
-    /// One more expression that is too big.
-    pub fn add_big(&mut self, said: String) -> Result<(), AllocError>
-        ensures { OnOk result (self.new ≡ self.old) }
+    /// The findings, in order, and behind them one for each expression that is too big, of which this is said.
+    pub fn with_big(self, big: Vec<String>) -> Result<Vec<Finding>, AllocError>
+        ensures { IfOk result (λ found. spec.faults_in found.items ≡ self ++ replicate (length big.items) ExpressionTooBig) }
     {
-        self.big.push(said)?;
-        Ok(())
+        let mut found = self.list;
+        for said in big {
+            found.push(Finding {
+                fault: ConfigFault::ExpressionTooBig,
+                said,
+            })?;
+        }
+        Ok(found)
     }
-
-    /// The findings, in order, and behind them the expressions that are too big.
-    pub fn into_vec(self) -> Result<Vec<Finding>, AllocError>
-        ensures { IfOk result (λ found. spec.Tells self (spec.faults_in found.items)) }
-    {
-        with_big(self.list, self.big)
-    }
-}
-
-/// These findings, and behind them one for each expression that is too big, of which this is said.
-#[tactic(auto, using(crate::proofs::Told::told_alone))]
-fn with_big(findings: Vec<Finding>, big: Vec<String>) -> Result<Vec<Finding>, AllocError>
-    ensures { IfOk result (λ found. spec.Tells (spec.faults_in findings.items) (spec.faults_in found.items)) }
-{
-    let mut found = findings;
-    for said in big {
-        found.push(Finding {
-            fault: ConfigFault::ExpressionTooBig,
-            said,
-        })?;
-    }
-    Ok(found)
 }

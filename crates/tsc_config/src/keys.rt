@@ -65,6 +65,7 @@ pub fn is_key(kind: TableKind, key: &str) -> bool
                 | "send_batch_size"
                 | "max_connections"
                 | "memory_limit_mib"
+                | "maximum_trace_size_bytes"
                 | "tick_ms"
                 | "listen"
                 | "accept_gzip"

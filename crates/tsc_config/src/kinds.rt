@@ -85,6 +85,7 @@ pub enum NumberKey {
     SendBatchSize,
     MaxConnections,
     MemoryLimit,
+    MaximumTraceSize,
     Tick,
 }
 
@@ -108,6 +109,7 @@ impl NumberKey {
             NumberKey::SendBatchSize => ("send_batch_size", 512, 1, 8192),
             NumberKey::MaxConnections => ("max_connections", 1024, 1, 65_536),
             NumberKey::MemoryLimit => ("memory_limit_mib", 0, 0, 1_048_576),
+            NumberKey::MaximumTraceSize => ("maximum_trace_size_bytes", 0, 0, 1_073_741_824),
             NumberKey::Tick => ("tick_ms", 1000, 1, 60_000),
         }
     }

@@ -2,9 +2,10 @@
 //! (tailsamplingprocessor README, "decision_wait", "num_traces", "decision_cache", "policies"; batchprocessor README,
 //! "send_batch_size"; the other keys are this project's own).
 //!
-//! The faults of the table are looked for first, in a walk that takes no memory; what the table gives is made only where
-//! there is none, and the regular expressions of its policies are looked at last. No contract keeps [`read`] from answering that it found no memory, except for a text without keys:
-//! that a text can be read is a test.
+//! [`read`] looks for the faults of the table first, in a walk that takes no memory; what the table gives is made only
+//! where there is none, and the regular expressions of its policies are looked at last. [`faults`] looks at all of them,
+//! whatever it has found, but at expressions only of policies without a fault of their own. No contract keeps [`read`] from
+//! answering that it found no memory, except for a text without keys: that a text can be read is a test.
 #![tactic(auto)]
 
 mod composites;

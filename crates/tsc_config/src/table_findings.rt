@@ -1,7 +1,8 @@
 //! Every fault of the text of a configuration.
-ghost use Rattle.std.specs.Prelude.{◌≡◌, ◌++◌, [], Some, IfOk, IsOk, OnOk, map};
+ghost use Rattle.std.specs.Prelude.{◌≡◌, ◌≢◌, ◌⊎◌, ◌++◌, ◌+◌, ◌≤◌, [], Some, IfOk, IsOk, IsErr, OnOk, map, length};
 ghost use Rattle.toml.specs.View.{table_view};
 ghost use Rattle.tsc_config.specs.FaultLists as spec;
+ghost use Rattle.tsc_config.specs.FaultSets.{MayBeTooBig};
 ghost use Rattle.tsc_config.specs.Faults.{twice_fault};
 ghost use Rattle.tsc_config.specs.PolicySettings.{setting_of};
 ghost use Rattle.tsc_config.specs.Reading.{reading};
@@ -26,38 +27,53 @@ use toml::Table;
 /// Every fault of the text of a configuration, as [`crate::read`] reads it: those of its keys and values, a line for each
 /// place that has one, and then those of what they give, where a value with a fault counts as its key's default; of regular
 /// expressions those in policies without a fault of their own. Last come expressions that take too much memory, which the
-/// text doesn't tell. There is none exactly where `read` gives a configuration, and else `read` refuses for that of least
-/// number ([`crate::laws::lists_each_fault`]), but where memory is refused. `Err` only where memory was refused.
+/// text doesn't tell: at most as many as it has. There is none only where the text is read as a configuration; and where
+/// there is one, `read` refuses the text for that of least number ([`crate::laws::lists_each_fault`]), or it is read as a
+/// configuration that has an expression. `Err` only where memory was refused.
 #[tactic(auto, using(crate::proofs::Told::none_found))]
 pub fn faults(alloc: Global, text: &str) -> Result<Vec<Finding>, AllocError>
-    ensures faults { IfOk result (λ found. spec.Tells (spec.text_faults text.now) (spec.faults_in found.items)) }
+    ensures faults { IfOk result (λ found. spec.Tells text.now (spec.faults_in found.items)) }
     ensures none { IfOk result (λ found. (found.items ≡ []) → IsOk (reading text.now)) }
-{
-    found_in(alloc, text)?.into_vec()
-}
-
-/// What is found in the text of a configuration.
-fn found_in(alloc: Global, text: &str) -> Result<Findings, AllocError>
-    ensures { IfOk result (λ findings. findings ≡ spec.text_faults text.now) }
+    ensures some { IfOk result (λ found. (found.items ≢ []) → IsErr (reading text.now) ⊎ MayBeTooBig (reading text.now)) }
 {
     let mut findings = Findings::new(alloc);
+    let mut big = Vec::new(alloc);
+    add_faults(alloc, text, &mut findings, &mut big)?;
+    findings.with_big(big)
+}
+
+/// Adds the faults of a text, and what is said of its expressions that are too big.
+fn add_faults(
+    alloc: Global,
+    text: &str,
+    findings: &mut Findings,
+    big: &mut Vec<String>,
+) -> Result<(), AllocError>
+    ensures faults { OnOk result (findings.new ≡ findings.old ++ spec.text_faults text.now) }
+    ensures big { OnOk result (length big.new.items ≤ length big.old.items + spec.text_expressions text.now) }
+{
     match toml::table_from_str(alloc, text) {
-        Ok(table) => add_table(alloc, &table, &mut findings)?,
-        Err(error) if error.is_memory() => return Err(AllocError),
-        Err(_) => findings.add(ConfigFault::NotToml, String::from_str(alloc, "not TOML")?)?,
+        Ok(table) => add_table(alloc, &table, findings, big),
+        Err(error) if error.is_memory() => Err(AllocError),
+        Err(_) => findings.add(ConfigFault::NotToml, String::from_str(alloc, "not TOML")?),
     }
-    Ok(findings)
 }
 
 /// Adds the faults of the table of a configuration, and of what it gives.
-fn add_table(alloc: Global, table: &Table, findings: &mut Findings) -> Result<(), AllocError>
-    ensures { OnOk result (findings.new ≡ findings.old ++ spec.document_faults (Some (table_view table.now))) }
+fn add_table(
+    alloc: Global,
+    table: &Table,
+    findings: &mut Findings,
+    big: &mut Vec<String>,
+) -> Result<(), AllocError>
+    ensures faults { OnOk result (findings.new ≡ findings.old ++ spec.document_faults (Some (table_view table.now))) }
+    ensures big { OnOk result (length big.new.items ≤ length big.old.items + spec.document_expressions (Some (table_view table.now))) }
 {
     add_unknown(alloc, "", TableKind::Config, table, findings)?;
     add_twice(alloc, table, findings)?;
     add_rows(alloc, "", &top_settings(), table, findings)?;
     add_tables(alloc, table, findings)?;
-    add_given(alloc, table, findings)
+    add_given(alloc, table, findings, big)
 }
 
 /// Adds the fault that both names of one setting stand there.
@@ -74,7 +90,7 @@ fn add_twice(alloc: Global, table: &Table, findings: &mut Findings) -> Result<()
 }
 
 /// The settings of a configuration that are no tables.
-fn top_settings() -> [Setting; 20]
+fn top_settings() -> [Setting; 21]
     ensures { map setting_of result ≡ spec.top_settings }
 {
     [
@@ -90,6 +106,7 @@ fn top_settings() -> [Setting; 20]
         number_setting(NumberKey::SendBatchSize),
         number_setting(NumberKey::MaxConnections),
         number_setting(NumberKey::MemoryLimit),
+        number_setting(NumberKey::MaximumTraceSize),
         Setting::Optional("listen", ValueKind::Text),
         Setting::Optional("accept_gzip", ValueKind::Truth),
         Setting::Optional("sample_on_first_match", ValueKind::Truth),
@@ -149,9 +166,15 @@ fn add_tables(alloc: Global, table: &Table, findings: &mut Findings) -> Result<(
     }
 }
 
-/// Adds the faults of what the table gives.
-fn add_given(alloc: Global, table: &Table, findings: &mut Findings) -> Result<(), AllocError>
-    ensures { OnOk result (findings.new ≡ findings.old ++ spec.given_faults (config_of (table_view table.now))) }
+/// Adds the faults of what the table gives, and what is said of its expressions that are too big.
+fn add_given(
+    alloc: Global,
+    table: &Table,
+    findings: &mut Findings,
+    big: &mut Vec<String>,
+) -> Result<(), AllocError>
+    ensures faults { OnOk result (findings.new ≡ findings.old ++ spec.given_faults (config_of (table_view table.now))) }
+    ensures big { OnOk result (length big.new.items ≤ length big.old.items + spec.policies_expressions (config_of (table_view table.now)).policies) }
 {
     let traces = positive_by(table, NumberKey::NumTraces);
     if traces < positive_by(table, NumberKey::Shards) {
@@ -159,7 +182,7 @@ fn add_given(alloc: Global, table: &Table, findings: &mut Findings) -> Result<()
         findings.add(ConfigFault::TooFewTraces, said)?;
     }
     match Policies::new(alloc, policies_at(alloc, table)?) {
-        Ok(policies) => add_expressions(alloc, &policies, findings),
+        Ok(policies) => add_expressions(alloc, &policies, findings, big),
         Err(fault) => {
             let said = policy_fault_text(alloc, fault)?;
             findings.add(ConfigFault::Policy(fault), said)
