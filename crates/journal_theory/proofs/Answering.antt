@@ -2,9 +2,8 @@
 -- Serves the clause `decides` of `Shard::decide`.
 use Rattle.std.proofs.Common.{◌≡◌, ℕ, zero, suc, Bool, true, false, not, ◌&&◌, cond, List, [], ◌∷◌, ◌++◌, take, drop, Option, Some, None, refl, sym, ap, ◌∙◌}
 use Rattle.std.proofs.lemmas.Bool.{and_parts}
-use Rattle.journal_theory.specs.Journal.{Entry, Settings, Journal, Opening, Decision, Notes, notes, notes_dealt, due_at, due_now, have_ended, has_ended, decision, decisions_in_turn, decisions_now, after_item, after_span, after_decisions, undecided, spans_since, answered, are_each_answered, IsAnswered, IsAnsweredUpTo}
+use Rattle.journal_theory.specs.Journal.{Entry, Settings, Journal, Opening, Decision, Notes, notes, notes_dealt, due_at, due_now, have_ended, has_ended, policies_for, decision, decisions_in_turn, decisions_now, after_item, after_span, after_decisions, undecided, oversized, spans_since, answered, are_each_answered, IsAnswered, IsAnsweredUpTo}
 use Rattle.journal_theory.specs.Standing.{standing, mark, mark_at, ends}
-use Rattle.policy_tree.specs.Tree.{Policies}
 use Rattle.policy_eval.specs.Given.{are_answered}
 use Rattle.otlp_types.specs.declared.span.Ids.{Ids}
 use Rattle.otlp_types.specs.declared.arrival.Item.{Item}
@@ -19,31 +18,31 @@ no_more (suc k) o rest e = cc
 
 -- the decision after so many that are answered is given by the next answers
 pub turn-next : (s : Settings) (past : Journal) (k : ℕ) (os : List Opening) (given : List (List Bool)) (answers : List Bool) (o : Opening) (rest : List Opening) → drop k os ≡ o ∷ rest →
-    are_each_answered s.policies past (take k os) given ≡ true →
+    are_each_answered s past (take k os) given ≡ true →
     take (suc k) (decisions_in_turn s past os (given ++ answers ∷ [])) ≡ take k (decisions_in_turn s past os given) ++ decision s past o answers ∷ []
 turn-next s past k [] given answers o rest e h = absurd (no_more k o rest e)
 turn-next s past zero (p ∷ os) [] answers o rest e h = let same : p ≡ o = cc in ap (λ (q : Opening). decision s past q answers ∷ []) same
 turn-next s past zero (p ∷ os) (g ∷ given) answers o rest e h = cc
 turn-next s past (suc k) (p ∷ os) [] answers o rest e h = cc
 turn-next s past (suc k) (p ∷ os) (g ∷ given) answers o rest e h =
-    ap (λ (ds : List Decision). decision s past p g ∷ ds) (turn-next s past k os given answers o rest e (and_parts (are_answered s.policies g (spans_since past p)) (are_each_answered s.policies past (take k os) given) h).1)
+    ap (λ (ds : List Decision). decision s past p g ∷ ds) (turn-next s past k os given answers o rest e (and_parts (are_answered (policies_for s (spans_since past p)) g (spans_since past p)) (are_each_answered s past (take k os) given) h).1)
 
 -- and then one more is answered
-each-next : (policies : Policies) (past : Journal) (k : ℕ) (os : List Opening) (given : List (List Bool)) (answers : List Bool) (o : Opening) (rest : List Opening) → drop k os ≡ o ∷ rest →
-    are_each_answered policies past (take k os) given ≡ true → are_answered policies answers (spans_since past o) ≡ true →
-    are_each_answered policies past (take (suc k) os) (given ++ answers ∷ []) ≡ true
-each-next policies past k [] given answers o rest e h a = absurd (no_more k o rest e)
-each-next policies past zero (p ∷ os) [] answers o rest e h a =
+each-next : (s : Settings) (past : Journal) (k : ℕ) (os : List Opening) (given : List (List Bool)) (answers : List Bool) (o : Opening) (rest : List Opening) → drop k os ≡ o ∷ rest →
+    are_each_answered s past (take k os) given ≡ true → are_answered (policies_for s (spans_since past o)) answers (spans_since past o) ≡ true →
+    are_each_answered s past (take (suc k) os) (given ++ answers ∷ []) ≡ true
+each-next s past k [] given answers o rest e h a = absurd (no_more k o rest e)
+each-next s past zero (p ∷ os) [] answers o rest e h a =
     let same : p ≡ o = cc in
-    let here : are_answered policies answers (spans_since past p) ≡ true = ap (λ (q : Opening). are_answered policies answers (spans_since past q)) same ∙ a in
+    let here : are_answered (policies_for s (spans_since past p)) answers (spans_since past p) ≡ true = ap (λ (q : Opening). are_answered (policies_for s (spans_since past q)) answers (spans_since past q)) same ∙ a in
     rw here refl
-each-next policies past zero (p ∷ os) (g ∷ given) answers o rest e h a = cc
-each-next policies past (suc k) (p ∷ os) [] answers o rest e h a = cc
-each-next policies past (suc k) (p ∷ os) (g ∷ given) answers o rest e h a = go (are_answered policies g (spans_since past p)) h (each-next policies past k os given answers o rest e)
+each-next s past zero (p ∷ os) (g ∷ given) answers o rest e h a = cc
+each-next s past (suc k) (p ∷ os) [] answers o rest e h a = cc
+each-next s past (suc k) (p ∷ os) (g ∷ given) answers o rest e h a = go (are_answered (policies_for s (spans_since past p)) g (spans_since past p)) h (each-next s past k os given answers o rest e)
   where
-    go : (b : Bool) → (b && are_each_answered policies past (take k os) given) ≡ true
-        → (are_each_answered policies past (take k os) given ≡ true → are_answered policies answers (spans_since past o) ≡ true → are_each_answered policies past (take (suc k) os) (given ++ answers ∷ []) ≡ true)
-        → (b && are_each_answered policies past (take (suc k) os) (given ++ answers ∷ [])) ≡ true
+    go : (b : Bool) → (b && are_each_answered s past (take k os) given) ≡ true
+        → (are_each_answered s past (take k os) given ≡ true → are_answered (policies_for s (spans_since past o)) answers (spans_since past o) ≡ true → are_each_answered s past (take (suc k) os) (given ++ answers ∷ []) ≡ true)
+        → (b && are_each_answered s past (take (suc k) os) (given ++ answers ∷ [])) ≡ true
     go true h f = f h a
     go false h f = cc
 
@@ -69,7 +68,7 @@ module _ (s : Settings) (e : Entry) (before : Journal) (more : List (List Bool))
   pub due-item-same : (item : Item) (noted : Notes) → due_at s other before item noted ≡ due_at s e before item noted
   due-item-same (Span a) noted = refl
   due-item-same (Tick m) noted = refl
-  due-item-same (End sender) noted = ap (λ b. cond (b && not (have_ended before s.senders)) (undecided s noted) []) (ended-same s.senders)
+  due-item-same (End sender) noted = ap (λ b. cond (b && not (have_ended before s.senders)) (undecided s noted) (oversized s (e ∷ before) noted)) (ended-same s.senders)
 
   ids-same : (ids : Option Ids) (noted : Notes) → after_span s ids other before noted ≡ after_span s ids e before noted
   ids-same None noted = refl
@@ -85,14 +84,14 @@ module _ (s : Settings) (e : Entry) (before : Journal) (more : List (List Bool))
   turn-same (o ∷ os) [] = refl
   turn-same (o ∷ os) (g ∷ given) = ap (λ (ds : List Decision). decision s (e ∷ before) o g ∷ ds) (turn-same os given)
 
-  pub each-same : (policies : Policies) (os : List Opening) (given : List (List Bool)) → are_each_answered policies (other ∷ before) os given ≡ are_each_answered policies (e ∷ before) os given
-  each-same policies [] [] = refl
-  each-same policies [] (g ∷ given) = refl
-  each-same policies (o ∷ os) [] = refl
-  each-same policies (o ∷ os) (g ∷ given) = ap (λ b. are_answered policies g (spans_since (e ∷ before) o) && b) (each-same policies os given)
+  pub each-same : (os : List Opening) (given : List (List Bool)) → are_each_answered s (other ∷ before) os given ≡ are_each_answered s (e ∷ before) os given
+  each-same [] [] = refl
+  each-same [] (g ∷ given) = refl
+  each-same (o ∷ os) [] = refl
+  each-same (o ∷ os) (g ∷ given) = ap (λ b. are_answered (policies_for s (spans_since (e ∷ before) o)) g (spans_since (e ∷ before) o) && b) (each-same os given)
 
   pub due-same : due_now s (other ∷ before) ≡ due_now s (e ∷ before)
-  due-same = due-item-same e.item (notes s before)
+  due-same = due-item-same e.item (after_item s other before e.item (notes s before)) ∙ ap (due_at s e before e.item) (item-same e.item (notes s before))
 
   pub standing-same : (noted : Notes) → standing_by s (other ∷ before) noted ≡ standing_by s (e ∷ before) noted
   standing-same noted = rw (ends-same s.senders, mark-same e.item) refl
@@ -113,14 +112,14 @@ decisions-answered s e before k answers o rest d h =
     ∙ turn-next s (e ∷ before) k os e.answers answers o rest d h.0
 
 pub answered-next : (s : Settings) (past : Journal) (k : ℕ) (answers : List Bool) (o : Opening) (rest : List Opening) → drop k (due_now s past) ≡ o ∷ rest → IsAnsweredUpTo s past k →
-    are_answered s.policies answers (spans_since past o) ≡ true → IsAnsweredUpTo s (answered past answers) (suc k)
+    are_answered (policies_for s (spans_since past o)) answers (spans_since past o) ≡ true → IsAnsweredUpTo s (answered past answers) (suc k)
 answered-next s [] k answers o rest d h a = tt
 answered-next s (e ∷ before) k answers o rest d h a =
     let more = e.answers ++ answers ∷ [] in
     let os = due_now s (e ∷ before) in (
-      ap (λ (ps : List Opening). are_each_answered s.policies (other s e before more ∷ before) (take (suc k) ps) more) (due-same s e before more)
-          ∙ each-same s e before more s.policies (take (suc k) os) more
-          ∙ each-next s.policies (e ∷ before) k os e.answers answers o rest d h.0 a,
+      ap (λ (ps : List Opening). are_each_answered s (other s e before more ∷ before) (take (suc k) ps) more) (due-same s e before more)
+          ∙ each-same s e before more (take (suc k) os) more
+          ∙ each-next s (e ∷ before) k os e.answers answers o rest d h.0 a,
       h.1,
     )
 
@@ -147,4 +146,4 @@ taken-all {X} (suc k) (x ∷ xs) e = ap (λ (ys : List X). x ∷ ys) (taken-all 
 -- a journal is answered once all decisions at its last item are
 pub all-answered : (s : Settings) (past : Journal) (k : ℕ) → drop k (due_now s past) ≡ [] → IsAnsweredUpTo s past k → IsAnswered s past
 all-answered s [] k d h = tt
-all-answered s (e ∷ before) k d h = (ap (λ (os : List Opening). are_each_answered s.policies (e ∷ before) os e.answers) (sym (taken-all k (due_now s (e ∷ before)) d)) ∙ h.0, h.1)
+all-answered s (e ∷ before) k d h = (ap (λ (os : List Opening). are_each_answered s (e ∷ before) os e.answers) (sym (taken-all k (due_now s (e ∷ before)) d)) ∙ h.0, h.1)

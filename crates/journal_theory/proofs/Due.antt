@@ -8,11 +8,11 @@ use Rattle.std.proofs.lemmas.List.Folds.{list_all-append}
 use Rattle.std.proofs.Math.Seq.{set-append_seam}
 use Rattle.std.proofs.lemmas.Bool.Decides.{nat_tests}
 use Rattle.std.proofs.lemmas.Bool.{and_parts}
-use Rattle.trace_buffer.specs.Buffer.{Episode, is_root_due}
+use Rattle.trace_buffer.specs.Buffer.{Episode, is_root_due, is_too_big}
 use Rattle.span_ids.specs.declared.outcome.Verdict.{Verdict}
-use Rattle.journal_theory.specs.Journal.{Entry, StoppedInTime, Settings, Journal, Opening, Decision, Notes, Finding, joins, meets, opens, in_buffer, last_of, leaving, notes, notes_dealt, finding, decided_as, is_due, due_at, due_now, have_ended, has_ended, decisions_in_turn, decision, after_item, after_span, after_finding, after_decisions, no_notes, clock, spans_since, are_each_answered, IsAnswered, IsAnsweredUpTo}
+use Rattle.journal_theory.specs.Journal.{Entry, StoppedInTime, Settings, Journal, Opening, Decision, Notes, Finding, joins, meets, opens, in_buffer, last_of, leaving, notes, notes_dealt, finding, decided_as, is_oversized, oversized, is_due, due_at, due_now, have_ended, has_ended, decisions_in_turn, policies_for, decision, after_item, after_span, after_finding, after_decisions, no_notes, clock, spans_since, are_each_answered, IsAnswered, IsAnsweredUpTo}
 use Rattle.policy_eval.specs.Given.{are_answered}
-use Rattle.journal_theory.specs.Standing.{Standing, root_left, first_root_since, episode, standing, mark, ends}
+use Rattle.journal_theory.specs.Standing.{Standing, root_left, spans_left, first_root_since, episode, standing, mark, ends}
 use Rattle.otlp_types.specs.declared.span.Ids.{Ids}
 use Rattle.span_ids.specs.declared.ids.TraceId.{TraceId}
 use Rattle.otlp_types.specs.declared.arrival.Arrival.{Arrival}
@@ -20,7 +20,7 @@ use Rattle.otlp_types.specs.declared.arrival.Item.{Item}
 use Rattle.otlp_types.specs.declared.arrival.Item.TheVariants.{Span, Tick, End}
 use Rattle.journal_theory.specs.Deciding.{is_due_by}
 use Rattle.journal_theory.proofs.RootWait.{due_by_first_root, none_due_after_mark, no_roots}
-use Rattle.journal_theory.proofs.Lists.{Each-weaken, Each-all, reverse-cons, filter-reverse, filter-same, filter-none, Each-from_none, filter-filter, or-true, Each-reverse, drop-length, none-from_find}
+use Rattle.journal_theory.proofs.Lists.{Each-weaken, Each-all, reverse-cons, filter-reverse, filter-same, Each-from_none, filter-filter, or-true, Each-reverse, drop-length, none-from_find}
 use Rattle.journal_theory.proofs.ListFacts.{Each, Each-left, Pairs as Apart, Pairs-left, Pairs-reverse, Pairs-weaker}
 use Rattle.journal_theory.proofs.Notes.{HasRoom, IsOlder, Sound, buffer_front}
 use Rattle.journal_theory.proofs.Sound.{makes_room, sound_item, sound_notes}
@@ -117,29 +117,39 @@ module _ (s : Settings) (room : HasRoom s.limit) where
   abbrev pub ripe : Journal → (mark : ℕ) → Opening → Bool
   ripe past mark o = nat_le (o.moment + s.wait) mark || is_root_due mark s.root_wait (first_root_since past o)
 
-  -- an undecided episode that has waited long enough at the last tick, or the ends are complete
+  -- an undecided episode that is ripe at this mark, or too big, or the ends are complete
+  abbrev pub due_by : (finished : Bool) → (mark : ℕ) → Journal → Notes → Opening → Bool
+  due_by finished mark past noted o = is_none (decided_as noted o.at) && (finished || (ripe past mark o || is_oversized s past o))
+
+  -- the same, by the last tick and the ends so far
   abbrev pub open_due : Journal → Notes → Opening → Bool
-  open_due past noted o = is_none (decided_as noted o.at) && (have_ended past s.senders || ripe past (mark past) o)
+  open_due past noted o = due_by (have_ended past s.senders) (mark past) past noted o
 
   abbrev pub NotDue : Journal → (mark : ℕ) → Notes → Type 0
   NotDue past mark noted = Each (λ o. is_none (decided_as noted o.at) ≡ true → ripe past mark o ≡ false) (front noted)
 
-  first_false : (a b : Bool) → (a ≡ true → b ≡ false) → (a && b) ≡ false
-  first_false true b f = f refl
-  first_false false b f = refl
+  big_alone : (a b c : Bool) → (a ≡ true → b ≡ false) → (a && (b || c)) ≡ (a && c)
+  big_alone true b c f = ap (λ x. x || c) (f refl)
+  big_alone false b c f = refl
 
-  not_due-false : (past : Journal) (noted : Notes) → have_ended past s.senders ≡ false → NotDue past (mark past) noted → Each (λ o. open_due past noted o ≡ false) (front noted)
-  not_due-false past noted h w = Each-weaken (λ o. is_none (decided_as noted o.at) ≡ true → ripe past (mark past) o ≡ false) (λ o. open_due past noted o ≡ false)
-      (λ o f. rw h (first_false (is_none (decided_as noted o.at)) (ripe past (mark past) o) (λ k. f k))) (front noted) w
+  -- where none is ripe, the due ones are those that are too big
+  due-oversized : (past : Journal) (noted : Notes) → have_ended past s.senders ≡ false → NotDue past (mark past) noted → filter (open_due past noted) (front noted) ≡ oversized s past noted
+  due-oversized past noted h w =
+      filter-same (open_due past noted) (λ o. is_none (decided_as noted o.at) && is_oversized s past o) (front noted)
+      (Each-weaken (λ o. is_none (decided_as noted o.at) ≡ true → ripe past (mark past) o ≡ false) (λ o. open_due past noted o ≡ (is_none (decided_as noted o.at) && is_oversized s past o))
+      (λ o f. rw h (big_alone (is_none (decided_as noted o.at)) (ripe past (mark past) o) (is_oversized s past o) (λ k. f k))) (front noted) w)
+      ∙ sym (filter-filter (is_oversized s past) (λ o. is_none (decided_as noted o.at)) (front noted))
+      ∙ ap (filter (is_oversized s past)) (filter-reverse (λ o. is_none (decided_as noted o.at)) (in_buffer s noted))
 
-  second_false : (a b c : Bool) → (a && (b || c)) ≡ false → a ≡ true → b ≡ false → c ≡ false
-  second_false true false c h p q = h
-  second_false true true c h p q = cc
-  second_false false b c h p q = cc
+  ripe_false : (a b c d : Bool) → (a && (b || (c || d))) ≡ false → a ≡ true → b ≡ false → c ≡ false
+  ripe_false true false false d h p q = refl
+  ripe_false true false true d h p q = cc
+  ripe_false true true c d h p q = cc
+  ripe_false false b c d h p q = cc
 
   not_due-from : (past : Journal) (noted : Notes) → have_ended past s.senders ≡ false → Each (λ o. open_due past noted o ≡ false) (front noted) → NotDue past (mark past) noted
   not_due-from past noted h w = Each-weaken (λ o. open_due past noted o ≡ false) (λ o. is_none (decided_as noted o.at) ≡ true → ripe past (mark past) o ≡ false)
-      (λ o f k. second_false (is_none (decided_as noted o.at)) (have_ended past s.senders) (ripe past (mark past) o) f k h) (front noted) w
+      (λ o f k. ripe_false (is_none (decided_as noted o.at)) (have_ended past s.senders) (ripe past (mark past) o) (is_oversized s past o) f k h) (front noted) w
 
   unreversed : (P : Opening → Type 0) (os : List Opening) → Each P (reverse os) → Each P os
   unreversed P os h = subst (Each P) (reverse-reverse os) (Each-reverse P (reverse os) h)
@@ -189,7 +199,7 @@ module _ (s : Settings) (room : HasRoom s.limit) where
   due-tick m refused lost given before noted h =
       let e : Entry = record { item = Tick m; refused = refused; lost = lost; answers = given } in
       filter-same (open_due (e ∷ before) noted) (λ o. is_none (decided_as noted o.at) && is_due s (e ∷ before) o) (front noted)
-      (Each-all (λ o. open_due (e ∷ before) noted o ≡ (is_none (decided_as noted o.at) && is_due s (e ∷ before) o)) (λ o. ap (λ b. is_none (decided_as noted o.at) && (b || ripe (e ∷ before) (clock (e ∷ before)) o)) (ended-tick m refused lost given before s.senders ∙ h) ∙ ap (λ b. is_none (decided_as noted o.at) && (nat_le (o.moment + s.wait) (clock (e ∷ before)) || b)) (due_by_first_root s.root_wait (clock (e ∷ before)) (e ∷ before) o)) (front noted))
+      (Each-all (λ o. open_due (e ∷ before) noted o ≡ (is_none (decided_as noted o.at) && is_due s (e ∷ before) o)) (λ o. ap (λ b. due_by b (clock (e ∷ before)) (e ∷ before) noted o) (ended-tick m refused lost given before s.senders ∙ h) ∙ ap (λ b. is_none (decided_as noted o.at) && (nat_le (o.moment + s.wait) (clock (e ∷ before)) || b || is_oversized s (e ∷ before) o)) (due_by_first_root s.root_wait (clock (e ∷ before)) (e ∷ before) o)) (front noted))
       ∙ sym (filter-filter (is_due s (e ∷ before)) (λ o. is_none (decided_as noted o.at)) (front noted))
       ∙ ap (filter (is_due s (e ∷ before))) (filter-reverse (λ o. is_none (decided_as noted o.at)) (in_buffer s noted))
 
@@ -203,17 +213,17 @@ module _ (s : Settings) (room : HasRoom s.limit) where
       ∙ filter-reverse (λ o. is_none (decided_as noted o.at)) (in_buffer s noted) ∙ rw (k, h)
   due-end sender refused lost given before noted h w false k =
       let e : Entry = record { item = End sender; refused = refused; lost = lost; answers = given } in
-      filter-none (open_due (e ∷ before) noted) (front noted) (not_due-false (e ∷ before) noted k (not_due-later e before (mark before) noted (omega (arith, mark-clock before)) w)) ∙ rw k
+      due-oversized (e ∷ before) noted k (not_due-later e before (mark before) noted (omega (arith, mark-clock before)) w) ∙ rw k
 
   -- right after an item, what is due is what the journal says
   pub due-item : (item : Item) (refused lost : Bool) (given : List (List Bool)) (before : Journal) (noted : Notes) → let e : Entry = record { item = item; refused = refused; lost = lost; answers = given } in
       have_ended before s.senders ≡ false → 0 < s.wait → NotDue before (mark before) noted →
-      filter (open_due (e ∷ before) (after_item s e before item noted)) (front (after_item s e before item noted)) ≡ due_at s e before item noted
+      let n = after_item s e before item noted in filter (open_due (e ∷ before) n) (front n) ≡ due_at s e before item n
   due-item (Span a) refused lost given before noted h k w =
       let e : Entry = record { item = Span a; refused = refused; lost = lost; answers = given } in
       let n = after_span s a.rec.span.ids e before noted in
-      filter-none (open_due (e ∷ before) n) (front n)
-      (not_due-false (e ∷ before) n (ended-span a refused lost given before s.senders ∙ h) (not_due-ids e before noted (mark before) a.rec.span.ids (omega (arith, mark-clock before)) k (not_due-later e before (mark before) noted (omega (arith, mark-clock before)) w)))
+      due-oversized (e ∷ before) n (ended-span a refused lost given before s.senders ∙ h)
+      (not_due-ids e before noted (mark before) a.rec.span.ids (omega (arith, mark-clock before)) k (not_due-later e before (mark before) noted (omega (arith, mark-clock before)) w))
   due-item (Tick m) refused lost given before noted h k w = due-tick m refused lost given before noted h
   due-item (End sender) refused lost given before noted h k w = let e : Entry = record { item = End sender; refused = refused; lost = lost; answers = given } in due-end sender refused lost given before noted h w (have_ended (e ∷ before) s.senders) refl
 
@@ -258,14 +268,14 @@ module _ (s : Settings) (room : HasRoom s.limit) where
 
   -- after k of the decisions, each by its answers, the others are due
   pub walk : (past : Journal) (noted : Notes) (k : ℕ) (os : List Opening) (answers : List (List Bool)) (earlier : List Decision) → Apart OtherPlace (front noted) →
-      are_each_answered s.policies past (take k os) answers ≡ true → filter (open_due past (now_with noted earlier)) (front noted) ≡ os →
+      are_each_answered s past (take k os) answers ≡ true → filter (open_due past (now_with noted earlier)) (front noted) ≡ os →
       filter (open_due past (now_with noted (reverse (take k (in_turn past os answers)) ++ earlier))) (front noted) ≡ drop k os
   walk past noted zero os answers earlier a h e = e
   walk past noted (suc k) [] answers earlier a h e = e
   walk past noted (suc k) (o ∷ os) [] earlier a h e = cc
   walk past noted (suc k) (o ∷ os) (g ∷ later) earlier a h e =
       let d = decision s past o g in
-      let next = walk past noted k os later (d ∷ earlier) a (and_parts (are_answered s.policies g (spans_since past o)) (are_each_answered s.policies past (take k os) later) h).1 (step-due past noted d earlier (front noted) os a e) in
+      let next = walk past noted k os later (d ∷ earlier) a (and_parts (are_answered (policies_for s (spans_since past o)) g (spans_since past o)) (are_each_answered s past (take k os) later) h).1 (step-due past noted d earlier (front noted) os a e) in
       let P = λ (ds : List Decision). filter (open_due past (now_with noted ds)) (front noted) ≡ drop k os in
       subst P (sym (onto d (take k (in_turn past os later)) earlier)) next
 
@@ -293,7 +303,7 @@ module _ (s : Settings) (room : HasRoom s.limit) where
   item_notes e before = after_item s e before e.item (notes s before)
 
   abbrev pub due_list : Entry → Journal → List Opening
-  due_list e before = due_at s e before e.item (notes s before)
+  due_list e before = due_at s e before e.item (item_notes e before)
 
   pub due-dealt : (e : Entry) (before : Journal) (k : ℕ) → have_ended before s.senders ≡ false → 0 < s.wait → Known before → IsAnsweredUpTo s (e ∷ before) k →
       filter (open_due (e ∷ before) (notes_dealt s (e ∷ before) k)) (front (item_notes e before)) ≡ drop k (due_list e before)
@@ -329,7 +339,7 @@ module _ (s : Settings) (room : HasRoom s.limit) where
       let m = item_notes e before in
       let os = due_list e before in
       let k = length os in
-      let left = due-dealt e before k h w g (ap (λ (ps : List Opening). are_each_answered s.policies (e ∷ before) ps e.answers) (taken-whole os) ∙ given.0, given.1) in
+      let left = due-dealt e before k h w g (ap (λ (ps : List Opening). are_each_answered s (e ∷ before) ps e.answers) (taken-whole os) ∙ given.0, given.1) in
       let none : drop k os ≡ [] = drop-length os in
       let all = all-dealt e before k none in
       let end : filter (open_due (e ∷ before) (notes s (e ∷ before))) (front m) ≡ [] = (let Q = λ (n : Notes). filter (open_due (e ∷ before) n) (front m) ≡ [] in subst Q all (left ∙ none)) in
@@ -379,26 +389,26 @@ module _ (s : Settings) (room : HasRoom s.limit) where
   -- ---- the shard's side of what is due
 
   -- an opening's episode is due in the shard where the opening is ripe
-  pub episode-due : (past : Journal) (noted : Notes) (fin : Bool) (m : ℕ) (o : Opening) → is_due_by fin m s.wait s.root_wait (episode past noted o) ≡ (is_none (decided_as noted o.at) && (fin || ripe past m o))
+  pub episode-due : (past : Journal) (noted : Notes) (fin : Bool) (m : ℕ) (o : Opening) → is_due_by fin m s.wait s.root_wait (episode s past noted o) ≡ due_by fin m past noted o
   episode-due past noted fin m o = by (decided_as noted o.at)
     where
-      by : (v : Option Verdict) → (is_none v && (fin || (nat_le (o.moment + s.wait) m || is_root_due m s.root_wait (root_left (first_root_since past o) v)))) ≡ (is_none v && (fin || ripe past m o))
+      by : (v : Option Verdict) → (is_none v && (fin || (nat_le (o.moment + s.wait) m || is_root_due m s.root_wait (root_left (first_root_since past o) v) || is_too_big s.maximum_size (spans_left (spans_since past o) v)))) ≡ (is_none v && (fin || (ripe past m o || is_oversized s past o)))
       by None = refl
       by (Some v) = refl
 
-  any-episodes : (past : Journal) (noted : Notes) (fin : Bool) (m : ℕ) (os : List Opening) → list_any (is_due_by fin m s.wait s.root_wait) (map (episode past noted) os) ≡ list_any (λ o. is_none (decided_as noted o.at) && (fin || ripe past m o)) os
+  any-episodes : (past : Journal) (noted : Notes) (fin : Bool) (m : ℕ) (os : List Opening) → list_any (is_due_by fin m s.wait s.root_wait) (map (episode s past noted) os) ≡ list_any (due_by fin m past noted) os
   any-episodes past noted fin m [] = refl
-  any-episodes past noted fin m (o ∷ os) = ap (λ b. b || list_any (is_due_by fin m s.wait s.root_wait) (map (episode past noted) os)) (episode-due past noted fin m o) ∙ ap (λ b. (is_none (decided_as noted o.at) && (fin || ripe past m o)) || b) (any-episodes past noted fin m os)
+  any-episodes past noted fin m (o ∷ os) = ap (λ b. b || list_any (is_due_by fin m s.wait s.root_wait) (map (episode s past noted) os)) (episode-due past noted fin m o) ∙ ap (λ b. due_by fin m past noted o || b) (any-episodes past noted fin m os)
 
-  find-episode : (past : Journal) (noted : Notes) (fin : Bool) (m : ℕ) (o : Opening) (os : List Opening) (b : Bool) → (is_none (decided_as noted o.at) && (fin || ripe past m o)) ≡ b →
-      find (is_due_by fin m s.wait s.root_wait) (map (episode past noted) os) ≡ option_map (episode past noted) (find (λ o. is_none (decided_as noted o.at) && (fin || ripe past m o)) os) →
-      find (is_due_by fin m s.wait s.root_wait) (map (episode past noted) (o ∷ os)) ≡ option_map (episode past noted) (find (λ o. is_none (decided_as noted o.at) && (fin || ripe past m o)) (o ∷ os))
-  find-episode past noted fin m o os true h ih = ap (λ b. cond b (Some (episode past noted o)) (find (is_due_by fin m s.wait s.root_wait) (map (episode past noted) os))) (episode-due past noted fin m o ∙ h) ∙ ap (λ b. option_map (episode past noted) (cond b (Some o) (find (λ o. is_none (decided_as noted o.at) && (fin || ripe past m o)) os))) (sym h)
-  find-episode past noted fin m o os false h ih = ap (λ b. cond b (Some (episode past noted o)) (find (is_due_by fin m s.wait s.root_wait) (map (episode past noted) os))) (episode-due past noted fin m o ∙ h) ∙ ih ∙ ap (λ b. option_map (episode past noted) (cond b (Some o) (find (λ o. is_none (decided_as noted o.at) && (fin || ripe past m o)) os))) (sym h)
+  find-episode : (past : Journal) (noted : Notes) (fin : Bool) (m : ℕ) (o : Opening) (os : List Opening) (b : Bool) → due_by fin m past noted o ≡ b →
+      find (is_due_by fin m s.wait s.root_wait) (map (episode s past noted) os) ≡ option_map (episode s past noted) (find (due_by fin m past noted) os) →
+      find (is_due_by fin m s.wait s.root_wait) (map (episode s past noted) (o ∷ os)) ≡ option_map (episode s past noted) (find (due_by fin m past noted) (o ∷ os))
+  find-episode past noted fin m o os true h ih = ap (λ b. cond b (Some (episode s past noted o)) (find (is_due_by fin m s.wait s.root_wait) (map (episode s past noted) os))) (episode-due past noted fin m o ∙ h) ∙ ap (λ b. option_map (episode s past noted) (cond b (Some o) (find (due_by fin m past noted) os))) (sym h)
+  find-episode past noted fin m o os false h ih = ap (λ b. cond b (Some (episode s past noted o)) (find (is_due_by fin m s.wait s.root_wait) (map (episode s past noted) os))) (episode-due past noted fin m o ∙ h) ∙ ih ∙ ap (λ b. option_map (episode s past noted) (cond b (Some o) (find (due_by fin m past noted) os))) (sym h)
 
-  pub find-episodes : (past : Journal) (noted : Notes) (fin : Bool) (m : ℕ) (os : List Opening) → find (is_due_by fin m s.wait s.root_wait) (map (episode past noted) os) ≡ option_map (episode past noted) (find (λ o. is_none (decided_as noted o.at) && (fin || ripe past m o)) os)
+  pub find-episodes : (past : Journal) (noted : Notes) (fin : Bool) (m : ℕ) (os : List Opening) → find (is_due_by fin m s.wait s.root_wait) (map (episode s past noted) os) ≡ option_map (episode s past noted) (find (due_by fin m past noted) os)
   find-episodes past noted fin m [] = refl
-  find-episodes past noted fin m (o ∷ os) = find-episode past noted fin m o os (is_none (decided_as noted o.at) && (fin || ripe past m o)) refl (find-episodes past noted fin m os)
+  find-episodes past noted fin m (o ∷ os) = find-episode past noted fin m o os (due_by fin m past noted o) refl (find-episodes past noted fin m os)
 
   abbrev pub DueIn : Standing → Episode → Bool
   DueIn st e = is_due_by (list_all (λ b. b) st.ends) st.mark s.wait s.root_wait e
@@ -417,9 +427,9 @@ module _ (s : Settings) (room : HasRoom s.limit) where
   nothing_left (x ∷ before) k st w h e given f =
       let past : Journal = x ∷ before in
       let n = notes_dealt s past k in
-      let g : find (DueIn (standing s past k)) (map (episode past n) (front n)) ≡ None = (let P = λ (z : Standing). find (DueIn z) z.episodes ≡ None in subst P e f) in
-      let g2 : find (is_due_by (have_ended past s.senders) (mark past) s.wait s.root_wait) (map (episode past n) (front n)) ≡ None = (let P = λ (b : Bool). find (is_due_by b (mark past) s.wait s.root_wait) (map (episode past n) (front n)) ≡ None in subst P (all_ended past s.senders) g) in
-      let g3 : find (open_due past n) (front n) ≡ None = none_mapped (episode past n) (find (open_due past n) (front n)) (sym (find-episodes past n (have_ended past s.senders) (mark past) (front n)) ∙ g2) in
+      let g : find (DueIn (standing s past k)) (map (episode s past n) (front n)) ≡ None = (let P = λ (z : Standing). find (DueIn z) z.episodes ≡ None in subst P e f) in
+      let g2 : find (is_due_by (have_ended past s.senders) (mark past) s.wait s.root_wait) (map (episode s past n) (front n)) ≡ None = (let P = λ (b : Bool). find (is_due_by b (mark past) s.wait s.root_wait) (map (episode s past n) (front n)) ≡ None in subst P (all_ended past s.senders) g) in
+      let g3 : find (open_due past n) (front n) ≡ None = none_mapped (episode s past n) (find (open_due past n) (front n)) (sym (find-episodes past n (have_ended past s.senders) (mark past) (front n)) ∙ g2) in
       sym (due-dealt x before k h w (known before w (stopped-before x before h) given.1) given) ∙ none-from_find (open_due past n) (front n) g3
 
   pub dealt-notes : (past : Journal) (k : ℕ) → drop k (due_now s past) ≡ [] → notes_dealt s past k ≡ notes s past

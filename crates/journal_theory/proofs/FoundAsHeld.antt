@@ -37,11 +37,11 @@ find_reversed t os h (Some o) e =
     let there : find q (reverse k.back ++ o ∷ []) ≡ Some o = find_past q (reverse k.back) (o ∷ []) (Each-reverse (λ (p : Opening). q p ≡ false) k.back none) ∙ last in
     ap (find q) turned ∙ find_front q (reverse (o ∷ k.back)) (reverse k.front) o (ap (find q) behind ∙ there)
 
-pub find_episode : (past : Journal) (noted : Notes) (t : TraceId) (os : List Opening) → find (λ (e : Episode). same_trace e.trace t) (map (episode past noted) os) ≡ option_map (episode past noted) (find (λ (o : Opening). same_trace o.trace t) os)
-find_episode past noted t [] = refl
-find_episode past noted t (o ∷ os) = (elim (same_trace o.trace t) as (λ b. cond b (Some (episode past noted o)) (find (λ (e : Episode). same_trace e.trace t) (map (episode past noted) os)) ≡ option_map (episode past noted) (cond b (Some o) (find (λ (o : Opening). same_trace o.trace t) os))) [
+pub find_episode : (s : Settings) (past : Journal) (noted : Notes) (t : TraceId) (os : List Opening) → find (λ (e : Episode). same_trace e.trace t) (map (episode s past noted) os) ≡ option_map (episode s past noted) (find (λ (o : Opening). same_trace o.trace t) os)
+find_episode s past noted t [] = refl
+find_episode s past noted t (o ∷ os) = (elim (same_trace o.trace t) as (λ b. cond b (Some (episode s past noted o)) (find (λ (e : Episode). same_trace e.trace t) (map (episode s past noted) os)) ≡ option_map (episode s past noted) (cond b (Some o) (find (λ (o : Opening). same_trace o.trace t) os))) [
   | true ↦ refl
-  | false ↦ find_episode past noted t os
+  | false ↦ find_episode s past noted t os
 ])
 
 -- ---- each decision was dealt with
@@ -61,9 +61,9 @@ pub all_dealt : (s : Settings) (past : Journal) (dealt : ℕ) → length (due_no
 unfolding notes
 all_dealt s [] dealt h = refl
 all_dealt s (e ∷ before) dealt h =
-    let noted = notes s before in
+    let noted = after_item s e before e.item (notes s before) in
     let n = length_turns s (e ∷ before) (due_at s e before e.item noted) e.answers in
-    ap (λ ds. after_decisions ds (after_item s e before e.item noted)) (take_whole dealt (decisions_at s e before noted) (omega (arith, n, h)))
+    ap (λ ds. after_decisions ds noted) (take_whole dealt (decisions_at s e before noted) (omega (arith, n, h)))
 
 -- ---- by what the buffer and the caches hold
 
@@ -137,12 +137,12 @@ by_episode s past dealt t room n r e =
     let noted = notes s past in
     let sound = sound_notes s room past in
     let w = remembering_notes s room past in
-    let at = λ (m : Notes). state_by (standing s past dealt) t (find (λ (x : Episode). same_trace x.trace t) (map (episode past m) (reverse (in_buffer s m)))) in
-    let here : at noted ≡ state_by (standing s past dealt) t (option_map (episode past noted) r)
-    = ap (state_by (standing s past dealt) t) (find_episode past noted t (reverse (in_buffer s noted)) ∙ ap (option_map (episode past noted)) (find_reversed t (in_buffer s noted) w.apart r e)) in
+    let at = λ (m : Notes). state_by (standing s past dealt) t (find (λ (x : Episode). same_trace x.trace t) (map (episode s past m) (reverse (in_buffer s m)))) in
+    let here : at noted ≡ state_by (standing s past dealt) t (option_map (episode s past noted) r)
+    = ap (state_by (standing s past dealt) t) (find_episode s past noted t (reverse (in_buffer s noted)) ∙ ap (option_map (episode s past noted)) (find_reversed t (in_buffer s noted) w.apart r e)) in
     state_is s past noted (length past) t sound w r e ∙ finish r ∙ sym here ∙ sym (ap at n)
   where
-    finish : (r : Option Opening) → (elim r [ None ↦ cached s past (notes s past) (length past) t (sound_notes s room past) (remembering_notes s room past) | Some o ↦ Some (decided_as (notes s past) o.at) ]) ≡ state_by (standing s past dealt) t (option_map (episode past (notes s past)) r)
+    finish : (r : Option Opening) → (elim r [ None ↦ cached s past (notes s past) (length past) t (sound_notes s room past) (remembering_notes s room past) | Some o ↦ Some (decided_as (notes s past) o.at) ]) ≡ state_by (standing s past dealt) t (option_map (episode s past (notes s past)) r)
     finish None = ap (λ (m : Notes). state_cached (take (cache_size s Sampled) (last_touched Sampled m.touches)) (take (cache_size s NotSampled) (last_touched NotSampled m.touches)) t) (sym n)
     finish (Some o) = refl
 

@@ -66,58 +66,58 @@ module _ (s : Settings) (m : ℕ) (lim : s.limit ≡ Some (suc m)) (past : Journ
   same_ends refused lost = ends-span s room a refused lost given past s.senders
 
   -- nothing but the clock changes
-  quiet : (refused lost : Bool) → map (episode (entry_of refused lost ∷ past) noted) front ≡ map (episode past noted) front → standing_by s (entry_of refused lost ∷ past) noted ≡ clocked
+  quiet : (refused lost : Bool) → map (episode s (entry_of refused lost ∷ past) noted) front ≡ map (episode s past noted) front → standing_by s (entry_of refused lost ∷ past) noted ≡ clocked
   quiet refused lost e = same_parts s noted _ _ _ _ _ _ (max a.moment (clock past)) (mark past) _ _ e refl refl (same_ends refused lost)
 
   refused_same : (lost : Bool) → standing_by s (entry_of true lost ∷ past) noted ≡ clocked
-  refused_same lost = quiet true lost (map_same (episode (entry_of true lost ∷ past) noted) (episode past noted) front
-      (Each-all (λ o. episode (entry_of true lost ∷ past) noted o ≡ episode past noted o) front
-      (λ o. episode_same (entry_of true lost) past noted o (joins_none a ids true past o i (and-no (same_trace o.trace ids.trace))))))
+  refused_same lost = quiet true lost (map_same (episode s (entry_of true lost ∷ past) noted) (episode s past noted) front
+      (Each-all (λ o. episode s (entry_of true lost ∷ past) noted o ≡ episode s past noted o) front
+      (λ o. episode_same s (entry_of true lost) past noted o (joins_none a ids true past o i (and-no (same_trace o.trace ids.trace))))))
     where
       and-no : (b : Bool) → (b && false) ≡ false
       and-no true = refl
       and-no false = refl
 
   -- where the buffer has no episode of the trace, no episode changes
-  others_same : (lost : Bool) (n : Notes) → n.decisions ≡ noted.decisions → (os : List Opening) → Each (λ (o : Opening). same_trace o.trace t ≡ false) os → map (episode (entry_of false lost ∷ past) n) os ≡ map (episode past noted) os
-  others_same lost n d os h = map_same (episode (entry_of false lost ∷ past) n) (episode past noted) os
-      (Each-weaker (λ (o : Opening). same_trace o.trace t ≡ false) (λ (o : Opening). episode (entry_of false lost ∷ past) n o ≡ episode past noted o) os
-      (λ o k. rw d (episode_same (entry_of false lost) past noted o (joins_none a ids false past o i (ap (λ b. b && true) k)))) h)
+  others_same : (lost : Bool) (n : Notes) → n.decisions ≡ noted.decisions → (os : List Opening) → Each (λ (o : Opening). same_trace o.trace t ≡ false) os → map (episode s (entry_of false lost ∷ past) n) os ≡ map (episode s past noted) os
+  others_same lost n d os h = map_same (episode s (entry_of false lost ∷ past) n) (episode s past noted) os
+      (Each-weaker (λ (o : Opening). same_trace o.trace t ≡ false) (λ (o : Opening). episode s (entry_of false lost ∷ past) n o ≡ episode s past noted o) os
+      (λ o k. rw d (episode_same s (entry_of false lost) past noted o (joins_none a ids false past o i (ap (λ b. b && true) k)))) h)
 
   -- the span goes to the undecided episode of its trace, which is the only one
   appended : (lost : Bool) (o : Opening) → decided_as noted o.at ≡ None → (os : List Opening) → Each (λ (x : Opening). x.at < length past) os → Pairs (λ older newer. same_trace older.trace newer.trace ≡ false) os →
-      find (λ (x : Opening). same_trace x.trace t) os ≡ Some o → map (episode (entry_of false lost ∷ past) noted) os ≡ append_first t (max a.moment (clock past)) a (map (episode past noted) os)
+      find (λ (x : Opening). same_trace x.trace t) os ≡ Some o → map (episode s (entry_of false lost ∷ past) noted) os ≡ append_first t (max a.moment (clock past)) a (map (episode s past noted) os)
   appended lost o d [] l h e = absurd (cc e)
   appended lost o d (x ∷ os) l h e = (elim (same_trace x.trace t) as (λ b. same_trace x.trace t ≡ b → cond b (Some x) (find (λ (x : Opening). same_trace x.trace t) os) ≡ Some o →
-      map (episode (entry_of false lost ∷ past) noted) (x ∷ os) ≡ cond b (with_span (max a.moment (clock past)) a (episode past noted x) ∷ map (episode past noted) os) (episode past noted x ∷ append_first t (max a.moment (clock past)) a (map (episode past noted) os))) [
+      map (episode s (entry_of false lost ∷ past) noted) (x ∷ os) ≡ cond b (with_span (max a.moment (clock past)) a (episode s past noted x) ∷ map (episode s past noted) os) (episode s past noted x ∷ append_first t (max a.moment (clock past)) a (map (episode s past noted) os))) [
         | true ↦ λ k e.
             let is : x ≡ o = cc e in
             let undecided : decided_as noted x.at ≡ None = ap (λ (z : Opening). decided_as noted z.at) is ∙ d in
             let own = joins_own a ids past x i (let b : x.at < length past = l.0 in omega (arith, b)) k in
-            let first : episode (entry_of false lost ∷ past) noted x ≡ with_span (max a.moment (clock past)) a (episode past noted x) = rw (undecided, own) refl in
+            let first : episode s (entry_of false lost ∷ past) noted x ≡ with_span (max a.moment (clock past)) a (episode s past noted x) = rw (undecided, own) refl in
             let rest = others_same lost noted refl os (Each-weaker (λ (y : Opening). same_trace x.trace y.trace ≡ false) (λ (y : Opening). same_trace y.trace t ≡ false) os
             (λ y f. same_trace-sym y.trace t ∙ ap (λ (z : TraceId). same_trace z y.trace) (sym (same_trace-is x.trace t k)) ∙ f) h.0) in
             cc (first, rest)
         | false ↦ λ k e.
-            let first = episode_same (entry_of false lost) past noted x (joins_none a ids false past x i (ap (λ b. b && true) k)) in
+            let first = episode_same s (entry_of false lost) past noted x (joins_none a ids false past x i (ap (λ b. b && true) k)) in
             let rest = appended lost o d os l.1 h.1 e in
             cc (first, rest)
       ]) refl e
 
   -- a span that is late for a decided episode of the buffer changes none
   late_same : (lost : Bool) (o : Opening) (v : Verdict) → decided_as noted o.at ≡ Some v → (os : List Opening) → Pairs (λ older newer. same_trace older.trace newer.trace ≡ false) os →
-      find (λ (x : Opening). same_trace x.trace t) os ≡ Some o → map (episode (entry_of false lost ∷ past) noted) os ≡ map (episode past noted) os
+      find (λ (x : Opening). same_trace x.trace t) os ≡ Some o → map (episode s (entry_of false lost ∷ past) noted) os ≡ map (episode s past noted) os
   late_same lost o v d [] h e = absurd (cc e)
   late_same lost o v d (x ∷ os) h e = (elim (same_trace x.trace t) as (λ b. same_trace x.trace t ≡ b → cond b (Some x) (find (λ (x : Opening). same_trace x.trace t) os) ≡ Some o →
-      map (episode (entry_of false lost ∷ past) noted) (x ∷ os) ≡ map (episode past noted) (x ∷ os)) [
+      map (episode s (entry_of false lost ∷ past) noted) (x ∷ os) ≡ map (episode s past noted) (x ∷ os)) [
         | true ↦ λ k e.
             let is : x ≡ o = cc e in
-            let first = episode_decided (entry_of false lost ∷ past) past noted x v (ap (λ (z : Opening). decided_as noted z.at) is ∙ d) in
+            let first = episode_decided s (entry_of false lost ∷ past) past noted x v (ap (λ (z : Opening). decided_as noted z.at) is ∙ d) in
             let rest = others_same lost noted refl os (Each-weaker (λ (y : Opening). same_trace x.trace y.trace ≡ false) (λ (y : Opening). same_trace y.trace t ≡ false) os
             (λ y f. same_trace-sym y.trace t ∙ ap (λ (z : TraceId). same_trace z y.trace) (sym (same_trace-is x.trace t k)) ∙ f) h.0) in
             cc (first, rest)
         | false ↦ λ k e.
-            let first = episode_same (entry_of false lost) past noted x (joins_none a ids false past x i (ap (λ b. b && true) k)) in
+            let first = episode_same s (entry_of false lost) past noted x (joins_none a ids false past x i (ap (λ b. b && true) k)) in
             let rest = late_same lost o v d os h.1 e in
             cc (first, rest)
       ]) refl e
@@ -184,7 +184,7 @@ module _ (s : Settings) (m : ℕ) (lim : s.limit ≡ Some (suc m)) (past : Journ
   leaving_is : leaving s.limit noted.openings ≡ slice_get noted.openings m
   leaving_is = ap (λ l. leaving l noted.openings) lim ∙ ap (slice_get noted.openings) (less-one m)
 
-  new_episode : (lost : Bool) (touches : List Touch) → episode (entry_of false lost ∷ past) (opened touches) new ≡ opening_episode t a (max a.moment (clock past))
+  new_episode : (lost : Bool) (touches : List Touch) → episode s (entry_of false lost ∷ past) (opened touches) new ≡ opening_episode t a (max a.moment (clock past)) s.maximum_size
   new_episode lost touches =
       let undecided : decided_as noted (length past) ≡ None = ap (option_map (λ (d : Decision). d.verdict)) (find_none (λ (d : Decision). d.opening.at == length past) noted.decisions
       (Each-weaker (λ (d : Decision). d.opening.at < length past) (λ (d : Decision). (d.opening.at == length past) ≡ false) noted.decisions (λ d h. ne_eqb d.opening.at (length past) (λ e. omega (arith, h, e))) sound.decided)) in
@@ -193,7 +193,7 @@ module _ (s : Settings) (m : ℕ) (lim : s.limit ≡ Some (suc m)) (past : Journ
 
   -- the episodes that stay, and the new one
   abbrev stay : List Episode
-  stay = map (episode past noted) (reverse kept)
+  stay = map (episode s past noted) (reverse kept)
 
   kept_other : Each (λ (x : Opening). same_trace x.trace t ≡ false) front → Each (λ (x : Opening). same_trace x.trace t ≡ false) (reverse kept)
   kept_other none = Each-reverse (λ (x : Opening). same_trace x.trace t ≡ false) kept
@@ -202,9 +202,9 @@ module _ (s : Settings) (m : ℕ) (lim : s.limit ≡ Some (suc m)) (past : Journ
       unreversed : Each (λ (x : Opening). same_trace x.trace t ≡ false) front → Each (λ (x : Opening). same_trace x.trace t ≡ false) (in_buffer s noted)
       unreversed h = rw (reverse-reverse (in_buffer s noted)) at (Each-reverse (λ (x : Opening). same_trace x.trace t ≡ false) front h)
 
-  episodes_next : (lost : Bool) (touches : List Touch) → Each (λ (x : Opening). same_trace x.trace t ≡ false) front → episodes s (entry_of false lost ∷ past) (opened touches) ≡ stay ++ opening_episode t a (max a.moment (clock past)) ∷ []
+  episodes_next : (lost : Bool) (touches : List Touch) → Each (λ (x : Opening). same_trace x.trace t ≡ false) front → episodes s (entry_of false lost ∷ past) (opened touches) ≡ stay ++ opening_episode t a (max a.moment (clock past)) s.maximum_size ∷ []
   episodes_next lost touches none =
-      let g = episode (entry_of false lost ∷ past) (opened touches) in
+      let g = episode s (entry_of false lost ∷ past) (opened touches) in
       ap (λ (os : List Opening). map g (reverse os)) (buffer_next touches)
       ∙ ap (map g) (reverse-append (new ∷ []) kept)
       ∙ map-append g (reverse kept) (new ∷ [])
@@ -213,13 +213,13 @@ module _ (s : Settings) (m : ℕ) (lim : s.limit ≡ Some (suc m)) (past : Journ
 
   -- what the buffer held, by what leaves it
   held_none : slice_get noted.openings m ≡ None → episodes s past noted ≡ stay
-  held_none e = ap (λ (os : List Opening). map (episode past noted) (reverse os)) (buffer_is ∙ ap (λ (r : Option Opening). kept ++ option_to_list r) e ∙ append-nil kept)
+  held_none e = ap (λ (os : List Opening). map (episode s past noted) (reverse os)) (buffer_is ∙ ap (λ (r : Option Opening). kept ++ option_to_list r) e ∙ append-nil kept)
 
-  held_some : (p : Opening) → slice_get noted.openings m ≡ Some p → episodes s past noted ≡ episode past noted p ∷ stay
-  held_some p e = ap (λ (os : List Opening). map (episode past noted) (reverse os)) (buffer_is ∙ ap (λ (r : Option Opening). kept ++ option_to_list r) e) ∙ ap (map (episode past noted)) (reverse-append kept (p ∷ []))
+  held_some : (p : Opening) → slice_get noted.openings m ≡ Some p → episodes s past noted ≡ episode s past noted p ∷ stay
+  held_some p e = ap (λ (os : List Opening). map (episode s past noted) (reverse os)) (buffer_is ∙ ap (λ (r : Option Opening). kept ++ option_to_list r) e) ∙ ap (map (episode s past noted)) (reverse-append kept (p ∷ []))
 
   stay_length : length stay ≡ length kept
-  stay_length = length-map (reverse kept) (episode past noted) ∙ length-reverse kept
+  stay_length = length-map (reverse kept) (episode s past noted) ∙ length-reverse kept
 
   opens_episodes : (x : Episode) (r : Option Opening) → slice_get noted.openings m ≡ r → (after_opening (buffer (suc m) held) x).episodes ≡ stay ++ x ∷ []
   opens_episodes x None e =
@@ -229,11 +229,11 @@ module _ (s : Settings) (m : ℕ) (lim : s.limit ≡ Some (suc m)) (past : Journ
       ∙ ap (λ b. cond b (drop 1 stay) stay ++ x ∷ []) (ne_eqb (length stay) (suc m) (λ q. omega (arith, fewer, q)))
   opens_episodes x (Some p) e =
       let es = held_some p e in
-      let full : length (episode past noted p ∷ stay) ≡ suc m = ap suc (stay_length ∙ taken_full m noted.openings p e) in
+      let full : length (episode s past noted p ∷ stay) ≡ suc m = ap suc (stay_length ∙ taken_full m noted.openings p e) in
       ap (λ (es : List Episode). cond (length es == suc m) (drop 1 es) es ++ x ∷ []) es
-      ∙ ap (λ b. cond b stay (episode past noted p ∷ stay) ++ x ∷ []) (eq-eqb (length (episode past noted p ∷ stay)) (suc m) full)
+      ∙ ap (λ b. cond b stay (episode s past noted p ∷ stay) ++ x ∷ []) (eq-eqb (length (episode s past noted p ∷ stay)) (suc m) full)
 
-  leaves_is : (r : Option Opening) → slice_get noted.openings m ≡ r → leaves (buffer (suc m) held) ≡ option_map (λ p. evicted_as (episode past noted p)) r
+  leaves_is : (r : Option Opening) → slice_get noted.openings m ≡ r → leaves (buffer (suc m) held) ≡ option_map (λ p. evicted_as (episode s past noted p)) r
   leaves_is None e =
       let es = held_none e in
       let fewer : length stay < suc m = (let k = taken_short m noted.openings e in let l = short m noted.openings e in let n = stay_length in omega (arith, k, l, n)) in
@@ -241,13 +241,13 @@ module _ (s : Settings) (m : ℕ) (lim : s.limit ≡ Some (suc m)) (past : Journ
       ∙ ap (λ b. cond b (option_map evicted_as (slice_get stay 0)) None) (ne_eqb (length stay) (suc m) (λ q. omega (arith, fewer, q)))
   leaves_is (Some p) e =
       let es = held_some p e in
-      let full : length (episode past noted p ∷ stay) ≡ suc m = ap suc (stay_length ∙ taken_full m noted.openings p e) in
+      let full : length (episode s past noted p ∷ stay) ≡ suc m = ap suc (stay_length ∙ taken_full m noted.openings p e) in
       ap (λ (es : List Episode). cond (length es == suc m) (option_map evicted_as (slice_get es 0)) None) es
-      ∙ ap (λ b. cond b (Some (evicted_as (episode past noted p))) None) (eq-eqb (length (episode past noted p ∷ stay)) (suc m) full)
+      ∙ ap (λ b. cond b (Some (evicted_as (episode s past noted p))) None) (eq-eqb (length (episode s past noted p ∷ stay)) (suc m) full)
 
   -- what leaves the buffer is the oldest opening's episode, if the buffer is full
-  pub leaves_held : leaves (buffer (suc m) held) ≡ option_map (evicted_of past noted) (leaving s.limit noted.openings)
-  leaves_held = leaves_is (slice_get noted.openings m) refl ∙ ap (option_map (evicted_of past noted)) (sym leaving_is)
+  pub leaves_held : leaves (buffer (suc m) held) ≡ option_map (evicted_of s past noted) (leaving s.limit noted.openings)
+  leaves_held = leaves_is (slice_get noted.openings m) refl ∙ ap (option_map (evicted_of s past noted)) (sym leaving_is)
 
   -- the caches after the touches that an opening made
   abbrev caches_of : Notes → CacheLists
@@ -286,7 +286,7 @@ module _ (s : Settings) (m : ℕ) (lim : s.limit ≡ Some (suc m)) (past : Journ
   opens_caches_decided false p e (Some v) d = put_holds p v e
 
   opens_caches : (lost : Bool) (r : Option Opening) → slice_get noted.openings m ≡ r →
-      caches_of (opened (cond lost [] (touch_of_leaving noted r) ++ noted.touches)) ≡ after_leaving lost (option_map (λ p. evicted_as (episode past noted p)) r) (caches s held)
+      caches_of (opened (cond lost [] (touch_of_leaving noted r) ++ noted.touches)) ≡ after_leaving lost (option_map (λ p. evicted_as (episode s past noted p)) r) (caches s held)
   opens_caches true None e = refl
   opens_caches false None e = refl
   opens_caches lost (Some p) e = opens_caches_decided lost p e (decided_as noted p.at) refl
@@ -295,7 +295,7 @@ module _ (s : Settings) (m : ℕ) (lim : s.limit ≡ Some (suc m)) (past : Journ
   opens_holds lost none =
       let r = slice_get noted.openings m in
       let touches = cond lost [] (touch_of_leaving noted r) ++ noted.touches in
-      let x = opening_episode t a (max a.moment (clock past)) in
+      let x = opening_episode t a (max a.moment (clock past)) s.maximum_size in
       let c = opens_caches lost r refl ∙ ap (λ e. after_leaving lost e (caches s held)) (sym (leaves_is r refl)) in
       ap (λ (l : Option Opening). standing_by s (entry_of false lost ∷ past) (opened (cond lost [] (touch_of_leaving noted l) ++ noted.touches))) leaving_is
       ∙ same_parts s noted _ _ _ _ _ _ (max a.moment (clock past)) (mark past) _ _
@@ -325,7 +325,7 @@ module _ (s : Settings) (m : ℕ) (lim : s.limit ≡ Some (suc m)) (past : Journ
       opens_holds lost none ∙ ap (after_unknown s (suc m) lost t a clocked) (sym (asked_none (asked t (caches s held)) (sym g)))
 
   kept_holds : (lost : Bool) (r : Option Opening) → find (λ (x : Opening). same_trace x.trace t) (in_buffer s noted) ≡ r →
-      standing_by s (entry_of false lost ∷ past) (after_of lost (finding s noted t)) ≡ after_episode s (suc m) lost t a clocked (option_map (episode past noted) r)
+      standing_by s (entry_of false lost ∷ past) (after_of lost (finding s noted t)) ≡ after_episode s (suc m) lost t a clocked (option_map (episode s past noted) r)
   kept_holds lost None e = unknown_holds lost e (finding s noted t) refl (asked_state (found_past s past noted (length past) t sound w (latest_episode noted t) refl e))
   kept_holds lost (Some o) e =
       let own = λ (x : Opening). same_trace x.trace t in
@@ -336,8 +336,8 @@ module _ (s : Settings) (m : ℕ) (lim : s.limit ≡ Some (suc m)) (past : Journ
       known_holds lost o (find_reversed t (in_buffer s noted) w.apart (Some o) e) l inside (decided_as noted o.at) refl (finding s noted t) refl
       (found_here s past noted (length past) t sound w o l inside (decided_as noted o.at) refl)
 
-  episode_held : episode_of t clocked.episodes ≡ option_map (episode past noted) (find (λ (x : Opening). same_trace x.trace t) (in_buffer s noted))
-  episode_held = find_episode past noted t front ∙ ap (option_map (episode past noted)) (find_reversed t (in_buffer s noted) w.apart (find (λ (x : Opening). same_trace x.trace t) (in_buffer s noted)) refl)
+  episode_held : episode_of t clocked.episodes ≡ option_map (episode s past noted) (find (λ (x : Opening). same_trace x.trace t) (in_buffer s noted))
+  episode_held = find_episode s past noted t front ∙ ap (option_map (episode s past noted)) (find_reversed t (in_buffer s noted) w.apart (find (λ (x : Opening). same_trace x.trace t) (in_buffer s noted)) refl)
 
   span_holds : (refused lost : Bool) → standing_by s (entry_of refused lost ∷ past) (cond refused noted (after_of lost (finding s noted t))) ≡ after_span_of s (suc m) refused lost t a clocked
   span_holds true lost = refused_same lost
@@ -358,9 +358,9 @@ module _ (s : Settings) (m : ℕ) (lim : s.limit ≡ Some (suc m)) (past : Journ
   zero-max n = omega arith
 
   no_spans : (later : Entry) → ((o : Opening) → item_spans o (length past) later.refused later.item ≡ []) → episodes s (later ∷ past) (notes s past) ≡ episodes s past (notes s past)
-  no_spans later f = map_same (episode (later ∷ past) (notes s past)) (episode past (notes s past)) (reverse (in_buffer s (notes s past)))
-      (Each-all (λ o. episode (later ∷ past) (notes s past) o ≡ episode past (notes s past) o) (reverse (in_buffer s (notes s past)))
-      (λ o. episode_same later past (notes s past) o (f o)))
+  no_spans later f = map_same (episode s (later ∷ past) (notes s past)) (episode s past (notes s past)) (reverse (in_buffer s (notes s past)))
+      (Each-all (λ o. episode s (later ∷ past) (notes s past) o ≡ episode s past (notes s past) o) (reverse (in_buffer s (notes s past)))
+      (λ o. episode_same s later past (notes s past) o (f o)))
 
   item_holds : (item : Item) (refused lost : Bool) (given : List (List Bool)) → has_ids item ≡ true → let e : Entry = record { item = item; refused = refused; lost = lost; answers = given } in
       standing_by s (e ∷ past) (after_item s e past item (notes s past)) ≡ after_entry s (suc m) refused lost item (standing_by s past (notes s past))

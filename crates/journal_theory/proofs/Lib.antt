@@ -14,3 +14,4 @@ pub mod Counted
 mod Rows
 pub mod Deciding
 pub mod RootWait
+mod TooBig

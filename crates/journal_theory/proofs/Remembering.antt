@@ -322,16 +322,12 @@ turns_each s P J [] answers h = tt
 turns_each s P J (o ∷ os) [] h = tt
 turns_each s P J (o ∷ os) (a ∷ answers) h = (h.0, turns_each s P J os answers h.1)
 
-item_keeps_tick : (s : Settings) (e : Entry) (J : Journal) (item : Item) (noted : Notes) → Each (λ (o : Opening). is_in_buffer s (after_item s e J item noted) o.at ≡ true) (due_at s e J item noted)
-item_keeps_tick s e J (Span a) noted = tt
-item_keeps_tick s e J (Tick m) noted = Each-due (λ (o : Opening). is_in_buffer s noted o.at ≡ true) s e J (Tick m) noted (buffered_each s noted)
-item_keeps_tick s e J (End i) noted = Each-due (λ (o : Opening). is_in_buffer s noted o.at ≡ true) s e J (End i) noted (buffered_each s noted)
-
 pub remembering_notes : (s : Settings) → HasRoom s.limit → (J : Journal) → Remembering s (notes s J) (length J)
 unfolding notes
 remembering_notes s room [] = remembering_none s
 remembering_notes s room (e ∷ J) =
-    let noted = notes s J in
-    remembering_decided s (after_item s e J e.item noted) (suc (length J)) (decisions_at s e J noted)
-    (turns_each s (λ (o : Opening). is_in_buffer s (after_item s e J e.item noted) o.at ≡ true) (e ∷ J) (due_at s e J e.item noted) e.answers (item_keeps_tick s e J e.item noted))
-    (remembering_item s room J e.item e noted (sound_notes s room J) (remembering_notes s room J))
+    let noted = after_item s e J e.item (notes s J) in
+    let IsBuffered = λ (o : Opening). is_in_buffer s noted o.at ≡ true in
+    remembering_decided s noted (suc (length J)) (decisions_at s e J noted)
+    (turns_each s IsBuffered (e ∷ J) (due_at s e J e.item noted) e.answers (Each-due IsBuffered s e J e.item noted (buffered_each s noted)))
+    (remembering_item s room J e.item e (notes s J) (sound_notes s room J) (remembering_notes s room J))

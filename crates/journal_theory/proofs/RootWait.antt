@@ -6,7 +6,7 @@ use Rattle.std.specs.Option.{IfSome}
 use Rattle.std.proofs.lemmas.Bool.Decides.{nat_tests}
 use Rattle.otlp_types.specs.declared.arrival.Arrival.{Arrival}
 use Rattle.trace_buffer.specs.Buffer.{are_of_root, is_root_due}
-use Rattle.journal_theory.specs.Journal.{Journal, Entry, Opening, clock, item_spans, is_root, is_root_past}
+use Rattle.journal_theory.specs.Journal.{Journal, Entry, Opening, clock, item_spans, is_root, is_root_past, is_oversized}
 use Rattle.journal_theory.specs.Standing.{root_among, first_root_since}
 use Rattle.journal_theory.proofs.Notes.{none_own}
 use Rattle.journal_theory.specs.RootWait.{RootWaitOff, DueByFirstRoot, NoneDueAfterMark}
@@ -20,7 +20,7 @@ and-none true = refl
 and-none false = refl
 
 pub root_wait_off : RootWaitOff
-root_wait_off s past o h = ap (λ r. nat_le (o.moment + s.wait) (clock past) || (nat_lt 0 r && is_root_past r (clock past) past o)) h ∙ or-none (nat_le (o.moment + s.wait) (clock past))
+root_wait_off s past o h = ap (λ r. nat_le (o.moment + s.wait) (clock past) || (nat_lt 0 r && is_root_past r (clock past) past o) || is_oversized s past o) h ∙ ap (λ b. b || is_oversized s past o) (or-none (nat_le (o.moment + s.wait) (clock past)))
 
 -- ---- the first root among spans
 

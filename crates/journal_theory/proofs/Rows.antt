@@ -1,18 +1,22 @@
 -- Worked rows of a shard, by computation: what each journal releases, counts and leaves.
 -- No contract rests on it: it shows the definitions on worked cases.
 use Rattle.std.specs.Prelude.{ℕ, Bool, true, false, pos, List, [], ◌∷◌, ◌++◌, map, reverse, length, take, Option, Some, None, ◌≡◌, refl}
+use Rattle.std.specs.Fmt.{digits}
+use Rattle.hex.specs.Hex.{encode_with}
+use Rattle.json.specs.Print.{print_from, escape_byte}
 use Rattle.otlp_types.proofs.Samples.{plain_record}
 use Rattle.policy_tree.specs.Tree.{Policies, no_more, one_more, leaf, and_policy, rate_limiting}
 use Rattle.policy_tree.specs.declared.policy.Leaf.TheVariants.{AlwaysSample, StatusCode, Latency}
 use Rattle.journal_theory.specs.Journal.{Entry, Settings, Journal, Opening, notes, due_now, are_each_answered}
 use Rattle.journal_theory.specs.Fate.{Fate, waits, is_released, is_counted, effect, output, under, fate}
 use Rattle.trace_buffer.specs.Buffer.{Episode}
+use Rattle.span_size.specs.Size.{size_of}
 use Rattle.journal_theory.specs.Standing.{Standing, standing}
 use Rattle.otlp_types.specs.declared.arrival.Arrival.{Arrival}
 use Rattle.otlp_types.specs.declared.arrival.Item.{Item}
 use Rattle.otlp_types.specs.declared.arrival.Item.TheVariants.{Span, Tick, End}
 use Rattle.otlp_types.specs.declared.span.Ids.{Ids}
-use Rattle.span_ids.specs.declared.outcome.Verdict.TheVariants.{Sampled}
+use Rattle.span_ids.specs.declared.outcome.Verdict.TheVariants.{Sampled, NotSampled}
 use Rattle.span_ids.specs.declared.outcome.Reason.TheVariants.{NoMemory, Evicted, LateNotSampled, NotSampled as DecidedAgainst}
 
 abbrev ids : (t n : ℕ) → Ids
@@ -52,7 +56,7 @@ always = one_more (leaf AlwaysSample) no_more
 
 -- two senders, a wait of ten seconds
 abbrev settings : Policies → (limit : Option ℕ) → (sampled non_sampled : ℕ) → Settings
-settings policies limit sampled non_sampled = record { policies = policies; wait = 10000; root_wait = 0; limit = limit; sampled_size = sampled; non_sampled_size = non_sampled; senders = 2 }
+settings policies limit sampled non_sampled = record { policies = policies; wait = 10000; root_wait = 0; maximum_size = 0; limit = limit; sampled_size = sampled; non_sampled_size = non_sampled; senders = 2 }
 
 -- no limit, and no caches
 abbrev plain : Settings
@@ -237,7 +241,7 @@ unfolding notes
 answered_well answers =
     let past = two_twos [] in
     let s = settings few None 0 0 in
-    are_each_answered few (reverse past) (due_now s (reverse past)) answers
+    are_each_answered s (reverse past) (due_now s (reverse past)) answers
 
 pub as_many_as_asked : map answered_well (((true ∷ []) ∷ (false ∷ []) ∷ []) ∷ ((true ∷ []) ∷ []) ∷ ((true ∷ []) ∷ [] ∷ []) ∷ ((true ∷ []) ∷ (false ∷ true ∷ []) ∷ []) ∷ []) ≡ true ∷ false ∷ false ∷ false ∷ []
 unfolding notes
@@ -331,3 +335,52 @@ root_evicts = child_error 1 0 0 ∷ error 2 1 0 ∷ tick 2000 ∷ error 3 2 2000
 pub root_wait_of_two_traces : (released (with_roots (Some 2)) root_evicts ≡ 1 ∷ 2 ∷ []) × (counted (with_roots (Some 2)) root_evicts ≡ 0 ∷ 1 ∷ 0 ∷ 0 ∷ [])
 unfolding notes
 root_wait_of_two_traces = (refl, refl)
+
+-- ---- traces that are too big
+
+-- such a span is {"spanId":"00","traceId":"01"}, and an error has a status beside them: "status":{"code":2}
+pub sizes : size_of (arrival 1 0 0 0 0 0 ∷ []) ∷ size_of (arrival 1 1 0 2 0 0 ∷ []) ∷ size_of (arrival 1 0 0 0 0 0 ∷ arrival 1 1 0 2 0 0 ∷ []) ∷ [] ≡ 30 ∷ 50 ∷ 80 ∷ []
+unfolding size_of print_from escape_byte encode_with digits
+sizes = refl
+
+-- all is sampled, but for traces of more bytes than these
+abbrev up_to : (maximum : ℕ) → Settings
+up_to maximum = record (settings always None 0 0) { maximum_size = maximum }
+
+abbrev two_sizes : List Entry
+two_sizes = span 1 0 0 ∷ error 1 1 0 ∷ []
+
+-- too big by its second span; at the bound it waits for its tick, and with no maximum it does too
+pub too_big_by_second : map (λ maximum. counted (up_to maximum) two_sizes) (79 ∷ 80 ∷ 0 ∷ []) ≡ (0 ∷ 0 ∷ 2 ∷ 0 ∷ []) ∷ (0 ∷ 0 ∷ 0 ∷ 0 ∷ []) ∷ (0 ∷ 0 ∷ 0 ∷ 0 ∷ []) ∷ []
+unfolding notes size_of print_from escape_byte encode_with digits
+too_big_by_second = refl
+
+pub sampled_at_the_bound : map (λ maximum. released (up_to maximum) (two_sizes ++ tick 10000 ∷ [])) (79 ∷ 80 ∷ 0 ∷ []) ≡ [] ∷ (0 ∷ 1 ∷ []) ∷ (0 ∷ 1 ∷ []) ∷ []
+unfolding notes size_of print_from escape_byte encode_with digits
+sampled_at_the_bound = refl
+
+-- too big by its first span alone: a later one meets that decision, and another trace goes its own way
+pub too_big_at_once : (counted (up_to 49) (error 1 0 0 ∷ []) ≡ 0 ∷ 0 ∷ 1 ∷ 0 ∷ []) × (counted (up_to 49) (error 1 0 0 ∷ span 1 1 0 ∷ span 2 2 0 ∷ tick 10000 ∷ []) ≡ 0 ∷ 0 ∷ 1 ∷ 1 ∷ [])
+    × (released (up_to 49) (error 1 0 0 ∷ span 1 1 0 ∷ span 2 2 0 ∷ tick 10000 ∷ []) ≡ 2 ∷ [])
+unfolding notes size_of print_from escape_byte encode_with digits
+too_big_at_once = (refl, refl, refl)
+
+-- a refused span adds no bytes
+pub refused_adds_none : counted (up_to 79) (span 1 0 0 ∷ marked_error 1 1 0 true false ∷ []) ≡ 1 ∷ 0 ∷ 0 ∷ 0 ∷ []
+unfolding notes size_of print_from escape_byte encode_with digits
+refused_adds_none = refl
+
+-- its cache remembers it once it left the buffer
+pub too_big_remembered : (counted (record (settings always (Some 1) 0 1) { maximum_size = 49 }) (error 1 0 0 ∷ span 2 1 0 ∷ span 1 2 0 ∷ []) ≡ 0 ∷ 0 ∷ 1 ∷ 1 ∷ [])
+    × (counted (record (settings always (Some 1) 0 0) { maximum_size = 49 }) (error 1 0 0 ∷ span 2 1 0 ∷ span 1 2 0 ∷ []) ≡ 0 ∷ 1 ∷ 1 ∷ 0 ∷ [])
+unfolding notes size_of print_from escape_byte encode_with digits
+too_big_remembered = (refl, refl)
+
+-- what a shard holds of a trace that is too big, and of one that waits
+abbrev pub big_and_small : Standing
+unfolding notes size_of print_from escape_byte encode_with digits
+big_and_small = standing (up_to 49) (decided (up_to 49) (reverse (span 2 1 0 ∷ error 1 0 0 ∷ []))) 1
+
+pub held_of_too_big : (map (λ (e : Episode). e.verdict) big_and_small.episodes ≡ None ∷ Some NotSampled ∷ []) × (map (λ (e : Episode). e.maximum) big_and_small.episodes ≡ 49 ∷ 49 ∷ [])
+unfolding notes size_of print_from escape_byte encode_with digits
+held_of_too_big = (refl, refl)

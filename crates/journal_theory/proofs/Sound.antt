@@ -3,7 +3,7 @@
 use Rattle.std.proofs.Common.{◌≡◌, ℕ, zero, suc, ◌<◌, Bool, true, false, cond, ◌==◌, List, [], ◌∷◌, ◌++◌, length, filter, reverse, take, find, slice_get, Option, Some, None, is_none, option_map, option_to_list, refl, ap, sym, ◌∙◌, arith}
 use Rattle.std.proofs.lemmas.List.{append-nil}
 use Rattle.std.proofs.Math.Numerals.{sub-one}
-use Rattle.journal_theory.specs.Journal.{Settings, Journal, clock, Opening, Decision, Notes, last_of, in_buffer, leaving, undecided, finding, due_at, is_due, has_finished, decisions_in_turn, after_finding, after_span, after_item, after_decisions, no_notes, decisions_at, notes, notes_dealt, Entry}
+use Rattle.journal_theory.specs.Journal.{Settings, Journal, clock, Opening, Decision, Notes, last_of, in_buffer, leaving, undecided, finding, due_at, is_due, is_oversized, oversized, has_finished, decisions_in_turn, after_finding, after_span, after_item, after_decisions, no_notes, decisions_at, notes, notes_dealt, Entry}
 use Rattle.otlp_types.specs.declared.span.Ids.{Ids}
 use Rattle.span_ids.specs.declared.ids.TraceId.{TraceId}
 use Rattle.otlp_types.specs.declared.arrival.Item.{Item}
@@ -104,27 +104,28 @@ pub Each-undecided : (P : Opening → Type 0) (s : Settings) (noted : Notes) →
 Each-undecided P s noted h = Each-reverse P (filter (is_open noted) (in_buffer s noted)) (Each-filter P (is_open noted) (in_buffer s noted) h)
 
 pub Each-due : (P : Opening → Type 0) (s : Settings) (e : Entry) (J : Journal) (item : Item) (noted : Notes) → Each P (in_buffer s noted) → Each P (due_at s e J item noted)
-Each-due P s e J (Span a) noted h = tt
+Each-due P s e J (Span a) noted h = Each-filter P (is_oversized s (e ∷ J)) (undecided s noted) (Each-undecided P s noted h)
 Each-due P s e J (Tick m) noted h = Each-filter P (is_due s (e ∷ J)) (undecided s noted) (Each-undecided P s noted h)
 Each-due P s e J (End i) noted h = go (has_finished s e J) (Each-undecided P s noted h)
   where
-    go : (b : Bool) → Each P (undecided s noted) → Each P (cond b (undecided s noted) [])
+    go : (b : Bool) → Each P (undecided s noted) → Each P (cond b (undecided s noted) (oversized s (e ∷ J) noted))
     go true k = k
-    go false k = tt
+    go false k = Each-filter P (is_oversized s (e ∷ J)) (undecided s noted) k
 
 pub Each-buffer : (P : Opening → Type 0) (s : Settings) (noted : Notes) → Each P noted.openings → Each P (in_buffer s noted)
 Each-buffer P s noted h = let f = buffer_front s.limit noted.openings in Each-left P (in_buffer s noted) f.0 (rw f.1 at h)
 
-pub decisions_below : (s : Settings) (e : Entry) (J : Journal) (noted : Notes) → Sound s J noted → Each (λ (d : Decision). d.opening.at < length (e ∷ J)) (decisions_at s e J noted)
+pub decisions_below : (s : Settings) (e : Entry) (J : Journal) (noted : Notes) → Sound s (e ∷ J) noted → Each (λ (d : Decision). d.opening.at < length (e ∷ J)) (decisions_at s e J noted)
 decisions_below s e J noted h = in_turn_below s (e ∷ J) (suc (length J)) (due_at s e J e.item noted) e.answers
-    (Each-due (λ (o : Opening). o.at < suc (length J)) s e J e.item noted (Each-buffer (λ (o : Opening). o.at < suc (length J)) s noted
-    (Each-weaker (λ (o : Opening). o.at < length J) (λ (o : Opening). o.at < suc (length J)) noted.openings (λ o l. omega arith) h.below)))
+    (Each-due (λ (o : Opening). o.at < suc (length J)) s e J e.item noted (Each-buffer (λ (o : Opening). o.at < suc (length J)) s noted h.below))
 
 pub sound_notes : (s : Settings) → HasRoom s.limit → (J : Journal) → Sound s J (notes s J)
 unfolding notes
 sound_notes s room [] = sound_none s
-sound_notes s room (e ∷ J) = let h = sound_notes s room J in
-    sound_decided s (e ∷ J) (after_item s e J e.item (notes s J)) (decisions_at s e J (notes s J)) (decisions_below s e J (notes s J) h) (sound_item s room J e.item e (notes s J) h)
+sound_notes s room (e ∷ J) =
+    let noted = after_item s e J e.item (notes s J) in
+    let h = sound_item s room J e.item e (notes s J) (sound_notes s room J) in
+    sound_decided s (e ∷ J) noted (decisions_at s e J noted) (decisions_below s e J noted h) h
 
 Each-take : {X : Type 0} (P : X → Type 0) (n : ℕ) (xs : List X) → Each P xs → Each P (take n xs)
 Each-take P zero xs h = tt
@@ -133,5 +134,7 @@ Each-take P (suc n) (x ∷ xs) h = (h.0, Each-take P n xs h.1)
 
 pub sound_dealt : (s : Settings) → HasRoom s.limit → (J : Journal) (dealt : ℕ) → Sound s J (notes_dealt s J dealt)
 sound_dealt s room [] dealt = sound_none s
-sound_dealt s room (e ∷ J) dealt = let h = sound_notes s room J in
-    sound_decided s (e ∷ J) (after_item s e J e.item (notes s J)) (take dealt (decisions_at s e J (notes s J))) (Each-take (λ (d : Decision). d.opening.at < length (e ∷ J)) dealt (decisions_at s e J (notes s J)) (decisions_below s e J (notes s J) h)) (sound_item s room J e.item e (notes s J) h)
+sound_dealt s room (e ∷ J) dealt =
+    let noted = after_item s e J e.item (notes s J) in
+    let h = sound_item s room J e.item e (notes s J) (sound_notes s room J) in
+    sound_decided s (e ∷ J) noted (take dealt (decisions_at s e J noted)) (Each-take (λ (d : Decision). d.opening.at < length (e ∷ J)) dealt (decisions_at s e J noted) (decisions_below s e J noted h)) h

@@ -54,14 +54,14 @@ map_same f g [] h = refl
 map_same f g (o ∷ os) h = rw (h.0) (ap (λ (es : List Episode). g o ∷ es) (map_same f g os h.1))
 
 -- an entry that joins no episode changes none
-pub episode_same : (e : Entry) (past : Journal) (noted : Notes) (o : Opening) → item_spans o (length past) e.refused e.item ≡ [] → episode (e ∷ past) noted o ≡ episode past noted o
-episode_same e past noted o none =
-    ap (λ (xs : List Arrival). record { trace = o.trace; moment = o.moment; first_root = root_left (root_among (first_root_since past o) (clock (e ∷ past)) xs) (decided_as noted o.at); spans = spans_left (spans_since past o ++ xs) (decided_as noted o.at); verdict = decided_as noted o.at }) none
-    ∙ ap (λ (spans : List Arrival). record { trace = o.trace; moment = o.moment; first_root = root_left (first_root_since past o) (decided_as noted o.at); spans = spans_left spans (decided_as noted o.at); verdict = decided_as noted o.at }) (append-nil (spans_since past o))
+pub episode_same : (s : Settings) (e : Entry) (past : Journal) (noted : Notes) (o : Opening) → item_spans o (length past) e.refused e.item ≡ [] → episode s (e ∷ past) noted o ≡ episode s past noted o
+episode_same s e past noted o none =
+    ap (λ (xs : List Arrival). record { trace = o.trace; moment = o.moment; maximum = s.maximum_size; first_root = root_left (root_among (first_root_since past o) (clock (e ∷ past)) xs) (decided_as noted o.at); spans = spans_left (spans_since past o ++ xs) (decided_as noted o.at); verdict = decided_as noted o.at }) none
+    ∙ ap (λ (spans : List Arrival). record { trace = o.trace; moment = o.moment; maximum = s.maximum_size; first_root = root_left (first_root_since past o) (decided_as noted o.at); spans = spans_left spans (decided_as noted o.at); verdict = decided_as noted o.at }) (append-nil (spans_since past o))
 
 -- a decided episode holds no spans
-pub episode_decided : (later past : Journal) (noted : Notes) (o : Opening) (v : Verdict) → decided_as noted o.at ≡ Some v → episode later noted o ≡ episode past noted o
-episode_decided later past noted o v d = rw d refl
+pub episode_decided : (s : Settings) (later past : Journal) (noted : Notes) (o : Opening) (v : Verdict) → decided_as noted o.at ≡ Some v → episode s later noted o ≡ episode s past noted o
+episode_decided s later past noted o v d = rw d refl
 
 -- ---- a standing by its parts
 

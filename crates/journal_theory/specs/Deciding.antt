@@ -1,15 +1,15 @@
 -- What a shard holds after a decision, by what it held before: no journal is needed to say it.
 use Rattle.std.specs.Prelude.{◌≡◌, ◌≢◌, ◌<◌, ◌+◌, ℕ, Bool, ◌&&◌, ◌||◌, nat_le, is_none, if◌then◌else◌, List, [], ◌∷◌, drop, find, Option, Some, None}
 use Rattle.std.specs.List.{list_all}
-use Rattle.trace_buffer.specs.Buffer.{Episode, settled, is_root_due}
-use Rattle.journal_theory.specs.Journal.{Settings, Journal, Opening, StoppedInTime, due_now, spans_since, answered, IsAnsweredUpTo}
+use Rattle.trace_buffer.specs.Buffer.{Episode, settled, is_root_due, is_too_big}
+use Rattle.journal_theory.specs.Journal.{Settings, Journal, Opening, StoppedInTime, due_now, policies_for, spans_since, answered, IsAnsweredUpTo}
 use Rattle.policy_eval.specs.Given.{verdict_given}
 use Rattle.journal_theory.specs.Standing.{Standing, standing}
 use Rattle.span_ids.specs.declared.outcome.Verdict.{Verdict}
 
--- an undecided episode is due where it, or its first root, had waited long enough at the last tick, or all senders have ended
+-- an undecided episode is due where it, or its first root, had waited long enough at the last tick, or it is too big, or all senders have ended
 abbrev pub is_due_by : (finished : Bool) → (mark wait root_wait : ℕ) → Episode → Bool
-is_due_by finished mark wait root_wait e = is_none e.verdict && (finished || (nat_le (e.moment + wait) mark || is_root_due mark root_wait e.first_root))
+is_due_by finished mark wait root_wait e = is_none e.verdict && (finished || (nat_le (e.moment + wait) mark || is_root_due mark root_wait e.first_root || is_too_big e.maximum e.spans))
 
 -- the first episode that passes is decided so
 abbrev pub decide_first : (Episode → Bool) → Verdict → List Episode → List Episode
@@ -28,7 +28,7 @@ after_deciding s st v = record st { episodes = decide_first (is_due_held s.wait 
 abbrev pub DecidesNext : Settings → Journal → (dealt : ℕ) → Option Episode → Type 0
 DecidesNext s past dealt None = drop dealt (due_now s past) ≡ []
 DecidesNext s past dealt (Some e) = (o : Opening) × (later : List Opening) × (drop dealt (due_now s past) ≡ o ∷ later) × (spans_since past o ≡ e.spans)
-    × ((answers : List Bool) → standing s (answered past answers) (dealt + 1) ≡ after_deciding s (standing s past dealt) (verdict_given s.policies answers e.spans))
+    × ((answers : List Bool) → standing s (answered past answers) (dealt + 1) ≡ after_deciding s (standing s past dealt) (verdict_given (policies_for s e.spans) answers e.spans))
 
 -- For a limit and a wait of at least 1, and a journal that took no item after its Ends were complete and whose decisions so far are answered: what is due in a shard is the journal's next decision, and what a shard holds after it is computed from what it held before.
 abbrev pub DecidesStanding : Type 0

@@ -1,9 +1,9 @@
--- What a shard has done, looking back over the items that it has taken (tailsamplingprocessor README: `decision_wait`, `num_traces`, `decision_cache`).
+-- What a shard has done, looking back over the items that it has taken (tailsamplingprocessor README: `decision_wait`, `num_traces`, `decision_cache`, `maximum_trace_size_bytes`).
 -- A journal is a list of entries, the newest first: the journal before an entry is the list behind it, whose length is the entry's position.
 use Rattle.std.specs.Prelude.{ℕ, zero, suc, ◌+◌, ◌-◌, max, Bool, true, false, not, ◌&&◌, ◌||◌, if◌then◌else◌, ◌==◌, nat_lt, nat_le, is_none, is_some, List, [], ◌∷◌, ◌++◌, reverse, length, take, slice_get, filter, find, Option, Some, None, option_map, ◌≡◌}
 use Rattle.std.specs.List.{list_any}
-use Rattle.trace_buffer.specs.Buffer.{are_of_root}
-use Rattle.policy_tree.specs.Tree.{Policies}
+use Rattle.trace_buffer.specs.Buffer.{are_of_root, is_too_big}
+use Rattle.policy_tree.specs.Tree.{Policies, no_more}
 use Rattle.policy_eval.specs.Given.{verdict_given, are_answered}
 use Rattle.span_ids.specs.Same.{same_trace}
 use Rattle.decision_cache.specs.Touches.{Touch, last_touched, touches_since}
@@ -23,11 +23,12 @@ pub record Entry : Type 0 where
   pub lost : Bool
   pub answers : List (List Bool)
 
--- the settings of a shard: times are milliseconds, a `root_wait` of 0 is off, a `limit` of None is no limit
+-- the settings of a shard: times are milliseconds, a `root_wait` of 0 is off, a `limit` of None is no limit, and the greatest size of a trace is bytes, where 0 is none
 pub record Settings : Type 0 where
   pub policies : Policies
   pub wait : ℕ
   pub root_wait : ℕ
+  pub maximum_size : ℕ
   pub limit : Option ℕ
   pub sampled_size : ℕ
   pub non_sampled_size : ℕ
@@ -208,25 +209,37 @@ abbrev pub is_root_past : (root_wait now : ℕ) → Journal → Opening → Bool
 is_root_past root_wait now [] o = false
 is_root_past root_wait now (e ∷ before) o = is_root_past root_wait now before o || (list_any is_root (item_spans o (length before) e.refused e.item) && nat_le (clock (e ∷ before) + root_wait) now)
 
--- whether an undecided episode is due at a tick, the journal's last item: it opened long enough before, or root wait is on and some root was taken long enough before
+-- the spans of the opening's episode have more bytes than a trace may have
+abbrev pub is_oversized : Settings → Journal → Opening → Bool
+is_oversized s past o = is_too_big s.maximum_size (spans_since past o)
+
+-- whether an undecided episode is due at a tick, the journal's last item: it opened long enough before, or root wait is on and some root was taken long enough before, or it is too big
 abbrev pub is_due : Settings → Journal → Opening → Bool
-is_due s past o = nat_le (o.moment + s.wait) (clock past) || (nat_lt 0 s.root_wait && is_root_past s.root_wait (clock past) past o)
+is_due s past o = nat_le (o.moment + s.wait) (clock past) || (nat_lt 0 s.root_wait && is_root_past s.root_wait (clock past) past o) || is_oversized s past o
 
 -- the senders' Ends became complete
 abbrev pub has_finished : Settings → Entry → (before : Journal) → Bool
 has_finished s e before = have_ended (e ∷ before) s.senders && not (have_ended before s.senders)
 
--- the episodes that are due at the item just taken, in order of opening
+-- the undecided episodes that are too big, in order of opening
+abbrev pub oversized : Settings → Journal → Notes → List Opening
+oversized s past noted = filter (is_oversized s past) (undecided s noted)
+
+-- the episodes that are due at the item just taken, by the notes after it, in order of opening
 abbrev pub due_at : Settings → Entry → (before : Journal) → Item → Notes → List Opening
-due_at s e before (Span a) noted = []
+due_at s e before (Span a) noted = oversized s (e ∷ before) noted
 due_at s e before (Tick m) noted = filter (is_due s (e ∷ before)) (undecided s noted)
-due_at s e before (End sender) noted = if has_finished s e before then undecided s noted else []
+due_at s e before (End sender) noted = if has_finished s e before then undecided s noted else oversized s (e ∷ before) noted
 
 -- ---- decisions
 
+-- the policies that decide on these spans: none where they are too big, which doesn't sample and asks nothing
+abbrev pub policies_for : Settings → List Arrival → Policies
+policies_for s spans = if is_too_big s.maximum_size spans then no_more else s.policies
+
 -- the decision of an episode at the journal's end, where the limiter answers so
 abbrev pub decision : Settings → Journal → Opening → (answers : List Bool) → Decision
-decision s past o answers = let spans = spans_since past o in record { opening = o; spans = spans; verdict = verdict_given s.policies answers spans }
+decision s past o answers = let spans = spans_since past o in record { opening = o; spans = spans; verdict = verdict_given (policies_for s spans) answers spans }
 
 -- the decisions of these episodes, in order, each by its answers: as many as were given answers, the others are still to be decided
 abbrev pub decisions_in_turn : Settings → Journal → List Opening → (answers : List (List Bool)) → List Decision
@@ -278,29 +291,29 @@ after_decisions decisions noted = record noted { decisions = reverse decisions +
 abbrev pub no_notes : Notes
 no_notes = record { openings = []; decisions = []; touches = [] }
 
--- the decisions at the item just taken, in order of opening
+-- the decisions at the item just taken, by the notes after it, in order of opening
 abbrev pub decisions_at : Settings → Entry → (before : Journal) → Notes → List Decision
 decisions_at s e before noted = decisions_in_turn s (e ∷ before) (due_at s e before e.item noted) e.answers
 
 -- the notes of a journal, each due episode decided whose decision was given answers
 unfoldable pub notes : Settings → Journal → Notes
 notes s [] = no_notes
-notes s (e ∷ before) = let noted = notes s before in after_decisions (decisions_at s e before noted) (after_item s e before e.item noted)
+notes s (e ∷ before) = let noted = after_item s e before e.item (notes s before) in after_decisions (decisions_at s e before noted) noted
 
 -- the episodes that were due at the journal's last item, in order of opening
 abbrev pub due_now : Settings → Journal → List Opening
 due_now s [] = []
-due_now s (e ∷ before) = due_at s e before e.item (notes s before)
+due_now s (e ∷ before) = due_at s e before e.item (after_item s e before e.item (notes s before))
 
 -- their decisions, as far as they were given answers
 abbrev pub decisions_now : Settings → Journal → List Decision
 decisions_now s [] = []
-decisions_now s (e ∷ before) = decisions_at s e before (notes s before)
+decisions_now s (e ∷ before) = decisions_at s e before (after_item s e before e.item (notes s before))
 
 -- the notes, where of the decisions at the last item the first `dealt` were dealt with, and the other episodes stand undecided
 abbrev pub notes_dealt : Settings → Journal → (dealt : ℕ) → Notes
 notes_dealt s [] dealt = no_notes
-notes_dealt s (e ∷ before) dealt = let noted = notes s before in after_decisions (take dealt (decisions_at s e before noted)) (after_item s e before e.item noted)
+notes_dealt s (e ∷ before) dealt = let noted = after_item s e before e.item (notes s before) in after_decisions (take dealt (decisions_at s e before noted)) noted
 
 -- no item was taken after the senders' Ends were complete
 abbrev pub StoppedInTime : Settings → Journal → Type 0
@@ -315,18 +328,18 @@ answered [] answers = []
 answered (e ∷ before) answers = record e { answers = e.answers ++ answers ∷ [] } ∷ before
 
 -- the decisions of just these episodes are answered, each with one answer for each asking
-abbrev pub are_each_answered : Policies → Journal → List Opening → (answers : List (List Bool)) → Bool
-are_each_answered policies past [] [] = true
-are_each_answered policies past [] (a ∷ later) = false
-are_each_answered policies past (o ∷ rest) [] = false
-are_each_answered policies past (o ∷ rest) (a ∷ later) = are_answered policies a (spans_since past o) && are_each_answered policies past rest later
+abbrev pub are_each_answered : Settings → Journal → List Opening → (answers : List (List Bool)) → Bool
+are_each_answered s past [] [] = true
+are_each_answered s past [] (a ∷ later) = false
+are_each_answered s past (o ∷ rest) [] = false
+are_each_answered s past (o ∷ rest) (a ∷ later) = are_answered (policies_for s (spans_since past o)) a (spans_since past o) && are_each_answered s past rest later
 
 -- each decision of the journal is answered
 abbrev pub IsAnswered : Settings → Journal → Type 0
 IsAnswered s [] = Unit {0}
-IsAnswered s (e ∷ before) = (are_each_answered s.policies (e ∷ before) (due_now s (e ∷ before)) e.answers ≡ true) × IsAnswered s before
+IsAnswered s (e ∷ before) = (are_each_answered s (e ∷ before) (due_now s (e ∷ before)) e.answers ≡ true) × IsAnswered s before
 
 -- the same, where of the decisions at the last item just the first `dealt` are answered
 abbrev pub IsAnsweredUpTo : Settings → Journal → (dealt : ℕ) → Type 0
 IsAnsweredUpTo s [] dealt = Unit {0}
-IsAnsweredUpTo s (e ∷ before) dealt = (are_each_answered s.policies (e ∷ before) (take dealt (due_now s (e ∷ before))) e.answers ≡ true) × IsAnswered s before
+IsAnsweredUpTo s (e ∷ before) dealt = (are_each_answered s (e ∷ before) (take dealt (due_now s (e ∷ before))) e.answers ≡ true) × IsAnswered s before

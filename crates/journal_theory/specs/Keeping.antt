@@ -37,7 +37,7 @@ after_leaving lost (Some e) c = after_leaving_decided lost e.trace e.verdict c
 -- an episode opens: the oldest leaves a full buffer, and its verdict is put into its cache
 abbrev pub after_opening_in : Settings → (limit : ℕ) → (lost : Bool) → TraceId → Arrival → Standing → Standing
 after_opening_in s limit lost t a st = record (with_caches (after_leaving lost (leaves (buffer limit st)) (caches s st)) st) {
-  episodes = (after_opening (buffer limit st) (opening_episode t a st.clock)).episodes;
+  episodes = (after_opening (buffer limit st) (opening_episode t a st.clock s.maximum_size)).episodes;
 }
 
 -- a span of a trace that isn't in the buffer: late, where a cache remembers it, which then is the last touched

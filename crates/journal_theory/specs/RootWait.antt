@@ -1,12 +1,12 @@
 -- When a trace is due by one of its roots (this project's option `root_wait_ms`), looking back over the items.
-use Rattle.std.specs.Prelude.{ℕ, ◌≡◌, ◌+◌, ◌≤◌, ◌&&◌, nat_lt, nat_le, ◌∷◌}
+use Rattle.std.specs.Prelude.{ℕ, ◌≡◌, ◌+◌, ◌≤◌, ◌&&◌, ◌||◌, nat_lt, nat_le, ◌∷◌}
 use Rattle.trace_buffer.specs.Buffer.{is_root_due}
-use Rattle.journal_theory.specs.Journal.{Settings, Journal, Entry, Opening, clock, is_root_past, is_due}
+use Rattle.journal_theory.specs.Journal.{Settings, Journal, Entry, Opening, clock, is_root_past, is_oversized, is_due}
 use Rattle.journal_theory.specs.Standing.{first_root_since}
 
--- with root wait off, an episode is due by its opening alone
+-- with root wait off, an episode is due by its opening, or its size
 abbrev pub RootWaitOff : Type 0
-RootWaitOff = (s : Settings) (past : Journal) (o : Opening) → s.root_wait ≡ 0 → is_due s past o ≡ nat_le (o.moment + s.wait) (clock past)
+RootWaitOff = (s : Settings) (past : Journal) (o : Opening) → s.root_wait ≡ 0 → is_due s past o ≡ (nat_le (o.moment + s.wait) (clock past) || is_oversized s past o)
 
 -- some root is past exactly where the first one is: the clock doesn't go back
 abbrev pub DueByFirstRoot : Type 0

@@ -42,17 +42,17 @@ root_left root None = root
 root_left root (Some v) = None
 
 -- the episode of an opening
-abbrev pub episode : Journal → Notes → Opening → Episode
-episode past noted o = let verdict = decided_as noted o.at in
-    record { trace = o.trace; moment = o.moment; first_root = root_left (first_root_since past o) verdict; spans = spans_left (spans_since past o) verdict; verdict = verdict }
+abbrev pub episode : Settings → Journal → Notes → Opening → Episode
+episode s past noted o = let verdict = decided_as noted o.at in
+    record { trace = o.trace; moment = o.moment; maximum = s.maximum_size; first_root = root_left (first_root_since past o) verdict; spans = spans_left (spans_since past o) verdict; verdict = verdict }
 
 -- what is told of the episode that leaves: its trace, how many spans it still holds, and its verdict
-abbrev pub evicted_of : (before : Journal) → Notes → Opening → Evicted
-evicted_of before noted o = evicted_as (episode before noted o)
+abbrev pub evicted_of : Settings → (before : Journal) → Notes → Opening → Evicted
+evicted_of s before noted o = evicted_as (episode s before noted o)
 
 -- the episodes in the buffer, in order of opening
 abbrev pub episodes : Settings → Journal → Notes → List Episode
-episodes s past noted = map (episode past noted) (reverse (in_buffer s noted))
+episodes s past noted = map (episode s past noted) (reverse (in_buffer s noted))
 
 -- the last touched of the traces with this verdict
 abbrev pub cache : Settings → Notes → Verdict → List TraceId

@@ -4,6 +4,7 @@ ghost use Rattle.journal_theory.specs.Deciding.{DecidesStanding};
 ghost use Rattle.journal_theory.specs.Keeping.{KeepsStanding};
 ghost use Rattle.journal_theory.specs.Laws.{FoundAsHeld};
 ghost use Rattle.journal_theory.specs.RootWait.{RootWaitOff, DueByFirstRoot, NoneDueAfterMark};
+ghost use Rattle.journal_theory.specs.TooBig.{TooBigIsNotSampled, NoneTooBigWithoutMaximum};
 
 /// What a shard holds tells what a span finds: its trace's episode in the buffer, else the caches of decisions, answer
 /// what the journal says, looking back over its openings, decisions and touches.
@@ -23,7 +24,7 @@ pub fn decides_standing()
     ensures { DecidesStanding }
 {}
 
-/// With root wait off, a trace is due where it was without that option.
+/// With root wait off, a trace is due by its opening, or by its size.
 pub fn root_wait_off()
     ensures { RootWaitOff }
 {}
@@ -34,7 +35,19 @@ pub fn due_by_first_root()
     ensures { DueByFirstRoot }
 {}
 
-/// What is taken at the mark or after it makes no trace due by a root at that mark: so traces become due at ticks alone.
+/// What is taken at the mark or after it makes no trace due by a root at that mark: so traces become due by their roots
+/// at ticks alone.
 pub fn none_due_after_mark()
     ensures { NoneDueAfterMark }
+{}
+
+/// A trace that is too big isn't sampled, whatever the limiter answers, and its decision asks for nothing
+/// (tailsamplingprocessor README, `maximum_trace_size_bytes`).
+pub fn too_big_is_not_sampled()
+    ensures { TooBigIsNotSampled }
+{}
+
+/// Without a maximum size nothing is due at a span: traces become due at ticks and Ends alone.
+pub fn none_too_big_without_maximum()
+    ensures { NoneTooBigWithoutMaximum }
 {}

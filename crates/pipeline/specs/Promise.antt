@@ -26,6 +26,7 @@ core_of config = record {
   policies = meaning config.policies;
   wait = config.decision_wait;
   root_wait = config.root_wait;
+  maximum_size = config.maximum_trace_size;
   limit = Some (config.num_traces / config.shards);
   sampled_size = config.sampled_cache_size / config.shards;
   non_sampled_size = config.non_sampled_cache_size / config.shards;

@@ -78,6 +78,7 @@ fn new_shard(alloc: Global, hashing: TraceHashing, config: &Config) -> Result<Sh
         hashing,
         wait: config.decision_wait,
         root_wait: config.root_wait,
+        maximum_size: config.maximum_trace_size,
         limit: config.traces_per_shard(),
         sampled: config.sampled_cache_per_shard(),
         non_sampled: config.non_sampled_cache_per_shard(),

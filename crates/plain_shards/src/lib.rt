@@ -35,6 +35,7 @@ pub fn plain_shard(
         hashing: TraceHashing::Fixed,
         wait,
         root_wait: 0,
+        maximum_size: 0,
         limit: traces,
         sampled: 0,
         non_sampled: 0,

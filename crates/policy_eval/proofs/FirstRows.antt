@@ -4,6 +4,7 @@ use Rattle.std.specs.Prelude.{ℕ, Bool, true, false, List, [], ◌∷◌, ◌==
 use Rattle.policy_tree.specs.declared.policy.Join.TheVariants.{Drop, FirstMatch, Share}
 use Rattle.policy_tree.specs.declared.policy.Leaf.TheVariants.{AlwaysSample, Attribute, SpanCount}
 use Rattle.policy_tree.specs.declared.policy.Wanted.TheVariants.{StringAmong}
+use Rattle.policy_tree.specs.declared.limit.Limit.TheVariants.{Spans}
 use Rattle.policy_tree.specs.Tree.{Policy, Policies, no_more, one_more, leaf, joined, rate_limiting, limiters}
 use Rattle.policy_eval.specs.Policies.{sample, not_sample, dropped, answers, verdict, asked_nodes}
 use Rattle.policy_eval.specs.Given.{verdict_given, asked_given}
@@ -74,7 +75,7 @@ abbrev composite : Policies
 composite = first_of (share large 5 ∷ share always 4 ∷ [])
 
 -- its limiters have the shares
-pub shares : limiters composite ≡ record { node = 3; spans_per_second = 5 } ∷ record { node = 6; spans_per_second = 4 } ∷ []
+pub shares : limiters composite ≡ record { node = 3; limit = Spans 5 } ∷ record { node = 6; limit = Spans 4 } ∷ []
 shares = refl
 
 -- a share: nothing where its part doesn't sample, else what its limiter says

@@ -1,9 +1,10 @@
 -- What policies mean where their askings get a list of answers in turn: the first asking gets the first answer.
 use Rattle.std.specs.Prelude.{◌≡◌, ℕ, ◌+◌, Bool, true, false, ◌==◌, if◌then◌else◌, List, [], ◌∷◌, ◌++◌, length, Option}
 use Rattle.policy_tree.specs.declared.policy.Join.{Join}
-use Rattle.policy_tree.specs.Tree.{Policy, leaf, rate_limiting, joined, Policies, no_more, one_more, nodes}
+use Rattle.policy_tree.specs.Tree.{Policy, leaf, limiting, joined, Policies, no_more, one_more, nodes}
 use Rattle.otlp_types.specs.declared.arrival.Arrival.{Arrival}
 use Rattle.span_ids.specs.declared.outcome.Verdict.{Verdict}
+use Rattle.policy_eval.specs.Amounts.{amount_at}
 use Rattle.policy_eval.specs.Policies.{Answer, plain, joined_answer, leaf_answer, ends, verdict_of_answers, decider_of_answers}
 
 -- the answer that the next asking gets: a missing one is a refusal
@@ -22,7 +23,7 @@ abbrev mutual
   -- what the policy answers where its askings get these answers in turn
   pub answer_given : Policy → (answers : List Bool) → List Arrival → Answer
   answer_given (leaf l) answers spans = leaf_answer l spans
-  answer_given (rate_limiting limit) answers spans = plain (next_answer answers)
+  answer_given (limiting limit) answers spans = plain (next_answer answers)
   answer_given (joined join parts) answers spans = joined_answer join (part_answers_given join parts answers spans)
 
   -- the answers of policies that are joined so, in order, up to one that ends them
@@ -33,7 +34,7 @@ abbrev mutual
   -- the answers that the policy's askings leave
   pub left_by : Policy → (answers : List Bool) → List Arrival → List Bool
   left_by (leaf l) answers spans = answers
-  left_by (rate_limiting limit) answers spans = later_answers answers
+  left_by (limiting limit) answers spans = later_answers answers
   left_by (joined join parts) answers spans = left_by_parts join parts answers spans
 
   -- those that policies leave that are joined so
@@ -45,7 +46,7 @@ abbrev mutual
   -- the limiter nodes that the policy with this number asks
   pub nodes_asked : Policy → (node : ℕ) → (answers : List Bool) → List Arrival → List ℕ
   nodes_asked (leaf l) node answers spans = []
-  nodes_asked (rate_limiting limit) node answers spans = node ∷ []
+  nodes_asked (limiting limit) node answers spans = node ∷ []
   nodes_asked (joined join parts) node answers spans = nodes_asked_in_turn join parts (node + 1) answers spans
 
   -- those that policies ask that are joined so
@@ -83,21 +84,21 @@ are_answered policies answers spans = length (asked_given policies answers spans
 
 -- ---- a limiter that is asked
 
--- asked at these nodes in turn, in this second and each time for so many spans, a limiter gave these answers, and went from one state to the other
-abbrev pub Asked : {S : Type 0} → (asks : S → ℕ → ℕ → ℕ → Bool → S → Type 0) → (second spans : ℕ) → (nodes : List ℕ) → (answers : List Bool) → (old new : S) → Type 0
-Asked asks second spans [] [] old new = new ≡ old
-Asked {S} asks second spans (node ∷ nodes) (granted ∷ answers) old new = (between : S) × asks old node second spans granted between × Asked asks second spans nodes answers between new
-Asked asks second spans _ _ old new = ⊥
+-- asked at these nodes in turn, in this second and at each node for its amount, a limiter gave these answers, and went from one state to the other
+abbrev pub Asked : {S : Type 0} → (asks : S → ℕ → ℕ → ℕ → Bool → S → Type 0) → (second : ℕ) → (amounts : ℕ → ℕ) → (nodes : List ℕ) → (answers : List Bool) → (old new : S) → Type 0
+Asked asks second amounts [] [] old new = new ≡ old
+Asked {S} asks second amounts (node ∷ nodes) (granted ∷ answers) old new = (between : S) × asks old node second (amounts node) granted between × Asked asks second amounts nodes answers between new
+Asked asks second amounts _ _ old new = ⊥
 
 -- the verdict is that of the policies with the limiter's answers to just their askings
 abbrev pub Evaluates : {S : Type 0} → (asks : S → ℕ → ℕ → ℕ → Bool → S → Type 0) → Policies → (second : ℕ) → List Arrival → Verdict → (old new : S) → Type 0
 Evaluates asks policies second spans verdict old new =
     (answers : List Bool) × (verdict ≡ verdict_given policies answers spans) × (are_answered policies answers spans ≡ true)
-    × Asked asks second (length spans) (asked_given policies answers spans) answers old new
+    × Asked asks second (amount_at policies spans) (asked_given policies answers spans) answers old new
 
 -- and so is the policy that decides, with the same answers
 abbrev pub EvaluatesWithDecider : {S : Type 0} → (asks : S → ℕ → ℕ → ℕ → Bool → S → Type 0) → Policies → (second : ℕ) → List Arrival → Verdict → (decider : Option ℕ) → (old new : S) → Type 0
 EvaluatesWithDecider asks policies second spans verdict decider old new =
     (answers : List Bool) × (verdict ≡ verdict_given policies answers spans) × (are_answered policies answers spans ≡ true)
-    × Asked asks second (length spans) (asked_given policies answers spans) answers old new
+    × Asked asks second (amount_at policies spans) (asked_given policies answers spans) answers old new
     × (decider ≡ decider_given policies answers spans)

@@ -3,7 +3,7 @@ use Rattle.std.proofs.Common.{◌≡◌, ℕ, ◌+◌, ◌≤◌, ◌<◌, ◌==
 use Rattle.std.proofs.lemmas.Bool.Decides.{nat_tests}
 use Rattle.std.proofs.lemmas.List.{map-append, drop-drop, length-map}
 use Rattle.policy_tree.specs.declared.policy.Join.{Join}
-use Rattle.policy_tree.specs.Tree.{Policy, leaf, rate_limiting, joined, Policies, no_more, one_more, nodes, nodes_in}
+use Rattle.policy_tree.specs.Tree.{Policy, leaf, limiting, joined, Policies, no_more, one_more, nodes, nodes_in}
 use Rattle.rate_budget.specs.Rising.{Rises, rises-lower, rises-upper, rises-append}
 use Rattle.otlp_types.specs.declared.arrival.Arrival.{Arrival}
 use Rattle.policy_eval.specs.Policies as spec
@@ -19,7 +19,7 @@ mutual
   -- the answers that are left are those behind the policy's own
   pub left-drops : (p : Policy) (node : ℕ) (bs : List Bool) (spans : List Arrival) → left_by p bs spans ≡ drop (length (nodes_asked p node bs spans)) bs
   left-drops (leaf l) node bs spans = refl
-  left-drops (rate_limiting limit) node bs spans = later-drop bs
+  left-drops (limiting limit) node bs spans = later-drop bs
   left-drops (joined join parts) node bs spans = parts-drop join parts (node + 1) bs spans
 
   parts-drop : (join : Join) (ps : Policies) (node : ℕ) (bs : List Bool) (spans : List Arrival) → left_by_parts join ps bs spans ≡ drop (length (nodes_asked_in_turn join ps node bs spans)) bs
@@ -38,7 +38,7 @@ mutual
   -- a policy asks no more limiter nodes than it has nodes
   pub asks-few : (p : Policy) (node : ℕ) (bs : List Bool) (spans : List Arrival) → length (nodes_asked p node bs spans) ≤ nodes p
   asks-few (leaf l) node bs spans = omega arith
-  asks-few (rate_limiting limit) node bs spans = omega arith
+  asks-few (limiting limit) node bs spans = omega arith
   asks-few (joined join parts) node bs spans = let k = parts-few join parts (node + 1) bs spans in omega (arith, k)
 
   parts-few : (join : Join) (ps : Policies) (node : ℕ) (bs : List Bool) (spans : List Arrival) → length (nodes_asked_in_turn join ps node bs spans) ≤ nodes_in ps
@@ -64,7 +64,7 @@ mutual
   -- the nodes that a policy asks rise
   asked-rise : (p : Policy) (node : ℕ) (bs : List Bool) (spans : List Arrival) → Rises node (node + nodes p) (nodes_asked p node bs spans)
   asked-rise (leaf l) node bs spans = omega arith
-  asked-rise (rate_limiting limit) node bs spans = (omega arith, omega arith)
+  asked-rise (limiting limit) node bs spans = (omega arith, omega arith)
   asked-rise (joined join parts) node bs spans =
       let ns = nodes_asked_in_turn join parts (node + 1) bs spans in
       let low = rises-lower node (node + 1) (node + 1 + nodes_in parts) ns (omega arith) (parts-rise join parts (node + 1) bs spans) in
@@ -117,7 +117,7 @@ mutual
   pub answers-as : (p : Policy) (node : ℕ) (granted : ℕ → Bool) (bs : List Bool) (spans : List Arrival) → Gives granted bs (nodes_asked p node bs spans) (left_by p bs spans) →
       (answer_given p bs spans ≡ spec.answer p node granted spans) × (nodes_asked p node bs spans ≡ spec.asked p node granted spans)
   answers-as (leaf l) node granted bs spans h = (refl, refl)
-  answers-as (rate_limiting limit) node granted bs spans h = (ap (λ xs. spec.plain (next_answer xs)) h, refl)
+  answers-as (limiting limit) node granted bs spans h = (ap (λ xs. spec.plain (next_answer xs)) h, refl)
   answers-as (joined join parts) node granted bs spans h = let k = parts-as join parts (node + 1) granted bs spans h in (ap (spec.joined_answer join) k.0, k.1)
 
   parts-as : (join : Join) (ps : Policies) (node : ℕ) (granted : ℕ → Bool) (bs : List Bool) (spans : List Arrival) → Gives granted bs (nodes_asked_in_turn join ps node bs spans) (left_by_parts join ps bs spans) →
@@ -169,7 +169,7 @@ mutual
   answers-by : (p : Policy) (node : ℕ) (granted : ℕ → Bool) (spans : List Arrival) (later : List Bool) → let bs = map granted (spec.asked p node granted spans) ++ later in
       (answer_given p bs spans ≡ spec.answer p node granted spans) × (left_by p bs spans ≡ later) × (nodes_asked p node bs spans ≡ spec.asked p node granted spans)
   answers-by (leaf l) node granted spans later = (refl, refl, refl)
-  answers-by (rate_limiting limit) node granted spans later = (refl, refl, refl)
+  answers-by (limiting limit) node granted spans later = (refl, refl, refl)
   answers-by (joined join parts) node granted spans later = let k = parts-by join parts (node + 1) granted spans later in (ap (spec.joined_answer join) k.0, k.1, k.2)
 
   parts-by : (join : Join) (ps : Policies) (node : ℕ) (granted : ℕ → Bool) (spans : List Arrival) (later : List Bool) → let bs = map granted (spec.asked_in_turn join ps node granted spans) ++ later in

@@ -1,11 +1,12 @@
 -- What the program relies on of the definitions.
-use Rattle.std.specs.Prelude.{ℕ, Bool, true, ◌≡◌, List, map, length}
+use Rattle.std.specs.Prelude.{ℕ, Bool, true, ◌≡◌, List, map}
 use Rattle.policy_tree.specs.Tree.{Policies, nodes_in}
 use Rattle.rate_budget.specs.Grant.{Asking}
 use Rattle.rate_budget.specs.Budget.{limiter_counts, AsksBudgets}
 use Rattle.rate_budget.specs.Rising.{Rises}
 use Rattle.rate_budget.specs.declared.count.LimiterCount.{LimiterCount}
 use Rattle.otlp_types.specs.declared.arrival.Arrival.{Arrival}
+use Rattle.policy_eval.specs.Amounts.{amount_at}
 use Rattle.policy_eval.specs.AskingLaws.{DecidesByCounts}
 use Rattle.policy_eval.specs.Policies.{verdict, asked_nodes}
 use Rattle.policy_eval.specs.Given.{verdict_given, asked_given, are_answered, Asked}
@@ -14,7 +15,7 @@ use Rattle.policy_eval.specs.Given.{verdict_given, asked_given, are_answered, As
 abbrev pub DecisionsKeepTheCounts : Type 0
 DecisionsKeepTheCounts =
     (policies : Policies) (earlier : List Asking) (second : ℕ) (spans : List Arrival) (answers : List Bool) (old new : List LimiterCount) → old ≡ limiter_counts policies earlier →
-    Asked AsksBudgets second (length spans) (asked_given policies answers spans) answers old new → DecidesByCounts policies earlier second spans answers new
+    Asked AsksBudgets second (amount_at policies spans) (asked_given policies answers spans) answers old new → DecidesByCounts policies earlier second spans answers new
 
 -- the nodes that a decision asks rise, so that each is asked at most once
 abbrev pub AskedNodesRise : Type 0

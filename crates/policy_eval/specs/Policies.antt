@@ -11,7 +11,7 @@ use Rattle.policy_tree.specs.declared.policy.Wanted.{Wanted}
 use Rattle.policy_tree.specs.declared.policy.Wanted.TheVariants.{StringAmong, StringMatching, NumberWithin, Boolean}
 use Rattle.policy_tree.specs.declared.policy.Join.{Join}
 use Rattle.policy_tree.specs.declared.policy.Join.TheVariants.{And, Not, Drop, FirstMatch, Share}
-use Rattle.policy_tree.specs.Tree.{Policy, leaf, rate_limiting, joined, Policies, no_more, one_more, nodes}
+use Rattle.policy_tree.specs.Tree.{Policy, leaf, limiting, joined, Policies, no_more, one_more, nodes}
 use Rattle.otlp_types.specs.declared.arrival.Arrival.{Arrival}
 use Rattle.otlp_types.specs.declared.value.AnyValue.{AnyValue}
 use Rattle.otlp_types.specs.declared.value.AnyValue.TheVariants.{Str, Int, Bool as Truth}
@@ -192,7 +192,7 @@ abbrev mutual
   -- the answer of the policy with this number
   pub answer : Policy → (node : ℕ) → (granted : ℕ → Bool) → List Arrival → Answer
   answer (leaf l) node granted spans = leaf_answer l spans
-  answer (rate_limiting limit) node granted spans = plain (granted node)
+  answer (limiting limit) node granted spans = plain (granted node)
   answer (joined join parts) node granted spans = joined_answer join (part_answers join parts (node + 1) granted spans)
 
   -- the answers of policies that are joined so, in order, up to one that ends them
@@ -204,7 +204,7 @@ abbrev mutual
   -- the limiter nodes that are asked where the policy is asked
   pub asked : Policy → (node : ℕ) → (granted : ℕ → Bool) → List Arrival → List ℕ
   asked (leaf l) node granted spans = []
-  asked (rate_limiting limit) node granted spans = node ∷ []
+  asked (limiting limit) node granted spans = node ∷ []
   asked (joined join parts) node granted spans = asked_in_turn join parts (node + 1) granted spans
 
   -- those that policies ask that are joined so

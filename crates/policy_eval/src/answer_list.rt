@@ -88,7 +88,7 @@ fn answer_given(
 {
     match &policy.kind {
         PolicyKind::Leaf(leaf) => (leaf_answer(leaf, spans, searches), asked),
-        PolicyKind::RateLimiting { .. } => {
+        PolicyKind::Limiting(_) => {
             let granted = answers.get(asked).copied().unwrap_or(false);
             (Answer::plain(granted), asked + 1)
         }

@@ -1,4 +1,5 @@
 //! What holds of all askings of limiters.
+ghost use Rattle.policy_eval.specs.Amounts.{AmountsAreOfTheLimits};
 ghost use Rattle.policy_eval.specs.Laws.{AnswersByTheNode, AnswersAreByTheNode, AskedNodesRise, DecisionsKeepTheCounts};
 
 /// A `Budgets` that stands for the askings of some decisions gives the next one the answers, and so the verdict, that these
@@ -16,4 +17,9 @@ pub fn asked_nodes_rise()
 pub fn answers_are_by_the_node()
     ensures given { AnswersByTheNode }
     ensures back { AnswersAreByTheNode }
+{}
+
+/// What a decision asks a limiter node for is what the node's own limit is of: the spans, or their bytes.
+pub fn amounts_are_of_the_limits()
+    ensures { AmountsAreOfTheLimits }
 {}

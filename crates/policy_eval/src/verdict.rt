@@ -6,6 +6,7 @@ ghost use Rattle.policy_tree.specs.Expressions.{expressions_of, expressions_in};
 ghost use Rattle.policy_tree.specs.Meaning.{meaning, policy_meaning};
 ghost use Rattle.policy_eval.specs.Meaning.{knows};
 ghost use Rattle.policy_eval.specs.Given.{Evaluates, EvaluatesWithDecider};
+ghost use Rattle.policy_eval.specs.Amounts.{amount_of};
 ghost use Rattle.policy_eval.specs.Walks.{Answers};
 
 use crate::answer::{Answer, Seen};
@@ -13,15 +14,16 @@ use crate::decider::Firsts;
 use crate::leaf::leaf_answer;
 use expression::Searches;
 use otlp_types::Arrival;
-use policy_tree::{Policies, Policy, PolicyKind};
+use policy_tree::{Limit, Policies, Policy, PolicyKind};
 use rate_budget::Limiter;
 use span_ids::{Moment, Verdict};
+use span_size::size_of;
 
 /// The verdict of the policies on the spans of a trace, at this moment in milliseconds. It takes no memory that can be
 /// refused.
 ///
-/// The limiter nodes are asked in the order of their numbers, each at most once, for the number of spans, in the second
-/// of the moment. Of the parts of a policy no further one is asked behind an answer that ends them. The searches know each
+/// The limiter nodes are asked in the order of their numbers, each at most once, for the spans or for their bytes, in the
+/// second of the moment. Of the parts of a policy no further one is asked behind an answer that ends them. The searches know each
 /// expression of the policies (`searches_for`).
 pub fn evaluate<L: Limiter>(
     policies: &Policies,
@@ -89,10 +91,10 @@ fn answer<L: Limiter>(
 {
     match &policy.kind {
         PolicyKind::Leaf(leaf) => leaf_answer(leaf, spans, searches),
-        PolicyKind::RateLimiting { .. } => Answer::plain(limiter.ask(
+        PolicyKind::Limiting(limit) => Answer::plain(limiter.ask(
             node,
             second,
-            spans.len() as u64,
+            amount_of(*limit, spans),
         )),
         PolicyKind::Joined { join, policies } => {
             let mut next = node + 1;
@@ -107,5 +109,17 @@ fn answer<L: Limiter>(
             }
             Answer::joined(*join, seen)
         }
+    }
+}
+
+/// What a limiter with this limit is asked for: the number of the spans, or their bytes.
+fn amount_of(limit: Limit, spans: &[Arrival]) -> u64
+    requires { 0 < length spans.now }
+    ensures amount { result ≡ amount_of limit spans.now }
+    ensures some { 0 < result }
+{
+    match limit {
+        Limit::Spans { .. } => spans.len() as u64,
+        Limit::Bytes { .. } => size_of(spans),
     }
 }

@@ -1,6 +1,7 @@
 -- Worked rows of the faults of a policy's settings, and of limiter nodes, by computation.
 -- No contract rests on it: it shows the definitions on worked cases.
 use Rattle.std.specs.Prelude.{true, false, pos, [], ◌∷◌, map, ◌≡◌, refl}
+use Rattle.policy_tree.specs.declared.limit.Limit.TheVariants.{Spans}
 use Rattle.policy_tree.specs.Tree.{Policies, no_more, one_more, leaf, rate_limiting, joined, and_policy, limiters}
 use Rattle.policy_tree.specs.declared.policy.Join.{Join}
 use Rattle.policy_tree.specs.declared.policy.Join.TheVariants.{And, Not, Drop}
@@ -34,9 +35,9 @@ limited =
     (one_more (rate_limiting 4)
     (one_more (and_policy (one_more (and_policy (one_more (rate_limiting 5) no_more)) no_more)) no_more))
 
-pub limiter_nodes : limiters limited ≡ record { node = 2; spans_per_second = 3 } ∷ record { node = 3; spans_per_second = 4 } ∷ record { node = 6; spans_per_second = 5 } ∷ []
+pub limiter_nodes : limiters limited ≡ record { node = 2; limit = Spans 3 } ∷ record { node = 3; limit = Spans 4 } ∷ record { node = 6; limit = Spans 5 } ∷ []
 limiter_nodes = refl
 
 -- a limit inside a `not`, and one inside a `drop`, have numbers as in an `and`
-pub limiter_nodes_inside : map (λ (join : Join). limiters (one_more (leaf AlwaysSample) (one_more (joined join (one_more (rate_limiting 7) no_more)) no_more))) (And ∷ Not ∷ Drop ∷ []) ≡ map (λ join. record { node = 2; spans_per_second = 7 } ∷ []) (And ∷ Not ∷ Drop ∷ [])
+pub limiter_nodes_inside : map (λ (join : Join). limiters (one_more (leaf AlwaysSample) (one_more (joined join (one_more (rate_limiting 7) no_more)) no_more))) (And ∷ Not ∷ Drop ∷ []) ≡ map (λ join. record { node = 2; limit = Spans 7 } ∷ []) (And ∷ Not ∷ Drop ∷ [])
 limiter_nodes_inside = refl

@@ -3,14 +3,14 @@
 use Rattle.std.proofs.Common.{◌≡◌, ℕ, ◌+◌, List, [], ◌∷◌, ◌++◌, length, refl, ap, sym, ◌∙◌, arith, append_assoc}
 use Rattle.std.proofs.lemmas.List.{length-append}
 use Rattle.policy_tree.specs.declared.limiter_node.LimiterNode.{LimiterNode}
-use Rattle.policy_tree.specs.Tree.{Policy, Policies, leaf, rate_limiting, joined, no_more, one_more, nodes, nodes_in, limits, limits_in}
+use Rattle.policy_tree.specs.Tree.{Policy, Policies, leaf, limiting, joined, no_more, one_more, nodes, nodes_in, limits, limits_in}
 use Rattle.policy_tree.specs.Walk.{walk_of, walk, limiter_at, limiters_from, LimitersAreOfTheWalk}
 
 mutual
   -- a walk meets each node once
   long_of : (p : Policy) → nodes p ≡ length (walk_of p)
   long_of (leaf l) = refl
-  long_of (rate_limiting limit) = refl
+  long_of (limiting limit) = refl
   long_of (joined join parts) = let e = long parts in omega (arith, e)
 
   long : (ps : Policies) → nodes_in ps ≡ length (walk ps)
@@ -28,7 +28,7 @@ split node (p ∷ ps) qs =
 mutual
   same_of : (p : Policy) (node : ℕ) → limits p node ≡ limiters_from node (walk_of p)
   same_of (leaf l) node = refl
-  same_of (rate_limiting limit) node = refl
+  same_of (limiting limit) node = refl
   same_of (joined join parts) node = same parts (node + 1)
 
   same : (ps : Policies) (node : ℕ) → limits_in ps node ≡ limiters_from node (walk ps)

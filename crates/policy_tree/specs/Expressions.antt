@@ -1,6 +1,6 @@
 -- The regular expressions of policies, by their texts.
 use Rattle.std.specs.Prelude.{ℕ, List, [], ◌++◌}
-use Rattle.policy_tree.specs.Tree.{Policy, Policies, leaf, rate_limiting, joined, no_more, one_more}
+use Rattle.policy_tree.specs.Tree.{Policy, Policies, leaf, limiting, joined, no_more, one_more}
 use Rattle.policy_tree.specs.declared.policy.Leaf.{Leaf}
 use Rattle.policy_tree.specs.declared.policy.Leaf.TheVariants as leaf_is
 use Rattle.policy_tree.specs.declared.policy.Wanted.{Wanted}
@@ -20,7 +20,7 @@ abbrev mutual
   -- the expressions of a policy, in the walk's order
   pub expressions_of : Policy → List (List ℕ)
   expressions_of (leaf l) = expressions_of_leaf l
-  expressions_of (rate_limiting limit) = []
+  expressions_of (limiting limit) = []
   expressions_of (joined join parts) = expressions_in parts
 
   -- those of all of these

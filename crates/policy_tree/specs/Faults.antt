@@ -47,7 +47,7 @@ is_doubled policies = has_same_names policies || list_any (λ (p : Named). p.dou
 -- a kind's list, if it has one, with what is known of each policy in it
 abbrev pub doubled_step : PolicyKind-F Bool Named → Bool
 doubled_step (PolicyKind-F.Leaf l) = false
-doubled_step (PolicyKind-F.RateLimiting limit) = false
+doubled_step (PolicyKind-F.Limiting limit) = false
 doubled_step (PolicyKind-F.Joined join policies) = is_doubled policies
 
 -- a policy, with what is known of its kind

@@ -14,7 +14,7 @@ in_order (p ∷ rest) = tree.one_more p (in_order rest)
 -- one kind, with each part without its names
 abbrev pub kind_step : PolicyKind-F tree.Policy tree.Policy → tree.Policy
 kind_step (PolicyKind-F.Leaf l) = tree.leaf l
-kind_step (PolicyKind-F.RateLimiting limit) = tree.rate_limiting limit
+kind_step (PolicyKind-F.Limiting limit) = tree.limiting limit
 kind_step (PolicyKind-F.Joined join parts) = tree.joined join (in_order parts)
 
 -- a policy is what its kind is

@@ -1,5 +1,7 @@
 -- Policies without their names: their node numbers, their depth, and the limiters among them (tailsamplingprocessor README, "Policies").
 use Rattle.std.specs.Prelude.{ℕ, ◌+◌, max, Bool, true, false, ◌||◌, List, [], ◌∷◌, ◌++◌}
+use Rattle.policy_tree.specs.declared.limit.Limit.{Limit}
+use Rattle.policy_tree.specs.declared.limit.Limit.TheVariants.{Spans}
 use Rattle.policy_tree.specs.declared.limiter_node.LimiterNode.{LimiterNode}
 use Rattle.policy_tree.specs.declared.policy.Leaf.{Leaf}
 use Rattle.policy_tree.specs.declared.policy.Join.{Join}
@@ -10,13 +12,17 @@ mutual
   -- a policy without its name
   pub data Policy : Type 0 where
     leaf : Leaf → Policy
-    rate_limiting : (spans_per_second : ℕ) → Policy
+    limiting : Limit → Policy
     joined : Join → Policies → Policy
 
   -- the policies of one list, in order
   pub data Policies : Type 0 where
     no_more : Policies
     one_more : Policy → Policies → Policies
+
+-- a limiter of spans
+abbrev pub rate_limiting : (spans_per_second : ℕ) → Policy
+rate_limiting spans_per_second = limiting (Spans spans_per_second)
 
 -- what samples where each of these does
 abbrev pub and_policy : Policies → Policy
@@ -28,7 +34,7 @@ abbrev mutual
   -- how many policies there are in this one, itself too
   pub nodes : Policy → ℕ
   nodes (leaf l) = 1
-  nodes (rate_limiting limit) = 1
+  nodes (limiting limit) = 1
   nodes (joined join parts) = nodes_in parts + 1
 
   -- how many policies there are in all of these
@@ -42,7 +48,7 @@ abbrev mutual
   -- how many levels of policies there are in this one, itself too
   pub depth : Policy → ℕ
   depth (leaf l) = 1
-  depth (rate_limiting limit) = 1
+  depth (limiting limit) = 1
   depth (joined join parts) = depth_in parts + 1
 
   -- how many levels of policies there are in these
@@ -53,10 +59,10 @@ abbrev mutual
 -- ---- limiters
 
 abbrev mutual
-  -- the limiter nodes of a policy, with their limits in spans per second
+  -- the limiter nodes of a policy, with their limits
   pub limits : Policy → (node : ℕ) → List LimiterNode
   limits (leaf l) node = []
-  limits (rate_limiting limit) node = record { node = node; spans_per_second = limit } ∷ []
+  limits (limiting limit) node = record { node = node; limit = limit } ∷ []
   limits (joined join parts) node = limits_in parts (node + 1)
 
   -- those of all of these
@@ -79,7 +85,7 @@ abbrev mutual
   -- a list inside has no part
   pub has_empty_inside : Policy → Bool
   has_empty_inside (leaf l) = false
-  has_empty_inside (rate_limiting limit) = false
+  has_empty_inside (limiting limit) = false
   has_empty_inside (joined join parts) = is_empty parts || has_empty_inside_in parts
 
   -- a list inside one of these has no part
@@ -95,7 +101,7 @@ abbrev mutual
   -- a leaf inside passes the test
   pub some_leaf : (Leaf → Bool) → Policy → Bool
   some_leaf test (leaf l) = test l
-  some_leaf test (rate_limiting limit) = false
+  some_leaf test (limiting limit) = false
   some_leaf test (joined join parts) = some_leaf_in test parts
 
   -- a leaf inside one of these passes the test

@@ -1,13 +1,13 @@
 -- Policies as the list in which a walk meets them: a policy before its parts, and these in order.
 use Rattle.std.specs.Prelude.{◌≡◌, ℕ, ◌+◌, List, [], ◌∷◌, ◌++◌, length}
 use Rattle.policy_tree.specs.declared.limiter_node.LimiterNode.{LimiterNode}
-use Rattle.policy_tree.specs.Tree.{Policy, Policies, leaf, rate_limiting, joined, no_more, one_more, nodes_in, limiters}
+use Rattle.policy_tree.specs.Tree.{Policy, Policies, leaf, limiting, joined, no_more, one_more, nodes_in, limiters}
 
 abbrev mutual
   -- the policy, and behind it its parts
   pub walk_of : Policy → List Policy
   walk_of (leaf l) = leaf l ∷ []
-  walk_of (rate_limiting limit) = rate_limiting limit ∷ []
+  walk_of (limiting limit) = limiting limit ∷ []
   walk_of (joined join parts) = joined join parts ∷ walk parts
 
   -- the policies of a list, each with its parts
@@ -18,7 +18,7 @@ abbrev mutual
 -- the limiter node of this number, where the policy asks a limiter
 abbrev pub limiter_at : (node : ℕ) → Policy → List LimiterNode
 limiter_at node (leaf l) = []
-limiter_at node (rate_limiting limit) = record { node = node; spans_per_second = limit } ∷ []
+limiter_at node (limiting limit) = record { node = node; limit = limit } ∷ []
 limiter_at node (joined join parts) = []
 
 -- those of a list of policies, the first of which has this number

@@ -41,7 +41,7 @@ fn put_expressions(alloc: Global, policy: &Policy, found: &mut List<Text>) -> Re
 {
     match &policy.kind {
         PolicyKind::Leaf(leaf) => put_expressions_of_leaf(alloc, leaf, found),
-        PolicyKind::RateLimiting { .. } => Ok(()),
+        PolicyKind::Limiting(_) => Ok(()),
         PolicyKind::Joined { policies, .. } => {
             put_expressions_in(alloc, policies.as_slice(), found)
         }

@@ -64,7 +64,7 @@ fn has_fault(policy: &Policy, fault: LeafFault) -> bool
 {
     match &policy.kind {
         PolicyKind::Leaf(leaf) => leaf_has_fault(leaf, fault),
-        PolicyKind::RateLimiting { .. } => false,
+        PolicyKind::Limiting(_) => false,
         PolicyKind::Joined { policies, .. } => some_has_fault(policies.as_slice(), fault),
     }
 }

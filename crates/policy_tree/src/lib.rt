@@ -7,6 +7,7 @@ mod expressions;
 mod fault;
 mod laws;
 mod leaves;
+mod limit;
 mod limiter_node;
 mod names;
 mod policies;
@@ -15,6 +16,7 @@ mod shape;
 
 pub use fault::PolicyFault;
 pub use laws::limiters_are_of_the_walk;
+pub use limit::Limit;
 pub use limiter_node::LimiterNode;
 pub use policies::Policies;
 pub use policy::{Join, Leaf, Policy, PolicyKind, Wanted};

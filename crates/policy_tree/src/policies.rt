@@ -128,10 +128,10 @@ fn put_limiters(policy: &Policy, node: u16, found: &mut Vec<LimiterNode>) -> Res
     ensures found { IfOk result (λ next. found.new.items ≡ found.old.items ++ limits (policy_meaning policy.now) node) }
 {
     match &policy.kind {
-        PolicyKind::RateLimiting { spans_per_second } => {
+        PolicyKind::Limiting(limit) => {
             found.push(LimiterNode {
                 node,
-                spans_per_second: *spans_per_second,
+                limit: *limit,
             })?;
             Ok(node + 1)
         }

@@ -1,6 +1,7 @@
 //! One policy: its name and its kind (tailsamplingprocessor README, "Policies").
 ghost use Rattle.std.specs.Prelude.{◌≡◌, IfOk};
 
+use crate::limit::Limit;
 use otlp_types::{List, Text, TryClone};
 use std::alloc::{AllocError, Global};
 
@@ -19,8 +20,8 @@ pub struct Policy {
 pub enum PolicyKind {
     /// What this leaf samples.
     Leaf(Leaf),
-    /// A trace whose spans are granted by a limiter of so many spans per second.
-    RateLimiting { spans_per_second: u64 },
+    /// A trace whose spans, or their bytes, a limiter grants.
+    Limiting(Limit),
     /// What is made of these policies. They are asked in order, and no further one behind one whose answer ends that.
     Joined { join: Join, policies: List<Policy> },
 }
@@ -116,9 +117,7 @@ fn clone_kind(alloc: Global, kind: &PolicyKind) -> Result<PolicyKind, AllocError
 {
     match kind {
         PolicyKind::Leaf(leaf) => Ok(PolicyKind::Leaf(leaf.try_clone(alloc)?)),
-        PolicyKind::RateLimiting { spans_per_second } => Ok(PolicyKind::RateLimiting {
-            spans_per_second: *spans_per_second,
-        }),
+        PolicyKind::Limiting(limit) => Ok(PolicyKind::Limiting(*limit)),
         PolicyKind::Joined { join, policies } => Ok(PolicyKind::Joined {
             join: *join,
             policies: clone_policies(alloc, policies)?,

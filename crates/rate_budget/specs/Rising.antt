@@ -2,7 +2,7 @@
 use Rattle.std.proofs.Common.{ℕ, ◌+◌, ◌≤◌, List, [], ◌∷◌, ◌++◌, map, sym, subst, arith}
 use Rattle.std.proofs.lemmas.List.{map-append}
 use Rattle.policy_tree.specs.declared.limiter_node.LimiterNode.{LimiterNode}
-use Rattle.policy_tree.specs.Tree.{Policy, leaf, rate_limiting, joined, Policies, no_more, one_more, nodes, nodes_in, limits, limits_in}
+use Rattle.policy_tree.specs.Tree.{Policy, leaf, limiting, joined, Policies, no_more, one_more, nodes, nodes_in, limits, limits_in}
 
 -- the numbers rise, from the first bound on and below the second
 abbrev pub Rises : (first behind : ℕ) → List ℕ → Type 0
@@ -32,7 +32,7 @@ mutual
   -- the limiter nodes of a policy rise
   pub limits-rise : (p : Policy) (node : ℕ) → Rises node (node + nodes p) (numbers (limits p node))
   limits-rise (leaf l) node = omega arith
-  limits-rise (rate_limiting limit) node = (omega arith, omega arith)
+  limits-rise (limiting limit) node = (omega arith, omega arith)
   limits-rise (joined join parts) node =
       let up : Rises (node + 1) (node + 1 + nodes_in parts) (numbers (limits_in parts (node + 1))) = limits_in-rise parts (node + 1) in
       let low = rises-lower node (node + 1) (node + 1 + nodes_in parts) (numbers (limits_in parts (node + 1))) (omega arith) up in

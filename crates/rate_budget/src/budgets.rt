@@ -35,9 +35,9 @@ impl Budgets {
         for limiter in policies.limiters(alloc)?.as_slice() {
             counts.push(LimiterCount {
                 node: limiter.node,
-                limit: limiter.spans_per_second,
+                limit: limiter.limit,
                 second: 0,
-                granted: 0,
+                spent: 0,
             })?;
         }
         Ok(Budgets { counts })
@@ -81,14 +81,14 @@ impl Limiter for Budgets {
 
     ghost asks = { AsksBudgets };
 
-    /// Whether so many spans in this second are granted to the node. It takes no memory.
-    fn ask(&mut self, node: u16, second: u64, spans: u64) -> bool
+    /// Whether so many spans or bytes in this second are granted to the node. It takes no memory.
+    fn ask(&mut self, node: u16, second: u64, amount: u64) -> bool
         requires node { has_node_in self.old node ≡ true }
-        requires spans { 0 < spans }
-        ensures asked { AsksBudgets self.old node second spans result self.new }
-        ensures stands { (policies : tree_of) (askings : List Asking) → self.old ≡ limiter_counts policies askings → StandsAfter policies askings node second spans result self.new }
+        requires amount { 0 < amount }
+        ensures asked { AsksBudgets self.old node second amount result self.new }
+        ensures stands { (policies : tree_of) (askings : List Asking) → self.old ≡ limiter_counts policies askings → StandsAfter policies askings node second amount result self.new }
     {
-        self.ask_node(node, second, spans)
+        self.ask_node(node, second, amount)
     }
 
     ghost keeps = { budgets-keep };

@@ -1,4 +1,4 @@
-//! Limiters of spans per second (tailsamplingprocessor README, `rate_limiting`): when an asking is granted, what every
+//! Limiters of spans and of bytes per second (tailsamplingprocessor README, `rate_limiting`, `bytes_limiting`): when an asking is granted, what every
 //! limiter promises, and a limiter with one count for each limiter node of some policies.
 #![tactic(auto)]
 
@@ -9,5 +9,5 @@ mod limiter;
 
 pub use budgets::Budgets;
 pub use count::LimiterCount;
-pub use laws::other_nodes_stay;
+pub use laws::{bucket_fills, other_nodes_stay};
 pub use limiter::Limiter;

@@ -4,7 +4,7 @@ use Rattle.std.proofs.Common.{◌≡◌, ℕ, ◌+◌, Bool, true, false, cond, 
 use Rattle.std.proofs.lemmas.Bool.Decides.{nat_tests}
 use Rattle.otlp_types.specs.declared.arrival.Arrival.{Arrival}
 use Rattle.otlp_types.specs.declared.arrival.Item.TheVariants.{Span, Tick, End}
-use Rattle.journal_theory.specs.Journal.{Settings, Entry, Journal, Opening, due_now, decision, decisions_now, spans_since, has_ended}
+use Rattle.journal_theory.specs.Journal.{Settings, Entry, Journal, Opening, due_now, decision, decisions_now, policies_for, spans_since, has_ended}
 use Rattle.policy_eval.specs.Given.{are_answered}
 use Rattle.journal_theory.specs.Fate.{Effect, no_effect, ◌then◌, DroppedSpan, effect, effect_of_taking, effect_of_decision, effect_of_decisions}
 use Rattle.journal_theory.specs.Marked.{marks_apply_to_ids}
@@ -88,7 +88,7 @@ module _ (c : Config) (k : Core) where
 
     -- the oldest episode that is due is decided by these answers
     decides_one : (q u X : List Arrival) (e : Entry) (J : Journal) (given : List (List Bool)) (n : ℕ) (C : List DroppedSpan) (o : Opening) (answers : List Bool) → slice_get (due_now own (e ∷ J)) n ≡ Some o
-        → are_answered c.policies answers (spans_since (e ∷ J) o) ≡ true → (let d = decision own (e ∷ J) o answers in
+        → are_answered (policies_for own (spans_since (e ∷ J) o)) answers (spans_since (e ∷ J) o) ≡ true → (let d = decision own (e ∷ J) o answers in
         Leads c (among (shard q (given_to e given ∷ J) n u) X C) (among (shard q (given_to e (given ++ answers ∷ []) ∷ J) (n + 1) (u ++ (effect_of_decision d).released)) X (C ++ (effect_of_decision d).counted)))
     decides_one q u X e J given n C o answers due fits = leads_one c _ _ (decide (length front) answers) (ap (option_and_then (decide_on c w (length front) answers)) (mid_get front sh rest)
         ∙ (ap (option_map (after_decision w (length front) sh answers)) (next_effect own e J given n o answers due fits)

@@ -37,7 +37,7 @@ use Rattle.script_run.specs.Laws.{Agrees, CalmRunsAgree}
 -- ---- one lane and one shard
 
 abbrev pub own : Settings
-own = record { policies = always; wait = 10; root_wait = 0; limit = Some 1; sampled_size = 1; non_sampled_size = 1; senders = 2 }
+own = record { policies = always; wait = 10; root_wait = 0; maximum_size = 0; limit = Some 1; sampled_size = 1; non_sampled_size = 1; senders = 2 }
 
 -- batches of one span, queues of this capacity, and doubles that are discarded
 abbrev pub with_queue : ℕ → Sizes

@@ -20,6 +20,7 @@ core_config s sizes = record {
   policies = s.policies;
   wait = s.wait;
   root_wait = s.root_wait;
+  maximum_size = s.maximum_size;
   limit = s.limit;
   sampled_size = s.sampled_size;
   non_sampled_size = s.non_sampled_size;

@@ -1,13 +1,16 @@
 -- What is due at an entry is decided, one after the other, by the one limiter.
 -- For the clause `decides` of `decide_all`.
-use Rattle.std.proofs.Common.{◌≡◌, ℕ, zero, suc, ◌+◌, ◌/◌, Bool, List, [], ◌∷◌, ◌++◌, map, reverse, length, drop, refl, sym, ap, subst, ◌∙◌, append_assoc, append-nil, add-one}
+use Rattle.std.proofs.Common.{◌≡◌, ℕ, zero, suc, ◌+◌, ◌/◌, Bool, true, false, cond, List, [], ◌∷◌, ◌++◌, map, reverse, length, drop, refl, sym, ap, subst, ◌∙◌, append_assoc, append-nil, add-one}
 use Rattle.otlp_types.specs.declared.arrival.Arrival.{Arrival}
-use Rattle.policy_tree.specs.Tree.{Policies}
+use Rattle.policy_tree.specs.Tree.{Policies, no_more}
+use Rattle.trace_buffer.specs.Buffer.{is_too_big}
+use Rattle.policy_eval.specs.Policies.{asked_nodes}
 use Rattle.policy_eval.specs.Given.{asked_given, Asked}
+use Rattle.policy_eval.specs.Amounts.{amount_at, granted_on}
 use Rattle.policy_eval.specs.AskingLaws.{askings_by, decides_by_counts}
-use Rattle.rate_budget.specs.Grant.{Asking, granted_after}
+use Rattle.rate_budget.specs.Grant.{Asking}
 use Rattle.rate_budget.specs.Budget.{limiter_counts, AsksBudgets}
-use Rattle.journal_theory.specs.Journal.{Entry, Settings, Journal, Opening, clock, due_now, spans_since}
+use Rattle.journal_theory.specs.Journal.{Entry, Settings, Journal, Opening, clock, due_now, policies_for, spans_since}
 use Rattle.journal_theory.specs.Fate.{effect, effect_dealt, released_dealt, dropped_dealt}
 use Rattle.shard_core.specs.Held.{Held, StandsFor, settings}
 use Rattle.shard_core.specs.Taking.{released_in, dropped_in, dealt_after, journal_after, DecidesFirst, AddsDecision, Decides}
@@ -35,8 +38,8 @@ pub record DecidesSome (s : Settings) (e : Entry) (past : Turn) (before : Export
   pub given : List (List Bool)
   pub asked : List Asking
   pub stands : StandsFor new (given_to e past given) dealt
-  pub answers_are : given ++ answers_in_turn s.policies (e ∷ past.journal) (due_behind s e past dealt) asked ≡ (with_answers s past.journal past.askings e).answers
-  pub askings_are : asked_in_turn s.policies (e ∷ past.journal) (due_behind s e past dealt) asked ≡ askings_after s past.journal past.askings e
+  pub answers_are : given ++ answers_in_turn s (e ∷ past.journal) (due_behind s e past dealt) asked ≡ (with_answers s past.journal past.askings e).answers
+  pub askings_are : asked_in_turn s (e ∷ past.journal) (due_behind s e past dealt) asked ≡ askings_after s past.journal past.askings e
   pub limiter_is : last ≡ limiter_counts s.policies asked
   pub released : List Arrival
   pub dropped : Reason → ℕ
@@ -52,7 +55,7 @@ DecidesSome-none s e past h limiter export none stands is = record {
   given = e.answers;
   asked = past.askings;
   stands = stands;
-  answers_are = ap (λ (given : List (List Bool)). given ++ answers_in_turn s.policies (e ∷ past.journal) (due_now s (e ∷ past.journal)) past.askings) none;
+  answers_are = ap (λ (given : List (List Bool)). given ++ answers_in_turn s (e ∷ past.journal) (due_now s (e ∷ past.journal)) past.askings) none;
   askings_are = refl;
   limiter_is = is;
   released = [];
@@ -83,35 +86,43 @@ one-dealt (Release v) dealt some = add-one dealt
 one-dealt (Dropped n) dealt some = add-one dealt
 
 -- the limiter gives a decision the answers that the askings so far say, and then has its askings, too
-pub record Answers (policies : Policies) (past : Journal) (asked : List Asking) (o : Opening) (answers : List Bool) (after : Counts) : Type 0 where
-  pub answers_are : answers ≡ answers_to policies asked (clock past / 1000) (spans_since past o)
-  pub limiter_is : after ≡ limiter_counts policies (asked_more policies asked (clock past / 1000) (spans_since past o))
+pub record Answers (s : Settings) (past : Journal) (asked : List Asking) (o : Opening) (answers : List Bool) (after : Counts) : Type 0 where
+  pub answers_are : answers ≡ answers_to s asked (clock past / 1000) (spans_since past o)
+  pub limiter_is : after ≡ limiter_counts s.policies (asked_more s asked (clock past / 1000) (spans_since past o))
 
-answers-by : (policies : Policies) (past : Journal) (asked : List Asking) (o : Opening) (answers : List Bool) (before after : Counts) → before ≡ limiter_counts policies asked
-    → Asked AsksBudgets (clock past / 1000) (length (spans_since past o)) (asked_given policies answers (spans_since past o)) answers before after → Answers policies past asked o answers after
-answers-by policies past asked o answers before after is h =
-    let second = clock past / 1000 in
-    let spans = spans_since past o in
-    let granted = granted_after policies asked second (length spans) in
+-- the same of the policies that decide on these spans: none where they are too big, which asks nothing
+answers-for : (policies : Policies) (asked : List Asking) (second : ℕ) (spans : List Arrival) (answers : List Bool) (before after : Counts) → before ≡ limiter_counts policies asked → (b : Bool) → let ps : Policies = cond b no_more policies in
+    Asked AsksBudgets second (amount_at ps spans) (asked_given ps answers spans) answers before after → let granted = granted_on policies asked second spans in
+    (answers ≡ map granted (asked_nodes ps granted spans)) × (after ≡ limiter_counts policies (reverse (askings_by granted second (amount_at policies spans) (asked_nodes ps granted spans)) ++ asked))
+answers-for policies asked second spans answers before after is true h = by-none answers h where
+  by-none : (bs : List Bool) → Asked AsksBudgets second (amount_at no_more spans) [] bs before after → (bs ≡ []) × (after ≡ limiter_counts policies asked)
+  by-none [] h = (refl, h ∙ is)
+  by-none (b ∷ bs) h = absurd h
+answers-for policies asked second spans answers before after is false h =
+    let granted = granted_on policies asked second spans in
     let d = decides_by_counts policies asked second spans answers before after is h in
-    record {
-      answers_are = d.answers_are ∙ ap (map granted) d.asked_are;
-      limiter_is = d.counts_are ∙ ap (λ (nodes : List ℕ). limiter_counts policies (reverse (askings_by granted second (length spans) nodes) ++ asked)) d.asked_are;
-    }
+    (d.answers_are ∙ ap (map granted) d.asked_are, d.counts_are ∙ ap (λ (nodes : List ℕ). limiter_counts policies (reverse (askings_by granted second (amount_at policies spans) nodes) ++ asked)) d.asked_are)
+
+answers-by : (s : Settings) (past : Journal) (asked : List Asking) (o : Opening) (answers : List Bool) (before after : Counts) → before ≡ limiter_counts s.policies asked → let spans = spans_since past o in let policies = policies_for s spans in
+    Asked AsksBudgets (clock past / 1000) (amount_at policies spans) (asked_given policies answers spans) answers before after → Answers s past asked o answers after
+answers-by s past asked o answers before after is h =
+    let spans = spans_since past o in
+    let both = answers-for s.policies asked (clock past / 1000) spans answers before after is (is_too_big s.maximum_size spans) h in
+    record { answers_are = both.0; limiter_is = both.1 }
 
 -- the next of the decisions that are due was made: the limiter was asked at it
 record Next (s : Settings) (e : Entry) (past : Turn) (dealt : ℕ) (answers : List Bool) (lent last : Counts) : Type 0 where
   opening : Opening
   later : List Opening
   due : due_behind s e past dealt ≡ opening ∷ later
-  asked : Asked AsksBudgets (clock (e ∷ past.journal) / 1000) (length (spans_since (e ∷ past.journal) opening)) (asked_given s.policies answers (spans_since (e ∷ past.journal) opening)) answers lent last
+  asked : Asked AsksBudgets (clock (e ∷ past.journal) / 1000) (amount_at (policies_for s (spans_since (e ∷ past.journal) opening)) (spans_since (e ∷ past.journal) opening)) (asked_given (policies_for s (spans_since (e ∷ past.journal) opening)) answers (spans_since (e ∷ past.journal) opening)) answers lent last
 
 next-of : (s : Settings) (e : Entry) (past : Turn) (given : List (List Bool)) (dealt : ℕ) (mid new : Held) (lent last : Counts) (answer : Decided) (answers : List Bool) → (answer ≡ Nothing → ⊥) → settings mid ≡ s
     → (os : List Opening) → due_behind s e past dealt ≡ os → DecidesFirst AsksBudgets mid new answer lent last answers (given_to e past given) os → Next s e past dealt answers lent last
 next-of s e past given dealt mid new lent last answer answers some same [] due d = absurd (some d.0)
 next-of s e past given dealt mid new lent last answer answers some same (o ∷ later) due d =
     let spans = spans_since (e ∷ past.journal) o in
-    let P = λ (x : Settings). Asked AsksBudgets (clock (e ∷ past.journal) / 1000) (length spans) (asked_given x.policies answers spans) answers lent last in
+    let P = λ (x : Settings). Asked AsksBudgets (clock (e ∷ past.journal) / 1000) (amount_at (policies_for x spans) spans) (asked_given (policies_for x spans) answers spans) answers lent last in
     record { opening = o; later = later; due = due; asked = subst P same d.2 }
 
 -- what is due doesn't turn on the answers so far
@@ -131,8 +142,8 @@ DecidesSome-push s e past mid new lent last before between after answer some sam
     let did = d.1 now k so_far.stands in
     let F = λ (os : List Opening). DecidesFirst AsksBudgets mid new answer lent last answers now os in
     let next = next-of s e past given k mid new lent last answer answers some same (due_behind s e past k) refl (subst F (due-is s e past given k mid same) did.0) in
-    let by = answers-by s.policies past_now so_far.asked next.opening answers lent last so_far.limiter_is next.asked in
-    let asked = asked_more s.policies so_far.asked (clock past_now / 1000) (spans_since past_now next.opening) in
+    let by = answers-by s past_now so_far.asked next.opening answers lent last so_far.limiter_is next.asked in
+    let asked = asked_more s so_far.asked (clock past_now / 1000) (spans_since past_now next.opening) in
     let left : due_behind s e past (suc k) ≡ next.later = drop-next k (due_now s past_now) next.opening next.later next.due in
     let journal_is : journal_after answer now answers ≡ later = answered-journal answer e past given answers some in
     let dealt_is : dealt_after answer k ≡ suc k = one-dealt answer k some in
@@ -151,13 +162,13 @@ DecidesSome-push s e past mid new lent last before between after answer some sam
       given = given ++ answers ∷ [];
       asked = asked;
       stands = subst K dealt_is (subst S journal_is did.1);
-      answers_are = append_assoc given (answers ∷ []) (answers_in_turn s.policies past_now (due_behind s e past (suc k)) asked)
-          ∙ ap (λ (os : List Opening). given ++ answers ∷ answers_in_turn s.policies past_now os asked) left
-          ∙ ap (λ (first : List Bool). given ++ first ∷ answers_in_turn s.policies past_now next.later asked) by.answers_are
-          ∙ sym (ap (λ (os : List Opening). given ++ answers_in_turn s.policies past_now os so_far.asked) next.due)
+      answers_are = append_assoc given (answers ∷ []) (answers_in_turn s past_now (due_behind s e past (suc k)) asked)
+          ∙ ap (λ (os : List Opening). given ++ answers ∷ answers_in_turn s past_now os asked) left
+          ∙ ap (λ (first : List Bool). given ++ first ∷ answers_in_turn s past_now next.later asked) by.answers_are
+          ∙ sym (ap (λ (os : List Opening). given ++ answers_in_turn s past_now os so_far.asked) next.due)
           ∙ so_far.answers_are;
-      askings_are = ap (λ (os : List Opening). asked_in_turn s.policies past_now os asked) left
-          ∙ sym (ap (λ (os : List Opening). asked_in_turn s.policies past_now os so_far.asked) next.due)
+      askings_are = ap (λ (os : List Opening). asked_in_turn s past_now os asked) left
+          ∙ sym (ap (λ (os : List Opening). asked_in_turn s past_now os so_far.asked) next.due)
           ∙ so_far.askings_are;
       limiter_is = by.limiter_is;
       released = so_far.released ++ released_in answer;
@@ -185,8 +196,8 @@ DecidesSome-end s e past mid new lent last before after same so_far d unchanged 
     let now = given_to e past given in
     let whole = (with_answers s past.journal past.askings e).answers in
     let left : due_behind s e past k ≡ [] = sym (due-is s e past given k mid same) ∙ none-left mid new lent last d.0 now _ (d.1 now k so_far.stands).0 in
-    let given_is : given ≡ whole = sym (append-nil given) ∙ sym (ap (λ (os : List Opening). given ++ answers_in_turn s.policies past_now os so_far.asked) left) ∙ so_far.answers_are in
-    let asked_is : so_far.asked ≡ askings_after s past.journal past.askings e = sym (ap (λ (os : List Opening). asked_in_turn s.policies past_now os so_far.asked) left) ∙ so_far.askings_are in
+    let given_is : given ≡ whole = sym (append-nil given) ∙ sym (ap (λ (os : List Opening). given ++ answers_in_turn s past_now os so_far.asked) left) ∙ so_far.answers_are in
+    let asked_is : so_far.asked ≡ askings_after s past.journal past.askings e = sym (ap (λ (os : List Opening). asked_in_turn s past_now os so_far.asked) left) ∙ so_far.askings_are in
     let S = λ (answers : List (List Bool)). StandsFor mid (given_to e past answers) k in
     let H = λ (h : Held). StandsFor h (given_to e past whole) k in
     let X = λ (x : Settings). effect_dealt x now k ≡ effect x now in

@@ -21,7 +21,7 @@ use Rattle.script_run.specs.CoreRun.{IsRunOfCore}
 
 -- the settings of each shard of a run: its share of the traces and of the caches; its senders are the lanes and the ticker
 abbrev pub settings_by : Config → Settings
-settings_by config = settings_of config.policies config.decision_wait config.root_wait (config.num_traces / config.shards) (config.sampled_cache_size / config.shards) (config.non_sampled_cache_size / config.shards) (config.lanes + 1)
+settings_by config = settings_of config.policies config.decision_wait config.root_wait config.maximum_trace_size (config.num_traces / config.shards) (config.sampled_cache_size / config.shards) (config.non_sampled_cache_size / config.shards) (config.lanes + 1)
 
 -- From the first state of the sink, these instructions lead to this one, and to these counts. What they do is a run of the core, for which the headline holds; the sink has the lines of the replies and of the batches that were handed over, and has failed once where it is down, else never.
 pub record Leads (s : Settings) (sizes : Sizes) (lanes shards : ℕ) (first : LineSinkState) (played : List Instruction) (last : LineSinkState) (report : Option (List ℕ)) : Type 0 where

@@ -3,17 +3,19 @@
 use Rattle.std.proofs.Common.{◌≡◌, ℕ, zero, suc, ◌+◌, ◌/◌, ◌<◌, nat_le, Bool, true, false, ◌&&◌, ◌||◌, cond, List, [], ◌∷◌, map, reverse, length, take, drop, Option, Some, None, refl, sym, ap, subst, ◌∙◌, arith, add-one}
 use Rattle.std.specs.List.{list_any, find, filter}
 use Rattle.std.specs.Option.{is_none, is_some}
+use Rattle.policy_tree.specs.Tree.{Policies, no_more}
 use Rattle.policy_tree.specs.Meaning.{meaning}
+use Rattle.policy_eval.specs.Amounts.{amount_at}
 use Rattle.policy_eval.specs.Given.{verdict_given, decider_given, asked_given, are_answered, Asked}
-use Rattle.trace_buffer.specs.Buffer.{Episode, settled, settle_first, is_due_at, is_root_due, opened_by}
-use Rattle.journal_theory.specs.Journal.{Entry, Journal, Opening, in_buffer, notes_dealt, due_now, clock, spans_since, answered, IsAnsweredUpTo}
-use Rattle.journal_theory.specs.Standing.{Standing, episode}
+use Rattle.trace_buffer.specs.Buffer.{Episode, settled, settle_first, is_due_at, is_root_due, is_too_big, opened_by}
+use Rattle.journal_theory.specs.Journal.{Entry, Journal, Opening, in_buffer, notes_dealt, due_now, clock, policies_for, spans_since, answered, IsAnsweredUpTo}
+use Rattle.journal_theory.specs.Standing.{Standing, standing, episode}
 use Rattle.span_ids.specs.declared.outcome.Verdict.{Verdict}
 use Rattle.otlp_types.specs.declared.arrival.Arrival.{Arrival}
 use Rattle.shard_core.specs.Held.{Held, settings, StandsFor, has_due, is_finished, is_due_in, due_by}
 use Rattle.journal_theory.specs.Deciding.{is_due_by}
 use Rattle.shard_core.specs.Taking.{waiting, Releases, DecidesFirst, AddsDecision, TellsDecider, Decides, DecidesWithDecider, journal_after, dealt_after}
-use Rattle.shard_core.specs.Holding.{SettlesFirst}
+use Rattle.shard_core.specs.Holding.{SettlesFirst, policies_on}
 use Rattle.shard_core.specs.declared.answer.Decided.{Decided}
 use Rattle.shard_core.specs.declared.answer.Decided.TheVariants.{Release, Nothing, Dropped as NotReleased}
 use Rattle.journal_theory.proofs.Lists.{set_first}
@@ -37,20 +39,16 @@ root_off : (m : ℕ) (o : Option ℕ) → is_root_due m 0 o ≡ false
 root_off m None = refl
 root_off m (Some c) = refl
 
-or-none : (b : Bool) → (b || false) ≡ b
-or-none true = refl
-or-none false = refl
-
--- with root wait off, being due is a matter of the opening
-due_off : (m w : ℕ) (e : Episode) → is_due_at m w 0 e ≡ (is_none e.verdict && nat_le (e.moment + w) m)
-due_off m w e = ap (λ b. is_none e.verdict && (nat_le (e.moment + w) m || b)) (root_off m e.first_root) ∙ ap (λ b. is_none e.verdict && b) (or-none (nat_le (e.moment + w) m))
+-- with root wait off, being due is a matter of the opening, or of the size
+due_off : (m w : ℕ) (e : Episode) → is_due_at m w 0 e ≡ (is_none e.verdict && (nat_le (e.moment + w) m || is_too_big e.maximum e.spans))
+due_off m w e = ap (λ b. is_none e.verdict && (nat_le (e.moment + w) m || b || is_too_big e.maximum e.spans)) (root_off m e.first_root)
 
 due_each : (fin : Bool) (c m w r : ℕ) (es : List Episode) → opened_by c es ≡ true → let d = cond {A = ℕ × ℕ × ℕ} fin (c, 0, 0) (m, w, r) in Each (λ (e : Episode). is_due_at d.0 d.1 d.2 e ≡ is_due_by fin m w r e) es
 due_each fin c m w r [] h = tt
 due_each true c m w r (e ∷ es) h = go (nat_le e.moment c) refl h (due_each true c m w r es)
   where
     go : (b : Bool) → nat_le e.moment c ≡ b → (b && opened_by c es) ≡ true → (opened_by c es ≡ true → Each (λ (e : Episode). is_due_at c 0 0 e ≡ is_due_by true m w r e) es) → Each (λ (e : Episode). is_due_at c 0 0 e ≡ is_due_by true m w r e) (e ∷ es)
-    go true k h f = (due_off c 0 e ∙ ap (λ n. is_none e.verdict && nat_le n c) (add-none e.moment) ∙ ap (λ b. is_none e.verdict && b) k, f h)
+    go true k h f = (due_off c 0 e ∙ ap (λ n. is_none e.verdict && (nat_le n c || is_too_big e.maximum e.spans)) (add-none e.moment) ∙ ap (λ b. is_none e.verdict && (b || is_too_big e.maximum e.spans)) k, f h)
     go false k h f = absurd (cc h)
 due_each false c m w r (e ∷ es) h = (refl, due_rest (nat_le e.moment c) h (due_each false c m w r es))
   where
@@ -91,25 +89,61 @@ module _ {L : Type 0} (asks : L → ℕ → ℕ → ℕ → Bool → L → Type 
       let P = λ (os : List Opening). DecidesFirst asks h h Nothing limiter limiter [] past os in
       (subst P (sym gone) (refl, refl, refl), s, nothing_adds (settings h) past k)
 
+  -- the episode that is found has the greatest size of the settings
+  maximum_is : (past : Journal) (k : ℕ) (e : Episode) → find (is_due_at (due_by h).0 (due_by h).1 (due_by h).2) h.standing.episodes ≡ Some e → StandsFor h past k → e.maximum ≡ h.maximum_size
+  maximum_is past k e f s = go (reverse (in_buffer (settings h) (notes_dealt (settings h) past k))) (subst P held f)
+    where
+      p : Episode → Bool
+      p = is_due_at (due_by h).0 (due_by h).1 (due_by h).2
+
+      of : Opening → Episode
+      of = episode (settings h) past (notes_dealt (settings h) past k)
+
+      P : List Episode → Type 0
+      P = λ es. find p es ≡ Some e
+
+      held : h.standing.episodes ≡ map of (reverse (in_buffer (settings h) (notes_dealt (settings h) past k)))
+      held = ap (λ (st : Standing). st.episodes) s.1
+
+      go : (os : List Opening) → find p (map of os) ≡ Some e → e.maximum ≡ h.maximum_size
+      go [] g = absurd (cc g)
+      go (x ∷ os) g = (elim (p (of x)) as (λ b. cond b (Some (of x)) (find p (map of os)) ≡ Some e → e.maximum ≡ h.maximum_size) [
+        | true ↦ λ g. let is : of x ≡ e = cc g in sym (ap (λ (y : Episode). y.maximum) is)
+        | false ↦ λ g. go os g
+      ]) g
+
+  -- and so the policies that decide it are those for its spans
+  on_is : (past : Journal) (k : ℕ) (e : Episode) → find (is_due_at (due_by h).0 (due_by h).1 (due_by h).2) h.standing.episodes ≡ Some e → StandsFor h past k → policies_on (settings h).policies e ≡ policies_for (settings h) e.spans
+  on_is past k e f s = ap (λ (m : ℕ). cond (is_too_big m e.spans) no_more (settings h).policies) (maximum_is past k e f s)
+
+  -- the episode is decided by these policies
+  abbrev Settled : (new : Held) → Decided → (answers : List Bool) → Episode → Policies → Type 0
+  Settled new answer answers e ps =
+      let v = verdict_given ps answers e.spans in
+      Releases answer e.spans v × (new ≡ record h { standing = record h.standing { episodes = settle_first (due_by h).0 (due_by h).1 (due_by h).2 v h.standing.episodes } })
+
   decides-in : (new : Held) (answer : Decided) (before after : L) (answers : List Bool) (e : Episode) (x : Entry) (earlier : Journal) (k : ℕ) → let past : Journal = x ∷ earlier in
       find (is_due_at (due_by h).0 (due_by h).1 (due_by h).2) h.standing.episodes ≡ Some e → SettlesFirst h (due_by h).0 (due_by h).1 (due_by h).2 answers answer new →
-      are_answered (settings h).policies answers e.spans ≡ true → Asked asks (h.standing.clock / 1000) (length e.spans) (asked_given (settings h).policies answers e.spans) answers before after →
+      are_answered (policies_on (settings h).policies e) answers e.spans ≡ true → Asked asks (h.standing.clock / 1000) (amount_at (policies_on (settings h).policies e) e.spans) (asked_given (policies_on (settings h).policies e) answers e.spans) answers before after →
       StandsFor h past k → Does new answer before after answers past k
   decides-in new answer before after answers e x earlier k f t a q s =
       let past : Journal = x ∷ earlier in
-      let policies = (settings h).policies in
-      let settle = t e f in
+      let policies = policies_for (settings h) in
+      let on = on_is past k e f s in
+      let settle = subst (λ (ps : Policies). Settled new answer answers e ps) on (t e f) in
       let step = decides-step (settings h) (room_of h l) x earlier k h.standing e w s.0 s.1 s.2 (sym (due_is h o) ∙ f) in
       let p = step.0 in
-      let v = verdict_given policies answers e.spans in
-      let R = λ (spans : List Arrival). Releases answer spans (verdict_given policies answers spans) in
-      let A = λ (spans : List Arrival). are_answered policies answers spans ≡ true in
-      let Q = λ (spans : List Arrival) (c : ℕ). Asked asks (c / 1000) (length spans) (asked_given policies answers spans) answers before after in
+      let v = verdict_given (policies e.spans) answers e.spans in
+      let R = λ (spans : List Arrival). Releases answer spans (verdict_given (policies spans) answers spans) in
+      let A = λ (spans : List Arrival). are_answered (policies spans) answers spans ≡ true in
+      let Q = λ (spans : List Arrival) (c : ℕ). Asked asks (c / 1000) (amount_at (policies spans) spans) (asked_given (policies spans) answers spans) answers before after in
+      let A' = λ (ps : Policies). are_answered ps answers e.spans ≡ true in
+      let Q' = λ (ps : Policies). Asked asks (h.standing.clock / 1000) (amount_at ps e.spans) (asked_given ps answers e.spans) answers before after in
       let same = sym step.3 in
       let released = subst R same settle.0 in
-      let fits = subst A same a in
+      let fits = subst A same (subst A' on a) in
       let clocks : h.standing.clock ≡ clock past = ap (λ (st : Standing). st.clock) s.1 in
-      let asked = subst (λ (c : ℕ). Q (spans_since past p) c) clocks (subst (λ (spans : List Arrival). Q spans h.standing.clock) same q) in
+      let asked = subst (λ (c : ℕ). Q (spans_since past p) c) clocks (subst (λ (spans : List Arrival). Q spans h.standing.clock) same (subst Q' on q)) in
       let P = λ (os : List Opening). DecidesFirst asks h new answer before after answers past os in
       let first = subst P (sym step.2) (released, fits, asked) in
       let due = settle_same (due_by h).0 (due_by h).1 (due_by h).2 v (is_due_in h) h.standing.episodes (due_each (is_finished h) h.standing.clock h.standing.mark h.wait h.root_wait h.standing.episodes o) in
@@ -119,7 +153,7 @@ module _ {L : Type 0} (asks : L → ℕ → ℕ → ℕ → Bool → L → Type 
       let stands = subst S (sym is) (s.0, sym (step.4 answers), subst U (sym (add-one k)) (answered-next (settings h) past k answers p step.1 step.2 s.2 fits)) in
       (first, by_answer answer released stands, decision_adds (settings h) x earlier k answer answers p step.1 step.2 s.2 released)
     where
-      by_answer : (y : Decided) → Releases y (spans_since (x ∷ earlier) (decides-step (settings h) (room_of h l) x earlier k h.standing e w s.0 s.1 s.2 (sym (due_is h o) ∙ f)).0) (verdict_given (settings h).policies answers (spans_since (x ∷ earlier) (decides-step (settings h) (room_of h l) x earlier k h.standing e w s.0 s.1 s.2 (sym (due_is h o) ∙ f)).0)) →
+      by_answer : (y : Decided) → Releases y (spans_since (x ∷ earlier) (decides-step (settings h) (room_of h l) x earlier k h.standing e w s.0 s.1 s.2 (sym (due_is h o) ∙ f)).0) (verdict_given (policies_for (settings h) (spans_since (x ∷ earlier) (decides-step (settings h) (room_of h l) x earlier k h.standing e w s.0 s.1 s.2 (sym (due_is h o) ∙ f)).0)) answers (spans_since (x ∷ earlier) (decides-step (settings h) (room_of h l) x earlier k h.standing e w s.0 s.1 s.2 (sym (due_is h o) ∙ f)).0)) →
           StandsFor new (answered (x ∷ earlier) answers) (k + 1) → StandsFor new (journal_after y (x ∷ earlier) answers) (dealt_after y k)
       by_answer (Release v) r g = g
       by_answer (NotReleased n) r g = g
@@ -128,17 +162,17 @@ module _ {L : Type 0} (asks : L → ℕ → ℕ → ℕ → Bool → L → Type 
   -- a shard that has taken nothing has no episode
   none_at_first : (e : Episode) (k : ℕ) → find (is_due_at (due_by h).0 (due_by h).1 (due_by h).2) h.standing.episodes ≡ Some e → StandsFor h [] k → ⊥
   none_at_first e k f s =
-      let none : h.standing.episodes ≡ map (episode [] (notes_dealt (settings h) [] k)) (reverse (in_buffer (settings h) (notes_dealt (settings h) [] k))) = ap (λ (st : Standing). st.episodes) s.1 in
+      let none : h.standing.episodes ≡ map (episode (settings h) [] (notes_dealt (settings h) [] k)) (reverse (in_buffer (settings h) (notes_dealt (settings h) [] k))) = ap (λ (st : Standing). st.episodes) s.1 in
       let P = λ (es : List Episode). find (is_due_at (due_by h).0 (due_by h).1 (due_by h).2) es ≡ Some e in
       no_openings h.limit (subst P none f)
     where
-      no_openings : (n : ℕ) → find (is_due_at (due_by h).0 (due_by h).1 (due_by h).2) (map (episode [] (notes_dealt (settings h) [] k)) (reverse (take n []))) ≡ Some e → ⊥
+      no_openings : (n : ℕ) → find (is_due_at (due_by h).0 (due_by h).1 (due_by h).2) (map (episode (settings h) [] (notes_dealt (settings h) [] k)) (reverse (take n []))) ≡ Some e → ⊥
       no_openings zero f = cc f
       no_openings (suc n) f = cc f
 
   pub decides_some : (new : Held) (answer : Decided) (before after : L) (answers : List Bool) (e : Episode) (past : Journal) (k : ℕ) →
       find (is_due_at (due_by h).0 (due_by h).1 (due_by h).2) h.standing.episodes ≡ Some e → SettlesFirst h (due_by h).0 (due_by h).1 (due_by h).2 answers answer new →
-      are_answered (settings h).policies answers e.spans ≡ true → Asked asks (h.standing.clock / 1000) (length e.spans) (asked_given (settings h).policies answers e.spans) answers before after →
+      are_answered (policies_on (settings h).policies e) answers e.spans ≡ true → Asked asks (h.standing.clock / 1000) (amount_at (policies_on (settings h).policies e) e.spans) (asked_given (policies_on (settings h).policies e) answers e.spans) answers before after →
       StandsFor h past k → Does new answer before after answers past k
   decides_some new answer before after answers e [] k f t a q s = absurd (none_at_first e k f s)
   decides_some new answer before after answers e (x ∷ earlier) k f t a q s = decides-in new answer before after answers e x earlier k f t a q s
@@ -146,22 +180,24 @@ module _ {L : Type 0} (asks : L → ℕ → ℕ → ℕ → Bool → L → Type 
   -- ---- which policy decided
 
   pub decider_nothing : (past : Journal) (k : ℕ) → find (is_due_at (due_by h).0 (due_by h).1 (due_by h).2) h.standing.episodes ≡ None → StandsFor h past k
-      → TellsDecider (settings h).policies None [] past (drop k (due_now (settings h) past))
+      → TellsDecider (settings h) None [] past (drop k (due_now (settings h) past))
   decider_nothing past k f s =
       let gone = nothing_left (settings h) (room_of h l) past k h.standing w s.0 s.1 s.2 (sym (due_is h o) ∙ f) in
-      let P = λ (os : List Opening). TellsDecider (settings h).policies None [] past os in
+      let P = λ (os : List Opening). TellsDecider (settings h) None [] past os in
       subst P (sym gone) refl
 
   pub decider_some : (answers : List Bool) (decider : Option ℕ) (e : Episode) (past : Journal) (k : ℕ) → find (is_due_at (due_by h).0 (due_by h).1 (due_by h).2) h.standing.episodes ≡ Some e
-      → decider ≡ decider_given (settings h).policies answers e.spans → StandsFor h past k → TellsDecider (settings h).policies decider answers past (drop k (due_now (settings h) past))
+      → decider ≡ decider_given (policies_on (settings h).policies e) answers e.spans → StandsFor h past k → TellsDecider (settings h) decider answers past (drop k (due_now (settings h) past))
   decider_some answers decider e [] k f d s = absurd (none_at_first e k f s)
   decider_some answers decider e (x ∷ earlier) k f d s =
       let past : Journal = x ∷ earlier in
-      let policies = (settings h).policies in
+      let policies = policies_for (settings h) in
+      let on = on_is past k e f s in
       let step = decides-step (settings h) (room_of h l) x earlier k h.standing e w s.0 s.1 s.2 (sym (due_is h o) ∙ f) in
-      let D = λ (spans : List Arrival). decider ≡ decider_given policies answers spans in
-      let P = λ (os : List Opening). TellsDecider policies decider answers past os in
-      subst P (sym step.2) (subst D (sym step.3) d)
+      let D = λ (spans : List Arrival). decider ≡ decider_given (policies spans) answers spans in
+      let D' = λ (ps : Policies). decider ≡ decider_given ps answers e.spans in
+      let P = λ (os : List Opening). TellsDecider (settings h) decider answers past os in
+      subst P (sym step.2) (subst D (sym step.3) (subst D' on d))
 
 -- what is decided, whichever policy did
 pub without_decider : {L : Type 0} (asks : L → ℕ → ℕ → ℕ → Bool → L → Type 0) (old new : Held) (answer : Decided) (decider : Option ℕ) (before after : L) → DecidesWithDecider asks old new answer decider before after → Decides asks old new answer before after
@@ -194,4 +230,4 @@ pub waits_less : (h new : Held) (m w r : ℕ) (answers : List Bool) (e : Episode
 waits_less h new m w r answers e answer f t =
     let s = t e f in
     let P = λ (es : List Episode). open_in es < waiting h in
-    subst P (sym (ap (λ (n : Held). n.standing.episodes) s.1)) (count-less m w r (verdict_given (meaning h.policies) answers e.spans) h.standing.episodes e f)
+    subst P (sym (ap (λ (n : Held). n.standing.episodes) s.1)) (count-less m w r (verdict_given (policies_on (meaning h.policies) e) answers e.spans) h.standing.episodes e f)

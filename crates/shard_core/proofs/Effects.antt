@@ -61,7 +61,7 @@ module _ (s : Settings) (room : HasRoom s.limit) where
   nothing-counted true = refl
   nothing-counted false = refl
 
-  leaving-counted : (reason : Reason) (before : Journal) (noted : Notes) (r : Option Opening) → number reason (effect_of_leaving before noted r).counted ≡ cond (is_same_reason EvictedReason reason) (spans_left_by (option_map (evicted_of before noted) r)) 0
+  leaving-counted : (reason : Reason) (before : Journal) (noted : Notes) (r : Option Opening) → number reason (effect_of_leaving before noted r).counted ≡ cond (is_same_reason EvictedReason reason) (spans_left_by (option_map (evicted_of s before noted) r)) 0
   leaving-counted reason before noted None = nothing-counted (is_same_reason EvictedReason reason)
   leaving-counted reason before noted (Some o) = go (decided_as noted o.at)
     where

@@ -63,20 +63,20 @@ opened-drop c (e ∷ es) h = go (nat_le e.moment c) h
 self-most : (c : ℕ) → nat_le c c ≡ true
 self-most c = grind (arith, nat_tests)
 
-opened-push : (c : ℕ) (t : TraceId) (a : Arrival) (es : List Episode) → opened_by c es ≡ true → opened_by c (es ++ opening_episode t a c ∷ []) ≡ true
-opened-push c t a [] h = rw (self-most c) refl
-opened-push c t a (e ∷ es) h = go (nat_le e.moment c) h (opened-push c t a es)
+opened-push : (c m : ℕ) (t : TraceId) (a : Arrival) (es : List Episode) → opened_by c es ≡ true → opened_by c (es ++ opening_episode t a c m ∷ []) ≡ true
+opened-push c m t a [] h = rw (self-most c) refl
+opened-push c m t a (e ∷ es) h = go (nat_le e.moment c) h (opened-push c m t a es)
   where
-    go : (b : Bool) → (b && opened_by c es) ≡ true → (opened_by c es ≡ true → opened_by c (es ++ opening_episode t a c ∷ []) ≡ true) → (b && opened_by c (es ++ opening_episode t a c ∷ [])) ≡ true
+    go : (b : Bool) → (b && opened_by c es) ≡ true → (opened_by c es ≡ true → opened_by c (es ++ opening_episode t a c m ∷ []) ≡ true) → (b && opened_by c (es ++ opening_episode t a c m ∷ [])) ≡ true
     go true h f = f h
     go false h f = absurd (cc h)
 
-pub opened-open : (c : ℕ) (t : TraceId) (a : Arrival) (b : Buffer) → opened_by c b.episodes ≡ true → opened_by c (after_opening b (opening_episode t a c)).episodes ≡ true
-opened-open c t a b h = go (length b.episodes == b.limit)
+pub opened-open : (c m : ℕ) (t : TraceId) (a : Arrival) (b : Buffer) → opened_by c b.episodes ≡ true → opened_by c (after_opening b (opening_episode t a c m)).episodes ≡ true
+opened-open c m t a b h = go (length b.episodes == b.limit)
   where
-    go : (x : Bool) → opened_by c (cond x (drop 1 b.episodes) b.episodes ++ opening_episode t a c ∷ []) ≡ true
-    go true = opened-push c t a (drop 1 b.episodes) (opened-drop c b.episodes h)
-    go false = opened-push c t a b.episodes h
+    go : (x : Bool) → opened_by c (cond x (drop 1 b.episodes) b.episodes ++ opening_episode t a c m ∷ []) ≡ true
+    go true = opened-push c m t a (drop 1 b.episodes) (opened-drop c b.episodes h)
+    go false = opened-push c m t a b.episodes h
 
 -- ---- each trace once, and in no cache
 
@@ -260,9 +260,9 @@ held-cond : (full : Bool) (t : TraceId) (ts : List TraceId) → is_held t ts ≡
 held-cond true t ts h = held-drop t ts h
 held-cond false t ts h = h
 
-pub open_keeps : (clock : ℕ) (old new : Buffer) (c d : CacheLists) (a : Arrival) (t : TraceId) (left : Option Evicted) (r : Option Remembered) → left ≡ leaves old → new ≡ after_opening old (opening_episode t a clock) → Puts left c r d →
+pub open_keeps : (clock maximum : ℕ) (old new : Buffer) (c d : CacheLists) (a : Arrival) (t : TraceId) (left : Option Evicted) (r : Option Remembered) → left ≡ leaves old → new ≡ after_opening old (opening_episode t a clock maximum) → Puts left c r d →
     episode_of t old.episodes ≡ None → is_held_in_either t c ≡ false → IsKept clock old c → IsKept clock new d
-open_keeps clock old new c d a t left r l e q n h k =
+open_keeps clock maximum old new c d a t left r l e q n h k =
     let P = λ (b : Buffer). IsKept clock b d in
     let Q = λ (ts : List TraceId). AreForgotten ts d in
     let out = episode-none t old.episodes n in
@@ -270,8 +270,8 @@ open_keeps clock old new c d a t left r l e q n h k =
     let w = opening_caches old c d left r l q k.2 t out h in
     subst P (sym e) (
       k.0,
-      opened-open clock t a old k.1,
-      subst Q (sym (traces-open full (opening_episode t a clock) old.episodes))
+      opened-open clock maximum t a old k.1,
+      subst Q (sym (traces-open full (opening_episode t a clock maximum) old.episodes))
           (forgotten-push t (cond full (drop 1 (traces old.episodes)) (traces old.episodes)) d (held-cond full t (traces old.episodes) out) w.1 w.0),
     )
 

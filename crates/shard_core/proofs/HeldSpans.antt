@@ -53,16 +53,16 @@ dropped : (es : List Episode) → have_spans es ≡ true → have_spans (drop 1 
 dropped [] h = refl
 dropped (e ∷ es) h = (and_parts (has_spans e) (have_spans es) h).1
 
-opened : (t : TraceId) (a : Arrival) (c : ℕ) (es : List Episode) → have_spans es ≡ true → have_spans (es ++ opening_episode t a c ∷ []) ≡ true
-opened t a c [] h = refl
-opened t a c (e ∷ es) h = rw (and_parts (has_spans e) (have_spans es) h).0 (opened t a c es (and_parts (has_spans e) (have_spans es) h).1)
+opened : (t : TraceId) (a : Arrival) (c m : ℕ) (es : List Episode) → have_spans es ≡ true → have_spans (es ++ opening_episode t a c m ∷ []) ≡ true
+opened t a c m [] h = refl
+opened t a c m (e ∷ es) h = rw (and_parts (has_spans e) (have_spans es) h).0 (opened t a c m es (and_parts (has_spans e) (have_spans es) h).1)
 
-pub open_spans : (t : TraceId) (a : Arrival) (c : ℕ) (old new : Buffer) → new ≡ after_opening old (opening_episode t a c) → have_spans old.episodes ≡ true → have_spans new.episodes ≡ true
-open_spans t a c old new e h = let P = λ (b : Buffer). have_spans b.episodes ≡ true in subst P (sym e) (go (length old.episodes == old.limit))
+pub open_spans : (t : TraceId) (a : Arrival) (c m : ℕ) (old new : Buffer) → new ≡ after_opening old (opening_episode t a c m) → have_spans old.episodes ≡ true → have_spans new.episodes ≡ true
+open_spans t a c m old new e h = let P = λ (b : Buffer). have_spans b.episodes ≡ true in subst P (sym e) (go (length old.episodes == old.limit))
   where
-    go : (b : Bool) → have_spans (cond b (drop 1 old.episodes) old.episodes ++ opening_episode t a c ∷ []) ≡ true
-    go true = opened t a c (drop 1 old.episodes) (dropped old.episodes h)
-    go false = opened t a c old.episodes h
+    go : (b : Bool) → have_spans (cond b (drop 1 old.episodes) old.episodes ++ opening_episode t a c m ∷ []) ≡ true
+    go true = opened t a c m (drop 1 old.episodes) (dropped old.episodes h)
+    go false = opened t a c m old.episodes h
 
 -- what is due has a span
 some-span : (v : Option Verdict) (b : Bool) (n : ℕ) → (is_none v && b) ≡ true → (is_some v || nat_lt 0 n) ≡ true → 0 < n

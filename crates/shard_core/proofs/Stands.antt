@@ -62,20 +62,20 @@ ready h past k w l d f s =
 
 -- nothing is due right after a span, and after another item what is due is still to be answered
 none_taken_due : (s : Settings) (e : Entry) (past : Journal) → IsAnswered s past → e.answers ≡ [] → IsAnsweredUpTo s (e ∷ past) 0
-none_taken_due s e past g h = (ap (are_each_answered s.policies (e ∷ past) []) h, g)
+none_taken_due s e past g h = (ap (are_each_answered s (e ∷ past) []) h, g)
 
 -- a shard that holds what stands for a journal
 stands_at : (h : Held) → 0 < h.limit → (past : Journal) (k : ℕ) → StoppedInTime (settings h) past → IsAnsweredUpTo (settings h) past k → StandsFor (record h { standing = standing (settings h) past k }) past k
 stands_at h l past k s g =
-    let Q = λ (n : ℕ). settings_of h.policies h.wait h.root_wait h.limit h.sampled_size h.non_sampled_size n in
+    let Q = λ (n : ℕ). settings_of h.policies h.wait h.root_wait h.maximum_size h.limit h.sampled_size h.non_sampled_size n in
     let P = λ (n : ℕ). StoppedInTime (Q n) past × (standing (settings h) past k ≡ standing (Q n) past k) × IsAnsweredUpTo (Q n) past k in
     subst P (sym (length-ends (settings h) (room_of h l) past (length h.standing.ends))) (s, refl, g)
 
 -- ---- a span
 
-verdict_left : (past : Journal) (noted : Notes) (r : Option Opening) → verdict_leaving (option_map (evicted_of past noted) r) ≡ option_and_then (λ (o : Opening). decided_as noted o.at) r
-verdict_left past noted None = refl
-verdict_left past noted (Some o) = refl
+verdict_left : (s : Settings) (past : Journal) (noted : Notes) (r : Option Opening) → verdict_leaving (option_map (evicted_of s past noted) r) ≡ option_and_then (λ (o : Opening). decided_as noted o.at) r
+verdict_left s past noted None = refl
+verdict_left s past noted (Some o) = refl
 
 module _ (h : Held) (a : Arrival) (ids : Ids) (past : Journal) (k : ℕ) (i : a.rec.span.ids ≡ Some ids) (l : 0 < h.limit) (g : Ready h past k) where
   abbrev s : Settings
@@ -103,7 +103,7 @@ module _ (h : Held) (a : Arrival) (ids : Ids) (past : Journal) (k : ℕ) (i : a.
   state_is : state_in st ids.trace ≡ state_found f
   state_is = ap (λ (x : Standing). state_in x ids.trace) g.stands ∙ sym (found_as_held s past k ids.trace (room_of h l) g.dealt)
 
-  leaves_are : leaves (buffer h.limit st) ≡ option_map (evicted_of past noted) (leaving s.limit noted.openings)
+  leaves_are : leaves (buffer h.limit st) ≡ option_map (evicted_of s past noted) (leaving s.limit noted.openings)
   leaves_are =
       let m = suc_of h.limit l in
       let lim : s.limit ≡ Some (suc m.0) = ap (λ (n : ℕ). Some n) m.1 in
@@ -123,7 +123,7 @@ module _ (h : Held) (a : Arrival) (ids : Ids) (past : Journal) (k : ℕ) (i : a.
   marks_found : (refused lost : Bool) (x : Finding) → marks_held s h.limit refused lost st (state_found x) ≡ marks_apply_to s noted refused lost x
   marks_found refused lost (joins o) = refl
   marks_found refused lost (meets o v) = refl
-  marks_found refused lost opens = ap (λ (v : Option _). (not refused || true) && (not lost || (not refused && cache_is_on s v))) (ap verdict_leaving leaves_are ∙ verdict_left past noted (leaving s.limit noted.openings))
+  marks_found refused lost opens = ap (λ (v : Option _). (not refused || true) && (not lost || (not refused && cache_is_on s v))) (ap verdict_leaving leaves_are ∙ verdict_left s past noted (leaving s.limit noted.openings))
 
   marks_are : (refused lost : Bool) → marks_held s h.limit refused lost st (state_in st ids.trace) ≡ true → marks_apply_to_ids s past refused lost a.rec.span.ids ≡ true
   marks_are refused lost e = ap (λ (o : Option Ids). marks_apply_to_ids s past refused lost o) i ∙ sym (marks_found refused lost f) ∙ ap (marks_held s h.limit refused lost st) (sym state_is) ∙ e
@@ -186,22 +186,22 @@ none_taken : {X : Type 0} (n : ℕ) → take {A = X} n [] ≡ []
 none_taken zero = refl
 none_taken (suc n) = refl
 
-pub new_stands : (policies : List Policy) (wait root_wait n : ℕ) (b : Buffer) (c : CacheLists) (ended : List Bool) → b.episodes ≡ [] → c.sampled.traces ≡ [] → c.not_sampled.traces ≡ [] → ended ≡ replicate n false →
-    StandsFor (held_of policies wait root_wait b c 0 0 ended) [] 0
-new_stands policies wait root_wait n b c ended e x y f =
+pub new_stands : (policies : List Policy) (wait root_wait maximum n : ℕ) (b : Buffer) (c : CacheLists) (ended : List Bool) → b.episodes ≡ [] → c.sampled.traces ≡ [] → c.not_sampled.traces ≡ [] → ended ≡ replicate n false →
+    StandsFor (held_of policies wait root_wait maximum b c 0 0 ended) [] 0
+new_stands policies wait root_wait maximum n b c ended e x y f =
     let z : ended ≡ ends [] (length ended) = f ∙ sym (no-ends n) ∙ ap (ends []) (sym (ap length f ∙ length-replicate n false)) in
-    let h = held_of policies wait root_wait b c 0 0 ended in
+    let h = held_of policies wait root_wait maximum b c 0 0 ended in
     (tt, parts b.episodes c.sampled.traces c.not_sampled.traces ended b.limit c.sampled.size c.not_sampled.size e x y z, tt)
   where
     parts : (es : List Episode) (ss ns : List TraceId) (en : List Bool) (l i j : ℕ) → es ≡ [] → ss ≡ [] → ns ≡ [] → en ≡ ends [] (length en) →
-        (let st : Standing = record { episodes = es; sampled = ss; non_sampled = ns; clock = 0; mark = 0; ends = en } in st) ≡ standing (settings_of policies wait root_wait l i j (length en)) [] 0
+        (let st : Standing = record { episodes = es; sampled = ss; non_sampled = ns; clock = 0; mark = 0; ends = en } in st) ≡ standing (settings_of policies wait root_wait maximum l i j (length en)) [] 0
     parts es ss ns en l i j e x y z =
         let a = none_taken {X = Opening} l in
         let b = none_taken {X = TraceId} i in
         let c = none_taken {X = TraceId} j in
         let st = λ (es : List Episode) (ss ns : List TraceId) (xs : List Bool). (let r : Standing = record { episodes = es; sampled = ss; non_sampled = ns; clock = 0; mark = 0; ends = xs } in r) in
         ap (λ es. st es ss ns en) e ∙ ap (λ ss. st [] ss ns en) (x ∙ sym b) ∙ ap (λ ns. st [] (take i []) ns en) (y ∙ sym c) ∙ ap (st [] (take i []) (take j [])) z
-        ∙ ap (λ (os : List Opening). st (map (λ o. record { trace = o.trace; moment = o.moment; first_root = None; spans = []; verdict = None }) (reverse os)) (take i []) (take j []) (ends [] (length en))) (sym a)
+        ∙ ap (λ (os : List Opening). st (map (λ o. record { trace = o.trace; moment = o.moment; maximum = maximum; first_root = None; spans = []; verdict = None }) (reverse os)) (take i []) (take j []) (ends [] (length en))) (sym a)
 
 -- a new shard has a sender that has not ended
 pub new_runs : (n : ℕ) (ended : List Bool) → ended ≡ replicate n false → 0 < n → list_all (λ b. b) ended ≡ false

@@ -10,22 +10,24 @@ use Rattle.decision_cache.specs.Lists.{CacheLists}
 use Rattle.policy_tree.specs.Meaning.{meaning}
 use Rattle.policy_tree.specs.declared.policy.Policy.{Policy}
 
--- what a shard was made with, and what it holds: the limit is on the traces of the buffer, a cache of size 0 is off
+-- what a shard was made with, and what it holds: the greatest size of a trace is bytes, 0 for none; the limit is on the traces of the buffer, a cache of size 0 is off
 pub record Held : Type 0 where
   pub policies : List Policy
   pub wait : ℕ
   pub root_wait : ℕ
+  pub maximum_size : ℕ
   pub limit : ℕ
   pub sampled_size : ℕ
   pub non_sampled_size : ℕ
   pub standing : Standing
 
 -- a shard by its parts
-abbrev pub held_of : List Policy → (wait root_wait : ℕ) → Buffer → CacheLists → (clock mark : ℕ) → List Bool → Held
-held_of policies wait root_wait b c clock mark ends = record {
+abbrev pub held_of : List Policy → (wait root_wait maximum_size : ℕ) → Buffer → CacheLists → (clock mark : ℕ) → List Bool → Held
+held_of policies wait root_wait maximum_size b c clock mark ends = record {
   policies = policies;
   wait = wait;
   root_wait = root_wait;
+  maximum_size = maximum_size;
   limit = b.limit;
   sampled_size = c.sampled.size;
   non_sampled_size = c.not_sampled.size;
@@ -33,12 +35,12 @@ held_of policies wait root_wait b c clock mark ends = record {
 }
 
 -- the settings of a shard
-abbrev pub settings_of : List Policy → (wait root_wait limit sampled_size non_sampled_size senders : ℕ) → Settings
-settings_of policies wait root_wait limit sampled_size non_sampled_size senders = record { policies = meaning policies; wait = wait; root_wait = root_wait; limit = Some limit; sampled_size = sampled_size; non_sampled_size = non_sampled_size; senders = senders }
+abbrev pub settings_of : List Policy → (wait root_wait maximum_size limit sampled_size non_sampled_size senders : ℕ) → Settings
+settings_of policies wait root_wait maximum_size limit sampled_size non_sampled_size senders = record { policies = meaning policies; wait = wait; root_wait = root_wait; maximum_size = maximum_size; limit = Some limit; sampled_size = sampled_size; non_sampled_size = non_sampled_size; senders = senders }
 
 -- the settings that a shard was made with
 abbrev pub settings : Held → Settings
-settings h = settings_of h.policies h.wait h.root_wait h.limit h.sampled_size h.non_sampled_size (length h.standing.ends)
+settings h = settings_of h.policies h.wait h.root_wait h.maximum_size h.limit h.sampled_size h.non_sampled_size (length h.standing.ends)
 
 -- every sender has ended
 abbrev pub is_finished : Held → Bool

@@ -1,10 +1,11 @@
 -- What the code of a shard does to what it holds: words of its private functions, beside the definitions.
 use Rattle.std.specs.Prelude.{ℕ, ◌≡◌, max, Bool, true, false, not, ◌&&◌, ◌||◌, is_none, if◌then◌else◌, List, slice_set, find, Option, Some, None, Result, Ok, Err}
 use Rattle.journal_theory.specs.Standing.{Standing}
-use Rattle.trace_buffer.specs.Buffer.{Episode, leaves, settle_first, is_due_at}
+use Rattle.trace_buffer.specs.Buffer.{Episode, leaves, settle_first, is_due_at, is_too_big}
 use Rattle.trace_buffer.specs.declared.episode.Evicted.{Evicted}
 use Rattle.decision_cache.specs.Lists.{CacheLists, Remembers, is_held_in_either}
 use Rattle.decision_cache.specs.declared.traces.Remembered.{Remembered}
+use Rattle.policy_tree.specs.Tree.{Policies, no_more}
 use Rattle.policy_tree.specs.Meaning.{meaning}
 use Rattle.policy_eval.specs.Given.{verdict_given}
 use Rattle.otlp_types.specs.declared.span.Ids.{Ids}
@@ -114,8 +115,12 @@ held_after_end sender h = record h { ends = slice_set h.ends sender true }
 
 -- ---- a decision
 
+-- the policies that decide an episode: none where it is too big
+abbrev pub policies_on : Policies → Episode → Policies
+policies_on policies e = if is_too_big e.maximum e.spans then no_more else policies
+
 -- the first episode that is due by this mark is decided by these answers of the limiter
 abbrev pub SettlesFirst : (old : Held) → (mark wait root_wait : ℕ) → (answers : List Bool) → Decided → (new : Held) → Type 0
 SettlesFirst old mark wait root_wait answers answer new = (e : Episode) → find (is_due_at mark wait root_wait) old.standing.episodes ≡ Some e →
-    let v = verdict_given (meaning old.policies) answers e.spans in
+    let v = verdict_given (policies_on (meaning old.policies) e) answers e.spans in
     Releases answer e.spans v × (new ≡ record old { standing = record old.standing { episodes = settle_first mark wait root_wait v old.standing.episodes } })

@@ -1,12 +1,12 @@
 -- What `take` and `decide` answer.
 use Rattle.std.specs.Prelude.{ℕ, ◌+◌, ◌/◌, ◌≡◌, ◌==◌, max, Bool, true, false, is_none, if◌then◌else◌, List, [], ◌∷◌, ◌++◌, length, drop, filter, slice_set, Option, Some, None, option_map}
-use Rattle.journal_theory.specs.Journal.{Settings, Journal, Opening, Notes, Finding, joins, meets, opens, notes, finding, leaving, cache_size, has_finished, due_now, item_moment, spans_since, clock, answered}
+use Rattle.journal_theory.specs.Journal.{Settings, Journal, Opening, Notes, Finding, joins, meets, opens, notes, finding, leaving, cache_size, has_finished, due_now, item_moment, policies_for, spans_since, clock, answered}
 use Rattle.journal_theory.specs.Standing.{evicted_of}
 use Rattle.trace_buffer.specs.declared.episode.Evicted.{Evicted}
 use Rattle.decision_cache.specs.declared.traces.Remembered.{Remembered}
 use Rattle.decision_cache.specs.declared.traces.Remembered.TheVariants.{Kept as InCache, Off, Lost}
 use Rattle.journal_theory.specs.Fate.{Fate, waits, is_released, is_counted, fate, is_same_reason, released_dealt, dropped_dealt}
-use Rattle.policy_tree.specs.Tree.{Policies}
+use Rattle.policy_eval.specs.Amounts.{amount_at}
 use Rattle.policy_eval.specs.Given.{verdict_given, decider_given, asked_given, are_answered, Asked}
 use Rattle.otlp_types.specs.declared.span.Ids.{Ids}
 use Rattle.otlp_types.specs.declared.arrival.Arrival.{Arrival}
@@ -62,7 +62,7 @@ put_answer s lost (Some e) = option_map (λ v. put_in lost (cache_size s v)) e.v
 abbrev pub answer_to_finding : Settings → (lost : Bool) → (before : Journal) → Notes → Arrival → Finding → Taken
 answer_to_finding s lost before noted a (meets o v) = answer_to_late a v
 answer_to_finding s lost before noted a (joins o) = Kept None None
-answer_to_finding s lost before noted a opens = let left = option_map (evicted_of before noted) (leaving s.limit noted.openings) in Kept left (put_answer s lost left)
+answer_to_finding s lost before noted a opens = let left = option_map (evicted_of s before noted) (leaving s.limit noted.openings) in Kept left (put_answer s lost left)
 
 -- the answer to a span with these ids
 abbrev pub answer_to_ids : Settings → (refused lost : Bool) → Journal → Arrival → Option Ids → Taken
@@ -161,15 +161,15 @@ journal_after Nothing past answers = past
 journal_after _ past answers = answered past answers
 
 -- What `decide` does to a shard and a limiter by these answers of the limiter, by the episodes that are still to be decided: nothing, where none is;
--- else the first is decided on its spans as the policies say with these answers, and the limiter was asked just what they ask, in this second, for the number of its spans.
+-- else the first is decided on its spans as the policies say with these answers, or as no policy does where they are too big, and the limiter was asked just what they ask, in this second, for its spans or their bytes.
 abbrev pub DecidesFirst : {L : Type 0} → (asks : L → ℕ → ℕ → ℕ → Bool → L → Type 0) → (old new : Held) → Decided → (before after : L) → (answers : List Bool) → Journal → List Opening → Type 0
 DecidesFirst asks old new answer before after answers past [] = (answer ≡ Nothing) × (new ≡ old) × (after ≡ before)
 DecidesFirst asks old new answer before after answers past (o ∷ later) =
-    let policies = (settings old).policies in
     let spans = spans_since past o in
+    let policies = policies_for (settings old) spans in
     Releases answer spans (verdict_given policies answers spans)
     × (are_answered policies answers spans ≡ true)
-    × Asked asks (clock past / 1000) (length spans) (asked_given policies answers spans) answers before after
+    × Asked asks (clock past / 1000) (amount_at policies spans) (asked_given policies answers spans) answers before after
 
 -- what was released and counted by this answer
 abbrev pub AddsDecision : Settings → Decided → (answers : List Bool) → Journal → (dealt : ℕ) → Type 0
@@ -188,9 +188,9 @@ Decides asks old new answer before after = (answers : List Bool) × ((past : Jou
     × AddsDecision (settings old) answer answers past dealt)
 
 -- which policy decided by these answers of the limiter, by the episodes that are still to be decided: the one that decides on the spans of the first, and none where there is none
-abbrev pub TellsDecider : Policies → (decider : Option ℕ) → (answers : List Bool) → Journal → List Opening → Type 0
-TellsDecider policies decider answers past [] = decider ≡ None
-TellsDecider policies decider answers past (o ∷ later) = decider ≡ decider_given policies answers (spans_since past o)
+abbrev pub TellsDecider : Settings → (decider : Option ℕ) → (answers : List Bool) → Journal → List Opening → Type 0
+TellsDecider s decider answers past [] = decider ≡ None
+TellsDecider s decider answers past (o ∷ later) = decider ≡ decider_given (policies_for s (spans_since past o)) answers (spans_since past o)
 
 -- What `decide_with_decider` does: the same, with the policy that decided by these answers.
 abbrev pub DecidesWithDecider : {L : Type 0} → (asks : L → ℕ → ℕ → ℕ → Bool → L → Type 0) → (old new : Held) → Decided → (decider : Option ℕ) → (before after : L) → Type 0
@@ -198,4 +198,4 @@ DecidesWithDecider asks old new answer decider before after = (answers : List Bo
     DecidesFirst asks old new answer before after answers past (drop dealt (due_now (settings old) past))
     × StandsFor new (journal_after answer past answers) (dealt_after answer dealt)
     × AddsDecision (settings old) answer answers past dealt
-    × TellsDecider (settings old).policies decider answers past (drop dealt (due_now (settings old) past)))
+    × TellsDecider (settings old) decider answers past (drop dealt (due_now (settings old) past)))

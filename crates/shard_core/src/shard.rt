@@ -1,16 +1,19 @@
 //! The buffer and the cache of a shard, and how it decides.
-ghost use Rattle.std.specs.Prelude.{◌≡◌, ◌⊎◌, ◌-◌, ◌^◌, min, ℕ, replicate, [], ◌∷◌, ◌++◌, ◌+◌, if◌then◌else◌, ◌<◌, ◌≤◌, max, Bool, IsTrue, IsSome, true, false, length, OnOk, IfOk, IsErr, position, Some, None};
+ghost use Rattle.std.specs.Prelude.{◌≡◌, ◌⊎◌, ◌-◌, ◌^◌, min, ℕ, replicate, [], ◌∷◌, ◌++◌, ◌+◌, ◌/◌, if◌then◌else◌, ◌<◌, ◌≤◌, max, Bool, IsTrue, IsSome, true, false, length, OnOk, IfOk, IsErr, position, Some, None};
 ghost use Rattle.span_ids.specs.declared.outcome.Reason.{Reason};
 ghost use Rattle.span_ids.specs.Same.{same_trace};
 ghost use Rattle.journal_theory.specs.Journal.{Journal, IsAnswered};
 ghost use Rattle.policy_tree.specs.Tree.{limiters};
 ghost use Rattle.policy_tree.specs.Meaning.{meaning};
 ghost use Rattle.policy_eval.specs.Meaning.{knows};
+ghost use Rattle.policy_eval.specs.Given.{EvaluatesWithDecider};
+ghost use Rattle.expression.specs.Expressions.{are_known};
+ghost use Rattle.policy_tree.specs.Expressions.{expressions_in};
 ghost use Rattle.journal_theory.specs.Fate.{effect, effect_dealt, released_dealt, dropped_dealt};
 ghost use Rattle.decision_cache.specs.Lists.{empty_lists};
 ghost use Rattle.shard_core.specs.Taking.{Releases, answer_to_late, is_kept};
 ghost use Rattle.trace_buffer.specs.Buffer.{Appended, Opened, is_new, opened_by, stands_undecided};
-ghost use Rattle.shard_core.specs.Holding.{KeepsAs, OpensAs, answer_to_append, leaves_forgotten};
+ghost use Rattle.shard_core.specs.Holding.{KeepsAs, OpensAs, answer_to_append, leaves_forgotten, policies_on};
 
 use crate::answer::{Decided, Taken};
 use decision_cache::DecisionCache;
@@ -22,7 +25,7 @@ use rate_budget::Limiter;
 use span_ids::{Moment, Reason, Verdict};
 use std::alloc::{AllocError, Global};
 use std::marker::Model;
-use trace_buffer::{Evicted, State, TraceBuffer};
+use trace_buffer::{Episode, Evicted, State, TraceBuffer};
 use trace_hash::TraceHashing;
 
 /// What a shard is made with, beside its policies.
@@ -34,6 +37,8 @@ pub struct ShardSetup {
     pub wait: Moment,
     /// How long a trace waits once its first root was taken, in milliseconds; 0 is off.
     pub root_wait: Moment,
+    /// The greatest size of a trace that waits, in bytes of its spans; 0 is none. One that grows beyond it is decided at once.
+    pub maximum_size: u64,
     /// The most traces in the buffer.
     pub limit: usize,
     /// The most traces that are remembered as sampled once they left the buffer; 0 is off.
@@ -56,6 +61,7 @@ pub struct Shard {
     searches: Searches,
     wait: Moment,
     root_wait: Moment,
+    maximum_size: u64,
     buffer: TraceBuffer,
     cache: DecisionCache,
     clock: Moment,
@@ -79,7 +85,7 @@ impl Model for Shard {
 
     ghost coded = { Prim.hlevel (codes, any_value.the_row.coded, kind.the_row.coded) };
 
-    ghost view = { λ s. held_of s.policies s.wait s.root_wait s.buffer s.cache s.clock s.mark s.ends.items };
+    ghost view = { λ s. held_of s.policies s.wait s.root_wait s.maximum_size s.buffer s.cache s.clock s.mark s.ends.items };
 
     ghost invariant = { λ s. (0 < s.wait) × (0 < s.buffer.limit) × (have_spans s.buffer.episodes ≡ true) × (opened_by s.clock s.buffer.episodes ≡ true) × AreForgotten (traces s.buffer.episodes) s.cache × (are_known s.searches (expressions_in (meaning s.policies)) ≡ true) };
 }
@@ -99,7 +105,7 @@ impl Shard {
         requires has_senders { 0 < setup.senders }
         ensures stands { IfOk result (λ shard. StandsFor shard [] 0) }
         ensures policies { IfOk result (λ shard. shard.policies ≡ policies) }
-        ensures settings { IfOk result (λ shard. settings shard ≡ settings_of policies setup.wait setup.root_wait setup.limit setup.sampled setup.non_sampled setup.senders) }
+        ensures settings { IfOk result (λ shard. settings shard ≡ settings_of policies setup.wait setup.root_wait setup.maximum_size setup.limit setup.sampled setup.non_sampled setup.senders) }
         ensures nothing_due { IfOk result (λ shard. has_due shard ≡ false) }
         ensures running { IfOk result (λ shard. is_finished shard ≡ false) }
         ensures ends { IfOk result (λ shard. shard.standing.ends ≡ replicate setup.senders false) }
@@ -111,6 +117,7 @@ impl Shard {
                 searches,
                 wait: setup.wait,
                 root_wait: setup.root_wait,
+                maximum_size: setup.maximum_size,
                 buffer,
                 cache,
                 clock: 0,
@@ -204,7 +211,13 @@ impl Shard {
                 Some(verdict) => late(arrival, verdict),
                 None => opened(
                     &mut self.cache,
-                    open(&mut self.buffer, arrival, self.clock, has_memory),
+                    open(
+                        &mut self.buffer,
+                        arrival,
+                        self.clock,
+                        self.maximum_size,
+                        has_memory,
+                    ),
                 ),
             },
         }
@@ -246,7 +259,7 @@ impl Shard {
     /// does.
     ///
     /// The limiter is one of the policies' limiter nodes, and is asked just what they ask for the trace's spans. Where no
-    /// trace is due it isn't asked.
+    /// trace is due, or the trace is too big, it isn't asked: that isn't sampled, whatever the policies are.
     pub fn decide<L: Limiter>(&mut self, limiter: &mut L) -> Decided
         requires nodes { knows (L.has_node limiter.old) (limiters (meaning self.old.policies)) ≡ true }
         ensures decides { Decides L.asks self.old self.new result limiter.old limiter.new }
@@ -286,16 +299,33 @@ impl Shard {
         let Some(episode) = self.buffer.next_due(mark, wait, root_wait) else {
             return (Decided::Nothing, None);
         };
-        let (verdict, decider) = evaluate_with_decider(
-            &self.policies,
-            episode.spans(),
-            now,
-            limiter,
-            &mut self.searches,
-        );
+        let (verdict, decider) =
+            decide_on(&self.policies, episode, now, limiter, &mut self.searches);
         let spans = self.buffer.settle(mark, wait, root_wait, verdict);
         (decided(verdict, spans), decider)
     }
+}
+
+/// The verdict of the policies on the spans of an episode, and the place of the one that decides, if one does: of none of them
+/// where the episode is too big.
+fn decide_on<L: Limiter>(
+    policies: &Policies,
+    episode: &Episode,
+    now: Moment,
+    limiter: &mut L,
+    searches: &mut Searches,
+) -> (Verdict, Option<usize>)
+    requires nodes { knows (L.has_node limiter.old) (limiters (meaning policies.now)) ≡ true }
+    requires spans { 0 < length episode.now.spans }
+    requires expressions { are_known searches.old (expressions_in (meaning policies.now)) ≡ true }
+    ensures evaluates { EvaluatesWithDecider L.asks (policies_on (meaning policies.now) episode.now) (now / 1000) episode.now.spans result.0 result.1 limiter.old limiter.new }
+    ensures keeps { (m : ℕ) → L.has_node limiter.new m ≡ L.has_node limiter.old m }
+    ensures same { searches.new ≡ searches.old }
+{
+    if episode.is_too_big() {
+        return (Verdict::NotSampled, None);
+    }
+    evaluate_with_decider(policies, episode.spans(), now, limiter, searches)
 }
 
 /// The buffer and the cache of a shard that has taken nothing, and which of its senders have ended: none.
@@ -337,16 +367,17 @@ fn open(
     buffer: &mut TraceBuffer,
     first: Arrival,
     clock: Moment,
+    maximum_size: u64,
     has_memory: bool,
 ) -> Result<Option<Evicted>, (Arrival, AllocError)>
     requires ids { IsSome first.rec.span.ids }
     requires unknown { is_new first.rec.span.ids buffer.old.episodes ≡ true }
     requires clock { opened_by clock buffer.old.episodes ≡ true }
-    ensures opened { Opened buffer.old first first.rec.span.ids clock result buffer.new }
+    ensures opened { Opened buffer.old first first.rec.span.ids clock maximum_size result buffer.new }
     ensures no_memory { has_memory ≡ false → IsErr result }
 {
     if has_memory {
-        buffer.open(first, clock)
+        buffer.open(first, clock, maximum_size)
     } else {
         Err((first, AllocError))
     }

@@ -5,6 +5,7 @@ use Rattle.std.specs.Option.{unwrap_or}
 use Rattle.std.proofs.lemmas.Option.{slice_get-map, slice_get_read, slice_get_within, get_or_from_slice_get}
 use Rattle.std.proofs.lemmas.List.Elements.{All-nil, All-cons, All-head, All-push, All-tail}
 use Rattle.atomic_table.specs.Seated.{TableId}
+use Rattle.policy_tree.specs.declared.limit.Limit.{Limit}
 use Rattle.policy_tree.specs.declared.limiter_node.LimiterNode.{LimiterNode}
 use Rattle.shared_budget.specs.declared.known.View.{View}
 use Rattle.shared_budget.specs.Rule.{seated, IsSeat, with_parts}
@@ -28,13 +29,13 @@ with_last (x ∷ all) [] s seat e =
     λ i. (same i ++ s ∷ []) ∷ rest i
 with_last (x ∷ all) (c ∷ column) s seat e = ap (λ (xs : List (List Stand)). (x ++ c ∷ []) ∷ xs) (with_last all column s seat e)
 
-new_seat_more : (tables : List TableId) (ls : List LimiterNode) (table : TableId) (l : LimiterNode) (seats number : ℕ) → length tables ≡ length ls → new_seat tables ls seats number ++ (table, seated l.node l.spans_per_second seats number number []) ∷ [] ≡ new_seat (tables ++ table ∷ []) (ls ++ l ∷ []) seats number
+new_seat_more : (tables : List TableId) (ls : List LimiterNode) (table : TableId) (l : LimiterNode) (seats number : ℕ) → length tables ≡ length ls → new_seat tables ls seats number ++ (table, seated l.node l.limit seats number number []) ∷ [] ≡ new_seat (tables ++ table ∷ []) (ls ++ l ∷ []) seats number
 new_seat_more [] [] table l seats number e = refl
 new_seat_more [] (x ∷ ls) table l seats number e = absurd (omega arith)
 new_seat_more (t ∷ tables) [] table l seats number e = absurd (omega arith)
-new_seat_more (t ∷ tables) (x ∷ ls) table l seats number e = ap (λ (xs : List Stand). (t, seated x.node x.spans_per_second seats number number []) ∷ xs) (new_seat_more tables ls table l seats number (omega arith))
+new_seat_more (t ∷ tables) (x ∷ ls) table l seats number e = ap (λ (xs : List Stand). (t, seated x.node x.limit seats number number []) ∷ xs) (new_seat_more tables ls table l seats number (omega arith))
 
-column_more : (tables : List TableId) (ls : List LimiterNode) (table : TableId) (l : LimiterNode) (seats from : ℕ) (all : List (List Stand)) (col : List Stand) → length tables ≡ length ls → AreNewSeatsFrom tables ls seats from all → AreNewFrom table l.node l.spans_per_second seats from col → length col ≡ length all →
+column_more : (tables : List TableId) (ls : List LimiterNode) (table : TableId) (l : LimiterNode) (seats from : ℕ) (all : List (List Stand)) (col : List Stand) → length tables ≡ length ls → AreNewSeatsFrom tables ls seats from all → AreNewFrom table l.node l.limit seats from col → length col ≡ length all →
     AreNewSeatsFrom (tables ++ table ∷ []) (ls ++ l ∷ []) seats from (with_column all col)
 column_more tables ls table l seats from [] col e h k same = tt
 column_more tables ls table l seats from (seat ∷ all) [] e h k same = absurd (omega arith)
@@ -46,7 +47,7 @@ with_length [] col = refl
 with_length (x ∷ all) [] = refl
 with_length (x ∷ all) (s ∷ col) = ap suc (with_length all col)
 
-pub new_more : (ls : List LimiterNode) (l : LimiterNode) (seats : ℕ) (all : List (List Stand)) (col : List Stand) → AreNewSeats ls seats all → AreNew l.node l.spans_per_second seats col → AreNewSeats (ls ++ l ∷ []) seats (with_column all col)
+pub new_more : (ls : List LimiterNode) (l : LimiterNode) (seats : ℕ) (all : List (List Stand)) (col : List Stand) → AreNewSeats ls seats all → AreNew l.node l.limit seats col → AreNewSeats (ls ++ l ∷ []) seats (with_column all col)
 new_more ls l seats all col h k =
     let tables : List TableId = h.1.0 in
     let table : TableId = k.1.0 in
@@ -73,11 +74,11 @@ column_gone whole all [] h e = sym (with_none all) ∙ h
 column_gone whole all (s ∷ col) h e = absurd (omega arith)
 
 -- new seats of a node have taken in no other
-new_are_seats_from : (table : TableId) (node limit seats from : ℕ) (col : List Stand) → AreNewFrom table node limit seats from col → All (λ (s : Stand). IsSeat s.1) col
+new_are_seats_from : (table : TableId) (node : ℕ) (limit : Limit) (seats from : ℕ) (col : List Stand) → AreNewFrom table node limit seats from col → All (λ (s : Stand). IsSeat s.1) col
 new_are_seats_from table node limit seats from [] h = All-nil (λ (s : Stand). IsSeat s.1)
 new_are_seats_from table node limit seats from (s ∷ col) h = All-cons (λ (s : Stand). IsSeat s.1) s col (subst (λ (s : Stand). IsSeat s.1) (sym h.0) (refl, refl)) (new_are_seats_from table node limit seats (from + 1) col h.1)
 
-pub new_are_seats : (node limit seats : ℕ) (col : List Stand) → AreNew node limit seats col → All (λ (s : Stand). IsSeat s.1) col
+pub new_are_seats : (node : ℕ) (limit : Limit) (seats : ℕ) (col : List Stand) → AreNew node limit seats col → All (λ (s : Stand). IsSeat s.1) col
 new_are_seats node limit seats col h = new_are_seats_from h.1.0 node limit seats 0 col h.1.1
 
 -- ---- seats at no node
@@ -295,12 +296,12 @@ seats_gone (x ∷ left) e = absurd (omega arith)
 abbrev new_cells : (tables : List TableId) → List LimiterNode → ℕ → List NodeCell
 new_cells [] ls seats = []
 new_cells (t ∷ tables) [] seats = []
-new_cells (t ∷ tables) (l ∷ ls) seats = (t, l.node, l.spans_per_second, seats) ∷ new_cells tables ls seats
+new_cells (t ∷ tables) (l ∷ ls) seats = (t, l.node, l.limit, seats) ∷ new_cells tables ls seats
 
 cells_of_new : (tables : List TableId) (ls : List LimiterNode) (seats number : ℕ) → map cell_of (new_seat tables ls seats number) ≡ new_cells tables ls seats
 cells_of_new [] ls seats number = refl
 cells_of_new (t ∷ tables) [] seats number = refl
-cells_of_new (t ∷ tables) (l ∷ ls) seats number = ap (λ (xs : List NodeCell). (t, l.node, l.spans_per_second, seats) ∷ xs) (cells_of_new tables ls seats number)
+cells_of_new (t ∷ tables) (l ∷ ls) seats number = ap (λ (xs : List NodeCell). (t, l.node, l.limit, seats) ∷ xs) (cells_of_new tables ls seats number)
 
 new_have_cells : (tables : List TableId) (ls : List LimiterNode) (seats from : ℕ) (all : List (List Stand)) → AreNewSeatsFrom tables ls seats from all → All (HasCells (new_cells tables ls seats)) all
 new_have_cells tables ls seats from [] h = All-nil (HasCells (new_cells tables ls seats))
@@ -315,7 +316,7 @@ set_keeps_all f (x ∷ stands) zero s t e same = ap (λ c. c ∷ map f stands) (
 set_keeps_all f (x ∷ stands) (suc place) s t e same = ap (λ l. f x ∷ l) (set_keeps_all f stands place s t e same)
 
 pub asking_keeps : AskingKeepsCells
-asking_keeps seat new node second spans answer h =
+asking_keeps seat new node second amount answer h =
     let s : Stand = h.1 in
     let t : Stand = h.2 in
     let view = h.6.1 in

@@ -31,7 +31,7 @@ new_has_all [] [] seats number e = refl
 new_has_all [] (l ∷ nodes) seats number e = absurd (omega arith)
 new_has_all (t ∷ tables) [] seats number e = refl
 new_has_all (t ∷ tables) (l ∷ nodes) seats number e =
-    let s : Stand = (t, seated l.node l.spans_per_second seats number number []) in
+    let s : Stand = (t, seated l.node l.limit seats number number []) in
     let own : (l.node == l.node) ≡ true = grind (arith, nat_tests) in
     rw own (has_more s (new_seat tables nodes seats number) nodes (new_has_all tables nodes seats number (omega arith)))
 

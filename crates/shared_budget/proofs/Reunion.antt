@@ -4,7 +4,9 @@ use Rattle.std.proofs.Common.{◌≡◌, ℕ, ◌+◌, ◌-◌, ◌<◌, ◌≤�
 use Rattle.std.proofs.lemmas.Bool.Decides.{nat_tests}
 use Rattle.std.proofs.lemmas.List.Elements.{All-nil, All-cons, All-head, All-tail, All-weaker}
 use Rattle.atomic_table.specs.Seated.{TableId}
-use Rattle.rate_budget.specs.Grant.{latest_second, granted_in, grants}
+use Rattle.policy_tree.specs.declared.limit.Limit.{Limit}
+use Rattle.policy_tree.specs.declared.limit.Limit.TheVariants.{Spans, Bytes}
+use Rattle.rate_budget.specs.Grant.{latest_second, granted_in, missing_in, grants}
 use Rattle.shared_budget.specs.declared.known.Asked.{Asked}
 use Rattle.shared_budget.specs.declared.known.Part.{Part}
 use Rattle.shared_budget.specs.declared.known.View.{View}
@@ -14,7 +16,7 @@ use Rattle.shared_budget.specs.Seats.{Stand, AreNewFrom, AreNew, IsOf, AreOfOne,
 
 -- ---- one by one
 
-pub new-push : (table : TableId) (node limit seats from at : ℕ) (stands : List Stand) (s : Stand) → AreNewFrom table node limit seats from stands → from + length stands ≡ at → s ≡ (table, seated node limit seats at at []) → AreNewFrom table node limit seats from (stands ++ s ∷ [])
+pub new-push : (table : TableId) (node : ℕ) (limit : Limit) (seats from at : ℕ) (stands : List Stand) (s : Stand) → AreNewFrom table node limit seats from stands → from + length stands ≡ at → s ≡ (table, seated node limit seats at at []) → AreNewFrom table node limit seats from (stands ++ s ∷ [])
 new-push table node limit seats from at [] s h is e =
     let same : at ≡ from = omega arith in
     (e ∙ ap (λ (k : ℕ). (table, seated node limit seats k k [])) same, tt)
@@ -82,9 +84,9 @@ uniting_end whole left first u none log one =
     let is : whole ≡ u.others = u.split ∙ ap (λ (xs : List Stand). xs ++ u.others) none in
     let stand = subst (All (StandsIn log)) (sym is) (u.parts log one.2 one.3) in
     let P : Stand → Type 0 = λ x. IsLegal x.1.node x.1.limit log × AreOfSeats x.1.seats log in
-    let legal : IsLegal u.one.1 u.one.2 log = subst (λ (y : ℕ × ℕ). IsLegal y.0 y.1 log) (λ i. (u.of.1 i, u.of.2 i)) one.0 in
+    let legal : IsLegal u.one.1 u.one.2 log = subst (λ (y : ℕ × Limit). IsLegal y.0 y.1 log) (λ i. (u.of.1 i, u.of.2 i)) one.0 in
     let within : AreOfSeats u.one.3 log = subst (λ m. AreOfSeats m log) u.of.3 one.1 in
-    let each = All-weaker (IsOfTheirs whole u.one) P (λ x o. (subst (λ (y : ℕ × ℕ). IsLegal y.0 y.1 log) (λ i. (sym o.1 i, sym o.2 i)) legal, subst (λ m. AreOfSeats m log) (sym o.3) within)) whole u.one.4 in
+    let each = All-weaker (IsOfTheirs whole u.one) P (λ x o. (subst (λ (y : ℕ × Limit). IsLegal y.0 y.1 log) (λ i. (sym o.1 i, sym o.2 i)) legal, subst (λ m. AreOfSeats m log) (sym o.3) within)) whole u.one.4 in
     (log, λ k d lt. ((each k d lt).0, (each k d lt).1, stand k d lt))
 
 pub none_left : (left : List Stand) → length left ≡ 0 → left ≡ []
@@ -96,25 +98,36 @@ none_left (x ∷ left) e = absurd (omega arith)
 same_second : (a b : ℕ) → (a == b) ≡ true → a ≡ b
 same_second a b h = grind (arith, nat_tests)
 
-within_at : (node limit s : ℕ) (e : Asked) (log : List Asked) → e.granted ≡ grants limit (askings log) e.second e.spans → granted_in s (askings log) ≤ limit
-    → (g t : Bool) → e.granted ≡ g → (latest_second (askings (e ∷ log)) == s) ≡ t → cond (g && t) e.spans 0 + granted_in s (askings log) ≤ limit
-within_at node limit s e log legal below true true granted here =
+within_at : (most s : ℕ) (e : Asked) (log : List Asked) → e.granted ≡ grants (Spans most) (askings log) e.second e.amount → granted_in s (askings log) ≤ most
+    → (g t : Bool) → e.granted ≡ g → (latest_second (askings (e ∷ log)) == s) ≡ t → cond (g && t) e.amount 0 + granted_in s (askings log) ≤ most
+within_at most s e log legal below true true granted here =
     let second : max e.second (latest_second (askings log)) ≡ s = same_second (latest_second (askings (e ∷ log))) s here in
-    let fits : nat_le (granted_in s (askings log) + e.spans) limit ≡ true = ap (λ m. nat_le (granted_in m (askings log) + e.spans) limit) (sym second) ∙ sym legal ∙ granted in
-    let le : granted_in s (askings log) + e.spans ≤ limit = grind (arith, nat_tests) in omega arith
-within_at node limit s e log legal below true false granted here = omega arith
-within_at node limit s e log legal below false t granted here = omega arith
+    let fits : nat_le (granted_in s (askings log) + e.amount) most ≡ true = ap (λ m. nat_le (granted_in m (askings log) + e.amount) most) (sym second) ∙ sym legal ∙ granted in
+    let le : granted_in s (askings log) + e.amount ≤ most = grind (arith, nat_tests) in omega arith
+within_at most s e log legal below true false granted here = omega arith
+within_at most s e log legal below false t granted here = omega arith
+
+-- a bucket holds what is taken of it
+held_at : (per_second burst : ℕ) (e : Asked) (log : List Asked) → e.granted ≡ grants (Bytes per_second burst) (askings log) e.second e.amount
+    → missing_in per_second (latest_second (askings (e ∷ log))) (askings log) ≤ burst → (g : Bool) → e.granted ≡ g → missing_in per_second (latest_second (askings (e ∷ log))) (askings log) + cond g e.amount 0 ≤ burst
+held_at per_second burst e log legal below true granted =
+    let fits : nat_le (missing_in per_second (latest_second (askings (e ∷ log))) (askings log) + e.amount) burst ≡ true = sym legal ∙ granted in grind (arith, nat_tests)
+held_at per_second burst e log legal below false granted = omega arith
 
 pub within : StaysWithin
-within node limit s [] legal = omega arith
-within node limit s (e ∷ log) legal = within_at node limit s e log legal.1 (within node limit s log legal.2) e.granted (latest_second (askings (e ∷ log)) == s) refl refl
+within node (Spans most) s [] legal = omega arith
+within node (Spans most) s (e ∷ log) legal = within_at most s e log legal.1 (within node (Spans most) s log legal.2) e.granted (latest_second (askings (e ∷ log)) == s) refl refl
+within node (Bytes per_second burst) s [] legal = omega arith
+within node (Bytes per_second burst) s (e ∷ log) legal =
+    let counted = latest_second (askings (e ∷ log)) in
+    let held = held_at per_second burst e log legal.1 (within node (Bytes per_second burst) counted log legal.2) e.granted refl in omega (arith, held)
 
 -- ---- what the loop of the seats keeps
 
-abbrev pub Given : (node limit seats last at : ℕ) → List Stand → Stand → Type 0
+abbrev pub Given : (node : ℕ) (limit : Limit) (seats last at : ℕ) → List Stand → Stand → Type 0
 Given node limit seats last at all s = (length all ≡ at) × (s.1 ≡ seated node limit seats last at []) × AreNewFrom s.0 node limit seats 0 all
 
-pub given_more : (node limit seats last at : ℕ) (all : List Stand) (s s' t : Stand) → Given node limit seats last at all s → s' ≡ (s.0, without_next s.1) → t ≡ (s.0, next_seat s.1) → Given node limit seats last (at + 1) (all ++ t ∷ []) s'
+pub given_more : (node : ℕ) (limit : Limit) (seats last at : ℕ) (all : List Stand) (s s' t : Stand) → Given node limit seats last at all s → s' ≡ (s.0, without_next s.1) → t ≡ (s.0, next_seat s.1) → Given node limit seats last (at + 1) (all ++ t ∷ []) s'
 given_more node limit seats last at all s s' t h is given =
     let len : length all + 1 ≡ at + 1 = ap (λ k. k + 1) h.0 in
     let one : length (all ++ t ∷ []) ≡ at + 1 = length-append all (t ∷ []) ∙ len in
@@ -123,7 +136,7 @@ given_more node limit seats last at all s s' t h is given =
     let more : AreNewFrom s.0 node limit seats 0 (all ++ t ∷ []) = new-push s.0 node limit seats 0 at all t h.2 sum new in
     (one, ap (λ (x : Stand). x.1) is ∙ ap (λ (v : View). without_next v) h.1, subst (λ (table : TableId). AreNewFrom table node limit seats 0 (all ++ t ∷ [])) (sym (ap (λ (x : Stand). x.0) is)) more)
 
-pub given_all : (node limit seats at : ℕ) (all : List Stand) (s : Stand) → Given node limit seats (seats - 1) at all s → at ≡ seats - 1 → 0 < seats → AreNew node limit seats (all ++ s ∷ [])
+pub given_all : (node : ℕ) (limit : Limit) (seats at : ℕ) (all : List Stand) (s : Stand) → Given node limit seats (seats - 1) at all s → at ≡ seats - 1 → 0 < seats → AreNew node limit seats (all ++ s ∷ [])
 given_all node limit seats at all s h end some_seat =
     let len : length all ≡ at = h.0 in
     let sum : 0 + length all ≡ at = omega arith in

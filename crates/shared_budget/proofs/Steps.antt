@@ -8,6 +8,8 @@ use lib.ListN.{get_elem?}
 use lib.Pointwise.{pointwise, bytes_decides}
 use Rattle.crossbeam_utils.specs.Register.{Turns, Forks, Merges}
 use Rattle.atomic_table.proofs.Lists.{at_set}
+use Rattle.policy_tree.specs.declared.limit.Limit.{Limit}
+use Rattle.policy_tree.specs.declared.limit.Limit.TheVariants.{Spans, Bytes}
 use Rattle.rate_budget.specs.Grant.{grants}
 use Rattle.shared_budget.specs.declared.known.Asked.{Asked}
 use Rattle.shared_budget.specs.declared.known.Part.{Part}
@@ -36,14 +38,14 @@ every_end F views w mine others j u e = ⊎_elim (λ (x : (j < length views) × 
     (λ (x : (j ≡ length views) × (w ≡ u)). subst (λ (y : ℕ × View). F y.0 y.1) (λ i. (sym x.0 i, x.1 i)) mine) (at_end views w u j e)
 
 -- what the rule says of a live pass
-abbrev Live : (ℕ → ℕ) → (n l s : ℕ) → List Asked → ℕ → View → Type 0
+abbrev Live : (ℕ → ℕ) → (n : ℕ) → (l : Limit) → (s : ℕ) → List Asked → ℕ → View → Type 0
 Live owner n l s log port v = v.live ≡ true → Knows owner n l s log port v
 
 -- what the rule says of a cell of which no pass is fresh
 abbrev NotFresh : ℕ → View → Type 0
 NotFresh port v = v.fresh ≢ true
 
-no_fresh : (x : List ℕ) (views : List View) (owner : ℕ → ℕ) (n l s : ℕ) (log : List Asked) → IsLegal n l log → AreOfSeats s log → x ≡ words_of log → Every NotFresh views → Every (Live owner n l s log) views → Kept x views
+no_fresh : (x : List ℕ) (views : List View) (owner : ℕ → ℕ) (n : ℕ) (l : Limit) (s : ℕ) (log : List Asked) → IsLegal n l log → AreOfSeats s log → x ≡ words_of l log → Every NotFresh views → Every (Live owner n l s log) views → Kept x views
 no_fresh x views owner n l s log legal within is none knows = record {
   owner = owner;
   n = n;
@@ -71,7 +73,7 @@ stale_but x views port v w live h at not = every_set NotFresh views port w not (
 abbrev seen_all : View → List Asked → View
 seen_all v log = record v { seen = log }
 
-looks_knows : (owner : ℕ → ℕ) (n l s : ℕ) (log : List Asked) (port : ℕ) (v : View) → Knows owner n l s log port v → Knows owner n l s log port (seen_all v log)
+looks_knows : (owner : ℕ → ℕ) (n : ℕ) (l : Limit) (s : ℕ) (log : List Asked) (port : ℕ) (v : View) → Knows owner n l s log port v → Knows owner n l s log port (seen_all v log)
 looks_knows owner n l s log port v k = record { of = k.of; below = k.below; owns = k.owns; part = (([], refl), k.part.1); taken = k.taken; rest = k.rest }
 
 pub looks : (x : List ℕ) (views : List View) (port : ℕ) (v : View) → v.live ≡ true → Kept x views → get_elem? views port ≡ some v → (w : View) × Kept x (set views port w) × Looks v w
@@ -90,7 +92,7 @@ looks x views port v live h at =
 part_stays : (e : Asked) (log : List Asked) (p : Part) → e.seat ≢ p.seat → HasPart log p → HasPart (e ∷ log) p
 part_stays e log p apart h = ((e ∷ h.0.0, ap (λ (l : List Asked). e ∷ l) h.0.1), ap (λ b. cond b (e ∷ of_seat p.seat log) (of_seat p.seat log)) (ne_eqb e.seat p.seat apart) ∙ h.1)
 
-others_know : (owner : ℕ → ℕ) (n l s : ℕ) (log : List Asked) (port : ℕ) (e : Asked) → owner e.seat ≡ port → (j : ℕ) (u : View) → j ≢ port → Knows owner n l s log j u → Knows owner n l s (e ∷ log) j u
+others_know : (owner : ℕ → ℕ) (n : ℕ) (l : Limit) (s : ℕ) (log : List Asked) (port : ℕ) (e : Asked) → owner e.seat ≡ port → (j : ℕ) (u : View) → j ≢ port → Knows owner n l s log j u → Knows owner n l s (e ∷ log) j u
 others_know owner n l s log port e mine j u other k = record {
   of = k.of;
   below = k.below;
@@ -102,10 +104,10 @@ others_know owner n l s log port e mine j u other k = record {
   apart : (i : ℕ) → owner i ≡ j → e.seat ≢ i
   apart i is same = other (sym is ∙ ap owner (sym same) ∙ mine)
 
-asks_knows : (owner : ℕ → ℕ) (n l s : ℕ) (log : List Asked) (port : ℕ) (v : View) (second spans : ℕ) (g : Bool) → IsSeat v → Knows owner n l s log port v
-    → Knows owner n l s (asked v second spans g ∷ log) port (record v { seen = asked v second spans g ∷ log; mine = asked v second spans g ∷ v.mine })
-asks_knows owner n l s log port v second spans g seat k =
-    let e = asked v second spans g in
+asks_knows : (owner : ℕ → ℕ) (n : ℕ) (l : Limit) (s : ℕ) (log : List Asked) (port : ℕ) (v : View) (second amount : ℕ) (g : Bool) → IsSeat v → Knows owner n l s log port v
+    → Knows owner n l s (asked v second amount g ∷ log) port (record v { seen = asked v second amount g ∷ log; mine = asked v second amount g ∷ v.mine })
+asks_knows owner n l s log port v second amount g seat k =
+    let e = asked v second amount g in
     record {
       of = k.of;
       below = k.below;
@@ -117,55 +119,56 @@ asks_knows owner n l s log port v second spans g seat k =
     }
 
 -- a step that adds an asking to the history
-pub asks : (second spans : ℕ) (x : List ℕ) (views : List View) (port : ℕ) (v : View) → IsSeat v → Kept x views → get_elem? views port ≡ some v
-    → (w : View) × Kept (next_words second spans v x) (set views port w) × Asks second spans v (answer second spans v x) w
-asks second spans x views port v seat h at =
+pub asks : (second amount : ℕ) (x : List ℕ) (views : List View) (port : ℕ) (v : View) → IsSeat v → Kept x views → get_elem? views port ≡ some v
+    → (w : View) × Kept (next_words second amount v x) (set views port w) × Asks second amount v (answer second amount v x) w
+asks second amount x views port v seat h at =
     let k = h.knows port v at seat.0 in
-    let e : Asked = asked v second spans (answer second spans v x) in
+    let e : Asked = asked v second amount (answer second amount v x) in
     let w : View = record v { seen = e ∷ h.log; mine = e ∷ v.mine } in
-    let k' : Knows h.owner h.n h.l h.s (e ∷ h.log) port w = asks_knows h.owner h.n h.l h.s h.log port v second spans (answer second spans v x) seat k in
-    let grant = legal_after second spans v h.log x h.is in
-    let legal : IsLegal h.n h.l (e ∷ h.log) = (k.of.of_node, subst (λ m. answer second spans v x ≡ grants m (askings h.log) second spans) k.of.of_limit grant, h.legal) in (
+    let k' : Knows h.owner h.n h.l h.s (e ∷ h.log) port w = asks_knows h.owner h.n h.l h.s h.log port v second amount (answer second amount v x) seat k in
+    let is : x ≡ words_of v.limit h.log = h.is ∙ ap (λ m. words_of m h.log) (sym k.of.of_limit) in
+    let grant = legal_after second amount v h.log x is in
+    let legal : IsLegal h.n h.l (e ∷ h.log) = (k.of.of_node, subst (λ m. answer second amount v x ≡ grants m (askings h.log) second amount) k.of.of_limit grant, h.legal) in (
       w,
-      no_fresh (next_words second spans v x) (set views port w) h.owner h.n h.l h.s (e ∷ h.log) legal (k.below, h.within) (words_after second spans v h.log x h.is) (stale_but x views port v w seat.0 h at (stale x views port v seat.0 h at port v at))
+      no_fresh (next_words second amount v x) (set views port w) h.owner h.n h.l h.s (e ∷ h.log) legal (k.below, h.within) (words_after second amount v h.log x is ∙ ap (λ m. words_of m (e ∷ h.log)) k.of.of_limit) (stale_but x views port v w seat.0 h at (stale x views port v seat.0 h at port v at))
           (every_set (Live h.owner h.n h.l h.s (e ∷ h.log)) views port w (λ _. k') (λ j u other e' live. others_know h.owner h.n h.l h.s h.log port e k.owns j u other (h.knows j u e' live))),
       (
         k.part.0.0,
         ap (λ (log : List Asked). record v { seen = e ∷ log; mine = e ∷ v.mine }) k.part.0.1,
-        subst (λ (y : ℕ × ℕ). IsLegal y.0 y.1 (e ∷ h.log)) (λ i. (sym k.of.of_node i, sym k.of.of_limit i)) legal,
+        subst (λ (y : ℕ × Limit). IsLegal y.0 y.1 (e ∷ h.log)) (λ i. (sym k.of.of_node i, sym k.of.of_limit i)) legal,
         k'.part.1,
       ),
     )
 
 -- ---- loads and exchanges
 
-loads_at : (second spans port : ℕ) (v : View) (x : List ℕ) (views : List View) → IsSeat v → Kept x views → get_elem? views port ≡ some v → (b : Bool) → pointwise nat_eq (next_words second spans v x) x ≡ b
-    → (w : View) × Kept x (set views port w) × MatchBool b (Asks second spans v (answer second spans v x) w) (Looks v w)
-loads_at second spans port v x views seat h at true e =
-    let a = asks second spans x views port v seat h at in
-    (a.0, subst (λ y. Kept y (set views port a.0)) ((bytes_decides (next_words second spans v x) x).0 e) a.1, a.2)
-loads_at second spans port v x views seat h at false e = looks x views port v seat.0 h at
+loads_at : (second amount port : ℕ) (v : View) (x : List ℕ) (views : List View) → IsSeat v → Kept x views → get_elem? views port ≡ some v → (b : Bool) → pointwise nat_eq (next_words second amount v x) x ≡ b
+    → (w : View) × Kept x (set views port w) × MatchBool b (Asks second amount v (answer second amount v x) w) (Looks v w)
+loads_at second amount port v x views seat h at true e =
+    let a = asks second amount x views port v seat h at in
+    (a.0, subst (λ y. Kept y (set views port a.0)) ((bytes_decides (next_words second amount v x) x).0 e) a.1, a.2)
+loads_at second amount port v x views seat h at false e = looks x views port v seat.0 h at
 
-pub loads : (second spans port : ℕ) (v : View) → IsSeat v → Turns Kept port v (λ x. x) (Loads second spans)
-loads second spans port v seat x views h at = loads_at second spans port v x views seat h at (pointwise nat_eq (next_words second spans v x) x) refl
+pub loads : (second amount port : ℕ) (v : View) → IsSeat v → Turns Kept port v (λ x. x) (Loads second amount)
+loads second amount port v seat x views h at = loads_at second amount port v x views seat h at (pointwise nat_eq (next_words second amount v x) x) refl
 
-exchanges_at : (second spans port : ℕ) (v : View) (seen new x : List ℕ) (views : List View) → IsSeat v → new ≡ next_words second spans v seen → new ≢ seen → Kept x views → get_elem? views port ≡ some v
-    → (b : Bool) → pointwise nat_eq x seen ≡ b → (w : View) × Kept (cond b new x) (set views port w) × Exchanges second spans v x (cond b new x) w
-exchanges_at second spans port v seen new x views seat is changes h at true e =
+exchanges_at : (second amount port : ℕ) (v : View) (seen new x : List ℕ) (views : List View) → IsSeat v → new ≡ next_words second amount v seen → new ≢ seen → Kept x views → get_elem? views port ≡ some v
+    → (b : Bool) → pointwise nat_eq x seen ≡ b → (w : View) × Kept (cond b new x) (set views port w) × Exchanges second amount v x (cond b new x) w
+exchanges_at second amount port v seen new x views seat is changes h at true e =
     let found : x ≡ seen = (bytes_decides x seen).0 e in
-    let a = asks second spans x views port v seat h at in
-    let now : next_words second spans v x ≡ new = ap (next_words second spans v) found ∙ sym is in
+    let a = asks second amount x views port v seat h at in
+    let now : next_words second amount v x ≡ new = ap (next_words second amount v) found ∙ sym is in
     let apart : pointwise nat_eq new x ≡ false = differs (pointwise nat_eq new x) refl in
-    (a.0, subst (λ y. Kept y (set views port a.0)) now a.1, subst (λ b. MatchBool b (Looks v a.0) (Asks second spans v (answer second spans v x) a.0)) (sym apart) a.2) where
+    (a.0, subst (λ y. Kept y (set views port a.0)) now a.1, subst (λ b. MatchBool b (Looks v a.0) (Asks second amount v (answer second amount v x) a.0)) (sym apart) a.2) where
       differs : (b : Bool) → pointwise nat_eq new x ≡ b → pointwise nat_eq new x ≡ false
       differs true t = absurd (changes ((bytes_decides new x).0 t ∙ (bytes_decides x seen).0 e))
       differs false t = t
-exchanges_at second spans port v seen new x views seat is changes h at false e =
+exchanges_at second amount port v seen new x views seat is changes h at false e =
     let l = looks x views port v seat.0 h at in
-    (l.0, l.1, subst (λ b. MatchBool b (Looks v l.0) (Asks second spans v (answer second spans v x) l.0)) (sym ((bytes_decides x x).1 refl)) l.2)
+    (l.0, l.1, subst (λ b. MatchBool b (Looks v l.0) (Asks second amount v (answer second amount v x) l.0)) (sym ((bytes_decides x x).1 refl)) l.2)
 
-pub exchanges : (second spans port : ℕ) (v : View) (seen new : List ℕ) → IsSeat v → new ≡ next_words second spans v seen → new ≢ seen → Turns Kept port v (λ x. if pointwise nat_eq x seen then new else x) (Exchanges second spans)
-exchanges second spans port v seen new seat is changes x views h at = exchanges_at second spans port v seen new x views seat is changes h at (pointwise nat_eq x seen) refl
+pub exchanges : (second amount port : ℕ) (v : View) (seen new : List ℕ) → IsSeat v → new ≡ next_words second amount v seen → new ≢ seen → Turns Kept port v (λ x. if pointwise nat_eq x seen then new else x) (Exchanges second amount)
+exchanges second amount port v seen new seat is changes x views h at = exchanges_at second amount port v seen new x views seat is changes h at (pointwise nat_eq x seen) refl
 
 -- the history has every part
 pub compares : (port : ℕ) (v : View) → v.live ≡ true → Turns Kept port v (λ x. x) Compares
@@ -179,7 +182,7 @@ compares port v live x views h at =
         (
           h.log,
           (
-            subst (λ (y : ℕ × ℕ). IsLegal y.0 y.1 h.log) (λ i. (sym k.of.of_node i, sym k.of.of_limit i)) h.legal,
+            subst (λ (y : ℕ × Limit). IsLegal y.0 y.1 h.log) (λ i. (sym k.of.of_node i, sym k.of.of_limit i)) h.legal,
             subst (λ m. AreOfSeats m h.log) (sym k.of.of_seats) h.within,
             k.part,
             All-weaker (λ (p : Part). (h.owner p.seat ≡ port) × HasPart h.log p) (HasPart h.log) (λ p t. t.1) v.others k.taken,
@@ -188,13 +191,20 @@ compares port v live x views h at =
       ),
     )
 
+-- where nothing was asked the words are the same whatever the limit
+words_none : (l m : Limit) → words_of l [] ≡ words_of m []
+words_none (Spans a) (Spans b) = refl
+words_none (Spans a) (Bytes r b) = refl
+words_none (Bytes r a) (Spans b) = refl
+words_none (Bytes r a) (Bytes t b) = refl
+
 -- ---- opening, giving, leaving and uniting
 
 pub begins : Kept (0 ∷ 0 ∷ []) (newcomer ∷ [])
 begins = record {
   owner = λ k. 0;
   n = 0;
-  l = 0;
+  l = Spans 0;
   s = 0;
   log = [];
   legal = tt;
@@ -219,7 +229,7 @@ length_set (x ∷ xs) (suc i) a = ap suc (length_set xs i a)
 not_live : (v : View) → v.live ≡ false → v.live ≢ true
 not_live v e t = true≢false (sym t ∙ e)
 
-pub opens : (node limit last port : ℕ) (v : View) → v ≡ newcomer → Forks Kept port v (seated node limit (last + 1) last 0 []) spent
+pub opens : (node : ℕ) (limit : Limit) (last port : ℕ) (v : View) → v ≡ newcomer → Forks Kept port v (seated node limit (last + 1) last 0 []) spent
 opens node limit last port v is x views h at =
     let f = h.fresh port v at (ap (λ (y : View). y.fresh) is) in
     let seats : ℕ = last + 1 in
@@ -227,7 +237,7 @@ opens node limit last port v is x views h at =
     let vs : List View = set views port l in
     let K : ℕ → View → Type 0 = Live (λ k. port) node limit seats [] in
     let mine : Knows (λ k. port) node limit seats [] port l = record { of = record { of_node = refl; of_limit = refl; of_seats = refl }; below = omega arith; owns = refl; part = (([], refl), refl); taken = All-nil (λ (p : Part). (port ≡ port) × HasPart [] p); rest = λ k low high. (refl, refl) } in
-    no_fresh x (vs ++ spent ∷ []) (λ k. port) node limit seats [] tt tt (h.is ∙ ap words_of f.0) none
+    no_fresh x (vs ++ spent ∷ []) (λ k. port) node limit seats [] tt tt (h.is ∙ ap (words_of h.l) f.0 ∙ words_none h.l limit) none
     (every_end K vs spent (λ live. absurd (true≢false (sym live))) (λ j u lt e. every_set K views port l (λ _. mine) (λ i t other e' live. absurd (not_live t (f.1 i t e').0 live)) j u e)) where
       none : Every NotFresh (set views port (seated node limit (last + 1) last 0 []) ++ spent ∷ [])
       none = every_end NotFresh (set views port (seated node limit (last + 1) last 0 [])) spent (λ t. true≢false (sym t))
@@ -248,7 +258,7 @@ unmoved : (owner : ℕ → ℕ) (from new k j : ℕ) → j ≢ from → owner k 
 unmoved owner from new k j other is = ap (λ b. cond b new (owner k)) (ne_eqb (owner k) from (λ x. other (sym is ∙ x))) ∙ is
 
 -- the pass is known as another one
-known_as : (owner owner' : ℕ → ℕ) (n l s : ℕ) (log : List Asked) (j j' : ℕ) (u : View) → ((i : ℕ) → owner i ≡ j → owner' i ≡ j') → Knows owner n l s log j u → Knows owner' n l s log j' u
+known_as : (owner owner' : ℕ → ℕ) (n : ℕ) (l : Limit) (s : ℕ) (log : List Asked) (j j' : ℕ) (u : View) → ((i : ℕ) → owner i ≡ j → owner' i ≡ j') → Knows owner n l s log j u → Knows owner' n l s log j' u
 known_as owner owner' n l s log j j' u to k = record {
   of = k.of;
   below = k.below;
@@ -259,7 +269,7 @@ known_as owner owner' n l s log j j' u to k = record {
 }
 
 -- a seat without a part taken in
-gives_left : (owner : ℕ → ℕ) (n l s : ℕ) (log : List Asked) (port new : ℕ) (v : View) → IsSeat v → v.next < v.seat → Knows owner n l s log port v → Knows (given_to owner v.next new) n l s log port (without_next v)
+gives_left : (owner : ℕ → ℕ) (n : ℕ) (l : Limit) (s : ℕ) (log : List Asked) (port new : ℕ) (v : View) → IsSeat v → v.next < v.seat → Knows owner n l s log port v → Knows (given_to owner v.next new) n l s log port (without_next v)
 gives_left owner n l s log port new v seat lt k = record {
   of = k.of;
   below = k.below;
@@ -271,7 +281,7 @@ gives_left owner n l s log port new v seat lt k = record {
   stays : (i : ℕ) → i ≢ v.next → owner i ≡ port → given_to owner v.next new i ≡ port
   stays i other is = ap (λ b. cond b new (owner i)) (ne_eqb i v.next other) ∙ is
 
-gives_right : (owner : ℕ → ℕ) (n l s : ℕ) (log : List Asked) (port new : ℕ) (v : View) → v.next < v.seat → Knows owner n l s log port v → Knows (given_to owner v.next new) n l s log new (next_seat v)
+gives_right : (owner : ℕ → ℕ) (n : ℕ) (l : Limit) (s : ℕ) (log : List Asked) (port new : ℕ) (v : View) → v.next < v.seat → Knows owner n l s log port v → Knows (given_to owner v.next new) n l s log new (next_seat v)
 gives_right owner n l s log port new v lt k =
     let below : v.seat < s = k.below in
     let r = k.rest v.next (omega arith) lt in
@@ -312,7 +322,7 @@ leaves port v live x views h at =
     (every_end K vs v (λ _. known_as h.owner owner' h.n h.l h.s h.log port new v (λ i is. moved h.owner port new i is) k)
     (λ j u _ e. every_set K views port spent (λ t. absurd (true≢false (sym t))) (λ i t other e' live'. known_as h.owner owner' h.n h.l h.s h.log i i t (λ m is. unmoved h.owner port new m i other is) (h.knows i t e' live')) j u e))
 
-unites : (owner : ℕ → ℕ) (n l s : ℕ) (log : List Asked) (port other : ℕ) (v w : View) → port ≢ other → Knows owner n l s log port v → Knows owner n l s log other w → Knows (moved_to owner other port) n l s log port (with_parts v w)
+unites : (owner : ℕ → ℕ) (n : ℕ) (l : Limit) (s : ℕ) (log : List Asked) (port other : ℕ) (v w : View) → port ≢ other → Knows owner n l s log port v → Knows owner n l s log other w → Knows (moved_to owner other port) n l s log port (with_parts v w)
 unites owner n l s log port other v w apart k m =
     let owner' = moved_to owner other port in
     let a = known_as owner owner' n l s log port port v (λ i is. unmoved owner other port i port apart is) k in

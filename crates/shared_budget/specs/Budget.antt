@@ -4,7 +4,8 @@ use Rattle.std.specs.Option.{unwrap_or}
 use Rattle.std.specs.List.{list_all}
 use Rattle.atomic_table.specs.Seated.{TableId}
 use Rattle.policy_tree.specs.declared.limiter_node.LimiterNode.{LimiterNode}
-use Rattle.rate_budget.specs.Grant.{granted_in}
+use Rattle.policy_tree.specs.declared.limit.Limit.{Limit}
+use Rattle.rate_budget.specs.Grant.{capacity, spent}
 use Rattle.shared_budget.specs.declared.known.Asked.{Asked}
 use Rattle.shared_budget.specs.History.{askings}
 use Rattle.shared_budget.specs.Rule.{seated}
@@ -16,7 +17,7 @@ use Rattle.shared_budget.specs.Seats.{Stand, StandsIn, HaveOneHistory, has_node,
 abbrev pub new_seat : (tables : List TableId) → List LimiterNode → (seats number : ℕ) → List Stand
 new_seat [] nodes seats number = []
 new_seat (t ∷ tables) [] seats number = []
-new_seat (t ∷ tables) (l ∷ nodes) seats number = (t, seated l.node l.spans_per_second seats number number []) ∷ new_seat tables nodes seats number
+new_seat (t ∷ tables) (l ∷ nodes) seats number = (t, seated l.node l.limit seats number number []) ∷ new_seat tables nodes seats number
 
 -- these are the seats from this number on
 abbrev pub AreNewSeatsFrom : (tables : List TableId) → List LimiterNode → (seats from : ℕ) → List (List Stand) → Type 0
@@ -31,7 +32,7 @@ AreNewSeats nodes seats all = (length all ≡ seats) × ((tables : List TableId)
 
 -- what the seats of one node have in common: its cell, its number, its limit, and how many seats it has
 abbrev pub NodeCell : Type 0
-NodeCell = TableId × ℕ × ℕ × ℕ
+NodeCell = TableId × ℕ × Limit × ℕ
 
 abbrev pub cell_of : Stand → NodeCell
 cell_of s = (s.0, s.1.node, s.1.limit, s.1.seats)
@@ -54,7 +55,7 @@ NewSeatsHaveNodes = (nodes : List LimiterNode) (seats : ℕ) (all : List (List S
 
 -- an asking leaves a seat's cells, and its numbers
 abbrev pub AskingKeepsCells : Type 0
-AskingKeepsCells = (seat new : List Stand) (node second spans : ℕ) (answer : Bool) → AsksAt seat node second spans answer new → (map cell_of new ≡ map cell_of seat) × (map seat_number new ≡ map seat_number seat)
+AskingKeepsCells = (seat new : List Stand) (node second amount : ℕ) (answer : Bool) → AsksAt seat node second amount answer new → (map cell_of new ≡ map cell_of seat) × (map seat_number new ≡ map seat_number seat)
 
 -- seats with the cells of seats that may be compared may be compared
 abbrev pub SameCellsSuffice : Type 0
@@ -71,7 +72,7 @@ column place (seat ∷ seats) = unwrap_or (option_map (λ (s : Stand). s ∷ col
 abbrev pub HaveOneHistoryEach : List (List Stand) → Type 0
 HaveOneHistoryEach seats = (place : ℕ) → HaveOneHistory (column place seats)
 
--- in one history of each node, with every seat's askings, each second's grants add up to at most the limit
+-- in one history of each node, with every seat's askings, at most the limit's capacity is spent in each second
 abbrev pub EachStaysWithin : Type 0
 EachStaysWithin = (seats : List (List Stand)) → HaveOneHistoryEach seats → (place : ℕ) →
-    (log : List Asked) × All (λ (s : Stand). StandsIn log s × ((second : ℕ) → granted_in second (askings log) ≤ s.1.limit)) (column place seats)
+    (log : List Asked) × All (λ (s : Stand). StandsIn log s × ((second : ℕ) → spent s.1.limit second (askings log) ≤ capacity s.1.limit)) (column place seats)

@@ -11,7 +11,7 @@ set_keeps (x ∷ stands) zero s t m e same = ap (λ k. (k == m) || has_node stan
   there = cc
 set_keeps (x ∷ stands) (suc place) s t m e same = ap (λ b. (x.1.node == m) || b) (set_keeps stands place s t m e same)
 
-pub asks-keeps : (stands new : List Stand) (node second spans : ℕ) (answer : Bool) (m : ℕ) → AsksAt stands node second spans answer new → has_node new m ≡ has_node stands m
-asks-keeps stands new node second spans answer m h =
+pub asks-keeps : (stands new : List Stand) (node second amount : ℕ) (answer : Bool) (m : ℕ) → AsksAt stands node second amount answer new → has_node new m ≡ has_node stands m
+asks-keeps stands new node second amount answer m h =
     let same : h.2.1.node ≡ h.1.1.node = ap (λ (v : View). v.node) h.6.1 in
     ap (λ (xs : List Stand). has_node xs m) h.7 ∙ set_keeps stands h.0 h.1 h.2 m h.3 same

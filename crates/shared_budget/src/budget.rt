@@ -13,7 +13,8 @@ use policy_tree::Policies;
 use std::alloc::{AllocError, Global};
 use std::sync::Wait;
 
-/// One limiter of the spans per second of some policies, for several seats (tailsamplingprocessor README, `rate_limiting`).
+/// One limiter of the spans and bytes per second of some policies, for several seats (tailsamplingprocessor README,
+/// `rate_limiting`, `bytes_limiting`).
 pub struct SharedBudget;
 
 impl SharedBudget {
@@ -30,7 +31,7 @@ impl SharedBudget {
     {
         let mut all = unseated(rt, alloc, seats)?;
         for limiter in policies.limiters(alloc)?.as_slice() {
-            let column = node_seats(alloc, limiter.node, limiter.spans_per_second, seats)?;
+            let column = node_seats(alloc, limiter.node, limiter.limit, seats)?;
             add_column(&mut all, column)?;
         }
         Ok(all)

@@ -1,4 +1,5 @@
 //! What a seat knows of one limiter node. No value of these types is made.
+use policy_tree::Limit;
 use std::collections::LinkedList;
 
 /// An asking, with its seat and its answer.
@@ -9,8 +10,8 @@ pub struct Asked {
     pub node: u16,
     /// The second of the asking: seconds since the Unix epoch.
     pub second: u64,
-    /// How many spans it was for.
-    pub spans: u64,
+    /// How many spans or bytes it was for, as the node's limit has it.
+    pub amount: u64,
     /// Whether they were granted.
     pub granted: bool,
 }
@@ -33,8 +34,8 @@ pub struct View {
     pub live: bool,
     /// The limiter node.
     pub node: u16,
-    /// The node's limit: spans per second.
-    pub limit: u64,
+    /// The node's limit.
+    pub limit: Limit,
     /// How many seats the node has.
     pub seats: u64,
     /// The number of this seat at its node, from 0.

@@ -2,7 +2,7 @@
 ghost use Rattle.shared_budget.specs.Seats.{StaysWithin};
 ghost use Rattle.shared_budget.specs.Budget.{NewSeatsAreOfOne, NewSeatsHaveNodes, AskingKeepsCells, SameCellsSuffice, EachStaysWithin};
 
-/// In each second the grants of a node that count there add up to at most its limit.
+/// In each second the spans that a node grants add up to at most its limit, and its bucket of bytes is never overdrawn.
 pub fn stays_within()
     ensures history { StaysWithin }
     ensures each { EachStaysWithin }

@@ -1,7 +1,7 @@
-//! One limiter of spans per second for several seats, each of which may be on a thread of its own: each second's grants to
-//! all of them together are at most the limit.
+//! One limiter of spans and of bytes per second for several seats, each of which may be on a thread of its own: what is
+//! granted to all of them together is at most what the limit grants to one.
 //!
-//! A limiter node has one cell of two words, the greatest second asked and the spans granted in it. Whatever the schedule,
+//! A limiter node has one cell of two words, the greatest second asked and what is spent in it. Whatever the schedule,
 //! the node has one history of askings at every moment, in which each is answered by the askings before it. The definitions
 //! are in `specs/`, their reading order in its `Lib`.
 #![tactic(auto)]

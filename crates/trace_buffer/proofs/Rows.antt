@@ -8,5 +8,5 @@ use Rattle.trace_buffer.specs.declared.commands.Command.TheVariants.{Find, Keep,
 use Rattle.trace_buffer.specs.Commands.{moment_of}
 
 -- a span tells its moment; a question and a look for what is due tell none, whatever they look for
-pub moments : (t : TraceId) → (a : Arrival) → (v : Verdict) → map moment_of (Find t ∷ Keep a 5 ∷ NextDue 9 1 2 ∷ Settle 9 1 2 v ∷ []) ≡ 0 ∷ 5 ∷ 0 ∷ 0 ∷ []
+pub moments : (t : TraceId) → (a : Arrival) → (v : Verdict) → map moment_of (Find t ∷ Keep a 5 7 ∷ NextDue 9 1 2 ∷ Settle 9 1 2 v ∷ []) ≡ 0 ∷ 5 ∷ 0 ∷ 0 ∷ []
 moments t a v = refl

@@ -10,7 +10,7 @@ use Rattle.std.proofs.lemmas.List.Sums.{fails_before_first}
 use Rattle.std.proofs.lemmas.Option.{slice_get_within, get_or_from_slice_get}
 use Rattle.otlp_types.specs.declared.arrival.Arrival.{Arrival}
 use Rattle.span_ids.specs.declared.outcome.Verdict.{Verdict}
-use Rattle.trace_buffer.specs.Buffer.{Episode, settled, with_span_if, is_due_at, is_root_due, root_before, are_of_root}
+use Rattle.trace_buffer.specs.Buffer.{Episode, settled, with_span_if, is_due_at, is_root_due, is_too_big, root_before, are_of_root}
 use Rattle.trace_buffer.specs.Ring.{IsSearched, kept_at}
 use Rattle.trace_buffer.specs.declared.search.Search.{Search}
 
@@ -60,18 +60,28 @@ root-as-before mark wait root_wait clock None a l = (elim (are_of_root a.rec.spa
   | false ↦ refl
 ])
 
--- a span that is taken at the mark or later makes its trace no more due at the mark
-due-as-before : (mark wait root_wait clock : ℕ) (b : Bool) (a : Arrival) (e : Episode) → mark ≤ clock → is_due_at mark wait root_wait (with_span_if b clock a e) ≡ is_due_at mark wait root_wait e
-due-as-before mark wait root_wait clock false a e l = refl
-due-as-before mark wait root_wait clock true a e l = ap (λ b. is_none e.verdict && (nat_le (e.moment + wait) mark || b)) (root-as-before mark wait root_wait clock e.first_root a l)
+-- a span that is taken at the mark or later, and doesn't make its trace too big, makes it not due at the mark
+not-due-then : (a b c d e f : Bool) → b ≡ e → f ≡ false → (a && (d || b || c)) ≡ false → (a && (d || e || f)) ≡ false
+not-due-then true b c true e f same small h = h
+not-due-then true b c false e f same small h = (elim e as (λ e. b ≡ e → (e || f) ≡ false) [
+  | true ↦ λ same. cc
+  | false ↦ λ same. small
+]) same
+not-due-then false b c d e f same small h = refl
 
--- one changes, and is due as it was
-searched-changed : (s : Search) (es : List Episode) (i : ℕ) (x y : Episode) → IsSearched s es → slice_get es i ≡ Some x → is_due_at s.mark s.wait s.root_wait y ≡ is_due_at s.mark s.wait s.root_wait x → IsSearched s (slice_set es i y)
+not-due-appended : (mark wait root_wait clock : ℕ) (b : Bool) (a : Arrival) (e : Episode) → mark ≤ clock → is_too_big (with_span_if b clock a e).maximum (with_span_if b clock a e).spans ≡ false → is_due_at mark wait root_wait e ≡ false → is_due_at mark wait root_wait (with_span_if b clock a e) ≡ false
+not-due-appended mark wait root_wait clock false a e l small h = h
+not-due-appended mark wait root_wait clock true a e l small h =
+    not-due-then (is_none e.verdict) (is_root_due mark root_wait e.first_root) (is_too_big e.maximum e.spans) (nat_le (e.moment + wait) mark) (is_root_due mark root_wait (root_before e.first_root clock a)) (is_too_big e.maximum (e.spans ++ a ∷ []))
+    (sym (root-as-before mark wait root_wait clock e.first_root a l)) small h
+
+-- one changes, and isn't due where it wasn't
+searched-changed : (s : Search) (es : List Episode) (i : ℕ) (x y : Episode) → IsSearched s es → slice_get es i ≡ Some x → (is_due_at s.mark s.wait s.root_wait x ≡ false → is_due_at s.mark s.wait s.root_wait y ≡ false) → IsSearched s (slice_set es i y)
 searched-changed s es i x y h g same = (
   (let l = h.0 in let long = length-set es i y in omega (arith, l, long)),
   (elim (nat_lt i s.end) as (λ b. nat_lt i s.end ≡ b → AllWithin (λ e. is_due_at s.mark s.wait s.root_wait e ≡ false) (slice_set es i y) 0 s.end) [
     | true ↦ λ b. AllWithin-set (λ e. is_due_at s.mark s.wait s.root_wait e ≡ false) es 0 s.end i y (slice_get_within es i x g)
-        (same ∙ ap (is_due_at s.mark s.wait s.root_wait) (sym (get_or_from_slice_get es i x y g)) ∙ h.1 i y (omega arith) (grind (arith, nat_tests))) h.1
+        (same (ap (is_due_at s.mark s.wait s.root_wait) (sym (get_or_from_slice_get es i x y g)) ∙ h.1 i y (omega arith) (grind (arith, nat_tests)))) h.1
     | false ↦ λ b k d low l. subst (λ (e : Episode). is_due_at s.mark s.wait s.root_wait e ≡ false) (sym (get-set-before es i y k d (grind (arith, nat_tests)))) (h.1 k d low l)
   ]) refl,
 )
@@ -83,8 +93,9 @@ searched-changed s es i x y h g same = (
     get-set-before (e ∷ es) (suc i) y (suc k) d l = get-set-before es i y k d (omega (arith, l))
 
 -- a span goes to an episode, or none does
-pub searched-appended : (s : Search) (b : Bool) (clock : ℕ) (a : Arrival) (es : List Episode) (i : ℕ) (x : Episode) → IsSearched s es → slice_get es i ≡ Some x → IsSearched (kept_at clock s) (slice_set es i (with_span_if b clock a x))
-searched-appended s b clock a es i x h g = (elim (nat_lt clock s.mark) as (λ t. nat_lt clock s.mark ≡ t → IsSearched (cond t (record s { end = 0 }) s) (slice_set es i (with_span_if b clock a x))) [
+pub searched-appended : (s : Search) (b big : Bool) (clock : ℕ) (a : Arrival) (es : List Episode) (i : ℕ) (x : Episode) → IsSearched s es → slice_get es i ≡ Some x → big ≡ is_too_big (with_span_if b clock a x).maximum (with_span_if b clock a x).spans → IsSearched (kept_at clock big s) (slice_set es i (with_span_if b clock a x))
+searched-appended s b true clock a es i x h g e = (omega arith, λ k d low l. absurd (omega (arith, l)))
+searched-appended s b false clock a es i x h g e = (elim (nat_lt clock s.mark) as (λ t. nat_lt clock s.mark ≡ t → IsSearched (cond t (record s { end = 0 }) s) (slice_set es i (with_span_if b clock a x))) [
   | true ↦ λ t. (omega arith, λ k d low l. absurd (omega (arith, l)))
-  | false ↦ λ t. searched-changed s es i x (with_span_if b clock a x) h g (due-as-before s.mark s.wait s.root_wait clock b a x (grind (arith, nat_tests)))
+  | false ↦ λ t. searched-changed s es i x (with_span_if b clock a x) h g (not-due-appended s.mark s.wait s.root_wait clock b a x (grind (arith, nat_tests)) (sym e))
 ]) refl

@@ -21,11 +21,12 @@ impl Search {
         self.mark == mark && self.wait == wait && self.root_wait == root_wait
     }
 
-    /// What is left of the search once a span is taken at this clock: one that is taken before the mark may make its trace due.
-    pub(crate) fn kept_at(self, clock: Moment) -> Search
-        ensures { result ≡ kept_at clock self }
+    /// What is left of the search once a span is taken at this clock: one that is taken before the mark may make its trace due,
+    /// and so does one after which that is too big.
+    pub(crate) fn kept_at(self, clock: Moment, is_too_big: bool) -> Search
+        ensures { result ≡ kept_at clock is_too_big self }
     {
-        if clock < self.mark {
+        if is_too_big || clock < self.mark {
             Search { end: 0, ..self }
         } else {
             self

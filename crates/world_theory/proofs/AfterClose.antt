@@ -4,7 +4,7 @@ use Rattle.std.proofs.Common.{◌≡◌, ℕ, zero, suc, ◌+◌, ◌<◌, Bool,
 use Rattle.std.specs.List.{list_all}
 use Rattle.std.proofs.lemmas.Bool.{and_parts, not-true, eqb-false}
 use Rattle.span_ids.proofs.SameTraces.{same_trace-refl}
-use Rattle.journal_theory.specs.Journal.{answered, decision, due_now, Settings, Journal, clock, Opening, Decision, finding, spans_since, due_at, after_finding, after_span, after_item, has_ended, have_ended, notes, decisions_now, notes_dealt}
+use Rattle.journal_theory.specs.Journal.{answered, decision, due_now, Settings, Journal, clock, Opening, Decision, Notes, finding, spans_since, due_at, after_finding, after_span, after_item, has_ended, have_ended, notes, decisions_now, notes_dealt}
 use Rattle.otlp_types.specs.declared.span.Ids.{Ids}
 use Rattle.otlp_types.specs.declared.arrival.Arrival.{Arrival}
 use Rattle.otlp_types.specs.declared.arrival.Item.{Item}
@@ -19,7 +19,7 @@ use Rattle.world_theory.proofs.Answered.{next_there, content_same}
 use Rattle.world_theory.proofs.AllAnswered.{AllAnswered}
 use Rattle.world_theory.proofs.OnePlace.{of_each_answered}
 use Rattle.journal_theory.proofs.ListFacts.{Each, Each-left, Each-right, Each-both, Each-split}
-use Rattle.journal_theory.proofs.Sound.{Each-buffer, Each-undecided, sound_notes}
+use Rattle.journal_theory.proofs.Sound.{Each-buffer, Each-undecided, sound_item, sound_notes}
 use Rattle.world_theory.proofs.Content.{content, content_is, one_more}
 use Rattle.world_theory.proofs.Dealing.{Each-due, Pairs-due, InTurn, in_turn, IsEarlier, undecided_ascend, dealt_with}
 use Rattle.world_theory.proofs.Steps.{and_then_some, map_some, some_if, some_unless, or_both, taken}
@@ -75,17 +75,17 @@ have_spans s room (e ∷ J) = item_grow s room J (have_spans s room J) e.item e.
 
 decided_spans : (s : Settings) → HasRoom s.limit → (J : Journal) (dealt : ℕ) (d : Decision) → slice_get (decisions_now s J) dealt ≡ Some d → 0 < length d.spans
 decided_spans s room [] dealt d is = absurd (cc is)
-decided_spans s room (e ∷ J) dealt d is = omega (arith, ap length turn.spans, Each-split (HasSpan (e ∷ J)) d.opening (due_at s e J e.item (notes s J)) turn.within all)
+decided_spans s room (e ∷ J) dealt d is = omega (arith, ap length turn.spans, Each-split (HasSpan (e ∷ J)) d.opening (due_at s e J e.item noted) turn.within all)
   where
-    sound : Sound s J (notes s J)
-    sound = sound_notes s room J
+    noted : Notes
+    noted = after_item s e J e.item (notes s J)
 
-    turn : InTurn s (e ∷ J) (due_at s e J e.item (notes s J)) e.answers dealt d
-    turn = in_turn s (e ∷ J) (due_at s e J e.item (notes s J)) e.answers dealt d (Pairs-due IsEarlier s e J e.item (notes s J) (undecided_ascend s J (notes s J) sound)) is
+    turn : InTurn s (e ∷ J) (due_at s e J e.item noted) e.answers dealt d
+    turn = in_turn s (e ∷ J) (due_at s e J e.item noted) e.answers dealt d (Pairs-due IsEarlier s e J e.item noted (undecided_ascend s (e ∷ J) noted (sound_item s room J e.item e (notes s J) (sound_notes s room J)))) is
 
-    all : Each (HasSpan (e ∷ J)) (due_at s e J e.item (notes s J))
-    all = Each-due (HasSpan (e ∷ J)) s e J e.item (notes s J) (Each-undecided (HasSpan (e ∷ J)) s (notes s J) (Each-buffer (HasSpan (e ∷ J)) s (notes s J)
-        (grows e.item e.refused e.lost e.answers J (notes s J).openings sound.below (have_spans s room J))))
+    all : Each (HasSpan (e ∷ J)) (due_at s e J e.item noted)
+    all = Each-due (HasSpan (e ∷ J)) s e J e.item noted (Each-undecided (HasSpan (e ∷ J)) s noted (Each-buffer (HasSpan (e ∷ J)) s noted
+        (item_grow s room J (have_spans s room J) e.item e.refused e.lost e.answers)))
 
 -- ---- nothing waits
 

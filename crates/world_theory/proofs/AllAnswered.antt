@@ -2,7 +2,7 @@
 -- For the laws of the headline, `headline` and each of its parts.
 use Rattle.std.proofs.Common.{◌≡◌, ℕ, zero, suc, ◌+◌, Bool, true, false, List, [], ◌∷◌, ◌++◌, length, drop, nat_lt, replicate, slice_get, slice_set, Some, refl, ap, sym, subst, ◌∙◌, add-one}
 use Rattle.policy_eval.specs.Given.{are_answered}
-use Rattle.journal_theory.specs.Journal.{Settings, Journal, Opening, decision, due_now, answered, spans_since, are_each_answered, IsAnswered, IsAnsweredUpTo}
+use Rattle.journal_theory.specs.Journal.{Settings, Journal, Opening, policies_for, decision, due_now, answered, spans_since, are_each_answered, IsAnswered, IsAnsweredUpTo}
 use Rattle.journal_theory.specs.Fate.{effect_of_decision}
 use Rattle.world_theory.specs.World.{Config, Shard, World, new_world, new_shard, settings, has_due}
 use Rattle.world_theory.specs.Step.{after_decision}
@@ -34,7 +34,7 @@ answered_new s lanes shards i sh e = subst (λ (sh : Shard). IsAnsweredUpTo s sh
 -- where nothing is due, all is answered
 pub all_given : (s : Settings) (J : Journal) (dealt : ℕ) → nat_lt dealt (length (due_now s J)) ≡ false → IsAnsweredUpTo s J dealt → IsAnswered s J
 all_given s [] dealt n h = tt
-all_given s (e ∷ J) dealt n h = (ap (λ (os : List Opening). are_each_answered s.policies (e ∷ J) os e.answers) (sym (take_whole dealt (due_now s (e ∷ J)) (not_below dealt (length (due_now s (e ∷ J))) n))) ∙ h.0, h.1)
+all_given s (e ∷ J) dealt n h = (ap (λ (os : List Opening). are_each_answered s (e ∷ J) os e.answers) (sym (take_whole dealt (due_now s (e ∷ J)) (not_below dealt (length (due_now s (e ∷ J))) n))) ∙ h.0, h.1)
 
 module _ (c : Config) (w : World) (h : AllAnswered (settings c w) w.shards) where
   abbrev s : Settings
@@ -78,7 +78,7 @@ set_twice (z ∷ xs) zero x y = refl
 set_twice {X} (z ∷ xs) (suc i) x y = ap (λ (ys : List X). z ∷ ys) (set_twice xs i x y)
 
 module _ (c : Config) (room : HasRoom c.limit) (w next : World) (shard : ℕ) (sh : Shard) (answers : List Bool) (o : Opening) (g : slice_get w.shards shard ≡ Some sh)
-    (due : slice_get (due_now (settings c w) sh.journal) sh.dealt ≡ Some o) (fits : are_answered c.policies answers (spans_since sh.journal o) ≡ true)
+    (due : slice_get (due_now (settings c w) sh.journal) sh.dealt ≡ Some o) (fits : are_answered (policies_for (settings c w) (spans_since sh.journal o)) answers (spans_since sh.journal o) ≡ true)
     (e : after_decision w shard sh answers (effect_of_decision (decision (settings c w) sh.journal o answers)) ≡ next) (h : AllAnswered (settings c w) w.shards) where
   abbrev there : Shard
   there = record sh { journal = answered sh.journal answers }

@@ -5,7 +5,7 @@ use Rattle.std.specs.List.{list_any}
 use Rattle.std.proofs.lemmas.List.{reverse-append}
 use Rattle.std.proofs.lemmas.Bool.{and_parts}
 use Rattle.policy_eval.specs.Given.{are_answered}
-use Rattle.journal_theory.specs.Journal.{Entry, Settings, Journal, Opening, Decision, Notes, Finding, joins, meets, opens, finding, notes, notes_dealt, decision, decisions_in_turn, decisions_now, decided_as, is_in_buffer, in_buffer, due_now, after_decisions, after_item, spans_since, answered, are_each_answered, IsAnsweredUpTo}
+use Rattle.journal_theory.specs.Journal.{Entry, Settings, Journal, Opening, Decision, Notes, Finding, joins, meets, opens, finding, notes, notes_dealt, policies_for, decision, decisions_in_turn, decisions_now, decided_as, is_in_buffer, in_buffer, due_now, after_decisions, after_item, spans_since, answered, are_each_answered, IsAnsweredUpTo}
 use Rattle.journal_theory.specs.Fate.{Fate, is_released, is_counted, fate, fate_of_finding, fate_of_member, fate_of_member_decided, effect_dealt, effect, effect_of_taking, effect_of_decisions, ◌then◌}
 use Rattle.otlp_types.specs.declared.arrival.Arrival.{Arrival}
 use Rattle.otlp_types.specs.declared.arrival.Item.TheVariants.{Span}
@@ -23,7 +23,7 @@ use Rattle.world_theory.proofs.Dealing.{open_dealt}
 
 -- the next decision comes last
 turn-more : (s : Settings) (past : Journal) (k : ℕ) (os : List Opening) (given : List (List Bool)) (answers : List Bool) (o : Opening) → slice_get os k ≡ Some o →
-    are_each_answered s.policies past (take k os) given ≡ true → decisions_in_turn s past os (given ++ answers ∷ []) ≡ decisions_in_turn s past os given ++ decision s past o answers ∷ []
+    are_each_answered s past (take k os) given ≡ true → decisions_in_turn s past os (given ++ answers ∷ []) ≡ decisions_in_turn s past os given ++ decision s past o answers ∷ []
 turn-more s past k [] given answers o e h = absurd (cc e)
 turn-more s past zero (p ∷ os) [] answers o e h = let same : p ≡ o = cc in all_but_first os ∙ ap (λ (q : Opening). decision s past q answers ∷ []) same
   where
@@ -33,34 +33,34 @@ turn-more s past zero (p ∷ os) [] answers o e h = let same : p ≡ o = cc in a
 turn-more s past zero (p ∷ os) (g ∷ given) answers o e h = cc
 turn-more s past (suc k) (p ∷ os) [] answers o e h = cc
 turn-more s past (suc k) (p ∷ os) (g ∷ given) answers o e h =
-    ap (λ (ds : List Decision). decision s past p g ∷ ds) (turn-more s past k os given answers o e (and_parts (are_answered s.policies g (spans_since past p)) (are_each_answered s.policies past (take k os) given) h).1)
+    ap (λ (ds : List Decision). decision s past p g ∷ ds) (turn-more s past k os given answers o e (and_parts (are_answered (policies_for s (spans_since past p)) g (spans_since past p)) (are_each_answered s past (take k os) given) h).1)
 
 -- it is found at its place
 turn-there : (s : Settings) (past : Journal) (k : ℕ) (os : List Opening) (given : List (List Bool)) (answers : List Bool) (o : Opening) → slice_get os k ≡ Some o →
-    are_each_answered s.policies past (take k os) given ≡ true → slice_get (decisions_in_turn s past os (given ++ answers ∷ [])) k ≡ Some (decision s past o answers)
+    are_each_answered s past (take k os) given ≡ true → slice_get (decisions_in_turn s past os (given ++ answers ∷ [])) k ≡ Some (decision s past o answers)
 turn-there s past k [] given answers o e h = absurd (cc e)
 turn-there s past zero (p ∷ os) [] answers o e h = let same : p ≡ o = cc in ap (λ (q : Opening). Some (decision s past q answers)) same
 turn-there s past zero (p ∷ os) (g ∷ given) answers o e h = cc
 turn-there s past (suc k) (p ∷ os) [] answers o e h = cc
-turn-there s past (suc k) (p ∷ os) (g ∷ given) answers o e h = turn-there s past k os given answers o e (and_parts (are_answered s.policies g (spans_since past p)) (are_each_answered s.policies past (take k os) given) h).1
+turn-there s past (suc k) (p ∷ os) (g ∷ given) answers o e h = turn-there s past k os given answers o e (and_parts (are_answered (policies_for s (spans_since past p)) g (spans_since past p)) (are_each_answered s past (take k os) given) h).1
 
 -- those before it are as they were
 turn-front : (s : Settings) (past : Journal) (k : ℕ) (os : List Opening) (given : List (List Bool)) (answers : List Bool) →
-    are_each_answered s.policies past (take k os) given ≡ true → take k (decisions_in_turn s past os (given ++ answers ∷ [])) ≡ take k (decisions_in_turn s past os given)
+    are_each_answered s past (take k os) given ≡ true → take k (decisions_in_turn s past os (given ++ answers ∷ [])) ≡ take k (decisions_in_turn s past os given)
 turn-front s past zero os given answers h = refl
 turn-front s past (suc k) [] given answers h = refl
 turn-front s past (suc k) (p ∷ os) [] answers h = cc
 turn-front s past (suc k) (p ∷ os) (g ∷ given) answers h =
-    ap (λ (ds : List Decision). decision s past p g ∷ ds) (turn-front s past k os given answers (and_parts (are_answered s.policies g (spans_since past p)) (are_each_answered s.policies past (take k os) given) h).1)
+    ap (λ (ds : List Decision). decision s past p g ∷ ds) (turn-front s past k os given answers (and_parts (are_answered (policies_for s (spans_since past p)) g (spans_since past p)) (are_each_answered s past (take k os) given) h).1)
 
 -- and they are all that were given answers
-turn-all : (s : Settings) (past : Journal) (k : ℕ) (os : List Opening) (given : List (List Bool)) → are_each_answered s.policies past (take k os) given ≡ true → take k (decisions_in_turn s past os given) ≡ decisions_in_turn s past os given
+turn-all : (s : Settings) (past : Journal) (k : ℕ) (os : List Opening) (given : List (List Bool)) → are_each_answered s past (take k os) given ≡ true → take k (decisions_in_turn s past os given) ≡ decisions_in_turn s past os given
 turn-all s past zero [] given h = refl
 turn-all s past zero (p ∷ os) [] h = refl
 turn-all s past zero (p ∷ os) (g ∷ given) h = cc
 turn-all s past (suc k) [] given h = refl
 turn-all s past (suc k) (p ∷ os) [] h = refl
-turn-all s past (suc k) (p ∷ os) (g ∷ given) h = ap (λ (ds : List Decision). decision s past p g ∷ ds) (turn-all s past k os given (and_parts (are_answered s.policies g (spans_since past p)) (are_each_answered s.policies past (take k os) given) h).1)
+turn-all s past (suc k) (p ∷ os) (g ∷ given) h = ap (λ (ds : List Decision). decision s past p g ∷ ds) (turn-all s past k os given (and_parts (are_answered (policies_for s (spans_since past p)) g (spans_since past p)) (are_each_answered s past (take k os) given) h).1)
 
 -- ---- a journal
 

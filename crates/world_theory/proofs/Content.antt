@@ -232,5 +232,5 @@ not_below a b e = omega (arith, ltb-false a b e)
 pub all_dealt : (s : Settings) (J : Journal) (dealt : ℕ) → nat_lt dealt (length (due_now s J)) ≡ false → notes_dealt s J dealt ≡ notes s J
 unfolding notes
 all_dealt s [] dealt e = refl
-all_dealt s (e ∷ J) dealt n = ap (λ z. after_decisions z (after_item s e J e.item (notes s J))) (take_whole dealt (decisions_at s e J (notes s J))
-    (let l = not_below dealt (length (due_now s (e ∷ J))) n in let k = length_in_turn s (e ∷ J) (due_at s e J e.item (notes s J)) e.answers in omega arith))
+all_dealt s (e ∷ J) dealt n = let noted = after_item s e J e.item (notes s J) in ap (λ z. after_decisions z noted) (take_whole dealt (decisions_at s e J noted)
+    (let l = not_below dealt (length (due_now s (e ∷ J))) n in let k = length_in_turn s (e ∷ J) (due_at s e J e.item noted) e.answers in omega arith))

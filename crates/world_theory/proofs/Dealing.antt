@@ -2,7 +2,7 @@
 -- For the laws of the headline, `headline` and each of its parts.
 use Rattle.std.proofs.Common.{◌≡◌, ℕ, zero, suc, ◌<◌, Bool, true, false, cond, ◌==◌, List, [], ◌∷◌, ◌++◌, filter, reverse, take, find, slice_get, Some, is_none, option_map, refl, ap, sym, ◌∙◌, arith, append_assoc, ne_eqb, eq-eqb}
 use Rattle.std.proofs.lemmas.List.{append-nil, reverse-append}
-use Rattle.journal_theory.specs.Journal.{Settings, Journal, is_of_trace, Opening, Decision, Notes, in_buffer, undecided, spans_since, due_at, is_due, has_finished, decision, decisions_in_turn, after_item, after_decisions, decisions_at, notes, decisions_now, notes_dealt, Entry}
+use Rattle.journal_theory.specs.Journal.{Settings, Journal, is_of_trace, Opening, Decision, Notes, in_buffer, undecided, spans_since, is_oversized, oversized, due_at, is_due, has_finished, decision, decisions_in_turn, after_item, after_decisions, decisions_at, notes, decisions_now, notes_dealt, Entry}
 use Rattle.otlp_types.specs.declared.arrival.Arrival.{Arrival}
 use Rattle.otlp_types.specs.declared.arrival.Item.{Item}
 use Rattle.otlp_types.specs.declared.arrival.Item.TheVariants.{Span, Tick, End}
@@ -16,22 +16,22 @@ pub Split-each : {X : Type 0} (xs : List X) → Each (λ x. Split x xs) xs
 Split-each [] = tt
 Split-each (x ∷ xs) = (record { front = []; back = xs; is = refl }, Each-weaker (λ y. Split y xs) (λ y. Split y (x ∷ xs)) xs (λ y k. Split-cons y x xs k) (Split-each xs))
 
--- what holds of the undecided episodes, of some of them and of none holds of those that are due
-due-keeps : (Q : List Opening → Type 0) (s : Settings) (e : Entry) (J : Journal) (item : Item) (noted : Notes) → Q [] → (Q (undecided s noted) → Q (filter (is_due s (e ∷ J)) (undecided s noted))) → Q (undecided s noted)
+-- what holds of the undecided episodes and of some of them holds of those that are due
+due-keeps : (Q : List Opening → Type 0) (s : Settings) (e : Entry) (J : Journal) (item : Item) (noted : Notes) → Q (undecided s noted) → ((p : Opening → Bool) → Q (filter p (undecided s noted)))
     → Q (due_at s e J item noted)
-due-keeps Q s e J (Span a) noted none some h = none
-due-keeps Q s e J (Tick m) noted none some h = some h
-due-keeps Q s e J (End i) noted none some h = go (has_finished s e J)
+due-keeps Q s e J (Span a) noted all some = some (is_oversized s (e ∷ J))
+due-keeps Q s e J (Tick m) noted all some = some (is_due s (e ∷ J))
+due-keeps Q s e J (End i) noted all some = go (has_finished s e J)
   where
-    go : (b : Bool) → Q (cond b (undecided s noted) [])
-    go true = h
-    go false = none
+    go : (b : Bool) → Q (cond b (undecided s noted) (oversized s (e ∷ J) noted))
+    go true = all
+    go false = some (is_oversized s (e ∷ J))
 
 pub Each-due : (P : Opening → Type 0) (s : Settings) (e : Entry) (J : Journal) (item : Item) (noted : Notes) → Each P (undecided s noted) → Each P (due_at s e J item noted)
-Each-due P s e J item noted = due-keeps (Each P) s e J item noted tt (Each-filter P (is_due s (e ∷ J)) (undecided s noted))
+Each-due P s e J item noted h = due-keeps (Each P) s e J item noted h (λ p. Each-filter P p (undecided s noted) h)
 
 pub Pairs-due : (R : Opening → Opening → Type 0) (s : Settings) (e : Entry) (J : Journal) (item : Item) (noted : Notes) → Pairs R (undecided s noted) → Pairs R (due_at s e J item noted)
-Pairs-due R s e J item noted = due-keeps (Pairs R) s e J item noted tt (Pairs-filter R (is_due s (e ∷ J)) (undecided s noted))
+Pairs-due R s e J item noted h = due-keeps (Pairs R) s e J item noted h (λ p. Pairs-filter R p (undecided s noted) h)
 
 -- of the decisions made in turn, the one at a place
 pub record InTurn (s : Settings) (J : Journal) (due : List Opening) (answers : List (List Bool)) (dealt : ℕ) (d : Decision) : Type 0 where
@@ -151,27 +151,14 @@ Deals s J dealt d = Dealing d (content s J (notes_dealt s J dealt)) (content s J
 
 deals : (s : Settings) → HasRoom s.limit → (J : Journal) (dealt : ℕ) (d : Decision) → slice_get (decisions_now s J) dealt ≡ Some d → Deals s J dealt d
 deals s room [] dealt d e = absurd (cc e)
-deals s room (e ∷ J) dealt d is = by_item e.item e.refused e.lost e.answers is
-  where
-    noted : Notes
-    noted = notes s J
-
-    in_general : (e : Entry) → after_item s e J e.item noted ≡ noted → slice_get (decisions_at s e J noted) dealt ≡ Some d
-        → Dealing d (content s (e ∷ J) (after_decisions (take dealt (decisions_at s e J noted)) noted)) (content s (e ∷ J) (after_decisions (take (suc dealt) (decisions_at s e J noted)) noted))
-        × ((is_open (after_decisions (take dealt (decisions_at s e J noted)) noted) d.opening ≡ true) × Split d.opening (in_buffer s noted))
-    in_general e q is =
-        let h : Sound s (e ∷ J) noted = rw q at (sound_item s room J e.item e noted (sound_notes s room J)) in
-        let hn : Sound s (e ∷ J) (after_decisions (take dealt (decisions_at s e J noted)) noted) = rw q at (sound_dealt s room (e ∷ J) dealt) in
-        let due = due_at s e J e.item noted in
-        let ascends = Pairs-due IsEarlier s e J e.item noted (undecided_ascend s J noted (sound_notes s room J)) in
-        let stand = Each-due (λ (o : Opening). Split o (in_buffer s noted) × (is_open noted o ≡ true)) s e J e.item noted (undecided_stand s noted) in
-        (dealing s (e ∷ J) noted h due e.answers ascends stand dealt d is hn, (open_now s (e ∷ J) noted h due e.answers ascends stand dealt d is, (place s (e ∷ J) noted h due e.answers ascends stand dealt d is).0))
-
-    by_item : (item : Item) (refused lost : Bool) (given : List (List Bool)) → slice_get (decisions_at s (record { item = item; refused = refused; lost = lost; answers = given }) J noted) dealt ≡ Some d
-        → Deals s (record { item = item; refused = refused; lost = lost; answers = given } ∷ J) dealt d
-    by_item (Span a) refused lost given is = absurd (cc is)
-    by_item (Tick m) refused lost given is = in_general (record { item = Tick m; refused = refused; lost = lost; answers = given }) refl is
-    by_item (End i) refused lost given is = in_general (record { item = End i; refused = refused; lost = lost; answers = given }) refl is
+deals s room (e ∷ J) dealt d is =
+    let noted = after_item s e J e.item (notes s J) in
+    let h : Sound s (e ∷ J) noted = sound_item s room J e.item e (notes s J) (sound_notes s room J) in
+    let hn : Sound s (e ∷ J) (after_decisions (take dealt (decisions_at s e J noted)) noted) = sound_dealt s room (e ∷ J) dealt in
+    let due = due_at s e J e.item noted in
+    let ascends = Pairs-due IsEarlier s e J e.item noted (undecided_ascend s (e ∷ J) noted h) in
+    let stand = Each-due (λ (o : Opening). Split o (in_buffer s noted) × (is_open noted o ≡ true)) s e J e.item noted (undecided_stand s noted) in
+    (dealing s (e ∷ J) noted h due e.answers ascends stand dealt d is hn, (open_now s (e ∷ J) noted h due e.answers ascends stand dealt d is, (place s (e ∷ J) noted h due e.answers ascends stand dealt d is).0))
 
 pub dealt_with : (s : Settings) → HasRoom s.limit → (J : Journal) (dealt : ℕ) (d : Decision) → slice_get (decisions_now s J) dealt ≡ Some d
     → Dealing d (content s J (notes_dealt s J dealt)) (content s J (notes_dealt s J (suc dealt)))

@@ -11,7 +11,7 @@ use Rattle.span_ids.specs.declared.outcome.Verdict.{Verdict}
 use Rattle.journal_theory.proofs.Notes.{HasRoom, is_open}
 use Rattle.journal_theory.proofs.ListFacts.{Each, Each-weaker, Each-reverse, Pairs, Split}
 use Rattle.journal_theory.proofs.Find.{find_past}
-use Rattle.journal_theory.proofs.Sound.{sound_notes}
+use Rattle.journal_theory.proofs.Sound.{sound_item, sound_notes}
 use Rattle.world_theory.proofs.Dealing.{Each-due, Pairs-due, IsEarlier, undecided_ascend, undecided_stand}
 
 -- an item decides nothing by itself
@@ -44,15 +44,21 @@ decided_stays s room J e at v h = ap (λ (r : Option Decision). option_map (λ (
     (find_past (λ (d : Decision). d.opening.at == at) (reverse ds) (after_item s e J e.item (notes s J)).decisions (Each-reverse (λ (d : Decision). (d.opening.at == at) ≡ false) ds others)
     ∙ ap (find (λ (d : Decision). d.opening.at == at)) (same_decisions s e J e.item (notes s J))) ∙ h
   where
-    ds : List Decision
-    ds = decisions_at s e J (notes s J)
+    noted : Notes
+    noted = after_item s e J e.item (notes s J)
 
-    apart : (x : ℕ) → is_none (decided_as (notes s J) x) ≡ true → (x == at) ≡ false
-    apart x p = ne_eqb x at (λ q. let r : is_none (Some v) ≡ true = ap is_none (sym h ∙ ap (decided_as (notes s J)) (sym q)) ∙ p in cc r)
+    ds : List Decision
+    ds = decisions_at s e J noted
+
+    stands : decided_as noted at ≡ Some v
+    stands = ap (λ (ds : List Decision). option_map (λ (d : Decision). d.verdict) (find (λ (d : Decision). d.opening.at == at) ds)) (same_decisions s e J e.item (notes s J)) ∙ h
+
+    apart : (x : ℕ) → is_none (decided_as noted x) ≡ true → (x == at) ≡ false
+    apart x p = ne_eqb x at (λ q. let r : is_none (Some v) ≡ true = ap is_none (sym stands ∙ ap (decided_as noted) (sym q)) ∙ p in cc r)
 
     others : Each (λ (d : Decision). (d.opening.at == at) ≡ false) ds
-    others = Each-in_turn (λ (o : Opening). (o.at == at) ≡ false) s (e ∷ J) (due_at s e J e.item (notes s J)) e.answers
-        (Each-due (λ (o : Opening). (o.at == at) ≡ false) s e J e.item (notes s J) (Each-weaker (λ (o : Opening). Split o (in_buffer s (notes s J)) × (is_open (notes s J) o ≡ true)) (λ (o : Opening). (o.at == at) ≡ false) (undecided s (notes s J)) (λ o p. apart o.at p.1) (undecided_stand s (notes s J))))
+    others = Each-in_turn (λ (o : Opening). (o.at == at) ≡ false) s (e ∷ J) (due_at s e J e.item noted) e.answers
+        (Each-due (λ (o : Opening). (o.at == at) ≡ false) s e J e.item noted (Each-weaker (λ (o : Opening). Split o (in_buffer s noted) × (is_open noted o ≡ true)) (λ (o : Opening). (o.at == at) ≡ false) (undecided s noted) (λ o p. apart o.at p.1) (undecided_stand s noted)))
 
 -- the decision at a place among those made in turn is found by its position
 found_in_turn : (s : Settings) (J : Journal) (due : List Opening) (answers : List (List Bool)) (old : List Decision) (dealt : ℕ) (d : Decision) → Pairs IsEarlier due → slice_get (decisions_in_turn s J due answers) dealt ≡ Some d
@@ -80,5 +86,8 @@ found_in_turn s J (o ∷ due) (a ∷ answers) old (suc dealt) d p e =
 pub noted_decision : (s : Settings) → HasRoom s.limit → (J : Journal) (dealt : ℕ) (d : Decision) → slice_get (decisions_now s J) dealt ≡ Some d → decided_as (notes s J) d.opening.at ≡ Some d.verdict
 unfolding notes
 noted_decision s room [] dealt d is = absurd (cc is)
-noted_decision s room (e ∷ J) dealt d is = ap (λ (r : Option Decision). option_map (λ (d : Decision). d.verdict) r)
-    (found_in_turn s (e ∷ J) (due_at s e J e.item (notes s J)) e.answers (after_item s e J e.item (notes s J)).decisions dealt d (Pairs-due IsEarlier s e J e.item (notes s J) (undecided_ascend s J (notes s J) (sound_notes s room J))) is)
+noted_decision s room (e ∷ J) dealt d is =
+    let noted = after_item s e J e.item (notes s J) in
+    let h = sound_item s room J e.item e (notes s J) (sound_notes s room J) in
+    ap (λ (r : Option Decision). option_map (λ (d : Decision). d.verdict) r)
+    (found_in_turn s (e ∷ J) (due_at s e J e.item noted) e.answers noted.decisions dealt d (Pairs-due IsEarlier s e J e.item noted (undecided_ascend s (e ∷ J) noted h)) is)

@@ -4,7 +4,7 @@ use Rattle.std.proofs.Common.{◌≡◌, ℕ, ◌+◌, Bool, true, List, [], ◌
 use Rattle.std.proofs.lemmas.Bool.{and_parts}
 use Rattle.otlp_types.specs.declared.arrival.Arrival.{Arrival}
 use Rattle.policy_eval.specs.Given.{are_answered}
-use Rattle.journal_theory.specs.Journal.{Settings, Entry, Journal, Opening, due_now, decision, decisions_in_turn, spans_since, are_each_answered}
+use Rattle.journal_theory.specs.Journal.{Settings, Entry, Journal, Opening, due_now, policies_for, decision, decisions_in_turn, spans_since, are_each_answered}
 use Rattle.journal_theory.specs.Fate.{DroppedSpan, Effect, effect_of_decision, effect_of_decisions}
 use Rattle.world_theory.specs.World.{World}
 
@@ -16,10 +16,10 @@ mid_get (y ∷ front) x back = mid_get front x back
 -- In the world `at given n out C` the shard's last item has these answers so far, and so many of its episodes were decided; the shard has these spans to ship, and these are counted.
 module _ (s : Settings) (e : Entry) (J : Journal) (at : (given : List (List Bool)) (n : ℕ) (out : List Arrival) (counted : List DroppedSpan) → World) (Leads : World → World → Type 0)
     (same : (w after : World) → w ≡ after → Leads w after) (joined : (w mid after : World) → Leads w mid → Leads mid after → Leads w after)
-    (decides : (given : List (List Bool)) (n : ℕ) (out : List Arrival) (C : List DroppedSpan) (o : Opening) (answers : List Bool) → slice_get (due_now s (e ∷ J)) n ≡ Some o → are_answered s.policies answers (spans_since (e ∷ J) o) ≡ true
+    (decides : (given : List (List Bool)) (n : ℕ) (out : List Arrival) (C : List DroppedSpan) (o : Opening) (answers : List Bool) → slice_get (due_now s (e ∷ J)) n ≡ Some o → are_answered (policies_for s (spans_since (e ∷ J) o)) answers (spans_since (e ∷ J) o) ≡ true
     → (let d = effect_of_decision (decision s (e ∷ J) o answers) in Leads (at given n out C) (at (given ++ answers ∷ []) (n + 1) (out ++ d.released) (C ++ d.counted)))) where
   -- the decisions that are left are made in turn, by their answers
-  pub decides_all : (given left : List (List Bool)) (out : List Arrival) (C : List DroppedSpan) (before os : List Opening) → due_now s (e ∷ J) ≡ before ++ os → are_each_answered s.policies (e ∷ J) os left ≡ true
+  pub decides_all : (given left : List (List Bool)) (out : List Arrival) (C : List DroppedSpan) (before os : List Opening) → due_now s (e ∷ J) ≡ before ++ os → are_each_answered s (e ∷ J) os left ≡ true
       → (let ds = effect_of_decisions (decisions_in_turn s (e ∷ J) os left) in Leads (at given (length before) out C) (at (given ++ left) (length (due_now s (e ∷ J))) (out ++ ds.released) (C ++ ds.counted)))
   decides_all given [] out C before [] is fits = same _ _ (cc (append-nil out, append-nil C, append-nil given, all))
     where

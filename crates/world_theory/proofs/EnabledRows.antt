@@ -1,6 +1,10 @@
 -- Worked rows of what is enabled: with two lanes and two shards, by numbers of answers, and after the sink has failed.
 -- Each row also says that its first steps run. The laws of the headline hold too of a table that only forbids more: these rows don't.
 use Rattle.std.specs.Prelude.{◌≡◌, Bool, true, false, is_some, List, [], ◌∷◌, ◌++◌, map, Option, Some, None, option_map, refl}
+use Rattle.std.specs.Fmt.{digits}
+use Rattle.hex.specs.Hex.{encode_with}
+use Rattle.json.specs.Print.{print_from, escape_byte}
+use Rattle.span_size.specs.Size.{size_of}
 use Rattle.policy_tree.specs.Tree.{Policies, no_more, one_more, rate_limiting}
 use Rattle.journal_theory.specs.Journal.{notes}
 use Rattle.span_ids.specs.declared.outcome.Reason.TheVariants.{InvalidId, QueueFull, NoMemory, Evicted, NotSampled, LateNotSampled, ExporterDown}
@@ -83,6 +87,16 @@ no_asking : are_enabled_after (configured always None 1 1) one_due by_answers �
 unfolding notes
 no_asking = refl
 
+-- any trace is too big
+abbrev too_big : Config
+too_big = record (configured limited None 0 0) { maximum_size = 1 }
+
+-- it is decided by no policy before anything else is taken, and asks for no answer
+too_big_first : are_enabled_after too_big (receive 0 0 0 (plain 1 ∷ plain 1 ∷ []) ∷ route 0 0 ∷ route 0 0 ∷ take 0 false false ∷ []) (by_answers ++ take 0 false false ∷ tick 0 10 ∷ end 0 1 ∷ close 0 ∷ [])
+    ≡ Some (true ∷ false ∷ false ∷ false ∷ false ∷ false ∷ false ∷ true ∷ [])
+unfolding notes size_of print_from escape_byte encode_with digits
+too_big_first = refl
+
 -- ---- two lanes and two shards
 
 one_lane_closed : are_enabled_among_two (close 0 ∷ []) (receive 0 0 0 [] ∷ receive 1 0 0 [] ∷ close 0 ∷ close 1 ∷ receive 2 0 0 [] ∷ close 2 ∷ []) ≡ Some (false ∷ true ∷ false ∷ true ∷ false ∷ false ∷ [])
@@ -112,7 +126,7 @@ ticker_by_shard = refl
 
 -- two spans are released, one of them in a batch that may have two
 abbrev of_two : Config
-of_two = record { policies = errors; wait = 10; root_wait = 0; limit = Some 1; sampled_size = 1; non_sampled_size = 1; batch_size = 2 }
+of_two = record { policies = errors; wait = 10; root_wait = 0; maximum_size = 0; limit = Some 1; sampled_size = 1; non_sampled_size = 1; batch_size = 2 }
 
 abbrev half_full : List Step
 half_full = receive 0 0 0 (error 1 ∷ error 1 ∷ []) ∷ route 0 0 ∷ route 0 0 ∷ take 0 false false ∷ take 0 false false ∷ tick 0 10 ∷ decide 0 [] ∷ ship 0 ∷ ship 0 ∷ pull ∷ []

@@ -6,7 +6,7 @@ use Rattle.std.proofs.lemmas.List.{reverse-append, reverse-reverse}
 use Rattle.std.proofs.lemmas.List.Elements.{filter-append}
 use Rattle.otlp_types.specs.declared.arrival.Item.TheVariants.{End}
 use Rattle.policy_eval.specs.Given.{are_answered}
-use Rattle.journal_theory.specs.Journal.{are_each_answered, Settings, Entry, Journal, Opening, Decision, Notes, in_buffer, undecided, spans_since, decisions_in_turn, decisions_at, decisions_now, due_at, due_now, after_decisions, notes, has_finished, have_ended}
+use Rattle.journal_theory.specs.Journal.{are_each_answered, Settings, Entry, Journal, Opening, Decision, Notes, in_buffer, undecided, oversized, spans_since, policies_for, decisions_in_turn, decisions_at, decisions_now, due_at, due_now, after_item, after_decisions, notes, has_finished, have_ended}
 use Rattle.world_theory.specs.Places.{buffered_spans}
 use Rattle.journal_theory.proofs.ListFacts.{Each, Each-left, Each-weaker, Each-reverse, Split}
 use Rattle.journal_theory.proofs.Find.{not_found, any_none, any_split}
@@ -51,17 +51,17 @@ never_both b e f = cc (e, f)
 -- ---- decisions on all that is undecided
 
 -- the decisions on some episodes are at their places
-any_decided : (s : Settings) (past : Journal) (os : List Opening) (given : List (List Bool)) (place : ℕ) → are_each_answered s.policies past os given ≡ true
+any_decided : (s : Settings) (past : Journal) (os : List Opening) (given : List (List Bool)) (place : ℕ) → are_each_answered s past os given ≡ true
     → list_any (λ (d : Decision). d.opening.at == place) (decisions_in_turn s past os given) ≡ list_any (λ (o : Opening). o.at == place) os
 any_decided s past [] given place h = refl
 any_decided s past (o ∷ os) [] place h = cc
-any_decided s past (o ∷ os) (g ∷ given) place h = ap (λ b. (o.at == place) || b) (any_decided s past os given place (second (are_answered s.policies g (spans_since past o)) (are_each_answered s.policies past os given) h))
+any_decided s past (o ∷ os) (g ∷ given) place h = ap (λ b. (o.at == place) || b) (any_decided s past os given place (second (are_answered (policies_for s (spans_since past o)) g (spans_since past o)) (are_each_answered s past os given) h))
   where
     second : (a b : Bool) → (a && b) ≡ true → b ≡ true
     second true b h = h
     second false b h = cc
 
-module _ (s : Settings) (past : Journal) (noted : Notes) (given : List (List Bool)) (answered : are_each_answered s.policies past (undecided s noted) given ≡ true) where
+module _ (s : Settings) (past : Journal) (noted : Notes) (given : List (List Bool)) (answered : are_each_answered s past (undecided s noted) given ≡ true) where
   -- the decisions on all episodes that are undecided
   abbrev all_decided : List Decision
   all_decided = decisions_in_turn s past (undecided s noted) given
@@ -98,13 +98,13 @@ module _ (s : Settings) (past : Journal) (noted : Notes) (given : List (List Boo
 -- at most as many decisions as episodes are due
 pub length_decisions : (s : Settings) (past : Journal) → length (decisions_now s past) ≤ length (due_now s past)
 length_decisions s [] = omega arith
-length_decisions s (e ∷ past) = length_in_turn s (e ∷ past) (due_at s e past e.item (notes s past)) e.answers
+length_decisions s (e ∷ past) = length_in_turn s (e ∷ past) (due_at s e past e.item (after_item s e past e.item (notes s past))) e.answers
 
 -- the End with which all senders have ended leaves nothing in the buffer that waits
 pub nothing_buffered : (s : Settings) (sender : ℕ) (refused lost : Bool) (given : List (List Bool)) (before : Journal) → (let e : Entry = record { item = End sender; refused = refused; lost = lost; answers = given } in
-    are_each_answered s.policies (e ∷ before) (due_now s (e ∷ before)) given ≡ true → have_ended (e ∷ before) s.senders ≡ true → have_ended before s.senders ≡ false → buffered_spans s (e ∷ before) (length (due_now s (e ∷ before))) ≡ [])
+    are_each_answered s (e ∷ before) (due_now s (e ∷ before)) given ≡ true → have_ended (e ∷ before) s.senders ≡ true → have_ended before s.senders ≡ false → buffered_spans s (e ∷ before) (length (due_now s (e ∷ before))) ≡ [])
 nothing_buffered s sender refused lost given before answered h n = ap (λ (z : List Decision). flat_map (spans_since (e ∷ before)) (undecided s (after_decisions z (notes s before)))) (dealt ∙ due)
-    ∙ ap (flat_map (spans_since (e ∷ before))) (none_undecided s (e ∷ before) (notes s before) given (ap (λ b. are_each_answered s.policies (e ∷ before) (cond b (undecided s (notes s before)) []) given) (sym finished) ∙ answered))
+    ∙ ap (flat_map (spans_since (e ∷ before))) (none_undecided s (e ∷ before) (notes s before) given (ap (λ b. are_each_answered s (e ∷ before) (cond b (undecided s (notes s before)) (oversized s (e ∷ before) (notes s before))) given) (sym finished) ∙ answered))
   where
     e : Entry
     e = record { item = End sender; refused = refused; lost = lost; answers = given }
@@ -116,4 +116,4 @@ nothing_buffered s sender refused lost given before answered h n = ap (λ (z : L
     dealt = take_whole (length (due_now s (e ∷ before))) (decisions_at s e before (notes s before)) (omega (arith, length_decisions s (e ∷ before)))
 
     due : decisions_at s e before (notes s before) ≡ decisions_in_turn s (e ∷ before) (undecided s (notes s before)) given
-    due = ap (λ b. decisions_in_turn s (e ∷ before) (cond b (undecided s (notes s before)) []) given) finished
+    due = ap (λ b. decisions_in_turn s (e ∷ before) (cond b (undecided s (notes s before)) (oversized s (e ∷ before) (notes s before))) given) finished

@@ -150,7 +150,7 @@ all_joined s room [] = subst (λ z. Each (AreJoined s [] no_notes) z) (sym (last
 all_joined s room (e ∷ J) =
     let k = by_item s room J (all_joined s room J) e.item e.refused e.lost e.answers in
     let after = after_item s e J e.item (notes s J) in
-    let ds = decisions_at s e J (notes s J) in
+    let ds = decisions_at s e J after in
     Each-weaker (AreJoined s (e ∷ J) after) (AreJoined s (e ∷ J) (after_decisions ds after)) (in_buffer s after) (λ o f p. f (open_before after ds o p)) k
 
 -- so where some decisions were not dealt with
@@ -159,5 +159,5 @@ joined_dealt s room [] dealt = subst (λ z. Each (AreJoined s [] no_notes) z) (s
 joined_dealt s room (e ∷ J) dealt =
     let k = by_item s room J (all_joined s room J) e.item e.refused e.lost e.answers in
     let after = after_item s e J e.item (notes s J) in
-    let ds = take dealt (decisions_at s e J (notes s J)) in
+    let ds = take dealt (decisions_at s e J after) in
     Each-weaker (AreJoined s (e ∷ J) after) (AreJoined s (e ∷ J) (after_decisions ds after)) (in_buffer s after) (λ o f p. f (open_before after ds o p)) k

@@ -2,11 +2,10 @@
 -- For the laws of the headline, `headline` and each of its parts.
 use Rattle.std.proofs.Common.{◌≡◌, ℕ, zero, suc, ◌+◌, Bool, true, false, List, [], ◌∷◌, ◌++◌, length, flat_map, slice_get, slice_set, Option, Some, None, ◌⊎◌, inl, inr, refl, ap, sym, subst, ◌∙◌, append_assoc}
 use Rattle.std.proofs.lemmas.Bool.{cases_eq}
-use Rattle.journal_theory.specs.Journal.{Settings, Journal, Opening, Decision, in_buffer, leaving, decided_as, Finding, joins, meets, opens, finding, due_at, decisions_at, notes, decisions_now, Entry}
+use Rattle.journal_theory.specs.Journal.{Settings, Journal, Opening, Decision, in_buffer, leaving, decided_as, Finding, joins, meets, opens, finding, after_item, due_at, notes, decisions_now, Entry}
 use Rattle.journal_theory.specs.Fate.{is_released, fate, fate_of_verdict, fate_of_member_decided, fate_of_finding, Effect, effect_of_verdict, effect_of_finding, effect_of_span, effect_of_decision}
 use Rattle.otlp_types.specs.declared.span.Ids.{Ids}
 use Rattle.otlp_types.specs.declared.arrival.Arrival.{Arrival}
-use Rattle.otlp_types.specs.declared.arrival.Item.{Item}
 use Rattle.otlp_types.specs.declared.arrival.Item.TheVariants.{Span, Tick, End}
 use Rattle.span_ids.specs.declared.outcome.Verdict.{Verdict}
 use Rattle.span_ids.specs.declared.outcome.Verdict.TheVariants.{Sampled, NotSampled}
@@ -14,7 +13,7 @@ use Rattle.span_ids.specs.declared.outcome.Reason.TheVariants.{LateNotSampled, N
 use Rattle.world_theory.specs.World.{Config, Shard, World, new_world, new_shard, settings}
 use Rattle.journal_theory.proofs.Notes.{HasRoom, is_open}
 use Rattle.journal_theory.proofs.ListFacts.{Each, Each-append, Each-left, Each-right, Each-weaker, Each-split, Split}
-use Rattle.journal_theory.proofs.Sound.{sound_notes}
+use Rattle.journal_theory.proofs.Sound.{sound_item, sound_notes}
 use Rattle.world_theory.proofs.Content.{gone_released}
 use Rattle.world_theory.proofs.Dealing.{Each-due, Pairs-due, in_turn, IsEarlier, undecided_ascend, undecided_stand}
 use Rattle.world_theory.proofs.Members.{Took, Joined, AreJoined, all_joined, by_item}
@@ -80,19 +79,14 @@ released_member s J o a h d = record { ids = h.ids; valid = h.valid; lost = h.lo
 -- the spans of a due episode joined it
 pub joined_due : (s : Settings) → HasRoom s.limit → (J : Journal) (dealt : ℕ) (d : Decision) → slice_get (decisions_now s J) dealt ≡ Some d → Each (Joined s J d.opening) d.spans
 joined_due s room [] dealt d is = absurd (cc is)
-joined_due s room (e ∷ J) dealt d is = by_kind e.item e.refused e.lost e.answers is
-  where
-    in_general : (e : Entry) → Each (AreJoined s (e ∷ J) (notes s J)) (in_buffer s (notes s J)) → slice_get (decisions_at s e J (notes s J)) dealt ≡ Some d → Each (Joined s (e ∷ J) d.opening) d.spans
-    in_general e h is =
-        let t = in_turn s (e ∷ J) (due_at s e J e.item (notes s J)) e.answers dealt d (Pairs-due IsEarlier s e J e.item (notes s J) (undecided_ascend s J (notes s J) (sound_notes s room J))) is in
-        let stand = Each-due (λ (o : Opening). Split o (in_buffer s (notes s J)) × (is_open (notes s J) o ≡ true)) s e J e.item (notes s J) (undecided_stand s (notes s J)) in
-        let p = Each-split (λ (o : Opening). Split o (in_buffer s (notes s J)) × (is_open (notes s J) o ≡ true)) d.opening (due_at s e J e.item (notes s J)) t.within stand in
-        subst (λ z. Each (Joined s (e ∷ J) d.opening) z) (sym t.spans) (Each-split (AreJoined s (e ∷ J) (notes s J)) d.opening (in_buffer s (notes s J)) p.0 h p.1)
-
-    by_kind : (item : Item) (refused lost : Bool) (given : List (List Bool)) → slice_get (decisions_at s (record { item = item; refused = refused; lost = lost; answers = given }) J (notes s J)) dealt ≡ Some d → Each (Joined s (record { item = item; refused = refused; lost = lost; answers = given } ∷ J) d.opening) d.spans
-    by_kind (Span a) refused lost given is = absurd (cc is)
-    by_kind (Tick m) refused lost given is = in_general (record { item = Tick m; refused = refused; lost = lost; answers = given }) (by_item s room J (all_joined s room J) (Tick m) refused lost given) is
-    by_kind (End i) refused lost given is = in_general (record { item = End i; refused = refused; lost = lost; answers = given }) (by_item s room J (all_joined s room J) (End i) refused lost given) is
+joined_due s room (e ∷ J) dealt d is =
+    let noted = after_item s e J e.item (notes s J) in
+    let h = sound_item s room J e.item e (notes s J) (sound_notes s room J) in
+    let t = in_turn s (e ∷ J) (due_at s e J e.item noted) e.answers dealt d (Pairs-due IsEarlier s e J e.item noted (undecided_ascend s (e ∷ J) noted h)) is in
+    let Stands = λ (o : Opening). Split o (in_buffer s noted) × (is_open noted o ≡ true) in
+    let p = Each-split Stands d.opening (due_at s e J e.item noted) t.within (Each-due Stands s e J e.item noted (undecided_stand s noted)) in
+    let joined = by_item s room J (all_joined s room J) e.item e.refused e.lost e.answers in
+    subst (λ z. Each (Joined s (e ∷ J) d.opening) z) (sym t.spans) (Each-split (AreJoined s (e ∷ J) noted) d.opening (in_buffer s noted) p.0 joined p.1)
 
 pub released_by_decision : (s : Settings) → HasRoom s.limit → (J : Journal) (dealt : ℕ) (d : Decision) → slice_get (decisions_now s J) dealt ≡ Some d → Each (IsReleased s J) (effect_of_decision d).released
 released_by_decision s room J dealt d is = go d.verdict refl

@@ -1,10 +1,14 @@
 -- Worked runs of the core: where each step is enabled and what it counts, and one span from its receipt to the closed world.
 -- No contract rests on it: it shows the definitions on worked cases.
 use Rattle.std.specs.Prelude.{◌≡◌, ℕ, true, false, List, [], ◌∷◌, ◌++◌, map, Some, None, option_map, refl}
+use Rattle.std.specs.Fmt.{digits}
+use Rattle.hex.specs.Hex.{encode_with}
+use Rattle.json.specs.Print.{print_from, escape_byte}
+use Rattle.span_size.specs.Size.{size_of}
 use Rattle.journal_theory.specs.Journal.{notes}
 use Rattle.otlp_types.specs.declared.arrival.Record.{Record}
 use Rattle.span_ids.specs.declared.ids.TraceId.{TraceId}
-use Rattle.span_ids.specs.declared.outcome.Reason.TheVariants.{InvalidId, QueueFull, NoMemory, ExporterDown, Evicted}
+use Rattle.span_ids.specs.declared.outcome.Reason.TheVariants.{InvalidId, QueueFull, NoMemory, ExporterDown, Evicted, NotSampled, LateNotSampled}
 use Rattle.span_ids.specs.Route.{shard_of}
 use Rattle.world_theory.specs.World.{Config}
 use Rattle.world_theory.specs.Step.{Step, receive, route, refuse, take, tick, close, end, decide, ship, pull, hand, fail, spoil, run}
@@ -262,7 +266,7 @@ spoil_while_down = refl
 -- ---- order
 
 abbrev of_two : Config
-of_two = record { policies = always; wait = 10; root_wait = 0; limit = Some 1; sampled_size = 1; non_sampled_size = 1; batch_size = 2 }
+of_two = record { policies = always; wait = 10; root_wait = 0; maximum_size = 0; limit = Some 1; sampled_size = 1; non_sampled_size = 1; batch_size = 2 }
 
 -- two requests of one trace: its spans keep their order from the lane to the batch
 pub batch_of_two : option_map handed_numbers (run of_two 1 1 (receive 0 0 0 (plain 1 ∷ []) ∷ receive 0 0 0 (plain 1 ∷ []) ∷ route 0 0 ∷ route 0 0 ∷ take 0 false false ∷ take 0 false false ∷ tick 0 10 ∷ decide 0 [] ∷ ship 0 ∷ ship 0 ∷ pull ∷ pull ∷ hand ∷ [])) ≡ Some ((0 ∷ 1 ∷ []) ∷ [])
@@ -278,6 +282,25 @@ due_stays_buffered = refl
 pub decided_is_unshipped : option_map (λ w. places of_two w (key 0)) (run of_two 1 1 (send (plain 1) ++ take 0 false false ∷ tick 0 10 ∷ decide 0 [] ∷ [])) ≡ Some (unshipped 0 ∷ [])
 unfolding notes
 decided_is_unshipped = refl
+
+-- ---- too big
+
+-- the text of a span without an error is {"spanId":"01","traceId":"00000000000000000000000000000001"}: 60 bytes; two are too big
+abbrev too_big : Config
+too_big = record (configured always None 0 0) { maximum_size = 119 }
+
+abbrev three_spans : List Step
+three_spans = receive 0 0 0 (plain 1 ∷ plain 1 ∷ plain 1 ∷ []) ∷ route 0 0 ∷ route 0 0 ∷ route 0 0 ∷ take 0 false false ∷ take 0 false false ∷ decide 0 [] ∷ take 0 false false ∷ []
+
+-- the second span makes the trace too big, and the third is late
+pub too_big_by_second : (numbers_under NotSampled (run too_big 1 1 three_spans) ≡ Some (0 ∷ 1 ∷ [])) × (numbers_under LateNotSampled (run too_big 1 1 three_spans) ≡ Some (2 ∷ []))
+unfolding notes size_of print_from escape_byte encode_with digits
+too_big_by_second = (refl, refl)
+
+-- at the bound it waits
+pub not_too_big : is_enabled_after (record too_big { maximum_size = 120 }) (send (plain 1) ++ take 0 false false ∷ send (plain 1) ++ take 0 false false ∷ []) (decide 0 []) ≡ Some false
+unfolding notes size_of print_from escape_byte encode_with digits
+not_too_big = refl
 
 -- ---- closed
 

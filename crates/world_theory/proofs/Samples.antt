@@ -27,7 +27,7 @@ errors = one_more (leaf (StatusCode (pos 2 ∷ []))) no_more
 
 -- a wait of 10 milliseconds, batches of one span
 abbrev pub configured : Policies → (limit : Option ℕ) → (sampled non_sampled : ℕ) → Config
-configured policies limit sampled non_sampled = record { policies = policies; wait = 10; root_wait = 0; limit = limit; sampled_size = sampled; non_sampled_size = non_sampled; batch_size = 1 }
+configured policies limit sampled non_sampled = record { policies = policies; wait = 10; root_wait = 0; maximum_size = 0; limit = limit; sampled_size = sampled; non_sampled_size = non_sampled; batch_size = 1 }
 
 -- a trace id that ends with this byte: of two shards, an odd one goes to shard 1
 abbrev pub trace : (t : ℕ) → TraceId

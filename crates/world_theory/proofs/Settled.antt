@@ -3,7 +3,7 @@
 use Rattle.std.proofs.Common.{◌≡◌, ℕ, ◌<◌, Bool, true, false, cond, ◌||◌, ◌==◌, List, [], ◌∷◌, ◌++◌, length, reverse, find, slice_get, Option, Some, None, is_none, option_map, option_to_list, ◌⊎◌, inl, inr, refl, ap, sym, subst, ◌∙◌, arith, length-append, ne_eqb}
 use Rattle.std.specs.List.{list_any}
 use Rattle.span_ids.specs.Same.{same_trace}
-use Rattle.journal_theory.specs.Journal.{Settings, Journal, Opening, Decision, Notes, last_of, in_buffer, is_in_buffer, leaving, decided_as, undecided, Finding, joins, meets, opens, finding, spans_since, due_at, after_finding, after_span, after_item, decisions_at, notes, decisions_now, clock, Entry}
+use Rattle.journal_theory.specs.Journal.{Settings, Journal, Opening, Decision, Notes, last_of, in_buffer, is_in_buffer, leaving, decided_as, undecided, Finding, joins, meets, opens, finding, spans_since, due_at, after_finding, after_span, after_item, decisions_in_turn, decisions_at, notes, decisions_now, clock, Entry}
 use Rattle.journal_theory.specs.Fate.{Fate, is_released, is_counted, fate, fate_of_verdict, fate_of_member, fate_of_member_decided, fate_of_finding}
 use Rattle.otlp_types.specs.declared.span.Ids.{Ids}
 use Rattle.span_ids.specs.declared.ids.TraceId.{TraceId}
@@ -74,19 +74,22 @@ out_stays s room J e at l h = go (item_opens s e J e.item (notes s J))
     go (one_opens o p q) = ap (λ z. list_any (λ (o : Opening). o.at == at) (last_of s.limit z)) q ∙ ap (list_any (λ (o : Opening). o.at == at)) (m.with_next o)
         ∙ any_none (λ (o : Opening). o.at == at) (o ∷ m.kept) (ne_eqb o.at at (λ r. omega arith), Each-left (λ (o : Opening). (o.at == at) ≡ false) m.kept (option_to_list (leaving s.limit (notes s J).openings)) (subst (λ z. Each (λ (o : Opening). (o.at == at) ≡ false) z) m.was each))
 
-pub undecided_stays : (s : Settings) (J : Journal) (e : Entry) (at : ℕ) → is_in_buffer s (notes s J) at ≡ false → decided_as (notes s J) at ≡ None → decided_as (notes s (e ∷ J)) at ≡ None
+pub undecided_stays : (s : Settings) → HasRoom s.limit → (J : Journal) (e : Entry) (at : ℕ) → at < length J → is_in_buffer s (notes s J) at ≡ false → decided_as (notes s J) at ≡ None → decided_as (notes s (e ∷ J)) at ≡ None
 unfolding notes
-undecided_stays s J e at h d = ap (λ (r : Option Decision). option_map (λ (d : Decision). d.verdict) r)
+undecided_stays s room J e at l h d = ap (λ (r : Option Decision). option_map (λ (d : Decision). d.verdict) r)
     (find_past (λ (d : Decision). d.opening.at == at) (reverse ds) (after_item s e J e.item (notes s J)).decisions (Each-reverse (λ (d : Decision). (d.opening.at == at) ≡ false) ds others)
     ∙ ap (find (λ (d : Decision). d.opening.at == at)) (same_decisions s e J e.item (notes s J))) ∙ d
   where
+    noted : Notes
+    noted = after_item s e J e.item (notes s J)
+
     ds : List Decision
-    ds = decisions_at s e J (notes s J)
+    ds = decisions_at s e J noted
 
     others : Each (λ (d : Decision). (d.opening.at == at) ≡ false) ds
-    others = Each-in_turn (λ (o : Opening). (o.at == at) ≡ false) s (e ∷ J) (due_at s e J e.item (notes s J)) e.answers
-        (Each-due (λ (o : Opening). (o.at == at) ≡ false) s e J e.item (notes s J) (Each-weaker (λ (o : Opening). Split o (in_buffer s (notes s J)) × (is_open (notes s J) o ≡ true)) (λ (o : Opening). (o.at == at) ≡ false) (undecided s (notes s J))
-        (λ o p. Each-split (λ (o : Opening). (o.at == at) ≡ false) o (in_buffer s (notes s J)) p.0 (any_false (λ (o : Opening). o.at == at) (in_buffer s (notes s J)) h)) (undecided_stand s (notes s J))))
+    others = Each-in_turn (λ (o : Opening). (o.at == at) ≡ false) s (e ∷ J) (due_at s e J e.item noted) e.answers
+        (Each-due (λ (o : Opening). (o.at == at) ≡ false) s e J e.item noted (Each-weaker (λ (o : Opening). Split o (in_buffer s noted) × (is_open noted o ≡ true)) (λ (o : Opening). (o.at == at) ≡ false) (undecided s noted)
+        (λ o p. Each-split (λ (o : Opening). (o.at == at) ≡ false) o (in_buffer s noted) p.0 (any_false (λ (o : Opening). o.at == at) (in_buffer s noted) (out_stays s room J e at l h))) (undecided_stand s noted)))
 
 fate_decided : (b : Bool) (v : Verdict) → fate_of_member_decided b (Some v) ≡ fate_of_verdict DecidedAgainst v
 fate_decided true v = refl
@@ -98,7 +101,7 @@ member_settles s room J e r at l h = go (decided_as (notes s J) at) refl (is_in_
     go : (d : Option Verdict) → decided_as (notes s J) at ≡ d → (b : Bool) → is_in_buffer s (notes s J) at ≡ b → fate_of_member_decided b d ≡ is_counted r → fate_of_member s (notes s (e ∷ J)) at ≡ is_counted r
     go (Some v) d b i h = ap (fate_of_member_decided (is_in_buffer s (notes s (e ∷ J)) at)) (decided_stays s room J e at v d) ∙ fate_decided (is_in_buffer s (notes s (e ∷ J)) at) v ∙ sym (fate_decided b v) ∙ h
     go None d true i h = absurd (cc h)
-    go None d false i h = ap (fate_of_member_decided (is_in_buffer s (notes s (e ∷ J)) at)) (undecided_stays s J e at i d) ∙ ap (λ b. fate_of_member_decided b None) (out_stays s room J e at l i) ∙ h
+    go None d false i h = ap (fate_of_member_decided (is_in_buffer s (notes s (e ∷ J)) at)) (undecided_stays s room J e at l i d) ∙ ap (λ b. fate_of_member_decided b None) (out_stays s room J e at l i) ∙ h
 
 -- ---- a span's fate
 
@@ -191,9 +194,16 @@ module _ (s : Settings) (room : HasRoom s.limit) (J : Journal) (a : Arrival) (id
   unfolding notes
   opens_after f = subst (λ (z : Option Ids). (after_span s z (taken false) J (notes s J)).openings ≡ opened ∷ (notes s J).openings) (sym has) (ap (λ (f : Finding). (after_finding s ids.trace lost (length J) (clock (taken false ∷ J)) (notes s J) f).openings) f)
 
+  -- with no answers none is decided
+  none_given : (os : List Opening) → decisions_in_turn s (taken false ∷ J) os [] ≡ []
+  none_given [] = refl
+  none_given (o ∷ os) = refl
+
   same_after : (notes s (taken false ∷ J)).decisions ≡ (notes s J).decisions
   unfolding notes
-  same_after = same_decisions s (taken false) J (Span a) (notes s J)
+  same_after =
+      let noted = after_item s (taken false) J (Span a) (notes s J) in
+      ap (λ (ds : List Decision). reverse ds ++ noted.decisions) (none_given (due_at s (taken false) J (Span a) noted)) ∙ same_decisions s (taken false) J (Span a) (notes s J)
 
   -- the episode that leaves undecided
   pub evicted_fate : (o : Opening) → finding s (notes s J) ids.trace ≡ opens → leaving s.limit (notes s J).openings ≡ Some o → decided_as (notes s J) o.at ≡ None → Each (λ (b : Arrival). FateIs s (taken false ∷ J) b (is_counted Evicted)) (spans_since J o)

@@ -3,7 +3,7 @@
 use Rattle.std.proofs.Common.{◌≡◌, ℕ, zero, suc, false, List, [], ◌∷◌, ◌++◌, length, take, nat_lt, slice_get, slice_set, Some, refl, ap, sym, subst, ◌∙◌, arith, append_assoc}
 use Rattle.std.proofs.lemmas.List.{append-nil}
 use Rattle.std.proofs.Math.Numerals.{add-one}
-use Rattle.journal_theory.specs.Journal.{Entry, Settings, Journal, Decision, due_now, due_at, decisions_now, decisions_at, notes}
+use Rattle.journal_theory.specs.Journal.{Entry, Settings, Journal, Decision, due_now, after_item, due_at, decisions_now, decisions_at, notes}
 use Rattle.journal_theory.specs.Fate.{Effect, effect, effect_dealt, effect_of_taking, effect_of_decision, effect_of_decisions, ◌then◌}
 use Rattle.otlp_types.specs.declared.arrival.Arrival.{Arrival}
 use Rattle.otlp_types.specs.declared.arrival.Item.TheVariants.{Span, Tick, End}
@@ -27,8 +27,8 @@ AllShipped s shards = (i : ℕ) (sh : Shard) → slice_get shards i ≡ Some sh 
 -- where nothing is due, all was dealt with
 all_done : (s : Settings) (J : Journal) (dealt : ℕ) → nat_lt dealt (length (due_now s J)) ≡ false → effect_dealt s J dealt ≡ effect s J
 all_done s [] dealt n = refl
-all_done s (e ∷ J) dealt n = ap (λ z. (effect s J then effect_of_taking s e J) then effect_of_decisions z) (take_whole dealt (decisions_at s e J (notes s J))
-    (let l = not_below dealt (length (due_now s (e ∷ J))) n in let k = length_in_turn s (e ∷ J) (due_at s e J e.item (notes s J)) e.answers in omega arith))
+all_done s (e ∷ J) dealt n = let noted = after_item s e J e.item (notes s J) in ap (λ z. (effect s J then effect_of_taking s e J) then effect_of_decisions z) (take_whole dealt (decisions_at s e J noted)
+    (let l = not_below dealt (length (due_now s (e ∷ J))) n in let k = length_in_turn s (e ∷ J) (due_at s e J e.item noted) e.answers in omega arith))
 
 -- one decision more
 decided_more : (ds : List Decision) (n : ℕ) (d : Decision) → slice_get ds n ≡ Some d → (effect_of_decisions (take (suc n) ds)).released ≡ (effect_of_decisions (take n ds)).released ++ (effect_of_decision d).released
@@ -38,8 +38,8 @@ decided_more (x ∷ ds) (suc n) d e = ap (λ (z : List Arrival). (effect_of_deci
 
 by_decision : (s : Settings) (J : Journal) (dealt : ℕ) (d : Decision) → slice_get (decisions_now s J) dealt ≡ Some d → (effect_dealt s J (suc dealt)).released ≡ (effect_dealt s J dealt).released ++ (effect_of_decision d).released
 by_decision s [] dealt d e = absurd (cc e)
-by_decision s (e ∷ J) dealt d is = ap (λ (z : List Arrival). (effect s J then effect_of_taking s e J).released ++ z) (decided_more (decisions_at s e J (notes s J)) dealt d is)
-    ∙ sym (append_assoc (effect s J then effect_of_taking s e J).released (effect_of_decisions (take dealt (decisions_at s e J (notes s J)))).released (effect_of_decision d).released)
+by_decision s (e ∷ J) dealt d is = ap (λ (z : List Arrival). (effect s J then effect_of_taking s e J).released ++ z) (decided_more (decisions_now s (e ∷ J)) dealt d is)
+    ∙ sym (append_assoc (effect s J then effect_of_taking s e J).released (effect_of_decisions (take dealt (decisions_now s (e ∷ J)))).released (effect_of_decision d).released)
 
 -- an item is taken where nothing is due
 taken : (s : Settings) (sh : Shard) (e : Entry) (queue : List Arrival) → has_due s sh ≡ false → HasShipped s sh

@@ -3,7 +3,7 @@
 use Rattle.std.proofs.Common.{◌≡◌, ◌∙◌, ◌+◌, ℕ, Bool, true, false, cond, not, ◌&&◌, ◌||◌, nat_lt, List, [], ◌∷◌, ◌++◌, length, slice_get, slice_set, count_by, Option, Some, None, option_map, option_and_then, refl, ap}
 use Rattle.std.proofs.lemmas.Bool.{and_parts, not-true}
 use Rattle.otlp_types.specs.declared.arrival.Record.{Record}
-use Rattle.journal_theory.specs.Journal.{Opening, Decision, decision, decisions_now, due_now, has_ended, answered, spans_since, IsAnsweredUpTo}
+use Rattle.journal_theory.specs.Journal.{Opening, Decision, policies_for, decision, decisions_now, due_now, has_ended, answered, spans_since, IsAnsweredUpTo}
 use Rattle.journal_theory.specs.Answered.{effect_answered, effect_answered_at}
 use Rattle.policy_eval.specs.Given.{are_answered}
 use Rattle.journal_theory.specs.Fate.{Effect, effect_of_decision, counts}
@@ -111,7 +111,7 @@ is_plain _ = true
 pub data Steps (c : Config) (w next : World) : Type 0 where
   plain : (st : Stepped c w next) → is_plain st ≡ true → Steps c w next
   decided_by : (shard : ℕ) (sh : Shard) (answers : List Bool) (o : Opening) → slice_get w.shards shard ≡ Some sh → slice_get (due_now (settings c w) sh.journal) sh.dealt ≡ Some o
-      → are_answered c.policies answers (spans_since sh.journal o) ≡ true → after_decision w shard sh answers (effect_of_decision (decision (settings c w) sh.journal o answers)) ≡ next → Steps c w next
+      → are_answered (policies_for (settings c w) (spans_since sh.journal o)) answers (spans_since sh.journal o) ≡ true → after_decision w shard sh answers (effect_of_decision (decision (settings c w) sh.journal o answers)) ≡ next → Steps c w next
 
 pub stepped : (c : Config) (w next : World) (s : Step) → step c w s ≡ Some next → Steps c w next
 stepped c w next (receive lane ordinal moment records) e =
@@ -156,7 +156,7 @@ stepped c w next (decide shard answers) e =
     let k = and_then_some _ (slice_get w.shards shard) next e in
     let m = map_some _ (effect_answered_at (settings c w) k.0.journal k.0.dealt answers) next k.2 in
     let n = and_then_some (effect_answered (settings c w) k.0.journal answers) (slice_get (due_now (settings c w) k.0.journal) k.0.dealt) m.0 m.1 in
-    let f = some_if (are_answered c.policies answers (spans_since k.0.journal n.0)) _ m.0 n.2 in
+    let f = some_if (are_answered (policies_for (settings c w) (spans_since k.0.journal n.0)) answers (spans_since k.0.journal n.0)) _ m.0 n.2 in
     decided_by shard k.0 answers n.0 k.1 n.1 f.0 (ap (after_decision w shard k.0 answers) f.1 ∙ m.2)
 stepped c w next (ship shard) e =
     let k = and_then_some _ (slice_get w.shards shard) next e in go k.0 k.1 k.0.unshipped refl k.2

@@ -3,8 +3,7 @@
 use Rattle.std.proofs.Common.{◌≡◌, ℕ, ◌<◌, Bool, true, false, cond, ◌==◌, List, [], ◌∷◌, ◌++◌, length, reverse, find, slice_get, Option, Some, None, refl, ap, sym, subst, ◌∙◌, arith, eqb-true}
 use Rattle.std.proofs.lemmas.Bool.{and_parts}
 use Rattle.span_ids.specs.Same.{same_trace}
-use Rattle.journal_theory.specs.Journal.{Settings, Journal, Opening, Decision, Notes, in_buffer, decided_as, undecided, latest_episode, Finding, joins, meets, opens, finding, due_at, decision, decisions_in_turn, after_finding, after_span, after_item, decisions_at, notes, due_now, Entry, spans_since, are_each_answered, IsAnswered}
-use Rattle.policy_tree.specs.Tree.{Policies}
+use Rattle.journal_theory.specs.Journal.{Settings, Journal, Opening, Decision, Notes, in_buffer, decided_as, undecided, latest_episode, Finding, joins, meets, opens, finding, due_at, policies_for, decision, decisions_in_turn, after_finding, after_span, after_item, decisions_at, decisions_now, notes, due_now, Entry, spans_since, are_each_answered, IsAnswered}
 use Rattle.policy_eval.specs.Given.{are_answered}
 use Rattle.otlp_types.specs.declared.span.Ids.{Ids}
 use Rattle.span_ids.specs.declared.ids.TraceId.{TraceId}
@@ -51,12 +50,12 @@ unfolding notes
 all_made s [] = tt
 all_made s (e ∷ J) = Each-append (MadeAt s (e ∷ J)) (reverse ds) (after_item s e J e.item (notes s J)).decisions
     (Each-reverse (MadeAt s (e ∷ J)) ds (Each-weaker (InOrder s (e ∷ J) (due_now s (e ∷ J)) e.answers) (MadeAt s (e ∷ J)) ds
-    (λ d p. record { since = []; item = e; past = J; split = refl; turn = p }) (in_order s (e ∷ J) (due_at s e J e.item (notes s J)) e.answers)))
+    (λ d p. record { since = []; item = e; past = J; split = refl; turn = p }) (in_order s (e ∷ J) (due_now s (e ∷ J)) e.answers)))
     (subst (λ z. Each (MadeAt s (e ∷ J)) z) (sym (same_decisions s e J e.item (notes s J)))
     (Each-weaker (MadeAt s J) (MadeAt s (e ∷ J)) (notes s J).decisions (λ d m. record { since = e ∷ m.since; item = m.item; past = m.past; split = ap (λ (z : Journal). e ∷ z) m.split; turn = m.turn }) (all_made s J)))
   where
     ds : List Decision
-    ds = decisions_at s e J (notes s J)
+    ds = decisions_now s (e ∷ J)
 
 -- ---- a decision's opening is among the openings
 
@@ -82,20 +81,23 @@ opened_decisions : (s : Settings) (J : Journal) → Each (λ (d : Decision). Spl
 unfolding notes
 opened_decisions s [] = tt
 opened_decisions s (e ∷ J) = Each-append (λ (d : Decision). Split d.opening os) (reverse ds) (after_item s e J e.item (notes s J)).decisions
-    (Each-reverse (λ (d : Decision). Split d.opening os) ds (Each-in_turn (λ (o : Opening). Split o os) s (e ∷ J) (due_at s e J e.item (notes s J)) e.answers
-    (Each-due (λ (o : Opening). Split o os) s e J e.item (notes s J) (Each-weaker (λ (o : Opening). Split o (in_buffer s (notes s J)) × (is_open (notes s J) o ≡ true)) (λ (o : Opening). Split o os) (undecided s (notes s J))
-    (λ o p. opened_stays s e J e.item (notes s J) o (subst (λ (z : List Opening). Split o z) (sym fr.1) (Split-more o (in_buffer s (notes s J)) fr.0 p.0))) (undecided_stand s (notes s J))))))
+    (Each-reverse (λ (d : Decision). Split d.opening os) ds (Each-in_turn (λ (o : Opening). Split o os) s (e ∷ J) (due_at s e J e.item noted) e.answers
+    (Each-due (λ (o : Opening). Split o os) s e J e.item noted (Each-weaker (λ (o : Opening). Split o (in_buffer s noted) × (is_open noted o ≡ true)) (λ (o : Opening). Split o os) (undecided s noted)
+    (λ o p. subst (λ (z : List Opening). Split o z) (sym fr.1) (Split-more o (in_buffer s noted) fr.0 p.0)) (undecided_stand s noted)))))
     (subst (λ z. Each (λ (d : Decision). Split d.opening os) z) (sym (same_decisions s e J e.item (notes s J)))
     (Each-weaker (λ (d : Decision). Split d.opening (notes s J).openings) (λ (d : Decision). Split d.opening os) (notes s J).decisions (λ d p. opened_stays s e J e.item (notes s J) d.opening p) (opened_decisions s J)))
   where
+    noted : Notes
+    noted = after_item s e J e.item (notes s J)
+
     ds : List Decision
-    ds = decisions_at s e J (notes s J)
+    ds = decisions_at s e J noted
 
     os : List Opening
-    os = (after_item s e J e.item (notes s J)).openings
+    os = noted.openings
 
-    fr : (rest : List Opening) × ((notes s J).openings ≡ in_buffer s (notes s J) ++ rest)
-    fr = buffer_front s.limit (notes s J).openings
+    fr : (rest : List Opening) × (os ≡ in_buffer s noted ++ rest)
+    fr = buffer_front s.limit os
 
 -- two openings at one position are one
 unique_at : (os : List Opening) → Pairs IsOlder os → (x y : Opening) → Split x os → Split y os → x.at ≡ y.at → x ≡ y
@@ -114,19 +116,19 @@ unique_at os h x y p q e = go os h p.front q.front p.is q.is
 
 -- ---- its answers
 
-behind : (s : Settings) (since : Journal) (item : Entry) (past : Journal) → IsAnswered s (since ++ item ∷ past) → are_each_answered s.policies (item ∷ past) (due_now s (item ∷ past)) item.answers ≡ true
+behind : (s : Settings) (since : Journal) (item : Entry) (past : Journal) → IsAnswered s (since ++ item ∷ past) → are_each_answered s (item ∷ past) (due_now s (item ∷ past)) item.answers ≡ true
 behind s [] item past h = h.0
 behind s (e ∷ since) item past h = behind s since item past h.1
 
-each_there : (policies : Policies) (past : Journal) (sooner rest : List Opening) (o : Opening) (given : List (List Bool)) (answers : List Bool) → are_each_answered policies past (sooner ++ o ∷ rest) given ≡ true →
-    slice_get given (length sooner) ≡ Some answers → are_answered policies answers (spans_since past o) ≡ true
-each_there policies past [] rest o [] answers h e = cc
-each_there policies past [] rest o (g ∷ given) answers h e =
+each_there : (s : Settings) (past : Journal) (sooner rest : List Opening) (o : Opening) (given : List (List Bool)) (answers : List Bool) → are_each_answered s past (sooner ++ o ∷ rest) given ≡ true →
+    slice_get given (length sooner) ≡ Some answers → are_answered (policies_for s (spans_since past o)) answers (spans_since past o) ≡ true
+each_there s past [] rest o [] answers h e = cc
+each_there s past [] rest o (g ∷ given) answers h e =
     let same : g ≡ answers = cc in
-    ap (λ (x : List Bool). are_answered policies x (spans_since past o)) (sym same) ∙ (and_parts (are_answered policies g (spans_since past o)) (are_each_answered policies past rest given) h).0
-each_there policies past (p ∷ sooner) rest o [] answers h e = cc
-each_there policies past (p ∷ sooner) rest o (g ∷ given) answers h e =
-    each_there policies past sooner rest o given answers (and_parts (are_answered policies g (spans_since past p)) (are_each_answered policies past (sooner ++ o ∷ rest) given) h).1 e
+    ap (λ (x : List Bool). are_answered (policies_for s (spans_since past o)) x (spans_since past o)) (sym same) ∙ (and_parts (are_answered (policies_for s (spans_since past o)) g (spans_since past o)) (are_each_answered s past rest given) h).0
+each_there s past (p ∷ sooner) rest o [] answers h e = cc
+each_there s past (p ∷ sooner) rest o (g ∷ given) answers h e =
+    each_there s past sooner rest o given answers (and_parts (are_answered (policies_for s (spans_since past p)) g (spans_since past p)) (are_each_answered s past (sooner ++ o ∷ rest) given) h).1 e
 
 pub was_decided : (s : Settings) → HasRoom s.limit → (J : Journal) → IsAnswered s J → (t : TraceId) (o : Opening) (v : Verdict) → finding s (notes s J) t ≡ meets o v → WasDecided s J t v
 was_decided s room J answered t o v f = go (meeting s J (notes s J) t sound)
@@ -145,7 +147,7 @@ was_decided s room J answered t o v f = go (meeting s J (notes s J) t sound)
         let same : r.0.opening ≡ o = unique_at (notes s J).openings sound.ordered r.0.opening o p (record { front = lo.front; back = lo.back; is = lo.is }) (eqb-true r.0.opening.at o.at k.passes) in
         let due = m.turn.due ∙ ap (λ (z : Opening). m.turn.sooner ++ z ∷ m.turn.rest) same in
         let each = behind s m.since m.item m.past (subst (IsAnswered s) m.split answered) in
-        let E = λ (os : List Opening). are_each_answered s.policies (m.item ∷ m.past) os m.item.answers ≡ true in
+        let E = λ (os : List Opening). are_each_answered s (m.item ∷ m.past) os m.item.answers ≡ true in
         record {
           since = m.since;
           item = m.item;
@@ -158,7 +160,7 @@ was_decided s room J answered t o v f = go (meeting s J (notes s J) t sound)
           due = due;
           answers = m.turn.answers;
           given = m.turn.there;
-          enough = each_there s.policies (m.item ∷ m.past) m.turn.sooner m.turn.rest o m.item.answers m.turn.answers (subst E due each) m.turn.there;
+          enough = each_there s (m.item ∷ m.past) m.turn.sooner m.turn.rest o m.item.answers m.turn.answers (subst E due each) m.turn.there;
           verdict = sym r.2 ∙ ap (λ (d : Decision). d.verdict) m.turn.is ∙ ap (λ (z : Opening). (decision s (m.item ∷ m.past) z m.turn.answers).verdict) same;
         }
 

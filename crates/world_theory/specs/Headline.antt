@@ -3,7 +3,7 @@ use Rattle.std.specs.Prelude.{IsSome, ◌⊎◌, ◌≡◌, ℕ, ◌<◌, Bool, 
 use Rattle.std.specs.List.{list_any}
 use Rattle.policy_eval.specs.Given.{verdict_given, are_answered}
 use Rattle.span_ids.specs.Same.{same_trace}
-use Rattle.journal_theory.specs.Journal.{Entry, Settings, Journal, Opening, has_ended, spans_since, due_now, notes, remembered, latest_episode}
+use Rattle.journal_theory.specs.Journal.{Entry, Settings, Journal, Opening, has_ended, spans_since, due_now, policies_for, notes, remembered, latest_episode}
 use Rattle.journal_theory.specs.Fate.{Fate, waits, is_released, is_counted, fate, is_same_reason, effect_dealt}
 use Rattle.otlp_types.specs.declared.span.Ids.{Ids}
 use Rattle.otlp_types.specs.declared.arrival.Arrival.{Arrival}
@@ -148,7 +148,7 @@ InReceivedOrder w = AllPairs ComesFirst (handed_spans w)
 
 -- ---- remembered decisions
 
--- the trace's latest episode was due at an item, and the verdict is the policies' on the spans that it had there, with the limiter's answers that were given to its decision, one for each asking
+-- the trace's latest episode was due at an item, and the verdict is that of the policies that decide on the spans that it had there, with the limiter's answers that were given to its decision, one for each asking
 pub record WasDecided (s : Settings) (before : Journal) (t : TraceId) (v : Verdict) : Type 0 where
   pub since : Journal
   pub item : Entry
@@ -161,8 +161,8 @@ pub record WasDecided (s : Settings) (before : Journal) (t : TraceId) (v : Verdi
   pub due : due_now s (item ∷ past) ≡ sooner ++ opening ∷ rest
   pub answers : List Bool
   pub given : slice_get item.answers (length sooner) ≡ Some answers
-  pub enough : are_answered s.policies answers (spans_since (item ∷ past) opening) ≡ true
-  pub verdict : v ≡ verdict_given s.policies answers (spans_since (item ∷ past) opening)
+  pub enough : are_answered (policies_for s (spans_since (item ∷ past) opening)) answers (spans_since (item ∷ past) opening) ≡ true
+  pub verdict : v ≡ verdict_given (policies_for s (spans_since (item ∷ past) opening)) answers (spans_since (item ∷ past) opening)
 
 -- where a span may be that met this verdict
 abbrev pub is_where_late : (shard : ℕ) → Verdict → Place → Bool

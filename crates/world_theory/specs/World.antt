@@ -12,11 +12,12 @@ use Rattle.span_ids.specs.declared.keys.ArrivalKey.{ArrivalKey}
 
 -- ---- the world
 
--- The settings of each shard, and the size of a batch: the waits are in milliseconds, a `root_wait` of 0 is off, a `limit` of None is no limit on the traces of a shard, a cache of size 0 is off.
+-- The settings of each shard, and the size of a batch: the waits are in milliseconds, a `root_wait` of 0 is off, the greatest size of a trace is in bytes, where 0 is none, a `limit` of None is no limit on the traces of a shard, a cache of size 0 is off.
 pub record Config : Type 0 where
   pub policies : Policies
   pub wait : ℕ
   pub root_wait : ℕ
+  pub maximum_size : ℕ
   pub limit : Option ℕ
   pub sampled_size : ℕ
   pub non_sampled_size : ℕ
@@ -67,7 +68,7 @@ ticker w = length w.lanes
 
 -- the settings of each shard, with so many senders
 abbrev pub settings_for : Config → (senders : ℕ) → Settings
-settings_for c senders = record { policies = c.policies; wait = c.wait; root_wait = c.root_wait; limit = c.limit; sampled_size = c.sampled_size; non_sampled_size = c.non_sampled_size; senders = senders }
+settings_for c senders = record { policies = c.policies; wait = c.wait; root_wait = c.root_wait; maximum_size = c.maximum_size; limit = c.limit; sampled_size = c.sampled_size; non_sampled_size = c.non_sampled_size; senders = senders }
 
 -- the settings of each shard of the world
 abbrev pub settings : Config → World → Settings

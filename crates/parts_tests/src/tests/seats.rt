@@ -3,7 +3,7 @@ ghost use Rattle.std.specs.Prelude.{◌≡◌, ◌≤◌, ◌*◌, map};
 ghost use Rattle.shared_budget.specs.Budget.{cell_of, AreOfOneBudget};
 
 use otlp_types::Text;
-use policy_tree::{Policies, Policy, PolicyKind};
+use policy_tree::{Limit, Policies, Policy, PolicyKind};
 use rate_budget::Limiter;
 use shared_budget::{BudgetSeat, SharedBudget};
 use std::alloc::{AllocError, Global};
@@ -16,7 +16,9 @@ use std::thread::Threads;
 fn rate(alloc: Global, name: &str, spans_per_second: u64) -> Result<Policy, AllocError> {
     Ok(Policy {
         name: Text::from_str(alloc, name)?,
-        kind: PolicyKind::RateLimiting { spans_per_second },
+        kind: PolicyKind::Limiting(Limit::Spans {
+            per_second: spans_per_second,
+        }),
     })
 }
 

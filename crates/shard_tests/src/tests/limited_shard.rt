@@ -16,6 +16,7 @@ use trace_hash::TraceHashing;
 pub struct Numbers {
     pub wait: u64,
     pub root_wait: u64,
+    pub maximum_size: u64,
     pub limit: usize,
     pub sampled: usize,
     pub non_sampled: usize,
@@ -45,6 +46,7 @@ impl LimitedShard {
             hashing: TraceHashing::Fixed,
             wait: numbers.wait,
             root_wait: numbers.root_wait,
+            maximum_size: numbers.maximum_size,
             limit: numbers.limit,
             sampled: numbers.sampled,
             non_sampled: numbers.non_sampled,

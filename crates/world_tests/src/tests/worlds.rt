@@ -7,7 +7,7 @@ use crate::tests::simulated::Simulated;
 use otlp_types::{AnyValue, Boxed, KeyValue, List, Record, Span, Text};
 use plain_shards::{one_policy, policy_on};
 use plain_spans::{numbered_ids, plain_record};
-use policy_tree::{Join, Leaf, Policies, Policy, PolicyKind, Wanted};
+use policy_tree::{Join, Leaf, Limit, Policies, Policy, PolicyKind, Wanted};
 use span_ids::Reason;
 use span_world::{Config, Refusal, Step, World};
 use std::alloc::{AllocError, Global};
@@ -188,9 +188,7 @@ fn asks_twice(alloc: Global) -> Result<Policies, AllocError> {
     for name in ["first", "second"] {
         parts.push(Policy {
             name: Text::from_str(alloc, name)?,
-            kind: PolicyKind::RateLimiting {
-                spans_per_second: 0,
-            },
+            kind: PolicyKind::Limiting(Limit::Spans { per_second: 0 }),
         })?;
     }
     one_policy(

@@ -4,7 +4,7 @@ use Rattle.std.proofs.Common.{◌≡◌, ℕ, zero, suc, ◌+◌, Bool, true, fa
 use Rattle.std.specs.Option.{unwrap_or, option_map, option_copied}
 use Rattle.std.proofs.lemmas.Grind.{common_steps}
 use Rattle.policy_tree.specs.declared.policy.Policy.{Policy}
-use Rattle.policy_tree.specs.Tree.{Policy as Meant, leaf, rate_limiting, joined, Policies}
+use Rattle.policy_tree.specs.Tree.{Policy as Meant, leaf, limiting, joined, Policies}
 use Rattle.policy_tree.specs.Expressions.{expressions_of}
 use Rattle.expression.specs.Expressions.{are_known}
 use Rattle.policy_tree.specs.Meaning.{meaning, policy_meaning}
@@ -87,12 +87,12 @@ returns-after-loop-part t c =
     let last = part-last bs spans whole c.in-Joined.join (meaning items) c.args.asked c.loop-part.next c.loop-part.seen (subst T none c.loop-part.invariant.0) in
     record { answer = c.joined-in-Joined.ensures ∙ last.answer; asked = last.asked; same = c.loop-part.invariant.2 }
 
-pub returns-in-RateLimiting-clause-answer : goal.returns-in-RateLimiting-clause-answer
-returns-in-RateLimiting-clause-answer t c =
+pub returns-in-Limiting-clause-answer : goal.returns-in-Limiting-clause-answer
+returns-in-Limiting-clause-answer t c =
     let left = drop c.args.asked c.args.answers.now in
     let spans = c.args.spans.now in
-    let limit = c.in-RateLimiting.spans_per_second in
-    let kind : policy_meaning c.args.policy.now ≡ rate_limiting limit = let is = c.in-RateLimiting.is in search (rules, the_lemmas) in
+    let limit = c.in-Limiting.field-0 in
+    let kind : policy_meaning c.args.policy.now ≡ limiting limit = let is = c.in-Limiting.is in search (rules, the_lemmas) in
     let got : unwrap_or (option_copied c.get.result) false ≡ get_or c.args.answers.now c.args.asked false = copied-is c.get.result false ∙ c.get.ensures.lookup.4 (omega arith) false in
     let granted : c.unwrap_or-granted.result ≡ next_answer left = c.unwrap_or-granted.ensures ∙ ap (λ o. unwrap_or o false) c.copied.ensures ∙ got ∙ next-at c.args.answers.now c.args.asked in
     c.plain.ensures ∙ ap (λ b. answer_of (plain b)) granted ∙ ap (λ p. answer_of (answer_given p left spans)) (sym kind)

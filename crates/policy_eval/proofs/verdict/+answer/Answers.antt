@@ -3,7 +3,7 @@
 use Rattle.std.proofs.Common.{◌≡◌, ℕ, ◌+◌, ◌≤◌, List, [], drop, true, rules, refl, sym, ap, subst, ◌∙◌, arith}
 use Rattle.std.proofs.lemmas.Grind.{common_steps}
 use Rattle.policy_tree.specs.declared.policy.Policy.{Policy}
-use Rattle.policy_tree.specs.Tree.{Policy as Meant, leaf, rate_limiting, joined, Policies, nodes}
+use Rattle.policy_tree.specs.Tree.{Policy as Meant, leaf, limiting, joined, Policies, nodes}
 use Rattle.policy_tree.specs.Meaning.{meaning, policy_meaning}
 use Rattle.policy_tree.specs.declared.policy.PolicyKind.TheFolds.{the_lemmas}
 use Rattle.policy_eval.specs.declared.answer.Answer.{Answer}
@@ -89,15 +89,16 @@ returns-after-loop-part-clause-answers g t c =
     let last = turn-last S H A s0 whole join (meaning items) c.args.node c.args.second c.args.spans.now c.loop-part.limiter c.loop-part.next c.loop-part.seen (subst T none c.loop-part.invariant.0) in
     subst P (sym c.joined-in-Joined.ensures) last
 
-pub returns-in-RateLimiting-clause-answers : goal.returns-in-RateLimiting-clause-answers
-returns-in-RateLimiting-clause-answers g t c =
+pub returns-in-Limiting-clause-answers : goal.returns-in-Limiting-clause-answers
+returns-in-Limiting-clause-answers g t c =
     let S = g.row.L.Denot in
     let A = g.L.Limiter.asks in
     let spans = c.args.spans.now in
-    let limit = c.in-RateLimiting.spans_per_second in
-    let kind : policy_meaning c.args.policy.now ≡ rate_limiting limit = let is = c.in-RateLimiting.is in search (rules, the_lemmas) in
+    let limit = c.in-Limiting.limit in
+    let kind : policy_meaning c.args.policy.now ≡ limiting limit = let is = c.in-Limiting.is in search (rules, the_lemmas) in
     let P = λ (p : Meant). Answers A p c.args.node c.args.second spans c.plain.result c.args.limiter.now c.ask.new.self in
-    subst P (sym kind) (answers-rate S A c.args.second spans c.args.limiter.now c.ask.new.self limit c.args.node c.ask.result c.plain.result c.plain.ensures c.ask.ensures)
+    let asked = subst (λ (n : ℕ). A c.args.limiter.now c.args.node c.args.second n c.ask.result c.ask.new.self) c.amount_of.ensures.amount c.ask.ensures in
+    subst P (sym kind) (answers-rate S A c.args.second spans c.args.limiter.now c.ask.new.self limit c.args.node c.ask.result c.plain.result c.plain.ensures asked)
 
 pub returns-in-Leaf-clause-answers : goal.returns-in-Leaf-clause-answers
 returns-in-Leaf-clause-answers g t c =

@@ -1,12 +1,12 @@
 use Rattle.std.proofs.Common.{◌≡◌, ℕ, ◌/◌, ◌<◌, false, true, Some, None, [], List, option_map, length, sym, ap, subst, ◌∙◌, inr}
 use Rattle.std.specs.List.{find}
 use Rattle.policy_tree.specs.Meaning.{meaning}
-use Rattle.policy_eval.specs.Given.{verdict_given, decider_given, asked_given, are_answered, Asked}
+use Rattle.policy_eval.specs.Given.{verdict_given}
 use Rattle.trace_buffer.specs.Buffer.{Episode, Buffer, is_due_at, with_settled}
 use Rattle.otlp_types.specs.declared.arrival.Arrival.{Arrival}
 use Rattle.span_ids.specs.declared.outcome.Verdict.{Verdict}
 use Rattle.shard_core.specs.Taking.{Releases, DecidesWithDecider, waiting}
-use Rattle.shard_core.specs.Holding.{SettlesFirst}
+use Rattle.shard_core.specs.Holding.{SettlesFirst, policies_on}
 use Rattle.shard_core.specs.declared.answer.Decided.TheVariants.{Nothing}
 use Rattle.shard_core.specs.Held.{Held, held_of, settings, StandsFor, due_by, has_due}
 use Rattle.shard_core.specs.contracts.shard.Shard.{the_view}
@@ -20,19 +20,17 @@ use Rattle.shard_core.proofs.Deciding.{nothing_due, decides_nothing, decides_som
 use Rattle.shard_core.proofs.shard.Shard.decide_with_decider.Given.{Over}
 use Rattle.shard_core.proofs.shard.Shard.decide_with_decider.Goals as goal
 
-pub evaluate_with_decider-verdict-requires-clause-spans : goal.evaluate_with_decider-verdict-requires-clause-spans
-evaluate_with_decider-verdict-requires-clause-spans g c =
-    let d = c.due_by-mark.result in
-    let P = λ (spans : List Arrival). 0 < length spans in
-    subst P (sym c.spans.ensures) (due_spans d.0 d.1 d.2 c.self.inside.buffer.episodes c.in-Some.episode.now c.self.invariant.2 (sym c.next_due.ensures ∙ ap option_copied c.in-Some.is))
+pub decide_on-verdict-requires-clause-spans : goal.decide_on-verdict-requires-clause-spans
+decide_on-verdict-requires-clause-spans g c =
+    let d = c.due_by-mark.result in due_spans d.0 d.1 d.2 c.self.inside.buffer.episodes c.in-Some.episode.now c.self.invariant.2 (sym c.next_due.ensures ∙ ap option_copied c.in-Some.is)
 
 pub invariant_of-self : goal.invariant_of-self
 invariant_of-self g c =
     let i = c.self.inside in
     let inv = c.self.invariant in
     let d = c.due_by-mark.result in
-    let k = settle_keeps i.clock d.0 d.1 d.2 c.evaluate_with_decider-verdict.result.0 i.buffer c.settle-spans.new.self i.cache c.settle-spans.ensures.after (inv.1, inv.3, inv.4) in
-    (inv.0, k.0, settle_spans d.0 d.1 d.2 c.evaluate_with_decider-verdict.result.0 i.buffer c.settle-spans.new.self c.settle-spans.ensures.after inv.2, k.1, k.2, rw c.evaluate_with_decider-verdict.ensures.same inv.5)
+    let k = settle_keeps i.clock d.0 d.1 d.2 c.decide_on-verdict.result.0 i.buffer c.settle-spans.new.self i.cache c.settle-spans.ensures.after (inv.1, inv.3, inv.4) in
+    (inv.0, k.0, settle_spans d.0 d.1 d.2 c.decide_on-verdict.result.0 i.buffer c.settle-spans.new.self c.settle-spans.ensures.after inv.2, k.1, k.2, rw c.decide_on-verdict.ensures.same inv.5)
 
 -- ---- no episode was due
 
@@ -77,22 +75,21 @@ due_found : (g : Over) (c : goal.After-decided g) → find (is_due_at c.due_by-m
 due_found g c = sym c.next_due.ensures ∙ ap option_copied c.in-Some.is
 
 abbrev new_held : (g : Over) (c : goal.After-decided g) → Held
-new_held g c = let i = c.self.inside in held_of i.policies i.wait i.root_wait c.settle-spans.new.self i.cache i.clock i.mark i.ends.items
+new_held g c = let i = c.self.inside in held_of i.policies i.wait i.root_wait i.maximum_size c.settle-spans.new.self i.cache i.clock i.mark i.ends.items
 
-settles : (g : Over) (c : goal.After-decided g) → SettlesFirst (the_view c.self.inside) c.due_by-mark.result.0 c.due_by-mark.result.1 c.due_by-mark.result.2 c.evaluate_with_decider-verdict.ensures.evaluates.0 c.decided.result (new_held g c)
+settles : (g : Over) (c : goal.After-decided g) → SettlesFirst (the_view c.self.inside) c.due_by-mark.result.0 c.due_by-mark.result.1 c.due_by-mark.result.2 c.decide_on-verdict.ensures.evaluates.0 c.decided.result (new_held g c)
 settles g c = λ e f.
     let i = c.self.inside in
     let d = c.due_by-mark.result in
-    let policies = meaning i.policies in
-    let answers = c.evaluate_with_decider-verdict.ensures.evaluates.0 in
+    let policies = policies_on (meaning i.policies) in
+    let answers = c.decide_on-verdict.ensures.evaluates.0 in
     let same : c.in-Some.episode.now ≡ e = cc (due_found g c, f) in
-    let spans : c.spans.result.now ≡ e.spans = c.spans.ensures ∙ ap (λ (y : Episode). y.spans) same in
-    let v = c.evaluate_with_decider-verdict.result.0 in
-    let verdict : v ≡ verdict_given policies answers e.spans = c.evaluate_with_decider-verdict.ensures.evaluates.1 ∙ ap (verdict_given policies answers) spans in
+    let v = c.decide_on-verdict.result.0 in
+    let verdict : v ≡ verdict_given (policies e) answers e.spans = c.decide_on-verdict.ensures.evaluates.1 ∙ ap (λ (y : Episode). verdict_given (policies y) answers y.spans) same in
     let R = λ (ms : List Arrival). Releases c.decided.result ms v in
     let released : c.settle-spans.result.items ≡ e.spans = cc (c.settle-spans.ensures.spans ∙ ap (option_map (λ (y : Episode). y.spans)) f) in
     let V = λ (x : Verdict). Releases c.decided.result e.spans x in
-    let put = λ (b : Buffer). held_of i.policies i.wait i.root_wait b i.cache i.clock i.mark i.ends.items in
+    let put = λ (b : Buffer). held_of i.policies i.wait i.root_wait i.maximum_size b i.cache i.clock i.mark i.ends.items in
     (subst V verdict (subst R released c.decided.ensures), ap put c.settle-spans.ensures.after ∙ ap (λ (x : Verdict). put (with_settled d.0 d.1 d.2 x i.buffer)) verdict)
 
 pub returns-clause-decides : goal.returns-clause-decides
@@ -102,26 +99,22 @@ returns-clause-decides g c =
     let asks = g.L.Limiter.asks in
     let e = c.in-Some.episode.now in
     let before = c.args.limiter.now in
-    let after = c.evaluate_with_decider-verdict.new.limiter in
-    let made = c.evaluate_with_decider-verdict.ensures.evaluates in
+    let after = c.decide_on-verdict.new.limiter in
+    let made = c.decide_on-verdict.ensures.evaluates in
     let answers = made.0 in
-    let policies = meaning c.self.inside.policies in
-    let A = λ (spans : List Arrival). are_answered policies answers spans ≡ true in
-    let Q = λ (spans : List Arrival). Asked asks (c.self.inside.clock / 1000) (length spans) (asked_given policies answers spans) answers before after in
-    let decider = c.evaluate_with_decider-verdict.result.1 in
+    let decider = c.decide_on-verdict.result.1 in
     let P = λ (x : Held). DecidesWithDecider asks x (new_held g c) c.decided.result decider before after in
-    let D = λ (spans : List Arrival). decider ≡ decider_given policies answers spans in
     let by : c.due_by-mark.result ≡ due_by h = c.due_by-mark.ensures ∙ ap due_by (sym c.self.view_is) in
     let F = λ (d : ℕ × ℕ × ℕ). find (is_due_at d.0 d.1 d.2) c.self.inside.buffer.episodes ≡ Some e in
     let S = λ (d : ℕ × ℕ × ℕ). SettlesFirst h d.0 d.1 d.2 answers c.decided.result (new_held g c) in
     subst P (c.self.view_is ∙ c.search.ensures) (
       answers,
       λ past k s.
-          let did = decides_some asks h inv.0 inv.1 inv.3 (new_held g c) c.decided.result before after answers e past k (subst F by (due_found g c)) (subst S by (settles g c)) (subst A c.spans.ensures made.2) (subst Q c.spans.ensures made.3) s in
-          (did.0, did.1, did.2, decider_some asks h inv.0 inv.1 inv.3 answers decider e past k (subst F by (due_found g c)) (subst D c.spans.ensures made.4) s),
+          let did = decides_some asks h inv.0 inv.1 inv.3 (new_held g c) c.decided.result before after answers e past k (subst F by (due_found g c)) (subst S by (settles g c)) made.2 made.3 s in
+          (did.0, did.1, did.2, decider_some asks h inv.0 inv.1 inv.3 answers decider e past k (subst F by (due_found g c)) made.4 s),
     )
 
 pub returns-clause-fewer : goal.returns-clause-fewer
 returns-clause-fewer g c =
     let P = λ (x : Held). waiting (new_held g c) < waiting x in
-    inr (subst P (c.self.view_is ∙ c.search.ensures) (waits_less (the_view c.self.inside) (new_held g c) c.due_by-mark.result.0 c.due_by-mark.result.1 c.due_by-mark.result.2 c.evaluate_with_decider-verdict.ensures.evaluates.0 c.in-Some.episode.now c.decided.result (due_found g c) (settles g c)))
+    inr (subst P (c.self.view_is ∙ c.search.ensures) (waits_less (the_view c.self.inside) (new_held g c) c.due_by-mark.result.0 c.due_by-mark.result.1 c.due_by-mark.result.2 c.decide_on-verdict.ensures.evaluates.0 c.in-Some.episode.now c.decided.result (due_found g c) (settles g c)))

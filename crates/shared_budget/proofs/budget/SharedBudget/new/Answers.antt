@@ -1,5 +1,6 @@
 use Rattle.std.proofs.Common.{rules, ◌≡◌, ◌+◌, ◌<◌, ◌++◌, ◌∷◌, [], List, take, length, get_or, sym, ap, ◌∙◌, subst, ℕ, suc, arith}
 use Rattle.std.proofs.Math.Seq.{take-suc}
+use Rattle.policy_tree.specs.declared.limit.Limit.TheVariants.{Spans}
 use Rattle.policy_tree.specs.declared.limiter_node.LimiterNode.{LimiterNode}
 use Rattle.shared_budget.specs.Seats.{Stand}
 use Rattle.shared_budget.specs.Budget.{AreNewSeats}
@@ -13,7 +14,7 @@ pub loop-limiter-preserved : goal.loop-limiter-preserved
 loop-limiter-preserved g c =
     let items : List LimiterNode = c.as_slice-limiter-items.result.now in
     let i = c.loop-limiter.limiter-index in
-    let none : LimiterNode = record { node = 0; spans_per_second = 0 } in
+    let none : LimiterNode = record { node = 0; limit = Spans 0 } in
     let l : LimiterNode = get_or items i none in
     let within : i < length items = search rules in
     let next : i + 1 ≡ suc i = omega arith in

@@ -1,0 +1,7 @@
+use Rattle.std.proofs.Common.{codes}
+use Rattle.serde_json.specs.Data.{boolean}
+use Rattle.span_size.proofs.Objects.{one-added}
+use Rattle.span_size.proofs.counting.object_of_bool.Goals as goal
+
+pub returns : goal.returns
+returns c = one-added (codes "boolValue") (boolean c.args.b) c.begin_object.ensures c.key.ensures c.boolean.ensures c.end_object.ensures

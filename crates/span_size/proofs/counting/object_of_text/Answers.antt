@@ -1,0 +1,6 @@
+use Rattle.serde_json.specs.Data.{string}
+use Rattle.span_size.proofs.Objects.{one-added}
+use Rattle.span_size.proofs.counting.object_of_text.Goals as goal
+
+pub returns : goal.returns
+returns c = one-added c.args.name.now (string c.args.text.now) c.begin_object.ensures c.key.ensures (rw c.as_str.ensures at c.string.ensures) c.end_object.ensures

@@ -1,0 +1,245 @@
+//! Fields by their kinds, counted as they would be written. A default is left out.
+ghost use Rattle.std.specs.Prelude.{◌≡◌, ◌∷◌, [], Some, map, codes, true, false};
+ghost use Rattle.std.specs.Fmt.{signed_decimal};
+ghost use Rattle.std.specs.Float.{float_is_finite};
+ghost use Rattle.serde_json.specs.Data.{Members, no_members, string, boolean, object};
+ghost use Rattle.json.specs.Token.{key as key_token, string as string_token, number as json_number};
+ghost use Rattle.otlp_types.specs.declared.value.AnyValue.{Empty};
+ghost use Rattle.otlp_types.specs.Doubles.{double_text};
+ghost use Rattle.otlp_json.specs.Tokens.{value_tokens};
+ghost use Rattle.otlp_json.specs.Writing.{text_field, u32_field, u64_field, enum_field, message_field, list_field, fields as fields_of, double_data, value_fields, pair_fields};
+ghost use Rattle.span_size.specs.Counting.{Adds, AddsField, AddsObject};
+
+use crate::counter::Counter;
+use otlp_types::{AnyValue, Double, KeyValue, List, Text};
+
+/// What is written as a JSON object.
+pub trait Counted {
+    /// The members of its object.
+    ghost fields: { Self → Members };
+
+    /// Counts the object.
+    fn count(&self, out: &mut Counter)
+        ensures { AddsObject out.old out.new (fields self.now) };
+}
+
+impl Counted for KeyValue {
+    ghost fields = { pair_fields };
+
+    #[cycle(count)]
+    fn count(&self, out: &mut Counter) {
+        out.begin_object();
+        text(out, "key", &self.key);
+        count_set_value(out, &self.value);
+        out.end_object();
+    }
+}
+
+impl Counted for AnyValue {
+    ghost fields = { value_fields };
+
+    #[cycle(count)]
+    fn count(&self, out: &mut Counter) {
+        match self {
+            AnyValue::Empty => object_of_none(out),
+            AnyValue::Str(text) => object_of_text(out, "stringValue", text),
+            AnyValue::Bool(b) => object_of_bool(out, *b),
+            AnyValue::Int(n) => object_of_integer(out, n),
+            AnyValue::Double(x) => object_of_double(out, x),
+            AnyValue::Array(values) => object_of_list(out, "arrayValue", values),
+            AnyValue::KvList(pairs) => object_of_list(out, "kvlistValue", pairs),
+            AnyValue::Bytes(text) => object_of_text(out, "bytesValue", text),
+        }
+    }
+}
+
+/// A text, unless it is empty.
+pub fn text(out: &mut Counter, name: &str, text: &Text)
+    ensures { AddsField out.old out.new name.now (text_field text.now) }
+{
+    let text = text.as_str();
+    if text.is_empty() {
+        return;
+    }
+    out.key(name);
+    out.string(text);
+}
+
+/// A whole number as a JSON number, unless it is 0.
+fn whole(out: &mut Counter, name: &str, n: i64)
+    ensures { AddsField out.old out.new name.now (enum_field n) }
+{
+    if n == 0 {
+        return;
+    }
+    out.key(name);
+    out.i64(n);
+}
+
+/// A number of 32 bits as a JSON number, unless it is 0.
+pub fn u32(out: &mut Counter, name: &str, n: u32)
+    ensures { AddsField out.old out.new name.now (u32_field n) }
+{
+    whole(out, name, i64::from(n));
+}
+
+/// The number of an enumeration as a JSON number, unless it is 0.
+pub fn enumeration(out: &mut Counter, name: &str, n: i32)
+    ensures { AddsField out.old out.new name.now (enum_field n) }
+{
+    whole(out, name, i64::from(n));
+}
+
+/// A number of 64 bits as decimal text, unless it is 0.
+pub fn u64(out: &mut Counter, name: &str, n: u64)
+    ensures { AddsField out.old out.new name.now (u64_field n) }
+{
+    if n == 0 {
+        return;
+    }
+    out.key(name);
+    out.quoted_u64(n);
+}
+
+/// A list of messages, unless it is empty.
+pub fn list<T: Counted>(out: &mut Counter, name: &str, items: &[T])
+    ensures { AddsField out.old out.new name.now (list_field (map T.fields items.now)) }
+{
+    if items.is_empty() {
+        return;
+    }
+    out.key(name);
+    out.begin_array();
+    for item in items {
+        item.count(out);
+    }
+    out.end_array();
+}
+
+/// The object of a value that is a list: its one member holds the items under `values`.
+fn object_of_list<T: Counted>(out: &mut Counter, key: &str, items: &List<T>)
+    ensures { AddsObject out.old out.new (fields_of
+        ((key.now, Some (object (fields_of ((codes "values", list_field (map T.fields items.now)) ∷ [])))) ∷ [])) }
+{
+    out.begin_object();
+    out.key(key);
+    out.begin_object();
+    list(out, "values", items.as_slice());
+    out.end_object();
+    out.end_object();
+}
+
+/// The object of the value that is not set.
+fn object_of_none(out: &mut Counter)
+    ensures { AddsObject out.old out.new no_members }
+{
+    out.begin_object();
+    out.end_object();
+}
+
+/// An object with this text alone, also where it is empty.
+fn object_of_text(out: &mut Counter, name: &str, text: &Text)
+    ensures { AddsObject out.old out.new (fields_of ((name.now, Some (string text.now)) ∷ [])) }
+{
+    out.begin_object();
+    out.key(name);
+    out.string(text.as_str());
+    out.end_object();
+}
+
+/// The object of a truth value.
+fn object_of_bool(out: &mut Counter, b: bool)
+    ensures { AddsObject out.old out.new (fields_of ((codes "boolValue", Some (boolean b)) ∷ [])) }
+{
+    out.begin_object();
+    out.key("boolValue");
+    out.boolean(b);
+    out.end_object();
+}
+
+/// The object of an integer, as text, behind a reference, so that it is known to be within its type's range.
+fn object_of_integer(out: &mut Counter, n: &i64)
+    ensures { AddsObject out.old out.new
+        (fields_of ((codes "intValue", Some (string (signed_decimal n.now))) ∷ [])) }
+{
+    out.begin_object();
+    out.key("intValue");
+    out.quoted_i64(*n);
+    out.end_object();
+}
+
+/// The object of a double.
+fn object_of_double(out: &mut Counter, x: &Double)
+    ensures { AddsObject out.old out.new
+        (fields_of ((codes "doubleValue", Some (double_data x.now)) ∷ [])) }
+{
+    out.begin_object();
+    out.key("doubleValue");
+    double(out, x);
+    out.end_object();
+}
+
+/// A double: a number, or a name in place of one.
+fn double(out: &mut Counter, x: &Double)
+    ensures { Adds out.old out.new (value_tokens (double_data x.now)) }
+{
+    let value = x.get();
+    if value.is_finite() {
+        number(out, x);
+        return;
+    }
+    out.string(name(value));
+}
+
+/// A finite double, as a number.
+fn number(out: &mut Counter, x: &Double)
+    requires { float_is_finite x.now ≡ true }
+    ensures { Adds out.old out.new (json_number (double_text x.now) ∷ []) }
+{
+    let text = x.text();
+    out.number(text.as_str());
+}
+
+/// The name of a double that is not finite.
+fn name(x: f64) -> &'static str
+    requires { float_is_finite x ≡ false }
+    ensures { string result.now ≡ double_data x }
+{
+    if x.is_nan() {
+        "NaN"
+    } else if x.is_sign_negative() {
+        "-Infinity"
+    } else {
+        "Infinity"
+    }
+}
+
+/// The field `value` of a pair, where one is set.
+#[cycle(count)]
+fn count_set_value(out: &mut Counter, value: &AnyValue)
+    ensures { AddsField out.old out.new (codes "value") (message_field (value_fields value.now)) }
+{
+    if !is_set(value) {
+        return;
+    }
+    out.key("value");
+    value.count(out);
+}
+
+/// Whether a value is set: its object has a member then.
+fn is_set(value: &AnyValue) -> bool
+    ensures unset { result ≡ false → value.now ≡ Empty }
+    ensures set { result ≡ true
+        → message_field (value_fields value.now) ≡ Some (object (value_fields value.now)) }
+{
+    match value {
+        AnyValue::Empty => false,
+        AnyValue::Str(_) => true,
+        AnyValue::Bool(_) => true,
+        AnyValue::Int(_) => true,
+        AnyValue::Double(_) => true,
+        AnyValue::Array(_) => true,
+        AnyValue::KvList(_) => true,
+        AnyValue::Bytes(_) => true,
+    }
+}
