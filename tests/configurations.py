@@ -258,6 +258,17 @@ SETTINGS = {
         ("", MISSING_KEY),
         ("spans_per_second = 1, burst = 2", UNKNOWN_KEY),
     ],
+    "bytes_limiting": [
+        ("bytes_per_second = 0", TAKEN),
+        (f"bytes_per_second = {WHOLE_TOP}", TAKEN),
+        (f"bytes_per_second = 1, burst_capacity = {WHOLE_TOP}", TAKEN),
+        ("bytes_per_second = 1, burst_capacity = 0", TAKEN),
+        ("bytes_per_second = -1", OUT_OF_RANGE),
+        ("bytes_per_second = 1, burst_capacity = -1", OUT_OF_RANGE),
+        ("bytes_per_second = 1, burst_capacity = 1.5", WRONG_TYPE),
+        ("burst_capacity = 1", MISSING_KEY),
+        ("bytes_per_second = 1, spans_per_second = 2", UNKNOWN_KEY),
+    ],
     "probabilistic": [
         *((f"sampling_percentage = {value}", TAKEN) for value in ("0", "100", "12.5", "0.0001", "99.9999", "100.0", "-0.0", "1e1", "33.33330")),
         *((f"sampling_percentage = {value}", OUT_OF_RANGE) for value in ("-1", "101", "12.34567", "0.00005", "100.0001", "-0.0001", "1e300", "nan", "inf", "-inf")),

@@ -15,7 +15,7 @@ POLICIES = f"policies = [{ALL}]\n"
 EMPTY = "policies: a list of policies is empty (fault 7.1)"
 NO_VALUES = "policies: the values or status codes of a policy are an empty list (fault 7.6)"
 SAME_NAME = "policies: two policies of one list have the same name (fault 7.4)"
-TYPES = "always_sample, latency, status_code, string_attribute, numeric_attribute, boolean_attribute, span_count, rate_limiting, probabilistic, trace_state, trace_flags, and, not, drop, composite"
+TYPES = "always_sample, latency, status_code, string_attribute, numeric_attribute, boolean_attribute, span_count, rate_limiting, bytes_limiting, probabilistic, trace_state, trace_flags, and, not, drop, composite"
 
 # A name, a text, and its lines; of a text without a fault there is none.
 ROWS = [

@@ -41,7 +41,11 @@ root_off m (Some c) = refl
 
 -- with root wait off, being due is a matter of the opening, or of the size
 due_off : (m w : ℕ) (e : Episode) → is_due_at m w 0 e ≡ (is_none e.verdict && (nat_le (e.moment + w) m || is_too_big e.maximum e.spans))
-due_off m w e = ap (λ b. is_none e.verdict && (nat_le (e.moment + w) m || b || is_too_big e.maximum e.spans)) (root_off m e.first_root)
+due_off m w e = ap (λ b. is_none e.verdict && (nat_le (e.moment + w) m || b || is_too_big e.maximum e.spans)) (root_off m e.first_root) ∙ ap (λ b. is_none e.verdict && b) (or-skip (nat_le (e.moment + w) m) (is_too_big e.maximum e.spans))
+  where
+    or-skip : (a b : Bool) → (a || false || b) ≡ (a || b)
+    or-skip true b = refl
+    or-skip false b = refl
 
 due_each : (fin : Bool) (c m w r : ℕ) (es : List Episode) → opened_by c es ≡ true → let d = cond {A = ℕ × ℕ × ℕ} fin (c, 0, 0) (m, w, r) in Each (λ (e : Episode). is_due_at d.0 d.1 d.2 e ≡ is_due_by fin m w r e) es
 due_each fin c m w r [] h = tt

@@ -4,7 +4,7 @@ use Rattle.std.proofs.Common.{◌≡◌, ℕ, suc, ◌+◌, ◌<◌, Bool, true,
 use Rattle.std.specs.List.{filter}
 use Rattle.std.proofs.lemmas.List.{map-append}
 use Rattle.std.proofs.lemmas.List.Elements.{filter-append}
-use Rattle.journal_theory.specs.Journal.{Entry, Settings, Journal, Decision, Notes, Finding, joins, meets, opens, Opening, notes, finding, leaving, decided_as, spans_since, due_now, decision, decisions_now, has_finished, answered, IsAnswered, IsAnsweredUpTo}
+use Rattle.journal_theory.specs.Journal.{Entry, Settings, Journal, Decision, Notes, Finding, joins, meets, opens, Opening, notes, finding, leaving, decided_as, policies_for, spans_since, due_now, decision, decisions_now, has_finished, answered, IsAnswered, IsAnsweredUpTo}
 use Rattle.journal_theory.specs.Standing.{spans_left, evicted_of}
 use Rattle.journal_theory.specs.Fate.{DroppedSpan, Effect, counts, under, is_same_reason, effect, effect_dealt, effect_of_taking, effect_of_item, effect_of_span, effect_of_finding, effect_of_leaving, effect_of_leaving_decided, effect_of_verdict, effect_of_decision, effect_of_decisions, released_dealt, dropped_dealt}
 use Rattle.shard_core.specs.Held.{Held, settings, StandsFor, has_due, is_due_in}
@@ -201,16 +201,16 @@ module _ (s : Settings) (e : Entry) (before : Journal) (k : ℕ) (answers : List
 
 -- a decision adds what its answer tells
 pub decision_adds : (s : Settings) (e : Entry) (before : Journal) (k : ℕ) (answer : Decided) (answers : List Bool) (o : Opening) (rest : List Opening) → let past : Journal = e ∷ before in
-    drop k (due_now s past) ≡ o ∷ rest → IsAnsweredUpTo s past k → Releases answer (spans_since past o) (verdict_given s.policies answers (spans_since past o)) → AddsDecision s answer answers past k
+    drop k (due_now s past) ≡ o ∷ rest → IsAnsweredUpTo s past k → Releases answer (spans_since past o) (verdict_given (policies_for s (spans_since past o)) answers (spans_since past o)) → AddsDecision s answer answers past k
 decision_adds s e before k (Release xs) answers o rest left given r =
     let past : Journal = e ∷ before in
-    let v = verdict_given s.policies answers (spans_since past o) in (
+    let v = verdict_given (policies_for s (spans_since past o)) answers (spans_since past o) in (
       adds-released s e before k answers o rest left given ∙ ap (λ ys. released_dealt s past k ++ ys) (releases-released (Release xs) (spans_since past o) v r),
       λ reason. adds-dropped s e before k answers o rest left given reason ∙ ap (λ n. dropped_dealt s past k reason + n) (releases-dropped reason (Release xs) (spans_since past o) v r),
     )
 decision_adds s e before k (NotReleased n) answers o rest left given r =
     let past : Journal = e ∷ before in
-    let v = verdict_given s.policies answers (spans_since past o) in (
+    let v = verdict_given (policies_for s (spans_since past o)) answers (spans_since past o) in (
       adds-released s e before k answers o rest left given ∙ ap (λ ys. released_dealt s past k ++ ys) (releases-released (NotReleased n) (spans_since past o) v r),
       λ reason. adds-dropped s e before k answers o rest left given reason ∙ ap (λ n. dropped_dealt s past k reason + n) (releases-dropped reason (NotReleased n) (spans_since past o) v r),
     )

@@ -1,8 +1,8 @@
 -- The fate of a span, right after it was taken.
 -- For the contract of `take`.
-use Rattle.std.proofs.Common.{[], ◌≡◌, ℕ, ◌<◌, Bool, true, false, cond, ◌||◌, ◌==◌, ◌∷◌, length, Option, Some, None, option_map, refl, sym, ap, ◌∙◌, arith, ne_eqb, eq-eqb}
+use Rattle.std.proofs.Common.{[], ◌≡◌, ℕ, ◌<◌, Bool, true, false, cond, ◌||◌, ◌==◌, ◌∷◌, List, length, Option, Some, None, option_map, refl, sym, ap, ◌∙◌, arith, ne_eqb, eq-eqb}
 use Rattle.std.specs.List.{list_any}
-use Rattle.journal_theory.specs.Journal.{Entry, Settings, Journal, Opening, Decision, Notes, Finding, joins, meets, opens, notes, finding, finding_of, finding_at, is_in_buffer, is_remembered, latest_episode, decided_as, after_span, after_finding, clock}
+use Rattle.journal_theory.specs.Journal.{Entry, Settings, Journal, Opening, Decision, Notes, Finding, joins, meets, opens, notes, finding, finding_of, finding_at, is_in_buffer, is_remembered, latest_episode, decided_as, after_span, after_finding, after_decisions, decisions_in_turn, due_at, clock}
 use Rattle.journal_theory.specs.Fate.{fate, fate_of_finding, fate_of_member_decided}
 use Rattle.shard_core.specs.Held.{Held, settings}
 use Rattle.shard_core.specs.Taking.{entry, is_refusal, is_loss, answer_to, answer_to_ids, answer_to_finding, answer_to_late, fate_told, TellsFateOf, TellsFate}
@@ -20,10 +20,17 @@ use Rattle.journal_theory.proofs.Sound.{makes_room, sound_notes}
 use Rattle.shard_core.proofs.Stands.{room_of}
 
 module _ (s : Settings) (room : HasRoom s.limit) where
-  -- a span is followed by no decision
+  -- where no answer is given nothing is decided
+  none-given : (past : Journal) (os : List Opening) → decisions_in_turn s past os [] ≡ []
+  none-given past [] = refl
+  none-given past (o ∷ rest) = refl
+
+  -- right after a span nothing is decided
   notes-span : (a : Arrival) (refused lost : Bool) (before : Journal) → let e : Entry = record { item = Span a; refused = refused; lost = lost; answers = [] } in notes s (e ∷ before) ≡ after_span s a.rec.span.ids e before (notes s before)
   unfolding notes
-  notes-span a refused lost before = refl
+  notes-span a refused lost before =
+      let e : Entry = record { item = Span a; refused = refused; lost = lost; answers = [] } in
+      let noted = after_span s a.rec.span.ids e before (notes s before) in ap (λ (ds : List Decision). after_decisions ds noted) (none-given (e ∷ before) (due_at s e before (Span a) noted))
 
   -- a span joins an undecided episode of the buffer
   joined : (noted : Notes) (t : TraceId) (o : Opening) → finding s noted t ≡ joins o → (is_in_buffer s noted o.at ≡ true) × (decided_as noted o.at ≡ None)

@@ -3,7 +3,7 @@
 use Rattle.std.proofs.Common.{◌≡◌, ℕ, ◌==◌, Bool, true, false, cond, not, ◌&&◌, ◌||◌, List, [], ◌∷◌, ◌++◌, map, reverse, filter, find, length, Option, Some, None, option_map, is_none, refl, ap, ◌∙◌}
 use Rattle.std.specs.Option.{option_and_then}
 use mathlib.Core.Path.{fun_ext}
-use Rattle.journal_theory.specs.Journal.{Settings, Entry, Journal, Opening, Decision, Notes, Finding, joins, meets, opens, in_buffer, leaving, decided_as, undecided, latest_episode, finding_at, finding_of, finding, due_at, is_due, has_finished, touch_of_leaving, touch_of_leaving_decided, after_finding, after_span, after_item, clock}
+use Rattle.journal_theory.specs.Journal.{Settings, Entry, Journal, Opening, Decision, Notes, Finding, joins, meets, opens, in_buffer, leaving, decided_as, undecided, latest_episode, finding_at, finding_of, finding, due_at, is_due, is_oversized, oversized, has_finished, touch_of_leaving, touch_of_leaving_decided, after_finding, after_span, after_item, clock}
 use Rattle.journal_theory.specs.Marked.{cache_is_on, refusal_applies, loss_applies, marks_apply_to}
 use Rattle.journal_theory.specs.Fate.{effect_of_leaving, effect_of_leaving_decided, effect_of_finding}
 use Rattle.journal_theory.specs.Journal.{spans_since}
@@ -33,11 +33,14 @@ decided_short noted at = decided_in at noted.decisions
 pub undecided_short : (s : Settings) (noted : Notes) → undecided s (short_notes noted) ≡ undecided s noted
 undecided_short s noted = ap (λ (f : ℕ → Option Verdict). reverse (filter (λ (o : Opening). is_none (f o.at)) (in_buffer s noted))) (fun_ext (decided_short noted))
 
+oversized_short : (s : Settings) (past : Journal) (noted : Notes) → oversized s past (short_notes noted) ≡ oversized s past noted
+oversized_short s past noted = ap (filter (is_oversized s past)) (undecided_short s noted)
+
 -- the same episodes are due
 pub due_short : (s : Settings) (e : Entry) (before : Journal) (item : Item) (noted : Notes) → due_at s e before item (short_notes noted) ≡ due_at s e before item noted
-due_short s e before (Span a) noted = refl
+due_short s e before (Span a) noted = oversized_short s (e ∷ before) noted
 due_short s e before (Tick m) noted = ap (filter (is_due s (e ∷ before))) (undecided_short s noted)
-due_short s e before (End sender) noted = ap (λ (os : List Opening). cond (has_finished s e before) os []) (undecided_short s noted)
+due_short s e before (End sender) noted = ap (λ (os : List Opening). cond (has_finished s e before) os (filter (is_oversized s (e ∷ before)) os)) (undecided_short s noted)
 
 at_short : (s : Settings) (noted : Notes) (o : Opening) (v : Option Verdict) → finding_at s (short_notes noted) o v ≡ finding_at s noted o v
 at_short s noted o None = refl

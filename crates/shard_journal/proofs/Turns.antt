@@ -65,7 +65,7 @@ turns_made s past due answers i full noted l e = e ∙ ap (λ (ds : List Decisio
 pub item_noted : (s : Settings) (e : Entry) (before : Journal) (noted old n : Notes) → old ≡ short_notes noted → n ≡ after_item s e before e.item old → n ≡ short_notes (after_item s e before e.item noted)
 item_noted s e before noted old n h k = k ∙ ap (after_item s e before e.item) h ∙ after_item_short s e before e.item noted
 
-notes_more : (s : Settings) (e : Entry) (before : Journal) → notes s (e ∷ before) ≡ after_decisions (decisions_in_turn s (e ∷ before) (due_at s e before e.item (notes s before)) e.answers) (after_item s e before e.item (notes s before))
+notes_more : (s : Settings) (e : Entry) (before : Journal) → let m = after_item s e before e.item (notes s before) in notes s (e ∷ before) ≡ after_decisions (decisions_in_turn s (e ∷ before) (due_at s e before e.item m) e.answers) m
 unfolding notes
 notes_more s e before = refl
 
@@ -74,12 +74,13 @@ pub due_is : (s : Settings) (e : Entry) (before : Journal) (noted old : Notes) (
 due_is s e before noted old due h k = k ∙ ap (due_at s e before e.item) h ∙ due_short s e before e.item noted
 
 -- and at the last entry of a journal
-pub due_now_is : (s : Settings) (e : Entry) (before past : Journal) (old : Notes) (due : List Opening) → past ≡ e ∷ before → old ≡ short_notes (notes s before) → due ≡ due_at s e before e.item old → due ≡ due_now s past
-due_now_is s e before past old due p h k = due_is s e before (notes s before) old due h k ∙ ap (due_now s) (sym p)
+pub due_now_is : (s : Settings) (e : Entry) (before past : Journal) (old new : Notes) (due : List Opening) → past ≡ e ∷ before → old ≡ short_notes (notes s before) → new ≡ after_item s e before e.item old → due ≡ due_at s e before e.item new → due ≡ due_now s past
+due_now_is s e before past old new due p h i k =
+    due_is s e before (after_item s e before e.item (notes s before)) new due (item_noted s e before (notes s before) old new h i) k ∙ ap (due_now s) (sym p)
 
 -- the notes after an entry
-pub entry_noted : (s : Settings) (e : Entry) (before past : Journal) (due : List Opening) (answers : List (List Bool)) → past ≡ e ∷ before → due ≡ due_at s e before e.item (notes s before) → answers ≡ e.answers →
-    let m = after_item s e before e.item (notes s before) in short_notes (after_decisions (decisions_in_turn s past due answers) m) ≡ short_notes (notes s past)
+pub entry_noted : (s : Settings) (e : Entry) (before past : Journal) (due : List Opening) (answers : List (List Bool)) → let m = after_item s e before e.item (notes s before) in past ≡ e ∷ before → due ≡ due_at s e before e.item m → answers ≡ e.answers →
+    short_notes (after_decisions (decisions_in_turn s past due answers) m) ≡ short_notes (notes s past)
 entry_noted s e before past due answers h k g =
     let m = after_item s e before e.item (notes s before) in
     ap (λ (given : List (List Bool)). short_notes (after_decisions (decisions_in_turn s past due given) m)) g

@@ -10,25 +10,38 @@ ghost use Rattle.shard_journal.specs.Found.{the_finding};
 use crate::due::due_at;
 use crate::entry::{DroppedSpan, Effect, Entry};
 use crate::finding::{Found, cache_size, finding};
+use crate::moments::clock;
 use crate::noted::{Notes, Opening, leaving};
-use crate::noting::notes_of;
+use crate::noting::{note_item, notes_of};
 use crate::settings::Settings;
 use crate::spans::spans_since;
+use crate::verdicts::judge_spans;
 use otlp_types::{Arrival, Item, List, TryClone};
-use policy_eval::{judge, searches_for};
+use policy_eval::searches_for;
 use span_ids::{Reason, Verdict};
 use std::alloc::{AllocError, Global};
+
+/// The episodes that are due at the journal's last item, in order of opening.
+fn due_now(
+    alloc: Global,
+    settings: &Settings,
+    journal: &[Entry],
+) -> Result<Vec<Opening>, AllocError>
+    ensures { IfOk result (λ due. due.items ≡ due_now (settings_of settings.now) (reverse journal.now)) }
+{
+    let Some((entry, before)) = journal.split_last() else {
+        return Ok(Vec::new(alloc));
+    };
+    let mut noted = notes_of(alloc, settings, before)?;
+    note_item(settings, entry, before.len(), clock(journal), &mut noted)?;
+    due_at(alloc, settings, journal, entry, before, &noted)
+}
 
 /// How many episodes are due at the journal's last item.
 pub fn due_count(alloc: Global, settings: &Settings, journal: &[Entry]) -> Result<usize, AllocError>
     ensures { IfOk result (λ n. n ≡ length (due_now (settings_of settings.now) (reverse journal.now))) }
 {
-    let Some((entry, before)) = journal.split_last() else {
-        return Ok(0);
-    };
-    let noted = notes_of(alloc, settings, before)?;
-    let due = due_at(alloc, settings, journal, entry, before, &noted)?;
-    Ok(due.len())
+    Ok(due_now(alloc, settings, journal)?.len())
 }
 
 /// The spans of each episode that is due at the journal's last item, in order of opening.
@@ -39,11 +52,7 @@ pub fn due_spans(
 ) -> Result<Vec<List<Arrival>>, AllocError>
     ensures { IfOk result (λ spans. spans.items ≡ map (spans_since (reverse journal.now)) (due_now (settings_of settings.now) (reverse journal.now))) }
 {
-    let Some((entry, before)) = journal.split_last() else {
-        return Ok(Vec::new(alloc));
-    };
-    let noted = notes_of(alloc, settings, before)?;
-    let due = due_at(alloc, settings, journal, entry, before, &noted)?;
+    let due = due_now(alloc, settings, journal)?;
     spans_of_each(alloc, journal, due.as_slice())
 }
 
@@ -192,11 +201,7 @@ pub fn decision_at(
 ) -> Result<Option<Effect>, AllocError>
     ensures { IfOk result (λ effect. effect ≡ effect_answered_at (settings_of settings.now) (reverse journal.now) place answers.now) }
 {
-    let Some((entry, before)) = journal.split_last() else {
-        return Ok(None);
-    };
-    let noted = notes_of(alloc, settings, before)?;
-    let due = due_at(alloc, settings, journal, entry, before, &noted)?;
+    let due = due_now(alloc, settings, journal)?;
     if place >= due.len() {
         return Ok(None);
     }
@@ -215,7 +220,7 @@ fn effect_answered(
 {
     let spans = spans_since(alloc, journal, opening)?;
     let mut searches = searches_for(alloc, &settings.policies)?;
-    let judged = judge(&settings.policies, spans.as_slice(), answers, &mut searches);
+    let judged = judge_spans(settings, spans.as_slice(), answers, &mut searches);
     let Some(verdict) = judged else {
         return Ok(None);
     };

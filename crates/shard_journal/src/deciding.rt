@@ -8,8 +8,9 @@ use crate::entry::Entry;
 use crate::noted::{Decision, Notes, Opening};
 use crate::settings::Settings;
 use crate::spans::spans_since;
+use crate::verdicts::verdict_on;
 use otlp_types::List;
-use policy_eval::{searches_for, verdict_given};
+use policy_eval::searches_for;
 use std::alloc::{AllocError, Global};
 
 /// The decision of the episode of an opening at a journal's end, by these answers.
@@ -24,7 +25,7 @@ fn decide(
 {
     let spans = spans_since(alloc, past, &opening)?;
     let mut searches = searches_for(alloc, &settings.policies)?;
-    let verdict = verdict_given(&settings.policies, spans.as_slice(), answers, &mut searches);
+    let verdict = verdict_on(settings, spans.as_slice(), answers, &mut searches);
     Ok(Decision::new(opening, verdict))
 }
 

@@ -1,7 +1,7 @@
 //! Which episodes are due at the last item of a journal.
-ghost use Rattle.std.specs.Prelude.{◌≡◌, ◌∷◌, ◌+◌, ◌&&◌, not, nat_le, filter, reverse, IfOk};
+ghost use Rattle.std.specs.Prelude.{◌≡◌, ◌∷◌, ◌+◌, ◌&&◌, ◌||◌, not, nat_le, nat_lt, filter, reverse, IfOk};
 ghost use Rattle.std.specs.List.{list_any};
-ghost use Rattle.journal_theory.specs.Journal.{undecided, have_ended, due_at, is_due, is_root_past, is_root, item_spans};
+ghost use Rattle.journal_theory.specs.Journal.{clock, undecided, have_ended, due_at, is_due, is_oversized, oversized, is_root_past, is_root, item_spans};
 ghost use Rattle.shard_journal.specs.Settings.{settings_of};
 
 use crate::entry::Entry;
@@ -9,12 +9,14 @@ use crate::finding::in_buffer;
 use crate::moments::{clock, have_ended, item_moment};
 use crate::noted::{Notes, Opening};
 use crate::settings::Settings;
-use crate::spans::is_span_of;
+use crate::spans::{is_span_of, spans_since};
+use crate::verdicts::is_too_big;
 use otlp_types::{Arrival, Item};
 use span_ids::Moment;
 use std::alloc::{AllocError, Global};
 
-/// The episodes that are due at the item just taken, in order of opening: `past` is `before` and that entry.
+/// The episodes that are due at the item just taken, by the notes after it, in order of opening: `past` is `before` and
+/// that entry.
 pub fn due_at(
     alloc: Global,
     settings: &Settings,
@@ -27,13 +29,13 @@ pub fn due_at(
     ensures { IfOk result (λ due. due.items ≡ due_at (settings_of settings.now) entry.now (reverse before.now) entry.now.item noted.now) }
 {
     match &entry.item {
-        Item::Span(_) => Ok(Vec::new(alloc)),
+        Item::Span(_) => oversized(alloc, settings, past, noted),
         Item::Tick(_) => due_at_tick(alloc, settings, past, noted),
         Item::End(_) => {
             if has_finished(settings, past, before) {
                 undecided(alloc, settings, noted)
             } else {
-                Ok(Vec::new(alloc))
+                oversized(alloc, settings, past, noted)
             }
         }
     }
@@ -73,7 +75,28 @@ fn due_at_tick(
     let mut due = Vec::new(alloc);
     for i in 0..waiting.len() {
         let opening = waiting[i];
-        if is_due(settings, past, &opening) {
+        if is_due(alloc, settings, past, &opening)? {
+            due.push(opening)?;
+        }
+    }
+    Ok(due)
+}
+
+/// Those of the undecided episodes that are too big, in order of opening.
+#[tactic(auto, using(crate::proofs::Filtering::filter_more))]
+fn oversized(
+    alloc: Global,
+    settings: &Settings,
+    past: &[Entry],
+    noted: &Notes,
+) -> Result<Vec<Opening>, AllocError>
+    ensures { IfOk result (λ due. due.items ≡ oversized (settings_of settings.now) (reverse past.now) noted.now) }
+{
+    let waiting = undecided(alloc, settings, noted)?;
+    let mut due = Vec::new(alloc);
+    for i in 0..waiting.len() {
+        let opening = waiting[i];
+        if is_oversized(alloc, settings, past, &opening)? {
             due.push(opening)?;
         }
     }
@@ -81,13 +104,42 @@ fn due_at_tick(
 }
 
 /// Whether an undecided episode is due at a tick, the last of these items: it opened long enough before, or root wait is on
-/// and some root was taken long enough before.
-fn is_due(settings: &Settings, past: &[Entry], opening: &Opening) -> bool
-    ensures { result ≡ is_due (settings_of settings.now) (reverse past.now) opening.now }
+/// and some root was taken long enough before, or it is too big.
+fn is_due(
+    alloc: Global,
+    settings: &Settings,
+    past: &[Entry],
+    opening: &Opening,
+) -> Result<bool, AllocError>
+    ensures { IfOk result (λ due. due ≡ is_due (settings_of settings.now) (reverse past.now) opening.now) }
+{
+    if has_waited_enough(settings, past, opening) {
+        return Ok(true);
+    }
+    is_oversized(alloc, settings, past, opening)
+}
+
+/// Whether an episode opened long enough before the last of these items, or root wait is on and some root was taken long
+/// enough before.
+fn has_waited_enough(settings: &Settings, past: &[Entry], opening: &Opening) -> bool
+    ensures { result ≡ (nat_le (opening.now.moment + settings.now.wait) (clock (reverse past.now)) || (nat_lt 0 settings.now.root_wait && is_root_past settings.now.root_wait (clock (reverse past.now)) (reverse past.now) opening.now)) }
 {
     let now = clock(past);
     has_waited(settings.wait, now, opening.moment())
         || 0 < settings.root_wait && is_root_past(settings.root_wait, now, past, opening)
+}
+
+/// Whether the spans of the opening's episode have more bytes than a trace may have.
+fn is_oversized(
+    alloc: Global,
+    settings: &Settings,
+    past: &[Entry],
+    opening: &Opening,
+) -> Result<bool, AllocError>
+    ensures { IfOk result (λ too_big. too_big ≡ is_oversized (settings_of settings.now) (reverse past.now) opening.now) }
+{
+    let spans = spans_since(alloc, past, opening)?;
+    Ok(is_too_big(settings.maximum_size, spans.as_slice()))
 }
 
 /// Whether some root among the spans of the opening's episode was taken at a clock that lies at least `root_wait`

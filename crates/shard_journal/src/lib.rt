@@ -17,6 +17,7 @@ mod noted;
 mod noting;
 mod settings;
 mod spans;
+mod verdicts;
 
 pub use answers::{decision_at, effect_of_taking};
 pub use asked::{Finding, finding_of, remembered};

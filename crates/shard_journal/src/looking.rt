@@ -15,9 +15,9 @@ use crate::finding::finding;
 use crate::noted::Notes;
 use crate::noting::notes_of;
 use crate::settings::Settings;
+use crate::verdicts::judge_spans;
 use expression::Searches;
 use otlp_types::{Arrival, Ids, List};
-use policy_eval::judge;
 use std::alloc::{AllocError, Global};
 use std::marker::Model;
 
@@ -79,7 +79,7 @@ impl LookBack {
     {
         if place < self.spans.len() {
             let spans = self.spans[place].as_slice();
-            judge(&settings.policies, spans, answers, searches).is_some()
+            judge_spans(settings, spans, answers, searches).is_some()
         } else {
             false
         }

@@ -29,7 +29,7 @@ pub fn notes_of(alloc: Global, settings: &Settings, journal: &[Entry]) -> Result
     Ok(noted)
 }
 
-/// Notes an entry, and decides what is due at it: `past` is `before` and that entry.
+/// Notes an entry, and decides what is due after it: `past` is `before` and that entry.
 fn note_entry(
     alloc: Global,
     settings: &Settings,
@@ -42,8 +42,8 @@ fn note_entry(
     requires noted { noted.old ≡ short_notes (notes (settings_of settings.now) (reverse before.now)) }
     ensures { OnOk result (noted.new ≡ short_notes (notes (settings_of settings.now) (reverse past.now))) }
 {
-    let due = due_at(alloc, settings, past, entry, before, noted)?;
     note_item(settings, entry, before.len(), clock(past), noted)?;
+    let due = due_at(alloc, settings, past, entry, before, noted)?;
     decide_each(
         alloc,
         settings,
@@ -55,7 +55,7 @@ fn note_entry(
 }
 
 /// Notes an entry at its position and the clock after it, before any decision.
-fn note_item(
+pub fn note_item(
     settings: &Settings,
     entry: &Entry,
     at: usize,

@@ -10,6 +10,8 @@ pub struct Settings {
     pub wait: Moment,
     /// How long after its first root a trace is due, where that is sooner, in milliseconds: 0 is off.
     pub root_wait: Moment,
+    /// The greatest size of a trace, in bytes: 0 is none.
+    pub maximum_size: u64,
     /// On the number of traces in the buffer: `None` is no limit.
     pub limit: Option<usize>,
     /// For how many traces decided as sampled the cache has room: 0 is off.

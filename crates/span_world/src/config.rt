@@ -10,6 +10,8 @@ pub struct Config {
     pub wait: Moment,
     /// How long after its first root a trace is due, where that is sooner, in milliseconds: 0 is off.
     pub root_wait: Moment,
+    /// The greatest size of a trace, in bytes: 0 is none.
+    pub maximum_size: u64,
     /// On the number of traces in a shard's buffer, at least 1: `None` is no limit.
     pub limit: Option<usize>,
     /// For how many traces decided as sampled a shard's cache has room: 0 is off.

@@ -53,7 +53,7 @@ impl Model for World {
     ghost coded = { Prim.hlevel (codes, any_value.the_row.coded, kind.the_row.coded) };
 
     ghost view = { λ w. record {
-      config = record { policies = w.settings.policies; wait = w.settings.wait; root_wait = w.settings.root_wait; limit = w.settings.limit; sampled_size = w.settings.sampled_size; non_sampled_size = w.settings.non_sampled_size; batch_size = w.batch_size };
+      config = record { policies = w.settings.policies; wait = w.settings.wait; root_wait = w.settings.root_wait; maximum_size = w.settings.maximum_size; limit = w.settings.limit; sampled_size = w.settings.sampled_size; non_sampled_size = w.settings.non_sampled_size; batch_size = w.batch_size };
       world = record { lanes = w.lanes.items; shards = w.shards.items; exported = w.exported.items; batch = w.batch.items; handed = w.handed.items; counted = w.counted.items; down = w.down };
     } };
 
@@ -77,6 +77,7 @@ impl World {
             policies: config.policies,
             wait: config.wait,
             root_wait: config.root_wait,
+            maximum_size: config.maximum_size,
             limit: config.limit,
             sampled_size: config.sampled_size,
             non_sampled_size: config.non_sampled_size,

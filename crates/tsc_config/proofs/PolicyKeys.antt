@@ -6,25 +6,26 @@ use Rattle.std.specs.Str.{bytes_eq}
 use Rattle.std.specs.Ordering.{nat_cmp, is_eq, match_ordering}
 use Rattle.std.specs.Cmp.Lexicographic.{slice_cmp}
 use Rattle.toml.specs.Data.{Data, string, array, table, Items, no_items, item, Members, no_members, member, get_member, get_item}
+use Rattle.policy_tree.specs.declared.limit.Limit.TheVariants.{Spans, Bytes}
 use Rattle.policy_tree.specs.declared.policy.Policy.{Policy}
 use Rattle.policy_tree.specs.declared.policy.PolicyKind.{PolicyKind}
 use Rattle.policy_tree.specs.declared.policy.PolicyKind.TheOpen.{PolicyKind-F}
 use Rattle.policy_tree.specs.declared.policy.PolicyKind.TheVariants as kind_is
-use Rattle.policy_tree.specs.declared.policy.PolicyKind.TheVariants.{rolls-Leaf, rolls-RateLimiting, rolls-Joined}
+use Rattle.policy_tree.specs.declared.policy.PolicyKind.TheVariants.{rolls-Leaf, rolls-Limiting, rolls-Joined}
 use Rattle.policy_tree.specs.declared.policy.Leaf.{Leaf}
 use Rattle.policy_tree.specs.declared.policy.Leaf.TheVariants as leaf_is
 use Rattle.policy_tree.specs.declared.policy.PolicyKind.TheViews.{out-PolicyKind, roll-PolicyKind, out-roll-PolicyKind}
 use Rattle.policy_tree.specs.declared.policy.Wanted.{Wanted}
-use Rattle.tsc_config.proofs.SettingKeys.{type_is_named, text_keys, natural_keys, whole_keys, truth_keys, required_truth, salt_keys, percentage_keys, texts_keys, codes_keys, wanted_keys}
+use Rattle.tsc_config.proofs.SettingKeys.{type_is_named, text_keys, natural_keys, two_naturals, whole_keys, truth_keys, required_truth, salt_keys, percentage_keys, texts_keys, codes_keys, wanted_keys, bucket_keys}
 use Rattle.tsc_config.proofs.Shares.{turned, unshared_are}
-use Rattle.tsc_config.proofs.Settings.{neither, natural, truth, table_parts, read_as}
+use Rattle.tsc_config.proofs.Settings.{neither, truth, table_parts, read_as}
 use Rattle.policy_tree.specs.declared.policy.Join.{Join}
 use Rattle.policy_tree.specs.declared.policy.Join.TheVariants as join_is
 use Rattle.tsc_config.specs.Keys.{type_name, type_named, type_found, type_at, join_type, join_name, sub_key, join_of, join_at}
 use Rattle.tsc_config.specs.Composites.{is_ordered}
 use Rattle.tsc_config.specs.Faults.{optional, required, order_fault, allocation_fault, unknown_fault, natural_fault, text_fault, named_fault, array_fault, type_fault, percentage_fault, truth_fault, whole_fault, code_fault, rows_fault, settings_fault, settings_at_fault, typed_fault_where, policy_table_fault, policy_fault, policy_items_fault, policies_fault, typed_fault, parts_fault, parts_settings_fault, sub_policies_fault, sub_value_fault, table_fault, least}
 use Rattle.tsc_config.specs.Values.{found_before, natural_of, items_at, composite_of, truth_of, attribute, leaf_in, kind_in, always, kind_by, kind_typed, policy_of, item_policies, policies_of, parts_policies, parts_settings, sub_policies, sub_value, policy_value, config_of}
-use Rattle.tsc_config.specs.PolicyKeys.{IsText, IsComposite, unshared, count_items, IsNatural, IsNaturalOrZero, IsTyped, IsWanted, IsLeaf, IsLayer, IsKind, IsPolicy, ArePartsAt, items_of, part_items, settings_items, nested_items, value_at, parts_in, parts_of, parts_at, policy_at, HasPolicies, HasMatched, ReadsPolicies}
+use Rattle.tsc_config.specs.PolicyKeys.{IsText, IsComposite, unshared, count_items, IsTyped, IsWanted, IsLeaf, IsLayer, IsKind, IsPolicy, ArePartsAt, items_of, part_items, settings_items, nested_items, value_at, parts_in, parts_of, parts_at, policy_at, HasPolicies, HasMatched, ReadsPolicies}
 use Rattle.tsc_config.specs.declared.fault.ConfigFault.{ConfigFault}
 use Rattle.tsc_config.specs.declared.fault.ConfigFault.TheVariants.{MissingKey, OutOfRange}
 use Rattle.tsc_config.specs.declared.kinds.PolicyType.{PolicyType}
@@ -70,13 +71,6 @@ three a b c e = let n = neither a (least b (least c None)) e in (n.0, two b c n.
 
 four : (a b c d : Option ConfigFault) → least a (least b (least c (least d None))) ≡ None → (a ≡ None) × ((b ≡ None) × ((c ≡ None) × (d ≡ None)))
 four a b c d e = let n = neither a (least b (least c (least d None))) e in (n.0, three b c d n.1)
-
--- two numbers at keys, of which the second may be missing
-two_naturals : (settings : Members) (low high : List ℕ) → least (required natural_fault (get_member low settings)) (least (optional natural_fault (get_member high settings)) None) ≡ None
-    → IsNatural settings low (natural_of (get_member low settings)) × IsNaturalOrZero settings high (natural_of (get_member high settings))
-two_naturals settings low high e =
-    let n = two (required natural_fault (get_member low settings)) (optional natural_fault (get_member high settings)) e in
-    (natural_keys (get_member low settings) n.0, natural 9223372036854775807 (get_member high settings) n.1)
 
 -- ---- the policies that a policy is made of
 
@@ -276,8 +270,10 @@ kind_keys type_is.TraceState members named e = by_settings type_is.TraceState me
     is_leaf members _ (settings, typed, text_keys (get_member (codes "key") settings) n.0, texts_keys (get_member (codes "values") settings) n.1)) named e
 kind_keys type_is.TraceFlags members named e = is_leaf members leaf_is.TraceFlags named
 kind_keys type_is.RateLimiting members named e = by_settings type_is.RateLimiting members
-    (λ settings typed f. is_layer members _ (PolicyKind-F.RateLimiting _) (rolls-RateLimiting _)
+    (λ settings typed f. is_layer members _ (PolicyKind-F.Limiting (Spans _)) (rolls-Limiting _)
     (settings, typed, natural_keys (get_member (codes "spans_per_second") settings) (one (required natural_fault (get_member (codes "spans_per_second") settings)) f))) named e
+kind_keys type_is.BytesLimiting members named e = by_settings type_is.BytesLimiting members
+    (λ settings typed f. let n = bucket_keys settings f in is_layer members _ (PolicyKind-F.Limiting (Bytes _ _)) (rolls-Limiting _) (settings, typed, n.0, n.1)) named e
 
 -- the policies of a policy table
 abbrev parts_of_table : Members → List Policy
@@ -333,7 +329,8 @@ none_in : (leaf : Leaf) → parts_of (kind_is.Leaf leaf) ≡ []
 none_in leaf = parts_are _ (PolicyKind-F.Leaf leaf) (rolls-Leaf leaf)
 
 none_in_settings : (kind : PolicyType) (settings : Members) → parts_of (kind_in kind settings) ≡ []
-none_in_settings type_is.RateLimiting settings = parts_are _ (PolicyKind-F.RateLimiting _) (rolls-RateLimiting _)
+none_in_settings type_is.RateLimiting settings = parts_are _ (PolicyKind-F.Limiting _) (rolls-Limiting _)
+none_in_settings type_is.BytesLimiting settings = parts_are _ (PolicyKind-F.Limiting _) (rolls-Limiting _)
 none_in_settings kind settings = none_in (leaf_in kind settings)
 
 no_parts : (kind : PolicyType) (at : Option Data) → parts_of (kind_by kind at) ≡ []

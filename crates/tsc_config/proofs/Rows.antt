@@ -16,7 +16,8 @@ use Rattle.tsc_config.specs.declared.kinds.PolicyType.TheVariants as type_is
 use Rattle.tsc_config.specs.declared.kinds.TableKind.TheVariants as table_is
 use Rattle.tsc_config.specs.Percentages.{ten_thousandths, percentage_of}
 use Rattle.tsc_config.specs.Composites.{is_order}
-use Rattle.tsc_config.specs.Values.{config_of, leaf_in, salt_by, share_limit, percent_among}
+use Rattle.tsc_config.specs.Values.{config_of, leaf_in, salt_by, share_limit, percent_among, bucket}
+use Rattle.policy_tree.specs.declared.limit.Limit.TheVariants.{Bytes}
 use Rattle.policy_tree.specs.declared.policy.Leaf.TheVariants as leaf_is
 use Rattle.policy_tree.specs.declared.policy.Wanted.TheVariants.{StringAmong, StringMatching}
 use Rattle.tsc_config.specs.declared.config.Config.{Config}
@@ -262,6 +263,7 @@ own =
     ∷ record { kind = type_is.BooleanAttribute; keys = codes "key" ∷ codes "value" ∷ codes "invert_match" ∷ []; other = codes "values" }
     ∷ record { kind = type_is.SpanCount; keys = codes "min_spans" ∷ codes "max_spans" ∷ []; other = codes "spans" }
     ∷ record { kind = type_is.RateLimiting; keys = codes "spans_per_second" ∷ []; other = codes "limit" }
+    ∷ record { kind = type_is.BytesLimiting; keys = codes "bytes_per_second" ∷ codes "burst_capacity" ∷ []; other = codes "spans_per_second" }
     ∷ record { kind = type_is.Probabilistic; keys = codes "hash_salt" ∷ codes "sampling_percentage" ∷ []; other = codes "percentage" }
     ∷ record { kind = type_is.TraceState; keys = codes "key" ∷ codes "values" ∷ []; other = codes "invert_match" }
     ∷ record { kind = type_is.And; keys = codes "and_sub_policy" ∷ []; other = codes "policies" }
@@ -294,9 +296,18 @@ matching_ranges = refl
 size_ranges : map (λ (value : Data). rows_fault type_is.StringAttribute (matching (codes "cache_max_size") value)) (integer (pos 0) ∷ integer (pos 9223372036854775807) ∷ integer (negsuc 0) ∷ boolean true ∷ []) ≡ None ∷ None ∷ Some OutOfRange ∷ Some WrongType ∷ []
 size_ranges = refl
 
+-- a bucket of bytes holds twice what comes back with each second, at most 2^63-1, or as many as it is told
+buckets : bucket 5 None ∷ bucket 0 None ∷ bucket 4611686018427387904 None ∷ bucket 5 (Some (integer (pos 3))) ∷ bucket 5 (Some (integer (pos 0))) ∷ []
+    ≡ Bytes 5 10 ∷ Bytes 0 0 ∷ Bytes 4611686018427387904 9223372036854775807 ∷ Bytes 5 3 ∷ Bytes 5 0 ∷ []
+buckets = refl
+
+burst_ranges : map (λ (value : Data). rows_fault type_is.BytesLimiting (member (codes "burst_capacity") value (member (codes "bytes_per_second") (integer (pos 1)) no_members))) (integer (pos 0) ∷ integer (pos 9223372036854775807) ∷ integer (negsuc 0) ∷ boolean true ∷ [])
+    ≡ None ∷ None ∷ Some OutOfRange ∷ Some WrongType ∷ []
+burst_ranges = refl
+
 -- where a policy has no settings, a key is missing of each type that has a required one
 missing_settings : map (λ (kind : PolicyType). rows_fault kind no_members) all_types
-    ≡ None ∷ Some MissingKey ∷ Some MissingKey ∷ Some MissingKey ∷ Some MissingKey ∷ Some MissingKey ∷ Some MissingKey ∷ Some MissingKey ∷ Some MissingKey ∷ Some MissingKey ∷ None ∷ None ∷ None ∷ None ∷ Some MissingKey ∷ []
+    ≡ None ∷ Some MissingKey ∷ Some MissingKey ∷ Some MissingKey ∷ Some MissingKey ∷ Some MissingKey ∷ Some MissingKey ∷ Some MissingKey ∷ Some MissingKey ∷ Some MissingKey ∷ Some MissingKey ∷ None ∷ None ∷ None ∷ None ∷ Some MissingKey ∷ []
 missing_settings = refl
 
 -- each type by its name

@@ -1,6 +1,6 @@
 -- What stands at a key without a fault is what the key's value is read from.
 -- For `policies_are_of_their_keys`.
-use Rattle.std.proofs.Common.{◌≡◌, ℕ, ◌≤◌, ℤ, pos, negsuc, Bool, true, false, ◌⊎◌, inl, inr, refl, ap, sym, subst, arith, codes, List, [], ◌∷◌, Option, None, Some, if◌then◌else◌, int_le, nat_le, ◌*◌, ◌&&◌}
+use Rattle.std.proofs.Common.{◌≡◌, ℕ, ◌≤◌, ℤ, pos, negsuc, Bool, true, false, ◌⊎◌, inl, inr, refl, ap, sym, subst, arith, codes, List, [], ◌∷◌, Option, None, Some, if◌then◌else◌, int_le, nat_le, min, ◌*◌, ◌&&◌}
 use Rattle.std.proofs.lemmas.Bool.Decides.{nat_tests}
 use Rattle.std.proofs.lemmas.Slice.Eq.{bytes_eq-Decides}
 use Rattle.std.specs.Option.{unwrap_or}
@@ -8,11 +8,12 @@ use Rattle.std.specs.Str.{bytes_eq}
 use Rattle.toml.specs.Data.{Data, as_str, string, integer, float, boolean, array, Items, no_items, item, Members, get_member}
 use lib.Ieee.{eq}
 use Rattle.tsc_config.specs.Percentages.{nearest_count, over_ten_thousand, ten_thousandths}
-use Rattle.tsc_config.proofs.Settings.{neither}
+use Rattle.tsc_config.proofs.Settings.{neither, natural, numbered}
 use Rattle.tsc_config.specs.Keys.{type_name, all_types, type_among, type_named, code_named, code_of}
-use Rattle.tsc_config.specs.Faults.{optional, required, natural_fault, text_fault, named_fault, items_fault, array_fault, code_fault, percentage_fault, truth_fault, whole_fault}
-use Rattle.tsc_config.specs.Values.{found_before, natural_of, codes_of, item_codes, texts_of, item_texts, text_of, truth_of, whole_of, texts_wanted, salt_by, percentage_at}
-use Rattle.tsc_config.specs.PolicyKeys.{AreTexts, IsWanted, IsCode, AreCodes, IsSaltAt, IsPercentage}
+use Rattle.tsc_config.specs.Faults.{optional, required, natural_fault, text_fault, named_fault, items_fault, array_fault, code_fault, percentage_fault, truth_fault, whole_fault, least}
+use Rattle.tsc_config.specs.Values.{found_before, natural_of, codes_of, item_codes, texts_of, item_texts, text_of, truth_of, whole_of, texts_wanted, salt_by, percentage_at, number_or}
+use Rattle.tsc_config.specs.PolicyKeys.{AreTexts, IsWanted, IsCode, AreCodes, IsSaltAt, IsPercentage, IsNatural, IsNaturalOrZero}
+use Rattle.tsc_config.specs.Settings.{IsNumberAt}
 use Rattle.tsc_config.specs.declared.fault.ConfigFault.{ConfigFault}
 use Rattle.tsc_config.specs.declared.fault.ConfigFault.TheVariants.{OutOfRange}
 use Rattle.tsc_config.specs.declared.kinds.PolicyType.{PolicyType}
@@ -149,3 +150,22 @@ wanted_keys settings values None a e t = (refl, inl (a, refl), t)
 wanted_keys settings values (Some (boolean true)) a e t = (refl, a, t)
 wanted_keys settings values (Some (boolean false)) a e t = (refl, inr a, t)
 wanted_keys settings values (Some _) a e t = absurd (cc e)
+
+-- two numbers at keys, of which the second may be missing
+pub two_naturals : (settings : Members) (low high : List ℕ) → least (required natural_fault (get_member low settings)) (least (optional natural_fault (get_member high settings)) None) ≡ None
+    → IsNatural settings low (natural_of (get_member low settings)) × IsNaturalOrZero settings high (natural_of (get_member high settings))
+two_naturals settings low high e =
+    let first = neither (required natural_fault (get_member low settings)) (least (optional natural_fault (get_member high settings)) None) e in
+    let second = neither (optional natural_fault (get_member high settings)) None first.1 in
+    (natural_keys (get_member low settings) first.0, natural 9223372036854775807 (get_member high settings) second.0)
+
+-- what comes back to a bucket of bytes with each second, and how many it holds
+pub bucket_keys : (settings : Members)
+    → least (required natural_fault (get_member (codes "bytes_per_second") settings)) (least (optional natural_fault (get_member (codes "burst_capacity") settings)) None) ≡ None
+    → IsNatural settings (codes "bytes_per_second") (natural_of (get_member (codes "bytes_per_second") settings))
+    × IsNumberAt settings (codes "burst_capacity") (min (natural_of (get_member (codes "bytes_per_second") settings) * 2) 9223372036854775807) 0 9223372036854775807
+    (number_or (min (natural_of (get_member (codes "bytes_per_second") settings) * 2) 9223372036854775807) (get_member (codes "burst_capacity") settings))
+bucket_keys settings e =
+    let rate = neither (required natural_fault (get_member (codes "bytes_per_second") settings)) (least (optional natural_fault (get_member (codes "burst_capacity") settings)) None) e in
+    let burst = neither (optional natural_fault (get_member (codes "burst_capacity") settings)) None rate.1 in
+    (natural_keys (get_member (codes "bytes_per_second") settings) rate.0, numbered _ 0 9223372036854775807 (get_member (codes "burst_capacity") settings) burst.0)

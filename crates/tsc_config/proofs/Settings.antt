@@ -124,7 +124,7 @@ cache given (Some (table sizes)) e f =
     )
 cache given (Some _) e f = cc
 
-numbered : (default lowest greatest : ℕ) (at : Option Data) → optional (integer_fault (pos lowest) (pos greatest)) at ≡ None → NumberOf at default lowest greatest (number_or default at)
+pub numbered : (default lowest greatest : ℕ) (at : Option Data) → optional (integer_fault (pos lowest) (pos greatest)) at ≡ None → NumberOf at default lowest greatest (number_or default at)
 numbered default lowest greatest None e = inl (refl, refl)
 numbered default lowest greatest (Some (integer (pos n))) e = inr (refl, least_of, most_of)
   where

@@ -61,6 +61,7 @@ type_name type_is.NumericAttribute = codes "numeric_attribute"
 type_name type_is.BooleanAttribute = codes "boolean_attribute"
 type_name type_is.SpanCount = codes "span_count"
 type_name type_is.RateLimiting = codes "rate_limiting"
+type_name type_is.BytesLimiting = codes "bytes_limiting"
 type_name type_is.Probabilistic = codes "probabilistic"
 type_name type_is.TraceState = codes "trace_state"
 type_name type_is.TraceFlags = codes "trace_flags"
@@ -121,7 +122,7 @@ has_unknown_key kind (member key value rest) = not (is_key kind key) || has_unkn
 abbrev pub all_types : List PolicyType
 all_types =
     type_is.AlwaysSample ∷ type_is.Latency ∷ type_is.StatusCode ∷ type_is.StringAttribute ∷ type_is.NumericAttribute ∷ type_is.BooleanAttribute ∷ type_is.SpanCount
-    ∷ type_is.RateLimiting ∷ type_is.Probabilistic ∷ type_is.TraceState ∷ type_is.TraceFlags ∷ type_is.And ∷ type_is.Not ∷ type_is.Drop ∷ type_is.Composite ∷ []
+    ∷ type_is.RateLimiting ∷ type_is.BytesLimiting ∷ type_is.Probabilistic ∷ type_is.TraceState ∷ type_is.TraceFlags ∷ type_is.And ∷ type_is.Not ∷ type_is.Drop ∷ type_is.Composite ∷ []
 
 -- the first of these types that a text names
 abbrev pub type_among : List PolicyType → List ℕ → Option PolicyType

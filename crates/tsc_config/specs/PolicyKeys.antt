@@ -1,9 +1,10 @@
 -- What each policy has from its table, key by key, for each type of policy: what stands at the key, or the key's default.
-use Rattle.std.specs.Prelude.{◌≡◌, ℕ, ◌+◌, ◌*◌, ◌≤◌, ℤ, pos, negsuc, Bool, true, false, List, [], ◌∷◌, map, length, slice_get, ◌⊎◌, codes, Option, Some, None, Ok}
+use Rattle.std.specs.Prelude.{◌≡◌, ℕ, ◌+◌, ◌*◌, ◌≤◌, min, ℤ, pos, negsuc, Bool, true, false, List, [], ◌∷◌, map, length, slice_get, ◌⊎◌, codes, Option, Some, None, Ok}
 use Rattle.std.specs.Float.{Float}
 use lib.Ieee.{eq}
 use Rattle.toml.specs.Data.{Data, string, integer, float, boolean, array, table, Items, no_items, item, Members, get_member, get_item}
 use Rattle.toml.specs.Parse.{parse_document}
+use Rattle.policy_tree.specs.declared.limit.Limit.TheVariants.{Spans, Bytes}
 use Rattle.policy_tree.specs.declared.policy.Policy.{Policy}
 use Rattle.policy_tree.specs.declared.policy.PolicyKind.{PolicyKind, out-PolicyKind}
 use Rattle.policy_tree.specs.declared.policy.PolicyKind.TheOpen.{PolicyKind-F}
@@ -152,8 +153,11 @@ pub record IsComposite (members : Members) (parts : List Policy) : Type 0 where
 -- what a policy samples, by the keys of its table
 abbrev pub IsLayer : Members → PolicyKind-F PolicyKind Policy → Type 0
 IsLayer members (PolicyKind-F.Leaf leaf) = IsLeaf members leaf
-IsLayer members (PolicyKind-F.RateLimiting limit) =
-    (settings : Members) × IsTyped members (codes "rate_limiting") settings × IsNatural settings (codes "spans_per_second") limit
+IsLayer members (PolicyKind-F.Limiting (Spans per_second)) =
+    (settings : Members) × IsTyped members (codes "rate_limiting") settings × IsNatural settings (codes "spans_per_second") per_second
+IsLayer members (PolicyKind-F.Limiting (Bytes per_second burst)) =
+    (settings : Members) × IsTyped members (codes "bytes_limiting") settings × IsNatural settings (codes "bytes_per_second") per_second
+    × IsNumberAt settings (codes "burst_capacity") (min (per_second * 2) 9223372036854775807) 0 9223372036854775807 burst
 IsLayer members (PolicyKind-F.Joined join_is.FirstMatch parts) = IsComposite members parts
 IsLayer members (PolicyKind-F.Joined join parts) =
     (settings : Members) × IsTyped members (join_name join) settings × ArePartsAt join (get_member (sub_key join) settings) parts

@@ -39,6 +39,7 @@ settings type_is.NumericAttribute =
 settings type_is.BooleanAttribute = required (codes "key") value_is.Text ∷ required (codes "value") value_is.Truth ∷ optional (codes "invert_match") value_is.Truth ∷ []
 settings type_is.SpanCount = required (codes "min_spans") natural ∷ optional (codes "max_spans") natural ∷ []
 settings type_is.RateLimiting = required (codes "spans_per_second") natural ∷ []
+settings type_is.BytesLimiting = required (codes "bytes_per_second") natural ∷ optional (codes "burst_capacity") natural ∷ []
 settings type_is.Probabilistic = optional (codes "hash_salt") value_is.Text ∷ required (codes "sampling_percentage") value_is.Percentage ∷ []
 settings type_is.TraceState = required (codes "key") value_is.Text ∷ required (codes "values") (value_is.Array item_is.Text) ∷ []
 settings type_is.Composite = required (codes "max_total_spans_per_second") natural ∷ optional (codes "policy_order") (value_is.Array item_is.Text) ∷ optional (codes "rate_allocation") (value_is.Array item_is.Allocation) ∷ []

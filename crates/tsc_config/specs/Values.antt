@@ -1,8 +1,10 @@
 -- What the table of a configuration gives. Of a table with a fault this says nothing that counts.
-use Rattle.std.specs.Prelude.{suc, ℕ, ℤ, pos, negsuc, Bool, true, false, List, [], ◌∷◌, codes, Option, Some, None, option_and_then, if◌then◌else◌, nat_lt, nat_le, ◌&&◌, ◌*◌, ◌/◌, max, map, length, ◌<◌, ◌≤◌}
+use Rattle.std.specs.Prelude.{suc, ℕ, ℤ, pos, negsuc, Bool, true, false, List, [], ◌∷◌, codes, Option, Some, None, option_and_then, if◌then◌else◌, nat_lt, nat_le, ◌&&◌, ◌*◌, ◌/◌, max, min, map, length, ◌<◌, ◌≤◌}
 use Rattle.std.specs.Option.{unwrap_or}
 use Rattle.std.specs.Str.{bytes_eq}
 use Rattle.toml.specs.Data.{Data, as_str, as_array, string, integer, boolean, array, table, Items, no_items, item, Members, no_members, member, get_member}
+use Rattle.policy_tree.specs.declared.limit.Limit.{Limit}
+use Rattle.policy_tree.specs.declared.limit.Limit.TheVariants.{Spans, Bytes}
 use Rattle.policy_tree.specs.declared.policy.Policy.{Policy}
 use Rattle.policy_tree.specs.declared.policy.PolicyKind.{PolicyKind}
 use Rattle.policy_tree.specs.declared.policy.PolicyKind.TheVariants as kind_is
@@ -167,9 +169,27 @@ leaf_in type_is.Probabilistic members = leaf_is.Probabilistic (salt_by (text_of 
 leaf_in type_is.TraceState members = leaf_is.TraceState (text_of (get_member (codes "key") members)) (texts_of (get_member (codes "values") members))
 leaf_in _ _ = leaf_is.AlwaysSample
 
+-- the number at a key, at least 0, or its default
+abbrev pub number_value : (default : ℕ) → Data → ℕ
+number_value default (integer (pos number)) = number
+number_value default _ = default
+
+abbrev pub number_or : (default : ℕ) → Option Data → ℕ
+number_or default None = default
+number_or default (Some value) = number_value default value
+
+-- a bucket of bytes, which holds twice as many as come back with each second, at most 2^63-1, where it isn't told how many (tailsamplingprocessor README, `bytes_limiting`)
+abbrev pub bucket : (per_second : ℕ) → (burst : Option Data) → Limit
+bucket per_second burst = Bytes per_second (number_or (min (per_second * 2) 9223372036854775807) burst)
+
+-- the limit of bytes of settings
+abbrev pub bytes_limit : Members → Limit
+bytes_limit members = bucket (natural_of (get_member (codes "bytes_per_second") members)) (get_member (codes "burst_capacity") members)
+
 -- what a policy of this type samples by its settings
 abbrev pub kind_in : PolicyType → Members → PolicyKind
-kind_in type_is.RateLimiting members = kind_is.RateLimiting (natural_of (get_member (codes "spans_per_second") members))
+kind_in type_is.RateLimiting members = kind_is.Limiting (Spans (natural_of (get_member (codes "spans_per_second") members)))
+kind_in type_is.BytesLimiting members = kind_is.Limiting (bytes_limit members)
 kind_in kind members = kind_is.Leaf (leaf_in kind members)
 
 -- every trace is sampled
@@ -218,7 +238,7 @@ beside (first ∷ rest) = []
 
 -- the limiter of a part
 abbrev pub limiter_beside : (limit : ℕ) → (name : List ℕ) → Policy
-limiter_beside limit name = record { name = beside name; kind = kind_is.RateLimiting limit }
+limiter_beside limit name = record { name = beside name; kind = kind_is.Limiting (Spans limit) }
 
 -- a part, one of so many, within its share of the total in spans per second
 abbrev pub within_share : (total count : ℕ) → (allocations : Items) → Policy → Policy
@@ -322,15 +342,6 @@ InRange config = record {
   connections : 0 < config.max_connections;
   ticks : 0 < config.tick;
 }
-
--- the number at a key, at least 0, or its default
-abbrev pub number_value : (default : ℕ) → Data → ℕ
-number_value default (integer (pos number)) = number
-number_value default _ = default
-
-abbrev pub number_or : (default : ℕ) → Option Data → ℕ
-number_or default None = default
-number_or default (Some value) = number_value default value
 
 -- what the table of `export` gives
 abbrev pub export_in : Members → Export

@@ -10,7 +10,7 @@ use crate::fault::ConfigFault;
 use crate::keys::member;
 use crate::settings_values::{items_at, natural_at};
 use otlp_types::{List, Text, TryClone};
-use policy_tree::{Join, Policy, PolicyKind};
+use policy_tree::{Join, Limit, Policy, PolicyKind};
 use std::alloc::{AllocError, Global};
 use toml::{Table, Value};
 
@@ -120,12 +120,12 @@ fn within_share(
     let percent = percent_among(part.name.as_str(), allocations);
     let limiter = Policy {
         name: beside(alloc, part.name.as_str())?,
-        kind: PolicyKind::RateLimiting {
-            spans_per_second: match percent {
+        kind: PolicyKind::Limiting(Limit::Spans {
+            per_second: match percent {
                 Some(percent) => percentage(total, percent),
                 None => total / count.max(1),
             },
-        },
+        }),
     };
     let mut policies = List::new(alloc);
     policies.push(part.try_clone(alloc)?)?;

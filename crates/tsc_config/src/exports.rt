@@ -6,7 +6,7 @@ ghost use Rattle.toml.specs.View.{view, table_view};
 ghost use Rattle.tsc_config.specs.Exports as spec;
 ghost use Rattle.tsc_config.specs.Faults.{export_fault, optional};
 ghost use Rattle.tsc_config.specs.PolicySettings.{setting_of};
-ghost use Rattle.tsc_config.specs.Values.{export_in, export_of, export_value, number_or, number_value, text_of};
+ghost use Rattle.tsc_config.specs.Values.{export_in, export_of, export_value, text_of};
 
 use crate::fault::{ConfigFault, least};
 use crate::headers::{HeaderField, headers_at};
@@ -14,7 +14,7 @@ use crate::keys::{member, unknown_fault};
 use crate::kinds::TableKind;
 use crate::policy_settings::{Setting, ValueKind};
 use crate::settings_faults::each_setting_fault;
-use crate::settings_values::{text_of, truth_at};
+use crate::settings_values::{number_or, text_of, truth_at};
 use otlp_types::{List, Text};
 use std::alloc::{AllocError, Global};
 use toml::{Table, Value};
@@ -173,23 +173,4 @@ fn export_in(alloc: Global, settings: &Table) -> Result<Export, AllocError>
         lines: truth_at(settings, "lines"),
         headers: headers_at(alloc, settings)?,
     })
-}
-
-/// The number at a key, or its default.
-fn number_or(settings: &Table, key: &str, default: u64) -> u64
-    ensures { result ≡ number_or default (get_member key.now (table_view settings.now)) }
-{
-    match member(settings, key) {
-        Some(value) => number_value(default, value),
-        None => default,
-    }
-}
-
-fn number_value(default: u64, value: &Value) -> u64
-    ensures { result ≡ number_value default (view value.now) }
-{
-    match value {
-        Value::Integer(number) if *number >= 0 => *number as u64,
-        _ => default,
-    }
 }

@@ -115,6 +115,10 @@ impl PolicyType {
                 Setting::Optional("max_spans", NATURAL),
             ],
             PolicyType::RateLimiting => &[Setting::Required("spans_per_second", NATURAL)],
+            PolicyType::BytesLimiting => &[
+                Setting::Required("bytes_per_second", NATURAL),
+                Setting::Optional("burst_capacity", NATURAL),
+            ],
             PolicyType::Probabilistic => &[
                 Setting::Optional("hash_salt", ValueKind::Text),
                 Setting::Required("sampling_percentage", ValueKind::Percentage),

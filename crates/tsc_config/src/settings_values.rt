@@ -8,7 +8,7 @@ use crate::keys::{code_of, member};
 use crate::kinds::PolicyType;
 use crate::percentages::percentage_of;
 use otlp_types::{List, Text};
-use policy_tree::{Leaf, PolicyKind, Wanted};
+use policy_tree::{Leaf, Limit, PolicyKind, Wanted};
 use std::alloc::{AllocError, Global};
 use toml::{Table, Value};
 
@@ -17,10 +17,24 @@ pub fn kind_in(alloc: Global, kind: PolicyType, settings: &Table) -> Result<Poli
     ensures { IfOk result (λ found. found ≡ spec.kind_in kind (table_view settings.now)) }
 {
     match kind {
-        PolicyType::RateLimiting => Ok(PolicyKind::RateLimiting {
-            spans_per_second: natural_at(settings, "spans_per_second"),
-        }),
+        PolicyType::RateLimiting => Ok(PolicyKind::Limiting(Limit::Spans {
+            per_second: natural_at(settings, "spans_per_second"),
+        })),
+        PolicyType::BytesLimiting => Ok(PolicyKind::Limiting(bytes_limit(settings))),
         _ => Ok(PolicyKind::Leaf(leaf_in(alloc, kind, settings)?)),
+    }
+}
+
+/// A limit of bytes: where it isn't told how many the bucket holds, twice as many as come back with each second, and at
+/// most 2^63-1.
+fn bytes_limit(settings: &Table) -> Limit
+    ensures { result ≡ spec.bytes_limit (table_view settings.now) }
+{
+    let per_second = natural_at(settings, "bytes_per_second");
+    let twice = per_second.saturating_mul(2).min(9_223_372_036_854_775_807);
+    Limit::Bytes {
+        per_second,
+        burst: number_or(settings, "burst_capacity", twice),
     }
 }
 
@@ -58,6 +72,7 @@ fn leaf_in(alloc: Global, kind: PolicyType, settings: &Table) -> Result<Leaf, Al
         PolicyType::AlwaysSample
         | PolicyType::TraceFlags
         | PolicyType::RateLimiting
+        | PolicyType::BytesLimiting
         | PolicyType::And
         | PolicyType::Not
         | PolicyType::Drop
@@ -203,4 +218,23 @@ fn item_texts(alloc: Global, items: &[Value]) -> Result<List<Text>, AllocError>
         }
     }
     Ok(list)
+}
+
+/// The number at a key, or its default.
+pub fn number_or(settings: &Table, key: &str, default: u64) -> u64
+    ensures { result ≡ spec.number_or default (get_member key.now (table_view settings.now)) }
+{
+    match member(settings, key) {
+        Some(value) => number_value(default, value),
+        None => default,
+    }
+}
+
+fn number_value(default: u64, value: &Value) -> u64
+    ensures { result ≡ spec.number_value default (view value.now) }
+{
+    match value {
+        Value::Integer(number) if *number >= 0 => *number as u64,
+        _ => default,
+    }
 }

@@ -2,26 +2,18 @@ use Rattle.std.proofs.Common.{◌≡◌, ◌<◌, reverse, length, List, Option,
 use Rattle.std.specs.Option.{option_and_then}
 use Rattle.std.proofs.lemmas.Result.{IfOk-weaker}
 use Rattle.std.proofs.lemmas.Option.{slice_get_past, slice_get_read}
-use Rattle.journal_theory.specs.Journal.{Opening, due_now}
+use Rattle.journal_theory.specs.Journal.{Opening}
 use Rattle.journal_theory.specs.Fate.{Effect}
 use Rattle.shard_journal.specs.Settings.{settings_of}
 use Rattle.journal_theory.specs.Answered.{effect_answered, effect_answered_at}
-use Rattle.shard_journal.proofs.Turns.{last_first, due_now_is}
-use Rattle.shard_journal.proofs.answers.decision_at.Goals.{In_ok-due}
 use Rattle.shard_journal.proofs.answers.decision_at.Goals as goal
-
--- the openings that were found are those that are due
-due_found : (c : In_ok-due) → c.in_ok-due.due.items ≡ due_now (settings_of c.args.settings.now) (reverse c.args.journal.now)
-due_found c =
-    let past = last_first c.args.journal.now c.in-Some.before.now c.in-Some.entry.now c.in-Some.ensures.cases.0 in
-    due_now_is (settings_of c.args.settings.now) c.in-Some.entry.now (reverse c.in-Some.before.now) (reverse c.args.journal.now) c.in_ok-noted.noted c.in_ok-due.due.items past c.in_ok-noted.ensures c.in_ok-due.ensures
 
 pub returns-then-place-len : goal.returns-then-place-len
 returns-then-place-len c =
     let os = c.in_ok-due.due.items in
     let f = effect_answered (settings_of c.args.settings.now) (reverse c.args.journal.now) c.args.answers.now in
     let none : slice_get os c.args.place ≡ None = slice_get_past os c.args.place (omega arith) in
-    ap (option_and_then f) (sym none ∙ ap (λ (ps : List Opening). slice_get ps c.args.place) (due_found (goal.at.returns-then-place-len c).In_ok-due))
+    ap (option_and_then f) (sym none ∙ ap (λ (ps : List Opening). slice_get ps c.args.place) c.in_ok-due.ensures)
 
 pub returns : goal.returns
 returns c =
@@ -33,5 +25,5 @@ returns c =
     IfOk-weaker c.effect_answered.result
     (λ (x : Option Effect). x ≡ f c.index.result.now)
     (λ (x : Option Effect). x ≡ effect_answered_at (settings_of c.args.settings.now) journal c.args.place c.args.answers.now)
-    (λ x e. e ∙ ap (option_and_then f) (sym there ∙ ap (λ (ps : List Opening). slice_get ps c.args.place) (due_found (goal.at.returns c).In_ok-due)))
+    (λ x e. e ∙ ap (option_and_then f) (sym there ∙ ap (λ (ps : List Opening). slice_get ps c.args.place) c.in_ok-due.ensures))
     c.effect_answered.ensures

@@ -13,7 +13,8 @@ returns c =
     let before = reverse c.args.before.now in
     let n = notes s before in
     let m = after_item s e before e.item n in
-    let due = due_is s e before n c.args.noted.now c.as_slice.result.now c.requires.noted (c.as_slice.ensures.value ∙ c.in_ok-due.ensures) in
+    let noted = item_noted s e before n c.args.noted.now c.note_item.new.noted c.requires.noted (c.in_ok-note_item.ensures before (sym (length-reverse c.args.before.now)) (c.clock.ensures ∙ ap clock c.requires.past)) in
+    let due = due_is s e before m c.note_item.new.noted c.as_slice.result.now noted (c.as_slice.ensures.value ∙ c.in_ok-due.ensures) in
     on_ok_weaker c.decide_each.result
-    (λ f. f m (item_noted s e before n c.args.noted.now c.note_item.new.noted c.requires.noted (c.in_ok-note_item.ensures before (sym (length-reverse c.args.before.now)) (c.clock.ensures ∙ ap clock c.requires.past))) ∙ entry_noted s e before (reverse c.args.past.now) c.as_slice.result.now c.as_slice-2.result.now c.requires.past due (c.as_slice-2.ensures.value ∙ ap (λ (x : Entry). x.answers) c.entry.view_is))
+    (λ f. f m noted ∙ entry_noted s e before (reverse c.args.past.now) c.as_slice.result.now c.as_slice-2.result.now c.requires.past due (c.as_slice-2.ensures.value ∙ ap (λ (x : Entry). x.answers) c.entry.view_is))
     c.decide_each.ensures

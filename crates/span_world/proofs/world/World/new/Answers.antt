@@ -13,6 +13,7 @@ invariant_of-result c =
         policies = c.args.config.policies;
         wait = c.args.config.wait;
         root_wait = c.args.config.root_wait;
+        maximum_size = c.args.config.maximum_size;
         limit = c.args.config.limit;
         sampled_size = c.args.config.sampled_size;
         non_sampled_size = c.args.config.non_sampled_size;
