@@ -141,6 +141,9 @@ impl Past<'_> {
 
     /// Whether the spans of the trace have more bytes than the maximum, from the opening on.
     fn is_too_big(&self, trace: usize, opening: usize, end: usize) -> bool {
+        if self.maximum_size == 0 {
+            return false;
+        }
         let mut size: u64 = 0;
         for (at, entry) in self.entries.iter().enumerate().take(end).skip(opening) {
             if let Kind::Span(_, error, _) = entry.kind {
@@ -149,7 +152,7 @@ impl Past<'_> {
                 }
             }
         }
-        self.maximum_size > 0 && size > self.maximum_size
+        size > self.maximum_size
     }
 
     /// The verdict of the episode that opened there, once it is decided.

@@ -130,10 +130,10 @@ impl Setting {
     }
 }
 
-/// The kind of the item at a place, by a number that looks random.
-fn kind_of(past: &Past<'_>, place: usize, random: u64) -> Kind {
+/// The kind of the next item, by a number that looks random.
+fn kind_of(past: &Past<'_>, is_last: bool, random: u64) -> Kind {
     let trace = (random / 8 % 4) as usize;
-    if place + 1 == ITEMS {
+    if is_last {
         Kind::End
     } else if random % 8 < 3 {
         Kind::Tick
@@ -151,7 +151,7 @@ fn run(rt: &impl Abort, alloc: Global, setting: Setting) -> Result<(), Fail> {
         number = further(number);
         let random = number >> 33;
         let past = setting.past(entries.as_slice());
-        let kind = kind_of(&past, place, random);
+        let kind = kind_of(&past, place + 1 == ITEMS, random);
         let moment = match kind {
             Kind::End => 0,
             _ => place as u64 * 2 + random / 64 % 5,
@@ -189,9 +189,14 @@ fn random_items(rt: HostRuntime) -> Result<(), Fail> {
     runs(&rt, rt.alloc(), 0)
 }
 
-/// A span here has 74 to 128 bytes: the first maximum is the size of some spans alone, the second that of two of them.
+/// A span here has 74 to 128 bytes: this maximum is the size of some alone.
 #[test]
-fn random_items_up_to_a_size(rt: HostRuntime) -> Result<(), Fail> {
-    runs(&rt, rt.alloc(), 108)?;
+fn random_items_up_to_one_span(rt: HostRuntime) -> Result<(), Fail> {
+    runs(&rt, rt.alloc(), 108)
+}
+
+/// This one is the size of two of them.
+#[test]
+fn random_items_up_to_two_spans(rt: HostRuntime) -> Result<(), Fail> {
     runs(&rt, rt.alloc(), 216)
 }
