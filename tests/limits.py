@@ -7,6 +7,8 @@ What must come out is worked out here, from the formats and the rules alone: a t
 shard keeps its share of the traces, and what a line of the script releases goes out shard by shard, the oldest trace first, in batches.
 """
 import json
+import random
+import re
 import sys
 
 MEBIBYTE = 1048576
@@ -14,7 +16,7 @@ ALL = '[[policies]]\nname = "all"\ntype = "always_sample"\n'
 
 
 class Run:
-    """A script and what it must print, for a collector that decides each trace at the end of the run."""
+    """A script and what it must print, for a collector that decides each trace at the end of the run, or once it is too big."""
 
     def __init__(self, folder, name, settings, policies, is_kept):
         print(name)
@@ -26,6 +28,9 @@ class Run:
         self.share = settings.get("num_traces", 50000) // len(self.shards)
         self.capacity = settings.get("queue_capacity", 1024)
         self.batch = settings.get("send_batch_size", 512)
+        self.maximum = settings.get("maximum_trace_size_bytes", 0)
+        self.remembered = [{} for _ in self.shards]
+        self.room = int((re.findall(r"non_sampled_cache_size = (\d+)", settings.get("decision_cache", "")) or [0])[0]) // len(self.shards)
         self.is_kept = is_kept
         self.received = self.handed = 0
         self.dropped = [0] * 8
@@ -45,23 +50,47 @@ class Run:
                         full += 1
                     else:
                         queued[shard] += 1
-                        self.take(self.shards[shard], (resource, scope, span))
+                        self.take(self.shards[shard], self.remembered[shard], (resource, scope, span))
         self.dropped[2] += full
         told = f'{{"partialSuccess":{{"errorMessage":"invalid id: 0, queue full: {full}","rejectedSpans":"{full}"}}}}' if full else "{}"
         self.expected.write(f"reply 200 {told}\n")
 
-    def take(self, traces, record):
-        """A span of a new trace makes the oldest leave a full buffer."""
+    def take(self, traces, remembered, record):
+        """A span of a new trace makes the oldest leave a full buffer. A trace that is too big stays in it without its spans (None), and is remembered once it leaves."""
         trace = record[2]["traceId"]
+        if trace in remembered:
+            remembered[trace] = remembered.pop(trace)
+            self.dropped[6] += 1
+            return
         if trace not in traces and len(traces) == self.share:
-            self.dropped[4] += len(traces.pop(next(iter(traces))))
-        traces.setdefault(trace, []).append(record)
+            self.leave(traces, remembered)
+        records = traces.setdefault(trace, [])
+        if records is None:
+            self.dropped[6] += 1
+            return
+        records.append(record)
+        if 0 < self.maximum < size([span for _, _, span in records]):
+            self.dropped[5] += len(records)
+            traces[trace] = None
+
+    def leave(self, traces, remembered):
+        """The oldest trace leaves; the decision that was touched the longest ago is forgotten where there are too many."""
+        oldest = next(iter(traces))
+        records = traces.pop(oldest)
+        if records is not None:
+            self.dropped[4] += len(records)
+        elif self.room:
+            remembered[oldest] = None
+            if len(remembered) > self.room:
+                remembered.pop(next(iter(remembered)))
 
     def finish(self):
-        """All is decided at the close of the script."""
+        """All else is decided at the close of the script."""
         released = []
         for traces in self.shards:
             for records in traces.values():
+                if records is None:
+                    continue
                 if self.is_kept(records):
                     released += records
                 else:
@@ -88,7 +117,17 @@ def line_of(records):
             scopes.append((of_scope, []))
         scopes[-1][1].append(span)
     request = [dict(resource, scopeSpans=[dict(scope, spans=spans) for scope, spans in scopes]) for resource, scopes in groups]
-    return json.dumps({"resourceSpans": request}, sort_keys=True, ensure_ascii=False, separators=(",", ":"))
+    return canonical({"resourceSpans": request})
+
+
+def canonical(value):
+    """The canonical text: no white space, names in order."""
+    return json.dumps(value, sort_keys=True, ensure_ascii=False, separators=(",", ":"))
+
+
+def size(spans):
+    """The bytes of these spans' canonical texts, which have no defaults here."""
+    return sum(len(canonical(span).encode()) for span in spans)
 
 
 def plain_span(trace, number, **fields):
@@ -193,6 +232,93 @@ def million_traces(folder):
     run.finish()
 
 
+PLAIN = 74
+assert size([plain_span(1, 1)]) == PLAIN
+
+
+def filled(trace, number, octets):
+    """A span of so many bytes, which has a name of letters of one and of two bytes."""
+    letters = octets - PLAIN - size([{"name": ""}]) + 1
+    span = plain_span(trace, number, name="\u00e9" * (letters // 2) + "x" * (letters % 2))
+    assert size([span]) == octets
+    return span
+
+
+KINDS = [
+    ("always_sample", ""),
+    ("latency", "threshold_ms = 0"),
+    ("status_code", 'status_codes = ["ERROR"]'),
+    ("string_attribute", 'key = "k", values = ["v"]'),
+    ("string_attribute", "key = \"k\", values = ['^v'], enabled_regex_matching = true"),
+    ("string_attribute", 'key = "k", values = ["w"], invert_match = true'),
+    ("numeric_attribute", 'key = "n", min_value = 7'),
+    ("boolean_attribute", 'key = "b", value = true'),
+    ("span_count", "min_spans = 1"),
+    ("probabilistic", "sampling_percentage = 100"),
+    ("rate_limiting", "spans_per_second = 1000"),
+    ("bytes_limiting", "bytes_per_second = 1000000"),
+    ("trace_state", 'key = "k", values = ["v"]'),
+    ("trace_flags", ""),
+    ("and", 'and_sub_policy = [{ name = "all", type = "always_sample" }]'),
+    ("not", 'not_sub_policy = { name = "many", type = "span_count", span_count = { min_spans = 9 } }'),
+    ("composite", 'max_total_spans_per_second = 1000, policy_order = ["all"], composite_sub_policy = [{ name = "all", type = "always_sample" }]'),
+]
+
+
+def sampled_but_too_big(folder):
+    """Under each kind of policy a trace that it samples, of the greatest size, and one that has a byte more: none samples that."""
+    values = [attribute("k", stringValue="v"), attribute("n", intValue="7"), attribute("b", boolValue=True)]
+    for number, (kind, settings) in enumerate(KINDS):
+        table = f", {kind} = {{ {settings} }}" if settings else ""
+        policies = f'policies = [{{ name = "it", type = "{kind}"{table} }}]\n'
+        spans = [plain_span(trace, trace, attributes=values, flags=1, traceState="k=v", status={"code": 2}) for trace in (1, 2)]
+        spans[1]["name"] = "n"
+        maximum = size(spans[:1]) + PLAIN
+        run = Run(folder, f"too big for {kind} {number}", {"maximum_trace_size_bytes": maximum}, policies, lambda records: True)
+        run.receive(1, plain_request([spans[0], plain_span(1, 3), spans[1], plain_span(2, 4), plain_span(2, 5)]))
+        run.finish()
+
+
+def traces_of_two_sizes(folder):
+    """Traces that grow beyond the maximum in the middle of a request, at their first span, at a span of a later request, or not at all, one after the other and mixed."""
+    for maximum in (1, PLAIN - 1, PLAIN, 2 * PLAIN, 2 * PLAIN + 1, 400, 2**30):
+        for shards in (1, 3):
+            run = Run(folder, f"traces up to {maximum} bytes in {shards} shards", {"maximum_trace_size_bytes": maximum, "shards": shards}, ALL, lambda records: True)
+            run.receive(1, plain_request([plain_span(1, 1), plain_span(2, 2), plain_span(1, 3), plain_span(3, 4), plain_span(1, 5), plain_span(2, 6), plain_span(1, 7)]))
+            run.receive(2, plain_request([filled(4, 8, 400), filled(5, 9, 401), plain_span(4, 10), plain_span(5, 11), filled(3, 12, 399), plain_span(3, 13)]))
+            rich = [rich_span(trace, 20 + n) for n in range(6) for trace in (6, 7)]
+            run.receive(1, [{"resource": {"attributes": [attribute("service.name", stringValue="x" * 2000)]}, "scopeSpans": [{"scope": {"name": "y" * 2000}, "spans": rich}]}])
+            run.receive(1, plain_request([plain_span(trace, 40 + trace) for trace in range(1, 9)]))
+            run.finish()
+
+
+def too_big_in_a_full_buffer(folder):
+    """One trace at a time: what is too big leaves without a further count, and is forgotten or remembered; a first span that is too big makes another leave."""
+    grown, alone = [plain_span(1, n) for n in range(1, 5)], filled(2, 5, 2 * PLAIN + 1)
+    for room in (0, 1, 2):
+        caches = f"{{ sampled_cache_size = 9, non_sampled_cache_size = {room} }}"
+        settings = {"maximum_trace_size_bytes": 2 * PLAIN, "num_traces": 1, "decision_cache": caches}
+        run = Run(folder, f"too big in a buffer of one that remembers {room}", settings, ALL, lambda records: True)
+        run.receive(1, plain_request([*grown, alone, plain_span(2, 6), plain_span(1, 7), plain_span(1, 8)]))
+        run.receive(1, plain_request([alone, plain_span(3, 9), alone, filled(3, 10, 2 * PLAIN), plain_span(4, 11), plain_span(1, 12)]))
+        run.finish()
+        run = Run(folder, f"too big in a buffer of four that remembers {room}", dict(settings, num_traces=4, shards=2), ALL, lambda records: True)
+        numbers = random.Random(room)
+        for request in range(40):
+            run.receive(1, plain_request([filled(numbers.randint(1, 9), 20 * request + n, PLAIN + numbers.randint(10, 76)) for n in range(1, 9)]))
+        run.finish()
+
+
+def too_big_asks_no_limiter(folder):
+    """A limiter that lets through just the spans, or just the bytes, of the trace that isn't too big, which comes second."""
+    limits = ("rate_limiting", "spans_per_second = 2"), ("bytes_limiting", f"bytes_per_second = {PLAIN}"), ("composite", 'max_total_spans_per_second = 2, policy_order = ["all"], composite_sub_policy = [{ name = "all", type = "always_sample" }]')
+    for kind, settings in limits:
+        policies = f'policies = [{{ name = "it", type = "{kind}", {kind} = {{ {settings} }} }}]\n'
+        run = Run(folder, f"too big and {kind}", {"maximum_trace_size_bytes": 2 * PLAIN}, policies, lambda records: records[0][2]["traceId"] == f"{2:032x}")
+        run.receive(1, plain_request([filled(1, 1, 2 * PLAIN + 1), plain_span(2, 2), plain_span(2, 3), plain_span(3, 4)]))
+        run.finish()
+
+
 if __name__ == "__main__":
-    for write in (greatest_request, full_queue_and_batches, lanes_and_shards, policies_nested, million_traces):
+    for write in (greatest_request, full_queue_and_batches, lanes_and_shards, policies_nested, million_traces, sampled_but_too_big, traces_of_two_sizes, too_big_in_a_full_buffer, too_big_asks_no_limiter):
         write(sys.argv[1])

@@ -8,7 +8,7 @@ Whether the trace is kept stands in the tables, by the tailsamplingprocessor's r
 """
 import sys
 
-from limits import Run, attribute, plain_span
+from limits import Run, attribute, plain_span, size
 
 TOP = 2**64 - 1
 WHOLE_TOP = 2**63 - 1
@@ -94,6 +94,30 @@ def rates(folder):
     """Two spans under a limit a second."""
     for limit, is_kept in ((2, True), (1, False), (0, False), (WHOLE_TOP, True)):
         one_run(folder, f"two spans where {limit} are granted", [("rate_limiting", f"spans_per_second = {limit}")], [(span(1), None), (span(2), None)], is_kept)
+
+
+def bytes_of(per_second, burst=None):
+    """A limit of bytes a second."""
+    return "bytes_limiting", f"bytes_per_second = {per_second}" + (f", burst_capacity = {burst}" if burst is not None else "")
+
+
+def byte_rates(folder):
+    """Traces of one span and of two under a bucket that holds just their bytes, one less, none, or twice what it gets back in a second; each span has a resource of its own."""
+    texts = ["", "x", "\u00e9", "\u20ac", "\U0001f600", 'a"b\\c/d', "\n\r\t\b\f\x01\x1f\x7f", "x" * 70000]
+    values = [{"intValue": "-9223372036854775808"}, {"boolValue": False}, {"bytesValue": "AAE="}, {"arrayValue": {"values": [{"stringValue": "\u00e9"}, {}]}}, {"kvlistValue": {"values": [attribute("k", intValue="0")]}}]
+    rich = span(
+        3, TOP - 1, TOP, 2, name="n", kind=3, parentSpanId=f"{1:016x}", traceState="k=v", flags=257, droppedAttributesCount=1, droppedEventsCount=2, droppedLinksCount=3,
+        attributes=[attribute(f"a{number}", **value) for number, value in enumerate(values)], events=[{"timeUnixNano": "1", "name": "\u00e9"}], links=[{"traceId": f"{2:032x}", "spanId": f"{3:016x}", "traceState": "a=b"}],
+    )  # fmt: skip
+    traces = [[span(1)], [span(1), span(2)], [rich], [rich, span(2)]] + [[span(1, attributes=[attribute("a" + text, stringValue=text)])] for text in texts]
+    for number, spans in enumerate(traces):
+        whole = size(spans)
+        rows = [
+            (bytes_of(0, whole), True), (bytes_of(0, whole - 1), False), (bytes_of(WHOLE_TOP, whole), True), (bytes_of(WHOLE_TOP, whole - 1), False), (bytes_of(whole, 0), False),
+            (bytes_of((whole + 1) // 2), True), (bytes_of((whole - 1) // 2), False), (bytes_of(0), False), (bytes_of(WHOLE_TOP), True), (bytes_of(0, WHOLE_TOP), True),
+        ]  # fmt: skip
+        for row, (kind, is_kept) in enumerate(rows):
+            one_run(folder, f"bytes {row} of trace {number}", [kind], [(one, [attribute("of", intValue=str(place + 1))]) for place, one in enumerate(spans)], is_kept)
 
 
 def attributes(folder):
@@ -300,6 +324,26 @@ def composites(folder):
         one_run(folder, f"composite {number}", kinds, spans, is_kept)
 
 
+def bytes_together(folder):
+    """A limit of bytes beside and inside other policies: one that just holds the trace of two spans, with `env` as `dev`, and one of a byte less."""
+    spans = [span(n, attributes=[attribute("env", stringValue="dev")]) for n in (1, 2)]
+    enough, less = bytes_of(0, size(spans)), bytes_of(0, size(spans) - 1)
+    never = ("span_count", "min_spans = 9")
+    two = ("rate_limiting", "spans_per_second = 2")
+    against = ("string_attribute", 'key = "env", values = ["dev"], invert_match = true')
+    in_favour = ("string_attribute", 'key = "env", values = ["prod"], invert_match = true')
+    rows = [
+        ([enough, never], True), ([less, never], False), ([less, enough], True), ([enough, enough], True), ([less, ALWAYS], True), ([enough, against], False), ([less, in_favour], False), ([enough, in_favour], True),
+        ([joined("and", enough, ALWAYS)], True), ([joined("and", less, ALWAYS)], False), ([joined("and", ALWAYS, enough)], True), ([joined("and", two, enough)], True), ([joined("and", two, less)], False),
+        ([joined("and", never, enough), less], False), ([joined("and", enough, in_favour)], True), ([joined("not", enough)], False), ([joined("not", less)], True), ([joined("not", joined("and", enough, less))], True),
+        ([joined("drop", enough), ALWAYS], False), ([joined("drop", less), ALWAYS], True), ([ALWAYS, joined("drop", enough)], False), ([joined("drop", ALWAYS, less), enough], True), ([joined("drop", joined("not", less)), ALWAYS], False),
+        ([composite(2, enough)], True), ([composite(1, enough)], False), ([composite(9, less)], False), ([composite(9, less, enough)], True), ([composite(4, less, ALWAYS)], True), ([composite(3, enough, ALWAYS)], False),
+        ([composite(9, composite(9, enough))], True), ([joined("not", composite(9, less))], True), ([composite(9, joined("and", two, enough))], True), ([two, less], True), ([composite(4, enough, never, a=50)], True),
+    ]  # fmt: skip
+    for number, (kinds, is_kept) in enumerate(rows):
+        one_run(folder, f"bytes together {number}", kinds, [(one, None) for one in spans], is_kept)
+
+
 def first_matches(folder):
     """The first policy that samples or drops ends the asking, and what was answered up to it decides; a trace of two spans with `env` as `dev`."""
     never = ("span_count", "min_spans = 9")
@@ -319,5 +363,5 @@ def first_matches(folder):
 
 
 if __name__ == "__main__":
-    for write in (latencies, times_at_the_top, status_codes, span_counts, rates, attributes, expressions, expressions_and_values, expressions_together, long_texts, percentages, trace_states, trace_flags, policies_together, policies_of_policies, composites, first_matches):
+    for write in (latencies, times_at_the_top, status_codes, span_counts, rates, byte_rates, attributes, expressions, expressions_and_values, expressions_together, long_texts, percentages, trace_states, trace_flags, policies_together, policies_of_policies, composites, bytes_together, first_matches):
         write(sys.argv[1])

@@ -90,6 +90,11 @@ def rate(limit):
     return "rate_limiting", f"spans_per_second = {limit}"
 
 
+def bytes_of(per_second, burst=None):
+    """At most so many bytes a second, out of a bucket that is full at first."""
+    return "bytes_limiting", f"bytes_per_second = {per_second}" + (f", burst_capacity = {burst}" if burst is not None else "")
+
+
 def share(percent, salt=None):
     """A percentage of all traces."""
     return "probabilistic", f"sampling_percentage = {percent}" + (f', hash_salt = "{salt}"' if salt else "")
@@ -172,6 +177,17 @@ ROWS = [
     ("rate limiting of 3", [rate(3)], {1, 2}),
     ("rate limiting of 2", [rate(2)], {1, 3}),
     ("rate limiting of none", [rate(0)], set()),
+    # In that order their spans have 102, 226, 125, 260, 165, 159, 170, 147, 2142 and 333 bytes, in all 3829.
+    ("bytes limiting of a mebibyte", [bytes_of(1048576, 5242880)], EVERY),
+    ("bytes limiting of a mebibyte without a burst", [bytes_of(1048576)], EVERY),
+    ("bytes limiting of just all", [bytes_of(0, 3829)], EVERY),
+    ("bytes limiting of one byte less", [bytes_of(1024, 3828)], EVERY - {10}),
+    ("bytes limiting of 1024", [bytes_of(1024)], EVERY - {9}),
+    # After the first three 147 bytes are left, and just 8 has so few.
+    ("bytes limiting with a burst of 600", [bytes_of(1024, 600)], {1, 2, 3, 8}),
+    ("bytes limiting of 114", [bytes_of(114)], {1, 3}),
+    ("bytes limiting of none", [bytes_of(0)], set()),
+    ("bytes limiting without room for a trace", [bytes_of(1048576, 101)], set()),
     ("span count", [SPANS], {2, 4, 10}),
     ("span count without a greatest number", [("span_count", "min_spans = 2")], {2, 4, 9, 10}),
     ("trace state", [STATE], {8}),
@@ -187,6 +203,10 @@ ROWS = [
     # Both attributes hold for 5, 7 and 10, of 1, 1 and 2 spans, and only they ask the limiter.
     ("and of a team and a limit", [made_of("and", TEAM_A, rate(3))], {5, 7}),
     ("and of a limit and a team", [made_of("and", rate(10), TEAM_A)], {5, 7}),
+    # The same of their 165, 170 and 333 bytes. Behind a limit that all ask, 7 finds just room for its bytes, or one byte less.
+    ("and of a team and a limit of bytes", [made_of("and", TEAM_A, bytes_of(0, 335))], {5, 7}),
+    ("and of a limit of bytes and a team", [made_of("and", bytes_of(0, 1207), TEAM_A)], {5, 7}),
+    ("and of a lower limit of bytes and a team", [made_of("and", bytes_of(0, 1206), TEAM_A)], {5}),
     ("and of a regular expression and an error", [made_of("and", service("^team_(a|c)"), ERROR)], {10}),
     ("not of a regular expression", [made_of("not", service("team"))], EVERY - {2, 3, 5, 7, 10}),
     ("drop of a regular expression", [made_of("drop", service("^team_[bc]$")), ALWAYS], EVERY - {2, 3}),
@@ -211,9 +231,9 @@ ROWS = [
     ("flags, errors or a truth", [FLAGS, ERROR, TRUTH], {2, 6, 8, 10}),
     ("a tenth or errors", [share(10), ERROR], chosen(10**5) | {2, 10}),
     ("a tenth of a team, or errors", [made_of("and", TEAM_A, share(50)), ERROR], chosen(5 * 10**5) & {5, 7} | {2, 10}),
-    # The README's list of policies, without its limits of bytes, conditions in OTTL and composite.
+    # The README's list of policies, without its conditions in OTTL and composite.
     ("the list of policies but for all", [RATHER_SLOW, FIFTY_TO_HUNDRED, ERROR, TWO_VALUES, MATCHING, SPANS, STATE, TRUTH, AND], {2, 3, 4, 5, 6, 8, 10}),
-    ("the list of policies", [ALWAYS, RATHER_SLOW, FIFTY_TO_HUNDRED, share(10), ERROR_OR_UNSET, TWO_VALUES, MATCHING, rate(35), NO_PROBES, SPANS, STATE, TRUTH, AND, DROP_PROBES], EVERY - {7}),
+    ("the list of policies", [ALWAYS, RATHER_SLOW, FIFTY_TO_HUNDRED, share(10), ERROR_OR_UNSET, TWO_VALUES, MATCHING, rate(35), bytes_of(1048576), NO_PROBES, SPANS, STATE, TRUTH, AND, DROP_PROBES], EVERY - {7}),
     # Its practical example: other teams keep all; of team_a's probes few are kept, of its noisy endpoint few, and what is slow or an error.
     (
         "a practical example",
@@ -228,17 +248,35 @@ ROWS = [
     # Errors have 2 spans a second, and so do the others: 1 and 3 of one span each.
     ("a composite of errors and all", [composite(4, (50,), ERROR, ALWAYS)], {1, 2, 3}),
     ("errors beside a limit", [ERROR, rate(3)], {1, 2, 10}),
+    ("errors beside a limit of bytes", [ERROR, bytes_of(0, 392)], {1, 2, 10}),
+    ("not of a limit of bytes", [made_of("not", bytes_of(1024))], {9}),
+    ("drop of what a limit of bytes lets through", [made_of("drop", bytes_of(1024)), ALWAYS], {9}),
+    ("a composite of a limit of bytes and all", [composite(1000, (50, 25), bytes_of(1024), ALWAYS)], EVERY),
 ]
 
 # The same with `sample_on_first_match: true`.
 FIRST_ROWS = [
     # Errors ask no limiter, so 1, 3 and 5 are let through.
     ("errors before a limit", [ERROR, rate(3)], {1, 2, 3, 5, 10}),
+    ("errors before a limit of bytes", [ERROR, bytes_of(0, 392)], {1, 2, 3, 5, 10}),
     ("all before an inverted attribute", [ALWAYS, NO_HEALTH], EVERY),
     ("all behind an inverted attribute", [NO_HEALTH, ALWAYS], EVERY - {7}),
     ("all before a drop", [ALWAYS, DROP_PROBES], EVERY),
     ("all behind a drop", [DROP_PROBES, ALWAYS], EVERY - {7}),
     ("errors behind an inverted attribute", [NO_HEALTH, ERROR], {2, 10}),
+]
+
+# The same with `maximum_trace_size_bytes`: a name, that maximum, the policies, and the traces that are kept.
+SIZE_ROWS = [
+    ("10 MiB", 10485760, [ALWAYS], EVERY),
+    ("2142 bytes", 2142, [ALWAYS], EVERY),
+    ("2141 bytes", 2141, [ALWAYS], EVERY - {9}),
+    ("332 bytes", 332, [ERROR, SLOW], {2, 3}),
+    ("0 bytes", 0, [ERROR, SLOW], {2, 3, 10}),
+    # 9 and 10 ask no limiter, so that nothing keeps the others from it.
+    ("332 bytes before a limit of 10", 332, [rate(10)], EVERY - {9, 10}),
+    ("332 bytes before a limit of bytes", 332, [bytes_of(677)], EVERY - {9, 10}),
+    ("101 bytes", 101, [ALWAYS], set()),
 ]
 
 
@@ -248,6 +286,7 @@ def main(folder):
         dict({"resource": {"attributes": resource}} if resource else {}, scopeSpans=[{"spans": [one]}]) for spans in TRACES.values() for one, resource in spans
     ]
     rows = [("transcribed", {}, *row) for row in ROWS] + [("first match of", {"sample_on_first_match": "true"}, *row) for row in FIRST_ROWS]
+    rows += [("traces of at most", {"maximum_trace_size_bytes": maximum}, name, *more) for name, maximum, *more in SIZE_ROWS]
     for what, more, name, kinds, kept in rows:
         tables = ",\n    ".join(policy(f"test-policy-{number}", *kind) for number, kind in enumerate(kinds, 1))
         settings = {"decision_wait_ms": 10000, "num_traces": 100, "decision_cache": "{ sampled_cache_size = 100000, non_sampled_cache_size = 100000 }", **more}

@@ -50,6 +50,7 @@ pub struct Entry {
 pub struct Past<'a> {
     pub entries: &'a [Entry],
     pub root_wait: u64,
+    pub maximum_size: u64,
     pub limit: usize,
     pub sampled: usize,
     pub non_sampled: usize,
@@ -74,6 +75,14 @@ fn opened(entry: &Entry) -> Option<usize> {
 /// Whether the span at this place has no parent: each third one.
 pub fn is_root(place: usize) -> bool {
     place.checked_rem(3) == Some(0)
+}
+
+/// The bytes of the canonical text of the span at this place: two ids, a parent's unless it is a root, and the status of
+/// an error.
+fn size_of(place: usize, error: bool) -> u64 {
+    let parent = if is_root(place) { 0 } else { 34 };
+    let status = if error { 20 } else { 0 };
+    74 + parent + status
 }
 
 impl Past<'_> {
@@ -130,17 +139,34 @@ impl Past<'_> {
         false
     }
 
+    /// Whether the spans of the trace have more bytes than the maximum, from the opening on.
+    fn is_too_big(&self, trace: usize, opening: usize, end: usize) -> bool {
+        if self.maximum_size == 0 {
+            return false;
+        }
+        let mut size: u64 = 0;
+        for (at, entry) in self.entries.iter().enumerate().take(end).skip(opening) {
+            if let Kind::Span(_, error, _) = entry.kind {
+                if trace_of(entry) == Some(trace) {
+                    size = size.saturating_add(size_of(at, error));
+                }
+            }
+        }
+        size > self.maximum_size
+    }
+
     /// The verdict of the episode that opened there, once it is decided.
     fn verdict(&self, opening: usize, end: usize) -> Option<Verdict> {
         let trace = opened(self.entries.get(opening)?)?;
-        for at in opening.saturating_add(1)..end {
+        for at in opening..end {
+            let is_too_big = self.is_too_big(trace, opening, at.saturating_add(1));
             let decides = match self.entries.get(at)?.kind {
-                Kind::Span(_, _, _) => false,
+                Kind::Span(_, _, _) => is_too_big,
                 Kind::Tick => self.is_due(trace, opening, at),
                 Kind::End => true,
             };
             if decides && self.is_in_buffer(opening, at) {
-                return Some(if self.has_error(trace, opening, at) {
+                return Some(if !is_too_big && self.has_error(trace, opening, at) {
                     Verdict::Sampled
                 } else {
                     Verdict::NotSampled

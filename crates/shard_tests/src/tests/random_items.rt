@@ -89,85 +89,114 @@ fn decide(rt: &impl Abort, shard: &mut LimitedShard, past: &Past<'_>) {
     }
 }
 
-/// Runs random items through a shard with these settings.
-fn run(
-    rt: &impl Abort,
-    alloc: Global,
+/// The settings of a run: times in milliseconds, sizes in bytes and traces.
+#[derive(Clone, Copy)]
+struct Setting {
     seed: u64,
     root_wait: u64,
+    maximum_size: u64,
     limit: usize,
     sampled: usize,
     non_sampled: usize,
-) -> Result<(), Fail>
-    requires { 0 < limit }
-{
-    let policies = policy_on(alloc, Some(2))?;
-    let numbers = Numbers {
-        wait: WAIT,
-        root_wait,
-        limit,
-        sampled,
-        non_sampled,
-        senders: 1,
-    };
-    let mut shard = LimitedShard::new(alloc, policies, numbers)?;
+    ghost keeps_a_trace: { 0 < limit },
+}
+
+impl Setting {
+    /// What was taken so far by a shard with these settings.
+    fn past<'a>(&self, entries: &'a [Entry]) -> Past<'a> {
+        Past {
+            entries,
+            root_wait: self.root_wait,
+            maximum_size: self.maximum_size,
+            limit: self.limit,
+            sampled: self.sampled,
+            non_sampled: self.non_sampled,
+        }
+    }
+
+    /// A shard with these settings.
+    fn shard(&self, alloc: Global) -> Result<LimitedShard, AllocError> {
+        let policies = policy_on(alloc, Some(2))?;
+        let numbers = Numbers {
+            wait: WAIT,
+            root_wait: self.root_wait,
+            maximum_size: self.maximum_size,
+            limit: self.limit,
+            sampled: self.sampled,
+            non_sampled: self.non_sampled,
+            senders: 1,
+        };
+        LimitedShard::new(alloc, policies, numbers)
+    }
+}
+
+/// The kind of the next item, by a number that looks random.
+fn kind_of(past: &Past<'_>, is_last: bool, random: u64) -> Kind {
+    let trace = (random / 8 % 4) as usize;
+    if is_last {
+        Kind::End
+    } else if random % 8 < 3 {
+        Kind::Tick
+    } else {
+        Kind::Span(trace, random / 32 % 2 == 0, past.finding(trace))
+    }
+}
+
+/// Runs random items through a shard with these settings.
+fn run(rt: &impl Abort, alloc: Global, setting: Setting) -> Result<(), Fail> {
+    let mut shard = setting.shard(alloc)?;
     let mut entries: Vec<Entry> = Vec::with_capacity(alloc, ITEMS)?;
-    let mut number = seed;
+    let mut number = setting.seed;
     for place in 0..ITEMS {
         number = further(number);
         let random = number >> 33;
-        let moment = place as u64 * 2 + random / 64 % 5;
-        let past = Past {
-            entries: entries.as_slice(),
-            root_wait,
-            limit,
-            sampled,
-            non_sampled,
+        let past = setting.past(entries.as_slice());
+        let kind = kind_of(&past, place + 1 == ITEMS, random);
+        let moment = match kind {
+            Kind::End => 0,
+            _ => place as u64 * 2 + random / 64 % 5,
         };
-        let trace = (random / 8 % 4) as usize;
-        let kind = if place + 1 == ITEMS {
-            Kind::End
-        } else if random % 8 < 3 {
-            Kind::Tick
-        } else {
-            Kind::Span(trace, random / 32 % 2 == 0, past.finding(trace))
-        };
-        let moment = if kind == Kind::End { 0 } else { moment };
         let entry = take(rt, alloc, &mut shard, &past, kind, moment)?;
         entries.push(entry)?;
-        decide(
-            rt,
-            &mut shard,
-            &Past {
-                entries: entries.as_slice(),
-                root_wait,
-                limit,
-                sampled,
-                non_sampled,
-            },
-        );
+        decide(rt, &mut shard, &setting.past(entries.as_slice()));
     }
-    holds(rt, shard.finished(), &seed);
+    holds(rt, shard.finished(), &setting.seed);
+    Ok(())
+}
+
+/// Runs with buffers of one to three traces, caches of none to two decisions, and root waits of none to two milliseconds.
+fn runs(rt: &impl Abort, alloc: Global, maximum_size: u64) -> Result<(), Fail> {
+    for limit in 1..4 {
+        for sizes in 0..9 {
+            for root_wait in 0..3 {
+                let setting = Setting {
+                    seed: (limit * 9 + sizes) as u64,
+                    root_wait,
+                    maximum_size,
+                    limit,
+                    sampled: sizes / 3,
+                    non_sampled: sizes % 3,
+                };
+                run(rt, alloc, setting)?;
+            }
+        }
+    }
     Ok(())
 }
 
 #[test]
 fn random_items(rt: HostRuntime) -> Result<(), Fail> {
-    for limit in 1..4 {
-        for sizes in 0..9 {
-            let seed = (limit * 9 + sizes) as u64;
-            for root_wait in 0..3 {
-                run(
-                    &rt,
-                    rt.alloc(),
-                    seed,
-                    root_wait,
-                    limit,
-                    sizes / 3,
-                    sizes % 3,
-                )?;
-            }
-        }
-    }
-    Ok(())
+    runs(&rt, rt.alloc(), 0)
+}
+
+/// A span here has 74 to 128 bytes: this maximum is the size of some alone.
+#[test]
+fn random_items_up_to_one_span(rt: HostRuntime) -> Result<(), Fail> {
+    runs(&rt, rt.alloc(), 108)
+}
+
+/// This one is the size of two of them.
+#[test]
+fn random_items_up_to_two_spans(rt: HostRuntime) -> Result<(), Fail> {
+    runs(&rt, rt.alloc(), 216)
 }
