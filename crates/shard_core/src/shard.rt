@@ -299,8 +299,13 @@ impl Shard {
         let Some(episode) = self.buffer.next_due(mark, wait, root_wait) else {
             return (Decided::Nothing, None);
         };
-        let (verdict, decider) =
-            decide_on(&self.policies, episode, now, limiter, &mut self.searches);
+        let (verdict, decider) = decide_on(
+            &self.policies,
+            episode,
+            now,
+            limiter,
+            &mut self.searches,
+        );
         let spans = self.buffer.settle(mark, wait, root_wait, verdict);
         (decided(verdict, spans), decider)
     }

@@ -20,11 +20,12 @@ struct Played {
     as_due: bool,
 }
 
-/// One policy: on this status code, or one that samples each trace; and how many sampled and how many other traces are
-/// remembered.
+/// One policy: on this status code, or one that samples each trace; the greatest size of a trace, in bytes, where 0 is none;
+/// and how many sampled and how many other traces are remembered.
 #[derive(Clone, Copy)]
 struct Given {
     code: Option<i32>,
+    maximum_size: u64,
     sampled_size: usize,
     non_sampled_size: usize,
 }
@@ -35,6 +36,7 @@ fn settings_with(alloc: Global, given: Given) -> Result<Settings, AllocError> {
         policies: policy_on(alloc, given.code)?,
         wait: 10_000,
         root_wait: 0,
+        maximum_size: given.maximum_size,
         limit: Some(1),
         sampled_size: given.sampled_size,
         non_sampled_size: given.non_sampled_size,
@@ -147,6 +149,7 @@ fn full_buffer_evicts_undecided(rt: HostRuntime) -> Result<(), Fail> {
     ];
     let given = Given {
         code: None,
+        maximum_size: 0,
         sampled_size: 0,
         non_sampled_size: 0,
     };
@@ -171,6 +174,7 @@ fn cache_of_one_forgets(rt: HostRuntime) -> Result<(), Fail> {
     ];
     let given = Given {
         code: Some(2),
+        maximum_size: 0,
         sampled_size: 1,
         non_sampled_size: 0,
     };
@@ -196,6 +200,7 @@ const RENEWING: [Event; 11] = [
 /// A policy on errors, and two traces of each kind remembered.
 const ON_ERRORS: Given = Given {
     code: Some(2),
+    maximum_size: 0,
     sampled_size: 2,
     non_sampled_size: 2,
 };
@@ -204,6 +209,37 @@ const ON_ERRORS: Given = Given {
 fn late_span_renews(rt: HostRuntime) -> Result<(), Fail> {
     let found = plays(rt.alloc(), ON_ERRORS, &RENEWING, &[0, 1, 3, 2, 5, 4], &[])?;
     assert_eq!(rt; found, [true; 3]);
+    Ok(())
+}
+
+/// A root has 94 bytes where it has an error, and 74 else.
+#[test]
+fn too_big_is_decided_at_once(rt: HostRuntime) -> Result<(), Fail> {
+    let events = [
+        Event::Span(1, 0, 0, 2),
+        Event::Span(1, 1, 1, 0),
+        Event::Span(1, 2, 2, 2),
+        Event::Tick(10_000),
+        Event::End(0),
+        Event::End(1),
+    ];
+    let rows: [(u64, &[u64], &[(u8, u64)]); 7] = [
+        (0, &[0, 1, 2], &[]),
+        (262, &[0, 1, 2], &[]),
+        (261, &[], &[(5, 0), (5, 1), (5, 2)]),
+        (168, &[], &[(5, 0), (5, 1), (5, 2)]),
+        (167, &[], &[(5, 0), (5, 1), (6, 2)]),
+        (94, &[], &[(5, 0), (5, 1), (6, 2)]),
+        (93, &[], &[(5, 0), (6, 1), (6, 2)]),
+    ];
+    for (maximum_size, released, counted) in rows {
+        let given = Given {
+            maximum_size,
+            ..ON_ERRORS
+        };
+        let found = plays(rt.alloc(), given, &events, released, counted)?;
+        assert_eq!(rt; found, [true; 3], "{maximum_size}");
+    }
     Ok(())
 }
 

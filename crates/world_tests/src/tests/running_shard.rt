@@ -10,6 +10,8 @@ pub struct Kept {
     pub trace: u8,
     pub error: bool,
     pub root: bool,
+    /// In bytes.
+    pub size: u64,
 }
 
 /// A trace in the ring: when it opened, when its first root came, its spans, and whether it is sampled, once it is decided.
@@ -91,6 +93,17 @@ fn touch(cache: &mut Vec<u8>, size: usize, trace: u8) -> Result<(), AllocError> 
         cache.remove(0);
     }
     Ok(())
+}
+
+impl Episode {
+    /// Whether its spans have more bytes than the maximum, where there is one.
+    fn is_too_big(&self, maximum_size: u64) -> bool {
+        let mut size: u64 = 0;
+        for span in &self.spans {
+            size = size.saturating_add(span.size);
+        }
+        maximum_size > 0 && size > maximum_size
+    }
 }
 
 impl Remembered {
@@ -220,10 +233,27 @@ impl Shard {
         Ok(())
     }
 
-    pub fn decide(&mut self, trace: u8, counted: &mut Vec<Counted>) -> Result<(), AllocError> {
+    /// The traces of undecided episodes that are too big become due.
+    pub fn fall_due_by_size(&mut self, maximum_size: u64) -> Result<(), AllocError> {
+        for episode in &self.ring {
+            if episode.verdict.is_none() && episode.is_too_big(maximum_size) {
+                self.due.push(episode.trace)?;
+            }
+        }
+        Ok(())
+    }
+
+    /// A trace with an error is sampled, where it isn't too big.
+    pub fn decide(
+        &mut self,
+        trace: u8,
+        maximum_size: u64,
+        counted: &mut Vec<Counted>,
+    ) -> Result<(), AllocError> {
         for episode in self.ring.iter_mut() {
             if episode.trace == trace {
-                let verdict = episode.spans.iter().any(|s| s.error);
+                let has_error = episode.spans.iter().any(|s| s.error);
+                let verdict = has_error && !episode.is_too_big(maximum_size);
                 if verdict {
                     self.unshipped.extend_from_slice(&episode.spans)?;
                 } else {

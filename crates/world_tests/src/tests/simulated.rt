@@ -5,18 +5,29 @@ use span_ids::{ArrivalKey, ConnKey, Reason};
 use span_world::{Step, World};
 use std::alloc::{AllocError, Global};
 
+/// How many bytes a span has of which nothing is told but its ids and whether it has an error:
+/// `{"spanId":"16 digits","traceId":"32 digits"}`, where it has a parent `,"parentSpanId":"16 digits"` beside them, and with
+/// an error `,"status":{"code":2}`.
+fn size_of(root: bool, error: bool) -> u64 {
+    let ids = if root { 74 } else { 108 };
+    let status = if error { 20 } else { 0 };
+    ids + status
+}
+
 /// A span as it was received. Its trace is the last byte of the trace's id, and 0 where its ids are invalid.
 fn kept_of(key: ArrivalKey, moment: u64, rec: &Record) -> Kept {
     let (trace, root) = match rec.span.get().ids {
         None => (0, false),
         Some(ids) => (ids.trace.bytes()[15], ids.parent.is_none()),
     };
+    let error = rec.span.get().status.code == 2;
     Kept {
         key,
         moment,
         trace,
-        error: rec.span.get().status.code == 2,
+        error,
         root,
+        size: size_of(root, error),
     }
 }
 
@@ -28,11 +39,13 @@ struct Lane {
 }
 
 /// Two lanes, two shards with room for two traces, one sampled and two others remembered, a wait of ten milliseconds, and
-/// batches of two spans. A trace with an error is sampled. The root wait is given, in milliseconds, where 0 is off.
+/// batches of two spans. A trace with an error is sampled. Given are the root wait, in milliseconds, and the greatest
+/// size of a trace, in bytes, where 0 is off.
 #[derive(Drop)]
 pub struct Simulated {
     alloc: Global,
     root_wait: u64,
+    maximum_size: u64,
     lanes: Vec<Lane>,
     shards: Vec<Shard>,
     exported: Vec<Kept>,
@@ -40,10 +53,11 @@ pub struct Simulated {
     handed: Vec<Vec<Kept>>,
     counted: Vec<Counted>,
     down: bool,
+    was_too_big: bool,
 }
 
 impl Simulated {
-    pub fn new(alloc: Global, root_wait: u64) -> Result<Simulated, AllocError> {
+    pub fn new(alloc: Global, root_wait: u64, maximum_size: u64) -> Result<Simulated, AllocError> {
         let mut lanes = Vec::new(alloc);
         let mut shards = Vec::new(alloc);
         for _i in 0..2 {
@@ -57,6 +71,7 @@ impl Simulated {
         Ok(Simulated {
             alloc,
             root_wait,
+            maximum_size,
             lanes,
             shards,
             exported: Vec::new(alloc),
@@ -64,6 +79,7 @@ impl Simulated {
             handed: Vec::new(alloc),
             counted: Vec::new(alloc),
             down: false,
+            was_too_big: false,
         })
     }
 
@@ -188,6 +204,8 @@ impl Simulated {
             Found::Meets(verdict) => shard.meet(span, verdict, &mut self.counted)?,
             Found::Opens => shard.open(self.alloc, span, lost, &mut self.counted)?,
         }
+        shard.fall_due_by_size(self.maximum_size)?;
+        self.was_too_big = self.was_too_big || !shard.due.is_empty();
         Ok(true)
     }
 
@@ -243,7 +261,7 @@ impl Simulated {
             return Ok(false);
         }
         let trace = shard.due.remove(0);
-        shard.decide(trace, &mut self.counted)?;
+        shard.decide(trace, self.maximum_size, &mut self.counted)?;
         Ok(true)
     }
 
@@ -291,6 +309,11 @@ impl Simulated {
     /// Whether each shard took every sender's End.
     pub fn have_ended(&self) -> bool {
         self.shards.iter().all(|shard| shard.ends.len() == SENDERS)
+    }
+
+    /// Whether some trace was too big.
+    pub fn was_too_big(&self) -> bool {
+        self.was_too_big
     }
 
     /// Whether the world's exporter is as this one: the export list, the batch, what was handed over and counted.

@@ -1,4 +1,5 @@
 //! A worked run, and random runs beside a plain simulation of the table of steps.
+ghost use Rattle.std.specs.Prelude.{IfOk};
 ghost use Rattle.world_theory.specs.World.{KeepsATrace};
 ghost use Rattle.span_world.specs.Core.{config_of};
 
@@ -22,11 +23,21 @@ fn config_of_one(policies: Policies) -> Config
         policies,
         wait: 10,
         root_wait: 0,
+        maximum_size: 0,
         limit: Some(1),
         sampled_size: 0,
         non_sampled_size: 0,
         batch_size: 1,
     }
+}
+
+/// The same with a policy that asks twice at most, and this greatest size of a trace, in bytes.
+fn config_of_size(alloc: Global, maximum_size: u64) -> Result<Config, AllocError>
+    ensures { IfOk result (λ config. KeepsATrace (config_of config)) }
+{
+    let mut config = config_of_one(asks_twice(alloc)?);
+    config.maximum_size = maximum_size;
+    Ok(config)
 }
 
 /// One span of a trace from its receipt at this moment to the tick at which it is due.
@@ -37,6 +48,16 @@ fn due_span(alloc: Global, trace: u8, moment: u64) -> Result<Vec<Step>, AllocErr
 
 /// The same of this record.
 fn due_record(alloc: Global, rec: Record, moment: u64) -> Result<Vec<Step>, AllocError> {
+    let mut steps = taken_record(alloc, rec, moment)?;
+    steps.push(Step::Tick {
+        shard: 0,
+        moment: moment.saturating_add(10),
+    })?;
+    Ok(steps)
+}
+
+/// This record from its receipt at this moment until the shard took it.
+fn taken_record(alloc: Global, rec: Record, moment: u64) -> Result<Vec<Step>, AllocError> {
     let records = vec![in alloc; rec]?;
     let mut steps = vec![in alloc;
         Step::Receive {
@@ -51,10 +72,6 @@ fn due_record(alloc: Global, rec: Record, moment: u64) -> Result<Vec<Step>, Allo
         shard: 0,
         refused: false,
         lost: false,
-    })?;
-    steps.push(Step::Tick {
-        shard: 0,
-        moment: moment.saturating_add(10),
     })?;
     Ok(steps)
 }
@@ -237,6 +254,43 @@ fn one_answer_for_each_asking(rt: HostRuntime) -> Result<(), Fail> {
     Ok(())
 }
 
+/// The decision of that policy on a root without an error, which has 74 bytes, just after it was taken.
+fn decided_by_size(
+    rt: &impl Abort,
+    alloc: Global,
+    maximum_size: u64,
+    answers: &[bool],
+) -> Result<Result<usize, Refusal>, AllocError> {
+    let rec = plain_record(alloc, numbered_ids(1, true), 0, 0, 0)?;
+    let steps = taken_record(alloc, rec, 0)?;
+    let mut world = replayed(rt, alloc, config_of_size(alloc, maximum_size)?, steps)?;
+    let decide = Step::Decide {
+        shard: 0,
+        answers: Vec::from_slice(alloc, answers)?,
+    };
+    match answered(world.step(decide))? {
+        Ok(()) => Ok(Ok(world.counted().len())),
+        Err(refusal) => Ok(Err(refusal)),
+    }
+}
+
+#[test]
+fn too_big_is_due_at_its_span(rt: HostRuntime) -> Result<(), Fail> {
+    let refused = Err(Refusal::NotEnabled);
+    let rows: [(u64, &[bool], Result<usize, Refusal>); 5] = [
+        (0, &[], refused),
+        (74, &[], refused),
+        (74, &[false], refused),
+        (73, &[], Ok(1)),
+        (73, &[false], refused),
+    ];
+    for (maximum_size, answers, counted) in rows {
+        let found = decided_by_size(&rt, rt.alloc(), maximum_size, answers)?;
+        assert_eq!(rt; found, counted, "{maximum_size} {answers:?}");
+    }
+    Ok(())
+}
+
 /// A policy on the targets of requests: one of these expressions has a match.
 fn on_targets(alloc: Global, expressions: &[&str]) -> Result<Policies, AllocError> {
     let mut texts = List::new(alloc);
@@ -319,11 +373,12 @@ fn step_both(
 }
 
 /// The world of two lanes and two shards, beside which the simulation runs.
-fn new_world(alloc: Global, root_wait: u64) -> Result<World, AllocError> {
+fn new_world(alloc: Global, root_wait: u64, maximum_size: u64) -> Result<World, AllocError> {
     let config = Config {
         policies: policy_on(alloc, Some(2))?,
         wait: 10,
         root_wait,
+        maximum_size,
         limit: Some(2),
         sampled_size: 1,
         non_sampled_size: 2,
@@ -332,9 +387,9 @@ fn new_world(alloc: Global, root_wait: u64) -> Result<World, AllocError> {
     World::new(alloc, 2, 2, config)
 }
 
-/// Notes the reasons that were counted, by their numbers, at 8 that a batch was handed over, and at 9 that each shard took
-/// every End.
-fn note(reached: &mut [bool; 10], world: &World, simulated: &Simulated) {
+/// Notes the reasons that were counted, by their numbers, at 8 that a batch was handed over, at 9 that each shard took every
+/// End, and at 10 that a trace was too big.
+fn note(reached: &mut [bool; 11], world: &World, simulated: &Simulated) {
     for span in world.counted() {
         if let Some(is_reached) = reached.get_mut(span.reason.number() as usize) {
             *is_reached = true;
@@ -342,17 +397,19 @@ fn note(reached: &mut [bool; 10], world: &World, simulated: &Simulated) {
     }
     reached[8] = reached[8] || !world.handed().is_empty();
     reached[9] = reached[9] || simulated.have_ended();
+    reached[10] = reached[10] || simulated.was_too_big();
 }
 
-/// Random steps, each made by the world and by the simulation, with a root wait in two runs of three. The number of the
-/// first step at which they differ; else it is noted what they reached.
+/// Random steps, each made by the world and by the simulation, with a root wait in two runs of three and a greatest size in
+/// every second. The number of the first step at which they differ; else it is noted what they reached.
 fn run_beside(
     alloc: Global,
     seed: u64,
-    reached: &mut [bool; 10],
+    reached: &mut [bool; 11],
 ) -> Result<Option<u64>, AllocError> {
-    let mut world = new_world(alloc, seed % 3 * 3)?;
-    let mut simulated = Simulated::new(alloc, seed % 3 * 3)?;
+    let (root_wait, maximum_size) = (seed % 3 * 3, seed % 2 * 200);
+    let mut world = new_world(alloc, root_wait, maximum_size)?;
+    let mut simulated = Simulated::new(alloc, root_wait, maximum_size)?;
     let mut seed = seed;
     for made in 0..600 {
         let (next, choice) = choose(seed, made, made >= 300);
@@ -367,12 +424,12 @@ fn run_beside(
 
 #[test]
 fn random_runs_beside_a_simulation(rt: HostRuntime) -> Result<(), Fail> {
-    let mut reached = [false; 10];
+    let mut reached = [false; 11];
     for seed in 1..25 {
         let differs_at = run_beside(rt.alloc(), seed, &mut reached)?;
         assert_eq!(rt; differs_at, None, "run {seed}");
     }
-    let mut wanted = [true; 10];
+    let mut wanted = [true; 11];
     wanted[0] = false;
     assert_eq!(rt; reached, wanted);
     Ok(())
