@@ -319,6 +319,15 @@ def too_big_asks_no_limiter(folder):
         run.finish()
 
 
+def one_bucket_over_shards(folder):
+    """At the close shard 0 decides the trace 3, then shard 1 the traces 1 and 4, then shard 2 the others: the bucket has just the bytes of three, or one less."""
+    for room, kept in ((3 * PLAIN, {3, 1, 4}), (3 * PLAIN - 1, {3, 1})):
+        policies = f'policies = [{{ name = "it", type = "bytes_limiting", bytes_limiting = {{ bytes_per_second = 1, burst_capacity = {room} }} }}]\n'
+        run = Run(folder, f"a bucket of {room} bytes over three shards", {"shards": 3}, policies, lambda records, kept=kept: int(records[0][2]["traceId"], 16) in kept)
+        run.receive(1, plain_request([plain_span(trace, trace) for trace in range(1, 6)]))
+        run.finish()
+
+
 if __name__ == "__main__":
-    for write in (greatest_request, full_queue_and_batches, lanes_and_shards, policies_nested, million_traces, sampled_but_too_big, traces_of_two_sizes, too_big_in_a_full_buffer, too_big_asks_no_limiter):
+    for write in (greatest_request, full_queue_and_batches, lanes_and_shards, policies_nested, million_traces, sampled_but_too_big, traces_of_two_sizes, too_big_in_a_full_buffer, too_big_asks_no_limiter, one_bucket_over_shards):
         write(sys.argv[1])

@@ -139,27 +139,24 @@ impl Past<'_> {
         false
     }
 
-    /// Whether the spans of the trace have more bytes than the maximum, from the opening on.
-    fn is_too_big(&self, trace: usize, opening: usize, end: usize) -> bool {
-        if self.maximum_size == 0 {
-            return false;
+    /// The bytes of the span at this place, where it is one of the trace.
+    fn size_at(&self, trace: usize, at: usize) -> u64 {
+        let Some(entry) = self.entries.get(at) else {
+            return 0;
+        };
+        match entry.kind {
+            Kind::Span(_, error, _) if trace_of(entry) == Some(trace) => size_of(at, error),
+            _ => 0,
         }
-        let mut size: u64 = 0;
-        for (at, entry) in self.entries.iter().enumerate().take(end).skip(opening) {
-            if let Kind::Span(_, error, _) = entry.kind {
-                if trace_of(entry) == Some(trace) {
-                    size = size.saturating_add(size_of(at, error));
-                }
-            }
-        }
-        size > self.maximum_size
     }
 
     /// The verdict of the episode that opened there, once it is decided.
     fn verdict(&self, opening: usize, end: usize) -> Option<Verdict> {
         let trace = opened(self.entries.get(opening)?)?;
+        let mut size: u64 = 0;
         for at in opening..end {
-            let is_too_big = self.is_too_big(trace, opening, at.saturating_add(1));
+            size = size.saturating_add(self.size_at(trace, at));
+            let is_too_big = self.maximum_size > 0 && size > self.maximum_size;
             let decides = match self.entries.get(at)?.kind {
                 Kind::Span(_, _, _) => is_too_big,
                 Kind::Tick => self.is_due(trace, opening, at),

@@ -164,21 +164,19 @@ fn run(rt: &impl Abort, alloc: Global, setting: Setting) -> Result<(), Fail> {
     Ok(())
 }
 
-/// Runs with buffers of one to three traces, caches of none to two decisions, and root waits of none to two milliseconds.
-fn runs(rt: &impl Abort, alloc: Global, maximum_size: u64) -> Result<(), Fail> {
+/// Runs with buffers of one to three traces and caches of none to two decisions.
+fn runs(rt: &impl Abort, alloc: Global, maximum_size: u64, root_wait: u64) -> Result<(), Fail> {
     for limit in 1..4 {
         for sizes in 0..9 {
-            for root_wait in 0..3 {
-                let setting = Setting {
-                    seed: (limit * 9 + sizes) as u64,
-                    root_wait,
-                    maximum_size,
-                    limit,
-                    sampled: sizes / 3,
-                    non_sampled: sizes % 3,
-                };
-                run(rt, alloc, setting)?;
-            }
+            let setting = Setting {
+                seed: (limit * 9 + sizes) as u64,
+                root_wait,
+                maximum_size,
+                limit,
+                sampled: sizes / 3,
+                non_sampled: sizes % 3,
+            };
+            run(rt, alloc, setting)?;
         }
     }
     Ok(())
@@ -186,17 +184,15 @@ fn runs(rt: &impl Abort, alloc: Global, maximum_size: u64) -> Result<(), Fail> {
 
 #[test]
 fn random_items(rt: HostRuntime) -> Result<(), Fail> {
-    runs(&rt, rt.alloc(), 0)
+    for root_wait in 0..3 {
+        runs(&rt, rt.alloc(), 0, root_wait)?;
+    }
+    Ok(())
 }
 
-/// A span here has 74 to 128 bytes: this maximum is the size of some alone.
+/// A span here has 74 to 128 bytes: the first maximum is the size of some alone, the second that of two of them.
 #[test]
-fn random_items_up_to_one_span(rt: HostRuntime) -> Result<(), Fail> {
-    runs(&rt, rt.alloc(), 108)
-}
-
-/// This one is the size of two of them.
-#[test]
-fn random_items_up_to_two_spans(rt: HostRuntime) -> Result<(), Fail> {
-    runs(&rt, rt.alloc(), 216)
+fn random_items_up_to_a_size(rt: HostRuntime) -> Result<(), Fail> {
+    runs(&rt, rt.alloc(), 108, 1)?;
+    runs(&rt, rt.alloc(), 216, 1)
 }
