@@ -1,7 +1,10 @@
 //! What a shard answers.
+ghost use Rattle.std.specs.Prelude.{◌≡◌};
+ghost use Rattle.shard_core.specs.Taking.{answer_to_late};
+
 use decision_cache::Remembered;
 use otlp_types::Arrival;
-use span_ids::Reason;
+use span_ids::{Reason, Verdict};
 use trace_buffer::Evicted;
 
 /// What a shard did with an item.
@@ -37,4 +40,14 @@ pub enum Decided {
     Dropped(u64),
     /// No trace is due.
     Nothing,
+}
+
+/// What is answered to a late span, by the verdict of its trace.
+pub(crate) fn late(arrival: Arrival, verdict: Verdict) -> Taken
+    ensures { result ≡ answer_to_late arrival verdict }
+{
+    match verdict {
+        Verdict::Sampled => Taken::Late(arrival),
+        Verdict::NotSampled => Taken::Dropped(Reason::LateNotSampled),
+    }
 }

@@ -11,11 +11,11 @@ ghost use Rattle.expression.specs.Expressions.{are_known};
 ghost use Rattle.policy_tree.specs.Expressions.{expressions_in};
 ghost use Rattle.journal_theory.specs.Fate.{effect, effect_dealt, released_dealt, dropped_dealt};
 ghost use Rattle.decision_cache.specs.Lists.{empty_lists};
-ghost use Rattle.shard_core.specs.Taking.{Releases, answer_to_late, is_kept};
+ghost use Rattle.shard_core.specs.Taking.{Releases, is_kept};
 ghost use Rattle.trace_buffer.specs.Buffer.{Appended, Opened, is_new, opened_by, stands_undecided};
 ghost use Rattle.shard_core.specs.Holding.{KeepsAs, OpensAs, answer_to_append, leaves_forgotten, policies_on};
 
-use crate::answer::{Decided, Taken};
+use crate::answer::{Decided, Taken, late};
 use decision_cache::DecisionCache;
 use expression::Searches;
 use otlp_types::{Arrival, Ids, Item};
@@ -246,8 +246,7 @@ impl Shard {
         }
     }
 
-    /// Looks for the due trace that was opened first. The buffer keeps how far it looked, so all decisions at a mark look
-    /// through it once.
+    /// Looks for the due trace that was opened first. The buffer keeps how far it looked: all decisions at a mark look through it once.
     fn search(&mut self)
         ensures { self.new ≡ self.old }
     {
@@ -255,8 +254,7 @@ impl Shard {
         self.buffer.search(mark, wait, root_wait);
     }
 
-    /// Decides the due trace that was opened first. It takes no memory that can be refused; it waits only where the limiter
-    /// does.
+    /// Decides the due trace that was opened first. It takes no memory that can be refused, and waits only where the limiter does.
     ///
     /// The limiter is one of the policies' limiter nodes, and is asked just what they ask for the trace's spans. Where no
     /// trace is due, or the trace is too big, it isn't asked: that isn't sampled, whatever the policies are.
@@ -277,8 +275,7 @@ impl Shard {
         self.decide_with_decider(limiter).0
     }
 
-    /// The same, with the place of the policy that decided, from 0 on: none where nothing was decided, and where none of them
-    /// did, since none samples.
+    /// The same, with the place of the policy that decided, from 0 on: none where none did, since none samples, or nothing is due.
     pub fn decide_with_decider<L: Limiter>(&mut self, limiter: &mut L) -> (Decided, Option<usize>)
         requires nodes { knows (L.has_node limiter.old) (limiters (meaning self.old.policies)) ≡ true }
         ensures decides { DecidesWithDecider L.asks self.old self.new result.0 result.1 limiter.old limiter.new }
@@ -311,8 +308,7 @@ impl Shard {
     }
 }
 
-/// The verdict of the policies on the spans of an episode, and the place of the one that decides, if one does: of none of them
-/// where the episode is too big.
+/// The verdict of the policies on an episode's spans, and the place of the one that decides, if one does: of none where it is too big.
 fn decide_on<L: Limiter>(
     policies: &Policies,
     episode: &Episode,
@@ -388,16 +384,6 @@ fn open(
     }
 }
 
-/// What is answered to a late span, by the verdict of its trace.
-fn late(arrival: Arrival, verdict: Verdict) -> Taken
-    ensures { result ≡ answer_to_late arrival verdict }
-{
-    match verdict {
-        Verdict::Sampled => Taken::Late(arrival),
-        Verdict::NotSampled => Taken::Dropped(Reason::LateNotSampled),
-    }
-}
-
 /// What is answered to a span that was appended to its trace's episode, or found no memory.
 fn appended(done: Result<(), (Arrival, AllocError)>) -> Taken
     ensures { result ≡ answer_to_append done }
@@ -422,8 +408,7 @@ fn opened(cache: &mut DecisionCache, done: Result<Option<Evicted>, (Arrival, All
     }
 }
 
-/// What is answered to a span that opened an episode: the verdict of the episode that left is put, if one left that was
-/// decided.
+/// What is answered to a span that opened an episode: the verdict of a decided episode that left is put.
 fn keep(cache: &mut DecisionCache, evicted: Option<Evicted>) -> Taken
     requires { leaves_forgotten evicted cache.old ≡ true }
     ensures { KeepsAs evicted cache.old result cache.new }
