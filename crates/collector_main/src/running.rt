@@ -8,7 +8,7 @@ use crate::program::Outcome;
 use crate::sending::send_with;
 use collector_serve::{Charge, StoppingSink, WallClock, drivers, serve_on};
 use drop_ledger::Report;
-use pipeline::RunFault;
+use pipeline::{RunContext, RunFault};
 use span_sink::WriteSink;
 use std::alloc::Global;
 use std::io::{ErrorKind, Write};
@@ -68,16 +68,14 @@ fn print_with<'s, T: Net + Threads + Wait + Clock + RandomSource + Sync, W: Writ
     let stops = config.stops_at_output_fault;
     let written = WriteSink::new(writer);
     let sink = StoppingSink::new(written, &shared.stop, stops, &shared.board);
-    let (sink, answer) = serve_on(
+    let context = RunContext {
         rt,
         alloc,
-        config,
-        drivers,
-        sink,
-        &shared.board,
-        &shared.stop,
-        &clock,
-    );
+        gate: &shared.board,
+        stop: &shared.stop,
+        clock: &clock,
+    };
+    let (sink, answer) = serve_on(&context, config, drivers, sink);
     let written = sink.end();
     (written.end(), served_to(answer))
 }

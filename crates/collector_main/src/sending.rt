@@ -17,7 +17,7 @@ use export_report::moved;
 use lane_turns::Driver;
 use lane_worker::ByTurns;
 use otlp_types::TryClone;
-use pipeline::RunFault;
+use pipeline::{RunContext, RunFault};
 use post_http::endpoint_of;
 use post_socket::{Settings, SocketBackend};
 use span_sink::{Sink, WriteSink};
@@ -176,16 +176,14 @@ fn serve_through<
     let stops = config.stops_at_output_fault;
     let sink = StoppingSink::new(sink, &shared.stop, stops, &shared.silent);
     let config = with_export_room(config);
-    let (sink, answer) = serve_on(
+    let context = RunContext {
         rt,
         alloc,
-        config,
-        drivers,
-        sink,
-        &shared.board,
-        &shared.stop,
-        &clock,
-    );
+        gate: &shared.board,
+        stop: &shared.stop,
+        clock: &clock,
+    };
+    let (sink, answer) = serve_on(&context, config, drivers, sink);
     (sink.end(), answer)
 }
 

@@ -10,10 +10,10 @@ use crate::ticker::Ticker;
 use drop_ledger::Report;
 use http_lane::{Clock as Moments, Stop};
 use http_text::Allowed;
-use lane_driver::{Loads, TurnDriver};
+use lane_driver::{Loads, Share, TurnDriver};
 use lane_turns::Driver;
 use lane_worker::ByTurns;
-use pipeline::{RunFault, run_by_turns};
+use pipeline::{RunContext, RunFault, run_by_turns};
 use span_sink::Sink;
 use std::alloc::Global;
 use std::io;
@@ -42,24 +42,21 @@ pub fn listen<R: Net<Listener = TcpListener, Stream = TcpStream>>(
 
 /// Runs the collector on what drives its lanes, until a request says `POST /close`, which sets the mark, or it is set
 /// otherwise. It may be set already: then what is asked on a connection that waits is refused. It gives the sink back, and the
-/// report of all spans: what the threads did is a run of the core. The board shows the counts meanwhile. `NoMemory`: there was
+/// report of all spans: what the threads did is a run of the core. The context's board shows the counts meanwhile. `NoMemory`: there was
 /// none at the start, or the system has no random source for the key by which trace ids are hashed, and no connection was
 /// taken.
 pub fn serve_on<
+    's,
     D: Driver + Send + Drop,
     S: Sink + Drop,
     P: Stop + Sync,
     M: Moments + Sync,
     R: Threads + Wait + Clock + RandomSource + Sync,
 >(
-    rt: &R,
-    alloc: Global,
+    context: &RunContext<'s, Board, P, M, R>,
     config: Config,
     drivers: Vec<ByTurns<D>>,
     sink: S,
-    board: &Board,
-    stop: &P,
-    clock: &M,
 ) -> (S, Result<Report, RunFault>)
     requires ranges { InRange config }
     requires drivers { vec_len drivers ≡ config.lanes }
@@ -67,8 +64,8 @@ pub fn serve_on<
     ensures sink { SinkAnswers (S.taken sink) (S.failures sink) (S.taken result.0) (S.failures result.0) result.1 }
     ensures ran { CoreRunTells config (S.taken sink) (S.failures sink) (S.taken result.0) (S.failures result.0) result.1 }
 {
-    let ticks = Ticker::new(config.tick, clock, stop);
-    run_by_turns(rt, alloc, config, drivers, ticks, sink, board, stop, clock)
+    let ticks = Ticker::new(config.tick, context.clock, context.stop);
+    run_by_turns(context, config, drivers, ticks, sink)
 }
 
 /// How many connections a lane may have.
@@ -114,7 +111,8 @@ pub fn drivers<'l, P: Stop, R: Net + Clock>(
     let mut drivers = Vec::with_capacity(alloc, lanes)?;
     for lane in 0..lanes {
         let loads = Arc::try_clone(loads)?;
-        let driver = TurnDriver::new(rt, alloc, listener, stop, limit, loads, lane)?;
+        let share = Share { limit, loads, lane };
+        let driver = TurnDriver::new(rt, alloc, listener, stop, share)?;
         drivers.push(ByTurns { driver, allowed })?;
     }
     Ok(drivers)

@@ -19,8 +19,8 @@ mod turns;
 
 pub use answer::{QUIET_LIMIT, READ_LIMIT, ReadTurn, SLOW_LIMIT, ServeEnd};
 pub use laws::{in_any_pieces, pieces_do_not_matter, replies_are_determined, whole_connections};
-pub use lent::{Clock, Stop};
+pub use lent::{Clock, Lent, Stop};
 pub use reads::{PIECE_LIMIT, Reads, Source};
 pub use requests::Requests;
 pub use serving::serve;
-pub use turns::{Exchange, IDLE_LIMIT, REQUEST_LIMIT};
+pub use turns::{Arrived, Exchange, IDLE_LIMIT, REQUEST_LIMIT};

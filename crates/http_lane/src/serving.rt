@@ -12,7 +12,7 @@ use crate::answer::{
     Answer, Brought, Fate, QUIET_LIMIT, READ_LIMIT, ReadTurn, SLOW_LIMIT, ServeEnd,
 };
 use crate::engine::Engine;
-use crate::lent::{Clock, Stop};
+use crate::lent::{Clock, Lent, Stop};
 use crate::reads::{PIECE_LIMIT, Source};
 use crate::requests::Requests;
 use crate::texts::text_of;
@@ -93,19 +93,18 @@ pub(crate) fn end_with(fate: Fate, closes: bool) -> Option<ServeEnd>
 }
 
 /// Hands a text to the lane, counts its spans and answers.
-fn submit<P: Port<Item>, C: Counter, W: Write, K: Clock>(
-    alloc: Global,
+fn submit<'l, P: Port<Item>, C: Counter, W: Write, S: Stop, K: Clock>(
+    lent: &Lent<'l, S, K>,
     lane: &mut Lane<P>,
     conn: &mut Conn,
     counts: &mut C,
     writer: &mut W,
-    clock: &K,
     text: &[u8],
     says_close: bool,
 ) -> (bool, Fate)
     ensures { (is_packed : Bool) (body : List ℕ) → IsTextOf is_packed body text.now → Responds (Submits P.takes P.refuses) (W.contents writer.old) (W.contents writer.new) (intake lane.old conn.old (C.counted counts.old)) (intake lane.new conn.new (C.counted counts.new)) is_packed (Some body) says_close result }
 {
-    let reply = lane.submit(alloc, conn, text, clock.now());
+    let reply = lane.submit(lent.alloc, conn, text, lent.clock.now());
     if !count(counts, &reply) {
         return (says_close, Fate::Uncounted);
     }
@@ -113,7 +112,7 @@ fn submit<P: Port<Item>, C: Counter, W: Write, K: Clock>(
         reply,
         closes: says_close,
     };
-    (says_close, answer(alloc, writer, &replied))
+    (says_close, answer(lent.alloc, writer, &replied))
 }
 
 /// The answer to a packed body that gives no text.
@@ -134,42 +133,38 @@ fn unfit(fault: GzipFault) -> Answer
 }
 
 /// Unpacks a body and serves its text.
-fn unpack<P: Port<Item>, C: Counter, W: Write, K: Clock>(
-    alloc: Global,
+fn unpack<'l, P: Port<Item>, C: Counter, W: Write, S: Stop, K: Clock>(
+    lent: &Lent<'l, S, K>,
     lane: &mut Lane<P>,
     conn: &mut Conn,
     counts: &mut C,
     writer: &mut W,
-    clock: &K,
     body: &[u8],
     says_close: bool,
 ) -> (bool, Fate)
     ensures { Responds (Submits P.takes P.refuses) (W.contents writer.old) (W.contents writer.new) (intake lane.old conn.old (C.counted counts.old)) (intake lane.new conn.new (C.counted counts.new)) true (Some body.now) says_close result }
 {
-    match gunzip(alloc, body, BODY_LIMIT) {
+    match gunzip(lent.alloc, body, BODY_LIMIT) {
         Ok(text) => submit(
-            alloc,
+            lent,
             lane,
             conn,
             counts,
             writer,
-            clock,
             text.as_slice(),
             says_close,
         ),
-        Err(fault) => (true, answer(alloc, writer, &unfit(fault))),
+        Err(fault) => (true, answer(lent.alloc, writer, &unfit(fault))),
     }
 }
 
 /// Serves a body that was read whole, packed by gzip or not; `None`: there was no memory for it.
-fn respond<P: Port<Item>, C: Counter, W: Write, S: Stop, K: Clock>(
-    alloc: Global,
+fn respond<'l, P: Port<Item>, C: Counter, W: Write, S: Stop, K: Clock>(
+    lent: &Lent<'l, S, K>,
     lane: &mut Lane<P>,
     conn: &mut Conn,
     counts: &mut C,
     writer: &mut W,
-    stop: &S,
-    clock: &K,
     is_packed: bool,
     body: Option<&[u8]>,
     says_close: bool,
@@ -177,27 +172,25 @@ fn respond<P: Port<Item>, C: Counter, W: Write, S: Stop, K: Clock>(
     ensures { (given : Option (List ℕ)) → Sees body.entry given → Responds (Submits P.takes P.refuses) (W.contents writer.old) (W.contents writer.new) (intake lane.old conn.old (C.counted counts.old)) (intake lane.new conn.new (C.counted counts.new)) is_packed given says_close result }
 {
     let Some(body) = body else {
-        return (true, answer(alloc, writer, &Answer::Starved));
+        return (true, answer(lent.alloc, writer, &Answer::Starved));
     };
-    if stop.is_set() {
-        return (true, answer(alloc, writer, &Answer::Stopping));
+    if lent.stop.is_set() {
+        return (true, answer(lent.alloc, writer, &Answer::Stopping));
     }
     if is_packed {
-        return unpack(alloc, lane, conn, counts, writer, clock, body, says_close);
+        return unpack(lent, lane, conn, counts, writer, body, says_close);
     }
-    submit(alloc, lane, conn, counts, writer, clock, body, says_close)
+    submit(lent, lane, conn, counts, writer, body, says_close)
 }
 
 /// Does what the bytes bring next, if they bring anything. The last flag says whether a request was answered.
-fn act<E: Engine, P: Port<Item>, C: Counter, W: Write, S: Stop, K: Clock>(
-    alloc: Global,
+fn act<'l, E: Engine, P: Port<Item>, C: Counter, W: Write, S: Stop, K: Clock>(
+    lent: &Lent<'l, S, K>,
     engine: &mut E,
     lane: &mut Lane<P>,
     conn: &mut Conn,
     counts: &mut C,
     writer: &mut W,
-    stop: &S,
-    clock: &K,
 ) -> Option<(bool, Fate, bool)>
     ensures acts { (r : Reading) → E.stands engine.old r → Acts E.stands E.awaits (Submits P.takes P.refuses) (W.contents writer.old) (W.contents writer.new) (intake lane.old conn.old (C.counted counts.old)) (intake lane.new conn.new (C.counted counts.new)) r result engine.new }
     ensures less { IsOpenAfter result → E.left engine.new < E.left engine.old }
@@ -206,14 +199,14 @@ fn act<E: Engine, P: Port<Item>, C: Counter, W: Write, S: Stop, K: Clock>(
         Brought::Nothing => None,
         Brought::Refused { refusal, is_head } => {
             let refused = Answer::Refused { refusal, is_head };
-            Some((true, answer(alloc, writer, &refused), true))
+            Some((true, answer(lent.alloc, writer, &refused), true))
         }
         Brought::Close => {
-            stop.set();
-            Some((true, answer(alloc, writer, &Answer::CloseAsked), true))
+            lent.stop.set();
+            Some((true, answer(lent.alloc, writer, &Answer::CloseAsked), true))
         }
         Brought::Accepted { awaited: true } => {
-            Some((false, answer(alloc, writer, &Answer::Continue), false))
+            Some((false, answer(lent.alloc, writer, &Answer::Continue), false))
         }
         Brought::Accepted { awaited: false } => Some((false, Fate::Written, false)),
         Brought::Whole {
@@ -222,7 +215,7 @@ fn act<E: Engine, P: Port<Item>, C: Counter, W: Write, S: Stop, K: Clock>(
         } => {
             let body = engine.body();
             let (closes, fate) = respond(
-                alloc, lane, conn, counts, writer, stop, clock, is_packed, body, says_close,
+                lent, lane, conn, counts, writer, is_packed, body, says_close,
             );
             Some((closes, fate, true))
         }
@@ -230,22 +223,18 @@ fn act<E: Engine, P: Port<Item>, C: Counter, W: Write, S: Stop, K: Clock>(
 }
 
 /// Does all that the bytes bring, and says how the connection ends, if it does, and whether a request was answered.
-pub(crate) fn settle<E: Engine, P: Port<Item>, C: Counter, W: Write, S: Stop, K: Clock>(
-    alloc: Global,
+pub(crate) fn settle<'l, E: Engine, P: Port<Item>, C: Counter, W: Write, S: Stop, K: Clock>(
+    lent: &Lent<'l, S, K>,
     engine: &mut E,
     lane: &mut Lane<P>,
     conn: &mut Conn,
     counts: &mut C,
     writer: &mut W,
-    stop: &S,
-    clock: &K,
 ) -> (Option<ServeEnd>, bool)
     ensures { (r : Reading) → E.stands engine.old r → Settled E.awaits (Submits P.takes P.refuses) (W.contents writer.old) (W.contents writer.new) (intake lane.old conn.old (C.counted counts.old)) (intake lane.new conn.new (C.counted counts.new)) r result engine.new }
 {
     let mut answered = false;
-    while let Some((closes, fate, answers)) = act(
-        alloc, engine, lane, conn, counts, writer, stop, clock,
-    ) {
+    while let Some((closes, fate, answers)) = act(lent, engine, lane, conn, counts, writer) {
         answered = answered | answers;
         if let Some(end) = end_with(fate, closes) {
             return (Some(end), answered);
@@ -255,19 +244,17 @@ pub(crate) fn settle<E: Engine, P: Port<Item>, C: Counter, W: Write, S: Stop, K:
 }
 
 /// The same, where nobody asks whether a request was answered.
-fn settle_to_end<E: Engine, P: Port<Item>, C: Counter, W: Write, S: Stop, K: Clock>(
-    alloc: Global,
+fn settle_to_end<'l, E: Engine, P: Port<Item>, C: Counter, W: Write, S: Stop, K: Clock>(
+    lent: &Lent<'l, S, K>,
     engine: &mut E,
     lane: &mut Lane<P>,
     conn: &mut Conn,
     counts: &mut C,
     writer: &mut W,
-    stop: &S,
-    clock: &K,
 ) -> Option<ServeEnd>
     ensures { (r : Reading) → E.stands engine.old r → SettledTo E.awaits (Submits P.takes P.refuses) (W.contents writer.old) (W.contents writer.new) (intake lane.old conn.old (C.counted counts.old)) (intake lane.new conn.new (C.counted counts.new)) r result engine.new }
 {
-    let (end, _) = settle(alloc, engine, lane, conn, counts, writer, stop, clock);
+    let (end, _) = settle(lent, engine, lane, conn, counts, writer);
     end
 }
 
@@ -308,16 +295,14 @@ fn ended<E: Engine>(engine: &E) -> ServeEnd
 }
 
 /// Serves one connection with an engine that has read nothing.
-fn serve_turns<E: Engine, P: Port<Item>, C: Counter, R: Source, W: Write, S: Stop, K: Clock>(
-    alloc: Global,
+fn serve_turns<'l, E: Engine, P: Port<Item>, C: Counter, R: Source, W: Write, S: Stop, K: Clock>(
+    lent: &Lent<'l, S, K>,
     engine: &mut E,
     lane: &mut Lane<P>,
     conn: &mut Conn,
     counts: &mut C,
     reader: &mut R,
     writer: &mut W,
-    stop: &S,
-    clock: &K,
 ) -> ServeEnd
     requires { E.awaits engine.old (in_head (R.given reader.old).allowed []) }
     ensures { Served (Submits P.takes P.refuses) (W.contents writer.old) (W.contents writer.new) (intake lane.old conn.old (C.counted counts.old)) (intake lane.new conn.new (C.counted counts.new)) (R.given reader.old) (R.given reader.new) result }
@@ -329,15 +314,13 @@ fn serve_turns<E: Engine, P: Port<Item>, C: Counter, R: Source, W: Write, S: Sto
             ReadTurn::Gave(n) => {
                 row = 0;
                 engine.take(&piece[..n]);
-                if let Some(end) = settle_to_end(
-                    alloc, engine, lane, conn, counts, writer, stop, clock,
-                ) {
+                if let Some(end) = settle_to_end(lent, engine, lane, conn, counts, writer) {
                     return end;
                 }
             }
             ReadTurn::Quiet => {
                 row += 1;
-                if let Some(end) = wait(alloc, engine, writer, stop, row) {
+                if let Some(end) = wait(lent.alloc, engine, writer, lent.stop, row) {
                     return end;
                 }
             }
@@ -355,14 +338,12 @@ fn serve_turns<E: Engine, P: Port<Item>, C: Counter, R: Source, W: Write, S: Sto
 ///
 /// The moment of a request is asked of the clock once, when its body has been read. It ends as
 /// [`ServeEnd::NoMemory`], with nothing read, where memory for its buffer was refused.
-pub fn serve<P: Port<Item>, C: Counter, R: Source, W: Write, S: Stop, K: Clock>(
-    alloc: Global,
+pub fn serve<'l, P: Port<Item>, C: Counter, R: Source, W: Write, S: Stop, K: Clock>(
+    lent: &Lent<'l, S, K>,
     lane: &mut Lane<P>,
     counter: &mut C,
     reader: &mut R,
     writer: &mut W,
-    stop: &S,
-    clock: &K,
 ) -> ServeEnd
     requires { lane.old.connected < 2 ^ 64 - 1 }
     ensures { (conn : Conn) × Served (Submits P.takes P.refuses) (W.contents writer.old) (W.contents writer.new)
@@ -370,17 +351,15 @@ pub fn serve<P: Port<Item>, C: Counter, R: Source, W: Write, S: Stop, K: Clock>(
         (R.given reader.old) (R.given reader.new) result }
 {
     let mut conn = lane.connect();
-    match Requests::new(alloc, reader.allowed()) {
+    match Requests::new(lent.alloc, reader.allowed()) {
         Ok(mut engine) => serve_turns(
-            alloc,
+            lent,
             &mut engine,
             lane,
             &mut conn,
             counter,
             reader,
             writer,
-            stop,
-            clock,
         ),
         Err(_) => ServeEnd::NoMemory,
     }

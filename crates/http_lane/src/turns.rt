@@ -11,7 +11,7 @@ ghost use Rattle.http_text.specs.declared.allowed.Allowed.{Allowed};
 
 use crate::answer::{Answer, ServeEnd};
 use crate::engine::Engine;
-use crate::lent::{Clock, Stop};
+use crate::lent::{Clock, Lent, Stop};
 use crate::reads::PIECE_LIMIT;
 use crate::requests::Requests;
 use crate::serving::{answer, end_with, settle};
@@ -40,6 +40,14 @@ pub struct Exchange {
     pub since: u64,
 }
 
+/// Bytes that came on a connection, the moment, in milliseconds, and what is allowed to its client.
+#[derive(Drop)]
+pub struct Arrived<'p> {
+    pub piece: &'p [u8],
+    pub moment: u64,
+    pub allowed: Allowed,
+}
+
 impl Exchange {
     /// A connection that came at this moment.
     pub fn new(conn: Conn, moment: u64) -> Self
@@ -59,42 +67,41 @@ impl Exchange {
         self.engine.is_none()
     }
 
-    /// A turn that brought these bytes; `allowed`: what is allowed to the client, the same at each turn.
-    pub fn came<P: Port<Item>, C: Counter, W: Write, S: Stop, K: Clock>(
+    /// A turn that brought bytes. What is allowed to the client is the same at each turn.
+    pub fn came<'l, 'p, P: Port<Item>, C: Counter, W: Write, S: Stop, K: Clock>(
         &mut self,
-        alloc: Global,
-        allowed: Allowed,
+        lent: &Lent<'l, S, K>,
         spare: &mut Option<Requests>,
         lane: &mut Lane<P>,
         counts: &mut C,
         writer: &mut W,
-        stop: &S,
-        clock: &K,
-        piece: &[u8],
-        moment: u64,
+        arrived: Arrived<'p>,
     ) -> Option<ServeEnd>
-        requires piece { (0 < length piece.now) × (length piece.now ≤ PIECE_LIMIT) }
-        requires at { (w : Waiting) × AwaitsBy allowed Awaits self.old.engine w.reading }
-        requires spare { IfSome spare.old (λ engine. Awaits engine (in_head allowed [])) }
-        ensures turn { (w : Waiting) → AwaitsBy allowed Awaits self.old.engine w.reading → self.old.since ≡ w.since
-            → (coming : Coming) × (events : List Event) × (next : Waiting) × IsTaken piece.now coming × IsTurnBy coming w moment false events next × (next.end ≡ result)
-            × (result ≡ None → AwaitsBy allowed Awaits self.new.engine next.reading × (self.new.since ≡ next.since))
+        requires piece { (0 < length arrived.piece.now) × (length arrived.piece.now ≤ PIECE_LIMIT) }
+        requires at { (w : Waiting) × AwaitsBy arrived.allowed Awaits self.old.engine w.reading }
+        requires spare { IfSome spare.old (λ engine. Awaits engine (in_head arrived.allowed [])) }
+        ensures turn { (w : Waiting) → AwaitsBy arrived.allowed Awaits self.old.engine w.reading → self.old.since ≡ w.since
+            → (coming : Coming) × (events : List Event) × (next : Waiting) × IsTaken arrived.piece.now coming × IsTurnBy coming w arrived.moment false events next × (next.end ≡ result)
+            × (result ≡ None → AwaitsBy arrived.allowed Awaits self.new.engine next.reading × (self.new.since ≡ next.since))
             × Does (Submits P.takes P.refuses) (W.contents writer.old) (W.contents writer.new) (intake lane.old self.old.conn (C.counted counts.old)) (intake lane.new self.new.conn (C.counted counts.new)) events }
-        ensures spare { IfSome spare.new (λ engine. Awaits engine (in_head allowed [])) }
+        ensures spare { IfSome spare.new (λ engine. Awaits engine (in_head arrived.allowed [])) }
     {
+        let Arrived {
+            piece,
+            moment,
+            allowed,
+        } = arrived;
         let begins = self.is_between();
-        let Some(mut engine) = taken(alloc, allowed, &mut self.engine, spare) else {
+        let Some(mut engine) = taken(lent.alloc, allowed, &mut self.engine, spare) else {
             return Some(ServeEnd::NoMemory);
         };
         let (end, answered) = come(
-            alloc,
+            lent,
             &mut engine,
             lane,
             &mut self.conn,
             counts,
             writer,
-            stop,
-            clock,
             piece,
         );
         if let Some(why) = end {
@@ -200,15 +207,13 @@ fn taken(
 }
 
 /// Bytes came to an engine that awaits them: all is done that they bring.
-fn come<E: Engine, P: Port<Item>, C: Counter, W: Write, S: Stop, K: Clock>(
-    alloc: Global,
+fn come<'l, E: Engine, P: Port<Item>, C: Counter, W: Write, S: Stop, K: Clock>(
+    lent: &Lent<'l, S, K>,
     engine: &mut E,
     lane: &mut Lane<P>,
     conn: &mut Conn,
     counts: &mut C,
     writer: &mut W,
-    stop: &S,
-    clock: &K,
     piece: &[u8],
 ) -> (Option<ServeEnd>, bool)
     requires rests { IsAtRest E.awaits engine.old }
@@ -216,5 +221,5 @@ fn come<E: Engine, P: Port<Item>, C: Counter, W: Write, S: Stop, K: Clock>(
     ensures { (r : Reading) → E.awaits engine.old r → Settled E.awaits (Submits P.takes P.refuses) (W.contents writer.old) (W.contents writer.new) (intake lane.old conn.old (C.counted counts.old)) (intake lane.new conn.new (C.counted counts.new)) (grown r piece.now) result engine.new }
 {
     engine.take(piece);
-    settle(alloc, engine, lane, conn, counts, writer, stop, clock)
+    settle(lent, engine, lane, conn, counts, writer)
 }

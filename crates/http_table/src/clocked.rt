@@ -8,7 +8,7 @@ use crate::column::bytes_of;
 use crate::peers::{Mark, Ticks};
 use crate::trial::name_of;
 use drop_ledger::Report;
-use http_lane::{ServeEnd, Stop};
+use http_lane::{Lent, ServeEnd, Stop};
 use http_text::Allowed;
 use lane_queue::ListPort;
 use lane_seq::Lane;
@@ -153,16 +153,12 @@ pub fn holds<R: Wait + Clock>(rt: &R, alloc: Global, line: &str) -> Result<bool,
         end: None,
         is_short: false,
     };
-    serve_turns(
-        rt,
+    let lent = Lent {
         alloc,
-        PLAIN,
-        &mut script,
-        &mut lane,
-        &mut report,
-        &mark,
-        &clock,
-    );
+        stop: &mark,
+        clock: &clock,
+    };
+    serve_turns(rt, &lent, PLAIN, &mut script, &mut lane, &mut report);
     let wanted = end.split_once('@').unwrap_or((end, ""));
     let came = match script.end {
         Some((end, at)) => (name_of(end), at),

@@ -6,7 +6,7 @@ use crate::peers::{Mark, Tail, Ticks};
 use crate::row::Row;
 use crate::trial::{name_of, queued};
 use drop_ledger::{Count, Report};
-use http_lane::ServeEnd;
+use http_lane::{Lent, ServeEnd};
 use lane_queue::ListPort;
 use lane_seq::Lane;
 use lane_turns::{Done, Driver, Leaving, Next, serve_turns};
@@ -202,15 +202,18 @@ fn comes<R: Wait + Clock>(
         taken: 0,
         told: 0,
     };
+    let lent = Lent {
+        alloc,
+        stop: &mark,
+        clock: &clock,
+    };
     serve_turns(
         rt,
-        alloc,
+        &lent,
         row.setup.allowed,
         &mut deal,
         &mut lane,
         &mut report,
-        &mark,
-        &clock,
     );
     let mut right = true;
     for peer in &deal.peers {

@@ -2,7 +2,7 @@
 use crate::peers::{Mark, Page, Pieces, Ticks};
 use crate::row::{Outcome, Row, Setup};
 use drop_ledger::{Count, Report};
-use http_lane::{Reads, ServeEnd, serve};
+use http_lane::{Lent, Reads, ServeEnd, serve};
 use lane_queue::ListPort;
 use lane_seq::Lane;
 use otlp_types::Item;
@@ -107,15 +107,12 @@ pub fn served(alloc: Global, setup: &Setup, input: &[u8], way: Way) -> Result<Ca
     let clock = Ticks {
         asked: Cell::new(0),
     };
-    let end = serve(
+    let lent = Lent {
         alloc,
-        &mut lane,
-        &mut report,
-        &mut reader,
-        &mut page,
-        &mark,
-        &clock,
-    );
+        stop: &mark,
+        clock: &clock,
+    };
+    let end = serve(&lent, &mut lane, &mut report, &mut reader, &mut page);
     let (pushed, last, moment) = queued(lane);
     Ok(Came {
         end: name_of(end),

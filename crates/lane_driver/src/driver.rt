@@ -65,20 +65,29 @@ pub struct TurnDriver<'l, P: Stop> {
     now: u64,
 }
 
+/// A lane's share of the connections.
+#[derive(Drop)]
+pub struct Share {
+    /// How many may be open at most.
+    pub limit: usize,
+    /// How many each lane has.
+    pub loads: Arc<Loads, Global>,
+    /// The lane's number.
+    pub lane: usize,
+}
+
 impl<'l, P: Stop> TurnDriver<'l, P> {
-    /// One with no connection, which has `limit` connections open at most; `loads` has how many each lane has, and this is the
-    /// lane of that number.
+    /// One with no connection.
     pub fn new<R: Net + Clock>(
         rt: &R,
         alloc: Global,
         listener: &'l TcpListener,
         stop: &'l P,
-        limit: usize,
-        loads: Arc<Loads, Global>,
-        lane: usize,
+        share: Share,
     ) -> io::Result<Self>
-        ensures { IfOk result (λ driver. driver.links.limit ≡ limit) }
+        ensures { IfOk result (λ driver. driver.links.limit ≡ share.limit) }
     {
+        let Share { limit, loads, lane } = share;
         Ok(TurnDriver {
             alloc,
             stop,

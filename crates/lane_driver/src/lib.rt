@@ -16,7 +16,7 @@ mod readiness;
 mod traffic;
 mod walk;
 
-pub use driver::TurnDriver;
+pub use driver::{Share, TurnDriver};
 pub use link::{LINGER_BYTES, LINGER_LIMIT, WRITE_LIMIT};
 pub use loads::Loads;
 pub use outgoing::{Outgoing, Sent};

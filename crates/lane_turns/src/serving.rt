@@ -14,13 +14,12 @@ ghost use Rattle.http_text.specs.declared.allowed.Allowed.{Allowed};
 
 use crate::table::{Leaving, came, dismiss, leave, take, waited};
 use drop_ledger::Counter;
-use http_lane::{Clock as Moments, Exchange, PIECE_LIMIT, Requests, ServeEnd, Stop};
+use http_lane::{Arrived, Clock as Moments, Exchange, Lent, PIECE_LIMIT, Requests, ServeEnd, Stop};
 use http_text::Allowed;
 use lane_queue::Port;
 use lane_seq::Lane;
 use otlp_types::Item;
 use slab::Slab;
-use std::alloc::Global;
 use std::sync::Wait;
 use std::time::Clock;
 
@@ -80,8 +79,8 @@ pub trait Driver {
 }
 
 /// Does what is to be done next. The text is then what is to be sent.
-fn turn<P: Port<Item>, C: Counter, S: Stop, K: Moments>(
-    alloc: Global,
+fn turn<'l, P: Port<Item>, C: Counter, S: Stop, K: Moments>(
+    lent: &Lent<'l, S, K>,
     allowed: Allowed,
     next: Next,
     moment: u64,
@@ -91,8 +90,6 @@ fn turn<P: Port<Item>, C: Counter, S: Stop, K: Moments>(
     lane: &mut Lane<P>,
     counts: &mut C,
     text: &mut Vec<u8>,
-    stop: &S,
-    clock: &K,
 ) -> Done
     requires piece { length piece.now ≡ PIECE_LIMIT }
     requires next { FitsNext next PIECE_LIMIT }
@@ -109,27 +106,19 @@ fn turn<P: Port<Item>, C: Counter, S: Stop, K: Moments>(
             if !table.contains(key) {
                 return Done::Nothing;
             }
-            let end = came(
-                alloc,
-                allowed,
-                table,
-                key,
-                spare,
-                lane,
-                counts,
-                text,
-                stop,
-                clock,
-                &piece[..len],
+            let arrived = Arrived {
+                piece: &piece[..len],
                 moment,
-            );
+                allowed,
+            };
+            let end = came(lent, table, key, spare, lane, counts, text, arrived);
             turned(table, key, end)
         }
         Next::Look { key } => {
             if !table.contains(key) {
                 return Done::Nothing;
             }
-            let end = waited(alloc, table, key, lane, counts, text, stop, moment);
+            let end = waited(lent.alloc, table, key, lane, counts, text, lent.stop, moment);
             turned(table, key, end)
         }
         Next::Leave { key, how } => {
@@ -187,31 +176,36 @@ fn is_full(done: &Done) -> bool
 
 /// Serves connections as the driver says, until it says to end and none is open. It ends at once where a count would have
 /// passed 2^64-1, and says whether it did. `allowed`: what is allowed to clients.
-pub fn serve_turns<D: Driver, P: Port<Item>, C: Counter, S: Stop, K: Moments, R: Wait + Clock>(
+pub fn serve_turns<
+    'l,
+    D: Driver,
+    P: Port<Item>,
+    C: Counter,
+    S: Stop,
+    K: Moments,
+    R: Wait + Clock,
+>(
     rt: &R,
-    alloc: Global,
+    lent: &Lent<'l, S, K>,
     allowed: Allowed,
     driver: &mut D,
     lane: &mut Lane<P>,
     counts: &mut C,
-    stop: &S,
-    clock: &K,
 ) -> bool
     ensures served { ServesTurns (Submits P.takes P.refuses) allowed (lane_now lane.old (C.counted counts.old)) (lane_now lane.new (C.counted counts.new)) result }
     ensures driven { IsDriven D.asks D.hears (Submits P.takes P.refuses) allowed driver.old (lane_now lane.old (C.counted counts.old)) driver.new (lane_now lane.new (C.counted counts.new)) result }
 {
-    let mut table = Slab::new(alloc);
+    let mut table = Slab::new(lent.alloc);
     let mut spare = None;
     let mut piece = [0; PIECE_LIMIT];
-    let mut text = Vec::new(alloc);
+    let mut text = Vec::new(lent.alloc);
     for _ in rt.forever() {
         let (next, moment) = driver.next(rt, &mut piece);
         if is_over(next, &table) {
             return false;
         }
         let done = turn(
-            alloc, allowed, next, moment, &piece, &mut table, &mut spare, lane, counts, &mut text,
-            stop, clock,
+            lent, allowed, next, moment, &piece, &mut table, &mut spare, lane, counts, &mut text,
         );
         driver.done(done, &text);
         if is_full(&done) {

@@ -11,7 +11,7 @@ ghost use Rattle.lane_turns.specs.Driven.{AnyOne, TurnAt, TakesOne, Dismisses, c
 ghost use Rattle.http_text.specs.declared.allowed.Allowed.{Allowed};
 
 use drop_ledger::Counter;
-use http_lane::{Clock, Exchange, PIECE_LIMIT, Requests, ServeEnd, Stop};
+use http_lane::{Arrived, Clock, Exchange, Lent, PIECE_LIMIT, Requests, ServeEnd, Stop};
 use http_text::Allowed;
 use lane_queue::Port;
 use lane_seq::Lane;
@@ -20,34 +20,28 @@ use slab::Slab;
 use std::alloc::Global;
 use std::io::Write;
 
-/// The connection at this key has a turn that brought these bytes. Where that ends it, it is open no more.
-pub fn came<P: Port<Item>, C: Counter, W: Write, S: Stop, K: Clock>(
-    alloc: Global,
-    allowed: Allowed,
+/// The connection at this key has a turn that brought bytes. Where that ends it, it is open no more.
+pub(crate) fn came<'l, 'p, P: Port<Item>, C: Counter, W: Write, S: Stop, K: Clock>(
+    lent: &Lent<'l, S, K>,
     open: &mut Slab<Exchange>,
     key: usize,
     spare: &mut Option<Requests>,
     lane: &mut Lane<P>,
     counts: &mut C,
     writer: &mut W,
-    stop: &S,
-    clock: &K,
-    piece: &[u8],
-    moment: u64,
+    arrived: Arrived<'p>,
 ) -> Option<ServeEnd>
-    requires piece { (0 < length piece.now) × (length piece.now ≤ PIECE_LIMIT) }
+    requires piece { (0 < length arrived.piece.now) × (length arrived.piece.now ≤ PIECE_LIMIT) }
     requires open { ContainsKey «open».old key }
-    requires at { (x : Exchange) → get «open».old key ≡ Some x → (w : Waiting) × AwaitsBy allowed Awaits x.engine w.reading }
-    requires spare { IfSome spare.old (λ engine. Awaits engine (in_head allowed [])) }
-    ensures fits { GoesOn (Submits P.takes P.refuses) allowed (get «open».old) (lane_now lane.old (C.counted counts.old)) (get «open».new) (lane_now lane.new (C.counted counts.new)) (is_full_end result)
-        (TurnAt allowed (get «open».old) (get «open».new) key moment AnyOne (IsTaken piece.now) (Appends (W.contents writer.old) (W.contents writer.new)) result) }
+    requires at { (x : Exchange) → get «open».old key ≡ Some x → (w : Waiting) × AwaitsBy arrived.allowed Awaits x.engine w.reading }
+    requires spare { IfSome spare.old (λ engine. Awaits engine (in_head arrived.allowed [])) }
+    ensures fits { GoesOn (Submits P.takes P.refuses) arrived.allowed (get «open».old) (lane_now lane.old (C.counted counts.old)) (get «open».new) (lane_now lane.new (C.counted counts.new)) (is_full_end result)
+        (TurnAt arrived.allowed (get «open».old) (get «open».new) key arrived.moment AnyOne (IsTaken arrived.piece.now) (Appends (W.contents writer.old) (W.contents writer.new)) result) }
     ensures others { (other : ℕ) → other ≢ key → get «open».new other ≡ get «open».old other }
-    ensures spare { IfSome spare.new (λ engine. Awaits engine (in_head allowed [])) }
+    ensures spare { IfSome spare.new (λ engine. Awaits engine (in_head arrived.allowed [])) }
 {
     let mut exchange = open.remove(key);
-    let end = exchange.came(
-        alloc, allowed, spare, lane, counts, writer, stop, clock, piece, moment,
-    );
+    let end = exchange.came(lent, spare, lane, counts, writer, arrived);
     if let Some(why) = end {
         return Some(why);
     }
@@ -67,7 +61,7 @@ pub enum Leaving {
 }
 
 /// The connection at this key has a turn that brought nothing. Where that ends it, it is open no more.
-pub fn waited<P: Port<Item>, C: Counter, W: Write, S: Stop>(
+pub(crate) fn waited<P: Port<Item>, C: Counter, W: Write, S: Stop>(
     alloc: Global,
     open: &mut Slab<Exchange>,
     key: usize,

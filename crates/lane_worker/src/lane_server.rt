@@ -6,13 +6,12 @@ ghost use Rattle.lane_worker.specs.Serving.{LaneAt, lane_at};
 use crate::feed::Feed;
 use crate::lane_worker::serve_all;
 use drop_ledger::Counter;
-use http_lane::{Clock as MomentClock, Stop};
+use http_lane::{Clock as MomentClock, Lent, Stop};
 use http_text::Allowed;
 use lane_queue::{Gate, Room, SenderPort};
 use lane_seq::Lane;
 use lane_turns::{Driver, serve_turns};
 use otlp_types::Item;
-use std::alloc::Global;
 use std::sync::Wait;
 use std::time::Clock;
 
@@ -23,16 +22,23 @@ pub trait LaneServer {
     ghost serves: { ℕ → Self → LaneAt → Self → LaneAt → Bool → Type 0 };
 
     /// Serves connections until there are none any more, or a count would have passed 2^64-1, and says whether that was so.
-    fn serve_all<'r, C: Room, K: Counter, G: Gate, S: Stop, M: MomentClock, R: Wait + Clock>(
+    fn serve_all<
+        'l,
+        'r,
+        C: Room,
+        K: Counter,
+        G: Gate,
+        S: Stop,
+        M: MomentClock,
+        R: Wait + Clock,
+    >(
         &mut self,
         rt: &'r R,
-        alloc: Global,
+        lent: &Lent<'l, S, M>,
         number: u16,
         lane: &mut Lane<SenderPort<'r, Item, C, R>>,
         counter: &mut K,
         gate: &G,
-        stop: &S,
-        clock: &M,
     ) -> bool
         ensures served { serves C.capacity self.old (lane_at lane.old (K.counted counter.old)) self.new (lane_at lane.new (K.counted counter.new)) result }
         ensures same_queues { queues lane.new.ports ≡ queues lane.old.ports };
@@ -49,28 +55,25 @@ impl<F: Feed> LaneServer for OneByOne<F> {
 
     ghost serves = { λ capacity old before new after is_full. HasServed F.gives (λ x. connection (F.Reader.given x.0) (F.Writer.contents x.1)) capacity old.feed before new.feed after is_full };
 
-    fn serve_all<'r, C: Room, K: Counter, G: Gate, S: Stop, M: MomentClock, R: Wait + Clock>(
+    fn serve_all<
+        'l,
+        'r,
+        C: Room,
+        K: Counter,
+        G: Gate,
+        S: Stop,
+        M: MomentClock,
+        R: Wait + Clock,
+    >(
         &mut self,
         rt: &'r R,
-        alloc: Global,
+        lent: &Lent<'l, S, M>,
         number: u16,
         lane: &mut Lane<SenderPort<'r, Item, C, R>>,
         counter: &mut K,
         gate: &G,
-        stop: &S,
-        clock: &M,
     ) -> bool {
-        serve_all(
-            rt,
-            alloc,
-            number,
-            lane,
-            &mut self.feed,
-            counter,
-            gate,
-            stop,
-            clock,
-        )
+        serve_all(rt, lent, number, lane, &mut self.feed, counter, gate)
     }
 }
 
@@ -87,26 +90,31 @@ impl<D: Driver> LaneServer for ByTurns<D> {
 
     ghost serves = { λ capacity old before new after is_full. ServesMany old.allowed capacity before after is_full };
 
-    fn serve_all<'r, C: Room, K: Counter, G: Gate, S: Stop, M: MomentClock, R: Wait + Clock>(
+    fn serve_all<
+        'l,
+        'r,
+        C: Room,
+        K: Counter,
+        G: Gate,
+        S: Stop,
+        M: MomentClock,
+        R: Wait + Clock,
+    >(
         &mut self,
         rt: &'r R,
-        alloc: Global,
+        lent: &Lent<'l, S, M>,
         _number: u16,
         lane: &mut Lane<SenderPort<'r, Item, C, R>>,
         counter: &mut K,
         _gate: &G,
-        stop: &S,
-        clock: &M,
     ) -> bool {
         serve_turns(
             rt,
-            alloc,
+            lent,
             self.allowed,
             &mut self.driver,
             lane,
             counter,
-            stop,
-            clock,
         )
     }
 }

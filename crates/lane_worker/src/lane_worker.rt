@@ -6,11 +6,10 @@ ghost use Rattle.lane_worker.specs.Serving.{LaneAt, connection, lane_at, ServedO
 use crate::feed::Feed;
 use crate::lane_server::LaneServer;
 use drop_ledger::Counter;
-use http_lane::{Clock as MomentClock, ServeEnd, Source, Stop, serve};
+use http_lane::{Clock as MomentClock, Lent, ServeEnd, Source, Stop, serve};
 use lane_queue::{Gate, Place, Room, Sender, SenderPort};
 use lane_seq::Lane;
 use otlp_types::Item;
-use std::alloc::Global;
 use std::io::Write;
 use std::sync::Wait;
 use std::time::Clock;
@@ -24,9 +23,19 @@ pub struct LaneEnd<C: Room> {
     pub is_full: bool,
 }
 
-/// Serves the lane's connections, and then pushes the lane's End to each shard. `number` is the lane's, and `room` has room
-/// for its ends by shard.
+/// What a lane's thread works on.
+#[derive(Drop)]
+pub struct LaneTask<'r, C: Room, R: Wait> {
+    /// The lane's number.
+    pub number: u16,
+    pub lane: Lane<SenderPort<'r, Item, C, R>>,
+    /// Room for the lane's ends by shard.
+    pub room: Vec<Sender<Item, C>>,
+}
+
+/// Serves the lane's connections, and then pushes the lane's End to each shard.
 pub fn work<
+    'l,
     'r,
     V: LaneServer,
     C: Room,
@@ -37,25 +46,25 @@ pub fn work<
     R: Wait + Clock,
 >(
     rt: &'r R,
-    alloc: Global,
-    number: u16,
-    lane: Lane<SenderPort<'r, Item, C, R>>,
-    room: Vec<Sender<Item, C>>,
+    lent: &Lent<'l, S, M>,
+    task: LaneTask<'r, C, R>,
     server: &mut V,
     counter: &mut K,
     gate: &G,
-    stop: &S,
-    clock: &M,
 ) -> LaneEnd<C>
-    requires number { lane.number ≡ number }
-    requires room { (room.items ≡ []) × (length lane.ports ≤ vec_capacity room) }
-    ensures works { (after : LaneAt) × V.serves C.capacity server.old (lane_at lane.entry (K.counted counter.old)) server.new after result.is_full
+    requires number { task.lane.number ≡ task.number }
+    requires room { (task.room.items ≡ []) × (length task.lane.ports ≤ vec_capacity task.room) }
+    ensures works { (after : LaneAt) × V.serves C.capacity server.old (lane_at task.entry.lane (K.counted counter.old)) server.new after result.is_full
         × (after.counted ≡ K.counted counter.new)
-        × (result.senders.items ≡ map (with_end number) after.lane.ports) }
-    ensures same_queues { queues result.senders.items ≡ queues lane.entry.ports }
+        × (result.senders.items ≡ map (with_end task.entry.number) after.lane.ports) }
+    ensures same_queues { queues result.senders.items ≡ queues task.entry.lane.ports }
 {
-    let mut lane = lane;
-    let is_full = server.serve_all(rt, alloc, number, &mut lane, counter, gate, stop, clock);
+    let LaneTask {
+        number,
+        mut lane,
+        room,
+    } = task;
+    let is_full = server.serve_all(rt, lent, number, &mut lane, counter, gate);
     let senders = end_all(rt, number, lane.end().ports, room);
     LaneEnd { senders, is_full }
 }
@@ -81,7 +90,8 @@ fn end_all<'r, C: Room, R: Wait + Clock>(
 
 /// Serves what the feed gives until it gives nothing, one connection after the other, and says whether a count would have
 /// passed 2^64-1. After 2^64-1 connections, or once a count would have passed that, no further connection is asked for.
-pub fn serve_all<
+pub(crate) fn serve_all<
+    'l,
     'r,
     F: Feed,
     C: Room,
@@ -92,14 +102,12 @@ pub fn serve_all<
     R: Wait + Clock,
 >(
     rt: &R,
-    alloc: Global,
+    lent: &Lent<'l, S, M>,
     number: u16,
     lane: &mut Lane<SenderPort<'r, Item, C, R>>,
     feed: &mut F,
     counter: &mut K,
     gate: &G,
-    stop: &S,
-    clock: &M,
 ) -> bool
     ensures served { HasServed F.gives (λ x. connection (F.Reader.given x.0) (F.Writer.contents x.1)) C.capacity
         feed.old (lane_at lane.old (K.counted counter.old)) feed.new (lane_at lane.new (K.counted counter.new)) result }
@@ -112,9 +120,7 @@ pub fn serve_all<
         let Some((reader, writer)) = feed.next(rt) else {
             return false;
         };
-        let end = serve_next(
-            alloc, number, lane, counter, reader, writer, gate, stop, clock,
-        );
+        let end = serve_next(lent, number, lane, counter, reader, writer, gate);
         if is_book_full(&end) {
             return true;
         }
@@ -134,6 +140,7 @@ fn is_book_full(end: &ServeEnd) -> bool
 
 /// Serves one connection.
 fn serve_next<
+    'l,
     'r,
     A: Source + Drop,
     W: Write + Drop,
@@ -144,15 +151,13 @@ fn serve_next<
     M: MomentClock,
     R: Wait + Clock,
 >(
-    alloc: Global,
+    lent: &Lent<'l, S, M>,
     number: u16,
     lane: &mut Lane<SenderPort<'r, Item, C, R>>,
     counter: &mut K,
     reader: A,
     writer: W,
     gate: &G,
-    stop: &S,
-    clock: &M,
 ) -> ServeEnd
     requires { lane.old.connected < 2 ^ 64 - 1 }
     ensures served { ServedOne C.capacity (connection (A.given reader) (W.contents writer)) (lane_at lane.old (K.counted counter.old)) (lane_at lane.new (K.counted counter.new)) result }
@@ -165,7 +170,7 @@ fn serve_next<
         lane: number,
         ordinal,
     });
-    let end = serve(alloc, lane, counter, &mut reader, &mut writer, stop, clock);
+    let end = serve(lent, lane, counter, &mut reader, &mut writer);
     gate.reach(Place::Served {
         lane: number,
         ordinal,

@@ -12,5 +12,5 @@ mod ticker;
 
 pub use feed::{Feed, Ticks};
 pub use lane_server::{ByTurns, LaneServer, OneByOne};
-pub use lane_worker::{LaneEnd, work};
+pub use lane_worker::{LaneEnd, LaneTask, work};
 pub use ticker::tick;

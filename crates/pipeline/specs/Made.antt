@@ -19,6 +19,19 @@ abbrev pub NumberedFrom : (first : ℕ) → List ℕ → Type 0
 NumberedFrom first [] = Unit {0}
 NumberedFrom first (number ∷ numbers) = (number ≡ first) × NumberedFrom (first + 1) numbers
 
+-- a configuration by which a run can be begun
+abbrev pub CanBegin : Config → Type 0
+CanBegin config = record {
+  waits : 0 < config.decision_wait;
+  some_lane : 0 < config.lanes;
+  some : 0 < config.shards;
+  few : config.shards ≤ 64;
+  traces : config.shards ≤ config.num_traces;
+  queue_room : 0 < config.queue_capacity;
+  export_room : 0 < config.export_capacity;
+  batch_room : 0 < config.send_batch_size;
+}
+
 -- a configuration by which shards can be made, over queues of these capacities: each keeps a trace, and they are few
 abbrev pub CanRun : Config → (queue export : ℕ) → Type 0
 CanRun config queue export = record {

@@ -62,7 +62,7 @@ impl<'s, S: Sink + Drop, D: Room, G: Gate, R: Wait + Clock> Job for ExporterJob<
         let is_full = end.tally.is_full();
         ExporterLeft {
             exporter: end.exporter,
-            receiver: end.receiver,
+            receiver: end.inbox,
             counts: end.tally.end().end(),
             is_full,
         }

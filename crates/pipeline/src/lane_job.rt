@@ -4,11 +4,11 @@ ghost use Rattle.run_weave.specs.Jobs.{LaneDid};
 
 use crate::telling::Told;
 use drop_ledger::Report;
-use http_lane::{Clock as MomentClock, Stop};
+use http_lane::{Clock as MomentClock, Lent, Stop};
 use job_threads::Job;
 use lane_queue::{Gate, Room, Sender, SenderPort};
 use lane_seq::Lane;
-use lane_worker::LaneServer;
+use lane_worker::{LaneServer, LaneTask};
 use otlp_types::Item;
 use std::alloc::Global;
 use std::sync::Wait;
@@ -65,18 +65,9 @@ impl<'s, V: LaneServer + Drop, C: Room, G: Gate, P: Stop, M: MomentClock, R: Wai
             clock,
         } = self;
         let mut counts = Told::new(gate);
-        let end = lane_worker::work(
-            rt,
-            alloc,
-            number,
-            lane,
-            room,
-            &mut feed,
-            &mut counts,
-            gate,
-            stop,
-            clock,
-        );
+        let lent = Lent { alloc, stop, clock };
+        let task = LaneTask { number, lane, room };
+        let end = lane_worker::work(rt, &lent, task, &mut feed, &mut counts, gate);
         let report = counts.end();
         LaneLeft {
             senders: end.senders,

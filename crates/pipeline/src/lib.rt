@@ -20,4 +20,5 @@ mod telling;
 mod ticker_job;
 
 pub use fault::RunFault;
+pub use lent::RunContext;
 pub use running::{run, run_by_turns};

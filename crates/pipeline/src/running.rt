@@ -3,7 +3,7 @@ ghost use Rattle.std.specs.Prelude.{◌≡◌, ◌-◌, ◌^◌, ◌<◌, ◌≤
 ghost use Rattle.std.specs.List.{list_any};
 ghost use Rattle.lane_worker.specs.Serving.{connection};
 ghost use Rattle.run_weave.specs.Received.{receives_one_by_one, receives_by_turns};
-ghost use Rattle.pipeline.specs.Made.{CanRun};
+ghost use Rattle.pipeline.specs.Made.{CanBegin, CanRun};
 ghost use Rattle.pipeline.specs.Outcome.{SinkAnswers, SinkWent, TellsCounts, TellsSink};
 ghost use Rattle.pipeline.specs.Promise.{HasWorked, WorkedTells, ServersTell, RunTells};
 ghost use Rattle.tsc_config.specs.declared.config.Config.{Config};
@@ -12,7 +12,7 @@ use crate::exporter_job::ExporterJob;
 use crate::fault::RunFault;
 use crate::gathering::{Counted, gather_lanes, gather_shards};
 use crate::joining::join_all;
-use crate::lent::Lent;
+use crate::lent::{Lent, RunContext};
 use crate::making::{Made, Rooms, make};
 use drop_ledger::{Report, total};
 use http_lane::{Clock as MomentClock, Stop};
@@ -35,10 +35,11 @@ use tsc_config::Config;
 /// Runs the pipeline until every feed and the ticks have ended, and gives the sink back: a thread for each lane, each shard
 /// and the ticker, and the exporter on this one.
 ///
-/// There is one feed for each lane, which serves its connections one after the other. `gate`, `stop` and `clock` are lent to
-/// all lanes, the gate to the shards too. The sink has the lines of the batches that were handed over; the report has the
+/// There is one feed for each lane, which serves its connections one after the other. The context's gate, mark and clock are
+/// lent to all lanes, the gate to the shards too. The sink has the lines of the batches that were handed over; the report has the
 /// counts of all threads.
 pub fn run<
+    's,
     F: Feed + Send + Drop,
     T: Ticks + Send + Drop,
     S: Sink + Drop,
@@ -47,33 +48,23 @@ pub fn run<
     M: MomentClock + Sync,
     R: Threads + Wait + Clock + RandomSource + Sync,
 >(
-    rt: &R,
-    alloc: Global,
+    context: &RunContext<'s, G, P, M, R>,
     config: Config,
     feeds: Vec<F>,
     ticks: T,
     sink: S,
-    gate: &G,
-    stop: &P,
-    clock: &M,
 ) -> (S, Result<Report, RunFault>)
 where
     F::Reader: Send,
     F::Writer: Send,
-    requires waits { 0 < config.decision_wait }
-    requires lanes { 0 < config.lanes }
-    requires shards { (0 < config.shards) × (config.shards ≤ 64) }
-    requires traces { config.shards ≤ config.num_traces }
-    requires queue { 0 < config.queue_capacity }
-    requires export { 0 < config.export_capacity }
-    requires batch { 0 < config.send_batch_size }
+    requires config { CanBegin config }
     requires feeds { vec_len feeds ≡ config.lanes }
     requires failures { S.failures sink < 2 ^ 64 - 1 }
     ensures sink { SinkAnswers (S.taken sink) (S.failures sink) (S.taken result.0) (S.failures result.0) result.1 }
     ensures ran { RunTells (receives_one_by_one (λ (s : OneByOne F). s.feed) F.gives (λ x. connection (F.Reader.given x.0) (F.Writer.contents x.1))) T.gives config (map (λ f. record { feed = f }) feeds.items) ticks (S.taken sink) (S.failures sink) (S.taken result.0) (S.failures result.0) result.1 }
 {
-    match one_by_one(alloc, feeds) {
-        Ok(servers) => run_servers(rt, alloc, config, servers, ticks, sink, gate, stop, clock),
+    match one_by_one(context.alloc, feeds) {
+        Ok(servers) => run_servers(context, config, servers, ticks, sink),
         Err(_) => (sink, Err(RunFault::NoMemory)),
     }
 }
@@ -92,6 +83,7 @@ fn one_by_one<F: Drop>(alloc: Global, feeds: Vec<F>) -> Result<Vec<OneByOne<F>>,
 /// The same where each lane serves many connections at once, turn by turn, as its driver says. There is one driver for each
 /// lane.
 pub fn run_by_turns<
+    's,
     D: Driver + Send + Drop,
     T: Ticks + Send + Drop,
     S: Sink + Drop,
@@ -100,33 +92,24 @@ pub fn run_by_turns<
     M: MomentClock + Sync,
     R: Threads + Wait + Clock + RandomSource + Sync,
 >(
-    rt: &R,
-    alloc: Global,
+    context: &RunContext<'s, G, P, M, R>,
     config: Config,
     drivers: Vec<ByTurns<D>>,
     ticks: T,
     sink: S,
-    gate: &G,
-    stop: &P,
-    clock: &M,
 ) -> (S, Result<Report, RunFault>)
-    requires waits { 0 < config.decision_wait }
-    requires lanes { 0 < config.lanes }
-    requires shards { (0 < config.shards) × (config.shards ≤ 64) }
-    requires traces { config.shards ≤ config.num_traces }
-    requires queue { 0 < config.queue_capacity }
-    requires export { 0 < config.export_capacity }
-    requires batch { 0 < config.send_batch_size }
+    requires config { CanBegin config }
     requires drivers { vec_len drivers ≡ config.lanes }
     requires failures { S.failures sink < 2 ^ 64 - 1 }
     ensures sink { SinkAnswers (S.taken sink) (S.failures sink) (S.taken result.0) (S.failures result.0) result.1 }
     ensures ran { RunTells (receives_by_turns (λ (s : ByTurns D). s.allowed)) T.gives config drivers.items ticks (S.taken sink) (S.failures sink) (S.taken result.0) (S.failures result.0) result.1 }
 {
-    run_servers(rt, alloc, config, drivers, ticks, sink, gate, stop, clock)
+    run_servers(context, config, drivers, ticks, sink)
 }
 
 /// The same, whatever serves the lanes' connections.
 fn run_servers<
+    's,
     V: LaneServer + Send + Drop,
     T: Ticks + Send + Drop,
     S: Sink + Drop,
@@ -135,35 +118,25 @@ fn run_servers<
     M: MomentClock + Sync,
     R: Threads + Wait + Clock + RandomSource + Sync,
 >(
-    rt: &R,
-    alloc: Global,
+    context: &RunContext<'s, G, P, M, R>,
     config: Config,
     servers: Vec<V>,
     ticks: T,
     sink: S,
-    gate: &G,
-    stop: &P,
-    clock: &M,
 ) -> (S, Result<Report, RunFault>)
-    requires waits { 0 < config.decision_wait }
-    requires lanes { 0 < config.lanes }
-    requires shards { (0 < config.shards) × (config.shards ≤ 64) }
-    requires traces { config.shards ≤ config.num_traces }
-    requires queue { 0 < config.queue_capacity }
-    requires export { 0 < config.export_capacity }
-    requires batch { 0 < config.send_batch_size }
+    requires config { CanBegin config }
     requires servers { vec_len servers ≡ config.lanes }
     requires failures { S.failures sink < 2 ^ 64 - 1 }
     ensures sink { SinkAnswers (S.taken sink) (S.failures sink) (S.taken result.0) (S.failures result.0) result.1 }
     ensures ran { ServersTell V.serves T.gives config servers.items ticks (S.taken sink) (S.failures sink) (S.taken result.0) (S.failures result.0) result.1 }
 {
     let lines = LineSink::new(sink);
-    let exporter = match Exporter::new(alloc, config.send_batch_size, config.shards, lines) {
+    let exporter = match Exporter::new(context.alloc, config.send_batch_size, config.shards, lines) {
         Ok(exporter) => exporter,
         Err((lines, _)) => return (lines.end(), Err(RunFault::NoMemory)),
     };
     let (exporter, answer) = run_in::<V, T, S, G, P, M, Brand, Brand, R>(
-        rt, alloc, &config, servers, ticks, exporter, gate, stop, clock,
+        context, &config, servers, ticks, exporter,
     );
     (exporter.end().end(), answer)
 }
@@ -171,6 +144,7 @@ fn run_servers<
 /// Runs the threads, and answers the report. The key by which trace ids are hashed is taken first: where the system has no
 /// random source, nothing is run, and `NoMemory` is answered.
 fn run_in<
+    's,
     V: LaneServer + Send + Drop,
     T: Ticks + Send + Drop,
     S: Sink + Drop,
@@ -181,15 +155,11 @@ fn run_in<
     D: Room + Send + Sync,
     R: Threads + Wait + Clock + RandomSource + Sync,
 >(
-    rt: &R,
-    alloc: Global,
+    context: &RunContext<'s, G, P, M, R>,
     config: &Config,
     servers: Vec<V>,
     ticks: T,
     exporter: Exporter<S>,
-    gate: &G,
-    stop: &P,
-    clock: &M,
 ) -> (Exporter<S>, Result<Report, RunFault>)
     requires runs { CanRun config.now C.capacity D.capacity }
     requires servers { vec_len servers ≡ config.now.lanes }
@@ -198,16 +168,16 @@ fn run_in<
     ensures sink { SinkAnswers exporter.sink.taken exporter.sink.failures result.0.sink.taken result.0.sink.failures result.1 }
     ensures ran { WorkedTells V.serves T.gives config.now servers.items ticks exporter result.0 result.1 }
 {
-    let Ok(hashing) = TraceHashing::keyed(rt) else {
+    let Ok(hashing) = TraceHashing::keyed(context.rt) else {
         return (exporter, Err(RunFault::NoMemory));
     };
     let lent = Lent {
-        rt,
-        alloc,
+        rt: context.rt,
+        alloc: context.alloc,
         hashing,
-        gate,
-        stop,
-        clock,
+        gate: context.gate,
+        stop: context.stop,
+        clock: context.clock,
     };
     match run_over::<V, T, S, G, P, M, C, D, R>(&lent, config, servers, ticks, exporter) {
         Ok((exporter, counted)) => {

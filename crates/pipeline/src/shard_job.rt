@@ -7,6 +7,7 @@ use job_threads::Job;
 use lane_queue::{Gate, Receiver, Room, Sender};
 use otlp_types::{Item, Shipment};
 use shard_core::Shard;
+use shard_worker::Turns;
 use shared_budget::BudgetSeat;
 use std::sync::Wait;
 use std::time::Clock;
@@ -61,8 +62,14 @@ impl<'s, C: Room, D: Room, G: Gate, R: Wait + Clock> Job for ShardJob<'s, C, D, 
             sender,
             gate,
         } = self;
-        let tally = Tally::new(Told::new(gate));
-        let end = shard_worker::work(rt, number, shard, seat, receiver, sender, tally, gate);
+        let turns = Turns {
+            number,
+            shard,
+            limiter: seat,
+            sender,
+            tally: Tally::new(Told::new(gate)),
+        };
+        let end = shard_worker::work(rt, turns, receiver, gate);
         let is_full = end.tally.is_full();
         ShardLeft {
             seat: end.limiter,

@@ -118,21 +118,23 @@ impl MomentClock for Standing {
 /// Room for the lines of a few small spans, in bytes.
 const ROOM: usize = 4096;
 
-/// Keeps what is written.
+/// Keeps what is written, unless it is broken: then each write fails.
 #[derive(Drop)]
 pub struct MemorySink {
     pub taken: Vec<u8>,
     failures: u64,
+    is_broken: bool,
 }
 
 impl MemorySink {
     /// A sink that has taken nothing, with room for the lines of a few small spans.
-    pub fn new(alloc: Global) -> Result<Self, AllocError>
+    pub fn new(alloc: Global, is_broken: bool) -> Result<Self, AllocError>
         ensures { IfOk result (λ sink. sink.failures ≡ 0) }
     {
         Ok(MemorySink {
             taken: Vec::with_capacity(alloc, ROOM)?,
             failures: 0,
+            is_broken,
         })
     }
 }
@@ -146,7 +148,7 @@ impl Sink for MemorySink {
         if bytes.is_empty() {
             return Ok(0);
         }
-        if self.taken.extend_from_slice(bytes).is_err() {
+        if self.is_broken || self.taken.extend_from_slice(bytes).is_err() {
             self.failures += 1;
             return Err(SinkFault::Failed);
         }

@@ -6,7 +6,7 @@ use crate::gates::{LanesMeet, Places, ShardsBeginEarly, ShardsMeet};
 use crate::memory::{Held, Mark, MemoryFeed, MemorySink, NoTicks, Standing};
 use drop_ledger::{Count, Report};
 use lane_queue::{Gate, OpenGate};
-use pipeline::{RunFault, run};
+use pipeline::{RunContext, RunFault, run};
 use span_ids::Reason;
 use std::alloc::{AllocError, Global};
 use std::random::RandomSource;
@@ -86,10 +86,15 @@ fn run_two<G: Gate + Sync, R: Threads + Wait + Clock + RandomSource + Sync>(
     let stop = Mark {
         is_set: AtomicBool::new(false),
     };
-    let sink = MemorySink::new(alloc)?;
-    let (sink, answer) = run(
-        rt, alloc, config, feeds, NoTicks, sink, gate, &stop, &Standing,
-    );
+    let sink = MemorySink::new(alloc, false)?;
+    let context = RunContext {
+        rt,
+        alloc,
+        gate,
+        stop: &stop,
+        clock: &Standing,
+    };
+    let (sink, answer) = run(&context, config, feeds, NoTicks, sink);
     Ok((sink.taken, answer))
 }
 

@@ -1,12 +1,12 @@
-//! One lane: a reader that fails, a run that is stopped before it begins, and one that may be short of memory, each
-//! of whose allocations `tests/refused_memory/refused.py` refuses in turn.
+//! One lane: a reader that fails, a sink that does, a run that is stopped before it begins, and one that may be short of
+//! memory, each of whose allocations `tests/refused_memory/refused.py` refuses in turn.
 ghost use Rattle.tsc_config.specs.Values.{InRange};
 
 use crate::memory::{Held, Mark, MemoryFeed, MemorySink, NoTicks, Standing};
 use crate::overlap::{A, configured, numbers, request};
 use drop_ledger::Report;
 use lane_queue::OpenGate;
-use pipeline::{RunFault, run};
+use pipeline::{RunContext, RunFault, run};
 use std::alloc::Global;
 use std::random::RandomSource;
 use std::sync::Wait;
@@ -38,6 +38,7 @@ fn run_one<R: Threads + Wait + Clock + RandomSource + Sync>(
     config: Config,
     connections: Vec<Held>,
     is_stopped: bool,
+    is_broken: bool,
 ) -> Result<(MemorySink, Result<Report, RunFault>), Fail>
     requires { InRange config }
 {
@@ -49,10 +50,15 @@ fn run_one<R: Threads + Wait + Clock + RandomSource + Sync>(
     let stop = Mark {
         is_set: AtomicBool::new(is_stopped),
     };
-    let sink = MemorySink::new(alloc)?;
-    Ok(run(
-        rt, alloc, config, feeds, NoTicks, sink, &OpenGate, &stop, &Standing,
-    ))
+    let sink = MemorySink::new(alloc, is_broken)?;
+    let context = RunContext {
+        rt,
+        alloc,
+        gate: &OpenGate,
+        stop: &stop,
+        clock: &Standing,
+    };
+    Ok(run(&context, config, feeds, NoTicks, sink))
 }
 
 /// A reader that fails in a body ends its own connection alone: the next one is served.
@@ -65,7 +71,7 @@ fn reader_fails_in_a_body(rt: HostRuntime) -> Result<(), Fail> {
     let mut connections = Vec::new(alloc);
     connections.push(Held::whole(request(alloc, A, 1)?))?;
     connections.push(Held::broken(cut))?;
-    let (sink, answer) = run_one(&rt, alloc, config, connections, false)?;
+    let (sink, answer) = run_one(&rt, alloc, config, connections, false, false)?;
     let Ok(report) = answer else {
         return Err(Fail::from("a fault"));
     };
@@ -81,11 +87,29 @@ fn stopped_before_it_begins(rt: HostRuntime) -> Result<(), Fail> {
     let config = configured(alloc, ALL)?;
     let mut connections = Vec::new(alloc);
     connections.push(Held::whole(request(alloc, A, 1)?))?;
-    let (sink, answer) = run_one(&rt, alloc, config, connections, true)?;
+    let (sink, answer) = run_one(&rt, alloc, config, connections, true, false)?;
     let Ok(report) = answer else {
         return Err(Fail::from("a fault"));
     };
     assert_eq!(rt; numbers(&report), [0, 0, 0, 0, 0, 0, 0, 0, 0]);
+    assert!(rt; sink.taken.is_empty());
+    Ok(())
+}
+
+/// A sink whose first write fails has nothing, and each span is counted for it.
+#[test]
+fn sink_fails_at_its_first_write(rt: HostRuntime) -> Result<(), Fail> {
+    let alloc = rt.alloc();
+    let config = configured(alloc, ALL)?;
+    let mut connections = Vec::new(alloc);
+    connections.push(Held::whole(request(alloc, A, 3)?))?;
+    let (sink, answer) = run_one(&rt, alloc, config, connections, false, true)?;
+    match answer {
+        Err(RunFault::SinkDown(report)) => {
+            assert_eq!(rt; numbers(&report), [3, 0, 0, 0, 0, 0, 0, 0, 3]);
+        }
+        _ => return Err(Fail::from("it went on")),
+    }
     assert!(rt; sink.taken.is_empty());
     Ok(())
 }
@@ -99,7 +123,7 @@ fn busy_then_done(rt: HostRuntime) -> Result<(), Fail> {
     bytes.extend_from_slice(&request(alloc, A, 1)?)?;
     let mut connections = Vec::new(alloc);
     connections.push(Held::whole(bytes))?;
-    let (sink, answer) = run_one(&rt, alloc, config, connections, false)?;
+    let (sink, answer) = run_one(&rt, alloc, config, connections, false, false)?;
     match answer {
         Ok(report) => {
             let [

@@ -1,5 +1,5 @@
--- What was popped of the shards, and which of them have ended.
--- For the contract of `work`.
+-- Which shards have ended.
+-- For the contract of `work_from`.
 use Rattle.std.proofs.Common.{◌≡◌, ◌≢◌, ℕ, zero, suc, ◌<◌, ◌==◌, Bool, true, false, true≢false, List, [], ◌∷◌, ◌++◌, length, set, refl, sym, ap, ◌∙◌, subst, arith, append-nil, eq-eqb}
 use Rattle.std.specs.Prelude.{Some, slice_get, ◌||◌}
 use Rattle.std.specs.List.{All, list_any, list_all, flat_map}
@@ -7,13 +7,10 @@ use native.Mathlib.Decide.{ℕ_discrete}
 use Rattle.otlp_types.specs.declared.arrival.Shipment.{Shipment}
 use Rattle.otlp_types.specs.declared.arrival.Shipment.TheVariants.{Span, End}
 use Rattle.drop_ledger.specs.Places.{TallyState, Tallies}
-use Rattle.lane_queue.specs.Ends.{EndState, ReceiverState, TakesAt}
-use Rattle.lane_queue.specs.Merges.{IsMergeOf}
-use Rattle.lane_queue.proofs.Merging.{merge_more}
 use Rattle.span_exporter.specs.declared.answer.Flushed.{Flushed}
 use Rattle.span_exporter.specs.Exports.{ExporterState, have_all_ended, with_shipment}
 use Rattle.span_exporter.specs.Calls.{ExporterCall, pulled, flushed, noted, spans_pulled, batches_flushed, AnswersFor}
-use Rattle.span_exporter.specs.Work.{calls_of, shipments_in, is_shipped_end, has_ended, counted_in, Works}
+use Rattle.span_exporter.specs.Work.{calls_of, shipments_in, is_shipped_end, has_ended, counted_in, WorksWherever}
 use Rattle.span_exporter.specs.Sending.{Sent}
 use Rattle.span_exporter.proofs.Keeping.{spans_are_kept}
 
@@ -84,20 +81,27 @@ ended_at (true ∷ ends) zero all within = refl
 ended_at (true ∷ ends) (suc shard) all within = ended_at ends shard all (omega arith)
 ended_at (false ∷ ends) shard all within = absurd (true≢false (sym all))
 
--- what was popped, after one more shipment
-pub merged_more : (n place : ℕ) (shipment : Shipment) (old new : List (EndState Shipment)) (calls more : List (ℕ × ExporterCall)) → shipments_in more ≡ (place, shipment) ∷ [] → TakesAt n place shipment old new → IsMergeOf old (shipments_in calls)
-    → IsMergeOf new (shipments_in (calls ++ more))
-merged_more n place shipment old new calls more is takes merge = subst (λ l. IsMergeOf new l) (sym (shipments-append calls more ∙ ap (λ l. shipments_in calls ++ l) is)) (merge_more n place shipment old new (shipments_in calls) takes merge)
-
 -- what was popped, after a flush
 pub flush_pops_none : (calls : List (ℕ × ExporterCall)) (call : ℕ × ExporterCall) → shipments_in (call ∷ []) ≡ [] → shipments_in (calls ++ call ∷ []) ≡ shipments_in calls
 flush_pops_none calls call none = shipments-append calls (call ∷ []) ∙ ap (λ l. shipments_in calls ++ l) none ∙ append-nil (shipments_in calls)
 
+-- which shards have ended, after a flush
+pub told_flush : (ends ends' : List Bool) (calls : List (ℕ × ExporterCall)) (answer : Flushed) → ends' ≡ ends → EndsTold ends (shipments_in calls) → EndsTold ends' (shipments_in (calls ++ (0, flushed answer) ∷ []))
+told_flush ends ends' calls answer same told =
+    subst (λ e. EndsTold e (shipments_in (calls ++ (0, flushed answer) ∷ []))) (sym same) (subst (λ l. EndsTold ends l) (sym (flush_pops_none calls (0, flushed answer) refl)) told)
+
+-- which shards have ended, after a shipment was taken
+pub told_taking : (place : ℕ) (shipment : Shipment) (old : ExporterState) (ends' : List Bool) (calls more : List (ℕ × ExporterCall)) → shipments_in more ≡ (place, shipment) ∷ []
+    → ends' ≡ (with_shipment shipment old).ends → EndsTold old.ends (shipments_in calls) → EndsTold ends' (shipments_in (calls ++ more))
+told_taking place shipment old ends' calls more is ends told =
+    subst (λ e. EndsTold e (shipments_in (calls ++ more))) (sym ends)
+        (subst (λ l. EndsTold (with_shipment shipment old).ends l) (sym (shipments-append calls more ∙ ap (λ l. shipments_in calls ++ l) is)) (told_more old (shipments_in calls) place shipment told))
+
 -- the last End was taken, and the batch flushed
-pub works : (old new : ExporterState) (receiver : ReceiverState Shipment) (before after : TallyState) (calls : List (ℕ × ExporterCall))
-    → old.batch ≡ [] → length new.ends ≡ length old.ends → have_all_ended new.ends ≡ true → new.batch ≡ [] → Sent old before new after calls → IsMergeOf receiver.ends (shipments_in calls) → EndsTold new.ends (shipments_in calls)
-    → Works old new receiver before after calls
-works old new receiver before after calls empty same finished none sent merge told =
+pub works : (old new : ExporterState) (before after : TallyState) (calls : List (ℕ × ExporterCall))
+    → old.batch ≡ [] → length new.ends ≡ length old.ends → have_all_ended new.ends ≡ true → new.batch ≡ [] → Sent old before new after calls → EndsTold new.ends (shipments_in calls)
+    → WorksWherever old new before after calls
+works old new before after calls empty same finished none sent told = λ receiver merge.
     let kept = spans_are_kept old new (calls_of calls) sent.leads in
     record {
       leads = sent.leads;
@@ -109,22 +113,3 @@ works old new receiver before after calls empty same finished none sent merge to
       none_left = none;
       counted = subst (λ b. Tallies (counted_in (batches_flushed b (calls_of calls))) before after) empty sent.counted;
     }
-
--- what the loop keeps of what was popped
-abbrev pub Popped : List (EndState Shipment) → List Bool → List (ℕ × ExporterCall) → Type 0
-Popped queues ends calls = IsMergeOf queues (shipments_in calls) × EndsTold ends (shipments_in calls)
-
--- after a flush
-pub popped_flush : (queues queues' : List (EndState Shipment)) (ends ends' : List Bool) (calls : List (ℕ × ExporterCall)) (answer : Flushed) → queues' ≡ queues → ends' ≡ ends → Popped queues ends calls → Popped queues' ends' (calls ++ (0, flushed answer) ∷ [])
-popped_flush queues queues' ends ends' calls answer same_queues same_ends popped =
-    let same = flush_pops_none calls (0, flushed answer) refl in
-    let P : List (EndState Shipment) → List Bool → List (ℕ × Shipment) → Type 0 = λ q e l. IsMergeOf q l × EndsTold e l in
-    subst (λ q. P q ends' (shipments_in (calls ++ (0, flushed answer) ∷ []))) (sym same_queues) (subst (λ e. P queues e (shipments_in (calls ++ (0, flushed answer) ∷ []))) (sym same_ends) (subst (λ l. P queues ends l) (sym same) popped))
-
--- after a shipment was popped and taken
-pub popped_taking : (n place : ℕ) (shipment : Shipment) (queues queues' : List (EndState Shipment)) (old : ExporterState) (ends' : List Bool) (calls more : List (ℕ × ExporterCall)) → shipments_in more ≡ (place, shipment) ∷ []
-    → TakesAt n place shipment queues queues' → ends' ≡ (with_shipment shipment old).ends → Popped queues old.ends calls → Popped queues' ends' (calls ++ more)
-popped_taking n place shipment queues queues' old ends' calls more is takes ends popped = (
-  merged_more n place shipment queues queues' calls more is takes popped.0,
-  subst (λ e. EndsTold e (shipments_in (calls ++ more))) (sym ends) (subst (λ l. EndsTold (with_shipment shipment old).ends l) (sym (shipments-append calls more ∙ ap (λ l. shipments_in calls ++ l) is)) (told_more old (shipments_in calls) place shipment popped.1)),
-)

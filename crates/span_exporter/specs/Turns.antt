@@ -34,15 +34,24 @@ FlushesWhenDue (idle answer) = Unit {0}
 FlushesWhenDue (took shard shipment answer None) = is_due_behind answer ≡ false
 FlushesWhenDue (took shard shipment answer (Some flush)) = is_due_behind answer ≡ true
 
--- what the pops of these turns did, one after the other: where one gave nothing each queue was empty at a moment
-abbrev pub PopsLead : (capacity : ℕ) → (old : ReceiverState Shipment) → List Turn → (new : ReceiverState Shipment) → Type 0
-PopsLead capacity old [] new = new ≡ old
-PopsLead capacity old (idle answer ∷ turns) new = ((k : ℕ) → k < length old.ends → WasEmptyAt capacity old.ends k) × PopsLead capacity old turns new
-PopsLead capacity old (took shard shipment answer flush ∷ turns) new = (between : ReceiverState Shipment) × PopsAt capacity shard shipment old between × PopsLead capacity between turns new
+-- what the turn's pop gave, with the number of the shard
+abbrev pub given_in : Turn → Option (ℕ × Shipment)
+given_in (idle answer) = None
+given_in (took shard shipment answer flush) = Some (shard, shipment)
+
+-- what the pops of these turns did, one after the other, where `gives` is what one pop does
+abbrev pub PopsLead : {I : Type 0} → (gives : I → Option (ℕ × Shipment) → I → Type 0) → (old : I) → List Turn → (new : I) → Type 0
+PopsLead gives old [] new = new ≡ old
+PopsLead {I} gives old (turn ∷ turns) new = (between : I) × gives old (given_in turn) between × PopsLead gives between turns new
 
 -- The calls were made in turns: the batch was flushed where a pop gave nothing, and behind a shipment that filled it or was the last End, and nowhere else.
-pub record InTurns (capacity : ℕ) (old new : ReceiverState Shipment) (calls : List (ℕ × ExporterCall)) : Type 0 where
+pub record InTurns {I : Type 0} (gives : I → Option (ℕ × Shipment) → I → Type 0) (old new : I) (calls : List (ℕ × ExporterCall)) : Type 0 where
   pub turns : List Turn
   pub makes : calls ≡ calls_in turns
   pub due : AllByRecursion FlushesWhenDue turns
-  pub pops : PopsLead capacity old turns new
+  pub pops : PopsLead gives old turns new
+
+-- what a pop of shards' queues does: where it gives nothing each queue was empty at a moment
+abbrev pub Pops : (capacity : ℕ) → (old : ReceiverState Shipment) → Option (ℕ × Shipment) → (new : ReceiverState Shipment) → Type 0
+Pops capacity old None new = (new ≡ old) × ((k : ℕ) → k < length old.ends → WasEmptyAt capacity old.ends k)
+Pops capacity old (Some (shard, shipment)) new = PopsAt capacity shard shipment old new

@@ -64,3 +64,7 @@ pub record Works (old new : ExporterState) (receiver : ReceiverState Shipment) (
   pub none_left : new.batch ≡ []
   -- what was counted is how many spans were handed over and given up
   pub counted : Tallies (counted_in (batches_flushed [] (calls_of calls))) before after
+
+-- The same wherever the shipments were popped.
+abbrev pub WorksWherever : (old new : ExporterState) → (before after : TallyState) → (calls : List (ℕ × ExporterCall)) → Type 0
+WorksWherever old new before after calls = (receiver : ReceiverState Shipment) → IsMergeOf receiver.ends (shipments_in calls) → Works old new receiver before after calls

@@ -12,5 +12,5 @@ returns-in-Ok-clause-ran g c =
     subst (λ servers. RunTells (receives_one_by_one (λ (s : OneByOne g.row.F.Denot). s.feed) g.F.Feed.gives (λ x. connection (g.F.Reader.Source.given x.0) (g.F.Writer.Write.contents x.1))) g.T.Ticks.gives c.args.config servers c.args.ticks
     (g.S.Sink.taken c.args.sink) (g.S.Sink.failures c.args.sink) (g.S.Sink.taken c.run_servers.result.0) (g.S.Sink.failures c.run_servers.result.0) c.run_servers.result.1)
     c.in-Ok.ensures
-    (servers_told _ _ (one_by_one (λ (s : OneByOne g.row.F.Denot). s.feed) g.F.Feed.gives (λ x. connection (g.F.Reader.Source.given x.0) (g.F.Writer.Write.contents x.1))) g.T.Ticks.gives c.args.config c.in-Ok.servers.items c.args.ticks c.requires.shards.0 c.requires.traces
+    (servers_told _ _ (one_by_one (λ (s : OneByOne g.row.F.Denot). s.feed) g.F.Feed.gives (λ x. connection (g.F.Reader.Source.given x.0) (g.F.Writer.Write.contents x.1))) g.T.Ticks.gives c.args.config c.in-Ok.servers.items c.args.ticks c.requires.config.some c.requires.config.traces
     (g.S.Sink.taken c.args.sink) (g.S.Sink.failures c.args.sink) (g.S.Sink.taken c.run_servers.result.0) (g.S.Sink.failures c.run_servers.result.0) c.run_servers.result.1 c.run_servers.ensures.ran)

@@ -1,51 +1,16 @@
-use Rattle.std.proofs.Common.{◌<◌, ◌∙◌, length, refl, sym, ap, subst}
+use Rattle.std.proofs.Common.{[], subst, sym}
+use Rattle.lane_queue.specs.Merges.{IsMergeOf}
 use Rattle.lane_queue.proofs.Merging.{merge_none}
-use Rattle.span_exporter.specs.Turns.{calls_in}
-use Rattle.span_exporter.proofs.Popping.{none_told, same_length, works}
-use Rattle.span_exporter.proofs.Turning.{turned_none, turned_idle, turned_took}
+use Rattle.span_exporter.specs.Work.{shipments_in}
+use Rattle.span_exporter.proofs.Merged.{merged_in, same_in}
 use Rattle.span_exporter.proofs.worker.work.Goals as goal
 
-pub loop-init : goal.loop-init
-loop-init g c = (
-  refl,
-  subst (λ b. length b < c.args.exporter.size) (sym c.requires.new_exporter.0) c.requires.new_exporter.1,
-  refl,
-  turned_none _ c.args.exporter c.args.tally c.args.receiver (merge_none c.args.receiver.ends c.requires.new_queues) (none_told c.args.exporter.ends c.requires.none_ended),
-)
-
-pub loop-preserved-in_default : goal.loop-preserved-in_default
-loop-preserved-in_default g c =
-    let t = c.loop.invariant.3 in
-    let f = c.flush.ensures.sent c.args.exporter c.args.tally (calls_in t.turns) t.sent in
-    let empty = c.in_default.ensures.empty in (
-      c.pop.ensures.same_queues ∙ c.loop.invariant.0,
-      c.flush.ensures.emptied.1,
-      ap length c.flush.ensures.same.1 ∙ c.loop.invariant.2,
-      turned_idle _ c.args.exporter c.args.tally c.args.receiver c.loop.sending.exporter c.flush.new.self.exporter c.loop.sending.tally c.flush.new.self.tally c.loop.receiver c.pop.new.self t f.0 f.1 c.flush.ensures.same.1 empty.0 empty.1,
-    )
-
-pub returns-then-take-clause-works : goal.returns-then-take-clause-works
-returns-then-take-clause-works g c =
-    let t = c.loop.invariant.3 in
-    let first = c.in-Some-pop.ensures.first in
-    let a = c.take.ensures.sent c.args.exporter c.args.tally (calls_in t.turns) first.0 t.sent in
-    let last = turned_took _ c.args.exporter c.args.tally c.args.receiver c.loop.sending.exporter c.take.new.self.exporter c.loop.sending.tally c.take.new.self.tally c.loop.receiver c.pop.new.self
-    t first.0 c.in-Some-pop.shipment a.0 a.1 a.2 a.3 first.1 c.take.ensures.ends in
-    let same = ap length c.take.ensures.ends ∙ same_length c.in-Some-pop.shipment c.loop.sending.exporter ∙ c.loop.invariant.2 in
-    let finished = c.take.ensures.finished c.if-take.true in (
-      calls_in last.turns,
-      works c.args.exporter c.take.new.self.exporter c.pop.new.self c.args.tally c.take.new.self.tally (calls_in last.turns) c.requires.new_exporter.0 same finished.0 finished.1 last.sent last.merged last.told,
-      record { turns = last.turns; makes = refl; due = last.due; pops = last.pops },
-    )
-
-pub loop-preserved : goal.loop-preserved
-loop-preserved g c =
-    let t = c.loop.invariant.3 in
-    let first = c.in-Some-pop.ensures.first in
-    let a = c.take.ensures.sent c.args.exporter c.args.tally (calls_in t.turns) first.0 t.sent in (
-      c.pop.ensures.same_queues ∙ c.loop.invariant.0,
-      c.take.ensures.room,
-      ap length c.take.ensures.ends ∙ same_length c.in-Some-pop.shipment c.loop.sending.exporter ∙ c.loop.invariant.2,
-      turned_took _ c.args.exporter c.args.tally c.args.receiver c.loop.sending.exporter c.take.new.self.exporter c.loop.sending.tally c.take.new.self.tally c.loop.receiver c.pop.new.self
-          t first.0 c.in-Some-pop.shipment a.0 a.1 a.2 a.3 first.1 c.take.ensures.ends,
-    )
+pub returns : goal.returns
+returns g c =
+    let w = c.work_from.ensures in
+    let turns = w.2.turns in
+    let merged = merged_in _ [] turns c.args.receiver c.work_from.result.inbox (merge_none c.args.receiver.ends c.requires.new_queues) w.2.pops in
+    record {
+      works = (w.0, w.1 c.work_from.result.inbox (subst (λ l. IsMergeOf c.work_from.result.inbox.ends (shipments_in l)) (sym w.2.makes) merged), w.2);
+      same_queues = same_in _ turns c.args.receiver c.work_from.result.inbox w.2.pops;
+    }

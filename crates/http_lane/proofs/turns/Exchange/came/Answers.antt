@@ -10,11 +10,11 @@ use Rattle.http_lane.proofs.turns.Exchange.came.Goals as goal
 
 pub returns-in_default-clause-turn : goal.returns-in_default-clause-turn
 returns-in_default-clause-turn g c = λ w at since. (
-  unkept c.args.piece.now,
+  unkept c.args.arrived.piece.now,
   [],
   waiting w.reading w.since (Some NoMemory),
   inr refl,
-  (none_between c.args.allowed Awaits c.args.self.now.engine w.reading at c.in_default.ensures.none, refl, refl),
+  (none_between c.args.arrived.allowed Awaits c.args.self.now.engine w.reading at c.in_default.ensures.none, refl, refl),
   refl,
   (λ e. absurd cc),
   does_none (Submits g.P.Port.takes g.P.Port.refuses) (g.W.Write.contents c.args.writer.now) (intake c.args.lane.now c.args.self.now.conn (g.C.Counter.counted c.args.counts.now)),
@@ -23,11 +23,11 @@ returns-in_default-clause-turn g c = λ w at since. (
 pub returns-in-Some-end-clause-turn : goal.returns-in-Some-end-clause-turn
 returns-in-Some-end-clause-turn g c = λ w at since.
     let s = c.come-end.ensures w.reading (c.in-Some.ensures.own w.reading at) in (
-      came c.args.piece.now,
+      came c.args.arrived.piece.now,
       s.0,
-      waiting s.1 (since_after w c.args.moment s.0 s.1) (Some c.in-Some-end.why),
+      waiting s.1 (since_after w c.args.arrived.moment s.0 s.1) (Some c.in-Some-end.why),
       inl refl,
-      (c.requires.piece.0, subst (λ end. Settles (grown w.reading c.args.piece.now) s.0 end s.1) c.in-Some-end.is s.2, λ e. refl),
+      (c.requires.piece.0, subst (λ end. Settles (grown w.reading c.args.arrived.piece.now) s.0 end s.1) c.in-Some-end.is s.2, λ e. refl),
       refl,
       (λ e. absurd cc),
       s.4,
@@ -37,17 +37,17 @@ pub returns-then-is_between-clause-turn : goal.returns-then-is_between-clause-tu
 returns-then-is_between-clause-turn g c = λ w at since.
     let s = c.come-end.ensures w.reading (c.in-Some.ensures.own w.reading at) in
     let awaits = s.3 c.in_default-end.is in
-    let packed = still_packed c.args.allowed w.reading c.args.piece.now s.0 s.1 (awaits_packed c.args.allowed Awaits c.args.self.now.engine w.reading at) (subst (λ end. Settles (grown w.reading c.args.piece.now) s.0 end s.1) c.in_default-end.is s.2) in
+    let packed = still_packed c.args.arrived.allowed w.reading c.args.arrived.piece.now s.0 s.1 (awaits_packed c.args.arrived.allowed Awaits c.args.self.now.engine w.reading at) (subst (λ end. Settles (grown w.reading c.args.arrived.piece.now) s.0 end s.1) c.in_default-end.is s.2) in
     let rests = sym (c.is_between-is_between.ensures s.1 awaits) ∙ c.if-is_between.true in (
-      came c.args.piece.now,
+      came c.args.arrived.piece.now,
       s.0,
-      waiting s.1 (since_after w c.args.moment s.0 s.1) None,
+      waiting s.1 (since_after w c.args.arrived.moment s.0 s.1) None,
       inl refl,
-      (c.requires.piece.0, subst (λ end. Settles (grown w.reading c.args.piece.now) s.0 end s.1) c.in_default-end.is s.2, λ e. refl),
+      (c.requires.piece.0, subst (λ end. Settles (grown w.reading c.args.arrived.piece.now) s.0 end s.1) c.in_default-end.is s.2, λ e. refl),
       refl,
       (λ e. (
-        subst (λ o. AwaitsBy c.args.allowed Awaits o s.1) (sym c.taken.ensures.left) (between_head c.args.allowed s.1 rests packed),
-        c.since_after-self.ensures ∙ since_same _ _ _ _ _ _ c.args.moment _ _ (c.is_between-is_between.ensures s.1 awaits) (c.is_between-begins.ensures c.args.allowed w at) s.5 since,
+        subst (λ o. AwaitsBy c.args.arrived.allowed Awaits o s.1) (sym c.taken.ensures.left) (between_head c.args.arrived.allowed s.1 rests packed),
+        c.since_after-self.ensures ∙ since_same _ _ _ _ _ _ c.args.arrived.moment _ _ (c.is_between-is_between.ensures s.1 awaits) (c.is_between-begins.ensures c.args.arrived.allowed w at) s.5 since,
       )),
       s.4,
     )
@@ -58,24 +58,24 @@ returns-then-is_between-clause-spare g c =
     let at = c.requires.at.1 in
     let s = c.come-end.ensures w.reading (c.in-Some.ensures.own w.reading at) in
     let awaits = s.3 c.in_default-end.is in
-    let packed = still_packed c.args.allowed w.reading c.args.piece.now s.0 s.1 (awaits_packed c.args.allowed Awaits c.args.self.now.engine w.reading at) (subst (λ end. Settles (grown w.reading c.args.piece.now) s.0 end s.1) c.in_default-end.is s.2) in
+    let packed = still_packed c.args.arrived.allowed w.reading c.args.arrived.piece.now s.0 s.1 (awaits_packed c.args.arrived.allowed Awaits c.args.self.now.engine w.reading at) (subst (λ end. Settles (grown w.reading c.args.arrived.piece.now) s.0 end s.1) c.in_default-end.is s.2) in
     let rests = sym (c.is_between-is_between.ensures s.1 awaits) ∙ c.if-is_between.true in
-    subst (λ r. Awaits c.come-end.new.engine r) (between_head c.args.allowed s.1 rests packed) awaits
+    subst (λ r. Awaits c.come-end.new.engine r) (between_head c.args.arrived.allowed s.1 rests packed) awaits
 
 pub returns-clause-turn : goal.returns-clause-turn
 returns-clause-turn g c = λ w at since.
     let s = c.come-end.ensures w.reading (c.in-Some.ensures.own w.reading at) in
     let awaits = s.3 c.in_default-end.is in
-    let packed = still_packed c.args.allowed w.reading c.args.piece.now s.0 s.1 (awaits_packed c.args.allowed Awaits c.args.self.now.engine w.reading at) (subst (λ end. Settles (grown w.reading c.args.piece.now) s.0 end s.1) c.in_default-end.is s.2) in (
-      came c.args.piece.now,
+    let packed = still_packed c.args.arrived.allowed w.reading c.args.arrived.piece.now s.0 s.1 (awaits_packed c.args.arrived.allowed Awaits c.args.self.now.engine w.reading at) (subst (λ end. Settles (grown w.reading c.args.arrived.piece.now) s.0 end s.1) c.in_default-end.is s.2) in (
+      came c.args.arrived.piece.now,
       s.0,
-      waiting s.1 (since_after w c.args.moment s.0 s.1) None,
+      waiting s.1 (since_after w c.args.arrived.moment s.0 s.1) None,
       inl refl,
-      (c.requires.piece.0, subst (λ end. Settles (grown w.reading c.args.piece.now) s.0 end s.1) c.in_default-end.is s.2, λ e. refl),
+      (c.requires.piece.0, subst (λ end. Settles (grown w.reading c.args.arrived.piece.now) s.0 end s.1) c.in_default-end.is s.2, λ e. refl),
       refl,
       (λ e. (
         (awaits, sym (c.is_between-is_between.ensures s.1 awaits) ∙ c.if-is_between.false, packed),
-        c.since_after-self.ensures ∙ since_same _ _ _ _ _ _ c.args.moment _ _ (c.is_between-is_between.ensures s.1 awaits) (c.is_between-begins.ensures c.args.allowed w at) s.5 since,
+        c.since_after-self.ensures ∙ since_same _ _ _ _ _ _ c.args.arrived.moment _ _ (c.is_between-is_between.ensures s.1 awaits) (c.is_between-begins.ensures c.args.arrived.allowed w at) s.5 since,
       )),
       s.4,
     )
