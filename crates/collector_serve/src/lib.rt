@@ -1,12 +1,11 @@
-//! `tsc serve` without its command line: the connections of a listener, ticks of the system's clock and a mark to stop, over
-//! the pipeline; beside it the address for those in charge, the look at the process's memory, and what a backend is told and
+//! `tsc serve` without its command line: what drives each lane on a listener, ticks of the system's clock and a mark to stop,
+//! over the pipeline; beside it the address for those in charge, the look at the process's memory, and what a backend is told and
 //! tells where lines are sent.
 #![tactic(auto)]
 
 mod admin_thread;
 mod board;
 mod charge;
-mod connections;
 mod export_watch;
 mod line_spans;
 mod memory_rule;
@@ -21,7 +20,6 @@ mod wall_clock;
 pub use admin_thread::{end_admin, socket_path, start_admin};
 pub use board::Board;
 pub use charge::{Charge, close_at_end};
-pub use connections::Connections;
 pub use export_watch::ExportWatch;
 pub use line_spans::LineSpans;
 pub use memory_rule::MemoryRule;

@@ -1,50 +1,20 @@
-//! The ends of feed and ticks, how long a connection waits, and when ticks are due.
-use collector_serve::{Connections, StopMark, Ticker, WallClock, listen};
+//! When ticks are due.
+use collector_serve::{StopMark, Ticker, WallClock};
 use http_lane::{Clock as Moments, Stop};
-use http_text::Allowed;
-use lane_worker::{Feed, Ticks};
+use lane_worker::Ticks;
 use std::alloc::{AllocError, Global};
-use std::net::TcpStream;
 use std::sync::Wait;
 use std::test::Fail;
-use std::time::{Clock, Duration};
+use std::time::Clock;
 
-/// What is allowed to clients, where packed bodies are taken or aren't.
-fn allowed(gzip: bool) -> Allowed {
-    Allowed { gzip, close: true }
-}
-
-/// Once the stop mark is set, and no connection waits, there is none any more, and no tick.
+/// Once the stop mark is set there is no tick any more.
 #[test]
-fn feed_and_ticks_end(rt: HostRuntime) -> Result<(), Fail> {
-    let listener = listen(&rt, "127.0.0.1:0")?;
+fn ticks_end(rt: HostRuntime) -> Result<(), Fail> {
     let stop = StopMark::new();
     stop.set();
-    let mut connections = Connections::new(&listener, &stop, allowed(false));
-    assert!(rt; connections.next(&rt).is_none());
     let clock = WallClock::new(&rt);
     let mut ticker = Ticker::new(60_000, &clock, &stop);
     assert_eq!(rt; ticker.next(&rt), None);
-    Ok(())
-}
-
-/// A read of a connection waits a tenth of a second, a write thirty seconds, answers go out at once, and packed bodies are
-/// taken where they were to be.
-#[test]
-fn reads_and_writes_wait_only_so_long(rt: HostRuntime) -> Result<(), Fail> {
-    let listener = listen(&rt, "127.0.0.1:0")?;
-    let _client = TcpStream::connect(&rt, listener.local_addr()?)?;
-    let stop = StopMark::new();
-    let Some((reads, writer)) = Connections::new(&listener, &stop, allowed(true)).next(&rt) else {
-        return Err(Fail::from("no connection"));
-    };
-    assert_eq!(rt;
-        reads.reader.read_timeout()?,
-        Some(Duration::from_millis(100))
-    );
-    assert_eq!(rt; writer.write_timeout()?, Some(Duration::from_secs(30)));
-    assert!(rt; writer.nodelay()?);
-    assert!(rt; reads.allowed.gzip);
     Ok(())
 }
 
