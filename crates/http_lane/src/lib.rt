@@ -2,6 +2,14 @@
 //!
 //! [`serve`] is the whole of it. The bytes that it writes, the bodies that it hands to the lane, the counts and how it
 //! ends are those of the connection's transcript (`specs/Connection`), in whatever pieces the bytes came.
+//!
+//! ```
+//! let lent = Lent { alloc, stop: &mark, clock: &clock };
+//! let mut reader = Reads { reader: stream, allowed };
+//! let end = serve(&lent, &mut lane, &mut report, &mut reader, &mut writer);
+//! ```
+//!
+//! An [`Exchange`] is the same connection turn by turn, among many.
 #![tactic(auto)]
 
 mod answer;

@@ -352,15 +352,7 @@ pub fn serve<'l, P: Port<Item>, C: Counter, R: Source, W: Write, S: Stop, K: Clo
 {
     let mut conn = lane.connect();
     match Requests::new(lent.alloc, reader.allowed()) {
-        Ok(mut engine) => serve_turns(
-            lent,
-            &mut engine,
-            lane,
-            &mut conn,
-            counter,
-            reader,
-            writer,
-        ),
+        Ok(mut engine) => serve_turns(lent, &mut engine, lane, &mut conn, counter, reader, writer),
         Err(_) => ServeEnd::NoMemory,
     }
 }

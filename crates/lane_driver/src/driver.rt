@@ -4,7 +4,7 @@ ghost use Rattle.lane_turns.specs.Driving.{FitsNext};
 
 use crate::link::{Got, Link, Looked, Phase, Step};
 use crate::links::Links;
-use crate::loads::Loads;
+use crate::loads::Share;
 use crate::readiness::{Accepted, EVENTS, NAP, Readiness, Ready};
 use crate::walk::Walk;
 use http_lane::{IDLE_LIMIT, ServeEnd, Stop};
@@ -13,7 +13,7 @@ use mio::net::TcpStream;
 use std::alloc::Global;
 use std::io;
 use std::net::{Net, TcpListener};
-use std::sync::{Arc, Wait};
+use std::sync::Wait;
 use std::time::Clock;
 
 /// So many reads a connection has at a turn: a request of a hundred kilobytes that is there is read at one turn, so that its
@@ -63,17 +63,6 @@ pub struct TurnDriver<'l, P: Stop> {
     /// The moment from which on no request goes on, once the mark to stop is set.
     stopping: Option<u64>,
     now: u64,
-}
-
-/// A lane's share of the connections.
-#[derive(Drop)]
-pub struct Share {
-    /// How many may be open at most.
-    pub limit: usize,
-    /// How many each lane has.
-    pub loads: Arc<Loads, Global>,
-    /// The lane's number.
-    pub lane: usize,
 }
 
 impl<'l, P: Stop> TurnDriver<'l, P> {

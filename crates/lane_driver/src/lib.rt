@@ -5,6 +5,11 @@
 //! reports. It never waits on a socket: what one doesn't take is kept in an [`Outgoing`] and goes on when it may, and no
 //! further request is read before. Behind an answer that closes, what the client still sends is thrown away for a while, so
 //! that the answer reaches it (RFC 9112, section 9.6).
+//!
+//! ```
+//! let share = Share { limit: 64, loads, lane: 0 };
+//! let driver = TurnDriver::new(&rt, alloc, &listener, &mark, share)?;
+//! ```
 #![tactic(auto)]
 
 mod driver;
@@ -16,8 +21,8 @@ mod readiness;
 mod traffic;
 mod walk;
 
-pub use driver::{Share, TurnDriver};
+pub use driver::TurnDriver;
 pub use link::{LINGER_BYTES, LINGER_LIMIT, WRITE_LIMIT};
-pub use loads::Loads;
+pub use loads::{Loads, Share};
 pub use outgoing::{Outgoing, Sent};
 pub use traffic::Traffic;

@@ -1,6 +1,7 @@
 //! How many connections each lane has, so that a new one goes to the lane that has the fewest, and what came and went on them.
 use crate::traffic::Traffic;
 use std::alloc::{AllocError, Global};
+use std::sync::Arc;
 use std::sync::atomic::{AtomicU64, Ordering};
 
 /// A number for each lane, which that lane writes and all read.
@@ -48,4 +49,15 @@ impl Loads {
         }
         least
     }
+}
+
+/// A lane's share of the connections.
+#[derive(Drop)]
+pub struct Share {
+    /// How many may be open at most.
+    pub limit: usize,
+    /// How many each lane has.
+    pub loads: Arc<Loads, Global>,
+    /// The lane's number.
+    pub lane: usize,
 }

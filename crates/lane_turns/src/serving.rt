@@ -118,7 +118,7 @@ fn turn<'l, P: Port<Item>, C: Counter, S: Stop, K: Moments>(
             if !table.contains(key) {
                 return Done::Nothing;
             }
-            let end = waited(lent.alloc, table, key, lane, counts, text, lent.stop, moment);
+            let end = waited(lent, table, key, lane, counts, text, moment);
             turned(table, key, end)
         }
         Next::Leave { key, how } => {
@@ -176,15 +176,7 @@ fn is_full(done: &Done) -> bool
 
 /// Serves connections as the driver says, until it says to end and none is open. It ends at once where a count would have
 /// passed 2^64-1, and says whether it did. `allowed`: what is allowed to clients.
-pub fn serve_turns<
-    'l,
-    D: Driver,
-    P: Port<Item>,
-    C: Counter,
-    S: Stop,
-    K: Moments,
-    R: Wait + Clock,
->(
+pub fn serve_turns<'l, D: Driver, P: Port<Item>, C: Counter, S: Stop, K: Moments, R: Wait + Clock>(
     rt: &R,
     lent: &Lent<'l, S, K>,
     allowed: Allowed,

@@ -17,7 +17,6 @@ use lane_queue::Port;
 use lane_seq::Lane;
 use otlp_types::Item;
 use slab::Slab;
-use std::alloc::Global;
 use std::io::Write;
 
 /// The connection at this key has a turn that brought bytes. Where that ends it, it is open no more.
@@ -61,14 +60,13 @@ pub enum Leaving {
 }
 
 /// The connection at this key has a turn that brought nothing. Where that ends it, it is open no more.
-pub(crate) fn waited<P: Port<Item>, C: Counter, W: Write, S: Stop>(
-    alloc: Global,
+pub(crate) fn waited<'l, P: Port<Item>, C: Counter, W: Write, S: Stop, K: Clock>(
+    lent: &Lent<'l, S, K>,
     open: &mut Slab<Exchange>,
     key: usize,
     lane: &Lane<P>,
     counts: &C,
     writer: &mut W,
-    stop: &S,
     moment: u64,
 ) -> Option<ServeEnd>
     requires { ContainsKey «open».old key }
@@ -77,7 +75,7 @@ pub(crate) fn waited<P: Port<Item>, C: Counter, W: Write, S: Stop>(
     ensures others { (other : ℕ) → other ≢ key → get «open».new other ≡ get «open».old other }
 {
     let exchange = open.remove(key);
-    let end = exchange.waited(alloc, writer, stop, moment);
+    let end = exchange.waited(lent.alloc, writer, lent.stop, moment);
     if let Some(why) = end {
         return Some(why);
     }

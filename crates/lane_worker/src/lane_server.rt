@@ -22,16 +22,7 @@ pub trait LaneServer {
     ghost serves: { ℕ → Self → LaneAt → Self → LaneAt → Bool → Type 0 };
 
     /// Serves connections until there are none any more, or a count would have passed 2^64-1, and says whether that was so.
-    fn serve_all<
-        'l,
-        'r,
-        C: Room,
-        K: Counter,
-        G: Gate,
-        S: Stop,
-        M: MomentClock,
-        R: Wait + Clock,
-    >(
+    fn serve_all<'l, 'r, C: Room, K: Counter, G: Gate, S: Stop, M: MomentClock, R: Wait + Clock>(
         &mut self,
         rt: &'r R,
         lent: &Lent<'l, S, M>,
@@ -55,16 +46,7 @@ impl<F: Feed> LaneServer for OneByOne<F> {
 
     ghost serves = { λ capacity old before new after is_full. HasServed F.gives (λ x. connection (F.Reader.given x.0) (F.Writer.contents x.1)) capacity old.feed before new.feed after is_full };
 
-    fn serve_all<
-        'l,
-        'r,
-        C: Room,
-        K: Counter,
-        G: Gate,
-        S: Stop,
-        M: MomentClock,
-        R: Wait + Clock,
-    >(
+    fn serve_all<'l, 'r, C: Room, K: Counter, G: Gate, S: Stop, M: MomentClock, R: Wait + Clock>(
         &mut self,
         rt: &'r R,
         lent: &Lent<'l, S, M>,
@@ -90,16 +72,7 @@ impl<D: Driver> LaneServer for ByTurns<D> {
 
     ghost serves = { λ capacity old before new after is_full. ServesMany old.allowed capacity before after is_full };
 
-    fn serve_all<
-        'l,
-        'r,
-        C: Room,
-        K: Counter,
-        G: Gate,
-        S: Stop,
-        M: MomentClock,
-        R: Wait + Clock,
-    >(
+    fn serve_all<'l, 'r, C: Room, K: Counter, G: Gate, S: Stop, M: MomentClock, R: Wait + Clock>(
         &mut self,
         rt: &'r R,
         lent: &Lent<'l, S, M>,
@@ -108,13 +81,6 @@ impl<D: Driver> LaneServer for ByTurns<D> {
         counter: &mut K,
         _gate: &G,
     ) -> bool {
-        serve_turns(
-            rt,
-            lent,
-            self.allowed,
-            &mut self.driver,
-            lane,
-            counter,
-        )
+        serve_turns(rt, lent, self.allowed, &mut self.driver, lane, counter)
     }
 }

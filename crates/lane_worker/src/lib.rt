@@ -3,6 +3,12 @@
 //! [`work`] has a [`LaneServer`] serve the lane's connections, and then pushes the lane's `End` to each shard. [`OneByOne`]
 //! serves the connections that a [`Feed`] gives, one after the other; [`ByTurns`] serves many at once, as a
 //! `lane_turns::Driver` says. [`tick`] pushes the moments that [`Ticks`] give to every shard, and then its own `End`.
+//!
+//! ```
+//! let task = LaneTask { number, lane, room };
+//! let mut server = ByTurns { driver, allowed };
+//! let end = work(&rt, &lent, task, &mut server, &mut report, &gate);
+//! ```
 #![tactic(auto)]
 
 mod feed;

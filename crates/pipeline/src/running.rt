@@ -131,7 +131,12 @@ fn run_servers<
     ensures ran { ServersTell V.serves T.gives config servers.items ticks (S.taken sink) (S.failures sink) (S.taken result.0) (S.failures result.0) result.1 }
 {
     let lines = LineSink::new(sink);
-    let exporter = match Exporter::new(context.alloc, config.send_batch_size, config.shards, lines) {
+    let exporter = match Exporter::new(
+        context.alloc,
+        config.send_batch_size,
+        config.shards,
+        lines,
+    ) {
         Ok(exporter) => exporter,
         Err((lines, _)) => return (lines.end(), Err(RunFault::NoMemory)),
     };

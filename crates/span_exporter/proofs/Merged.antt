@@ -16,10 +16,10 @@ merged_in n before [] old new merge same = subst (λ (r : ReceiverState Shipment
 merged_in n before (idle answer ∷ turns) old new merge (between, pop, rest) = merged_in n before turns between new (subst (λ (r : ReceiverState Shipment). IsMergeOf r.ends before) (sym pop.0) merge) rest
 merged_in n before (took shard shipment answer None ∷ turns) old new merge (between, pop, rest) =
     subst (λ l. IsMergeOf new.ends l) (append_assoc before ((shard, shipment) ∷ []) (shipments_in (calls_in turns)))
-        (merged_in n (before ++ (shard, shipment) ∷ []) turns between new (merge_more n shard shipment old.ends between.ends before pop.takes merge) rest)
+    (merged_in n (before ++ (shard, shipment) ∷ []) turns between new (merge_more n shard shipment old.ends between.ends before pop.takes merge) rest)
 merged_in n before (took shard shipment answer (Some flush) ∷ turns) old new merge (between, pop, rest) =
     subst (λ l. IsMergeOf new.ends l) (append_assoc before ((shard, shipment) ∷ []) (shipments_in (calls_in turns)))
-        (merged_in n (before ++ (shard, shipment) ∷ []) turns between new (merge_more n shard shipment old.ends between.ends before pop.takes merge) rest)
+    (merged_in n (before ++ (shard, shipment) ∷ []) turns between new (merge_more n shard shipment old.ends between.ends before pop.takes merge) rest)
 
 popped_same : (n shard : ℕ) (shipment : Shipment) (old new : ReceiverState Shipment) → PopsAt n shard shipment old new → queues new.ends ≡ queues old.ends
 popped_same n shard shipment old new pop = ap queues pop.takes.2 ∙ same_queues old.ends shard pop.takes.0 (with_item pop.takes.0 shipment) pop.takes.1 refl

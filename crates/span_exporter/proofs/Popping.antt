@@ -95,7 +95,7 @@ pub told_taking : (place : ℕ) (shipment : Shipment) (old : ExporterState) (end
     → ends' ≡ (with_shipment shipment old).ends → EndsTold old.ends (shipments_in calls) → EndsTold ends' (shipments_in (calls ++ more))
 told_taking place shipment old ends' calls more is ends told =
     subst (λ e. EndsTold e (shipments_in (calls ++ more))) (sym ends)
-        (subst (λ l. EndsTold (with_shipment shipment old).ends l) (sym (shipments-append calls more ∙ ap (λ l. shipments_in calls ++ l) is)) (told_more old (shipments_in calls) place shipment told))
+    (subst (λ l. EndsTold (with_shipment shipment old).ends l) (sym (shipments-append calls more ∙ ap (λ l. shipments_in calls ++ l) is)) (told_more old (shipments_in calls) place shipment told))
 
 -- the last End was taken, and the batch flushed
 pub works : (old new : ExporterState) (before after : TallyState) (calls : List (ℕ × ExporterCall))
