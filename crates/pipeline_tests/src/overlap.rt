@@ -70,23 +70,30 @@ pub fn configured(alloc: Global, text: &str) -> Result<Config, Fail>
     }
 }
 
-/// What a run answers of two lanes with one request each, and the bytes that its sink has.
-fn run_two<G: Gate + Sync, R: Threads + Wait + Clock + RandomSource + Sync>(
+/// What a run is like: whether its stop mark is set before it begins, and whether each write to its sink fails.
+#[derive(Drop)]
+pub struct Course {
+    pub is_stopped: bool,
+    pub is_broken: bool,
+}
+
+/// What a run answers over feeds, one for each lane of the configuration, and its sink.
+pub fn run_feeds<G: Gate + Sync, R: Threads + Wait + Clock + RandomSource + Sync>(
     rt: &R,
     alloc: Global,
     config: &str,
-    feeds: [MemoryFeed; 2],
+    feeds: Vec<MemoryFeed>,
     gate: &G,
-) -> Result<(Vec<u8>, Result<Report, RunFault>), Fail> {
+    course: Course,
+) -> Result<(MemorySink, Result<Report, RunFault>), Fail> {
     let config = configured(alloc, config)?;
-    let feeds = Vec::from_array(alloc, feeds)?;
     if feeds.len() != config.lanes as usize || config.shards > 64 {
         return Err(Fail::from("lanes"));
     }
     let stop = Mark {
-        is_set: AtomicBool::new(false),
+        is_set: AtomicBool::new(course.is_stopped),
     };
-    let sink = MemorySink::new(alloc, false)?;
+    let sink = MemorySink::new(alloc, course.is_broken)?;
     let context = RunContext {
         rt,
         alloc,
@@ -94,8 +101,22 @@ fn run_two<G: Gate + Sync, R: Threads + Wait + Clock + RandomSource + Sync>(
         stop: &stop,
         clock: &Standing,
     };
-    let (sink, answer) = run(&context, config, feeds, NoTicks, sink);
-    Ok((sink.taken, answer))
+    Ok(run(&context, config, feeds, NoTicks, sink))
+}
+
+/// The same of two lanes with one request each.
+fn run_two<G: Gate + Sync, R: Threads + Wait + Clock + RandomSource + Sync>(
+    rt: &R,
+    alloc: Global,
+    config: &str,
+    feeds: [MemoryFeed; 2],
+    gate: &G,
+) -> Result<(MemorySink, Result<Report, RunFault>), Fail> {
+    let course = Course {
+        is_stopped: false,
+        is_broken: false,
+    };
+    run_feeds(rt, alloc, config, Vec::from_array(alloc, feeds)?, gate, course)
 }
 
 /// The nine numbers of a report.
@@ -118,12 +139,12 @@ fn hundred_spans_a_lane(rt: HostRuntime) -> Result<(), Fail> {
     let alloc = rt.alloc();
     let first = feed(alloc, request(alloc, A, 100)?, false)?;
     let second = feed(alloc, request(alloc, A, 100)?, false)?;
-    let (lines, answer) = run_two(&rt, alloc, ONE_SHARD, [first, second], &OpenGate)?;
+    let (sink, answer) = run_two(&rt, alloc, ONE_SHARD, [first, second], &OpenGate)?;
     let Ok(report) = answer else {
         return Err(Fail::from("a fault"));
     };
     assert_eq!(rt; numbers(&report), [200, 200, 0, 0, 0, 0, 0, 0, 0]);
-    assert!(rt; !lines.is_empty());
+    assert!(rt; !sink.taken.is_empty());
     Ok(())
 }
 

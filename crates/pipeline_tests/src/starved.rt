@@ -1,20 +1,16 @@
 //! One lane: a reader that fails, a sink that does, a run that is stopped before it begins, and one that may be short of
 //! memory, each of whose allocations `tests/refused_memory/refused.py` refuses in turn.
-ghost use Rattle.tsc_config.specs.Values.{InRange};
-
-use crate::memory::{Held, Mark, MemoryFeed, MemorySink, NoTicks, Standing};
-use crate::overlap::{A, configured, numbers, request};
+use crate::memory::{Held, MemoryFeed, MemorySink};
+use crate::overlap::{A, Course, numbers, request, run_feeds};
 use drop_ledger::Report;
 use lane_queue::OpenGate;
-use pipeline::{RunContext, RunFault, run};
+use pipeline::RunFault;
 use std::alloc::Global;
 use std::random::RandomSource;
 use std::sync::Wait;
-use std::sync::atomic::AtomicBool;
 use std::test::Fail;
 use std::thread::Threads;
 use std::time::Clock;
-use tsc_config::Config;
 
 /// One lane and one shard that keep everything.
 const ALL: &str = "policies = [{ name = \"all\", type = \"always_sample\" }]\n";
@@ -30,48 +26,33 @@ fn spans_in(lines: &[u8]) -> u64 {
     count
 }
 
-/// What a run answers of one lane with these connections, the last one first, and its sink. Its stop mark may be set before it
-/// begins.
-fn run_one<R: Threads + Wait + Clock + RandomSource + Sync>(
+/// What a run answers of one lane with these connections, the last one first, and its sink.
+fn run_one<R: Threads + Wait + Clock + RandomSource + Sync, const N: usize>(
     rt: &R,
     alloc: Global,
-    config: Config,
-    connections: Vec<Held>,
-    is_stopped: bool,
-    is_broken: bool,
-) -> Result<(MemorySink, Result<Report, RunFault>), Fail>
-    requires { InRange config }
-{
+    connections: [Held; N],
+    course: Course,
+) -> Result<(MemorySink, Result<Report, RunFault>), Fail> {
+    let connections = Vec::from_array(alloc, connections)?;
     let mut feeds = Vec::new(alloc);
     feeds.push(MemoryFeed { alloc, connections })?;
-    if config.lanes != 1 {
-        return Err(Fail::from("lanes"));
-    }
-    let stop = Mark {
-        is_set: AtomicBool::new(is_stopped),
-    };
-    let sink = MemorySink::new(alloc, is_broken)?;
-    let context = RunContext {
-        rt,
-        alloc,
-        gate: &OpenGate,
-        stop: &stop,
-        clock: &Standing,
-    };
-    Ok(run(&context, config, feeds, NoTicks, sink))
+    run_feeds(rt, alloc, ALL, feeds, &OpenGate, course)
 }
+
+/// A run whose stop mark isn't set before it begins, and whose sink is whole.
+const PLAIN: Course = Course {
+    is_stopped: false,
+    is_broken: false,
+};
 
 /// A reader that fails in a body ends its own connection alone: the next one is served.
 #[test]
 fn reader_fails_in_a_body(rt: HostRuntime) -> Result<(), Fail> {
     let alloc = rt.alloc();
-    let config = configured(alloc, ALL)?;
     let mut cut = request(alloc, A, 1)?;
     let _ = cut.pop();
-    let mut connections = Vec::new(alloc);
-    connections.push(Held::whole(request(alloc, A, 1)?))?;
-    connections.push(Held::broken(cut))?;
-    let (sink, answer) = run_one(&rt, alloc, config, connections, false, false)?;
+    let connections = [Held::whole(request(alloc, A, 1)?), Held::broken(cut)];
+    let (sink, answer) = run_one(&rt, alloc, connections, PLAIN)?;
     let Ok(report) = answer else {
         return Err(Fail::from("a fault"));
     };
@@ -84,10 +65,12 @@ fn reader_fails_in_a_body(rt: HostRuntime) -> Result<(), Fail> {
 #[test]
 fn stopped_before_it_begins(rt: HostRuntime) -> Result<(), Fail> {
     let alloc = rt.alloc();
-    let config = configured(alloc, ALL)?;
-    let mut connections = Vec::new(alloc);
-    connections.push(Held::whole(request(alloc, A, 1)?))?;
-    let (sink, answer) = run_one(&rt, alloc, config, connections, true, false)?;
+    let course = Course {
+        is_stopped: true,
+        is_broken: false,
+    };
+    let connections = [Held::whole(request(alloc, A, 1)?)];
+    let (sink, answer) = run_one(&rt, alloc, connections, course)?;
     let Ok(report) = answer else {
         return Err(Fail::from("a fault"));
     };
@@ -100,10 +83,12 @@ fn stopped_before_it_begins(rt: HostRuntime) -> Result<(), Fail> {
 #[test]
 fn sink_fails_at_its_first_write(rt: HostRuntime) -> Result<(), Fail> {
     let alloc = rt.alloc();
-    let config = configured(alloc, ALL)?;
-    let mut connections = Vec::new(alloc);
-    connections.push(Held::whole(request(alloc, A, 3)?))?;
-    let (sink, answer) = run_one(&rt, alloc, config, connections, false, true)?;
+    let course = Course {
+        is_stopped: false,
+        is_broken: true,
+    };
+    let connections = [Held::whole(request(alloc, A, 3)?)];
+    let (sink, answer) = run_one(&rt, alloc, connections, course)?;
     match answer {
         Err(RunFault::SinkDown(report)) => {
             assert_eq!(rt; numbers(&report), [3, 0, 0, 0, 0, 0, 0, 0, 3]);
@@ -118,12 +103,9 @@ fn sink_fails_at_its_first_write(rt: HostRuntime) -> Result<(), Fail> {
 #[test]
 fn busy_then_done(rt: HostRuntime) -> Result<(), Fail> {
     let alloc = rt.alloc();
-    let config = configured(alloc, ALL)?;
     let mut bytes = request(alloc, A, 1)?;
     bytes.extend_from_slice(&request(alloc, A, 1)?)?;
-    let mut connections = Vec::new(alloc);
-    connections.push(Held::whole(bytes))?;
-    let (sink, answer) = run_one(&rt, alloc, config, connections, false, false)?;
+    let (sink, answer) = run_one(&rt, alloc, [Held::whole(bytes)], PLAIN)?;
     match answer {
         Ok(report) => {
             let [
