@@ -71,7 +71,7 @@ pub fn configured(alloc: Global, text: &str) -> Result<Config, Fail>
 }
 
 /// What a run is like: whether its stop mark is set before it begins, and whether each write to its sink fails.
-#[derive(Drop)]
+#[derive(Clone, Copy, Drop)]
 pub struct Course {
     pub is_stopped: bool,
     pub is_broken: bool,
@@ -116,7 +116,14 @@ fn run_two<G: Gate + Sync, R: Threads + Wait + Clock + RandomSource + Sync>(
         is_stopped: false,
         is_broken: false,
     };
-    run_feeds(rt, alloc, config, Vec::from_array(alloc, feeds)?, gate, course)
+    run_feeds(
+        rt,
+        alloc,
+        config,
+        Vec::from_array(alloc, feeds)?,
+        gate,
+        course,
+    )
 }
 
 /// The nine numbers of a report.

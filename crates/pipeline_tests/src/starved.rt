@@ -27,13 +27,12 @@ fn spans_in(lines: &[u8]) -> u64 {
 }
 
 /// What a run answers of one lane with these connections, the last one first, and its sink.
-fn run_one<R: Threads + Wait + Clock + RandomSource + Sync, const N: usize>(
+fn run_one<R: Threads + Wait + Clock + RandomSource + Sync>(
     rt: &R,
     alloc: Global,
-    connections: [Held; N],
+    connections: Vec<Held>,
     course: Course,
 ) -> Result<(MemorySink, Result<Report, RunFault>), Fail> {
-    let connections = Vec::from_array(alloc, connections)?;
     let mut feeds = Vec::new(alloc);
     feeds.push(MemoryFeed { alloc, connections })?;
     run_feeds(rt, alloc, ALL, feeds, &OpenGate, course)
@@ -51,7 +50,8 @@ fn reader_fails_in_a_body(rt: HostRuntime) -> Result<(), Fail> {
     let alloc = rt.alloc();
     let mut cut = request(alloc, A, 1)?;
     let _ = cut.pop();
-    let connections = [Held::whole(request(alloc, A, 1)?), Held::broken(cut)];
+    let served = Held::whole(request(alloc, A, 1)?);
+    let connections = Vec::from_array(alloc, [served, Held::broken(cut)])?;
     let (sink, answer) = run_one(&rt, alloc, connections, PLAIN)?;
     let Ok(report) = answer else {
         return Err(Fail::from("a fault"));
@@ -69,7 +69,7 @@ fn stopped_before_it_begins(rt: HostRuntime) -> Result<(), Fail> {
         is_stopped: true,
         is_broken: false,
     };
-    let connections = [Held::whole(request(alloc, A, 1)?)];
+    let connections = Vec::from_array(alloc, [Held::whole(request(alloc, A, 1)?)])?;
     let (sink, answer) = run_one(&rt, alloc, connections, course)?;
     let Ok(report) = answer else {
         return Err(Fail::from("a fault"));
@@ -87,7 +87,7 @@ fn sink_fails_at_its_first_write(rt: HostRuntime) -> Result<(), Fail> {
         is_stopped: false,
         is_broken: true,
     };
-    let connections = [Held::whole(request(alloc, A, 3)?)];
+    let connections = Vec::from_array(alloc, [Held::whole(request(alloc, A, 3)?)])?;
     let (sink, answer) = run_one(&rt, alloc, connections, course)?;
     match answer {
         Err(RunFault::SinkDown(report)) => {
@@ -105,7 +105,12 @@ fn busy_then_done(rt: HostRuntime) -> Result<(), Fail> {
     let alloc = rt.alloc();
     let mut bytes = request(alloc, A, 1)?;
     bytes.extend_from_slice(&request(alloc, A, 1)?)?;
-    let (sink, answer) = run_one(&rt, alloc, [Held::whole(bytes)], PLAIN)?;
+    let (sink, answer) = run_one(
+        &rt,
+        alloc,
+        Vec::from_array(alloc, [Held::whole(bytes)])?,
+        PLAIN,
+    )?;
     match answer {
         Ok(report) => {
             let [
