@@ -80,11 +80,11 @@ impl Exchange {
         requires piece { (0 < length arrived.piece.now) × (length arrived.piece.now ≤ PIECE_LIMIT) }
         requires at { (w : Waiting) × AwaitsBy arrived.allowed Awaits self.old.engine w.reading }
         requires spare { IfSome spare.old (λ engine. Awaits engine (in_head arrived.allowed [])) }
-        ensures turn { (w : Waiting) → AwaitsBy arrived.allowed Awaits self.old.engine w.reading → self.old.since ≡ w.since
-            → (coming : Coming) × (events : List Event) × (next : Waiting) × IsTaken arrived.piece.now coming × IsTurnBy coming w arrived.moment false events next × (next.end ≡ result)
-            × (result ≡ None → AwaitsBy arrived.allowed Awaits self.new.engine next.reading × (self.new.since ≡ next.since))
+        ensures turn { (w : Waiting) → AwaitsBy arrived.entry.allowed Awaits self.old.engine w.reading → self.old.since ≡ w.since
+            → (coming : Coming) × (events : List Event) × (next : Waiting) × IsTaken arrived.entry.piece.now coming × IsTurnBy coming w arrived.entry.moment false events next × (next.end ≡ result)
+            × (result ≡ None → AwaitsBy arrived.entry.allowed Awaits self.new.engine next.reading × (self.new.since ≡ next.since))
             × Does (Submits P.takes P.refuses) (W.contents writer.old) (W.contents writer.new) (intake lane.old self.old.conn (C.counted counts.old)) (intake lane.new self.new.conn (C.counted counts.new)) events }
-        ensures spare { IfSome spare.new (λ engine. Awaits engine (in_head arrived.allowed [])) }
+        ensures spare { IfSome spare.new (λ engine. Awaits engine (in_head arrived.entry.allowed [])) }
     {
         let Arrived {
             piece,

@@ -34,10 +34,10 @@ pub(crate) fn came<'l, 'p, P: Port<Item>, C: Counter, W: Write, S: Stop, K: Cloc
     requires open { ContainsKey «open».old key }
     requires at { (x : Exchange) → get «open».old key ≡ Some x → (w : Waiting) × AwaitsBy arrived.allowed Awaits x.engine w.reading }
     requires spare { IfSome spare.old (λ engine. Awaits engine (in_head arrived.allowed [])) }
-    ensures fits { GoesOn (Submits P.takes P.refuses) arrived.allowed (get «open».old) (lane_now lane.old (C.counted counts.old)) (get «open».new) (lane_now lane.new (C.counted counts.new)) (is_full_end result)
-        (TurnAt arrived.allowed (get «open».old) (get «open».new) key arrived.moment AnyOne (IsTaken arrived.piece.now) (Appends (W.contents writer.old) (W.contents writer.new)) result) }
+    ensures fits { GoesOn (Submits P.takes P.refuses) arrived.entry.allowed (get «open».old) (lane_now lane.old (C.counted counts.old)) (get «open».new) (lane_now lane.new (C.counted counts.new)) (is_full_end result)
+        (TurnAt arrived.entry.allowed (get «open».old) (get «open».new) key arrived.entry.moment AnyOne (IsTaken arrived.entry.piece.now) (Appends (W.contents writer.old) (W.contents writer.new)) result) }
     ensures others { (other : ℕ) → other ≢ key → get «open».new other ≡ get «open».old other }
-    ensures spare { IfSome spare.new (λ engine. Awaits engine (in_head arrived.allowed [])) }
+    ensures spare { IfSome spare.new (λ engine. Awaits engine (in_head arrived.entry.allowed [])) }
 {
     let mut exchange = open.remove(key);
     let end = exchange.came(lent, spare, lane, counts, writer, arrived);

@@ -7,7 +7,7 @@ use Rattle.span_exporter.proofs.worker.work.Goals as goal
 
 pub returns : goal.returns
 returns g c =
-    let w = c.work_from.ensures in
+    let w = c.work_from.ensures.works in
     let turns = w.2.turns in
     let merged = merged_in _ [] turns c.args.receiver c.work_from.result.inbox (merge_none c.args.receiver.ends c.requires.new_queues) w.2.pops in
     record {

@@ -18,27 +18,29 @@ loop-preserved-in_default g c =
       c.flush.ensures.emptied.1,
       ap length c.flush.ensures.same.1 ∙ c.loop.invariant.1,
       turned_idle g.I.Inbox.gives c.args.exporter c.args.tally c.args.inbox c.loop.sending.exporter c.flush.new.self.exporter c.loop.sending.tally c.flush.new.self.tally c.loop.inbox c.next-in-loop.new.self
-          t f.0 f.1 c.flush.ensures.same.1 c.in_default.ensures,
+          t f.0 f.1 c.flush.ensures.same.1 c.in_default.ensures.none,
     )
 
 pub returns-then-take : goal.returns-then-take
 returns-then-take g c =
     let t = c.loop.invariant.2 in
-    let first = c.in-Some-next.ensures in
+    let first = c.in-Some-next.ensures.some in
     let a = c.take.ensures.sent c.args.exporter c.args.tally (calls_in t.turns) first.0 t.sent in
     let last = turned_took g.I.Inbox.gives c.args.exporter c.args.tally c.args.inbox c.loop.sending.exporter c.take.new.self.exporter c.loop.sending.tally c.take.new.self.tally c.loop.inbox c.next-in-loop.new.self
     t first.0 c.in-Some-next.shipment a.0 a.1 a.2 a.3 first.1 c.take.ensures.ends in
     let same = ap length c.take.ensures.ends ∙ same_length c.in-Some-next.shipment c.loop.sending.exporter ∙ c.loop.invariant.1 in
-    let finished = c.take.ensures.finished c.if-take.true in (
-      calls_in last.turns,
-      works c.args.exporter c.take.new.self.exporter c.args.tally c.take.new.self.tally (calls_in last.turns) c.requires.new_exporter.0 same finished.0 finished.1 last.sent last.told,
-      record { turns = last.turns; makes = refl; due = last.due; pops = last.pops },
-    )
+    let finished = c.take.ensures.finished c.if-take.true in record {
+      works = (
+        calls_in last.turns,
+        works c.args.exporter c.take.new.self.exporter c.args.tally c.take.new.self.tally (calls_in last.turns) c.requires.new_exporter.0 same finished.0 finished.1 last.sent last.told,
+        record { turns = last.turns; makes = refl; due = last.due; pops = last.pops },
+      );
+    }
 
 pub loop-preserved : goal.loop-preserved
 loop-preserved g c =
     let t = c.loop.invariant.2 in
-    let first = c.in-Some-next.ensures in
+    let first = c.in-Some-next.ensures.some in
     let a = c.take.ensures.sent c.args.exporter c.args.tally (calls_in t.turns) first.0 t.sent in (
       c.take.ensures.room,
       ap length c.take.ensures.ends ∙ same_length c.in-Some-next.shipment c.loop.sending.exporter ∙ c.loop.invariant.1,
