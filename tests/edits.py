@@ -3,7 +3,7 @@
 
 usage: edits.py [--jobs N] [--alone] [--changed | NAME ..]     tries the edits of the named crates; of those whose record is stale; of all
        edits.py --stale                                        tells which crates' record is stale, and tries nothing
-       edits.py --share K/N                                    prints the crates of the K-th of N shares, which cost about the same
+       edits.py --share K/N                                    prints the edits of the K-th of N shares, which cost about the same
 
 The prover must refuse each edit, as under `rt ci`. An edit that cannot be applied, that is not refused, or whose text the prover cannot
 read fails, and so do the edits of a crate that isn't proved as it stands. No source is written: each check is made in a room (tools/kept.py).
@@ -29,6 +29,7 @@ from kept import crates_below, proof_of, room_of, run, sum_of  # noqa: E402
 
 RECORD = "tests/edits.passed"
 PARTS = ("src", "specs", "proofs", "must-fail")
+PIECE = 12  # so many edits of a crate at most are in one share
 Function = collections.namedtuple("Function", "file name first last")
 Edit = collections.namedtuple("Edit", "name pairs functions")
 HEAD = re.compile(r"( *)(?:pub(?:\([^)]*\))? )?(?:const |unsafe )*fn (\w+)")
@@ -220,14 +221,18 @@ def try_all(crates, below, jobs, is_alone):
 
 
 def share(words, below):
-    """Returns the crates of a share: the dearest by the record first, each put into the share that is the cheapest so far."""
+    """Returns the edits of a share, each as its file: those of a crate in pieces of at most a dozen, the dearest piece by the record first, each put into
+    the share that is the cheapest so far."""
     at, _, number = words.partition("/")
-    record, shares = read_record(), [[0, []] for _ in range(int(number))]
-    cost = {it: int(record[it][2]) if it in record else 60 * len(edits_in(it)) for it in below if edits_in(it)}
-    for crate in sorted(cost, key=lambda it: (-cost[it], it)):
+    record, shares, pieces = read_record(), [[0, []] for _ in range(int(number))], []
+    for crate in filter(edits_in, below):
+        found = [f"crates/{crate}/must-fail/{it}" for it in edits_in(crate)]
+        each = int(record[crate][2]) / len(found) if crate in record else 60
+        pieces += [(each * len(found[it : it + PIECE]), found[it : it + PIECE]) for it in range(0, len(found), PIECE)]
+    for cost, piece in sorted(pieces, key=lambda it: (-it[0], it[1])):
         least = min(shares, key=lambda it: it[0])
-        least[0] += cost[crate]
-        least[1].append(crate)
+        least[0] += cost
+        least[1] += piece
     return shares[int(at) % len(shares)][1]
 
 
