@@ -1,6 +1,7 @@
--- How far the joining of threads is.
--- For the contract of `join_all`.
-use Rattle.std.proofs.Common.{◌≡◌, List, [], ◌∷◌, ◌++◌, refl, sym, ap, ◌∙◌, append_assoc, subst, map, reverse, length, arith}
+-- How far the joining of threads is, and what was started.
+-- For the contracts of `join_all`, `take_all_back` and `run_team`.
+use Rattle.std.proofs.Common.{◌≡◌, List, [], ◌∷◌, ◌++◌, refl, sym, ap, ◌∙◌, append_assoc, subst, map, reverse, length, arith, true≢false}
+use Rattle.std.specs.Prelude.{Result, Ok, Err, IsOk, IfOk, OnOk, MatchResult}
 use Rattle.std.proofs.lemmas.List.{append-nil, map-append, reverse-append}
 use Rattle.job_threads.specs.Jobs.{HaveDone}
 
@@ -52,7 +53,32 @@ module _ {H J X : Type 0} (did : J → X → Type 0) (f : H → J) where
   starts_one jobs hs new h rest j is grown same =
       ap (λ (l : List H). rest ++ reverse (map f l)) grown ∙ (ap (λ (l : List J). rest ++ l) (last_first hs h ∙ ap (λ (k : J). k ∷ reverse (map f hs)) same) ∙ (sym (append_assoc rest (j ∷ []) (reverse (map f hs))) ∙ ap (λ (l : List J). l ++ reverse (map f hs)) (sym is)))
 
+module _ {H J : Type 0} (f : H → J) where
+  last_one : (hs : List H) (h : H) → reverse (map f (hs ++ h ∷ [])) ≡ f h ∷ reverse (map f hs)
+  last_one hs h = ap reverse (map-append f hs (h ∷ [])) ∙ reverse-append (map f hs) (f h ∷ [])
+
+  -- one job comes back behind those that are there
+  pub comes_back : (jobs new : List J) (old hs : List H) (h : H) (j : J) → old ≡ hs ++ h ∷ [] → new ≡ jobs ++ j ∷ [] → j ≡ f h → new ++ reverse (map f hs) ≡ jobs ++ reverse (map f old)
+  comes_back jobs new old hs h j is grown same =
+      ap (λ (l : List J). l ++ reverse (map f hs)) grown ∙ (append_assoc jobs (j ∷ []) (reverse (map f hs)) ∙ (ap (λ (k : J). jobs ++ k ∷ reverse (map f hs)) same ∙ ap (λ (l : List J). jobs ++ l) (sym (ap (λ (l : List H). reverse (map f l)) is ∙ last_one hs h))))
+
+  pub all_back : (all jobs : List J) (old : List H) → old ≡ [] → jobs ++ reverse (map f old) ≡ all → jobs ≡ all
+  all_back all jobs old none whole = sym (append-nil jobs) ∙ subst (λ (l : List H). jobs ++ reverse (map f l) ≡ all) none whole
+
 module _ {H : Type 0} where
   pub is_empty : (hs : List H) → length hs ≡ 0 → hs ≡ []
   is_empty [] none = refl
   is_empty (h ∷ hs) none = absurd (omega (arith, none))
+
+pub on_ok : {A E : Type 0} (r : Result A E) (P : Type 0) → IsOk r → OnOk r P → P
+on_ok (Ok x) P is on = on
+on_ok (Err e) P is on = absurd (true≢false (sym is))
+
+-- nothing stands before those that were started
+pub all_started : {J : Type 0} (left started team : List J) → left ++ started ≡ team → left ≡ [] → started ≡ team
+all_started left started team whole none = subst (λ l. l ++ started ≡ team) none whole
+
+-- the one that was started is the team's
+pub one_did : {H K X : Type 0} (f : H → K) (did : K → X → Type 0) (r : Result H K) (k : K) (x : X) → IsOk r → MatchResult r (λ h. f h ≡ k) (λ j. j ≡ k) → IfOk r (λ h. did (f h) x) → did k x
+one_did f did (Ok h) k x is same d = subst (λ j. did j x) same d
+one_did f did (Err j) k x is same d = absurd (true≢false (sym is))

@@ -1,5 +1,5 @@
 //! What runs on a thread of its own.
-ghost use Rattle.std.specs.Prelude.{◌≡◌, true, MatchOption};
+ghost use Rattle.std.specs.Prelude.{◌≡◌};
 
 use std::snapshot::Snapshot;
 use std::sync::{OnceLock, OnceToken};
@@ -22,23 +22,33 @@ pub trait Job {
         ensures { did self result };
 }
 
-/// What a thread gives back: the start word that it saw, and what is left of its job where that said yes.
+/// What became of a job.
 #[derive(Drop)]
-pub struct Done<'s, X> {
-    pub word: OnceToken<'s, bool>,
-    pub left: Option<X>,
+pub enum Ended<J, X> {
+    /// It has worked, and left this.
+    Left(X),
+    /// It hasn't worked, and is as it was.
+    Back(J),
 }
 
-/// What a thread promises that is started with this job: it saw this start word, and has worked where that said yes. Where it
-/// said no, nothing is left.
+/// What a thread gives back: the start word that it saw, and what became of its job.
+#[derive(Drop)]
+pub struct Done<'s, J, X> {
+    pub word: OnceToken<'s, bool>,
+    pub ended: Ended<J, X>,
+}
+
+/// What a thread promises that is started with this job: it saw this start word. Where that said yes the job has worked, and
+/// where it said no the job comes back.
 #[derive(Drop)]
 pub struct Works<'s, J> {
     pub word: &'s OnceLock<bool>,
     pub job: Snapshot<J>,
 }
 
-impl<'s, J: Job> Promise<Done<'s, J::Left>> for Works<'s, J> {
-    ghost use Rattle.std.specs.Prelude.{◌≡◌, true, false, MatchOption, None};
+impl<'s, J: Job> Promise<Done<'s, J, J::Left>> for Works<'s, J> {
+    ghost use Rattle.std.specs.Prelude.{◌≡◌};
+    ghost use Rattle.job_threads.specs.Jobs.{EndsBy};
 
-    ghost kept_by = { λ p r. (r.word.of ≡ p.word.now.id) × (r.word.value ≡ true → MatchOption r.left ⊥ (λ left. J.did p.job.value left)) × (r.word.value ≡ false → r.left ≡ None) };
+    ghost kept_by = { λ p r. (r.word.of ≡ p.word.now.id) × EndsBy J.did p.job.value r.word.value r.ended };
 }

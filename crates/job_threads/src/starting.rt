@@ -1,80 +1,115 @@
 //! Threads are started.
-ghost use Rattle.std.specs.Prelude.{◌≡◌, ◌+◌, ◌++◌, ◌≤◌, vec_capacity, [], ◌∷◌, All, true, false, None, MatchOption, IfSome, vec_len, map, reverse};
+ghost use Rattle.std.specs.Prelude.{◌≡◌, ◌+◌, ◌++◌, ◌≤◌, vec_capacity, [], ◌∷◌, All, true, false, IfOk, OnOk, IfErr, IfSome, vec_len, map, reverse};
+ghost use Rattle.job_threads.specs.Jobs.{EndsBy};
 
-use crate::job::{Done, Job, Works};
-use crate::word::await_word;
+use crate::job::{Done, Ended, Job, Works};
+use crate::word::{await_word, say_no};
 use std::alloc::Global;
 use std::snapshot::Snapshot;
-use std::sync::{OnceLock, Wait};
+use std::sync::{OnceLock, OnceToken, Wait};
 use std::thread::{PromisedHandle, Scope, Threads};
 
 /// A thread that was started.
-pub type Handle<'s, J> = PromisedHandle<Done<'s, <J as Job>::Left>, Works<'s, J>>;
+pub type Handle<'s, J> = PromisedHandle<Done<'s, J, <J as Job>::Left>, Works<'s, J>>;
 
-/// What a thread does.
-fn thread<'s, J: Job + Drop, R: Wait>(rt: &R, word: &'s OnceLock<bool>, job: J) -> Done<'s, J::Left>
-    requires { J.ready job }
-    ensures { (result.word.of ≡ word.now.id) × (result.word.value ≡ true → MatchOption result.left ⊥ (λ left. J.did job left))
-        × (result.word.value ≡ false → result.left ≡ None) }
-{
-    let token = await_word(rt, word);
-    let left = if *word.value(&token) {
-        Some(job.work())
-    } else {
-        None
-    };
-    Done { word: token, left }
+/// Jobs: those for which no thread was started, and the threads of the others, the last job's first.
+#[derive(Drop)]
+pub struct Begun<'s, J: Job> {
+    pub jobs: Vec<J>,
+    pub handles: Vec<Handle<'s, J>>,
 }
 
-/// Starts a thread for a job. `None` where no thread can be made.
+/// Whether all threads were started. If not, and one couldn't be started: the word, which then said no.
+pub type Started<'s> = Result<(), Option<OnceToken<'s, bool>>>;
+
+/// What a thread does.
+fn thread<'s, J: Job + Drop, R: Wait>(
+    rt: &R,
+    word: &'s OnceLock<bool>,
+    job: J,
+) -> Done<'s, J, J::Left>
+    requires { J.ready job }
+    ensures { (result.word.of ≡ word.now.id) × EndsBy J.did job result.word.value result.ended }
+{
+    let token = await_word(rt, word);
+    let ended = if *word.value(&token) {
+        Ended::Left(job.work())
+    } else {
+        Ended::Back(job)
+    };
+    Done { word: token, ended }
+}
+
+/// Starts a thread for a job. Where no thread can be made the word says no, and the job comes back.
 pub fn start<'s, E, J: Job + Send + Drop + 's, R: Threads + Wait + Sync + 's>(
     scope: &Scope<'s, E>,
     rt: &'s R,
     word: &'s OnceLock<bool>,
     job: J,
-) -> Option<Handle<'s, J>>
+) -> Result<Handle<'s, J>, (J, OnceToken<'s, bool>)>
 where
     J::Left: Send,
     requires { J.ready job }
-    ensures { IfSome result (λ h. (h.promise.word.now.id ≡ word.now.id) × (h.promise.job.value ≡ job)) }
+    ensures started { IfOk result (λ h. (h.promise.word.now.id ≡ word.now.id) × (h.promise.job.value ≡ job)) }
+    ensures back { IfErr result (λ back. back.0 ≡ job) }
+    ensures said { IfErr result (λ back. (back.1.of ≡ word.now.id) × (back.1.value ≡ false)) }
 {
     let promise = Works {
         word,
         job: Snapshot::of(&job),
     };
-    scope
-        .spawn_with(
-            promise,
-            move || -> Done<'_, J::Left>
-                requires { J.ready job }
-                ensures { (result.word.of ≡ word.entry.now.id) × (result.word.value ≡ true → MatchOption result.left ⊥ (λ left. J.did job left))
-                    × (result.word.value ≡ false → result.left ≡ None) }
-            { thread(rt, word, job) },
-        )
-        .ok()
+    let spawned = scope.spawn_with(
+        promise,
+        move || -> Done<'_, J, J::Left>
+            requires { J.ready job }
+            ensures { (result.word.of ≡ word.entry.now.id) × EndsBy J.did job result.word.value result.ended }
+        { thread(rt, word, job) },
+    );
+    match spawned {
+        Ok(handle) => Ok(handle),
+        Err(refused) => {
+            let token = say_no(rt, word);
+            let told = refused.value;
+            let Done { word: seen, ended } = told();
+            token.agrees(&seen);
+            match ended {
+                Ended::Back(job) => Err((job, token)),
+                Ended::Left(_) => unreachable!(),
+            }
+        }
+    }
 }
 
-/// Starts a thread for each job, the last one first. `None` where there is no memory for the handles, or one couldn't be
-/// started.
+/// Starts a thread for each job, the last one first, until one can't be started, or there is no memory for the handles.
 pub fn start_all<'s, E, J: Job + Send + Drop + 's, R: Threads + Wait + Sync + 's>(
     scope: &Scope<'s, E>,
     rt: &'s R,
     alloc: Global,
     word: &'s OnceLock<bool>,
     jobs: Vec<J>,
-) -> Option<Vec<Handle<'s, J>>>
+) -> (Begun<'s, J>, Started<'s>)
 where
     J::Left: Send,
     requires { All J.ready jobs.items }
-    ensures jobs { IfSome result (λ handles. reverse (map (λ h. h.promise.job.value) handles.items) ≡ jobs.items) }
-    ensures word { IfSome result (λ handles. All (λ h. h.promise.word.now.id ≡ word.now.id) handles.items) }
+    ensures jobs { result.0.jobs.items ++ reverse (map (λ h. h.promise.job.value) result.0.handles.items) ≡ jobs.items }
+    ensures room { vec_len result.0.jobs + vec_len result.0.handles ≤ vec_capacity result.0.jobs }
+    ensures words { All (λ h. h.promise.word.now.id ≡ word.now.id) result.0.handles.items }
+    ensures all { OnOk result.1 (result.0.jobs.items ≡ []) }
+    ensures said { IfErr result.1 (λ said. IfSome said (λ token. (token.of ≡ word.now.id) × (token.value ≡ false))) }
 {
     let mut jobs = jobs;
     let Ok(mut handles) = Vec::with_capacity(alloc, jobs.len()) else {
-        return None;
+        let handles = Vec::new(alloc);
+        return (Begun { jobs, handles }, Err(None));
     };
     while let Some(job) = jobs.pop() {
-        handles.push_reserved(start(scope, rt, word, job)?);
+        match start(scope, rt, word, job) {
+            Ok(handle) => handles.push_reserved(handle),
+            Err((back, token)) => {
+                jobs.push_reserved(back);
+                return (Begun { jobs, handles }, Err(Some(token)));
+            }
+        }
     }
-    Some(handles)
+    (Begun { jobs, handles }, Ok(()))
 }

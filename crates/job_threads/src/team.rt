@@ -1,10 +1,11 @@
 //! Jobs of three kinds on threads of their own, beside one on the caller's.
-ghost use Rattle.std.specs.Prelude.{◌≡◌, ◌≤◌, [], All, IfErr, IfOk, IfSome, Some, false, map, reverse, true, vec_capacity, vec_len};
-ghost use Rattle.job_threads.specs.Jobs.{HaveDone, TeamDid};
+ghost use Rattle.std.specs.Prelude.{◌≡◌, ◌+◌, ◌++◌, ◌≤◌, [], All, IfErr, IfOk, IfSome, IsOk, OnOk, MatchResult, false, map, reverse, true, vec_capacity, vec_len};
+ghost use Rattle.job_threads.specs.Jobs.{HaveDone, IsTeam, TeamDid};
 
 use crate::job::Job;
-use crate::joining::{join, join_all};
-use crate::starting::{Handle, start, start_all};
+use crate::joining::{join, join_all, take_all_back, take_back};
+use crate::starting::{Begun, Handle, Started, start, start_all};
+use crate::word::say_no;
 use std::alloc::{AllocError, Global};
 use std::sync::{OnceLock, OnceToken, Wait};
 use std::thread;
@@ -25,18 +26,18 @@ struct Rooms<A, B> {
     third: Vec<B>,
 }
 
-/// The threads of a team.
+/// A team whose threads are being started.
 #[derive(Drop)]
 struct Handles<'s, J: Job, K: Job, L: Job> {
-    first: Vec<Handle<'s, J>>,
-    second: Handle<'s, K>,
-    third: Vec<Handle<'s, L>>,
+    first: Begun<'s, J>,
+    second: Result<Handle<'s, K>, K>,
+    third: Begun<'s, L>,
 }
 
 /// Runs all jobs of a team at once, each on a thread of its own, and `main` on the caller's. It joins the threads when
 /// `main` has ended, those of the first kind, then the second's, then those of the third, and gives what all left.
 ///
-/// `Err` has `main` as it was: there was no memory, or a thread couldn't be started. Then no job has worked.
+/// `Err` has all jobs as they were: there was no memory, or a thread couldn't be started. Then none has worked.
 pub fn run_team<
     J: Job + Send + Drop,
     K: Job + Send + Drop,
@@ -48,7 +49,7 @@ pub fn run_team<
     alloc: Global,
     team: Team<J, K, L>,
     main: M,
-) -> Result<(Team<J::Left, K::Left, L::Left>, M::Left), M>
+) -> Result<(Team<J::Left, K::Left, L::Left>, M::Left), (Team<J, K, L>, M)>
 where
     J::Left: Send,
     K::Left: Send,
@@ -60,28 +61,28 @@ where
     ensures third { IfOk result (λ left. HaveDone L.did team.third.items left.0.third.items) }
     ensures main { IfOk result (λ left. M.did main left.1) }
     ensures counts { IfOk result (λ left. (vec_len left.0.first ≡ vec_len team.first) × (vec_len left.0.third ≡ vec_len team.third)) }
-    ensures back { IfErr result (λ back. back ≡ main) }
+    ensures back { IfErr result (λ back. IsTeam team back.0 × (back.1 ≡ main)) }
 {
     let Ok(rooms) = rooms_for(alloc, team.first.len(), team.third.len()) else {
-        return Err(main);
+        return Err((team, main));
     };
     let word = OnceLock::new();
     let begin = &word;
     thread::scope(
         thread::scope_env(),
         rt,
-        |scope| -> Result<(Team<J::Left, K::Left, L::Left>, M::Left), M>
+        |scope| -> Result<(Team<J::Left, K::Left, L::Left>, M::Left), (Team<J, K, L>, M)>
             requires ready { All J.ready team.first.items × K.ready team.second × All L.ready team.third.items × M.ready main }
             requires first_room { (rooms.first.items ≡ []) × (vec_len team.first ≤ vec_capacity rooms.first) }
             requires third_room { (rooms.third.items ≡ []) × (vec_len team.third ≤ vec_capacity rooms.third) }
             ensures did { IfOk result (λ left. TeamDid J.did K.did L.did team left.0 × M.did main left.1) }
             ensures counts { IfOk result (λ left. (vec_len left.0.first ≡ vec_len team.first) × (vec_len left.0.third ≡ vec_len team.third)) }
-            ensures back { IfErr result (λ back. back ≡ main) }
+            ensures back { IfErr result (λ back. IsTeam team back.0 × (back.1 ≡ main)) }
         {
-            let started = start_team(scope, rt, alloc, begin, team);
+            let (handles, started) = start_team(scope, rt, alloc, begin, team);
             match tell(rt, begin, started) {
-                Ok((handles, token)) => { Ok(work_and_join(rt, &token, handles, rooms, main)) }
-                Err(_) => Err(main),
+                Ok(token) => Ok(work_and_join(rt, &token, handles, rooms, main)),
+                Err(token) => Err((take_team_back(rt, &token, handles), main)),
             }
         },
     )
@@ -102,27 +103,29 @@ fn rooms_for<A: Drop, B: Drop>(
     })
 }
 
-/// Says by the start word whether all were started. `Err` where they weren't, with the word, or with `None` where it was
-/// said before.
-fn tell<'s, H: Drop, R: Wait>(
+/// Says by the start word whether all were started: yes, or no.
+fn tell<'s, R: Wait>(
     rt: &R,
     word: &'s OnceLock<bool>,
-    started: Option<H>,
-) -> Result<(H, OnceToken<'s, bool>), Option<OnceToken<'s, bool>>>
-    ensures handles { IfOk result (λ told. started ≡ Some told.0) }
-    ensures yes { IfOk result (λ told. (told.1.value ≡ true) × (told.1.of ≡ word.now.id)) }
-    ensures no { IfErr result (λ told. IfSome told (λ token. (token.value ≡ false) × (token.of ≡ word.now.id))) }
+    started: Started<'s>,
+) -> Result<OnceToken<'s, bool>, OnceToken<'s, bool>>
+    requires { IfErr started (λ said. IfSome said (λ token. (token.of ≡ word.now.id) × (token.value ≡ false))) }
+    ensures all { OnOk result (IsOk started.entry) }
+    ensures yes { IfOk result (λ token. (token.value ≡ true) × (token.of ≡ word.now.id)) }
+    ensures no { IfErr result (λ token. (token.value ≡ false) × (token.of ≡ word.now.id)) }
 {
-    let said = word.set(rt, started.is_some());
-    match (started, said) {
-        (Some(handles), Ok(token)) => Ok((handles, token)),
-        (None, Ok(token)) => Err(Some(token)),
-        (_, Err(_)) => Err(None),
+    match started {
+        Ok(()) => match word.set(rt, true) {
+            Ok(token) => Ok(token),
+            Err(_) => Err(say_no(rt, word)),
+        },
+        Err(Some(token)) => Err(token),
+        Err(None) => Err(say_no(rt, word)),
     }
 }
 
 /// Works, and joins threads that have been told to work.
-fn work_and_join<'s, J: Job, K: Job, L: Job, M: Job, R: Threads>(
+fn work_and_join<'s, J: Job + Drop, K: Job + Drop, L: Job + Drop, M: Job, R: Threads>(
     rt: &R,
     token: &OnceToken<'s, bool>,
     handles: Handles<'s, J, K, L>,
@@ -130,25 +133,60 @@ fn work_and_join<'s, J: Job, K: Job, L: Job, M: Job, R: Threads>(
     main: M,
 ) -> (Team<J::Left, K::Left, L::Left>, M::Left)
     requires yes { token.now.value ≡ true }
-    requires words { All (λ h. h.promise.word.now.id ≡ token.now.of) handles.first.items × (handles.second.promise.word.now.id ≡ token.now.of) × All (λ h. h.promise.word.now.id ≡ token.now.of) handles.third.items }
-    requires first_room { (rooms.first.items ≡ []) × (vec_len handles.first ≤ vec_capacity rooms.first) }
-    requires third_room { (rooms.third.items ≡ []) × (vec_len handles.third ≤ vec_capacity rooms.third) }
+    requires words { All (λ h. h.promise.word.now.id ≡ token.now.of) handles.first.handles.items × MatchResult handles.second (λ h. h.promise.word.now.id ≡ token.now.of) (λ _. ⊥) × All (λ h. h.promise.word.now.id ≡ token.now.of) handles.third.handles.items }
+    requires first_room { (rooms.first.items ≡ []) × (vec_len handles.first.handles ≤ vec_capacity rooms.first) }
+    requires third_room { (rooms.third.items ≡ []) × (vec_len handles.third.handles ≤ vec_capacity rooms.third) }
     requires main { M.ready main }
-    ensures first { HaveDone J.did (reverse (map (λ h. h.promise.job.value) handles.entry.first.items)) result.0.first.items }
-    ensures second { K.did handles.entry.second.promise.job.value result.0.second }
-    ensures third { HaveDone L.did (reverse (map (λ h. h.promise.job.value) handles.entry.third.items)) result.0.third.items }
+    ensures first { HaveDone J.did (reverse (map (λ h. h.promise.job.value) handles.entry.first.handles.items)) result.0.first.items }
+    ensures second { IfOk handles.entry.second (λ h. K.did h.promise.job.value result.0.second) }
+    ensures third { HaveDone L.did (reverse (map (λ h. h.promise.job.value) handles.entry.third.handles.items)) result.0.third.items }
     ensures main { M.did main result.1 }
 {
     let main_left = main.work();
+    let Handles {
+        first,
+        second,
+        third,
+    } = handles;
+    let Ok(second) = second else { unreachable!() };
     let left = Team {
-        first: join_all(rt, token, handles.first, rooms.first),
-        second: join(rt, token, handles.second),
-        third: join_all(rt, token, handles.third, rooms.third),
+        first: join_all(rt, token, first.handles, rooms.first),
+        second: join(rt, token, second),
+        third: join_all(rt, token, third.handles, rooms.third),
     };
     (left, main_left)
 }
 
-/// Starts a thread for each job. `None` where there is no memory for the handles, or one couldn't be started.
+/// Joins threads that have been told not to work, and gives the team back.
+fn take_team_back<'s, J: Job + Drop, K: Job + Drop, L: Job + Drop, R: Threads>(
+    rt: &R,
+    token: &OnceToken<'s, bool>,
+    handles: Handles<'s, J, K, L>,
+) -> Team<J, K, L>
+    requires no { token.now.value ≡ false }
+    requires words { All (λ h. h.promise.word.now.id ≡ token.now.of) handles.first.handles.items × IfOk handles.second (λ h. h.promise.word.now.id ≡ token.now.of) × All (λ h. h.promise.word.now.id ≡ token.now.of) handles.third.handles.items }
+    requires first_room { vec_len handles.first.jobs + vec_len handles.first.handles ≤ vec_capacity handles.first.jobs }
+    requires third_room { vec_len handles.third.jobs + vec_len handles.third.handles ≤ vec_capacity handles.third.jobs }
+    ensures first { result.first.items ≡ handles.entry.first.jobs.items ++ reverse (map (λ h. h.promise.job.value) handles.entry.first.handles.items) }
+    ensures second { MatchResult handles.entry.second (λ h. result.second ≡ h.promise.job.value) (λ job. result.second ≡ job) }
+    ensures third { result.third.items ≡ handles.entry.third.jobs.items ++ reverse (map (λ h. h.promise.job.value) handles.entry.third.handles.items) }
+{
+    let Handles {
+        first,
+        second,
+        third,
+    } = handles;
+    Team {
+        first: take_all_back(rt, token, first),
+        second: match second {
+            Ok(handle) => take_back(rt, token, handle),
+            Err(job) => job,
+        },
+        third: take_all_back(rt, token, third),
+    }
+}
+
+/// Starts a thread for each job, until one can't be started, or there is no memory for the handles.
 fn start_team<
     's,
     E,
@@ -162,27 +200,72 @@ fn start_team<
     alloc: Global,
     word: &'s OnceLock<bool>,
     team: Team<J, K, L>,
-) -> Option<Handles<'s, J, K, L>>
+) -> (Handles<'s, J, K, L>, Started<'s>)
 where
     J::Left: Send,
     K::Left: Send,
     L::Left: Send,
     requires { All J.ready team.first.items × K.ready team.second × All L.ready team.third.items }
-    ensures first { IfSome result (λ h. (reverse (map (λ h. h.promise.job.value) h.first.items) ≡ team.first.items) × All (λ h. h.promise.word.now.id ≡ word.now.id) h.first.items) }
-    ensures second { IfSome result (λ h. (h.second.promise.job.value ≡ team.second) × (h.second.promise.word.now.id ≡ word.now.id)) }
-    ensures third { IfSome result (λ h. (reverse (map (λ h. h.promise.job.value) h.third.items) ≡ team.third.items) × All (λ h. h.promise.word.now.id ≡ word.now.id) h.third.items) }
+    ensures first { result.0.first.jobs.items ++ reverse (map (λ h. h.promise.job.value) result.0.first.handles.items) ≡ team.first.items }
+    ensures second { MatchResult result.0.second (λ h. h.promise.job.value ≡ team.second) (λ job. job ≡ team.second) }
+    ensures third { result.0.third.jobs.items ++ reverse (map (λ h. h.promise.job.value) result.0.third.handles.items) ≡ team.third.items }
+    ensures words { All (λ h. h.promise.word.now.id ≡ word.now.id) result.0.first.handles.items × IfOk result.0.second (λ h. h.promise.word.now.id ≡ word.now.id) × All (λ h. h.promise.word.now.id ≡ word.now.id) result.0.third.handles.items }
+    ensures first_room { vec_len result.0.first.jobs + vec_len result.0.first.handles ≤ vec_capacity result.0.first.jobs }
+    ensures third_room { vec_len result.0.third.jobs + vec_len result.0.third.handles ≤ vec_capacity result.0.third.jobs }
+    ensures all { OnOk result.1 ((result.0.first.jobs.items ≡ []) × IsOk result.0.second × (result.0.third.jobs.items ≡ [])) }
+    ensures said { IfErr result.1 (λ said. IfSome said (λ token. (token.of ≡ word.now.id) × (token.value ≡ false))) }
 {
     let Team {
         first,
         second,
         third,
     } = team;
-    let first = start_all(scope, rt, alloc, word, first)?;
-    let second = start(scope, rt, word, second)?;
-    let third = start_all(scope, rt, alloc, word, third)?;
-    Some(Handles {
-        first,
-        second,
-        third,
-    })
+    let (first, started) = start_all(scope, rt, alloc, word, first);
+    if let Err(said) = started {
+        let third = unbegun(alloc, third);
+        let second = Err(second);
+        return (
+            Handles {
+                first,
+                second,
+                third,
+            },
+            Err(said),
+        );
+    }
+    let second = match start(scope, rt, word, second) {
+        Ok(handle) => handle,
+        Err((back, token)) => {
+            let third = unbegun(alloc, third);
+            let second = Err(back);
+            return (
+                Handles {
+                    first,
+                    second,
+                    third,
+                },
+                Err(Some(token)),
+            );
+        }
+    };
+    let (third, started) = start_all(scope, rt, alloc, word, third);
+    let second = Ok(second);
+    (
+        Handles {
+            first,
+            second,
+            third,
+        },
+        started,
+    )
+}
+
+/// Jobs for which no thread was started.
+fn unbegun<'s, J: Job>(alloc: Global, jobs: Vec<J>) -> Begun<'s, J>
+    ensures jobs { result.jobs.items ≡ jobs.items }
+    ensures handles { result.handles.items ≡ [] }
+    ensures room { vec_len result.jobs + vec_len result.handles ≤ vec_capacity result.jobs }
+{
+    let handles = Vec::new(alloc);
+    Begun { jobs, handles }
 }

@@ -272,6 +272,6 @@ fn run_over<
             join_all(columns, ends, last.receiver, rows);
             Ok((last.exporter, counted))
         }
-        Err(job) => Err(job.exporter),
+        Err((_, job)) => Err(job.exporter),
     }
 }

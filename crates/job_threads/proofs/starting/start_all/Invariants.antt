@@ -7,6 +7,7 @@ invariant-loop-job g l = (l.jobs.items ++ reverse (map (λ h. h.promise.job.valu
     × (vec_len l.jobs + vec_len l.handles ≤ vec_capacity l.handles)
     × All (λ h. h.promise.word.now.id ≡ l.fn.word.id) l.handles.items
     × All g.J.Job.ready l.jobs.items
+    × (vec_len l.jobs + vec_len l.handles ≤ vec_capacity l.jobs)
 
 abbrev pub decreases-loop-job : goal.decreases-loop-job
 decreases-loop-job g l = vec_len l.jobs
