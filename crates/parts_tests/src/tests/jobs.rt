@@ -1,7 +1,7 @@
 //! Three jobs that are told to work, and three that are told not to.
 ghost use Rattle.std.specs.Prelude.{◌≡◌};
 
-use job_threads::{Job, join_all, start_all};
+use job_threads::{Job, join_all, start_all, take_all_back};
 use std::alloc::{AllocError, Global};
 use std::sync::atomic::{AtomicU64, Ordering};
 use std::sync::{OnceLock, Wait};
@@ -31,7 +31,7 @@ impl<'s> Job for Adds<'s> {
     }
 }
 
-/// What three jobs leave that are told so. None where they were told not to work, or couldn't be started.
+/// What three jobs left that are told to work, and the numbers of those that came back. `None` where one couldn't be started.
 fn in_scope<'s, E, R: Threads + Wait + Sync + 's>(
     scope: &Scope<'s, E>,
     rt: &'s R,
@@ -39,29 +39,32 @@ fn in_scope<'s, E, R: Threads + Wait + Sync + 's>(
     word: &'s OnceLock<bool>,
     jobs: Vec<Adds<'s>>,
     works: bool,
-) -> Option<Vec<u64>> {
+) -> Option<(Vec<u64>, Vec<u64>)> {
     let count = jobs.len();
-    let started = start_all(scope, rt, alloc, word, jobs);
-    let said = word.set(rt, works && started.is_some());
-    let (Some(handles), Ok(token)) = (started, said) else {
+    let (begun, started) = start_all(scope, rt, alloc, word, jobs);
+    let Ok(token) = word.set(rt, works && started.is_ok()) else {
         return None;
     };
-    if !*word.value(&token) {
-        return None;
+    let lefts = Vec::with_capacity(alloc, count).ok()?;
+    let mut numbers = Vec::new(alloc);
+    if *word.value(&token) {
+        if begun.handles.len() > lefts.capacity() {
+            return None;
+        }
+        return Some((join_all(rt, &token, begun.handles, lefts), numbers));
     }
-    let room = Vec::with_capacity(alloc, count).ok()?;
-    if handles.len() > room.capacity() {
-        return None;
+    for job in take_all_back(rt, &token, begun) {
+        numbers.push(job.number).ok()?;
     }
-    Some(join_all(rt, &token, handles, room))
+    Some((lefts, numbers))
 }
 
-/// What three jobs leave that are told so, and the sum.
+/// The same with new jobs, and the sum.
 fn three<R: Threads + Wait + Sync>(
     rt: &R,
     alloc: Global,
     works: bool,
-) -> Result<(Option<Vec<u64>>, u64), AllocError> {
+) -> Result<(Vec<u64>, Vec<u64>, u64), AllocError> {
     let sum = AtomicU64::new(0);
     let word = OnceLock::new();
     let mut jobs = Vec::with_capacity(alloc, 3)?;
@@ -69,25 +72,27 @@ fn three<R: Threads + Wait + Sync>(
         jobs.push(Adds { number, sum: &sum })?;
     }
     let begin = &word;
-    let lefts = thread::scope(thread::scope_env(), rt, |scope| {
+    let ended = thread::scope(thread::scope_env(), rt, |scope| {
         in_scope(scope, rt, alloc, begin, jobs, works)
     });
-    Ok((lefts, sum.load(Ordering::SeqCst)))
+    let (lefts, numbers) = ended.ok_or(AllocError)?;
+    Ok((lefts, numbers, sum.load(Ordering::SeqCst)))
 }
 
 #[test]
 fn three_work(rt: HostRuntime) -> Result<(), Fail> {
-    let (lefts, sum) = three(&rt, rt.alloc(), true)?;
-    let lefts = lefts.ok_or(AllocError)?;
+    let (lefts, numbers, sum) = three(&rt, rt.alloc(), true)?;
     assert_eq!(rt; lefts.as_slice(), &[1, 2, 3][..]);
+    assert!(rt; numbers.is_empty());
     assert_eq!(rt; sum, 6);
     Ok(())
 }
 
 #[test]
-fn three_do_nothing(rt: HostRuntime) -> Result<(), Fail> {
-    let (lefts, sum) = three(&rt, rt.alloc(), false)?;
-    assert!(rt; lefts.is_none());
+fn three_come_back(rt: HostRuntime) -> Result<(), Fail> {
+    let (lefts, numbers, sum) = three(&rt, rt.alloc(), false)?;
+    assert!(rt; lefts.is_empty());
+    assert_eq!(rt; numbers.as_slice(), &[1, 2, 3][..]);
     assert_eq!(rt; sum, 0);
     Ok(())
 }
