@@ -272,6 +272,9 @@ fn run_over<
             join_all(columns, ends, last.receiver, rows);
             Ok((last.exporter, counted))
         }
-        Err((_, job)) => Err(job.exporter),
+        Err(back) => {
+            let (_, job) = back;
+            Err(job.exporter)
+        }
     }
 }
