@@ -88,12 +88,10 @@ def in_charge(start):
     for client in waits:
         client.send(post(body_of([])))
         client.answer()
-    for _ in range(400):
-        if scrape(admin)["tsc_connections_open"] == 3:
-            break
-        time.sleep(0.05)
-    else:
-        raise Failure("three connections are open, and another number is told")
+    comes_to("the open connections", lambda: scrape(admin)["tsc_connections_open"], 3)
+    for client in waits[1:]:
+        client.close()
+    comes_to("those that are left", lambda: scrape(admin)["tsc_connections_open"], 1)
     want("the answer to /close", asked(admin, post(b"", "/close"))[::2], (200, "{}"))
     lines, report = collector.end()
     want("the spans", len(spans_of(lines)), 1)
@@ -151,7 +149,7 @@ def in_charge_by_a_socket(start):
         with socket.socket(socket.AF_UNIX) as left:
             left.bind(path)
         collector = start(f'admin = "unix:{path}"\n' + ALL)
-        want("the file's mode", oct(os.stat(path).st_mode), oct(stat.S_IFSOCK | 0o600))
+        comes_to("the file's mode", lambda: oct(os.stat(path).st_mode), oct(stat.S_IFSOCK | 0o600))  # (it listens at the first address before)
         want("what else is there", os.listdir(folder), ["admin.sock"])
         want("health", asked_at_a_socket(path, get("/healthz")), (200, b"ok\n"))
         want("/close at the first address", collector.ask(post(b"", "/close"))[0], 404)
@@ -192,6 +190,49 @@ def odd_questions(start):
     want("health behind a silent one", asked(admin, get("/healthz"))[0], 200)
     at_most("the wait behind a silent one", 30, began)
     silent.close()
+    want("the answer to /close", asked(admin, post(b"", "/close"))[::2], (200, "{}"))
+    want("the report", collector.end()[1], [0] * 9)
+
+
+def answers_by_status(start):
+    """How many requests were answered is told by each status, also of two that were answered at once."""
+    admin = free_port()
+    collector = start(f'admin = "127.0.0.1:{admin}"\n' + ALL)
+    slow = collector.client()
+    slow.send(b"POST /v1/traces HTTP/1.1\r\n")
+    two = collector.client()
+    two.send(post(body_of([ERROR_SPAN])) * 2)
+    for _ in range(2):
+        want("the answer to one of two", two.answer()[0], 200)
+    rows = [
+        (400, post(b"[]"), 3),
+        (404, post(b"", "/v1/metrics"), 4),
+        (405, post(b"", method="PUT"), 5),
+        (413, post(b"").replace(b"Length: 0", b"Length: 4194305"), 6),
+        (415, post(b"").replace(b"/json", b"/xml"), 7),
+        (431, post(b"", fields=["X: y"] * 64), 8),
+    ]
+    for status, request, count in rows:
+        for _ in range(count):
+            want("the status", collector.ask(request)[0], status)
+    want("the answer to a slow one", slow.answer()[0], 408)
+    codes = ["200", "400", "404", "405", "408", "413", "415", "431", "503"]
+    told = lambda: [numbers[f'tsc_requests_total{{code="{code}"}}'] for numbers in [scrape(admin)] for code in codes]
+    comes_to("the answers", told, [2, 3, 4, 5, 1, 6, 7, 8, 0])
+    want("the answer to /close", asked(admin, post(b"", "/close"))[::2], (200, "{}"))
+    want("the report", collector.end()[1], [2, 2, 0, 0, 0, 0, 0, 0, 0])
+
+
+def head_in_pieces(start):
+    """One in charge may send a request in pieces, with pauses between them."""
+    admin = free_port()
+    collector = start(f'admin = "127.0.0.1:{admin}"\n' + ALL)
+    client, request = Client(admin), get("/healthz")
+    for piece in (request[:4], request[4:30], request[30:]):
+        client.send(piece)
+        time.sleep(0.4)
+    want("health", client.answer()[::2], (200, "ok\n"))
+    client.close()
     want("the answer to /close", asked(admin, post(b"", "/close"))[::2], (200, "{}"))
     want("the report", collector.end()[1], [0] * 9)
 
@@ -329,11 +370,27 @@ def end_of_input(start):
     want("the report", numbers, [1, 1, 0, 0, 0, 0, 0, 0, 0])
 
 
+def input_that_fails(start):
+    """An input that can't be read closes the collector as its end does."""
+    with tempfile.TemporaryDirectory() as folder:
+        config = os.path.join(folder, "config.toml")
+        with open(config, "w", encoding="utf-8") as file:
+            file.write('listen = "127.0.0.1:0"\nclose_at_end_of_input = true\n' + ALL)
+        unreadable = os.open(folder, os.O_RDONLY)  # (a folder: each read of it fails)
+        try:
+            ran = subprocess.run([start.program, "serve", config], stdin=unreadable, capture_output=True, timeout=60, check=False)
+        finally:
+            os.close(unreadable)
+        want("the end", (ran.returncode, ran.stdout.split(b"\n")[0], ran.stderr), (0, b"received 0", b""))
+
+
 CHECKS = [
     in_charge,
     in_charge_by_a_socket,
     told_by_shards,
     odd_questions,
+    answers_by_status,
+    head_in_pieces,
     counts_only_rise,
     taken_addresses,
     full_queues_are_asked_again,
@@ -341,4 +398,5 @@ CHECKS = [
     output_that_fails,
     closed_by_its_configuration,
     end_of_input,
+    input_that_fails,
 ]

@@ -11,7 +11,8 @@ import threading
 import time
 
 from collector import ALL, Failure, body_of, post, want
-from serve_admin import asked, free_port, scrape
+from serve_admin import asked, free_port, get, scrape
+from serve_limits import at_most
 
 OK = b"HTTP/1.1 200 OK\r\nContent-Type: application/json\r\nContent-Length: 2\r\n\r\n{}"
 FAST = "decision_wait_ms = 50\ntick_ms = 20\n"
@@ -37,7 +38,7 @@ class Backend:
     bytes of the body after which it resets the connection, or a wait in seconds before it answers 200."""
 
     def __init__(self, script=(), listens=True):
-        self.script, self.requests, self.taken = list(script), [], []
+        self.script, self.requests, self.taken, self.times = list(script), [], [], []
         self.lock = threading.Lock()
         self.listener = socket.socket()
         self.listener.setsockopt(socket.SOL_SOCKET, socket.SO_REUSEADDR, 1)
@@ -84,6 +85,7 @@ class Backend:
                 body, left = left[:length], left[length:]
                 with self.lock:
                     self.requests.append((head.decode(), body))
+                    self.times.append(time.monotonic())
                 if isinstance(step, float):
                     time.sleep(step)
                     step = [OK]
@@ -92,7 +94,7 @@ class Backend:
                     with self.lock:
                         self.taken.append(body)
                 for piece in step:
-                    connection.sendall(piece)
+                    connection.sendall(piece, socket.MSG_NOSIGNAL)
                     time.sleep(0.01 if len(step) > 1 else 0)
                 if isinstance(step, tuple) or b"Connection: close" in whole:
                     return
@@ -196,12 +198,11 @@ def tries_again(start):
     script += [[b"HTTP/1.1 100 Continue\r\n\r\n", OK], chunked, [OK.replace(b"\r\n\r\n", b"\r\nConnection: close\r\n\r\n")], [OK[i : i + 1] for i in range(len(OK))]]
     backend = Backend(script)
     collector = start(FAST + ALL + backend.settings())
-    began = time.time()
     for number in range(5):
         send(collector, number)
         until("the line", lambda n=number: len(backend.taken) >= n + 1)
-        if number == 0 and time.time() - began < 1:
-            raise Failure("Retry-After was not waited for")
+    if backend.times[1] - backend.times[0] < 0.9:
+        raise Failure("Retry-After was not waited for")
     want("what arrived", [ids_in(body) for body in backend.taken[-5:]], [[f"{n + 1:016x}"] for n in range(5)])
     want("the report", collector.close()[1], [5, 5, 0, 0, 0, 0, 0, 0, 0])
 
@@ -298,6 +299,84 @@ def patience_ends(start):
         raise Failure(f"{tries} tries, and a close of {time.time() - began:.1f} seconds")
 
 
+def waits_grow(start):
+    """Each wait before a line is sent again is twice the one before it, less its half at most, up to the longest."""
+    backend = Backend([[answer(503)]] * 6)
+    waits = "timeout_ms = 1000\nretry_initial_ms = 100\nretry_max_ms = 800\n"
+    collector = start(FAST + ALL + backend.settings(waits))
+    send(collector, 0)
+    until("the requests", lambda: len(backend.requests) == 7)
+    want("the report", collector.close()[1], [1, 1, 0, 0, 0, 0, 0, 0, 0])
+    for wait, before, after in zip((100, 200, 400, 800, 800, 800), backend.times, backend.times[1:]):
+        if after - before < wait / 2000 - 0.1:
+            raise Failure(f"{after - before:.3f} s were waited in place of {wait} ms")
+
+
+def long_answers(start):
+    """An answer of sixty thousand bytes is one, and so is one that comes in many pieces."""
+    script = [[answer(200, body=b" " * 60000 + b"{}")], [OK[at : at + 8] for at in range(0, len(OK), 8)]]
+    backend, admin = Backend(script), free_port()
+    collector = start(FAST + ALL + f'admin = "127.0.0.1:{admin}"\n' + backend.settings())
+    for number in range(3):
+        send(collector, number)
+        until("the request", lambda n=number: len(backend.requests) == n + 1)
+    names = [f'tsc_export_attempts_total{{result="{result}"}}' for result in ("taken", "refused", "unanswered")]
+    until("the numbers", lambda: [scrape(admin)[name] for name in names] == [3, 0, 0])
+    want("the answer to /close", asked(admin, post(b"", "/close"))[::2], (200, "{}"))
+    want("the report", collector.end()[1], [3, 3, 0, 0, 0, 0, 0, 0, 0])
+
+
+def trickling_answer(start):
+    """An answer that comes byte by byte for longer than an attempt may take is none: the line is sent again."""
+    trickle = answer(200, body=b" " * 400 + b"{}")
+    backend = Backend([[trickle[at : at + 1] for at in range(len(trickle))]])
+    waits = "timeout_ms = 500\nretry_initial_ms = 20\nretry_max_ms = 20\n"
+    collector = start(FAST + ALL + backend.settings(waits))
+    send(collector, 0)
+    until("the second request", lambda: len(backend.requests) == 2, 4)
+    want("the report", collector.close()[1], [1, 1, 0, 0, 0, 0, 0, 0, 0])
+
+
+def closes_while_it_waits(start):
+    """A backend that asked to wait for half a minute doesn't hold the close for longer than `close_wait_ms`."""
+    backend = Backend([[answer(503, "Retry-After: 30\r\n")]])
+    collector = start(FAST + ALL + backend.settings("close_wait_ms = 500\n"))
+    send(collector, 0)
+    until("the request", lambda: backend.requests)
+    time.sleep(0.2)
+    began = time.monotonic()
+    want("the report", collector.close()[1], [1, 0, 0, 0, 0, 0, 0, 0, 1])
+    at_most("the close", 15, began)
+
+
+def closes_while_it_hangs(start):
+    """An attempt that begins behind the close, and isn't answered, takes no longer than what is left of `close_wait_ms`."""
+    backend = Backend([[answer(503, "Retry-After: 1\r\n")], 20.0])
+    collector = start(FAST + ALL + backend.settings("timeout_ms = 30000\nclose_wait_ms = 3000\n"))
+    send(collector, 0)
+    until("the request", lambda: backend.requests)
+    began = time.monotonic()
+    want("the report", collector.close()[1], [1, 0, 0, 0, 0, 0, 0, 0, 1])
+    at_most("the close", 12, began)
+    want("the requests", len(backend.requests), 2)
+
+
+def told_behind_a_loss(start):
+    """Behind a batch that was given up the numbers tell the ones that are delivered as such, and only those as lines."""
+    backend, admin = Backend([[OK], [answer(400)]]), free_port()
+    collector = start(FAST + ALL + f'admin = "127.0.0.1:{admin}"\n' + backend.settings())
+    for number in range(4):
+        send(collector, number)
+        until("the request", lambda n=number: len(backend.requests) == n + 1)
+    names = ["tsc_spans_handed_total", 'tsc_spans_dropped_total{reason="exporter_down"}', "tsc_spans_waiting", "tsc_lines_total"]
+    until("the numbers", lambda: [scrape(admin)[name] for name in names] == [3, 1, 0, 3])
+    delivered = sum(len(body) for at, (_, body) in enumerate(backend.requests) if at != 1)
+    want("the bytes", scrape(admin)["tsc_output_bytes_total"], delivered)
+    want("health", asked(admin, get("/healthz"))[0], 200)
+    want("the answer to /close", asked(admin, post(b"", "/close"))[::2], (200, "{}"))
+    want("the report", collector.end()[1], [4, 3, 0, 0, 0, 0, 0, 0, 1])
+
+
 def under_load(start):
     """Of 100,000 spans of four clients a backend that fails one request in ten has each that is counted as handed over, once."""
     script = [[answer(503)] if n % 10 == 9 else [answer(400)] if n % 50 == 24 else [OK] for n in range(100000)]
@@ -333,3 +412,4 @@ def send_until_taken(collector, firsts):
 
 
 CHECKS = [delivers, sends_headers, prints_too, printing_ends, no_time_is_no_wish, tries_again, tells_attempts, no_answers, gives_up, rejected_spans, waits_for_a_backend, late_answer, patience_ends, under_load]
+CHECKS += [waits_grow, long_answers, trickling_answer, closes_while_it_waits, closes_while_it_hangs, told_behind_a_loss]

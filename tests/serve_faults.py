@@ -7,12 +7,20 @@ import subprocess
 import tempfile
 import time
 
-from collector import ALL, ERROR_SPAN, Failure, body_of, post, want
+from collector import ALL, ERROR_SPAN, Client, Failure, body_of, post, want
 from serve_admin import asked, free_port
+from serve_export import Backend
 from serve_limits import at_most
 from serve_many import comes_back_to, open_files
 
-SOURCE = os.path.join(os.path.dirname(os.path.abspath(__file__)), "interrupted_reads.c")
+HERE = os.path.dirname(os.path.abspath(__file__))
+
+
+def library_of(name, folder):
+    """Makes the library of this C file, which is loaded ahead of the C library, and returns its path."""
+    library = os.path.join(folder, f"{name}.so")
+    subprocess.run(["cc", "-shared", "-fPIC", "-O1", "-o", library, os.path.join(HERE, f"{name}.c")], check=True)
+    return library
 
 
 def waits_until(what, holds):
@@ -27,8 +35,7 @@ def interrupted_reads(start):
     """The first read of each connection is interrupted: the connection goes on, and its request is answered once the rest of it came."""
     admin, request = free_port(), post(body_of([ERROR_SPAN]))
     with tempfile.TemporaryDirectory() as folder:
-        library, told = os.path.join(folder, "interrupted.so"), os.path.join(folder, "told")
-        subprocess.run(["cc", "-shared", "-fPIC", "-O1", "-o", library, SOURCE], check=True)
+        library, told = library_of("interrupted_reads", folder), os.path.join(folder, "told")
         surroundings = {"LD_PRELOAD": library, "INTERRUPTED": told}
         collector = start(f'admin = "127.0.0.1:{admin}"\n' + ALL, surroundings=surroundings)
         waits_until("the first interruption", lambda: os.path.exists(told))
@@ -42,6 +49,35 @@ def interrupted_reads(start):
             client.close()
         want("the answer of the second address", asked(admin, post(b"", "/close"))[::2], (200, "{}"))
         want("the report", collector.end()[1], [3, 3, 0, 0, 0, 0, 0, 0, 0])
+
+
+def is_there(port):
+    """Whether somebody listens at this port."""
+    with socket.socket() as probe:
+        return probe.connect_ex(("127.0.0.1", port)) == 0
+
+
+def second_address(start):
+    """Of a name with two addresses, at the first of which somebody else listens, the second is listened at; and a backend is sent to at its second."""
+    with tempfile.TemporaryDirectory() as folder, socket.create_server(("127.0.0.2", 0)) as taken:
+        port, backend = taken.getsockname()[1], Backend()
+        config = os.path.join(folder, "config.toml")
+        with open(config, "w", encoding="utf-8") as file:
+            file.write(f'listen = "two.test:{port}"\n' + ALL + backend.settings().replace("127.0.0.1", "two.test"))
+        surroundings = {**os.environ, "LD_PRELOAD": library_of("two_addresses", folder)}
+        ran = subprocess.Popen([start.program, "serve", config], stdin=subprocess.DEVNULL, stdout=subprocess.PIPE, env=surroundings)
+        try:
+            waits_until("the second address", lambda: is_there(port) or ran.poll() is not None)
+            want("whether it runs", ran.poll(), None)
+            client = Client(port)
+            client.send(post(body_of([ERROR_SPAN])) + post(b"", "/close"))
+            want("the answers", [client.answer()[0] for _ in range(2)], [200, 200])
+            want("the report", ran.communicate(timeout=60)[0].split(b"\n")[:2], [b"received 1", b"handed 1"])
+            want("how many requests", len(backend.requests), 1)
+            client.close()
+        finally:
+            ran.kill()
+            ran.wait()
 
 
 def is_refused(client):
@@ -97,4 +133,4 @@ def never_reads(start):
     want("the report", collector.close()[1], [0] * 9)
 
 
-CHECKS = [waits_at_the_close, never_reads] + ([interrupted_reads] if shutil.which("cc") else [])
+CHECKS = [waits_at_the_close, never_reads] + ([interrupted_reads, second_address] if shutil.which("cc") else [])

@@ -195,6 +195,23 @@ def is_open(of):
         return False
 
 
+def longest_idle_one_leaves(start):
+    """At three connections at most a fourth one takes the place of the one that has been idle longest, and not of the one that came first."""
+    collector = start("max_connections = 3\n" + ALL)
+    time.sleep(0.3)  # (the one that looked whether it listens has gone)
+    clients = [collector.client() for _ in range(3)]
+    for at, client in enumerate(clients + clients[:1]):
+        client.send(post(body_of(spans_by_number(at, 1))))
+        want("the answer", client.answer()[::2], (200, "{}"))
+        time.sleep(0.05)
+    clients.append(collector.client())
+    clients[-1].send(post(body_of(spans_by_number(4, 1))))
+    want("the answer to the fourth", clients[-1].answer()[::2], (200, "{}"))
+    want("what the one that has been idle longest gets", clients[1].rest(), b"")
+    want("whether the others are still there", [is_open(it.socket) for it in clients[:1] + clients[2:]], [True] * 3)
+    want("the report", collector.close()[1], [5, 5, 0, 0, 0, 0, 0, 0, 0])
+
+
 def few_open_files(start):
     """With 64 open files and two hundred clients that stay: it goes on serving those that ask, and others once they are gone."""
     collector = start("lanes = 4\n" + ALL, limits=[(resource.RLIMIT_NOFILE, 64)])
@@ -253,4 +270,4 @@ def reads_nothing(start):
 
 
 CHECKS = [beside_idle_ones, numbered_by_connection, tricklers, stays_behind_its_refusal, twenty_thousand_short_ones, two_hundred_thousand_short_ones]
-CHECKS += [few_may_be_open, few_open_files, refusals_arrive, reads_nothing]
+CHECKS += [few_may_be_open, longest_idle_one_leaves, few_open_files, refusals_arrive, reads_nothing]

@@ -121,4 +121,33 @@ def takes_again(start):
     want("the report", collector.close()[1], [spans, spans, 0, 0, 0, 0, 0, 0, 0])
 
 
-CHECKS = [one_trace, many_traces, takes_again]
+def refused_at_its_limit(start):
+    """Requests are taken until the process takes its limit, and not refused before."""
+    settings = f"memory_limit_mib = {LIMIT}\nnum_traces = 1000000\nqueue_capacity = 65536\ndecision_wait_ms = 3600000\n"
+    collector = start(settings + NONE, limits=[(resource.RLIMIT_AS, (8 << 30))])
+    client = collector.client()
+    for number in range(2000):
+        client.send(flood_request(lambda at: at, number * SPANS))
+        if client.answer()[0] == 503 or mebibytes(collector)[0] > MOST:
+            break
+    most = mebibytes(collector)[1]
+    if not LIMIT - 3 <= most <= MOST:
+        raise Failure(f"it took {most} MiB, and not about {LIMIT}, when it refused the first request")
+    client.close()
+    collector.close()
+
+
+def far_beyond_its_limit(start):
+    """A process that takes far more than its limit refuses requests as long as a span waits, and takes none whose spans it would then give up."""
+    collector = start("memory_limit_mib = 1\ndecision_wait_ms = 3600000\n" + ALL)
+    request = post(body_of([flood_span(f"{1:032x}", f"{1:016x}")]))
+    want("the first answer", collector.ask(request)[0], 200)
+    for _ in range(200):
+        if collector.ask(request)[0] == 503:
+            break
+        time.sleep(0.02)
+    want("the answers behind the first refusal", [collector.ask(request)[0] for _ in range(10)], [503] * 10)
+    collector.close()
+
+
+CHECKS = [one_trace, many_traces, takes_again, refused_at_its_limit, far_beyond_its_limit]
