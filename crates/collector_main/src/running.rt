@@ -75,7 +75,7 @@ fn print_with<'s, T: Net + Threads + Wait + Clock + RandomSource + Sync, W: Writ
         stop: &shared.stop,
         clock: &clock,
     };
-    let (sink, answer) = serve_on(&context, config, drivers, sink);
+    let (sink, answer, _) = serve_on(&context, config, drivers, sink);
     let written = sink.end();
     (written.end(), served_to(answer))
 }

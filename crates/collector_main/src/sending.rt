@@ -183,7 +183,7 @@ fn serve_through<
         stop: &shared.stop,
         clock: &clock,
     };
-    let (sink, answer) = serve_on(&context, config, drivers, sink);
+    let (sink, answer, _) = serve_on(&context, config, drivers, sink);
     (sink.end(), answer)
 }
 

@@ -1,6 +1,6 @@
 //! The collector on a listener.
-ghost use Rattle.std.specs.Prelude.{◌≡◌, ◌<◌, ◌-◌, ◌^◌, All, IfOk, vec_len};
-ghost use Rattle.pipeline.specs.Outcome.{SinkAnswers};
+ghost use Rattle.std.specs.Prelude.{◌≡◌, ◌<◌, ◌-◌, ◌^◌, All, IfOk, IfSome, is_none, vec_len};
+ghost use Rattle.pipeline.specs.Outcome.{SinkAnswers, has_begun};
 ghost use Rattle.pipeline.specs.Promise.{CoreRunTells};
 ghost use Rattle.tsc_config.specs.Values.{InRange};
 ghost use Rattle.collector_serve.specs.Sharing.{share_of, allowed_by};
@@ -42,9 +42,9 @@ pub fn listen<R: Net<Listener = TcpListener, Stream = TcpStream>>(
 
 /// Runs the collector on what drives its lanes, until a request says `POST /close`, which sets the mark, or it is set
 /// otherwise. It may be set already: then what is asked on a connection that waits is refused. It gives the sink back, and the
-/// report of all spans: what the threads did is a run of the core. The context's board shows the counts meanwhile. `NoMemory`: there was
-/// none at the start, or the system has no random source for the key by which trace ids are hashed, and no connection was
-/// taken.
+/// report of all spans: what the threads did is a run of the core. The context's board shows the counts meanwhile.
+/// `NoMemory`: there was none at the start, or the system has no random source for the key by which trace ids are hashed. Then
+/// no connection was taken, and the drivers come back as they were.
 pub fn serve_on<
     's,
     D: Driver + Send + Drop,
@@ -57,15 +57,22 @@ pub fn serve_on<
     config: Config,
     drivers: Vec<ByTurns<D>>,
     sink: S,
-) -> (S, Result<Report, RunFault>)
+) -> (S, Result<Report, RunFault>, Option<Vec<ByTurns<D>>>)
     requires ranges { InRange config }
     requires drivers { vec_len drivers ≡ config.lanes }
     requires failures { S.failures sink < 2 ^ 64 - 1 }
     ensures sink { SinkAnswers (S.taken sink) (S.failures sink) (S.taken result.0) (S.failures result.0) result.1 }
     ensures ran { CoreRunTells config (S.taken sink) (S.failures sink) (S.taken result.0) (S.failures result.0) result.1 }
+    ensures begun { is_none result.2 ≡ has_begun result.1 }
+    ensures back { IfSome result.2 (λ back. back.items ≡ drivers.items) }
 {
     let ticks = Ticker::new(config.tick, context.clock, context.stop);
-    run_by_turns(context, config, drivers, ticks, sink)
+    let (sink, answer, back) = run_by_turns(context, config, drivers, ticks, sink);
+    let back = match back {
+        Some((drivers, _)) => Some(drivers),
+        None => None,
+    };
+    (sink, answer, back)
 }
 
 /// How many connections a lane may have.

@@ -31,3 +31,10 @@ TellsCounts is_full counts (Ok report) = (is_full ≡ false) × AreSums counts r
 TellsCounts is_full counts (Err NoMemory) = ⊥
 TellsCounts is_full counts (Err BookFull) = (is_full ≡ true) ⊎ SumPasses counts
 TellsCounts is_full counts (Err (SinkDown report)) = (is_full ≡ false) × AreSums counts report × Fits report
+
+-- whether a run that answers so has begun; where it hasn't, no job has worked, and nothing was asked of a feed or of the ticks
+abbrev pub has_begun : {A : Type 0} → Result A RunFault → Bool
+has_begun (Ok report) = true
+has_begun (Err NoMemory) = false
+has_begun (Err BookFull) = true
+has_begun (Err (SinkDown report)) = true

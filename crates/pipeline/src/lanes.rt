@@ -1,5 +1,5 @@
 //! What the lanes' threads are given.
-ghost use Rattle.std.specs.Prelude.{◌≡◌, ◌<◌, ◌≤◌, false, [], All, length, map, vec_len, vec_capacity, IfOk};
+ghost use Rattle.std.specs.Prelude.{◌≡◌, ◌+◌, ◌++◌, ◌<◌, ◌≤◌, false, [], All, length, map, vec_len, vec_capacity, IfErr, IfOk};
 ghost use Rattle.queue_grid.specs.Grid.{ends_of};
 ghost use Rattle.pipeline.specs.Made.{NumberedFrom};
 
@@ -11,38 +11,77 @@ use otlp_types::Item;
 use std::alloc::{AllocError, Global};
 use std::sync::Wait;
 
+/// What the lanes' threads are given, and the list of the feeds, which is empty and has room for them again.
+#[derive(Drop)]
+pub struct LaneJobs<'s, F, C: Room, G, P, M, R: Wait> {
+    pub jobs: Vec<LaneJob<'s, F, C, G, P, M, R>>,
+    pub feeds: Vec<F>,
+}
+
 /// What the lanes' threads are given: for each feed, in their order, a lane of its number over its ends. `asks_again`: a
 /// request for whose spans a queue lacks room is to be sent again. One that comes while the gate's brake is on is in any case.
-/// `keeps_doubles`: the lanes keep doubles.
+/// `keeps_doubles`: the lanes keep doubles. Where there is no memory the feeds come back.
 pub fn lane_jobs<'s, F: Drop, C: Room, G: Gate, P, M, R: Wait>(
     lent: &Lent<'s, G, P, M, R>,
     asks_again: bool,
     keeps_doubles: bool,
     feeds: Vec<F>,
     columns: Vec<Vec<Sender<Item, C>>>,
-) -> Result<Vec<LaneJob<'s, F, C, G, P, M, R>>, AllocError>
+) -> Result<LaneJobs<'s, F, C, G, P, M, R>, Vec<F>>
     requires few { vec_len feeds < 65536 }
     requires columns { (vec_len columns ≡ vec_len feeds) × All (λ c. 0 < length c.items) columns.items }
-    ensures count { IfOk result (λ jobs. vec_len jobs ≡ vec_len feeds) }
-    ensures ready { IfOk result (λ jobs. All (λ job. (job.lane.number ≡ job.number) × (job.room.items ≡ []) × (length job.lane.ports ≤ vec_capacity job.room)) jobs.items) }
-    ensures feeds { IfOk result (λ jobs. map (λ job. job.feed) jobs.items ≡ feeds.items) }
-    ensures columns { IfOk result (λ jobs. map (λ job. job.lane.ports) jobs.items ≡ ends_of columns.items) }
-    ensures numbers { IfOk result (λ jobs. NumberedFrom 0 (map (λ job. job.number) jobs.items)) }
-    ensures new { IfOk result (λ jobs. All (λ job. (job.lane.connected ≡ 0) × (job.lane.keeps_doubles ≡ keeps_doubles)) jobs.items) }
+    ensures count { IfOk result (λ made. vec_len made.jobs ≡ vec_len feeds) }
+    ensures ready { IfOk result (λ made. All (λ job. (job.lane.number ≡ job.number) × (job.room.items ≡ []) × (length job.lane.ports ≤ vec_capacity job.room)) made.jobs.items) }
+    ensures feeds { IfOk result (λ made. map (λ job. job.feed) made.jobs.items ≡ feeds.items) }
+    ensures columns { IfOk result (λ made. map (λ job. job.lane.ports) made.jobs.items ≡ ends_of columns.items) }
+    ensures numbers { IfOk result (λ made. NumberedFrom 0 (map (λ job. job.number) made.jobs.items)) }
+    ensures new { IfOk result (λ made. All (λ job. (job.lane.connected ≡ 0) × (job.lane.keeps_doubles ≡ keeps_doubles)) made.jobs.items) }
+    ensures room { IfOk result (λ made. (made.feeds.items ≡ []) × (vec_len feeds ≤ vec_capacity made.feeds)) }
+    ensures back { IfErr result (λ back. back.items ≡ feeds.items) }
 {
     let mut feeds = feeds;
     let mut columns = columns;
-    let mut jobs = Vec::with_capacity(lent.alloc, feeds.len())?;
-    while let Some(feed) = feeds.pop() {
+    let Ok(mut jobs) = Vec::with_capacity(lent.alloc, feeds.len()) else {
+        return Err(feeds);
+    };
+    while let Some(senders) = columns.pop() {
+        let Ok(lists) = lane_lists(lent.alloc, senders.len()) else {
+            jobs.reverse();
+            return Err(feeds_of(jobs, feeds));
+        };
+        let feed = feeds.take_last();
         let number = feeds.len() as u16;
-        let senders = columns.take_last();
-        jobs.push_reserved(lane_job(lent, asks_again, keeps_doubles, number, feed, senders)?);
+        jobs.push_reserved(lane_job(
+            lent,
+            asks_again,
+            keeps_doubles,
+            number,
+            feed,
+            senders,
+            lists,
+        ));
     }
     jobs.reverse();
-    Ok(jobs)
+    Ok(LaneJobs { jobs, feeds })
 }
 
-/// What a lane's thread is given.
+/// These feeds, and then those of jobs that nobody began; the list has room for them.
+pub fn feeds_of<'s, F: Drop, C: Room, G, P, M, R: Wait>(
+    jobs: Vec<LaneJob<'s, F, C, G, P, M, R>>,
+    feeds: Vec<F>,
+) -> Vec<F>
+    requires { vec_len feeds + vec_len jobs ≤ vec_capacity feeds }
+    ensures { result.items ≡ feeds.items ++ map (λ job. job.feed) jobs.items }
+{
+    let mut feeds = feeds;
+    for job in jobs {
+        let LaneJob { feed, .. } = job;
+        feeds.push_reserved(feed);
+    }
+    feeds
+}
+
+/// What a lane's thread is given; `lists` has room for its ports, and for their ends.
 fn lane_job<'s, F: Drop, C: Room, G: Gate, P, M, R: Wait>(
     lent: &Lent<'s, G, P, M, R>,
     asks_again: bool,
@@ -50,16 +89,19 @@ fn lane_job<'s, F: Drop, C: Room, G: Gate, P, M, R: Wait>(
     number: u16,
     feed: F,
     senders: Vec<Sender<Item, C>>,
-) -> Result<LaneJob<'s, F, C, G, P, M, R>, AllocError>
-    requires { 0 < length senders.items }
-    ensures number { IfOk result (λ job. job.number ≡ number) }
-    ensures lane { IfOk result (λ job. job.lane ≡ record { number = number; connected = 0; ports = senders.items; keeps_doubles = keeps_doubles }) }
-    ensures room { IfOk result (λ job. (job.room.items ≡ []) × (length job.lane.ports ≤ vec_capacity job.room)) }
-    ensures feed { IfOk result (λ job. job.feed ≡ feed) }
+    lists: LaneLists<'s, C, R>,
+) -> LaneJob<'s, F, C, G, P, M, R>
+    requires some { 0 < length senders.items }
+    requires ports { (lists.ports.items ≡ []) × (length senders.items ≤ vec_capacity lists.ports) }
+    requires room { (lists.room.items ≡ []) × (length senders.items ≤ vec_capacity lists.room) }
+    ensures number { result.number ≡ number }
+    ensures lane { result.lane ≡ record { number = number; connected = 0; ports = senders.items; keeps_doubles = keeps_doubles } }
+    ensures room { (result.room.items ≡ []) × (length result.lane.ports ≤ vec_capacity result.room) }
+    ensures feed { result.feed ≡ feed }
 {
-    let (ports, room) = lane_lists(lent.alloc, senders.len())?;
+    let LaneLists { ports, room } = lists;
     let brake = lent.gate.brake();
-    Ok(LaneJob {
+    LaneJob {
         rt: lent.rt,
         alloc: lent.alloc,
         number,
@@ -71,20 +113,28 @@ fn lane_job<'s, F: Drop, C: Room, G: Gate, P, M, R: Wait>(
         gate: lent.gate,
         stop: lent.stop,
         clock: lent.clock,
-    })
+    }
 }
 
-/// Room for so many ports of a lane, and for their ends once it has ended.
+/// Room for a lane's ports, and for their ends once it has ended.
+#[derive(Drop)]
+struct LaneLists<'s, C: Room, R: Wait> {
+    ports: Vec<SenderPort<'s, Item, C, R>>,
+    room: Vec<Sender<Item, C>>,
+}
+
+/// Room for so many ports, and for their ends.
 fn lane_lists<'s, C: Room, R: Wait>(
     alloc: Global,
     count: usize,
-) -> Result<(Vec<SenderPort<'s, Item, C, R>>, Vec<Sender<Item, C>>), AllocError>
-    ensures ports { IfOk result (λ lists. (lists.0.items ≡ []) × (count ≤ vec_capacity lists.0)) }
-    ensures room { IfOk result (λ lists. (lists.1.items ≡ []) × (count ≤ vec_capacity lists.1)) }
+) -> Result<LaneLists<'s, C, R>, AllocError>
+    ensures ports { IfOk result (λ lists. (lists.ports.items ≡ []) × (count ≤ vec_capacity lists.ports)) }
+    ensures room { IfOk result (λ lists. (lists.room.items ≡ []) × (count ≤ vec_capacity lists.room)) }
 {
-    let ports = Vec::with_capacity(alloc, count)?;
-    let room = Vec::with_capacity(alloc, count)?;
-    Ok((ports, room))
+    Ok(LaneLists {
+        ports: Vec::with_capacity(alloc, count)?,
+        room: Vec::with_capacity(alloc, count)?,
+    })
 }
 
 /// A lane over these ends, which discards doubles; `ports` has room for them.

@@ -1,5 +1,5 @@
 //! All that a run needs is made before a thread is started.
-ghost use Rattle.std.specs.Prelude.{◌≡◌, ◌+◌, ◌++◌, ◌∷◌, ◌<◌, ◌≤◌, [], All, length, map, vec_len, vec_capacity, IfOk};
+ghost use Rattle.std.specs.Prelude.{◌≡◌, ◌+◌, ◌++◌, ◌∷◌, ◌<◌, ◌≤◌, [], All, length, map, vec_len, vec_capacity, IfErr, IfOk};
 ghost use Rattle.lane_queue.specs.Ends.{AreTied, IsNew};
 ghost use Rattle.queue_grid.specs.Grid.{AreNewColumns, HasRoom, IsTiedGrid, ends_of};
 ghost use Rattle.shared_budget.specs.Budget.{AreNewSeats};
@@ -8,7 +8,7 @@ ghost use Rattle.pipeline.specs.Made.{NumberedFrom, CanRun, IsReady, HasEnds};
 ghost use Rattle.pipeline.specs.Promise.{HasSettings, nodes_of};
 
 use crate::lane_job::LaneJob;
-use crate::lanes::lane_jobs;
+use crate::lanes::{LaneJobs, lane_jobs};
 use crate::lent::Lent;
 use crate::shard_job::ShardJob;
 use crate::shards::{ShardEnds, shard_jobs};
@@ -32,6 +32,8 @@ pub struct Made<'s, F, T, C: Room, D: Room, G, P, M, R: Wait> {
     pub shipments: Receiver<Shipment, D>,
     /// Room for what the threads leave.
     pub rooms: Rooms<'s, C, D, R>,
+    /// Room for the feeds, where they come back.
+    pub feeds: Vec<F>,
 }
 
 /// Room for what the threads of a run leave, and the lists with which its queues are joined again.
@@ -47,13 +49,13 @@ pub struct Rooms<'s, C: Room, D: Room, R: Wait> {
     pub rows: Vec<Vec<Sender<Item, C>>>,
 }
 
-/// Makes all that the threads of a run are given.
+/// Makes all that the threads of a run are given. Where there is no memory the feeds and the ticks come back.
 pub fn make<'s, F: Drop, T: Drop, C: Room, D: Room, G: Gate, P, M, R: Wait>(
     lent: &Lent<'s, G, P, M, R>,
     config: &Config,
     feeds: Vec<F>,
     ticks: T,
-) -> Result<Made<'s, F, T, C, D, G, P, M, R>, AllocError>
+) -> Result<Made<'s, F, T, C, D, G, P, M, R>, (Vec<F>, T)>
     requires runs { CanRun config.now C.capacity D.capacity }
     requires feeds { vec_len feeds ≡ config.now.lanes }
     ensures lanes { IfOk result (λ made. (vec_len made.team.first ≡ config.now.lanes)
@@ -74,25 +76,32 @@ pub fn make<'s, F: Drop, T: Drop, C: Room, D: Room, G: Gate, P, M, R: Wait>(
     ensures exports { IfOk result (λ made. (made.rooms.ends.exports.items ≡ []) × (config.now.shards ≤ vec_capacity made.rooms.ends.exports)) }
     ensures counts_room { IfOk result (λ made. (made.rooms.counts.items ≡ []) × (config.now.lanes + config.now.shards + 1 ≤ vec_capacity made.rooms.counts)) }
     ensures rows { IfOk result (λ made. (vec_len made.rooms.rows ≡ config.now.shards) × All (HasRoom (config.now.lanes + 1)) made.rooms.rows.items) }
+    ensures feeds_room { IfOk result (λ made. (made.feeds.items ≡ []) × (config.now.lanes ≤ vec_capacity made.feeds)) }
+    ensures back { IfErr result (λ back. (back.0.items ≡ feeds.items) × (back.1 ≡ ticks)) }
 {
-    let lanes = config.lanes as usize;
-    let made = run_ends::<C, D, R>(lent.rt, lent.alloc, config)?;
+    let Ok(made) = run_ends::<C, D, R>(lent.rt, lent.alloc, config) else {
+        return Err((feeds, ticks));
+    };
     let RunEnds {
         columns,
         ends,
         shipments,
         rows,
     } = made;
-    let team = team_of(lent, config, feeds, ticks, columns, ends)?;
-    let rooms = rooms_for(lent.alloc, lanes, config.shards, rows)?;
+    let Ok(rooms) = rooms_for(lent.alloc, config.lanes as usize, config.shards, rows) else {
+        return Err((feeds, ticks));
+    };
+    let (team, feeds) = team_of(lent, config, feeds, ticks, columns, ends)?;
     Ok(Made {
         team,
         shipments,
         rooms,
+        feeds,
     })
 }
 
-/// What the threads of a run are given: the lanes, the ticker and the shards.
+/// What the threads of a run are given: the lanes, the ticker and the shards; and the list of the feeds, which is empty and
+/// has room for them again.
 fn team_of<'s, F: Drop, T: Drop, C: Room, D: Room, G: Gate, P, M, R: Wait>(
     lent: &Lent<'s, G, P, M, R>,
     config: &Config,
@@ -101,8 +110,11 @@ fn team_of<'s, F: Drop, T: Drop, C: Room, D: Room, G: Gate, P, M, R: Wait>(
     columns: Vec<Vec<Sender<Item, C>>>,
     ends: ShardEnds<'s, C, D, R>,
 ) -> Result<
-    Team<LaneJob<'s, F, C, G, P, M, R>, TickerJob<'s, T, C, R>, ShardJob<'s, C, D, G, R>>,
-    AllocError,
+    (
+        Team<LaneJob<'s, F, C, G, P, M, R>, TickerJob<'s, T, C, R>, ShardJob<'s, C, D, G, R>>,
+        Vec<F>,
+    ),
+    (Vec<F>, T),
 >
     requires runs { CanRun config.now C.capacity D.capacity }
     requires feeds { (vec_len feeds ≡ config.now.lanes) × (vec_len feeds < 65536) }
@@ -110,31 +122,34 @@ fn team_of<'s, F: Drop, T: Drop, C: Room, D: Room, G: Gate, P, M, R: Wait>(
     requires seats { AreNewSeats (nodes_of config.now) config.now.shards ends.seats.items }
     requires receivers { (vec_len ends.receivers ≡ config.now.shards) × All (λ r. All IsNew r.ends) ends.receivers.items }
     requires exports { (vec_len ends.exports ≡ config.now.shards) × All IsNew ends.exports.items }
-    ensures lanes { IfOk result (λ team. (vec_len team.first ≡ config.now.lanes)
-        × All (λ job. (job.lane.number ≡ job.number) × (job.room.items ≡ []) × (length job.lane.ports ≤ vec_capacity job.room)) team.first.items) }
-    ensures shards { IfOk result (λ team. (vec_len team.third ≡ config.now.shards)
-        × All (λ job. IsReady job.shard job.receiver job.sender job.seat) team.third.items) }
-    ensures feeds { IfOk result (λ team. map (λ job. job.feed) team.first.items ≡ feeds.items) }
-    ensures ticker { IfOk result (λ team. (team.second.number ≡ config.now.lanes) × (team.second.ticks ≡ ticks)) }
-    ensures numbers { IfOk result (λ team. NumberedFrom 0 (map (λ job. job.number) team.first.items) × NumberedFrom 0 (map (λ job. job.number) team.third.items)) }
-    ensures new_lanes { IfOk result (λ team. All (λ job. (job.lane.connected ≡ 0) × (job.lane.keeps_doubles ≡ config.now.keeps_doubles)) team.first.items) }
-    ensures new_shards { IfOk result (λ team. All (λ job. HasSettings config.now job.shard) team.third.items) }
-    ensures ports { IfOk result (λ team. ends_of columns.items ≡ map (λ job. job.lane.ports) team.first.items ++ team.second.senders.items ∷ []) }
-    ensures ends { IfOk result (λ team. (map (λ job. job.seat) team.third.items ≡ ends.entry.seats.items) × (map (λ job. job.receiver) team.third.items ≡ ends.entry.receivers.items) × (map (λ job. job.sender) team.third.items ≡ ends.entry.exports.items)) }
+    ensures lanes { IfOk result (λ made. (vec_len made.0.first ≡ config.now.lanes)
+        × All (λ job. (job.lane.number ≡ job.number) × (job.room.items ≡ []) × (length job.lane.ports ≤ vec_capacity job.room)) made.0.first.items) }
+    ensures shards { IfOk result (λ made. (vec_len made.0.third ≡ config.now.shards)
+        × All (λ job. IsReady job.shard job.receiver job.sender job.seat) made.0.third.items) }
+    ensures feeds { IfOk result (λ made. map (λ job. job.feed) made.0.first.items ≡ feeds.items) }
+    ensures ticker { IfOk result (λ made. (made.0.second.number ≡ config.now.lanes) × (made.0.second.ticks ≡ ticks)) }
+    ensures numbers { IfOk result (λ made. NumberedFrom 0 (map (λ job. job.number) made.0.first.items) × NumberedFrom 0 (map (λ job. job.number) made.0.third.items)) }
+    ensures new_lanes { IfOk result (λ made. All (λ job. (job.lane.connected ≡ 0) × (job.lane.keeps_doubles ≡ config.now.keeps_doubles)) made.0.first.items) }
+    ensures new_shards { IfOk result (λ made. All (λ job. HasSettings config.now job.shard) made.0.third.items) }
+    ensures ports { IfOk result (λ made. ends_of columns.items ≡ map (λ job. job.lane.ports) made.0.first.items ++ made.0.second.senders.items ∷ []) }
+    ensures ends { IfOk result (λ made. (map (λ job. job.seat) made.0.third.items ≡ ends.entry.seats.items) × (map (λ job. job.receiver) made.0.third.items ≡ ends.entry.receivers.items) × (map (λ job. job.sender) made.0.third.items ≡ ends.entry.exports.items)) }
+    ensures feeds_room { IfOk result (λ made. (made.1.items ≡ []) × (config.now.lanes ≤ vec_capacity made.1)) }
+    ensures back { IfErr result (λ back. (back.0.items ≡ feeds.items) × (back.1 ≡ ticks)) }
 {
     new_seats_have_nodes();
     let mut columns = columns;
     let senders = columns.take_last();
-    let third = shard_jobs(lent, config, ends)?;
-    let first = lane_jobs(
-        lent,
-        config.waits_for_room,
-        config.keeps_doubles,
-        feeds,
-        columns,
-    )?;
-    Ok(Team {
-        first,
+    let Ok(third) = shard_jobs(lent, config, ends) else {
+        return Err((feeds, ticks));
+    };
+    let (waits, keeps) = (config.waits_for_room, config.keeps_doubles);
+    let made = match lane_jobs(lent, waits, keeps, feeds, columns) {
+        Ok(made) => made,
+        Err(feeds) => return Err((feeds, ticks)),
+    };
+    let LaneJobs { jobs, feeds } = made;
+    let team = Team {
+        first: jobs,
         second: TickerJob {
             rt: lent.rt,
             number: config.lanes,
@@ -142,7 +157,8 @@ fn team_of<'s, F: Drop, T: Drop, C: Room, D: Room, G: Gate, P, M, R: Wait>(
             senders,
         },
         third,
-    })
+    };
+    Ok((team, feeds))
 }
 
 /// The new queues and seats of a run.

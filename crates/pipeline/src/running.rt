@@ -1,10 +1,10 @@
 //! A run: all threads are started, or none does anything; the exporter works on the caller's.
-ghost use Rattle.std.specs.Prelude.{◌≡◌, ◌-◌, ◌^◌, ◌<◌, ◌≤◌, [], false, length, map, vec_len, IfErr, IfOk};
+ghost use Rattle.std.specs.Prelude.{◌≡◌, ◌-◌, ◌^◌, ◌<◌, ◌≤◌, [], false, is_none, length, true, vec_len, IfErr, IfOk, IfSome};
 ghost use Rattle.std.specs.List.{list_any};
 ghost use Rattle.lane_worker.specs.Serving.{connection};
 ghost use Rattle.run_weave.specs.Received.{receives_one_by_one, receives_by_turns};
 ghost use Rattle.pipeline.specs.Made.{CanBegin, CanRun};
-ghost use Rattle.pipeline.specs.Outcome.{SinkAnswers, SinkWent, TellsCounts, TellsSink};
+ghost use Rattle.pipeline.specs.Outcome.{SinkAnswers, SinkWent, TellsCounts, TellsSink, has_begun};
 ghost use Rattle.pipeline.specs.Promise.{HasWorked, WorkedTells, ServersTell, RunTells};
 ghost use Rattle.tsc_config.specs.declared.config.Config.{Config};
 
@@ -12,18 +12,18 @@ use crate::exporter_job::ExporterJob;
 use crate::fault::RunFault;
 use crate::gathering::{Counted, gather_lanes, gather_shards};
 use crate::joining::join_all;
+use crate::lanes::feeds_of;
 use crate::lent::{Lent, RunContext};
 use crate::making::{Made, Rooms, make};
 use drop_ledger::{Report, total};
 use http_lane::{Clock as MomentClock, Stop};
-use job_threads::run_team;
+use job_threads::{Team, run_team};
 use lane_queue::{Gate, Room};
 use lane_turns::Driver;
 use lane_worker::{ByTurns, Feed, LaneServer, OneByOne, Ticks};
 use shared_budget::asked_seats_may_be_compared;
 use span_exporter::{Exporter, sink_takes_lines};
 use span_sink::{LineSink, Sink, takes_handed_lines};
-use std::alloc::{AllocError, Global};
 use std::marker::Brand;
 use std::random::RandomSource;
 use std::sync::Wait;
@@ -33,9 +33,9 @@ use trace_hash::TraceHashing;
 use tsc_config::Config;
 
 /// Runs the pipeline until every feed and the ticks have ended, and gives the sink back: a thread for each lane, each shard
-/// and the ticker, and the exporter on this one.
+/// and the ticker, and the exporter on this one. Where nothing was begun the servers and the ticks come back as they were.
 ///
-/// There is one feed for each lane, which serves its connections one after the other. The context's gate, mark and clock are
+/// There is one server for each lane, which serves its feed's connections one after the other. The context's gate, mark and clock are
 /// lent to all lanes, the gate to the shards too. The sink has the lines of the batches that were handed over; the report has the
 /// counts of all threads.
 pub fn run<
@@ -50,34 +50,22 @@ pub fn run<
 >(
     context: &RunContext<'s, G, P, M, R>,
     config: Config,
-    feeds: Vec<F>,
+    servers: Vec<OneByOne<F>>,
     ticks: T,
     sink: S,
-) -> (S, Result<Report, RunFault>)
+) -> (S, Result<Report, RunFault>, Option<(Vec<OneByOne<F>>, T)>)
 where
     F::Reader: Send,
     F::Writer: Send,
     requires config { CanBegin config }
-    requires feeds { vec_len feeds ≡ config.lanes }
+    requires servers { vec_len servers ≡ config.lanes }
     requires failures { S.failures sink < 2 ^ 64 - 1 }
     ensures sink { SinkAnswers (S.taken sink) (S.failures sink) (S.taken result.0) (S.failures result.0) result.1 }
-    ensures ran { RunTells (receives_one_by_one (λ (s : OneByOne F). s.feed) F.gives (λ x. connection (F.Reader.given x.0) (F.Writer.contents x.1))) T.gives config (map (λ f. record { feed = f }) feeds.items) ticks (S.taken sink) (S.failures sink) (S.taken result.0) (S.failures result.0) result.1 }
+    ensures ran { RunTells (receives_one_by_one (λ (s : OneByOne F). s.feed) F.gives (λ x. connection (F.Reader.given x.0) (F.Writer.contents x.1))) T.gives config servers.items ticks (S.taken sink) (S.failures sink) (S.taken result.0) (S.failures result.0) result.1 }
+    ensures begun { is_none result.2 ≡ has_begun result.1 }
+    ensures back { IfSome result.2 (λ back. (back.0.items ≡ servers.items) × (back.1 ≡ ticks)) }
 {
-    match one_by_one(context.alloc, feeds) {
-        Ok(servers) => run_servers(context, config, servers, ticks, sink),
-        Err(_) => (sink, Err(RunFault::NoMemory)),
-    }
-}
-
-/// What serves the connections of each feed.
-fn one_by_one<F: Drop>(alloc: Global, feeds: Vec<F>) -> Result<Vec<OneByOne<F>>, AllocError>
-    ensures { IfOk result (λ servers. servers.items ≡ map (λ f. record { feed = f }) feeds.items) }
-{
-    let mut servers = Vec::with_capacity(alloc, feeds.len())?;
-    for feed in feeds {
-        servers.push_reserved(OneByOne { feed });
-    }
-    Ok(servers)
+    run_servers(context, config, servers, ticks, sink)
 }
 
 /// The same where each lane serves many connections at once, turn by turn, as its driver says. There is one driver for each
@@ -97,12 +85,14 @@ pub fn run_by_turns<
     drivers: Vec<ByTurns<D>>,
     ticks: T,
     sink: S,
-) -> (S, Result<Report, RunFault>)
+) -> (S, Result<Report, RunFault>, Option<(Vec<ByTurns<D>>, T)>)
     requires config { CanBegin config }
     requires drivers { vec_len drivers ≡ config.lanes }
     requires failures { S.failures sink < 2 ^ 64 - 1 }
     ensures sink { SinkAnswers (S.taken sink) (S.failures sink) (S.taken result.0) (S.failures result.0) result.1 }
     ensures ran { RunTells (receives_by_turns (λ (s : ByTurns D). s.allowed)) T.gives config drivers.items ticks (S.taken sink) (S.failures sink) (S.taken result.0) (S.failures result.0) result.1 }
+    ensures begun { is_none result.2 ≡ has_begun result.1 }
+    ensures back { IfSome result.2 (λ back. (back.0.items ≡ drivers.items) × (back.1 ≡ ticks)) }
 {
     run_servers(context, config, drivers, ticks, sink)
 }
@@ -123,12 +113,14 @@ fn run_servers<
     servers: Vec<V>,
     ticks: T,
     sink: S,
-) -> (S, Result<Report, RunFault>)
+) -> (S, Result<Report, RunFault>, Option<(Vec<V>, T)>)
     requires config { CanBegin config }
     requires servers { vec_len servers ≡ config.lanes }
     requires failures { S.failures sink < 2 ^ 64 - 1 }
     ensures sink { SinkAnswers (S.taken sink) (S.failures sink) (S.taken result.0) (S.failures result.0) result.1 }
     ensures ran { ServersTell V.serves T.gives config servers.items ticks (S.taken sink) (S.failures sink) (S.taken result.0) (S.failures result.0) result.1 }
+    ensures begun { is_none result.2 ≡ has_begun result.1 }
+    ensures back { IfSome result.2 (λ back. (back.0.items ≡ servers.items) × (back.1 ≡ ticks)) }
 {
     let lines = LineSink::new(sink);
     let exporter = match Exporter::new(
@@ -138,12 +130,14 @@ fn run_servers<
         lines,
     ) {
         Ok(exporter) => exporter,
-        Err((lines, _)) => return (lines.end(), Err(RunFault::NoMemory)),
+        Err((lines, _)) => {
+            return (lines.end(), Err(RunFault::NoMemory), Some((servers, ticks)));
+        }
     };
-    let (exporter, answer) = run_in::<V, T, S, G, P, M, Brand, Brand, R>(
+    let (exporter, answer, back) = run_in::<V, T, S, G, P, M, Brand, Brand, R>(
         context, &config, servers, ticks, exporter,
     );
-    (exporter.end().end(), answer)
+    (exporter.end().end(), answer, back)
 }
 
 /// Runs the threads, and answers the report. The key by which trace ids are hashed is taken first: where the system has no
@@ -165,16 +159,18 @@ fn run_in<
     servers: Vec<V>,
     ticks: T,
     exporter: Exporter<S>,
-) -> (Exporter<S>, Result<Report, RunFault>)
+) -> (Exporter<S>, Result<Report, RunFault>, Option<(Vec<V>, T)>)
     requires runs { CanRun config.now C.capacity D.capacity }
     requires servers { vec_len servers ≡ config.now.lanes }
     requires new_exporter { (exporter.batch ≡ []) × (0 < exporter.size) × (list_any (λ ended. ended) exporter.ends ≡ false) × (exporter.sink.is_down ≡ false) }
     requires exporter_is { (exporter.size ≡ config.now.send_batch_size) × (length exporter.ends ≡ config.now.shards) }
     ensures sink { SinkAnswers exporter.sink.taken exporter.sink.failures result.0.sink.taken result.0.sink.failures result.1 }
     ensures ran { WorkedTells V.serves T.gives config.now servers.items ticks exporter result.0 result.1 }
+    ensures begun { is_none result.2 ≡ has_begun result.1 }
+    ensures back { IfSome result.2 (λ back. (back.0.items ≡ servers.items) × (back.1 ≡ ticks)) }
 {
     let Ok(hashing) = TraceHashing::keyed(context.rt) else {
-        return (exporter, Err(RunFault::NoMemory));
+        return (exporter, Err(RunFault::NoMemory), Some((servers, ticks)));
     };
     let lent = Lent {
         rt: context.rt,
@@ -187,9 +183,12 @@ fn run_in<
     match run_over::<V, T, S, G, P, M, C, D, R>(&lent, config, servers, ticks, exporter) {
         Ok((exporter, counted)) => {
             let answer = answer_of(&counted, exporter.is_down());
-            (exporter, answer)
+            (exporter, answer, None)
         }
-        Err(exporter) => (exporter, Err(RunFault::NoMemory)),
+        Err(back) => {
+            let (exporter, servers, ticks) = back;
+            (exporter, Err(RunFault::NoMemory), Some((servers, ticks)))
+        }
     }
 }
 
@@ -197,6 +196,7 @@ fn run_in<
 fn answer_of(counted: &Counted, is_down: bool) -> Result<Report, RunFault>
     ensures sink { TellsSink is_down result }
     ensures counts { TellsCounts counted.now.is_full counted.now.counts.items result }
+    ensures begun { has_begun result ≡ true }
 {
     if counted.is_full {
         return Err(RunFault::BookFull);
@@ -208,8 +208,8 @@ fn answer_of(counted: &Counted, is_down: bool) -> Result<Report, RunFault>
     }
 }
 
-/// Makes what the threads are given, runs them, and gathers what they counted. It gives the exporter back
-/// where there was no memory, or a thread couldn't be started: then none has done anything.
+/// Makes what the threads are given, runs them, and gathers what they counted. It gives all back where there was no memory,
+/// or a thread couldn't be started: then none has done anything.
 fn run_over<
     's,
     V: LaneServer + Send + Drop,
@@ -227,22 +227,27 @@ fn run_over<
     servers: Vec<V>,
     ticks: T,
     exporter: Exporter<S>,
-) -> Result<(Exporter<S>, Counted), Exporter<S>>
+) -> Result<(Exporter<S>, Counted), (Exporter<S>, Vec<V>, T)>
     requires runs { CanRun config.now C.capacity D.capacity }
     requires servers { vec_len servers ≡ config.now.lanes }
     requires new_exporter { (exporter.batch ≡ []) × (0 < exporter.size) × (list_any (λ ended. ended) exporter.ends ≡ false) × (exporter.sink.is_down ≡ false) }
     requires exporter_ends { length exporter.ends ≡ config.now.shards }
     ensures worked { IfOk result (λ ran. HasWorked V.serves T.gives config.now servers.items ticks exporter ran.0 ran.1.counts.items ran.1.is_full) }
     ensures sink { IfOk result (λ ran. SinkWent exporter.sink ran.0.sink) }
-    ensures back { IfErr result (λ back. back ≡ exporter) }
+    ensures back { IfErr result (λ back. (back.0 ≡ exporter) × (back.1.items ≡ servers.items) × (back.2 ≡ ticks)) }
 {
-    let Ok(made) = make::<V, T, C, D, G, P, M, R>(lent, config, servers, ticks) else {
-        return Err(exporter);
+    let made = match make::<V, T, C, D, G, P, M, R>(lent, config, servers, ticks) {
+        Ok(made) => made,
+        Err(back) => {
+            let (servers, ticks) = back;
+            return Err((exporter, servers, ticks));
+        }
     };
     let Made {
         team,
         shipments,
         rooms,
+        feeds,
     } = made;
     let job = ExporterJob {
         rt: lent.rt,
@@ -273,8 +278,9 @@ fn run_over<
             Ok((last.exporter, counted))
         }
         Err(back) => {
-            let (_, job) = back;
-            Err(job.exporter)
+            let (team, job) = back;
+            let Team { first, second, .. } = team;
+            Err((job.exporter, feeds_of(first, feeds), second.ticks))
         }
     }
 }

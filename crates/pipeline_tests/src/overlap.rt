@@ -6,6 +6,7 @@ use crate::gates::{LanesMeet, Places, ShardsBeginEarly, ShardsMeet};
 use crate::memory::{Held, Mark, MemoryFeed, MemorySink, NoTicks, Standing};
 use drop_ledger::{Count, Report};
 use lane_queue::{Gate, OpenGate};
+use lane_worker::OneByOne;
 use pipeline::{RunContext, RunFault, run};
 use span_ids::Reason;
 use std::alloc::{AllocError, Global};
@@ -77,7 +78,14 @@ pub struct Course {
     pub is_broken: bool,
 }
 
-/// What a run answers over feeds, one for each lane of the configuration, and its sink.
+/// What a run came to: its sink, its answer, and the feeds and ticks that came back.
+pub type Came = (
+    MemorySink,
+    Result<Report, RunFault>,
+    Option<(Vec<OneByOne<MemoryFeed>>, NoTicks)>,
+);
+
+/// What a run comes to over feeds, one for each lane of the configuration.
 pub fn run_feeds<G: Gate + Sync, R: Threads + Wait + Clock + RandomSource + Sync>(
     rt: &R,
     alloc: Global,
@@ -85,9 +93,13 @@ pub fn run_feeds<G: Gate + Sync, R: Threads + Wait + Clock + RandomSource + Sync
     feeds: Vec<MemoryFeed>,
     gate: &G,
     course: Course,
-) -> Result<(MemorySink, Result<Report, RunFault>), Fail> {
+) -> Result<Came, Fail> {
     let config = configured(alloc, config)?;
-    if feeds.len() != config.lanes as usize || config.shards > 64 {
+    let mut servers = Vec::new(alloc);
+    for feed in feeds {
+        servers.push(OneByOne { feed })?;
+    }
+    if servers.len() != config.lanes as usize || config.shards > 64 {
         return Err(Fail::from("lanes"));
     }
     let stop = Mark {
@@ -101,7 +113,7 @@ pub fn run_feeds<G: Gate + Sync, R: Threads + Wait + Clock + RandomSource + Sync
         stop: &stop,
         clock: &Standing,
     };
-    Ok(run(&context, config, feeds, NoTicks, sink))
+    Ok(run(&context, config, servers, NoTicks, sink))
 }
 
 /// The same of two lanes with one request each.
@@ -111,7 +123,7 @@ fn run_two<G: Gate + Sync, R: Threads + Wait + Clock + RandomSource + Sync>(
     config: &str,
     feeds: [MemoryFeed; 2],
     gate: &G,
-) -> Result<(MemorySink, Result<Report, RunFault>), Fail> {
+) -> Result<Came, Fail> {
     let course = Course {
         is_stopped: false,
         is_broken: false,
@@ -146,7 +158,7 @@ fn hundred_spans_a_lane(rt: HostRuntime) -> Result<(), Fail> {
     let alloc = rt.alloc();
     let first = feed(alloc, request(alloc, A, 100)?, false)?;
     let second = feed(alloc, request(alloc, A, 100)?, false)?;
-    let (sink, answer) = run_two(&rt, alloc, ONE_SHARD, [first, second], &OpenGate)?;
+    let (sink, answer, _) = run_two(&rt, alloc, ONE_SHARD, [first, second], &OpenGate)?;
     let Ok(report) = answer else {
         return Err(Fail::from("a fault"));
     };
@@ -167,7 +179,7 @@ fn two_spans<G: Gate + Sync, R: Threads + Wait + Clock + RandomSource + Sync>(
     let [one, other] = traces;
     let first = feed(alloc, request(alloc, one, 1)?, second)?;
     let last = feed(alloc, request(alloc, other, 1)?, second)?;
-    let (_, answer) = run_two(rt, alloc, config, [first, last], gate)?;
+    let (_, answer, _) = run_two(rt, alloc, config, [first, last], gate)?;
     let Ok(report) = answer else {
         return Err(Fail::from("a fault"));
     };

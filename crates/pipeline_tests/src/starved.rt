@@ -1,7 +1,7 @@
 //! One lane: a reader that fails, a sink that does, a run that is stopped before it begins, and one that may be short of
 //! memory, each of whose allocations `tests/refused_memory/refused.py` refuses in turn.
-use crate::memory::{Held, MemoryFeed, MemorySink};
-use crate::overlap::{A, Course, numbers, request, run_feeds};
+use crate::memory::{Held, MemoryFeed};
+use crate::overlap::{A, Came, Course, numbers, request, run_feeds};
 use drop_ledger::{Count, Report};
 use lane_queue::OpenGate;
 use pipeline::RunFault;
@@ -27,13 +27,13 @@ fn spans_in(lines: &[u8]) -> u64 {
     count
 }
 
-/// What a run answers of one lane with these connections, the last one first, and its sink.
+/// What a run comes to of one lane with these connections, the last one first.
 fn run_one<R: Threads + Wait + Clock + RandomSource + Sync>(
     rt: &R,
     alloc: Global,
     connections: Vec<Held>,
     course: Course,
-) -> Result<(MemorySink, Result<Report, RunFault>), Fail> {
+) -> Result<Came, Fail> {
     let mut feeds = Vec::new(alloc);
     feeds.push(MemoryFeed { alloc, connections })?;
     run_feeds(rt, alloc, ALL, feeds, &OpenGate, course)
@@ -53,7 +53,7 @@ fn reader_fails_in_a_body(rt: HostRuntime) -> Result<(), Fail> {
     let _ = cut.pop();
     let served = Held::whole(request(alloc, A, 1)?);
     let connections = Vec::from_array(alloc, [served, Held::broken(cut)])?;
-    let (sink, answer) = run_one(&rt, alloc, connections, PLAIN)?;
+    let (sink, answer, _) = run_one(&rt, alloc, connections, PLAIN)?;
     let Ok(report) = answer else {
         return Err(Fail::from("a fault"));
     };
@@ -71,7 +71,7 @@ fn stopped_before_it_begins(rt: HostRuntime) -> Result<(), Fail> {
         is_broken: false,
     };
     let connections = Vec::from_array(alloc, [Held::whole(request(alloc, A, 1)?)])?;
-    let (sink, answer) = run_one(&rt, alloc, connections, course)?;
+    let (sink, answer, _) = run_one(&rt, alloc, connections, course)?;
     let Ok(report) = answer else {
         return Err(Fail::from("a fault"));
     };
@@ -89,7 +89,7 @@ fn sink_fails_at_its_first_write(rt: HostRuntime) -> Result<(), Fail> {
         is_broken: true,
     };
     let connections = Vec::from_array(alloc, [Held::whole(request(alloc, A, 3)?)])?;
-    let (sink, answer) = run_one(&rt, alloc, connections, course)?;
+    let (sink, answer, _) = run_one(&rt, alloc, connections, course)?;
     let mut report = Report::new();
     let received = report.add(Count::Received, 3);
     let down = report.add(Count::Dropped(Reason::ExporterDown), 3);
@@ -105,7 +105,7 @@ fn busy_then_done(rt: HostRuntime) -> Result<(), Fail> {
     let alloc = rt.alloc();
     let mut bytes = request(alloc, A, 1)?;
     bytes.extend_from_slice(&request(alloc, A, 1)?)?;
-    let (sink, answer) = run_one(
+    let (sink, answer, back) = run_one(
         &rt,
         alloc,
         Vec::from_array(alloc, [Held::whole(bytes)])?,
@@ -132,7 +132,7 @@ fn busy_then_done(rt: HostRuntime) -> Result<(), Fail> {
             );
             assert_eq!(rt; spans_in(&sink.taken), handed);
         }
-        Err(RunFault::NoMemory) => assert!(rt; sink.taken.is_empty()),
+        Err(RunFault::NoMemory) => assert!(rt; sink.taken.is_empty() && back.is_some()),
         Err(_) => return Err(Fail::from("a fault")),
     }
     Ok(())
