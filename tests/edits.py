@@ -29,7 +29,7 @@ from kept import crates_below, proof_of, room_of, run, sum_of  # noqa: E402
 
 RECORD = "tests/edits.passed"
 PARTS = ("src", "specs", "proofs", "must-fail")
-PIECE = 12  # so many edits of a crate at most are in one share
+PIECE = 6  # so many edits of a crate at most are in one share
 Function = collections.namedtuple("Function", "file name first last")
 Edit = collections.namedtuple("Edit", "name pairs functions")
 HEAD = re.compile(r"( *)(?:pub(?:\([^)]*\))? )?(?:const |unsafe )*fn (\w+)")
@@ -221,7 +221,7 @@ def try_all(crates, below, jobs, is_alone):
 
 
 def share(words, below):
-    """Returns the edits of a share, each as its file: those of a crate in pieces of at most a dozen, the dearest piece by the record first, each put into
+    """Returns the edits of a share, each as its file: those of a crate in pieces of at most six, the dearest piece by the record first, each put into
     the share that is the cheapest so far."""
     at, _, number = words.partition("/")
     record, shares, pieces = read_record(), [[0, []] for _ in range(int(number))], []
