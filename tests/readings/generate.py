@@ -1,5 +1,5 @@
 #!/usr/bin/env python3
-"""Writes random bodies, each a line of hexadecimal digits, for crates/reading_compare: generate.py BODIES [--seed N]
+"""Writes random bodies, each a line of hexadecimal digits, for crates/reading_table: generate.py BODIES [--seed N]
 [--longest BYTES].
 
 Each body is a real one (a row of crates/reading_table/data/readings.tsv, a request of bench/generate.py, or one made here

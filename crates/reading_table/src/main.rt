@@ -4,14 +4,22 @@
 //!
 //! A body for which memory is refused is read again, and the rows after it too, and then the program ends with status
 //! 1. So a run for each allocation that is refused in turn (`tests/refused_memory`) shows that no answer changes.
+//!
+//! `reading_table all` then reads the bodies of standard input both ways, in one pass and with care alone, and
+//! `reading_table shares` does only this and prints more of it. Both contracts say what a body reads as, so this tries what they
+//! stand on: the kit's statements and the compilers. The bodies come from `tests/readings/generate.py`.
 #![tactic(auto)]
 
+mod answer;
+mod comparing;
+
+use crate::comparing::compare;
 use otlp_flatten::{flatten, group};
 use otlp_json::{Bad, decode, encode};
 use otlp_types::Request;
 use std::alloc::{AllocError, Global};
 use std::process::ExitCode;
-use std::{fs, io};
+use std::{env, fs, io};
 
 /// Whether a row's body is read as it says. `Err` where memory was refused.
 fn holds(alloc: Global, keeps_doubles: bool, row: &[u8]) -> Result<bool, AllocError> {
@@ -73,12 +81,36 @@ fn count(rt: &HostRuntime, table: &[u8], keeps_doubles: bool) -> io::Result<Coun
     Ok(found)
 }
 
-fn main(rt: HostRuntime) -> io::Result<ExitCode> {
-    let discarded = count(&rt, &fs::read(&rt, "readings.tsv")?, false)?;
-    let kept = count(&rt, &fs::read(&rt, "doubles.tsv")?, true)?;
+/// Reads the tables, and returns the status.
+fn read_tables(rt: &HostRuntime) -> io::Result<u8> {
+    let discarded = count(rt, &fs::read(rt, "readings.tsv")?, false)?;
+    let kept = count(rt, &fs::read(rt, "doubles.tsv")?, true)?;
     let rows = discarded.rows.saturating_add(kept.rows);
     let wrong = discarded.wrong.saturating_add(kept.wrong);
     println!(rt; "{rows} readings, {wrong} wrong")?;
-    let refused = discarded.refused || kept.refused;
-    Ok(ExitCode::from(if refused { 1 } else { 0 }))
+    Ok(if discarded.refused || kept.refused {
+        1
+    } else {
+        0
+    })
+}
+
+fn main(rt: HostRuntime) -> io::Result<ExitCode> {
+    let mut arguments = Vec::new(rt.alloc());
+    for argument in env::args(&rt)?.skip(1) {
+        arguments.push(argument)?;
+    }
+    match arguments.as_slice() {
+        [] => Ok(ExitCode::from(read_tables(&rt)?)),
+        [word] if word.as_str() == "shares" => compare(&rt, true),
+        [word] if word.as_str() == "all" => {
+            let status = read_tables(&rt)?;
+            if status == 0 {
+                compare(&rt, false)
+            } else {
+                Ok(ExitCode::from(status))
+            }
+        }
+        _ => Ok(ExitCode::from(2)),
+    }
 }

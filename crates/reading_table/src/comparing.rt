@@ -1,20 +1,10 @@
-//! Reads each body of standard input, a line of hexadecimal digits, by `otlp_json::decode` and by `otlp_reading::decode`
-//! alone, and prints how many bodies are read otherwise, after a line for each of them. Both contracts say what a body
-//! reads as, so this tries what they stand on: the kit's statements and the compilers.
-//!
-//! `reading_compare shares` also prints how many were answered in which way, and how many of these the one pass declined.
-//! The bodies come from `tests/readings/generate.py`; status 1 where one is read otherwise, 2 where a line or
-//! an argument is none of these.
-#![tactic(auto)]
-
-mod answer;
-
+//! Bodies that are read both ways.
 use crate::answer::{Answer, Readings, read};
 use hex::FromHexError;
 use std::alloc::AllocError;
+use std::io;
 use std::io::{BufRead, BufReader};
 use std::process::ExitCode;
-use std::{env, io};
 
 /// How many bodies there were of one answer.
 #[derive(Clone, Copy, Default)]
@@ -80,8 +70,10 @@ fn body_of(rt: &HostRuntime, line: &str) -> Result<Option<Vec<u8>>, AllocError> 
     }
 }
 
-/// Reads each body and prints what was found.
-fn compare(rt: &HostRuntime, with_shares: bool) -> io::Result<ExitCode> {
+/// Reads each body of standard input, a line of hexadecimal digits, by `otlp_json::decode` and by `otlp_reading::decode` alone,
+/// and prints how many are read otherwise, after a line for each of them; with `with_shares` also how many were answered in
+/// which way, and how many of these the one pass declined. Status 1 where one is read otherwise, 2 where a line is no body.
+pub fn compare(rt: &HostRuntime, with_shares: bool) -> io::Result<ExitCode> {
     let mut shares = Shares::default();
     let mut bodies = 0u64;
     let mut otherwise = 0u64;
@@ -103,16 +95,4 @@ fn compare(rt: &HostRuntime, with_shares: bool) -> io::Result<ExitCode> {
     }
     println!(rt; "{bodies} bodies, {otherwise} read otherwise")?;
     Ok(ExitCode::from(if otherwise == 0 { 0 } else { 1 }))
-}
-
-fn main(rt: HostRuntime) -> io::Result<ExitCode> {
-    let mut arguments = Vec::new(rt.alloc());
-    for argument in env::args(&rt)?.skip(1) {
-        arguments.push(argument)?;
-    }
-    match arguments.as_slice() {
-        [] => compare(&rt, false),
-        [word] if word.as_str() == "shares" => compare(&rt, true),
-        _ => Ok(ExitCode::from(2)),
-    }
 }
