@@ -1,6 +1,6 @@
 -- What jobs did, one after the other, as what all threads of a kind did.
 -- For the contract of running::run_over.
-use Rattle.std.proofs.Common.{◌≡◌, ℕ, ◌+◌, Bool, List, [], ◌∷◌, map, All, Option, ap, subst, ◌∙◌}
+use Rattle.std.proofs.Common.{◌≡◌, ℕ, ◌+◌, Bool, List, [], ◌∷◌, map, All, ap, subst, ◌∙◌}
 use Rattle.std.proofs.lemmas.List.Elements.{All-head, All-tail}
 use Rattle.job_threads.specs.Jobs.{HaveDone}
 use Rattle.otlp_types.specs.declared.arrival.Item.{Item}

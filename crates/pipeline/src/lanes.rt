@@ -71,7 +71,7 @@ pub fn feeds_of<'s, F: Drop, C: Room, G, P, M, R: Wait>(
     feeds: Vec<F>,
 ) -> Vec<F>
     requires { vec_len feeds + vec_len jobs ≤ vec_capacity feeds }
-    ensures { result.items ≡ feeds.items ++ map (λ job. job.feed) jobs.items }
+    ensures { result.items ≡ feeds.items ++ map (λ job. job.feed) jobs.entry.items }
 {
     let mut feeds = feeds;
     for job in jobs {

@@ -1,10 +1,13 @@
-use Rattle.std.proofs.Common.{◌≡◌, ◌<◌, ◌≤◌, ◌∙◌, [], ◌∷◌, ap, sym, subst, length, arith, map, vec_len, vec_capacity, All, Some}
+use Rattle.std.proofs.Common.{◌≡◌, ℕ, ◌<◌, ◌≤◌, ◌∙◌, [], ◌∷◌, ap, sym, subst, length, arith, map, vec_len, vec_capacity, All, Some}
 use Rattle.std.proofs.lemmas.List.{length-map, map-append}
 use Rattle.pipeline.specs.Made.{NumberedFrom}
 use Rattle.queue_grid.specs.Grid.{ends_of}
 use Rattle.pipeline.proofs.Dealt.{dealt, numbered, all_dealt, all_reverse}
 use Rattle.std.proofs.lemmas.List.Elements.{All-push, All-pop}
 use Rattle.pipeline.proofs.lanes.lane_jobs.Goals as goal
+
+none_left : (columns feeds : ℕ) → columns ≡ feeds → columns ≡ 0 → feeds ≡ 0
+none_left columns feeds same none = omega (arith, same, none)
 
 pub loop-senders-preserved : goal.loop-senders-preserved
 loop-senders-preserved g c =
@@ -27,15 +30,15 @@ loop-senders-preserved g c =
     )
 
 pub returns-clause-feeds : goal.returns-clause-feeds
-returns-clause-feeds g c = all_dealt (λ job. job.feed) c.args.feeds.items c.loop-senders.feeds.items c.loop-senders.jobs.items c.reverse.new.self.items c.reverse.ensures.items (omega (arith, c.loop-senders.feeds.ok.0, c.in_default.ensures.cases.0)) c.loop-senders.invariant.4
+returns-clause-feeds g c = all_dealt (λ job. job.feed) c.args.feeds.items c.loop-senders.feeds.items c.loop-senders.jobs.items c.reverse-2.new.self.items c.reverse-2.ensures.items (omega (arith, c.loop-senders.feeds.ok.0, c.in_default-pop.ensures.cases.0, c.loop-senders.invariant.1)) c.loop-senders.invariant.4
 
 pub returns-clause-columns : goal.returns-clause-columns
-returns-clause-columns g c = all_dealt (λ job. job.lane.ports) (ends_of c.args.columns.items) (ends_of c.loop-senders.columns.items) c.loop-senders.jobs.items c.reverse.new.self.items c.reverse.ensures.items
-    (omega (arith, length-map c.loop-senders.columns.items (λ v. v.items), c.loop-senders.columns.ok.0, c.loop-senders.invariant.1, c.in_default.ensures.cases.0)) c.loop-senders.invariant.5
+returns-clause-columns g c = all_dealt (λ job. job.lane.ports) (ends_of c.args.columns.items) (ends_of c.loop-senders.columns.items) c.loop-senders.jobs.items c.reverse-2.new.self.items c.reverse-2.ensures.items
+    (omega (arith, length-map c.loop-senders.columns.items (λ v. v.items), c.loop-senders.columns.ok.0, c.in_default-pop.ensures.cases.0)) c.loop-senders.invariant.5
 
 pub returns-clause-numbers : goal.returns-clause-numbers
-returns-clause-numbers g c = subst (λ n. NumberedFrom n (map (λ job. job.number) c.reverse.new.self.items)) c.in_default.ensures.cases.0
-    (subst (λ z. NumberedFrom (vec_len c.loop-senders.feeds) (map (λ job. job.number) z)) (sym c.reverse.ensures.items) c.loop-senders.invariant.6)
+returns-clause-numbers g c = subst (λ n. NumberedFrom n (map (λ job. job.number) c.reverse-2.new.self.items)) (none_left (vec_len c.loop-senders.columns) (vec_len c.loop-senders.feeds) c.loop-senders.invariant.1 c.in_default-pop.ensures.cases.0)
+    (subst (λ z. NumberedFrom (vec_len c.loop-senders.feeds) (map (λ job. job.number) z)) (sym c.reverse-2.ensures.items) c.loop-senders.invariant.6)
 
 pub returns-clause-new : goal.returns-clause-new
-returns-clause-new g c = subst (All (λ job. (job.lane.connected ≡ 0) × (job.lane.keeps_doubles ≡ c.args.keeps_doubles))) (sym c.reverse.ensures.items) (all_reverse (λ job. (job.lane.connected ≡ 0) × (job.lane.keeps_doubles ≡ c.args.keeps_doubles)) c.loop-senders.jobs.items c.loop-senders.invariant.7)
+returns-clause-new g c = subst (All (λ job. (job.lane.connected ≡ 0) × (job.lane.keeps_doubles ≡ c.args.keeps_doubles))) (sym c.reverse-2.ensures.items) (all_reverse (λ job. (job.lane.connected ≡ 0) × (job.lane.keeps_doubles ≡ c.args.keeps_doubles)) c.loop-senders.jobs.items c.loop-senders.invariant.7)

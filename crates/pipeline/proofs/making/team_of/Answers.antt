@@ -18,4 +18,4 @@ lane_jobs-requires-clause-columns g c = (
 pub returns-clause-ports : goal.returns-clause-ports
 returns-clause-ports g c =
     ap ends_of c.take_last-senders.ensures.items ∙ (map-append (λ v. v.items) c.take_last-senders.new.self.items (c.take_last-senders.result ∷ [])
-    ∙ ap (λ z. z ++ c.take_last-senders.result.items ∷ []) (sym c.in_ok-first.ensures.columns))
+    ∙ ap (λ z. z ++ c.take_last-senders.result.items ∷ []) (sym c.in-Ok-lane_jobs.ensures.columns))

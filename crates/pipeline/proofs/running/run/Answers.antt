@@ -1,16 +1,9 @@
-use Rattle.std.proofs.Common.{subst}
 use Rattle.lane_worker.specs.Serving.{connection}
 use Rattle.lane_worker.specs.declared.lane_server.OneByOne.{OneByOne}
-use Rattle.run_weave.specs.Received.{receives_one_by_one}
 use Rattle.run_weave.proofs.OneByOne.{one_by_one}
-use Rattle.pipeline.specs.Promise.{RunTells}
 use Rattle.pipeline.proofs.Told.{servers_told}
 use Rattle.pipeline.proofs.running.run.Goals as goal
 
-pub returns-in-Ok-clause-ran : goal.returns-in-Ok-clause-ran
-returns-in-Ok-clause-ran g c =
-    subst (λ servers. RunTells (receives_one_by_one (λ (s : OneByOne g.row.F.Denot). s.feed) g.F.Feed.gives (λ x. connection (g.F.Reader.Source.given x.0) (g.F.Writer.Write.contents x.1))) g.T.Ticks.gives c.args.config servers c.args.ticks
-    (g.S.Sink.taken c.args.sink) (g.S.Sink.failures c.args.sink) (g.S.Sink.taken c.run_servers.result.0) (g.S.Sink.failures c.run_servers.result.0) c.run_servers.result.1)
-    c.in-Ok.ensures
-    (servers_told _ _ (one_by_one (λ (s : OneByOne g.row.F.Denot). s.feed) g.F.Feed.gives (λ x. connection (g.F.Reader.Source.given x.0) (g.F.Writer.Write.contents x.1))) g.T.Ticks.gives c.args.config c.in-Ok.servers.items c.args.ticks c.requires.config.some c.requires.config.traces
-    (g.S.Sink.taken c.args.sink) (g.S.Sink.failures c.args.sink) (g.S.Sink.taken c.run_servers.result.0) (g.S.Sink.failures c.run_servers.result.0) c.run_servers.result.1 c.run_servers.ensures.ran)
+pub returns-clause-ran : goal.returns-clause-ran
+returns-clause-ran g c = servers_told _ _ (one_by_one (λ (s : OneByOne g.row.F.Denot). s.feed) g.F.Feed.gives (λ x. connection (g.F.Reader.Source.given x.0) (g.F.Writer.Write.contents x.1))) g.T.Ticks.gives c.args.config c.args.servers.items c.args.ticks c.requires.config.some c.requires.config.traces
+    (g.S.Sink.taken c.args.sink) (g.S.Sink.failures c.args.sink) (g.S.Sink.taken c.run_servers.result.0) (g.S.Sink.failures c.run_servers.result.0) c.run_servers.result.1 c.run_servers.ensures.ran

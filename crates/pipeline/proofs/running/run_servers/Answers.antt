@@ -1,4 +1,4 @@
-use Rattle.std.proofs.Common.{◌≡◌, ◌<◌, ◌∙◌, ap, false, length, refl, sym, subst, []}
+use Rattle.std.proofs.Common.{◌<◌, ◌∙◌, ap, false, length, refl, sym, subst, []}
 use Rattle.std.proofs.lemmas.List.{length-replicate}
 use Rattle.std.specs.List.{list_any}
 use Rattle.span_exporter.specs.Exports.{ExporterState}
