@@ -2,4 +2,4 @@ use Rattle.pipeline.proofs.Told.{core_told}
 use Rattle.collector_serve.proofs.serving.serve_on.Goals as goal
 
 pub returns-clause-ran : goal.returns-clause-ran
-returns-clause-ran g c = core_told _ _ c.args.config _ _ _ _ _ _ _ c.run_by_turns.ensures.ran
+returns-clause-ran g c = core_told _ _ c.args.config _ _ _ _ _ _ _ c.run_by_turns-sink.ensures.ran
