@@ -1,86 +1,103 @@
 //! Each count through the trait, one that would pass the greatest number, and the sums of what several counted.
 use drop_ledger::{BookFull, Count, Counter, Report, Tally, numbers_are_sums, total};
 use span_ids::Reason;
-use std::process::Abort;
+
+/// The nine counts.
+const COUNTS: [Count; 9] = [
+    Count::Received,
+    Count::Handed,
+    Count::Dropped(Reason::InvalidId),
+    Count::Dropped(Reason::QueueFull),
+    Count::Dropped(Reason::NoMemory),
+    Count::Dropped(Reason::Evicted),
+    Count::Dropped(Reason::NotSampled),
+    Count::Dropped(Reason::LateNotSampled),
+    Count::Dropped(Reason::ExporterDown),
+];
 
 /// Adds by the trait.
 fn add_to<C: Counter>(counter: &mut C, count: Count, n: u64) -> Result<(), BookFull> {
     counter.add(count, n)
 }
 
-/// Whether each of these counts has its number.
-fn check(rt: &impl Abort, report: &Report, numbers: &[(Count, u64)]) {
-    for (count, number) in numbers {
-        assert_eq!(rt; report.number(*count), *number, "{count:?}");
+/// The number of each count.
+fn numbers(report: &Report) -> [u64; 9] {
+    [
+        report.number(Count::Received),
+        report.number(Count::Handed),
+        report.number(Count::Dropped(Reason::InvalidId)),
+        report.number(Count::Dropped(Reason::QueueFull)),
+        report.number(Count::Dropped(Reason::NoMemory)),
+        report.number(Count::Dropped(Reason::Evicted)),
+        report.number(Count::Dropped(Reason::NotSampled)),
+        report.number(Count::Dropped(Reason::LateNotSampled)),
+        report.number(Count::Dropped(Reason::ExporterDown)),
+    ]
+}
+
+/// Whether the counts take 1 to 9 and then one of them up to the greatest number and none more, and the numbers behind that.
+fn added() -> (bool, [u64; 9]) {
+    let mut report = Report::new();
+    let mut fits = true;
+    let mut n = 0u64;
+    for count in &COUNTS {
+        n = n.wrapping_add(1);
+        fits &= add_to(&mut report, *count, n) == Ok(());
     }
+    fits &= report.add(Count::Handed, u64::MAX - 2) == Ok(());
+    fits &= add_to(&mut report, Count::Handed, 1) == Err(BookFull);
+    (fits, numbers(&report))
 }
 
 #[test]
 fn each_count_by_itself(rt: HostRuntime) {
-    let numbers = [
-        (Count::Received, 1),
-        (Count::Handed, u64::MAX),
-        (Count::Dropped(Reason::InvalidId), 3),
-        (Count::Dropped(Reason::QueueFull), 4),
-        (Count::Dropped(Reason::NoMemory), 5),
-        (Count::Dropped(Reason::Evicted), 6),
-        (Count::Dropped(Reason::NotSampled), 7),
-        (Count::Dropped(Reason::LateNotSampled), 8),
-        (Count::Dropped(Reason::ExporterDown), 9),
-    ];
-    let mut report = Report::new();
-    for (n, (count, _)) in (1..).zip(numbers) {
-        assert_eq!(rt; add_to(&mut report, count, n), Ok(()));
-    }
-    assert_eq!(rt; report.add(Count::Handed, u64::MAX - 2), Ok(()));
-    assert_eq!(rt; add_to(&mut report, Count::Handed, 1), Err(BookFull));
-    check(&rt, &report, &numbers);
+    assert_eq!(rt; added(), (true, [1, u64::MAX, 3, 4, 5, 6, 7, 8, 9]));
     numbers_are_sums();
 }
 
-/// What a lane counted that took 8 spans, and whether it stopped counting.
-fn lane() -> (Report, bool) {
-    let mut lane = Tally::new(Report::new());
-    lane.count(Count::Received, 8);
-    lane.count(Count::Dropped(Reason::QueueFull), 1);
-    lane.count(Count::Dropped(Reason::InvalidId), u64::MAX);
-    let is_full = lane.is_full();
-    (lane.end(), is_full)
+/// What a lane or a shard counted, and whether it stopped: from a count on that would pass the greatest number nothing more is counted.
+fn counted(additions: &[(Count, u64)]) -> (Report, bool) {
+    let mut tally = Tally::new(Report::new());
+    for (count, n) in additions {
+        tally.count(*count, *n);
+    }
+    let is_full = tally.is_full();
+    (tally.end(), is_full)
 }
 
-/// What a shard counted, one count of which would have passed the greatest number: nothing more was counted then.
-fn shard() -> (Report, bool) {
-    let mut shard = Tally::new(Report::new());
-    shard.count(Count::Dropped(Reason::NotSampled), 4);
-    shard.count(Count::Dropped(Reason::QueueFull), 2);
-    shard.count(Count::Dropped(Reason::LateNotSampled), u64::MAX);
-    shard.count(Count::Dropped(Reason::LateNotSampled), 1);
-    shard.count(Count::Handed, 5);
-    let is_full = shard.is_full();
-    (shard.end(), is_full)
+/// A lane that took 8 spans.
+const LANE: [(Count, u64); 3] = [
+    (Count::Received, 8),
+    (Count::Dropped(Reason::QueueFull), 1),
+    (Count::Dropped(Reason::InvalidId), u64::MAX),
+];
+
+/// A shard, the fourth addition of which doesn't fit.
+const SHARD: [(Count, u64); 5] = [
+    (Count::Dropped(Reason::NotSampled), 4),
+    (Count::Dropped(Reason::QueueFull), 2),
+    (Count::Dropped(Reason::LateNotSampled), u64::MAX),
+    (Count::Dropped(Reason::LateNotSampled), 1),
+    (Count::Handed, 5),
+];
+
+/// The numbers of the sum of these reports, where each fits.
+fn summed(reports: &[Report]) -> Option<[u64; 9]> {
+    match total(reports) {
+        Ok(report) => Some(numbers(&report)),
+        Err(_) => None,
+    }
 }
 
 #[test]
 fn several_are_summed(rt: HostRuntime) {
-    let (lane, is_full) = lane();
-    assert!(rt; !is_full);
-    let (shard, is_full) = shard();
-    assert!(rt; is_full);
-    let numbers = [
-        (Count::Received, 8),
-        (Count::Handed, 0),
-        (Count::Dropped(Reason::InvalidId), u64::MAX),
-        (Count::Dropped(Reason::QueueFull), 3),
-        (Count::Dropped(Reason::NoMemory), 0),
-        (Count::Dropped(Reason::Evicted), 0),
-        (Count::Dropped(Reason::NotSampled), 4),
-        (Count::Dropped(Reason::LateNotSampled), u64::MAX),
-        (Count::Dropped(Reason::ExporterDown), 0),
-    ];
-    match total(&[lane, shard]) {
-        Ok(report) => check(&rt, &report, &numbers),
-        Err(_) => assert!(rt; false, "each sum fits"),
-    }
-    assert!(rt; total(&[shard, lane, shard]).is_err());
-    assert!(rt; total(&[]).is_ok());
+    let (lane, lane_is_full) = counted(&LANE);
+    let (shard, shard_is_full) = counted(&SHARD);
+    let sums = [summed(&[lane, shard]), summed(&[shard, lane, shard])];
+    let wanted = [8, 0, u64::MAX, 3, 0, 0, 4, u64::MAX, 0];
+    assert_eq!(rt; sums, [Some(wanted), None]);
+    assert_eq!(rt;
+        (lane_is_full, shard_is_full, summed(&[])),
+        (false, true, Some([0; 9]))
+    );
 }

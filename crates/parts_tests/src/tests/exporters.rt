@@ -51,6 +51,7 @@ fn exporter_of(
         interruptions: 0,
         piece,
         room,
+        fails: true,
         calls: 0,
     });
     match Exporter::new(alloc, size, 1, LineSink::new(sink)) {
@@ -59,113 +60,93 @@ fn exporter_of(
     }
 }
 
-/// Flushes. A batch given up for want of memory while the sink is up is an error.
-fn flushed(exporter: &mut Exporter<FailingSink>) -> Result<Flushed, AllocError> {
-    match exporter.flush() {
-        Flushed::Spoiled(_, Reason::NoMemory) => Err(AllocError),
-        flushed => Ok(flushed),
-    }
-}
-
 /// Pulls a span, and flushes a batch that it fills.
-fn pulled(exporter: &mut Exporter<FailingSink>, rec: Record) -> Result<Flushed, AllocError> {
+fn pulled(exporter: &mut Exporter<FailingSink>, rec: Record) -> Flushed {
+    if exporter.is_full() {
+        return Flushed::Spoiled(0, Reason::Evicted);
+    }
     let conn = ConnKey {
         lane: 0,
         ordinal: 0,
     };
-    let key = ArrivalKey { conn, number: 0 };
-    if exporter.is_full() {
-        return Ok(Flushed::Spoiled(0, Reason::Evicted));
-    }
-    match exporter.pull(Shipment::Span(Arrival {
-        key,
+    let arrival = Arrival {
+        key: ArrivalKey { conn, number: 0 },
         moment: 0,
         rec,
-    })) {
-        Pulled::AddedFull => flushed(exporter),
-        _ => Ok(Flushed::Empty),
+    };
+    match exporter.pull(Shipment::Span(arrival)) {
+        Pulled::AddedFull => exporter.flush(),
+        _ => Flushed::Empty,
     }
 }
 
-/// Sends three spans, and answers what was flushed after each.
+/// What was flushed after each of three spans and last; what a line that is no batch was answered before that and whether a write had
+/// failed then; how many writes failed; and whether the sink took just what it must.
+type Seen = ([Flushed; 4], Result<(), SinkFault>, bool, u64, bool);
+
+/// Sends spans, then a line that is no batch unless it is empty, then what is left, to an exporter whose sink must take just `held`.
 fn sent(
-    exporter: &mut Exporter<FailingSink>,
+    mut exporter: Exporter<FailingSink>,
     records: Vec<Record>,
-) -> Result<[Flushed; 3], AllocError> {
+    line: &[u8],
+    held: &[u8],
+) -> Seen {
     let mut flushes = [Flushed::Empty; 3];
-    for (place, rec) in flushes.iter_mut().zip(records) {
-        *place = pulled(exporter, rec)?;
+    for rec in records {
+        flushes = [flushes[1], flushes[2], pulled(&mut exporter, rec)];
     }
-    Ok(flushes)
-}
-
-/// What batches of one come to over a sink that takes the first line and a part of the second.
-#[derive(Clone, Copy)]
-struct Seen {
-    flushes: [Flushed; 3],
-    noted: Result<(), SinkFault>,
-    is_down: bool,
-    last: Flushed,
-    is_cut_short: bool,
-    failures: u64,
-}
-
-fn second_line_fails(alloc: Global) -> Result<Seen, Fail> {
-    let held = line_and_part();
-    let records = arrivals(alloc)?;
-    let mut exporter = exporter_of(alloc, 1, 1000, held.len())?;
-    let flushes = sent(&mut exporter, records)?;
-    let noted = exporter.note(b"a line\n");
+    let noted = if line.is_empty() {
+        Ok(())
+    } else {
+        exporter.note(line)
+    };
     let is_down = exporter.is_down();
     let last = exporter.flush();
     let sink = exporter.end().end();
     let failures = sink.failures();
-    Ok(Seen {
-        flushes,
-        noted,
-        is_down,
-        last,
-        is_cut_short: sink.end().taken.as_slice() == held.as_bytes(),
-        failures,
-    })
+    let is_held = sink.end().taken.as_slice() == held;
+    let flushes = [flushes[0], flushes[1], flushes[2], last];
+    (flushes, noted, is_down, failures, is_held)
+}
+
+/// The same with three new spans and batches of this size, over a sink that takes so many bytes, at most `piece` of them in a write. A
+/// batch given up for want of memory is an error.
+fn exported(
+    alloc: Global,
+    size: usize,
+    piece: usize,
+    room: usize,
+    line: &[u8],
+    held: &[u8],
+) -> Result<Seen, Fail>
+    requires { 0 < size }
+{
+    let records = arrivals(alloc)?;
+    let exporter = exporter_of(alloc, size, piece, room)?;
+    let seen = sent(exporter, records, line, held);
+    for flushed in &seen.0 {
+        if matches!(flushed, Flushed::Spoiled(_, Reason::NoMemory)) {
+            return Err(Fail::from(AllocError));
+        }
+    }
+    Ok(seen)
 }
 
 #[test]
 fn sink_fails_within_a_line(rt: HostRuntime) -> Result<(), Fail> {
-    let seen = second_line_fails(rt.alloc())?;
+    let held = line_and_part();
+    let seen = exported(
+        rt.alloc(),
+        1,
+        1000,
+        held.len(),
+        b"a line\n",
+        held.as_bytes(),
+    )?;
     let down = Flushed::Spoiled(1, Reason::ExporterDown);
-    assert_eq!(rt; seen.flushes, [Flushed::Handed(1), down, down]);
-    assert_eq!(rt; seen.noted, Err(SinkFault::Down));
-    assert_eq!(rt; seen.last, Flushed::Empty);
-    assert!(rt; seen.is_down && seen.is_cut_short);
-    assert_eq!(rt; seen.failures, 1);
+    let flushes = [Flushed::Handed(1), down, down, Flushed::Empty];
+    assert_eq!(rt; seen, (flushes, Err(SinkFault::Down), true, 1, true));
     Ok(())
-}
-
-/// What became of the two batches of two when three spans were sent, and the sink.
-fn sent_by_two(
-    mut exporter: Exporter<FailingSink>,
-    records: Vec<Record>,
-) -> Result<(Flushed, Flushed, FailingSink), AllocError> {
-    let flushes = sent(&mut exporter, records)?;
-    let last = flushed(&mut exporter)?;
-    Ok((flushes[1], last, exporter.end().end()))
-}
-
-/// Whether batches of two met a sink of this kind as they must: it holds `room` bytes of the two lines, and the batch
-/// whose line is cut short and those after it are given up.
-fn two_batches(alloc: Global, piece: usize, room: usize) -> Result<bool, Fail> {
-    let exporter = exporter_of(alloc, 2, piece, room)?;
-    let (first, last, sink) = sent_by_two(exporter, arrivals(alloc)?)?;
-    let whole = two_lines().as_bytes();
-    let held = room.min(whole.len());
-    let failed = sink.failures() == 1;
-    Ok(
-        first == answer(2, held < FIRST_LINE_LEN)
-            && last == answer(1, failed)
-            && failed == (held < whole.len())
-            && sink.end().taken.as_slice() == &whole[..held],
-    )
 }
 
 /// What a flush of `n` spans answers, where a write has failed and where none has.
@@ -175,6 +156,19 @@ fn answer(n: u64, failed: bool) -> Flushed {
     } else {
         Flushed::Handed(n)
     }
+}
+
+/// Whether batches of two meet a sink of this kind as they must: it holds `room` bytes of the two lines, and the batch whose line is cut
+/// short and those after it are given up.
+fn two_batches(alloc: Global, piece: usize, room: usize) -> Result<bool, Fail> {
+    let whole = two_lines().as_bytes();
+    let held = room.min(whole.len());
+    let seen = exported(alloc, 2, piece, room, b"", &whole[..held])?;
+    let first_failed = held < FIRST_LINE_LEN;
+    let failed = held < whole.len();
+    let first = answer(2, first_failed);
+    let flushes = [Flushed::Empty, first, Flushed::Empty, answer(1, failed)];
+    Ok(seen == (flushes, Ok(()), first_failed, failed as u64, true))
 }
 
 #[test]
@@ -189,10 +183,18 @@ fn one_byte_writes(rt: HostRuntime) -> Result<(), Fail> {
     Ok(())
 }
 
+/// The least room with which a sink that takes seven bytes a write isn't met as it must be.
+fn first_wrong(alloc: Global) -> Result<Option<usize>, Fail> {
+    for room in 0..two_lines().len() {
+        if !two_batches(alloc, 7, room)? {
+            return Ok(Some(room));
+        }
+    }
+    Ok(None)
+}
+
 #[test]
 fn fails_after_each_byte(rt: HostRuntime) -> Result<(), Fail> {
-    for room in 0..two_lines().len() {
-        assert!(rt; two_batches(rt.alloc(), 7, room)?, "after {room}");
-    }
+    assert_eq!(rt; first_wrong(rt.alloc())?, None);
     Ok(())
 }

@@ -31,32 +31,58 @@ impl<'s> Job for Adds<'s> {
     }
 }
 
-/// What three jobs left that are told to work, and the numbers of those that came back. `None` where one couldn't be started.
+/// How many numbers a list has, and its last three.
+type Listed = (usize, [u64; 3]);
+
+/// What is kept of the numbers that jobs left.
+fn listed(numbers: &[u64]) -> Listed {
+    let mut last = [0; 3];
+    for number in numbers {
+        last = [last[1], last[2], *number];
+    }
+    (numbers.len(), last)
+}
+
+/// What is kept of the numbers of jobs.
+fn numbers_of(jobs: &[Adds]) -> Listed {
+    let mut last = [0; 3];
+    for job in jobs {
+        last = [last[1], last[2], job.number];
+    }
+    (jobs.len(), last)
+}
+
+/// What is kept of what jobs left that are told to work, and of those that came back. `None` where one couldn't be started.
 fn in_scope<'s, E, R: Threads + Wait + Sync + 's>(
     scope: &Scope<'s, E>,
     rt: &'s R,
     alloc: Global,
     word: &'s OnceLock<bool>,
-    jobs: Vec<Adds<'s>>,
+    (jobs, room): (Vec<Adds<'s>>, Vec<u64>),
     works: bool,
-) -> Option<(Vec<u64>, Vec<u64>)> {
-    let count = jobs.len();
+) -> Option<(Listed, Listed)> {
     let (begun, started) = start_all(scope, rt, alloc, word, jobs);
-    let Ok(token) = word.set(rt, works && started.is_ok()) else {
+    let token = word.set(rt, works && started.is_ok()).ok()?;
+    if !*word.value(&token) {
+        let back = take_all_back(rt, &token, begun);
+        return Some((listed(&[]), numbers_of(&back)));
+    }
+    if begun.handles.len() > room.capacity() || !room.is_empty() {
         return None;
-    };
-    let lefts = Vec::with_capacity(alloc, count).ok()?;
-    let mut numbers = Vec::new(alloc);
-    if *word.value(&token) {
-        if begun.handles.len() > lefts.capacity() {
-            return None;
-        }
-        return Some((join_all(rt, &token, begun.handles, lefts), numbers));
     }
-    for job in take_all_back(rt, &token, begun) {
-        numbers.push(job.number).ok()?;
-    }
-    Some((lefts, numbers))
+    let lefts = join_all(rt, &token, begun.handles, room);
+    Some((listed(&lefts), listed(&[])))
+}
+
+/// Three jobs that add to a sum, and room for what they leave.
+fn jobs_of(alloc: Global, sum: &AtomicU64) -> Result<(Vec<Adds>, Vec<u64>), AllocError> {
+    let room = Vec::with_capacity(alloc, 3)?;
+    let jobs = vec![in alloc;
+        Adds { number: 1, sum },
+        Adds { number: 2, sum },
+        Adds { number: 3, sum },
+    ]?;
+    Ok((jobs, room))
 }
 
 /// The same with new jobs, and the sum.
@@ -64,35 +90,28 @@ fn three<R: Threads + Wait + Sync>(
     rt: &R,
     alloc: Global,
     works: bool,
-) -> Result<(Vec<u64>, Vec<u64>, u64), AllocError> {
+) -> Result<(Listed, Listed, u64), AllocError> {
     let sum = AtomicU64::new(0);
     let word = OnceLock::new();
-    let mut jobs = Vec::with_capacity(alloc, 3)?;
-    for number in 1..4 {
-        jobs.push(Adds { number, sum: &sum })?;
-    }
+    let jobs = jobs_of(alloc, &sum)?;
     let begin = &word;
     let ended = thread::scope(thread::scope_env(), rt, |scope| {
         in_scope(scope, rt, alloc, begin, jobs, works)
     });
-    let (lefts, numbers) = ended.ok_or(AllocError)?;
-    Ok((lefts, numbers, sum.load(Ordering::SeqCst)))
+    let (lefts, back) = ended.ok_or(AllocError)?;
+    Ok((lefts, back, sum.load(Ordering::SeqCst)))
 }
 
 #[test]
 fn three_work(rt: HostRuntime) -> Result<(), Fail> {
-    let (lefts, numbers, sum) = three(&rt, rt.alloc(), true)?;
-    assert_eq!(rt; lefts.as_slice(), &[1, 2, 3][..]);
-    assert!(rt; numbers.is_empty());
-    assert_eq!(rt; sum, 6);
+    let came = three(&rt, rt.alloc(), true)?;
+    assert_eq!(rt; came, ((3, [1, 2, 3]), (0, [0; 3]), 6));
     Ok(())
 }
 
 #[test]
 fn three_come_back(rt: HostRuntime) -> Result<(), Fail> {
-    let (lefts, numbers, sum) = three(&rt, rt.alloc(), false)?;
-    assert!(rt; lefts.is_empty());
-    assert_eq!(rt; numbers.as_slice(), &[1, 2, 3][..]);
-    assert_eq!(rt; sum, 0);
+    let came = three(&rt, rt.alloc(), false)?;
+    assert_eq!(rt; came, ((0, [0; 3]), (3, [1, 2, 3]), 0));
     Ok(())
 }

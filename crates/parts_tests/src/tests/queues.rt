@@ -85,22 +85,26 @@ fn pass<G: Gate>(gate: &G, place: Place) {
     gate.reach(place);
 }
 
+/// The place that a gate keeps once this one is reached.
+fn kept(gate: &LastPlace, place: Place) -> Option<Place> {
+    pass(&OpenGate, place);
+    pass(gate, place);
+    gate.place.get()
+}
+
 #[test]
 fn gates_are_reached(rt: HostRuntime) {
     let gate = LastPlace {
         place: Cell::new(None),
     };
-    let connected = Place::Connected {
-        lane: 0,
-        ordinal: 1,
-    };
-    let served = Place::Served {
-        lane: 0,
-        ordinal: 1,
-    };
-    for place in [connected, served, Place::Taken { shard: 2 }] {
-        pass(&OpenGate, place);
-        pass(&gate, place);
-        assert_eq!(rt; gate.place.get(), Some(place));
-    }
+    let (lane, ordinal) = (0, 1);
+    let connected = Place::Connected { lane, ordinal };
+    let served = Place::Served { lane, ordinal };
+    let taken = Place::Taken { shard: 2 };
+    let places = [
+        kept(&gate, connected),
+        kept(&gate, served),
+        kept(&gate, taken),
+    ];
+    assert_eq!(rt; places, [Some(connected), Some(served), Some(taken)]);
 }

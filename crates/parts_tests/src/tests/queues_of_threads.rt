@@ -11,57 +11,68 @@ use std::thread;
 use std::thread::Threads;
 use std::time::Clock;
 
-/// What two pushes, a third one, three pops and a fourth push answer on a queue of this capacity.
+/// What is pushed: the number of a sender and one that it counts up.
+type Item = (u32, u32);
+
+/// What two pushes, a third one, three pops and a fourth push answer on a queue.
+fn answers<C: Room, R: Wait>(
+    rt: &R,
+    sender: &mut Sender<Item, C>,
+    receiver: &mut Receiver<Item, C>,
+) -> [Option<Item>; 7]
+    ensures sender { sender.new.queue ≡ sender.old.queue }
+    ensures receiver { queues receiver.new.ends ≡ queues receiver.old.ends }
+{
+    [
+        sender.try_push(rt, (0, 1)).err(),
+        sender.try_push(rt, (0, 2)).err(),
+        sender.try_push(rt, (0, 3)).err(),
+        receiver.pop(rt),
+        receiver.pop(rt),
+        receiver.pop(rt),
+        sender.try_push(rt, (0, 4)).err(),
+    ]
+}
+
+/// The same on a new queue of this capacity.
 fn pushed_and_popped<C: Room, R: Wait>(
     rt: &R,
     alloc: Global,
     capacity: usize,
-) -> Result<[Option<u32>; 6], AllocError>
+) -> Result<[Option<Item>; 7], AllocError>
     requires { (0 < capacity) × (capacity ≡ C.capacity) }
 {
-    let (mut senders, mut receiver) = LaneQueue::new::<u32, C>(alloc, capacity, 1)?;
-    let sender = &mut senders[0];
-    let first_refused = sender
-        .try_push(rt, 1)
-        .err()
-        .or(sender.try_push(rt, 2).err());
-    let third_refused = sender.try_push(rt, 3).err();
-    let popped = [receiver.pop(rt), receiver.pop(rt), receiver.pop(rt)];
-    let last_refused = senders[0].try_push(rt, 4).err();
+    let (mut senders, mut receiver) = LaneQueue::new::<Item, C>(alloc, capacity, 1)?;
+    let answers = answers(rt, &mut senders[0], &mut receiver);
     reunite(receiver, senders);
-    let [first, second, third] = popped;
-    Ok([
-        first_refused,
-        third_refused,
-        first,
-        second,
-        third,
-        last_refused,
-    ])
+    Ok(answers)
 }
 
 #[test]
 fn queue_of_two(rt: HostRuntime) -> Result<(), Fail> {
     let answers = pushed_and_popped::<Brand, _>(&rt, rt.alloc(), 2)?;
-    assert_eq!(rt; answers, [None, Some(3), Some(1), Some(2), None, None]);
+    let popped = [Some((0, 1)), Some((0, 2)), None];
+    let [first, second, third] = popped;
+    assert_eq!(rt;
+        answers,
+        [None, None, Some((0, 3)), first, second, third, None]
+    );
     Ok(())
 }
 
 /// Whether a queue of this capacity takes just so many items, and gives them in order.
-fn fills<C: Room, R: Wait>(rt: &R, alloc: Global, capacity: usize) -> Result<bool, AllocError>
+fn fills<C: Room, R: Wait>(rt: &R, alloc: Global, capacity: u32) -> Result<bool, AllocError>
     requires { (0 < capacity) × (capacity ≡ C.capacity) }
 {
-    let (mut senders, mut receiver) = LaneQueue::new::<usize, C>(alloc, capacity, 1)?;
-    let Some(mut sender) = senders.pop() else {
-        return Ok(false);
-    };
+    let (mut senders, mut receiver) = LaneQueue::new::<Item, C>(alloc, capacity as usize, 1)?;
+    let sender = &mut senders[0];
     let mut fits = true;
     for item in 0..capacity {
-        fits = fits && sender.try_push(rt, item).is_ok();
+        fits = fits && sender.try_push(rt, (0, item)).is_ok();
     }
-    fits = fits && sender.try_push(rt, capacity).is_err();
+    fits = fits && sender.try_push(rt, (0, capacity)).is_err();
     for item in 0..capacity {
-        fits = fits && receiver.pop(rt) == Some(item);
+        fits = fits && receiver.pop(rt) == Some((0, item));
     }
     Ok(fits && receiver.pop(rt).is_none())
 }
@@ -76,8 +87,8 @@ fn greatest_queue_fills(rt: HostRuntime) -> Result<(), Fail> {
 fn push_all<C: Room, R: Wait + Clock>(
     rt: &R,
     number: u32,
-    sender: Sender<(u32, u32), C>,
-) -> Sender<(u32, u32), C>
+    sender: Sender<Item, C>,
+) -> Sender<Item, C>
     ensures { result.queue ≡ sender.queue }
 {
     let mut sender = sender;
@@ -87,11 +98,24 @@ fn push_all<C: Room, R: Wait + Clock>(
     sender
 }
 
-/// Pops 2000 items, and says whether each sender's came in its order.
-fn pop_all<C: Room, R: Wait>(
+/// Two senders push on threads of their own.
+fn push_both<C: Room + Send + Sync, R: Threads + Wait + Clock + Sync>(
     rt: &R,
-    receiver: Receiver<(u32, u32), C>,
-) -> (Receiver<(u32, u32), C>, bool)
+    first: Sender<Item, C>,
+    second: Sender<Item, C>,
+) -> (Sender<Item, C>, Sender<Item, C>)
+    ensures first { result.0.queue ≡ first.queue }
+    ensures second { result.1.queue ≡ second.queue }
+{
+    thread::join(
+        rt,
+        move || push_all(rt, 0, first),
+        move || push_all(rt, 1, second),
+    )
+}
+
+/// Pops 2000 items, and says whether each sender's came in its order.
+fn pop_all<C: Room, R: Wait>(rt: &R, receiver: Receiver<Item, C>) -> (Receiver<Item, C>, bool)
     ensures { queues result.0.ends ≡ queues receiver.ends }
 {
     let mut receiver = receiver;
@@ -123,21 +147,16 @@ fn two_senders<C: Room + Send + Sync, R: Threads + Wait + Clock + Sync>(
 ) -> Result<bool, AllocError>
     requires { (0 < capacity) × (capacity ≡ C.capacity) }
 {
-    let (mut senders, receiver) = LaneQueue::new::<(u32, u32), C>(alloc, capacity, 2)?;
-    let (Some(second), Some(first)) = (senders.pop(), senders.pop()) else {
-        return Ok(false);
-    };
+    let (mut senders, receiver) = LaneQueue::new::<Item, C>(alloc, capacity, 2)?;
+    let second = senders.take_last();
+    let first = senders.take_last();
     let ((first, second), (receiver, in_order)) = thread::join(
         rt,
-        move || thread::join(
-            rt,
-            move || push_all(rt, 0, first),
-            move || push_all(rt, 1, second),
-        ),
+        move || push_both(rt, first, second),
         move || pop_all(rt, receiver),
     );
-    senders.push(first)?;
-    senders.push(second)?;
+    senders.push_reserved(first);
+    senders.push_reserved(second);
     reunite(receiver, senders);
     Ok(in_order)
 }

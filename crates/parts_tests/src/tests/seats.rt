@@ -1,5 +1,5 @@
 //! Seats in one thread, and on threads of their own.
-ghost use Rattle.std.specs.Prelude.{◌≡◌, ◌≤◌, ◌*◌, map};
+ghost use Rattle.std.specs.Prelude.{◌≡◌, ◌≤◌, ◌*◌, map, vec_len};
 ghost use Rattle.shared_budget.specs.Budget.{cell_of, AreOfOneBudget};
 
 use otlp_types::Text;
@@ -12,22 +12,41 @@ use std::test::Fail;
 use std::thread;
 use std::thread::Threads;
 
-/// A policy with this limit.
-fn limiting(alloc: Global, name: &str, limit: Limit) -> Result<Policy, AllocError> {
+/// The name and the limit of a policy.
+type Row = (&'static str, Limit);
+
+/// A policy with a limit of so many spans per second.
+const fn rate(name: &'static str, per_second: u64) -> Row {
+    (name, Limit::Spans { per_second })
+}
+
+/// A policy with a bucket of so many bytes.
+const fn bucket(name: &'static str, per_second: u64, burst: u64) -> Row {
+    (name, Limit::Bytes { per_second, burst })
+}
+
+/// The policy of a row.
+fn policy(alloc: Global, (name, limit): Row) -> Result<Policy, AllocError> {
     Ok(Policy {
         name: Text::from_str(alloc, name)?,
         kind: PolicyKind::Limiting(limit),
     })
 }
 
-/// A policy with a limit of so many spans per second.
-fn rate(alloc: Global, name: &str, per_second: u64) -> Result<Policy, AllocError> {
-    limiting(alloc, name, Limit::Spans { per_second })
+/// Puts the policy of a row behind others.
+fn put_policy(alloc: Global, list: &mut Vec<Policy>, row: Row) -> Result<(), AllocError> {
+    list.reserve(1)?;
+    list.push_reserved(policy(alloc, row)?);
+    Ok(())
 }
 
-/// A policy with a bucket of so many bytes.
-fn bucket(alloc: Global, name: &str, per_second: u64, burst: u64) -> Result<Policy, AllocError> {
-    limiting(alloc, name, Limit::Bytes { per_second, burst })
+/// The policies of these rows.
+fn policies(alloc: Global, rows: &[Row]) -> Result<Policies, Fail> {
+    let mut list = Vec::new(alloc);
+    for row in rows {
+        put_policy(alloc, &mut list, *row)?;
+    }
+    Ok(Policies::new(alloc, list)?)
 }
 
 /// What a seat is answered. A node that it isn't at is answered no.
@@ -77,85 +96,89 @@ fn ask_both<'a, 'b, R: Threads + Wait + Sync>(
     (ones + others, one, other)
 }
 
-/// The last four seats ask on threads of their own. None where there aren't four.
+/// Four seats ask on threads of their own.
 fn ask_by_four<'r, R: Threads + Wait + Sync>(
     rt: &'r R,
     seats: &mut Vec<BudgetSeat<'r, R>>,
     second: u64,
     times: u32,
-) -> Result<Option<u64>, AllocError>
-    requires { AreOfOneBudget seats.old.items }
-    ensures { AreOfOneBudget seats.new.items }
+) -> u64
+    requires one { AreOfOneBudget seats.old.items }
+    requires four { vec_len seats.old ≡ 4 }
+    ensures one { AreOfOneBudget seats.new.items }
+    ensures four { vec_len seats.new ≡ 4 }
 {
-    let Some(one) = seats.pop() else {
-        return Ok(None);
-    };
-    let Some(two) = seats.pop() else {
-        return Ok(None);
-    };
-    let Some(three) = seats.pop() else {
-        return Ok(None);
-    };
-    let Some(four) = seats.pop() else {
-        return Ok(None);
-    };
+    let one = seats.take_last();
+    let two = seats.take_last();
+    let three = seats.take_last();
+    let four = seats.take_last();
     let ((first_half, one, two), (second_half, three, four)) = thread::join(
         rt,
         move || ask_both(rt, one, two, second, times),
         move || ask_both(rt, three, four, second, times),
     );
-    seats.push(four)?;
-    seats.push(three)?;
-    seats.push(two)?;
-    seats.push(one)?;
-    Ok(Some(first_half + second_half))
-}
-
-/// Whether four seats on threads of their own, each at 400 askings in each of 25 seconds, are granted just so many in each.
-fn each_second_grants<R: Threads + Wait + Sync>(
-    rt: &R,
-    alloc: Global,
-    policies: &Policies,
-    limit: u64,
-) -> Result<bool, AllocError> {
-    let mut seats = SharedBudget::new(rt, alloc, policies, 4)?;
-    let mut within = true;
-    for second in 0..25 {
-        within = within && ask_by_four(rt, &mut seats, second, 400)? == Some(limit);
-    }
-    SharedBudget::reunite(seats);
-    Ok(within)
-}
-
-#[test]
-fn four_seats_over_seconds(rt: HostRuntime) -> Result<(), Fail> {
-    let alloc = rt.alloc();
-    let policies = Policies::new(alloc, vec![in alloc; rate(alloc, "a", 1000)?]?)?;
-    assert!(rt; each_second_grants(&rt, alloc, &policies, 1000)?);
-    Ok(())
+    seats.push_reserved(four);
+    seats.push_reserved(three);
+    seats.push_reserved(two);
+    seats.push_reserved(one);
+    first_half + second_half
 }
 
 /// Whether four seats on threads of their own, each at 400 askings in each of these seconds, are granted just so many there.
 fn seconds_grant<R: Threads + Wait + Sync>(
     rt: &R,
     alloc: Global,
-    policies: &Policies,
+    row: Row,
     seconds: &[(u64, u64)],
-) -> Result<bool, AllocError> {
-    let mut seats = SharedBudget::new(rt, alloc, policies, 4)?;
+) -> Result<bool, Fail> {
+    let policies = policies(alloc, &[row])?;
+    let mut seats = SharedBudget::new(rt, alloc, &policies, 4)?;
     let mut within = true;
     for (second, granted) in seconds {
-        within = within && ask_by_four(rt, &mut seats, *second, 400)? == Some(*granted);
+        within = within && ask_by_four(rt, &mut seats, *second, 400) == *granted;
     }
     SharedBudget::reunite(seats);
     Ok(within)
 }
 
+/// A thousand spans in each of 25 seconds.
+const EACH_SECOND: [(u64, u64); 25] = [
+    (0, 1000),
+    (1, 1000),
+    (2, 1000),
+    (3, 1000),
+    (4, 1000),
+    (5, 1000),
+    (6, 1000),
+    (7, 1000),
+    (8, 1000),
+    (9, 1000),
+    (10, 1000),
+    (11, 1000),
+    (12, 1000),
+    (13, 1000),
+    (14, 1000),
+    (15, 1000),
+    (16, 1000),
+    (17, 1000),
+    (18, 1000),
+    (19, 1000),
+    (20, 1000),
+    (21, 1000),
+    (22, 1000),
+    (23, 1000),
+    (24, 1000),
+];
+
+#[test]
+fn four_seats_over_seconds(rt: HostRuntime) -> Result<(), Fail> {
+    assert!(rt; seconds_grant(&rt, rt.alloc(), rate("a", 1000), &EACH_SECOND)?);
+    Ok(())
+}
+
 /// A full bucket of 1000 bytes, and what it gets back: 300 with each second, and never above 1000.
 #[test]
 fn four_seats_at_a_bucket(rt: HostRuntime) -> Result<(), Fail> {
-    let alloc = rt.alloc();
-    let policies = Policies::new(alloc, vec![in alloc; bucket(alloc, "a", 300, 1000)?]?)?;
     let seconds = [
         (0, 1000),
         (1, 300),
@@ -167,44 +190,43 @@ fn four_seats_at_a_bucket(rt: HostRuntime) -> Result<(), Fail> {
         (10, 300),
         (1000, 1000),
     ];
-    assert!(rt; seconds_grant(&rt, alloc, &policies, &seconds)?);
+    assert!(rt; seconds_grant(&rt, rt.alloc(), bucket("a", 300, 1000), &seconds)?);
     Ok(())
 }
 
-/// Whether a seat, the node and second of an asking and its amount are answered so.
-fn is_answered<'r, R: Wait>(
-    seats: &mut Vec<BudgetSeat<'r, R>>,
-    asking: (usize, u16, u64, u64),
-    granted: bool,
-) -> bool {
-    let (seat, node, second, amount) = asking;
+/// An asking: the seat, the node, the second and the amount, and whether it is granted.
+type Asking = ((usize, u16, u64, u64), bool);
+
+/// Whether seats answer so.
+fn is_answered<'r, R: Wait>(seats: &mut Vec<BudgetSeat<'r, R>>, asking: &Asking) -> bool {
+    let ((seat, node, second, amount), granted) = *asking;
     match seats.get_mut(seat) {
         Some(seat) => ask(seat, node, second, amount) == granted,
         None => false,
     }
 }
 
-/// The place of the first of these askings that two seats answer otherwise.
+/// The place of the first of these askings that two seats of these policies answer otherwise.
 fn first_wrong<R: Threads + Wait + Sync>(
     rt: &R,
     alloc: Global,
-    policies: &Policies,
-    askings: &[((usize, u16, u64, u64), bool)],
-) -> Result<Option<usize>, AllocError> {
-    let mut seats = SharedBudget::new(rt, alloc, policies, 2)?;
-    for (place, (asking, granted)) in askings.iter().enumerate() {
-        if !is_answered(&mut seats, *asking, *granted) {
-            return Ok(Some(place));
+    rows: &[Row],
+    askings: &[Asking],
+) -> Result<Option<usize>, Fail> {
+    let policies = policies(alloc, rows)?;
+    let mut seats = SharedBudget::new(rt, alloc, &policies, 2)?;
+    let mut wrong = None;
+    for (place, asking) in askings.iter().enumerate() {
+        if wrong.is_none() && !is_answered(&mut seats, asking) {
+            wrong = Some(place);
         }
     }
-    Ok(None)
+    Ok(wrong)
 }
 
 #[test]
 fn nodes_of_two_seats(rt: HostRuntime) -> Result<(), Fail> {
-    let alloc = rt.alloc();
-    let list = vec![in alloc; rate(alloc, "a", 3)?, rate(alloc, "b", u64::MAX)?]?;
-    let policies = Policies::new(alloc, list)?;
+    let rows = [rate("a", 3), rate("b", u64::MAX)];
     let askings = [
         ((0, 0, 5, 2), true),
         ((1, 0, 4, 2), false),
@@ -216,19 +238,17 @@ fn nodes_of_two_seats(rt: HostRuntime) -> Result<(), Fail> {
         ((0, 1, 1, 1), true),
         ((0, 2, 2, 1), false),
     ];
-    assert_eq!(rt; first_wrong(&rt, alloc, &policies, &askings)?, None);
+    assert_eq!(rt; first_wrong(&rt, rt.alloc(), &rows, &askings)?, None);
     Ok(())
 }
 
 #[test]
 fn buckets_of_two_seats(rt: HostRuntime) -> Result<(), Fail> {
-    let alloc = rt.alloc();
-    let list = vec![in alloc;
-        bucket(alloc, "a", 3, 7)?,
-        bucket(alloc, "b", u64::MAX, u64::MAX)?,
-        bucket(alloc, "c", 0, 5)?,
-    ]?;
-    let policies = Policies::new(alloc, list)?;
+    let rows = [
+        bucket("a", 3, 7),
+        bucket("b", u64::MAX, u64::MAX),
+        bucket("c", 0, 5),
+    ];
     let askings = [
         ((0, 0, 5, 8), false),
         ((1, 0, 5, 7), true),
@@ -251,6 +271,6 @@ fn buckets_of_two_seats(rt: HostRuntime) -> Result<(), Fail> {
         ((0, 2, u64::MAX, 2), true),
         ((0, 3, 2, 1), false),
     ];
-    assert_eq!(rt; first_wrong(&rt, alloc, &policies, &askings)?, None);
+    assert_eq!(rt; first_wrong(&rt, rt.alloc(), &rows, &askings)?, None);
     Ok(())
 }

@@ -1,5 +1,0 @@
-use Rattle.shared_budget.specs.Budget.{AreOfOneBudget}
-use Rattle.parts_tests.proofs.tests.seats.each_second_grants.Given as goal
-
-abbrev pub invariant-loop-second : goal.invariant-loop-second
-invariant-loop-second g l = AreOfOneBudget l.seats.items
