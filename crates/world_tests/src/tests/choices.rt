@@ -10,10 +10,11 @@ use std::alloc::{AllocError, Global};
 #[derive(Clone, Copy)]
 pub struct Choice {
     kind: u64,
-    place: u64,
+    lane: u16,
+    shard: usize,
     bits: u64,
     more: u64,
-    now: u64,
+    moment: u64,
     closing: bool,
 }
 
@@ -33,10 +34,11 @@ pub fn choose(seed: u64, now: u64, closing: bool) -> (u64, Choice) {
     let (seed, more) = draw(seed);
     let choice = Choice {
         kind,
-        place,
+        lane: of_two(place),
+        shard: of_two(place >> 8) as usize,
         bits,
         more,
-        now,
+        moment: now.saturating_add(bits % 16),
         closing,
     };
     (seed, choice)
@@ -64,26 +66,14 @@ impl Choice {
     pub fn step(self, alloc: Global) -> Result<Step, AllocError> {
         match self.kind % 32 {
             0..=2 if !self.closing => self.receipt(alloc),
-            0 | 1 => Ok(Step::Close { lane: self.lane() }),
+            0 | 1 => Ok(Step::Close { lane: self.lane }),
             3..=17 => Ok(self.step_of_queues()),
             20..=23 => Ok(Step::Decide {
-                shard: self.shard(),
+                shard: self.shard,
                 answers: Vec::new(alloc),
             }),
             kind => Ok(self.further_step(kind)),
         }
-    }
-
-    fn lane(self) -> u16 {
-        of_two(self.place)
-    }
-
-    fn shard(self) -> usize {
-        of_two(self.place >> 8) as usize
-    }
-
-    fn moment(self) -> u64 {
-        self.now.saturating_add(self.bits % 16)
     }
 
     /// Two spans.
@@ -91,23 +81,23 @@ impl Choice {
         let mut records = vec![in alloc; draw_record(alloc, self.bits >> 6)?]?;
         records.push(draw_record(alloc, self.more)?)?;
         Ok(Step::Receive {
-            lane: self.lane(),
+            lane: self.lane,
             ordinal: self.bits & 1,
-            moment: self.moment(),
+            moment: self.moment,
             records,
         })
     }
 
     /// Into a shard's queue, past it, or out of it.
     fn step_of_queues(self) -> Step {
-        let shard = self.shard();
+        let shard = self.shard;
         match self.kind % 32 {
             3..=8 => Step::Route {
-                lane: self.lane(),
+                lane: self.lane,
                 shard,
             },
             9 => Step::Refuse {
-                lane: self.lane(),
+                lane: self.lane,
                 shard,
             },
             _ => Step::Take {
@@ -120,11 +110,11 @@ impl Choice {
 
     /// A tick, an End, or a step of the exporter.
     fn further_step(self, kind: u64) -> Step {
-        let shard = self.shard();
+        let shard = self.shard;
         match kind {
             18 | 19 => Step::Tick {
                 shard,
-                moment: self.moment(),
+                moment: self.moment,
             },
             2 | 29 | 30 => Step::End {
                 shard,

@@ -8,17 +8,8 @@ use shard_journal::{
 };
 use span_ids::Verdict;
 use std::alloc::{AllocError, Global};
+use std::process::Abort;
 use std::test::Fail;
-
-/// A journal, the numbers of what it released, the reasons and numbers of what it counted, and whether at each item just
-/// what was due could be decided.
-#[derive(Drop)]
-struct Played {
-    journal: Vec<Entry>,
-    released: Vec<u64>,
-    counted: Vec<(u8, u64)>,
-    as_due: bool,
-}
 
 /// One policy: on this status code, or one that samples each trace; the greatest size of a trace, in bytes, where 0 is none;
 /// and how many sampled and how many other traces are remembered.
@@ -44,98 +35,128 @@ fn settings_with(alloc: Global, given: Given) -> Result<Settings, AllocError> {
     })
 }
 
-fn note(played: &mut Played, effect: &Effect) -> Result<(), AllocError> {
-    for span in &effect.released {
-        played.released.push(span.key.number)?;
-    }
-    for span in &effect.counted {
-        played
-            .counted
-            .push((span.reason.number(), span.key.number))?;
-    }
-    Ok(())
+/// What is still to be released and to be counted, by numbers, and reasons and numbers; and whether at each item just what was
+/// due could be decided, and what was released and what was counted were as wanted.
+#[derive(Clone, Copy)]
+struct Wanted<'a> {
+    released: &'a [u64],
+    counted: &'a [(u8, u64)],
+    are_right: [bool; 3],
 }
 
-/// The entry of an event without marks.
-fn entry_of(alloc: Global, event: Event) -> Result<Entry, AllocError> {
-    Ok(Entry {
-        item: event_item(alloc, event)?,
-        refused: false,
-        lost: false,
-        answers: Vec::new(alloc),
-    })
+impl Wanted<'_> {
+    /// Notes what an effect released and counted.
+    fn note(&mut self, effect: &Effect) {
+        for span in &effect.released {
+            match self.released.split_first() {
+                Some((number, rest)) if *number == span.key.number => self.released = rest,
+                _ => self.are_right[1] = false,
+            }
+        }
+        for span in &effect.counted {
+            match self.counted.split_first() {
+                Some(((reason, number), rest))
+                    if *reason == span.reason.number() && *number == span.key.number =>
+                    self.counted = rest,
+                _ => self.are_right[2] = false,
+            }
+        }
+    }
 }
 
 /// Puts an event at the end of the journal, and notes what taking it does.
 fn take(
     alloc: Global,
     settings: &Settings,
-    played: &mut Played,
+    journal: &mut Vec<Entry>,
     event: Event,
+    wanted: &mut Wanted<'_>,
 ) -> Result<(), AllocError> {
-    let entry = entry_of(alloc, event)?;
-    let effect = effect_of_taking(alloc, settings, &played.journal, &entry)?;
-    played.journal.push(entry)?;
-    note(played, &effect)
-}
-
-/// Makes the decision at this place, and notes what it does. False where there is none.
-fn decide(
-    alloc: Global,
-    settings: &Settings,
-    played: &mut Played,
-    place: usize,
-) -> Result<bool, AllocError> {
-    let Some(effect) = decision_at(alloc, settings, &played.journal, place, &[])? else {
-        return Ok(false);
+    let entry = Entry {
+        item: event_item(alloc, event)?,
+        refused: false,
+        lost: false,
+        answers: Vec::new(alloc),
     };
-    note(played, &effect)?;
-    if let Some(last) = played.journal.last_mut() {
-        last.answers.push(List::new(alloc))?;
-    }
-    Ok(true)
-}
-
-/// Makes each decision that is due; and there is none behind those.
-fn decide_all(alloc: Global, settings: &Settings, played: &mut Played) -> Result<(), AllocError> {
-    let due = LookBack::new(alloc, settings, &played.journal)?.due();
-    for place in 0..due {
-        played.as_due = decide(alloc, settings, played, place)? && played.as_due;
-    }
-    played.as_due = !decide(alloc, settings, played, due)? && played.as_due;
+    wanted.note(&effect_of_taking(alloc, settings, journal, &entry)?);
+    journal.push(entry)?;
     Ok(())
 }
 
-fn play(alloc: Global, settings: &Settings, events: &[Event]) -> Result<Played, AllocError> {
-    let mut played = Played {
-        journal: Vec::new(alloc),
-        released: Vec::new(alloc),
-        counted: Vec::new(alloc),
-        as_due: true,
-    };
-    for event in events {
-        take(alloc, settings, &mut played, *event)?;
-        decide_all(alloc, settings, &mut played)?;
+/// Makes each decision that is due; and there is none behind those.
+fn decide_all(
+    alloc: Global,
+    settings: &Settings,
+    journal: &mut Vec<Entry>,
+    wanted: &mut Wanted<'_>,
+) -> Result<(), AllocError> {
+    let due = LookBack::new(alloc, settings, journal)?.due();
+    for place in 0..due {
+        match decision_at(alloc, settings, journal, place, &[])? {
+            Some(effect) => wanted.note(&effect),
+            None => wanted.are_right[0] = false,
+        }
+        if let Some(last) = journal.last_mut() {
+            last.answers.push(List::new(alloc))?;
+        }
     }
-    Ok(played)
+    let is_more = decision_at(alloc, settings, journal, due, &[])?.is_some();
+    wanted.are_right[0] = wanted.are_right[0] && !is_more;
+    Ok(())
 }
 
-/// Plays these events. Whether just what was due could be decided; whether spans of these numbers were released; and
-/// whether these were counted, by their reasons and numbers.
-fn plays(
+/// Plays events behind the end of the journal.
+fn play(
+    alloc: Global,
+    settings: &Settings,
+    journal: &mut Vec<Entry>,
+    events: &[Event],
+    wanted: &mut Wanted<'_>,
+) -> Result<(), AllocError> {
+    for event in events {
+        take(alloc, settings, journal, *event, wanted)?;
+        decide_all(alloc, settings, journal, wanted)?;
+    }
+    Ok(())
+}
+
+/// Plays these events over a new journal. Whether just what was due could be decided; whether spans of these numbers were
+/// released; and whether these were counted, by their reasons and numbers.
+fn played(
     alloc: Global,
     given: Given,
     events: &[Event],
     released: &[u64],
     counted: &[(u8, u64)],
 ) -> Result<[bool; 3], AllocError> {
+    let mut wanted = Wanted {
+        released,
+        counted,
+        are_right: [true; 3],
+    };
     let settings = settings_with(alloc, given)?;
-    let played = play(alloc, &settings, events)?;
+    let mut journal = Vec::new(alloc);
+    play(alloc, &settings, &mut journal, events, &mut wanted)?;
+    let [as_due, as_released, as_counted] = wanted.are_right;
     Ok([
-        played.as_due,
-        played.released.as_slice() == released,
-        played.counted.as_slice() == counted,
+        as_due,
+        as_released && wanted.released.is_empty(),
+        as_counted && wanted.counted.is_empty(),
     ])
+}
+
+/// Plays these events, and asserts all three.
+fn plays(
+    rt: &impl Abort,
+    alloc: Global,
+    given: Given,
+    events: &[Event],
+    released: &[u64],
+    counted: &[(u8, u64)],
+) -> Result<(), Fail> {
+    let found = played(alloc, given, events, released, counted)?;
+    assert_eq!(rt; found, [true; 3], "{}", given.maximum_size);
+    Ok(())
 }
 
 #[test]
@@ -153,9 +174,7 @@ fn full_buffer_evicts_undecided(rt: HostRuntime) -> Result<(), Fail> {
         sampled_size: 0,
         non_sampled_size: 0,
     };
-    let found = plays(rt.alloc(), given, &events, &[2], &[(4, 0), (4, 1)])?;
-    assert_eq!(rt; found, [true; 3]);
-    Ok(())
+    plays(&rt, rt.alloc(), given, &events, &[2], &[(4, 0), (4, 1)])
 }
 
 #[test]
@@ -178,9 +197,7 @@ fn cache_of_one_forgets(rt: HostRuntime) -> Result<(), Fail> {
         sampled_size: 1,
         non_sampled_size: 0,
     };
-    let found = plays(rt.alloc(), given, &events, &[0, 1, 2], &[(5, 3)])?;
-    assert_eq!(rt; found, [true; 3]);
-    Ok(())
+    plays(&rt, rt.alloc(), given, &events, &[0, 1, 2], &[(5, 3)])
 }
 
 const RENEWING: [Event; 11] = [
@@ -207,9 +224,14 @@ const ON_ERRORS: Given = Given {
 
 #[test]
 fn late_span_renews(rt: HostRuntime) -> Result<(), Fail> {
-    let found = plays(rt.alloc(), ON_ERRORS, &RENEWING, &[0, 1, 3, 2, 5, 4], &[])?;
-    assert_eq!(rt; found, [true; 3]);
-    Ok(())
+    plays(
+        &rt,
+        rt.alloc(),
+        ON_ERRORS,
+        &RENEWING,
+        &[0, 1, 3, 2, 5, 4],
+        &[],
+    )
 }
 
 /// A root has 94 bytes where it has an error, and 74 else.
@@ -237,87 +259,92 @@ fn too_big_is_decided_at_once(rt: HostRuntime) -> Result<(), Fail> {
             maximum_size,
             ..ON_ERRORS
         };
-        let found = plays(rt.alloc(), given, &events, released, counted)?;
-        assert_eq!(rt; found, [true; 3], "{maximum_size}");
+        plays(&rt, rt.alloc(), given, &events, released, counted)?;
     }
     Ok(())
 }
 
-/// The clock of a journal; whether sender 1 and sender 2 have ended, and the first two and the first three.
-fn clock_and_ends(alloc: Global) -> Result<(u64, [bool; 4]), AllocError> {
+/// What a journal answers: of each of four traces; what it remembers of the first; whether a mark applies to a span of a
+/// trace, that it was refused of the third and of the first trace, that a decision was lost of the fourth; its clock; and
+/// whether sender 1 and sender 2 have ended, and the first two and the first three.
+#[derive(Clone, Copy)]
+struct Answers {
+    findings: [Finding; 4],
+    late: Option<Verdict>,
+    marks: [bool; 3],
+    clock: u64,
+    ends: [bool; 4],
+}
+
+/// What a journal answers of a trace, and what it remembers of it.
+fn find(
+    alloc: Global,
+    settings: &Settings,
+    journal: &[Entry],
+    trace: u8,
+) -> Result<(Finding, Option<Verdict>), AllocError> {
+    let ids = numbered_ids(trace, true).ok_or(AllocError)?;
+    let _span = ids.span; // (so that the borrow checker knows of its type)
+    let finding = finding_of(alloc, settings, journal, ids.trace)?;
+    Ok((finding, remembered(alloc, settings, journal, ids.trace)?))
+}
+
+fn ask(alloc: Global, settings: &Settings, journal: &[Entry]) -> Result<Answers, AllocError> {
+    let (first, late) = find(alloc, settings, journal, 1)?;
+    let (second, _) = find(alloc, settings, journal, 2)?;
+    let (third, _) = find(alloc, settings, journal, 3)?;
+    let (fourth, _) = find(alloc, settings, journal, 4)?;
+    let look = LookBack::new(alloc, settings, journal)?;
+    Ok(Answers {
+        findings: [first, second, third, fourth],
+        late,
+        marks: [
+            look.marks_apply(settings, true, false, numbered_ids(3, true)),
+            look.marks_apply(settings, true, false, numbered_ids(1, true)),
+            look.marks_apply(settings, false, true, numbered_ids(4, true)),
+        ],
+        clock: clock(journal),
+        ends: [
+            has_ended(journal, 1),
+            has_ended(journal, 2),
+            have_ended(journal, 2),
+            have_ended(journal, 3),
+        ],
+    })
+}
+
+/// What the journal of these events answers.
+fn answers_of(alloc: Global, events: &[Event]) -> Result<Answers, AllocError> {
+    let mut unwanted = Wanted {
+        released: &[],
+        counted: &[],
+        are_right: [true; 3],
+    };
     let settings = settings_with(alloc, ON_ERRORS)?;
-    let played = play(alloc, &settings, &RENEWING)?;
-    let journal = played.journal.as_slice();
-    let ends = [
-        has_ended(journal, 1),
-        has_ended(journal, 2),
-        have_ended(journal, 2),
-        have_ended(journal, 3),
-    ];
-    Ok((clock(journal), ends))
+    let mut journal = Vec::new(alloc);
+    play(alloc, &settings, &mut journal, events, &mut unwanted)?;
+    ask(alloc, &settings, &journal)
 }
 
 #[test]
 fn two_senders_end(rt: HostRuntime) -> Result<(), Fail> {
-    let (clock, ends) = clock_and_ends(rt.alloc())?;
-    assert_eq!(rt; clock, 30_000);
-    assert_eq!(rt; ends, [true, false, true, false]);
+    let answers = answers_of(rt.alloc(), &RENEWING)?;
+    let ends = answers.ends;
+    assert_eq!(rt; (answers.clock, ends), (30_000, [true, false, true, false]));
     Ok(())
-}
-
-/// What a journal answers of each of four traces.
-fn find_traces(
-    alloc: Global,
-    settings: &Settings,
-    journal: &[Entry],
-) -> Result<[Finding; 4], AllocError> {
-    let mut findings = [Finding::Opens; 4];
-    for (trace, finding) in [1, 2, 3, 4].into_iter().zip(findings.iter_mut()) {
-        let ids = numbered_ids(trace, true).ok_or(AllocError)?;
-        let _span = ids.span; // (so that the borrow checker knows of its type)
-        *finding = finding_of(alloc, settings, journal, ids.trace)?;
-    }
-    Ok(findings)
-}
-
-/// What a journal remembers of the first trace.
-fn remember_first(
-    alloc: Global,
-    settings: &Settings,
-    journal: &[Entry],
-) -> Result<Option<Verdict>, AllocError> {
-    let ids = numbered_ids(1, true).ok_or(AllocError)?;
-    let _span = ids.span; // (so that the borrow checker knows of its type)
-    remembered(alloc, settings, journal, ids.trace)
-}
-
-/// Whether a mark applies to a span of a trace: that it was refused of the third and of the first trace, that a decision
-/// was lost of the fourth.
-fn mark_traces(settings: &Settings, look: &LookBack) -> [bool; 3] {
-    [
-        look.marks_apply(settings, true, false, numbered_ids(3, true)),
-        look.marks_apply(settings, true, false, numbered_ids(1, true)),
-        look.marks_apply(settings, false, true, numbered_ids(4, true)),
-    ]
-}
-
-/// All three of the first five events.
-fn answers(alloc: Global) -> Result<([Finding; 4], Option<Verdict>, [bool; 3]), AllocError> {
-    let settings = settings_with(alloc, ON_ERRORS)?;
-    let played = play(alloc, &settings, &RENEWING[..5])?;
-    let journal = played.journal.as_slice();
-    let findings = find_traces(alloc, &settings, journal)?;
-    let late = remember_first(alloc, &settings, journal)?;
-    let look = LookBack::new(alloc, &settings, journal)?;
-    Ok((findings, late, mark_traces(&settings, &look)))
 }
 
 #[test]
 fn answers_for_each_trace(rt: HostRuntime) -> Result<(), Fail> {
-    let (findings, late, marks) = answers(rt.alloc())?;
+    let answers = answers_of(rt.alloc(), &RENEWING[..5])?;
     let meets = Finding::Meets(Verdict::Sampled);
-    assert_eq!(rt; findings, [meets, meets, Finding::Joins, Finding::Opens]);
-    assert_eq!(rt; late, Some(Verdict::Sampled));
-    assert_eq!(rt; marks, [true, false, false]);
+    let wanted = [meets, meets, Finding::Joins, Finding::Opens];
+    let findings = answers.findings;
+    let marks = answers.marks;
+    assert_eq!(rt; findings, wanted);
+    assert_eq!(rt;
+        (answers.late, marks),
+        (Some(Verdict::Sampled), [true, false, false])
+    );
     Ok(())
 }

@@ -1,267 +1,223 @@
 //! A shard by running state: a ring of episodes, caches in order of use, a clock.
-use span_ids::{ArrivalKey, Reason};
-use std::alloc::{AllocError, Global};
+use crate::tests::spans::Kept;
 
-/// A received span.
+/// A trace in the ring: when it opened, when its first root came, how many bytes its spans have, whether one of them has an
+/// error, whether it is due, and whether it is sampled, once it is decided.
 #[derive(Clone, Copy)]
-pub struct Kept {
-    pub key: ArrivalKey,
-    pub moment: u64,
-    pub trace: u8,
-    pub error: bool,
-    pub root: bool,
-    /// In bytes.
-    pub size: u64,
+struct Episode {
+    trace: u8,
+    opened: u64,
+    first_root: Option<u64>,
+    size: u64,
+    error: bool,
+    is_due: bool,
+    verdict: Option<bool>,
 }
 
-/// A trace in the ring: when it opened, when its first root came, its spans, and whether it is sampled, once it is decided.
-#[derive(Drop)]
-pub struct Episode {
-    pub trace: u8,
-    pub opened: u64,
-    pub first_root: Option<u64>,
-    pub spans: Vec<Kept>,
-    pub verdict: Option<bool>,
-}
-
-/// The decided traces that left the ring: those that were sampled, and the others. Of each the one that was used last is
-/// last.
-#[derive(Drop)]
-pub struct Remembered {
-    sampled: Vec<u8>,
-    non_sampled: Vec<u8>,
-}
-
-/// A shard with its queue, and what it has to ship.
-#[derive(Drop)]
+/// A shard with room for two traces, which remembers one that was sampled and two others. It is due to decide no more than
+/// what became due at one moment, and that in the order of the ring.
+#[derive(Clone, Copy)]
 pub struct Shard {
-    pub queue: Vec<Kept>,
     /// The oldest first.
-    pub ring: Vec<Episode>,
-    pub remembered: Remembered,
+    ring: [Option<Episode>; 2],
+    sampled: Option<u8>,
+    /// The one that was used last is last.
+    non_sampled: [Option<u8>; 2],
     pub clock: u64,
-    /// The senders of which it took the End.
-    pub ends: Vec<u16>,
-    /// The traces that are due, in the order in which they are decided.
-    pub due: Vec<u8>,
-    pub unshipped: Vec<Kept>,
+    /// Of which senders it took the End: two lanes, and the ticker.
+    pub ended: [bool; 3],
 }
 
-/// What a span finds of its trace.
+/// What a span finds of its trace: an undecided episode, a decided one in the ring or one that is remembered, or none.
 #[derive(Clone, Copy)]
 pub enum Found {
     Joins,
     Meets(bool),
+    Recalls(bool),
     Opens,
 }
 
-/// A span counted under a reason.
-#[derive(Clone, Copy)]
-pub struct Counted {
-    pub reason: Reason,
-    pub key: ArrivalKey,
-}
-
-/// How many traces the ring has room for.
-pub const LIMIT: usize = 2;
-
 /// In milliseconds.
-pub const WAIT: u64 = 10;
+const WAIT: u64 = 10;
 
-/// Two lanes and the ticker.
-pub const SENDERS: usize = 3;
-
-/// The ticker's number as a sender.
-pub const TICKER: u16 = 2;
-
-/// Counts spans under a reason.
-pub fn count(counted: &mut Vec<Counted>, reason: Reason, spans: &[Kept]) -> Result<(), AllocError> {
-    for span in spans {
-        counted.push(Counted {
-            reason,
-            key: span.key,
-        })?;
-    }
-    Ok(())
-}
-
-/// The trace is now the last used of at most so many.
-fn touch(cache: &mut Vec<u8>, size: usize, trace: u8) -> Result<(), AllocError> {
-    cache.retain(|t| *t != trace);
-    cache.push(trace)?;
-    if cache.len() > size {
-        cache.remove(0);
-    }
-    Ok(())
+/// How many bytes a span has of which nothing is told but its ids and whether it has an error:
+/// `{"spanId":"16 digits","traceId":"32 digits"}`, where it has a parent `,"parentSpanId":"16 digits"` beside them, and with
+/// an error `,"status":{"code":2}`.
+fn size_of(span: &Kept) -> u64 {
+    let ids = if span.root { 74 } else { 108 };
+    let status = if span.error { 20 } else { 0 };
+    ids + status
 }
 
 impl Episode {
     /// Whether its spans have more bytes than the maximum, where there is one.
     fn is_too_big(&self, maximum_size: u64) -> bool {
-        let mut size: u64 = 0;
-        for span in &self.spans {
-            size = size.saturating_add(span.size);
-        }
-        maximum_size > 0 && size > maximum_size
-    }
-}
-
-impl Remembered {
-    fn new(alloc: Global) -> Remembered {
-        Remembered {
-            sampled: Vec::new(alloc),
-            non_sampled: Vec::new(alloc),
-        }
+        maximum_size > 0 && self.size > maximum_size
     }
 
-    fn find(&self, trace: u8) -> Option<bool> {
-        if self.sampled.contains(&trace) {
-            return Some(true);
-        }
-        if self.non_sampled.contains(&trace) {
-            return Some(false);
-        }
-        None
-    }
-
-    /// Remembers one trace that was sampled, and two others.
-    fn remember(&mut self, trace: u8, verdict: bool) -> Result<(), AllocError> {
-        if verdict {
-            touch(&mut self.sampled, 1, trace)
-        } else {
-            touch(&mut self.non_sampled, 2, trace)
+    /// A span of this trace was taken at this moment.
+    fn take(&mut self, span: &Kept, moment: u64) {
+        self.size = self.size.saturating_add(size_of(span));
+        self.error = self.error || span.error;
+        if span.root && self.first_root.is_none() {
+            self.first_root = Some(moment);
         }
     }
 }
 
 impl Shard {
-    pub fn new(alloc: Global) -> Shard {
+    pub fn new() -> Shard {
         Shard {
-            queue: Vec::new(alloc),
-            ring: Vec::new(alloc),
-            remembered: Remembered::new(alloc),
+            ring: [None; 2],
+            sampled: None,
+            non_sampled: [None; 2],
             clock: 0,
-            ends: Vec::new(alloc),
-            due: Vec::new(alloc),
-            unshipped: Vec::new(alloc),
+            ended: [false; 3],
         }
     }
 
     pub fn find(&self, trace: u8) -> Found {
-        match self.ring.iter().find(|e| e.trace == trace) {
-            Some(episode) => match episode.verdict {
-                None => Found::Joins,
-                Some(verdict) => Found::Meets(verdict),
-            },
-            None => match self.remembered.find(trace) {
-                Some(verdict) => Found::Meets(verdict),
-                None => Found::Opens,
-            },
-        }
-    }
-
-    /// Whether an opening puts a decided trace out of the ring. Both caches have room.
-    pub fn puts(&self) -> bool {
-        self.ring.len() == LIMIT && self.ring.first().is_some_and(|e| e.verdict.is_some())
-    }
-
-    pub fn open(
-        &mut self,
-        alloc: Global,
-        span: Kept,
-        lost: bool,
-        counted: &mut Vec<Counted>,
-    ) -> Result<(), AllocError> {
-        if self.ring.len() >= LIMIT {
-            let left = self.ring.remove(0);
-            match left.verdict {
-                None => count(counted, Reason::Evicted, &left.spans)?,
-                Some(verdict) if !lost => self.remembered.remember(left.trace, verdict)?,
-                Some(_) => {}
+        for episode in self.ring {
+            match episode {
+                Some(it) if it.trace == trace => {
+                    return match it.verdict {
+                        None => Found::Joins,
+                        Some(verdict) => Found::Meets(verdict),
+                    };
+                }
+                _ => {}
             }
         }
-        self.ring.push(Episode {
+        if self.sampled == Some(trace) {
+            return Found::Recalls(true);
+        }
+        if self.non_sampled.contains(&Some(trace)) {
+            return Found::Recalls(false);
+        }
+        Found::Opens
+    }
+
+    /// Whether a mark can apply to a span that finds this: that memory was refused to it, or that the decision was lost of a
+    /// trace that it puts out of the ring. Both caches have room.
+    pub fn marks_apply(&self, found: Found, refused: bool, lost: bool) -> bool {
+        let puts = self.ring[0].is_some_and(|left| left.verdict.is_some());
+        match found {
+            Found::Joins => !lost,
+            Found::Meets(_) | Found::Recalls(_) => !refused && !lost,
+            Found::Opens => !lost || (!refused && puts),
+        }
+    }
+
+    /// The trace is now the last used of those that are remembered.
+    fn remember(&mut self, trace: u8, verdict: bool) {
+        if verdict {
+            self.sampled = Some(trace);
+        } else if self.non_sampled[1] != Some(trace) {
+            self.non_sampled = [self.non_sampled[1], Some(trace)];
+        }
+    }
+
+    /// Takes a span that found this. The trace that leaves the ring undecided, if one does.
+    pub fn take(&mut self, found: Found, span: &Kept, lost: bool) -> Option<u8> {
+        match found {
+            Found::Joins => self.join(span),
+            Found::Meets(_) => {}
+            Found::Recalls(verdict) => self.remember(span.trace, verdict),
+            Found::Opens => return self.open(span, lost),
+        }
+        None
+    }
+
+    /// Opens an episode with its first span. The trace that leaves the ring undecided, if one does.
+    fn open(&mut self, span: &Kept, lost: bool) -> Option<u8> {
+        let mut opened = Episode {
             trace: span.trace,
             opened: self.clock,
-            first_root: if span.root { Some(self.clock) } else { None },
-            spans: vec![in alloc; span]?,
+            first_root: None,
+            size: 0,
+            error: false,
+            is_due: false,
             verdict: None,
-        })?;
-        Ok(())
+        };
+        opened.take(span, self.clock);
+        let left = self.ring[0];
+        self.ring = [self.ring[1], Some(opened)];
+        let left = left?;
+        match left.verdict {
+            None => return Some(left.trace),
+            Some(verdict) if !lost => self.remember(left.trace, verdict),
+            Some(_) => {}
+        }
+        None
     }
 
-    pub fn meet(
-        &mut self,
-        span: Kept,
-        verdict: bool,
-        counted: &mut Vec<Counted>,
-    ) -> Result<(), AllocError> {
-        if !self.ring.iter().any(|e| e.trace == span.trace) {
-            self.remembered.remember(span.trace, verdict)?;
-        }
-        if verdict {
-            self.unshipped.push(span)?;
-            return Ok(());
-        }
-        count(counted, Reason::LateNotSampled, &[span])
-    }
-
-    pub fn join(&mut self, span: Kept) -> Result<(), AllocError> {
+    /// A span joins the undecided episode of its trace.
+    fn join(&mut self, span: &Kept) {
         for episode in self.ring.iter_mut() {
-            if episode.trace == span.trace {
-                if span.root && episode.first_root.is_none() {
-                    episode.first_root = Some(self.clock);
-                }
-                episode.spans.push(span)?;
+            match episode {
+                Some(it) if it.trace == span.trace => it.take(span, self.clock),
+                _ => {}
             }
         }
-        Ok(())
     }
 
-    /// The traces of undecided episodes become due: all, or those that have waited long enough, or whose first root has.
-    pub fn fall_due(&mut self, all: bool, root_wait: u64) -> Result<(), AllocError> {
-        for episode in &self.ring {
-            let by_root = match episode.first_root {
-                Some(taken) => root_wait > 0 && taken.wrapping_add(root_wait) <= self.clock,
-                None => false,
-            };
-            let is_due = all || by_root || episode.opened.wrapping_add(WAIT) <= self.clock;
-            if episode.verdict.is_none() && is_due {
-                self.due.push(episode.trace)?;
-            }
-        }
-        Ok(())
-    }
-
-    /// The traces of undecided episodes that are too big become due.
-    pub fn fall_due_by_size(&mut self, maximum_size: u64) -> Result<(), AllocError> {
-        for episode in &self.ring {
-            if episode.verdict.is_none() && episode.is_too_big(maximum_size) {
-                self.due.push(episode.trace)?;
-            }
-        }
-        Ok(())
-    }
-
-    /// A trace with an error is sampled, where it isn't too big.
-    pub fn decide(
-        &mut self,
-        trace: u8,
-        maximum_size: u64,
-        counted: &mut Vec<Counted>,
-    ) -> Result<(), AllocError> {
+    /// Undecided episodes become due: all, or those that have waited long enough, or whose first root has.
+    pub fn fall_due(&mut self, all: bool, root_wait: u64) {
         for episode in self.ring.iter_mut() {
-            if episode.trace == trace {
-                let has_error = episode.spans.iter().any(|s| s.error);
-                let verdict = has_error && !episode.is_too_big(maximum_size);
-                if verdict {
-                    self.unshipped.extend_from_slice(&episode.spans)?;
-                } else {
-                    count(counted, Reason::NotSampled, &episode.spans)?;
-                }
-                episode.verdict = Some(verdict);
+            if let Some(it) = episode {
+                let by_root = match it.first_root {
+                    Some(taken) => root_wait > 0 && taken.wrapping_add(root_wait) <= self.clock,
+                    None => false,
+                };
+                let by_wait = it.opened.wrapping_add(WAIT) <= self.clock;
+                it.is_due = it.verdict.is_none() && (all || by_root || by_wait);
             }
         }
-        Ok(())
+    }
+
+    /// Takes the End of a sender, with the last of which all become due. False where it took that before.
+    pub fn end(&mut self, sender: u16, root_wait: u64) -> bool {
+        match self.ended.get_mut(sender as usize) {
+            Some(ended) if !*ended => *ended = true,
+            _ => return false,
+        }
+        if self.ended == [true; 3] {
+            self.fall_due(true, root_wait);
+        }
+        true
+    }
+
+    /// Undecided episodes that are too big become due. Whether there are some.
+    pub fn fall_due_by_size(&mut self, maximum_size: u64) -> bool {
+        for episode in self.ring.iter_mut() {
+            if let Some(it) = episode {
+                it.is_due = it.verdict.is_none() && it.is_too_big(maximum_size);
+            }
+        }
+        self.is_due()
+    }
+
+    /// Whether a decision is due.
+    pub fn is_due(&self) -> bool {
+        self.ring
+            .iter()
+            .any(|episode| episode.is_some_and(|it| it.is_due))
+    }
+
+    /// Decides the first episode that is due: its trace, and whether that is sampled. A trace with an error is, where it
+    /// isn't too big.
+    pub fn decide(&mut self, maximum_size: u64) -> Option<(u8, bool)> {
+        for episode in self.ring.iter_mut() {
+            match episode {
+                Some(it) if it.is_due => {
+                    let verdict = it.error && !it.is_too_big(maximum_size);
+                    it.is_due = false;
+                    it.verdict = Some(verdict);
+                    return Some((it.trace, verdict));
+                }
+                _ => {}
+            }
+        }
+        None
     }
 }

@@ -1,113 +1,94 @@
 //! The table of steps by running state. It looks back over nothing.
-use crate::tests::running_shard::{Counted, Found, Kept, SENDERS, Shard, TICKER, count};
-use otlp_types::{Arrival, Record};
+use crate::tests::running_shard::{Found, Shard};
+use crate::tests::spans::{Kept, Place, are_at, are_counted, count, move_all, move_first};
+use otlp_types::Record;
 use span_ids::{ArrivalKey, ConnKey, Reason};
 use span_world::{Step, World};
 use std::alloc::{AllocError, Global};
 
-/// How many bytes a span has of which nothing is told but its ids and whether it has an error:
-/// `{"spanId":"16 digits","traceId":"32 digits"}`, where it has a parent `,"parentSpanId":"16 digits"` beside them, and with
-/// an error `,"status":{"code":2}`.
-fn size_of(root: bool, error: bool) -> u64 {
-    let ids = if root { 74 } else { 108 };
-    let status = if error { 20 } else { 0 };
-    ids + status
-}
+/// How many spans a run has at most.
+const SPANS: usize = 128;
 
-/// A span as it was received. Its trace is the last byte of the trace's id, and 0 where its ids are invalid.
+/// The ticker's number as a sender.
+const TICKER: u16 = 2;
+
+/// A span as it was received.
 fn kept_of(key: ArrivalKey, moment: u64, rec: &Record) -> Kept {
     let (trace, root) = match rec.span.get().ids {
         None => (0, false),
         Some(ids) => (ids.trace.bytes()[15], ids.parent.is_none()),
     };
-    let error = rec.span.get().status.code == 2;
+    let place = match trace {
+        0 => Place::Counted(Reason::InvalidId),
+        _ => Place::Unrouted(key.conn.lane, (trace % 2) as usize),
+    };
     Kept {
         key,
         moment,
         trace,
-        error,
+        error: rec.span.get().status.code == 2,
         root,
-        size: size_of(root, error),
+        place,
     }
 }
 
-#[derive(Drop)]
+/// A lane, with the number of the next span of each of its connections.
+#[derive(Clone, Copy)]
 struct Lane {
     ended: bool,
-    numbers: Vec<u64>,
-    unrouted: Vec<Kept>,
+    numbers: [u64; 2],
 }
 
-/// Two lanes, two shards with room for two traces, one sampled and two others remembered, a wait of ten milliseconds, and
-/// batches of two spans. A trace with an error is sampled. Given are the root wait, in milliseconds, and the greatest
-/// size of a trace, in bytes, where 0 is off.
+/// Two lanes, two shards, a wait of ten milliseconds, and batches of two spans. A trace with an error is sampled. Given are
+/// the root wait, in milliseconds, and the greatest size of a trace, in bytes, where 0 is off.
 #[derive(Drop)]
 pub struct Simulated {
-    alloc: Global,
+    spans: Vec<Kept>,
     root_wait: u64,
     maximum_size: u64,
-    lanes: Vec<Lane>,
-    shards: Vec<Shard>,
-    exported: Vec<Kept>,
-    batch: Vec<Kept>,
-    handed: Vec<Vec<Kept>>,
-    counted: Vec<Counted>,
+    lanes: [Lane; 2],
+    shards: [Shard; 2],
+    handed: usize,
     down: bool,
-    was_too_big: bool,
+    /// Whether some trace was too big.
+    pub was_too_big: bool,
 }
 
 impl Simulated {
     pub fn new(alloc: Global, root_wait: u64, maximum_size: u64) -> Result<Simulated, AllocError> {
-        let mut lanes = Vec::new(alloc);
-        let mut shards = Vec::new(alloc);
-        for _i in 0..2 {
-            lanes.push(Lane {
-                ended: false,
-                numbers: vec![in alloc; 0; 2]?,
-                unrouted: Vec::new(alloc),
-            })?;
-            shards.push(Shard::new(alloc))?;
-        }
+        let nowhere = Kept {
+            key: ArrivalKey {
+                conn: ConnKey {
+                    lane: 0,
+                    ordinal: 0,
+                },
+                number: 0,
+            },
+            moment: 0,
+            trace: 0,
+            error: false,
+            root: false,
+            place: Place::Nowhere,
+        };
+        let lane = Lane {
+            ended: false,
+            numbers: [0; 2],
+        };
         Ok(Simulated {
-            alloc,
+            spans: vec![in alloc; nowhere; SPANS]?,
             root_wait,
             maximum_size,
-            lanes,
-            shards,
-            exported: Vec::new(alloc),
-            batch: Vec::new(alloc),
-            handed: Vec::new(alloc),
-            counted: Vec::new(alloc),
+            lanes: [lane; 2],
+            shards: [Shard::new(); 2],
+            handed: 0,
             down: false,
             was_too_big: false,
         })
     }
 
     /// Makes the step, and answers whether it was enabled.
-    pub fn step(&mut self, step: &Step) -> Result<bool, AllocError> {
+    pub fn step(&mut self, step: &Step) -> bool {
         match step {
-            Step::Take {
-                shard,
-                refused,
-                lost,
-            } => self.take(*shard, *refused, *lost),
-            Step::Tick { shard, moment } => self.tick(*shard, *moment),
-            Step::End { shard, sender } => self.end(*shard, *sender),
-            Step::Decide { shard, .. } => self.decide(*shard),
-            Step::Ship { shard } => self.ship(*shard),
-            Step::Pull => self.pull(),
-            Step::Hand => self.hand(),
-            Step::Fail => Ok(!std::mem::replace(&mut self.down, true)),
-            Step::Spoil { reason } => self.spoil(*reason),
-            of_lane => self.step_of_lane(of_lane),
-        }
-    }
-
-    fn step_of_lane(&mut self, step: &Step) -> Result<bool, AllocError> {
-        match step {
-            Step::Route { lane, shard } => self.route(*lane, *shard),
-            Step::Refuse { lane, shard } => self.refuse(*lane, *shard),
-            Step::Close { lane } => Ok(self.close(*lane)),
             Step::Receive {
                 lane,
                 ordinal,
@@ -118,230 +99,176 @@ impl Simulated {
                     lane: *lane,
                     ordinal: *ordinal,
                 };
-                let mut is_enabled = true;
-                for rec in records {
-                    is_enabled = is_enabled && self.receive(conn, *moment, rec)?;
-                }
-                Ok(is_enabled)
+                self.receive(conn, *moment, records)
             }
-            _ => Ok(false),
+            Step::Take {
+                shard,
+                refused,
+                lost,
+            } => self.take(*shard, *refused, *lost),
+            Step::Tick { shard, moment } => self.tick(*shard, *moment),
+            Step::Close { lane } => match self.lanes.get_mut(*lane as usize) {
+                Some(lane) => !std::mem::replace(&mut lane.ended, true),
+                None => false,
+            },
+            Step::End { shard, sender } => self.end(*shard, *sender),
+            Step::Decide { shard, .. } => self.decide(*shard),
+            Step::Fail => !std::mem::replace(&mut self.down, true),
+            of_exporter => self.move_spans(of_exporter),
         }
     }
 
-    fn receive(&mut self, conn: ConnKey, moment: u64, rec: &Record) -> Result<bool, AllocError> {
-        let Some(lane) = self.lanes.get_mut(conn.lane as usize) else {
-            return Ok(false);
+    /// A step that does no more than to move spans.
+    fn move_spans(&mut self, step: &Step) -> bool {
+        let batched = count(&self.spans, Place::Batched);
+        let (from, to, applies) = match step {
+            Step::Route { lane, shard } => (
+                Place::Unrouted(*lane, *shard),
+                Place::Queued(*shard),
+                true,
+            ),
+            Step::Refuse { lane, shard } => (
+                Place::Unrouted(*lane, *shard),
+                Place::Counted(Reason::QueueFull),
+                true,
+            ),
+            Step::Ship { shard } => (Place::Unshipped(*shard), Place::Exported, true),
+            Step::Pull => (Place::Exported, Place::Batched, batched < 2),
+            Step::Hand => return self.hand(),
+            Step::Spoil { reason } => return self.spoil(*reason),
+            _ => return false,
         };
-        if lane.ended {
-            return Ok(false);
-        }
-        let mut key = ArrivalKey { conn, number: 0 };
-        if let Some(next) = lane.numbers.get_mut(conn.ordinal as usize) {
-            key.number = *next;
-            *next = next.wrapping_add(1);
-        }
-        let span = kept_of(key, moment, rec);
-        if span.trace == 0 {
-            count(&mut self.counted, Reason::InvalidId, &[span])?;
-        } else {
-            lane.unrouted.push(span)?;
-        }
-        Ok(true)
+        applies && move_first(&mut self.spans, from, to)
     }
 
-    /// The lane's first unrouted span for the shard, taken out.
-    fn next_for(&mut self, lane: u16, shard: usize) -> Option<Kept> {
-        let lane = self.lanes.get_mut(lane as usize)?;
-        let at = lane
-            .unrouted
-            .iter()
-            .position(|s| (s.trace % 2) as usize == shard)?;
-        if at < lane.unrouted.len() {
-            return Some(lane.unrouted.remove(at));
-        }
-        None
-    }
-
-    fn route(&mut self, lane: u16, shard: usize) -> Result<bool, AllocError> {
-        let Some(span) = self.next_for(lane, shard) else {
-            return Ok(false);
+    /// False also where the list of spans is full.
+    fn receive(&mut self, conn: ConnKey, moment: u64, records: &[Record]) -> bool {
+        let lane = match self.lanes.get_mut(conn.lane as usize) {
+            Some(lane) if !lane.ended => lane,
+            _ => return false,
         };
-        if let Some(shard) = self.shards.get_mut(shard) {
-            shard.queue.push(span)?;
+        let mut has_room = true;
+        for rec in records {
+            let mut key = ArrivalKey { conn, number: 0 };
+            if let Some(next) = lane.numbers.get_mut(conn.ordinal as usize) {
+                key.number = *next;
+                *next = next.wrapping_add(1);
+            }
+            let span = kept_of(key, moment, rec);
+            has_room = has_room && move_first(&mut self.spans, Place::Nowhere, span.place);
+            match self.spans.last_mut() {
+                Some(last) if has_room => *last = span,
+                _ => {}
+            }
         }
-        Ok(true)
+        has_room
     }
 
-    fn refuse(&mut self, lane: u16, shard: usize) -> Result<bool, AllocError> {
-        let Some(span) = self.next_for(lane, shard) else {
-            return Ok(false);
+    fn take(&mut self, number: usize, refused: bool, lost: bool) -> bool {
+        let queued = Place::Queued(number);
+        let Some(shard) = self.shards.get_mut(number) else {
+            return false;
         };
-        count(&mut self.counted, Reason::QueueFull, &[span])?;
-        Ok(true)
-    }
-
-    fn take(&mut self, at: usize, refused: bool, lost: bool) -> Result<bool, AllocError> {
-        let Some(shard) = self.shards.get_mut(at) else {
-            return Ok(false);
-        };
-        let Some(span) = shard.queue.first().copied() else {
-            return Ok(false);
+        let Some(span) = self.spans.iter().find(|span| span.place == queued).copied() else {
+            return false;
         };
         let found = shard.find(span.trace);
-        let applies = match found {
-            Found::Joins => !lost,
-            Found::Meets(_) => !refused && !lost,
-            Found::Opens => !lost || (!refused && shard.puts()),
-        };
-        if !shard.due.is_empty() || !applies || shard.queue.is_empty() {
-            return Ok(false);
+        if shard.is_due() || !shard.marks_apply(found, refused, lost) {
+            return false;
         }
-        shard.queue.remove(0);
         shard.clock = shard.clock.max(span.moment);
-        match found {
-            _ if refused => count(&mut self.counted, Reason::NoMemory, &[span])?,
-            Found::Joins => shard.join(span)?,
-            Found::Meets(verdict) => shard.meet(span, verdict, &mut self.counted)?,
-            Found::Opens => shard.open(self.alloc, span, lost, &mut self.counted)?,
+        let place = match found {
+            _ if refused => Place::Counted(Reason::NoMemory),
+            Found::Joins | Found::Opens => Place::Waiting(span.trace),
+            Found::Meets(true) | Found::Recalls(true) => Place::Unshipped(number),
+            Found::Meets(false) | Found::Recalls(false) => Place::Counted(Reason::LateNotSampled),
+        };
+        if !refused {
+            if let Some(trace) = shard.take(found, &span, lost) {
+                let evicted = Place::Counted(Reason::Evicted);
+                move_all(&mut self.spans, Place::Waiting(trace), evicted);
+            }
         }
-        shard.fall_due_by_size(self.maximum_size)?;
-        self.was_too_big = self.was_too_big || !shard.due.is_empty();
-        Ok(true)
+        move_first(&mut self.spans, queued, place);
+        self.was_too_big = shard.fall_due_by_size(self.maximum_size) || self.was_too_big;
+        true
     }
 
-    fn tick(&mut self, at: usize, moment: u64) -> Result<bool, AllocError> {
-        let Some(shard) = self.shards.get_mut(at) else {
-            return Ok(false);
+    fn tick(&mut self, number: usize, moment: u64) -> bool {
+        let Some(shard) = self.shards.get_mut(number) else {
+            return false;
         };
-        if !shard.due.is_empty() || shard.ends.contains(&TICKER) {
-            return Ok(false);
+        let [_, _, is_stopped] = shard.ended;
+        if is_stopped || shard.is_due() {
+            return false;
         }
         shard.clock = shard.clock.max(moment);
-        shard.fall_due(false, self.root_wait)?;
-        Ok(true)
+        shard.fall_due(false, self.root_wait);
+        true
     }
 
-    fn close(&mut self, lane: u16) -> bool {
-        match self.lanes.get_mut(lane as usize) {
-            Some(lane) if !lane.ended => {
-                lane.ended = true;
-                true
-            }
+    fn end(&mut self, number: usize, sender: u16) -> bool {
+        let (unrouted, queued) = (Place::Unrouted(sender, number), Place::Queued(number));
+        let is_under_way = self.spans.iter().any(|span| {
+            span.key.conn.lane == sender && (span.place == unrouted || span.place == queued)
+        });
+        let done = match self.lanes.get(sender as usize) {
+            Some(lane) => lane.ended && !is_under_way,
+            None => sender == TICKER,
+        };
+        match self.shards.get_mut(number) {
+            Some(shard) if done && !shard.is_due() => shard.end(sender, self.root_wait),
             _ => false,
         }
     }
 
-    fn end(&mut self, at: usize, sender: u16) -> Result<bool, AllocError> {
-        let Some(shard) = self.shards.get_mut(at) else {
-            return Ok(false);
+    fn decide(&mut self, number: usize) -> bool {
+        let decided = match self.shards.get_mut(number) {
+            Some(shard) => shard.decide(self.maximum_size),
+            None => None,
         };
-        let done = match self.lanes.get(sender as usize) {
-            Some(lane) => {
-                lane.ended
-                    && !lane.unrouted.iter().any(|s| (s.trace % 2) as usize == at)
-                    && !shard.queue.iter().any(|s| s.key.conn.lane == sender)
-            }
-            None => sender == TICKER,
+        let (trace, place) = match decided {
+            Some((trace, true)) => (trace, Place::Unshipped(number)),
+            Some((trace, false)) => (trace, Place::Counted(Reason::NotSampled)),
+            None => return false,
         };
-        if !done || !shard.due.is_empty() || shard.ends.contains(&sender) {
-            return Ok(false);
-        }
-        shard.ends.push(sender)?;
-        if shard.ends.len() == SENDERS {
-            shard.fall_due(true, self.root_wait)?;
-        }
-        Ok(true)
+        move_all(&mut self.spans, Place::Waiting(trace), place);
+        true
     }
 
-    fn decide(&mut self, at: usize) -> Result<bool, AllocError> {
-        let Some(shard) = self.shards.get_mut(at) else {
-            return Ok(false);
-        };
-        if shard.due.is_empty() {
-            return Ok(false);
+    fn hand(&mut self) -> bool {
+        let handed = Place::Handed(self.handed);
+        if self.down || !move_all(&mut self.spans, Place::Batched, handed) {
+            return false;
         }
-        let trace = shard.due.remove(0);
-        shard.decide(trace, self.maximum_size, &mut self.counted)?;
-        Ok(true)
+        self.handed = self.handed.wrapping_add(1);
+        true
     }
 
-    fn ship(&mut self, at: usize) -> Result<bool, AllocError> {
-        match self.shards.get_mut(at) {
-            Some(shard) if !shard.unshipped.is_empty() => {
-                self.exported.push(shard.unshipped.remove(0))?;
-                Ok(true)
-            }
-            _ => Ok(false),
-        }
-    }
-
-    fn pull(&mut self) -> Result<bool, AllocError> {
-        if self.exported.is_empty() || self.batch.len() >= 2 {
-            return Ok(false);
-        }
-        self.batch.push(self.exported.remove(0))?;
-        Ok(true)
-    }
-
-    fn hand(&mut self) -> Result<bool, AllocError> {
-        if self.batch.is_empty() || self.down {
-            return Ok(false);
-        }
-        let batch = std::mem::replace(&mut self.batch, Vec::new(self.alloc));
-        self.handed.push(batch)?;
-        Ok(true)
-    }
-
-    fn spoil(&mut self, reason: Reason) -> Result<bool, AllocError> {
+    fn spoil(&mut self, reason: Reason) -> bool {
         let applies = match reason {
             Reason::NoMemory => true,
             Reason::ExporterDown => self.down,
             _ => false,
         };
-        if self.batch.is_empty() || !applies {
-            return Ok(false);
-        }
-        count(&mut self.counted, reason, &self.batch)?;
-        self.batch.clear();
-        Ok(true)
+        applies && move_all(&mut self.spans, Place::Batched, Place::Counted(reason))
     }
 
     /// Whether each shard took every sender's End.
     pub fn have_ended(&self) -> bool {
-        self.shards.iter().all(|shard| shard.ends.len() == SENDERS)
-    }
-
-    /// Whether some trace was too big.
-    pub fn was_too_big(&self) -> bool {
-        self.was_too_big
+        self.shards[0].ended == [true; 3] && self.shards[1].ended == [true; 3]
     }
 
     /// Whether the world's exporter is as this one: the export list, the batch, what was handed over and counted.
     pub fn is_like(&self, world: &World) -> bool {
-        let handed = world.handed();
-        let counted = world.counted();
-        self.down == world.is_down()
-            && self.exported.len() == world.exported()
-            && are_like(&self.batch, world.batch())
-            && self.handed.len() == handed.len()
-            && self
-                .handed
-                .iter()
-                .zip(handed)
-                .all(|(kept, list)| are_like(kept, list.as_slice()))
-            && self.counted.len() == counted.len()
-            && self
-                .counted
-                .iter()
-                .zip(counted)
-                .all(|(kept, n)| kept.key == n.key && kept.reason == n.reason)
+        let mut is_like = self.down == world.is_down()
+            && count(&self.spans, Place::Exported) == world.exported()
+            && are_at(&self.spans, Place::Batched, world.batch())
+            && are_counted(&self.spans, world.counted())
+            && self.handed == world.handed().len();
+        for (number, batch) in world.handed().iter().enumerate() {
+            is_like = is_like && are_at(&self.spans, Place::Handed(number), batch.as_slice());
+        }
+        is_like
     }
-}
-
-/// The same spans, in order.
-fn are_like(kept: &[Kept], spans: &[Arrival]) -> bool {
-    kept.len() == spans.len()
-        && kept.iter().zip(spans).all(|(k, s)| k.key == s.key
-            && k.moment == s.moment
-            && k.error == (s.rec.span.get().status.code == 2))
 }
