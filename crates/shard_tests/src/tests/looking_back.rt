@@ -21,7 +21,7 @@ pub const TRACES: [&str; 4] = [
 ];
 
 /// What a span finds: by the place of an opening among the items.
-#[derive(Clone, Copy)]
+#[derive(Clone, Copy, Debug, PartialEq, Eq)]
 pub enum Finding {
     Joins(usize),
     Meets(usize, Verdict),
@@ -29,7 +29,7 @@ pub enum Finding {
 }
 
 /// An item: a span of a trace, with an error or not and with what it found, or another item.
-#[derive(Clone, Copy)]
+#[derive(Clone, Copy, Debug, PartialEq, Eq)]
 pub enum Kind {
     Span(usize, bool, Finding),
     Tick,
@@ -37,7 +37,7 @@ pub enum Kind {
 }
 
 /// An item that was taken, with its marks.
-#[derive(Clone, Copy)]
+#[derive(Clone, Copy, PartialEq, Eq)]
 pub struct Entry {
     pub kind: Kind,
     pub moment: u64,

@@ -54,63 +54,38 @@ fn item_of(alloc: Global, kind: Kind, moment: u64, place: u64) -> Result<Item, A
     }
 }
 
-/// Whether an item of a kind may be answered so.
-fn may_answer(past: &Past<'_>, kind: Kind, taken: &Taken) -> bool {
-    match kind {
-        Kind::Span(_, _, finding) => past.may_answer(finding, taken),
-        Kind::Tick => matches!(taken, Taken::Ticked),
-        Kind::End => matches!(taken, Taken::Finished),
-    }
-}
-
-/// Takes a further item, random by a number. Its entry, and whether it was answered as it may be.
+/// Takes an item, and compares what is answered.
 fn take(
     rt: &impl Abort,
     alloc: Global,
-    setting: Setting,
     shard: &mut LimitedShard,
-    entries: &[Entry],
-    random: u64,
-) -> Result<(Entry, bool), AllocError> {
-    let (past, place) = (setting.past(entries), entries.len());
-    let kind = kind_of(&past, place == ITEMS - 1, random);
-    let moment = match kind {
-        Kind::End => 0,
-        _ => (place as u64).wrapping_mul(2).wrapping_add(random / 64 % 5),
-    };
-    let item = item_of(alloc, kind, moment, place as u64)?;
-    holds(
-        rt,
-        !shard.has_due() && !shard.finished(),
-        setting.seed,
-        place,
-    );
+    past: &Past<'_>,
+    kind: Kind,
+    moment: u64,
+) -> Result<Entry, AllocError> {
+    let item = item_of(alloc, kind, moment, past.entries.len() as u64)?;
+    holds(rt, !shard.has_due() && !shard.finished(), &kind);
     let taken = shard.take(item);
-    Ok((
-        entry_of(kind, moment, &taken),
-        may_answer(&past, kind, &taken),
-    ))
-}
-
-/// Decides what is due first. The opening that looking back finds from a place on, and whether the answer may be that.
-fn decide_next(shard: &mut LimitedShard, past: &Past<'_>, start: usize) -> (Option<usize>, bool) {
-    let decided = shard.decide();
-    match past.decided_from(start) {
-        None => (None, matches!(decided, Decided::Nothing)),
-        Some(opening) => (Some(opening), past.may_decide(opening, &decided)),
-    }
+    let is_right = match kind {
+        Kind::Span(_, _, finding) => past.may_answer(finding, &taken),
+        Kind::Tick => matches!(taken, Taken::Ticked),
+        Kind::End => matches!(taken, Taken::Finished),
+    };
+    holds(rt, is_right, &(kind, moment));
+    Ok(entry_of(kind, moment, &taken))
 }
 
 /// Decides all that is due, and compares what is answered.
-fn decide(rt: &impl Abort, shard: &mut LimitedShard, past: &Past<'_>, run: u64) {
+fn decide(rt: &impl Abort, shard: &mut LimitedShard, past: &Past<'_>) {
     let mut start = 0;
     for _ in 0..ITEMS {
-        let (opening, is_right) = decide_next(shard, past, start);
-        holds(rt, is_right, run, start);
-        match opening {
-            None => return,
-            Some(opening) => start = opening.saturating_add(1),
-        }
+        let decided = shard.decide();
+        let Some(opening) = past.decided_from(start) else {
+            holds(rt, matches!(decided, Decided::Nothing), &start);
+            return;
+        };
+        holds(rt, past.may_decide(opening, &decided), &opening);
+        start = opening.saturating_add(1);
     }
 }
 
@@ -168,39 +143,29 @@ fn kind_of(past: &Past<'_>, is_last: bool, random: u64) -> Kind {
 }
 
 /// Runs random items through a shard with these settings.
-fn take_all(
-    rt: &impl Abort,
-    alloc: Global,
-    setting: Setting,
-    shard: &mut LimitedShard,
-    entries: &mut Vec<Entry>,
-) -> Result<(), AllocError> {
+fn run(rt: &impl Abort, alloc: Global, setting: Setting) -> Result<(), Fail> {
+    let mut shard = setting.shard(alloc)?;
+    let mut entries: Vec<Entry> = Vec::with_capacity(alloc, ITEMS)?;
     let mut number = setting.seed;
-    for _ in 0..ITEMS {
+    for place in 0..ITEMS {
         number = further(number);
-        let (entry, is_right) = take(rt, alloc, setting, shard, entries, number >> 33)?;
-        holds(rt, is_right, setting.seed, entries.len());
+        let random = number >> 33;
+        let past = setting.past(entries.as_slice());
+        let kind = kind_of(&past, place + 1 == ITEMS, random);
+        let moment = match kind {
+            Kind::End => 0,
+            _ => place as u64 * 2 + random / 64 % 5,
+        };
+        let entry = take(rt, alloc, &mut shard, &past, kind, moment)?;
         entries.push(entry)?;
-        decide(rt, shard, &setting.past(entries), setting.seed);
+        decide(rt, &mut shard, &setting.past(entries.as_slice()));
     }
-    holds(rt, shard.finished(), setting.seed, ITEMS);
+    holds(rt, shard.finished(), &setting.seed);
     Ok(())
 }
 
-/// The same through a new shard.
-fn run(rt: &impl Abort, alloc: Global, setting: Setting) -> Result<(), AllocError> {
-    let mut entries = Vec::with_capacity(alloc, ITEMS)?;
-    let mut shard = setting.shard(alloc)?;
-    take_all(rt, alloc, setting, &mut shard, &mut entries)
-}
-
 /// Runs with buffers of one to three traces and caches of none to two decisions.
-fn runs(
-    rt: &impl Abort,
-    alloc: Global,
-    maximum_size: u64,
-    root_wait: u64,
-) -> Result<(), AllocError> {
+fn runs(rt: &impl Abort, alloc: Global, maximum_size: u64, root_wait: u64) -> Result<(), Fail> {
     for limit in 1..4 {
         for sizes in 0..9 {
             let setting = Setting {
@@ -229,6 +194,5 @@ fn random_items(rt: HostRuntime) -> Result<(), Fail> {
 #[test]
 fn random_items_up_to_a_size(rt: HostRuntime) -> Result<(), Fail> {
     runs(&rt, rt.alloc(), 108, 1)?;
-    runs(&rt, rt.alloc(), 216, 1)?;
-    Ok(())
+    runs(&rt, rt.alloc(), 216, 1)
 }

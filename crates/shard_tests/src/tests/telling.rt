@@ -1,11 +1,12 @@
 //! An assertion as a call: beside values that must be let go, a call costs a proof less than an assertion.
 ghost use Rattle.std.specs.Prelude.{◌≡◌, true};
 
+use std::fmt::Debug;
 use std::process::Abort;
 
-/// Ends the test, and tells the number of the run and of the item, where this doesn't hold.
-pub fn holds(rt: &impl Abort, is: bool, run: u64, item: usize)
+/// Ends the test, and tells what was seen, where this doesn't hold.
+pub fn holds<S: Debug>(rt: &impl Abort, is: bool, seen: &S)
     ensures { is ≡ true }
 {
-    assert!(rt; is, "run {run}, item {item}");
+    assert!(rt; is, "{seen:?}");
 }
