@@ -142,11 +142,16 @@ def far_beyond_its_limit(start):
     collector = start("memory_limit_mib = 1\ndecision_wait_ms = 3600000\n" + ALL)
     request = post(body_of([flood_span(f"{1:032x}", f"{1:016x}")]))
     want("the first answer", collector.ask(request)[0], 200)
-    for _ in range(200):
-        if collector.ask(request)[0] == 503:
+    for _ in range(20):
+        for _ in range(200):
+            if collector.ask(request)[0] == 503:
+                break
+            time.sleep(0.02)
+        # (a span that was still in its queue at the first look is given up, and then none waits)
+        answers = [collector.ask(request)[0] for _ in range(10)]
+        if answers == [503] * 10:
             break
-        time.sleep(0.02)
-    want("the answers behind the first refusal", [collector.ask(request)[0] for _ in range(10)], [503] * 10)
+    want("the answers behind a refusal", answers, [503] * 10)
     collector.close()
 
 
