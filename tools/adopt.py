@@ -38,7 +38,8 @@ def take_proofs(clone, below):
 def take_lines(clone, below):
     """Takes the lines of a clone's record of edits that are of the files here, and returns how many."""
     record, taken = edits.read_record(), 0
-    for line in (clone / edits.RECORD).read_text("utf-8").splitlines():
+    theirs = clone / edits.RECORD  # the room in which the gate works has none
+    for line in theirs.read_text("utf-8").splitlines() if theirs.is_file() else ():
         name, *fields = line.split()
         if name in below and record.get(name) != fields and fields[0] == edits.sum_of(name, below[name], edits.PARTS):
             record[name] = fields

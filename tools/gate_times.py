@@ -4,7 +4,7 @@
 usage: gate_times.py COMMAND ..
 
 It looks at /proc every 0.3 seconds; what a check takes after the last look at it, or one that is shorter, is only in the sum of all. Last it prints a table
-in Markdown, in minutes, and the sum and the time by the clock."""
+in Markdown, in minutes, and the sum and the time by the clock. Under `taskset` it leaves out what runs on other processors."""
 import collections
 import os
 import re
@@ -25,7 +25,7 @@ def text_of(path):
 
 
 def looked_at(since):
-    """Yields each process of the prover that began since then (in ticks): its number and beginning, its crate, what it is for, its seconds."""
+    """Yields each process of the prover on the same processors that began since then (in ticks): its number and beginning, its crate, what it is for, its seconds."""
     for number in filter(str.isdigit, os.listdir("/proc")):
         words = text_of(f"/proc/{number}/cmdline").split("\0")
         if "--crate-name" not in words or not words[0].endswith("rattle"):
@@ -33,6 +33,8 @@ def looked_at(since):
         fields = text_of(f"/proc/{number}/stat").rpartition(")")[2].split()
         try:
             folder = os.readlink(f"/proc/{number}/cwd")
+            if os.sched_getaffinity(int(number)) != os.sched_getaffinity(0):
+                continue
         except OSError:
             continue
         if fields and int(fields[19]) >= since:

@@ -1,14 +1,10 @@
--- What several reads and writes came to.
--- For the contracts of `write_text` and `hear`.
-use Rattle.std.proofs.Common.{◌≡◌, ◌+◌, ◌++◌, ℕ, List, [], Option, None, append-nil, sym, ◌∙◌, subst, take, drop, refl}
-use Rattle.std.proofs.Math.Seq.{take-add}
+-- What several reads came to.
+-- For the contract of `hear`.
+use Rattle.std.proofs.Common.{◌≡◌, ◌++◌, ℕ, List, [], Option, None, append-nil, sym, ◌∙◌, subst, refl}
 use Rattle.std.specs.Io.KnownBytes.{Consumes}
 use Rattle.std.proofs.KnownBytes.{Consumes-trans}
 use Rattle.http_text.specs.Lines.{Cut, Whole, Waits, TooLong, cut, head_len}
 use Rattle.admin_http.specs.Asked.{HeardBy, IsHeard}
-
-pub take_then : (i n : ℕ) (xs : List ℕ) → take i xs ++ take n (drop i xs) ≡ take (i + n) xs
-take_then i n xs = sym (take-add i n xs)
 
 -- more was read
 pub read_on : (a b c : Option (List ℕ)) (read more now : List ℕ) → Consumes a b read → Consumes b c more → now ≡ read ++ more → Consumes a c now
@@ -17,6 +13,11 @@ read_on a b c read more now x y e = subst (Consumes a c) (sym e) (Consumes-trans
 -- a read gave nothing
 pub read_still : (a b c : Option (List ℕ)) (read now : List ℕ) → Consumes a b read → Consumes b c [] → now ≡ read → Consumes a c now
 read_still a b c read now x y e = subst (Consumes a c) (append-nil read ∙ sym e) (Consumes-trans a b c read [] x y)
+
+-- a read gave nothing, and the head isn't whole
+pub still_waits : (a b c : Option (List ℕ)) (read : List ℕ) → Consumes a b read → Consumes b c []
+    → cut head_len read ≡ Waits → (heard : List ℕ) × Consumes a c heard × (cut head_len heard ≡ Waits)
+still_waits a b c read x y waits = (read, read_still a b c read read x y refl, waits)
 
 waits_by : (c : Cut) (read : List ℕ) → HeardBy c read None → c ≡ Waits
 waits_by (Whole n) read h = absurd h

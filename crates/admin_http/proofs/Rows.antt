@@ -1,6 +1,6 @@
 -- Worked rows, computed: where each request goes, and its answer, whole.
 -- They serve the definitions that `heard`, `answer` and `serve` promise.
-use Rattle.std.proofs.Common.{◌≡◌, true, false, refl, List, ℕ, [], ◌∷◌, Some, None}
+use Rattle.std.proofs.Common.{◌≡◌, true, false, refl, List, ℕ, [], ◌∷◌, ◌++◌, Some, None}
 use Rattle.std.specs.Prelude.{codes, map}
 use Rattle.std.specs.Fmt.{digits}
 use Rattle.http_text.specs.Lines.{Whole, Waits, cut, head_len}
@@ -10,23 +10,17 @@ use Rattle.http_text.specs.declared.request.Verdict.TheVariants.{Refused, Close 
 use Rattle.http_text.specs.Fields.{Header}
 use Rattle.http_text.specs.Head.{verdict_by}
 use Rattle.admin_http.specs.declared.asked.Method.TheVariants.{Get, Post}
+use Rattle.admin_http.specs.declared.asked.Route.{Route}
 use Rattle.admin_http.specs.declared.asked.Route.TheVariants.{Close, Metrics, Health, Config, NotFound, WrongMethod, Bad, TooLarge}
 use Rattle.admin_http.specs.declared.ends.TheConstants.{PIECE_LIMIT, QUIET_LIMIT, READ_LIMIT}
 use Rattle.admin_http.specs.Asked.{asked, asked_by, refused_as, routed, nothing}
 use Rattle.admin_http.specs.Texts.{AdminState, answer_of, state}
 
 -- the four targets, each by its method
-close_asked : routed (codes "POST") (codes "/close") ≡ Close
-close_asked = refl
-
-metrics_asked : routed (codes "GET") (codes "/metrics") ≡ Metrics
-metrics_asked = refl
-
-health_asked : routed (codes "GET") (codes "/healthz") ≡ Health
-health_asked = refl
-
-config_asked : routed (codes "GET") (codes "/config") ≡ Config
-config_asked = refl
+four_targets : routed (codes "POST") (codes "/close")
+    ∷ map (routed (codes "GET")) (codes "/metrics" ∷ codes "/healthz" ∷ codes "/config" ∷ [])
+    ≡ Close ∷ Metrics ∷ Health ∷ Config ∷ []
+four_targets = refl
 
 -- by another method; a method is told by its case, and `HEAD` is another method than `GET`
 other_methods : routed (codes "GET") (codes "/close") ∷ routed (codes "POST") (codes "/metrics") ∷ routed (codes "PUT") (codes "/healthz") ∷ routed (codes "DELETE") (codes "/config") ∷ []
@@ -83,62 +77,43 @@ open_state = state false (codes "m 1\n") (codes "lanes = 2\n")
 closing_state : AdminState
 closing_state = state true (codes "m 22\n") (codes "lanes = 3\n")
 
-close_text : answer_of (asked Close false) closing_state
-    ≡ codes "HTTP/1.1 200 OK\r\nContent-Type: application/json\r\nContent-Length: 2\r\nConnection: close\r\n\r\n{}"
-unfolding digits
-close_text = refl
+answered : Route → AdminState → List ℕ
+answered route s = answer_of (asked route false) s
 
-metrics_text : answer_of (asked Metrics false) open_state
-    ≡ codes "HTTP/1.1 200 OK\r\nContent-Type: text/plain; version=0.0.4; charset=utf-8\r\nContent-Length: 4\r\nConnection: close\r\n\r\nm 1\n"
-unfolding digits open_state
-metrics_text = refl
+-- of the collector; the numbers are told, too, while it closes
+of_the_collector : answered Metrics open_state ∷ answered Health open_state ∷ answered Config open_state
+    ∷ answered Close closing_state ∷ answered Metrics closing_state ∷ answered Health closing_state ∷ []
+    ≡ (codes "HTTP/1.1 200 OK\r\nContent-Type: text/plain; version=0.0.4; charset=utf-8\r\nContent-Length: 4\r\n"
+    ++ codes "Connection: close\r\n\r\nm 1\n")
+    ∷ codes "HTTP/1.1 200 OK\r\nContent-Type: text/plain\r\nContent-Length: 3\r\nConnection: close\r\n\r\nok\n"
+    ∷ (codes "HTTP/1.1 200 OK\r\nContent-Type: application/toml\r\nContent-Length: 10\r\n"
+    ++ codes "Connection: close\r\n\r\nlanes = 2\n")
+    ∷ codes "HTTP/1.1 200 OK\r\nContent-Type: application/json\r\nContent-Length: 2\r\nConnection: close\r\n\r\n{}"
+    ∷ (codes "HTTP/1.1 200 OK\r\nContent-Type: text/plain; version=0.0.4; charset=utf-8\r\nContent-Length: 5\r\n"
+    ++ codes "Connection: close\r\n\r\nm 22\n")
+    ∷ (codes "HTTP/1.1 503 Service Unavailable\r\nContent-Type: text/plain\r\nContent-Length: 8\r\n"
+    ++ codes "Connection: close\r\n\r\nclosing\n") ∷ []
+unfolding answered digits open_state closing_state
+of_the_collector = refl
 
--- the numbers are told, too, while the collector closes
-metrics_while_closing : answer_of (asked Metrics false) closing_state
-    ≡ codes "HTTP/1.1 200 OK\r\nContent-Type: text/plain; version=0.0.4; charset=utf-8\r\nContent-Length: 5\r\nConnection: close\r\n\r\nm 22\n"
-unfolding digits closing_state
-metrics_while_closing = refl
-
-healthy : answer_of (asked Health false) open_state
-    ≡ codes "HTTP/1.1 200 OK\r\nContent-Type: text/plain\r\nContent-Length: 3\r\nConnection: close\r\n\r\nok\n"
-unfolding digits open_state
-healthy = refl
-
-unhealthy : answer_of (asked Health false) closing_state
-    ≡ codes "HTTP/1.1 503 Service Unavailable\r\nContent-Type: text/plain\r\nContent-Length: 8\r\nConnection: close\r\n\r\nclosing\n"
-unfolding digits closing_state
-unhealthy = refl
-
-config_text : answer_of (asked Config false) open_state
-    ≡ codes "HTTP/1.1 200 OK\r\nContent-Type: application/toml\r\nContent-Length: 10\r\nConnection: close\r\n\r\nlanes = 2\n"
-unfolding digits open_state
-config_text = refl
-
-not_found : answer_of (asked NotFound false) open_state
-    ≡ codes "HTTP/1.1 404 Not Found\r\nContent-Type: application/json\r\nContent-Length: 23\r\nConnection: close\r\n\r\n{\"message\":\"not found\"}"
-unfolding digits
-not_found = refl
-
-wrong_method : answer_of (asked (WrongMethod Get) false) open_state
-    ≡ codes "HTTP/1.1 405 Method Not Allowed\r\nContent-Type: application/json\r\nContent-Length: 32\r\nAllow: GET\r\nConnection: close\r\n\r\n{\"message\":\"method not allowed\"}"
-unfolding digits
-wrong_method = refl
+not_answered : answered NotFound open_state ∷ answered (WrongMethod Get) open_state
+    ∷ answered Bad open_state ∷ answered TooLarge open_state ∷ []
+    ≡ (codes "HTTP/1.1 404 Not Found\r\nContent-Type: application/json\r\nContent-Length: 23\r\n"
+    ++ codes "Connection: close\r\n\r\n{\"message\":\"not found\"}")
+    ∷ (codes "HTTP/1.1 405 Method Not Allowed\r\nContent-Type: application/json\r\nContent-Length: 32\r\n"
+    ++ codes "Allow: GET\r\nConnection: close\r\n\r\n{\"message\":\"method not allowed\"}")
+    ∷ (codes "HTTP/1.1 400 Bad Request\r\nContent-Type: application/json\r\nContent-Length: 25\r\n"
+    ++ codes "Connection: close\r\n\r\n{\"message\":\"bad request\"}")
+    ∷ (codes "HTTP/1.1 431 Request Header Fields Too Large\r\nContent-Type: application/json\r\nContent-Length: 28\r\n"
+    ++ codes "Connection: close\r\n\r\n{\"message\":\"head too large\"}") ∷ []
+unfolding answered digits
+not_answered = refl
 
 -- the length is that of the body which `GET` would have had
 wrong_method_of_head : answer_of (asked (WrongMethod Post) true) open_state
     ≡ codes "HTTP/1.1 405 Method Not Allowed\r\nContent-Type: application/json\r\nContent-Length: 32\r\nAllow: POST\r\nConnection: close\r\n\r\n"
 unfolding digits
 wrong_method_of_head = refl
-
-bad : answer_of (asked Bad false) open_state
-    ≡ codes "HTTP/1.1 400 Bad Request\r\nContent-Type: application/json\r\nContent-Length: 25\r\nConnection: close\r\n\r\n{\"message\":\"bad request\"}"
-unfolding digits
-bad = refl
-
-too_large : answer_of (asked TooLarge false) open_state
-    ≡ codes "HTTP/1.1 431 Request Header Fields Too Large\r\nContent-Type: application/json\r\nContent-Length: 28\r\nConnection: close\r\n\r\n{\"message\":\"head too large\"}"
-unfolding digits
-too_large = refl
 
 -- how many bytes a read gives at most, how many reads are made, and how many may give nothing
 limits : PIECE_LIMIT ∷ READ_LIMIT ∷ QUIET_LIMIT ∷ [] ≡ 4096 ∷ 1024 ∷ 50 ∷ []

@@ -7,28 +7,16 @@ ghost use Rattle.http_text.specs.Spans.{IsHeadAt};
 ghost use Rattle.admin_http.specs.Asked.{IsAsked, IsHeard, asked_by, only_by, refused_as, routed};
 
 use crate::asked::{AdminRequest, Method, Route};
-use http_text::{Allowed, Cutting, FIELD_LIMIT, Place, Refusal, Search, Verdict, cut_on, judge};
-use httparse::Status;
-use httparse::spans::{EMPTY_HEADER_SPAN, HeaderSpan, RequestSpans, parse_request};
+use http_text::{
+    Allowed, Cutting, FIELD_LIMIT, Place, Refusal, Search, Verdict, cut_on, judge, read_head,
+};
+use httparse::spans::EMPTY_HEADER_SPAN;
 
 /// What is allowed makes no difference: a verdict only tells whether the text is a head.
 const NOTHING: Allowed = Allowed {
     gzip: false,
     close: false,
 };
-
-/// Where the parts of a head are, if the whole text is one.
-fn read_head(text: &[u8], headers: &mut [HeaderSpan]) -> Option<RequestSpans>
-    requires { length headers.old ≡ FIELD_LIMIT }
-    ensures head { IfSome result (λ r. (h : RequestHead) × IsHeadAt text.now headers.new r h) }
-    ensures within { IfSome result (IsRequestWithin text.now headers.new) }
-    ensures none { IfNone result ((h : RequestHead) → ¬ (IsHead text.now h)) }
-{
-    match parse_request(text, headers) {
-        Ok(Status::Complete(head)) if head.len == text.len() => Some(head),
-        _ => None,
-    }
-}
 
 /// A target that has one method.
 fn only_by(allowed: Method, method: &[u8], route: Route) -> Route

@@ -3,9 +3,11 @@
 use Rattle.std.proofs.Common.{◌≡◌, ◌∙◌, ℕ, Bool, true, false, cond, not, ◌&&◌, List, [], ◌∷◌, ◌++◌, Option, Some, None, refl, ap, subst, append_assoc, append-nil}
 use Rattle.std.specs.List.{list_all}
 use Rattle.batch_post.specs.declared.outcome.Outcome.{Outcome}
+use Rattle.batch_post.specs.declared.outcome.Fate.{Fate}
 use Rattle.batch_post.specs.declared.rule.Retry.{Retry}
 use Rattle.batch_post.specs.declared.rule.Verdict.TheVariants.{Taken, Waits, Ends}
 use Rattle.batch_post.specs.Rules.{is_taken, may_try_again, wait_after, is_too_late, verdict_of}
+use Rattle.batch_post.specs.Deliveries.{Delivers, is_delivered}
 use Rattle.batch_post.specs.Logs.{Entry, tried, attempts, Grows}
 
 -- a batch waits only behind an attempt that may be tried again
@@ -48,10 +50,18 @@ tried_on a b c d e batch before o h k l m =
     subst (λ es. Grows a e es) (attempts_more batch before o)
     (grows_nothing a d e (attempts batch before ++ tried batch o ∷ []) (grows_nothing a c d (attempts batch before ++ tried batch o ∷ []) (grows_on a b c (attempts batch before) (tried batch o ∷ []) h k) l) m)
 
-pub tried_last : (a b c d : Option (List Entry)) (batch : List ℕ) (before : List Outcome) (o : Outcome) → Grows a b (attempts batch before) → Grows b c (tried batch o ∷ []) → Grows c d []
+tried_last : (a b c d : Option (List Entry)) (batch : List ℕ) (before : List Outcome) (o : Outcome)
+    → Grows a b (attempts batch before) → Grows b c (tried batch o ∷ []) → Grows c d []
     → Grows a d (attempts batch (before ++ o ∷ []))
 tried_last a b c d batch before o h k l =
     subst (λ es. Grows a d es) (attempts_more batch before o) (grows_nothing a c d (attempts batch before ++ tried batch o ∷ []) (grows_on a b c (attempts batch before) (tried batch o ∷ []) h k) l)
+
+-- the last attempt, after which the batch has this fate
+pub delivered_so : (a b c d : Option (List Entry)) (batch : List ℕ) (before : List Outcome) (o : Outcome) (fate : Fate)
+    → list_all may_try_again before ≡ true → is_taken o ≡ is_delivered fate
+    → Grows a b (attempts batch before) → Grows b c (tried batch o ∷ []) → Grows c d [] → Delivers a d batch fate
+delivered_so a b c d batch before o fate again ends h k l =
+    (before, o, again, ends, tried_last a b c d batch before o h k l)
 
 -- how a delivery ends
 pub verdict_taken : (rule : Retry) (o : Outcome) (wait random elapsed : ℕ) (left : Option ℕ) → verdict_of rule o wait random elapsed left ≡ Taken → is_taken o ≡ true

@@ -4,7 +4,7 @@ ghost use Rattle.std.specs.Io.KnownBytes.{Appends, Keeps};
 ghost use Rattle.span_sink.specs.LineSinks.{up_state};
 ghost use Rattle.batch_post.specs.Keeping.{KeepsLine, StaysDown, printed_by};
 
-use span_sink::{LineSink, Sink, SinkFault};
+use span_sink::{LineSink, Sink, SinkFault, write_whole};
 use std::marker::Model;
 
 /// A sink that prints each line, and sends it once it is printed whole. What it takes is what is printed. Once a write has failed, of
@@ -65,7 +65,7 @@ impl<L: Sink, S: Sink> KeepingSink<L, S> {
         ensures keeps { KeepsLine self.old line.now result self.new }
         ensures failures { self.new.failures ≡ self.old.failures }
     {
-        let printed = print(&mut self.lines, line);
+        let printed = write_whole(&mut self.lines, line);
         self.is_down = printed < line.len() || self.sent.hand(line).is_err();
         printed
     }
@@ -105,22 +105,4 @@ impl<L: Sink, S: Sink> Sink for KeepingSink<L, S> {
     fn failures(&self) -> u64 {
         self.failures
     }
-}
-
-/// Writes until all of the text is taken, or a write fails, and answers how many bytes were taken.
-fn print<L: Sink>(lines: &mut L, text: &[u8]) -> usize
-    requires { L.failures lines.old < 2 ^ 64 - 1 }
-    ensures within { result ≤ length text.now }
-    ensures taken { Appends (L.taken lines.old) (L.taken lines.new) (take result text.now) }
-    ensures whole { result ≡ length text.now → L.failures lines.new ≡ L.failures lines.old }
-    ensures part { result < length text.now → L.failures lines.new ≡ L.failures lines.old + 1 }
-{
-    let mut rest = text;
-    while !rest.is_empty() {
-        match lines.write(rest) {
-            Ok(count) => rest = &rest[count..],
-            Err(_) => return text.len() - rest.len(),
-        }
-    }
-    text.len()
 }

@@ -14,7 +14,8 @@ use Rattle.collector_main.specs.declared.program.Outcome.TheVariants.{Unreadable
 abbrev pub greatest_length : ℕ
 greatest_length = 1048576
 
--- these bytes are what a reader has, or one byte more of it than may be read; where the reader doesn't tell what it has, nothing is claimed
+-- these bytes are what a reader has, or one byte more of it than may be read; where the reader doesn't tell what it
+-- has, nothing is claimed
 abbrev pub IsStart : Option (List ℕ) → List ℕ → Type 0
 IsStart remaining bytes = IfSome (option_map (take (greatest_length + 1)) remaining) (λ start. bytes ≡ start)
 
@@ -31,7 +32,8 @@ IsText bytes = (length bytes ≤ greatest_length) × IsUtf8 bytes
 abbrev pub IsConfigIn : List ℕ → Config → Type 0
 IsConfigIn bytes config = IsText bytes × (reading bytes ≡ Ok config)
 
--- why bytes give no configuration: they are no such text, or this is the least fault of it; or there was no memory to read it, or an expression takes too much
+-- why bytes give no configuration: they are no such text, or this is the least fault of it; or there was no memory to
+-- read it, or an expression takes too much
 abbrev pub BytesFail : List ℕ → Outcome → Type 0
 BytesFail bytes Unreadable = ¬ IsText bytes
 BytesFail bytes (Configuration fault) =

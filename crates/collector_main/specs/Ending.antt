@@ -95,7 +95,8 @@ pub record WritesText (before : Option (List ℕ)) (text : List ℕ) (written : 
   pub cut_short : written ≡ false → 0 < length missing
   pub bytes : Appends before after part
 
--- a text was handed, in some lines, to a sink of lines: it is down exactly where the text was not written, and a sink that was down took nothing
+-- a text was handed, in some lines, to a sink of lines: it is down exactly where the text was not written, and a sink
+-- that was down took nothing
 pub record HandsText (old : LineSinkState) (text : List ℕ) (written : Bool) (new : LineSinkState) : Type 0 where
   pub writes : WritesText old.taken text written new.taken
   pub down : new.is_down ≡ not written
@@ -103,8 +104,8 @@ pub record HandsText (old : LineSinkState) (text : List ℕ) (written : Bool) (n
 
 -- ---- how each outcome arises
 
--- what the program was given, and what it left of that before its last text: its arguments, what was read of the configuration's file, what its reader had given and had left, and
--- what its writer had taken
+-- what the program was given, and what it left of that before its last text: its arguments, what was read of the
+-- configuration's file, what its reader had given and had left, and what its writer had taken
 pub record Course : Type 0 where
   pub arguments : List (List ℕ)
   pub file : Result (List ℕ) FileFault
@@ -181,7 +182,8 @@ Replays course outcome = RanTo course outcome
 abbrev pub prints : Config → Bool
 prints config = length config.export.endpoint == 0
 
--- a configuration was read that says nowhere to send lines to, and the run on a listener by it had an answer of this outcome; what its threads did is a run of the core; nothing was read of a script
+-- a configuration was read that says nowhere to send lines to, and the run on a listener by it had an answer of this
+-- outcome; what its threads did is a run of the core; nothing was read of a script
 pub record ServedTo (course : Course) (outcome : Outcome) : Type 0 where
   pub config : Config
   pub is_read : IsConfigOf course.file config
@@ -198,20 +200,23 @@ abbrev pub spans_of : Option ℕ → ℕ
 spans_of (Some spans) = spans
 spans_of None = 2 ^ 64
 
--- how the program ends after a run whose lines were sent to a backend, of which it gave up so many spans: they are counted as given up, and not as handed over
+-- how the program ends after a run whose lines were sent to a backend, of which it gave up so many spans: they are
+-- counted as given up, and not as handed over
 abbrev pub IsExportedTo : Result Report ServeFault → (given_up : ℕ) → Outcome → Type 0
 IsExportedTo (Ok report) given_up outcome =
     ((told : List ℕ) × IsMoved given_up report told × (outcome ≡ Done told)) ⊎ (CannotMove given_up report × (outcome ≡ BookFull))
 IsExportedTo (Err fault) given_up outcome = outcome ≡ served_to (Err fault)
 
--- by a configuration requests were taken, and the lines sent to a backend; or the address couldn't be listened at, or there was no memory, and nothing was done
+-- by a configuration requests were taken, and the lines sent to a backend; or the address couldn't be listened at, or
+-- there was no memory, and nothing was done
 abbrev pub ExportsTo : Config → Outcome → Type 0
 ExportsTo config outcome =
     (outcome ≡ CannotListen)
     ⊎ ((sink : Option (List ℕ)) × (sink_after : Option (List ℕ)) × (failures : ℕ) × (answer : Result Report ServeFault) × (given_up : ℕ)
     × SinkAnswers sink 0 sink_after failures answer × CoreRunTells config sink 0 sink_after failures answer × IsExportedTo answer given_up outcome)
 
--- by a configuration requests were taken, and each line was printed before it was sent to a backend; or the address couldn't be listened at, or there was no memory, and nothing was done
+-- by a configuration requests were taken, and each line was printed before it was sent to a backend; or the address
+-- couldn't be listened at, or there was no memory, and nothing was done
 abbrev pub KeepsTo : Config → (taken taken_after : Option (List ℕ)) → Outcome → Type 0
 KeepsTo config taken taken_after outcome =
     ((taken_after ≡ taken) × (outcome ≡ CannotListen))
@@ -223,7 +228,8 @@ abbrev pub SendsTo : Config → (taken taken_after : Option (List ℕ)) → Outc
 SendsTo config taken taken_after outcome =
     ((config.export.lines ≡ false) × (taken_after ≡ taken) × ExportsTo config outcome) ⊎ ((config.export.lines ≡ true) × KeepsTo config taken taken_after outcome)
 
--- by a configuration requests were taken, and the run had an answer of this outcome; or the address couldn't be listened at, and nothing was done
+-- by a configuration requests were taken, and the run had an answer of this outcome; or the address couldn't be
+-- listened at, and nothing was done
 abbrev pub PrintsTo : Config → (taken taken_after : Option (List ℕ)) → Outcome → Type 0
 PrintsTo config taken taken_after outcome =
     ((taken_after ≡ taken) × (outcome ≡ CannotListen))
@@ -235,7 +241,8 @@ abbrev pub RunsTo : Config → (taken taken_after : Option (List ℕ)) → Outco
 RunsTo config taken taken_after outcome =
     ((prints config ≡ true) × PrintsTo config taken taken_after outcome) ⊎ ((prints config ≡ false) × SendsTo config taken taken_after outcome)
 
--- a configuration was read that says where to send lines to, and the run by it came to this outcome; nothing was read of a script
+-- a configuration was read that says where to send lines to, and the run by it came to this outcome; nothing was read
+-- of a script
 pub record ExportedTo (course : Course) (outcome : Outcome) : Type 0 where
   pub config : Config
   pub is_read : IsConfigOf course.file config
@@ -270,7 +277,8 @@ Does course Close outcome = FileCloses course.file outcome × NothingDone course
 Does course Help outcome = (outcome ≡ is.Help) × NothingDone course
 Does course Version outcome = (outcome ≡ is.Version) × NothingDone course
 
--- how an outcome arises: the arguments are wrong exactly where they ask for nothing that there is, and then nothing is done
+-- how an outcome arises: the arguments are wrong exactly where they ask for nothing that there is, and then nothing is
+-- done
 abbrev pub CameTo : Course → Outcome → Type 0
 CameTo course Usage = AsksNothing course.arguments × NothingDone course
 CameTo course outcome = (command : Command) × AsksFor course.arguments command × Does course command outcome

@@ -27,7 +27,8 @@ line_of finding = string_bytes finding.said ++ (codes " (fault " ++ (fault_numbe
 abbrev pub lines_of : List Finding → List ℕ
 lines_of findings = concat (map line_of findings)
 
--- what is told of bytes: that they are no text that may be read; that it is read as a configuration; a line for each of its faults, and for expressions that are too big, of which the text must have that many; or that there was no memory
+-- what is told of bytes: that they are no text that may be read; that it is read as a configuration; a line for each of
+-- its faults, and for expressions that are too big, of which the text must have that many; or that there was no memory
 abbrev pub BytesTell : List ℕ → Outcome → Type 0
 BytesTell bytes Unreadable = ¬ IsText bytes
 BytesTell bytes Valid = IsText bytes × IsOk (reading bytes)

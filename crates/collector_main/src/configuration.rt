@@ -82,8 +82,8 @@ pub fn text_in(bytes: Vec<u8>) -> Option<String>
     }
 }
 
-/// The configuration in these bytes: `Unreadable` where they aren't UTF-8 or too many, a fault where the text has it, and
-/// the fault of no memory where there was none to read it.
+/// The configuration in these bytes: `Unreadable` where they aren't UTF-8 or too many, a fault where the text has it,
+/// and the fault of no memory where there was none to read it.
 pub fn config_in(alloc: Global, bytes: Vec<u8>) -> Result<Config, Outcome>
     ensures ranges { IfOk result InRange }
     ensures is_read { IfOk result (IsConfigIn bytes.items) }

@@ -36,8 +36,8 @@ pub fn copy_of(alloc: Global, file: &Result<Vec<u8>, FileFault>) -> Result<Strin
     }
 }
 
-/// What is shared with those in charge of a collector, whose configuration's file has this text. They are told the settings that are
-/// in force by it, as a text that is read as the same configuration.
+/// What is shared with those in charge of a collector, whose configuration's file has this text. They are told the
+/// settings that are in force by it, as a text that is read as the same configuration.
 pub fn charge_of(
     alloc: Global,
     text: Result<String, AllocError>,
@@ -56,7 +56,8 @@ pub fn charge_of(
     Ok(Arc::new(alloc, charge)?)
 }
 
-/// Looks at what memory the process takes, for those in charge, and refuses requests while it is more than the configuration says.
+/// Looks at what memory the process takes, for those in charge, and refuses requests while it is more than the
+/// configuration says.
 pub fn watches_memory<T: Files<File = File> + Threads + Wait + Clock + Copy + Send + 'static>(
     rt: &T,
     config: &Config,
@@ -74,7 +75,8 @@ pub fn watches_memory<T: Files<File = File> + Threads + Wait + Clock + Copy + Se
     )
 }
 
-/// Listens at the address of requests, and, as the configuration says, at that for those in charge, and to the end of the input.
+/// Listens at the address of requests, and, as the configuration says, at that for those in charge, and to the end of
+/// the input.
 pub fn opened<
     T: Net<Listener = TcpListener, Stream = TcpStream>
         + Files

@@ -67,8 +67,8 @@ pub enum Outcome {
     Configuration(ConfigFault),
     /// A line of the script is refused, or can't be read.
     Script(u64),
-    /// There was no memory at the start, or, to serve, no random source, or nothing that tells how much memory the process takes
-    /// where that is limited.
+    /// There was no memory at the start, or, to serve, no random source, or nothing that tells how much memory the
+    /// process takes where that is limited.
     NoMemory,
     /// A count would have passed 2^64-1.
     BookFull,
@@ -88,8 +88,8 @@ pub enum Outcome {
     Version,
 }
 
-/// Runs the program with the arguments behind its own name. `reader` gives a script; `input` is the same standard input, for a
-/// collector that is closed at its end. It gives the writer back beside the exit status.
+/// Runs the program with the arguments behind its own name. `reader` gives a script; `input` is the same standard
+/// input, for a collector that is closed at its end. It gives the writer back beside the exit status.
 pub fn program<
     T: Files<File = File>
         + Net<Listener = TcpListener, Stream = TcpStream>
@@ -226,8 +226,8 @@ fn replay_by<R: Source, W: Write>(
     (sink.end(), outcome_of(answer))
 }
 
-/// Takes requests on a listener by the configuration in what was read of its file. The end of `input` closes the collector,
-/// where the configuration says so.
+/// Takes requests on a listener by the configuration in what was read of its file. The end of `input` closes the
+/// collector, where the configuration says so.
 fn serve_by<
     T: Net<Listener = TcpListener, Stream = TcpStream>
         + Files<File = File>
@@ -283,7 +283,8 @@ fn outcome_of(answer: Result<Report, RunFault>) -> Outcome
     }
 }
 
-/// Writes the last text, and answers whether it was taken whole. Once a write of the run failed nothing more is written.
+/// Writes the last text, and answers whether it was taken whole. Once a write of the run failed nothing more is
+/// written.
 fn say<S: Sink>(lines: &mut LineSink<S>, text: &mut Vec<u8>, outcome: &Outcome) -> bool
     requires room { TEXT_ROOM ≤ vec_capacity text.old }
     requires up { lines.old.is_down ≡ false }
@@ -355,17 +356,7 @@ fn say_report<S: Sink>(lines: &mut LineSink<S>, text: &mut Vec<u8>, report: &Rep
     requires up { lines.old.is_down ≡ false }
     ensures { HandsText lines.old (report_text report.now) result lines.new }
 {
-    let counts = [
-        Count::Received,
-        Count::Handed,
-        Count::Dropped(Reason::InvalidId),
-        Count::Dropped(Reason::QueueFull),
-        Count::Dropped(Reason::NoMemory),
-        Count::Dropped(Reason::Evicted),
-        Count::Dropped(Reason::NotSampled),
-        Count::Dropped(Reason::LateNotSampled),
-        Count::Dropped(Reason::ExporterDown),
-    ];
+    let counts = Count::ALL;
     let mut written = true;
     for what in counts {
         written = say_count(lines, text, what, report.number(what)) && written;

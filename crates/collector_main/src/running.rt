@@ -47,7 +47,8 @@ pub fn serve_with<
     }
 }
 
-/// Takes requests on a listener by a configuration, and prints the lines. What is shared with those in charge has the mark to stop and the counts.
+/// Takes requests on a listener by a configuration, and prints the lines. What is shared with those in charge has the
+/// mark to stop and the counts.
 fn print_with<'s, T: Net + Threads + Wait + Clock + RandomSource + Sync, W: Write + Drop>(
     rt: &T,
     alloc: Global,

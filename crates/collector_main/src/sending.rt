@@ -30,7 +30,8 @@ use std::thread::Threads;
 use std::time::Clock;
 use tsc_config::Config;
 
-/// Takes requests on a listener by a configuration, and sends the lines to a backend; it prints them too, where the configuration says so.
+/// Takes requests on a listener by a configuration, and sends the lines to a backend; it prints them too, where the
+/// configuration says so.
 pub fn send_with<
     's,
     T: Net<Listener = TcpListener, Stream = TcpStream>
@@ -198,7 +199,8 @@ fn retry_by(config: &Config) -> Retry
     }
 }
 
-/// How the program ends after a run whose lines were sent to a backend, of which it gave up so many spans, or more than can be counted.
+/// How the program ends after a run whose lines were sent to a backend, of which it gave up so many spans, or more than
+/// can be counted.
 fn exported_to(answer: Result<Report, RunFault>, given_up: Option<u64>) -> Outcome
     ensures { IsExportedTo answer (spans_of given_up) result }
 {

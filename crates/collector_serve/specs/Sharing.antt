@@ -7,6 +7,7 @@ use Rattle.tsc_config.specs.declared.config.Config.{Config}
 abbrev pub share_of : (connections lanes : ℕ) → ℕ
 share_of connections lanes = if nat_le lanes connections then connections / lanes else 1
 
--- packed bodies are taken where the configuration says so, and a client may close where there is no address for those in charge
+-- packed bodies are taken where the configuration says so, and a client may close where there is no address for those
+-- in charge
 abbrev pub allowed_by : Config → Allowed
 allowed_by config = record { gzip = config.accept_gzip; close = length config.admin == 0 }

@@ -22,7 +22,8 @@ const OWNER: u32 = 0o600;
 /// How long a read waits for one in charge, in milliseconds.
 const READ_TIMEOUT: u64 = 100;
 
-/// How long a write waits for one in charge, and how long it is waited where no connection can be taken, in milliseconds.
+/// How long a write waits for one in charge, and how long it is waited where no connection can be taken, in
+/// milliseconds.
 const WRITE_TIMEOUT: u64 = 1_000;
 
 /// So many pieces of 4,096 bytes are read behind an answer at most, and so often it is waited for one.
@@ -91,8 +92,8 @@ pub fn socket_path(address: &str) -> Option<&str> {
     address.strip_prefix(UNIX)
 }
 
-/// Starts a thread that answers those in charge at this address, `address:port` or `unix:` and a path, one connection after the
-/// other. It ends with the program.
+/// Starts a thread that answers those in charge at this address, `address:port` or `unix:` and a path, one connection
+/// after the other. It ends with the program.
 pub fn start_admin<
     R: Net<Listener = TcpListener, Stream = TcpStream>
         + Files
@@ -115,8 +116,8 @@ pub fn start_admin<
     }
 }
 
-/// Listens at a socket's file that only its owner may use. It takes the place of one that is left of a collector which has ended;
-/// one at which there is still somebody is left alone.
+/// Listens at a socket's file that only its owner may use. It takes the place of one that is left of a collector which
+/// has ended; one at which there is still somebody is left alone.
 fn bind_socket<R: Net + Files>(rt: &R, alloc: Global, path: &str) -> io::Result<UnixListener> {
     if UnixStream::connect(rt, path).is_ok() {
         return Err(io::ErrorKind::AddrInUse.into());

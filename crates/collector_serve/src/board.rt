@@ -50,8 +50,9 @@ impl PolicyCells {
     }
 }
 
-/// The nine counts, as they grow. Each addition of a thread is added here when it was made, so a number that is read never
-/// goes down, and is that of the report once all threads have ended. No contract says so: a thread that reads is in no run.
+/// The nine counts, as they grow. Each addition of a thread is added here when it was made, so a number that is read
+/// never goes down, and is that of the report once all threads have ended. No contract says so: a thread that reads is
+/// in no run.
 #[derive(Drop)]
 pub struct Board {
     received: AtomicU64,
@@ -122,17 +123,7 @@ impl Board {
     /// The counts as they are now.
     pub fn report(&self) -> Report {
         let mut report = Report::new();
-        for count in [
-            Count::Received,
-            Count::Handed,
-            Count::Dropped(Reason::InvalidId),
-            Count::Dropped(Reason::QueueFull),
-            Count::Dropped(Reason::NoMemory),
-            Count::Dropped(Reason::Evicted),
-            Count::Dropped(Reason::NotSampled),
-            Count::Dropped(Reason::LateNotSampled),
-            Count::Dropped(Reason::ExporterDown),
-        ] {
+        for count in Count::ALL {
             let number = self.cell(count.place()).load(Ordering::Relaxed);
             // The report's counts are 0 before.
             let _ = report.add(count, number);

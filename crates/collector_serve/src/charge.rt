@@ -124,7 +124,8 @@ impl<'c> Admin for InCharge<'c> {
     }
 }
 
-/// Starts a thread that sets the mark to stop at the end of an input, or where a read of it fails. It ends with the program.
+/// Starts a thread that sets the mark to stop at the end of an input, or where a read of it fails. It ends with the
+/// program.
 pub fn close_at_end<I: Read + Send + Drop + 'static, R: Threads + Wait + Copy + Send + 'static>(
     rt: &R,
     input: I,

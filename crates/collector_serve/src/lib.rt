@@ -1,6 +1,12 @@
 //! `tsc serve` without its command line: what drives each lane on a listener, ticks of the system's clock and a mark to stop,
 //! over the pipeline; beside it the address for those in charge, the look at the process's memory, and what a backend is told and
 //! tells where lines are sent.
+//!
+//! ```
+//! let listener = listen(&rt, "127.0.0.1:4318")?;
+//! let lanes = drivers(&rt, alloc, &config, &listener, &charge.loads, &charge.stop)?;
+//! let (sink, answer, not_begun) = serve_on(&context, config, lanes, sink);
+//! ```
 #![tactic(auto)]
 
 mod admin_thread;

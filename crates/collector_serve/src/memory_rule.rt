@@ -34,8 +34,8 @@ impl MemoryRule {
         }
     }
 
-    /// Whether requests are refused, now that the process takes so many bytes and so many spans wait. Once it went beyond its limit
-    /// that is so until fewer spans wait, since what is freed is used again before the process grows.
+    /// Whether requests are refused, now that the process takes so many bytes and so many spans wait. Once it went
+    /// beyond its limit that is so until fewer spans wait, since what is freed is used again before the process grows.
     pub fn is_short(&mut self, taken: u64, waiting: u64) -> bool
         ensures state { self.new ≡ memory_after self.old taken waiting }
         ensures short { result ≡ is_short self.new taken waiting }
@@ -50,8 +50,8 @@ impl MemoryRule {
         self.limit < taken && self.release < waiting
     }
 
-    /// Whether no more spans are to be kept where requests are refused, now that the process takes so many bytes and so many spans
-    /// wait: it is more than an eighth beyond its limit, and as many wait as when it grew so far.
+    /// Whether no more spans are to be kept where requests are refused, now that the process takes so many bytes and so
+    /// many spans wait: it is more than an eighth beyond its limit, and as many wait as when it grew so far.
     pub fn is_shorter(&self, taken: u64, waiting: u64) -> bool
         ensures { result ≡ is_shorter self.now taken waiting }
     {

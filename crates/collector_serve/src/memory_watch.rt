@@ -1,4 +1,5 @@
-//! The thread that looks at what memory the process takes, and refuses requests while it is too much, and spans while it is more still.
+//! The thread that looks at what memory the process takes, and refuses requests while it is too much, and spans while
+//! it is more still.
 use crate::charge::Charge;
 use crate::memory_rule::MemoryRule;
 use std::alloc::Global;
@@ -22,8 +23,9 @@ const MOST_PAUSE: u64 = 100;
 
 const LEAST_PAUSE: u64 = 2;
 
-/// Starts a thread that tells what the process takes by this account, and refuses requests while it is more than so many mebibytes,
-/// where 0 is no limit. It ends with the program. `Err`: the account can't be read, or there can be no thread.
+/// Starts a thread that tells what the process takes by this account, and refuses requests while it is more than so
+/// many mebibytes, where 0 is no limit. It ends with the program. `Err`: the account can't be read, or there can be no
+/// thread.
 pub fn start_memory_watch<
     F: Read + Seek + Send + Drop + 'static,
     R: Threads + Wait + Clock + Copy + Send + 'static,
@@ -57,8 +59,8 @@ fn watch<F: Read + Seek + Drop, R: Wait + Clock>(rt: &R, limit: u64, account: F,
     }
 }
 
-/// How long it takes until the next look: the shorter the less may still be taken. A process doesn't grow by more than two
-/// mebibytes in a millisecond.
+/// How long it takes until the next look: the shorter the less may still be taken. A process doesn't grow by more than
+/// two mebibytes in a millisecond.
 fn pause_before(limit: u64, taken: u64) -> u64 {
     let left = limit.saturating_sub(taken) / MEBIBYTE / 2;
     left.max(LEAST_PAUSE).min(MOST_PAUSE)

@@ -8,8 +8,8 @@ use http1::Header;
 use std::alloc::{AllocError, Global};
 use tsc_config::{Config, HeaderField};
 
-/// The fields of each request to a backend at this host and port, but for the length of its body: those of its own, and then those of the
-/// configuration.
+/// The fields of each request to a backend at this host and port, but for the length of its body: those of its own, and
+/// then those of the configuration.
 pub fn request_fields<'t>(
     alloc: Global,
     authority: &'t str,
@@ -35,7 +35,8 @@ pub fn request_fields<'t>(
     Ok(fields)
 }
 
-/// How many spans wait between a shard and the backend: the shard's share of so many full batches, and at least `export_capacity`.
+/// How many spans wait between a shard and the backend: the shard's share of so many full batches, and at least
+/// `export_capacity`.
 fn export_room(config: &Config) -> usize
     requires shards { 0 < config.now.shards }
     requires capacity { 0 < config.now.export_capacity }

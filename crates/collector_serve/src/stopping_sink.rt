@@ -5,8 +5,8 @@ use crate::board::Board;
 use http_lane::Stop;
 use span_sink::{Sink, SinkFault};
 
-/// A sink over another one. Where a write fails it sets a mark to stop, if it is told to, and what was taken is told to a board; what
-/// it takes and what it answers are those of the other.
+/// A sink over another one. Where a write fails it sets a mark to stop, if it is told to, and what was taken is told to
+/// a board; what it takes and what it answers are those of the other.
 #[derive(Drop)]
 pub struct StoppingSink<'s, S, P> {
     sink: S,

@@ -24,7 +24,8 @@ off name = record { name = name; value = boolean false }
 abbrev pub counted : (name : List ℕ) → (number : ℕ) → Default
 counted name number = record { name = name; value = integer (pos number) }
 
--- the keys of the table of a configuration, but for the wait from a trace's root on, which has two names; `admin` and `export` have no default, and `policies` is required
+-- the keys of the table of a configuration, but for the wait from a trace's root on, which has two names; `admin` and
+-- `export` have no default, and `policies` is required
 abbrev pub defaults : List Default
 defaults =
     number_default number_is.DecisionWait

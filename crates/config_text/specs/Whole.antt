@@ -1,4 +1,5 @@
--- The table of a configuration with its defaults: what stands there, and where nothing stands at a key that has a default, the default. Policies stay as they are.
+-- The table of a configuration with its defaults: what stands there, and where nothing stands at a key that has a
+-- default, the default. Policies stay as they are.
 use Rattle.std.specs.Prelude.{◌≡◌, ℕ, ◌≤◌, true, ◌||◌, List, codes, Some, if◌then◌else◌}
 use Rattle.std.specs.List.{list_all}
 use Rattle.std.specs.Option.{is_some}
@@ -28,7 +29,8 @@ pub record IsWhole (members : Members) : Type 0 where
   pub caches : (sizes : Members) → get_member (codes "decision_cache") members ≡ Some (table sizes) → HasEach cache_defaults sizes
   pub export : (given : Members) → get_member (codes "export") members ≡ Some (table given) → HasEach export_defaults given
 
--- a table that can be written and read again: it nests at most 80 deep, as the reader wants it, and has no date that a text can't have
+-- a table that can be written and read again: it nests at most 80 deep, as the reader wants it, and has no date that a
+-- text can't have
 abbrev pub IsWritable : Members → Type 0
 IsWritable members = (members_depth members ≤ 80) × (members_have_valid_dates members ≡ true)
 

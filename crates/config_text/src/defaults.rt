@@ -50,8 +50,8 @@ pub fn cache_sizes() -> &'static [Default]
     ]
 }
 
-/// The keys of the table of `export`, but for the address, which is required, and `headers`, which have no default. Times are in
-/// milliseconds.
+/// The keys of the table of `export`, but for the address, which is required, and `headers`, which have no default.
+/// Times are in milliseconds.
 pub fn export_settings() -> &'static [Default]
     ensures { map default_of result.now ≡ spec.export_defaults }
 {

@@ -1,5 +1,9 @@
-//! The settings that are in force by a configuration, as a text: what the configuration says, and beside it the default of each key
-//! that it doesn't name. The text is read as the same configuration.
+//! The settings that are in force by a configuration, as a text: what the configuration says, and beside it the default
+//! of each key that it doesn't name. The text is read as the same configuration.
+//!
+//! ```
+//! let text = settings_in_force(alloc, "[[policies]]\nname = \"all\"\ntype = \"always_sample\"\n")?;
+//! ```
 #![tactic(auto)]
 
 mod defaults;

@@ -15,10 +15,10 @@ use toml::ser::Error;
 /// The deepest that a table may nest, so that its text can be read.
 const DEEPEST: u32 = 80;
 
-/// The settings that are in force by a configuration of this text, as a text that is read as the same configuration: what it says,
-/// in the order of its keys and without its comments, and each key that has a default with that, where it isn't there. Policies
-/// stay as they are; `admin` and `export`, which have no default, aren't added, and of the two names of the wait from a trace's
-/// root on the one that is there stays.
+/// The settings that are in force by a configuration of this text, as a text that is read as the same configuration:
+/// what it says, in the order of its keys and without its comments, and each key that has a default with that, where it
+/// isn't there. Policies stay as they are; `admin` and `export`, which have no default, aren't added, and of the two
+/// names of the wait from a trace's root on the one that is there stays.
 ///
 /// A text that is no TOML, or whose tables nest deeper than 80 (policies nest 8 deep), is given as it is. `Err`
 /// where memory is refused.

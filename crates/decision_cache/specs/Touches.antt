@@ -8,7 +8,8 @@ use Rattle.span_ids.specs.declared.outcome.Verdict.TheVariants.{Sampled, NotSamp
 use Rattle.decision_cache.specs.declared.traces.Remembered.{Remembered}
 use Rattle.decision_cache.specs.declared.traces.Remembered.TheVariants.{Kept, Off, Lost}
 
--- A touch of a verdict: the leaving of the decided episode that opened at `episode`, where it lost nothing, or a later span, not refused, that found its trace remembered outside the buffer.
+-- A touch of a verdict: the leaving of the decided episode that opened at `episode`, where it lost nothing, or a later
+-- span, not refused, that found its trace remembered outside the buffer.
 pub record Touch : Type 0 where
   pub episode : ℕ
   pub trace : TraceId

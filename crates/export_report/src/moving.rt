@@ -8,8 +8,8 @@ ghost use Rattle.export_report.specs.Moves.{IsMoved, CannotMove};
 use drop_ledger::{BookFull, Count, Report};
 use span_ids::Reason;
 
-/// The report with so many spans fewer that were handed over, and as many more that were given up since the exporter failed. `BookFull`: fewer
-/// were handed over, or more would be given up than 2^64-1.
+/// The report with so many spans fewer that were handed over, and as many more that were given up since the exporter
+/// failed. `BookFull`: fewer were handed over, or more would be given up than 2^64-1.
 pub fn moved(report: &Report, spans: u64) -> Result<Report, BookFull>
     ensures moved { IfOk result (IsMoved spans report.now) }
     ensures full { OnErr result (CannotMove spans report.now) }

@@ -11,8 +11,8 @@ use std::marker::Model;
 /// About how many bytes a compiled expression may take.
 const GREATEST_SIZE: usize = 1 << 20;
 
-/// A regular expression by its text, with what searches for it. The compiled expression is never freed: a policy is kept
-/// as long as the process runs.
+/// A regular expression by its text, with what searches for it. The compiled expression is never freed: a policy is
+/// kept as long as the process runs.
 #[derive(Drop)]
 pub struct Expression {
     text: String,
@@ -98,8 +98,8 @@ impl Expression {
         self.text.as_str()
     }
 
-    /// Whether the expression has a match in the value. It takes no memory that can be refused: what the search keeps of
-    /// earlier ones grows as it goes.
+    /// Whether the expression has a match in the value. It takes no memory that can be refused: what the search keeps
+    /// of earlier ones grows as it goes.
     pub fn is_match(&mut self, value: &str) -> bool
         ensures found { result ≡ is_match self.old value.now }
         ensures same { self.new ≡ self.old }

@@ -1,4 +1,9 @@
 //! Regular expressions by their texts, as policies have them (Rust's regex crate; unanchored).
+//!
+//! ```
+//! let mut expression = Expression::new(alloc, "^/health")?;
+//! assert!(expression.is_match("/health/live"));
+//! ```
 #![tactic(auto)]
 
 mod expression;

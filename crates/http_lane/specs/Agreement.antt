@@ -45,8 +45,8 @@ AgreeAsFar (e ∷ es) (f ∷ fs) = (e.fate ≡ f.fate) × (choice_of e.cause ≡
 abbrev pub RepliesTo : {P : Type 0} → (P → Item → P → Type 0) → (P → P → Type 0) → Intake P → List Event → Intake P → Type 0
 RepliesTo takes refuses old events new = SubmitsAll (Submits takes refuses) old (submissions events) new
 
--- of one body, with memory and numbers for its spans or not, and as many of its pushes refused, two lanes that both keep doubles, or
--- both discard them, tell the same, whatever was done there before
+-- of one body, with memory and numbers for its spans or not, and as many of its pushes refused, two lanes that both
+-- keep doubles, or both discard them, tell the same, whatever was done there before
 abbrev pub RepliesAreDetermined : {P Q : Type 0} → (P → Item → P → Type 0) → (P → P → Type 0)
     → (Q → Item → Q → Type 0) → (Q → Q → Type 0) → Type 0
 RepliesAreDetermined {P} {Q} takes refuses its_takes its_refuses =

@@ -1,5 +1,5 @@
--- One connection among many, by a clock: what the turns of a lane brought it, each with its moment in milliseconds, and what was done then.
--- What bytes bring is as in Connection.
+-- One connection among many, by a clock: what the turns of a lane brought it, each with its moment in milliseconds, and
+-- what was done then. What bytes bring is as in Connection.
 use Rattle.std.specs.Prelude.{◌≡◌, ℕ, ◌+◌, ◌<◌, ◌≤◌, ◌⊎◌, ◌||◌, Bool, true, false, List, [], ◌∷◌, length, Option, Some, None, MatchBool, if◌then◌else◌, nat_le}
 use Rattle.std.specs.List.{list_any}
 use Rattle.http_text.specs.declared.allowed.Allowed.{Allowed}
@@ -8,8 +8,9 @@ use Rattle.http_lane.specs.declared.answer.ServeEnd.TheVariants.{Closed, Cut, Qu
 use Rattle.http_lane.specs.declared.turns.TheConstants.{IDLE_LIMIT, REQUEST_LIMIT}
 use Rattle.http_lane.specs.Connection.{Reading, in_head, in_body, grown, is_between, Cause, accepts, timed_out, Event, end_of, can_be, Settles}
 
--- what a turn brought: some bytes, or some for which there was no memory; nothing, so that only the time was looked at; the input's end; a fault of a read;
--- that a write had failed or stood still for too long; or that the connection had to leave while it was idle
+-- what a turn brought: some bytes, or some for which there was no memory; nothing, so that only the time was looked at;
+-- the input's end; a fault of a read; that a write had failed or stood still for too long; or that the connection had
+-- to leave while it was idle
 pub data Coming : Type 0 where
   came unkept : List ℕ → Coming
   nothing over read_failed write_failed dismissed : Coming
@@ -22,7 +23,8 @@ answers _ = true
 abbrev pub has_answer : List Event → Bool
 has_answer events = list_any (λ (e : Event). answers e.cause) events
 
--- a connection between two turns: the request that is being read, and since when: the moment at which its first byte came, or between requests that at which the last one was answered
+-- a connection between two turns: the request that is being read, and since when: the moment at which its first byte
+-- came, or between requests that at which the last one was answered
 pub record Waiting : Type 0 where
   pub reading : Reading
   pub since : ℕ
@@ -45,7 +47,8 @@ pub record Turned : Type 0 where
 abbrev pub turned : Coming → ℕ → Bool → List Event → Turned
 turned coming moment is_stopped events = record { coming = coming; moment = moment; is_stopped = is_stopped; events = events }
 
--- since when a connection waits after bytes: a request that was under way before, and isn't answered yet, keeps its moment
+-- since when a connection waits after bytes: a request that was under way before, and isn't answered yet, keeps its
+-- moment
 abbrev pub since_after : Waiting → (moment : ℕ) → List Event → Reading → ℕ
 since_after w moment events last = if is_between last || (is_between w.reading || has_answer events) then moment else w.since
 

@@ -333,8 +333,9 @@ fn serve_turns<'l, E: Engine, P: Port<Item>, C: Counter, R: Source, W: Write, S:
 }
 
 /// Serves the next connection of a lane: reads requests, hands their bodies to the lane, counts their spans, and writes
-/// the answers, each by one write where the writer takes it whole. Of a packed body, where the reader takes such, the lane
-/// gets what it unpacks to (RFC 1952); a broken one is answered 400, one that unpacks to more than a body may have 413.
+/// the answers, each by one write where the writer takes it whole. Of a packed body, where the reader takes such, the
+/// lane gets what it unpacks to (RFC 1952); a broken one is answered 400, one that unpacks to more than a body may have
+/// 413.
 ///
 /// The moment of a request is asked of the clock once, when its body has been read. It ends as
 /// [`ServeEnd::NoMemory`], with nothing read, where memory for its buffer was refused.

@@ -6,14 +6,11 @@ ghost use Rattle.lane_turns.specs.Driving.{FitsNext};
 
 use crate::column::bytes_of;
 use crate::peers::{Mark, Ticks};
-use crate::trial::name_of;
+use crate::trial::{lane_of, name_of};
 use drop_ledger::Report;
 use http_lane::{Lent, ServeEnd, Stop};
 use http_text::Allowed;
-use lane_queue::ListPort;
-use lane_seq::Lane;
 use lane_turns::{Done, Driver, Leaving, Next, serve_turns};
-use otlp_types::Item;
 use std::alloc::{AllocError, Global};
 use std::cell::Cell;
 use std::sync::Wait;
@@ -114,11 +111,13 @@ fn steps_of<'t>(alloc: Global, column: &'t str) -> Result<Vec<Step<'t>>, AllocEr
     for text in column.split(" | ") {
         let (word, rest) = text.split_once(' ').unwrap_or((text, ""));
         let (moment, bytes) = rest.split_once(' ').unwrap_or((rest, ""));
-        steps.push(Step {
+        let bytes = bytes_of(alloc, bytes)?;
+        steps.reserve(1)?;
+        steps.push_reserved(Step {
             word,
             moment: moment.parse::<u64>().unwrap_or(0),
-            bytes: bytes_of(alloc, bytes)?,
-        })?;
+            bytes,
+        });
     }
     Ok(steps)
 }
@@ -134,9 +133,9 @@ pub fn holds<R: Wait + Clock>(rt: &R, alloc: Global, line: &str) -> Result<bool,
     ) else {
         return Ok(false);
     };
-    let mut ports = Vec::with_capacity(alloc, 1)?;
-    ports.push(ListPort::<Item>::new(alloc, 8)?)?;
-    let mut lane = Lane::new(3, ports);
+    let steps = steps_of(alloc, steps)?;
+    let answers = bytes_of(alloc, answers)?;
+    let mut lane = lane_of(alloc, 8)?;
     let mut report = Report::new();
     let mark = Mark {
         set: Cell::new(false),
@@ -145,7 +144,7 @@ pub fn holds<R: Wait + Clock>(rt: &R, alloc: Global, line: &str) -> Result<bool,
         asked: Cell::new(0),
     };
     let mut script = Script {
-        steps: steps_of(alloc, steps)?,
+        steps,
         at: 0,
         key: 0,
         mark: &mark,
@@ -164,7 +163,7 @@ pub fn holds<R: Wait + Clock>(rt: &R, alloc: Global, line: &str) -> Result<bool,
         Some((end, at)) => (name_of(end), at),
         None => ("", 0),
     };
-    let right = script.written.as_slice() == bytes_of(alloc, answers)?.as_slice();
+    let right = script.written.as_slice() == answers.as_slice();
     Ok(
         right
             && !script.is_short

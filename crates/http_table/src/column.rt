@@ -24,6 +24,23 @@ enum Escape {
     Low(u8),
 }
 
+impl Escape {
+    /// The byte that this one of a column gives, if it gives one, and what is open behind it.
+    fn behind(self, byte: u8) -> (Option<u8>, Escape) {
+        match self {
+            Escape::Closed if byte == b'\\' => (None, Escape::Open),
+            Escape::Closed => (Some(byte), Escape::Closed),
+            Escape::Open if byte == b'x' => (None, Escape::High),
+            Escape::Open => (Some(meant(byte)), Escape::Closed),
+            Escape::High => (None, Escape::Low(digit(byte))),
+            Escape::Low(high) => (
+                Some(high.wrapping_mul(16).wrapping_add(digit(byte))),
+                Escape::Closed,
+            ),
+        }
+    }
+}
+
 /// The byte that a letter behind a backslash stands for.
 fn meant(letter: u8) -> u8 {
     match letter {
@@ -38,23 +55,11 @@ fn meant(letter: u8) -> u8 {
 fn put_plain(bytes: &mut Vec<u8>, text: &[u8]) -> Result<(), AllocError> {
     let mut escape = Escape::Closed;
     for byte in text {
-        escape = match escape {
-            Escape::Closed if *byte == b'\\' => Escape::Open,
-            Escape::Closed => {
-                bytes.push(*byte)?;
-                Escape::Closed
-            }
-            Escape::Open if *byte == b'x' => Escape::High,
-            Escape::Open => {
-                bytes.push(meant(*byte))?;
-                Escape::Closed
-            }
-            Escape::High => Escape::Low(digit(*byte)),
-            Escape::Low(high) => {
-                bytes.push(high.wrapping_mul(16).wrapping_add(digit(*byte)))?;
-                Escape::Closed
-            }
-        };
+        let (put, next) = escape.behind(*byte);
+        escape = next;
+        if let Some(byte) = put {
+            bytes.push(byte)?;
+        }
     }
     Ok(())
 }

@@ -1,13 +1,13 @@
 //! A table of exchanges with what RFC 9112 and the table of answers give for each. A row of `exchanges.tsv` has a name,
 //! how it is run, the bytes that a client sends, the bytes that are answered, how the connection ends, and what was
-//! counted; `column` says how bytes are written there. Each exchange goes through `serve` in one piece, a byte at a time,
-//! and cut in every two pieces; where the row says so, also with a write that fails after each number of bytes. And it goes
-//! through `serve_turns` on one, two and fifty connections at once, whose pieces are dealt at random. `turns.tsv` has
-//! connections by a scripted clock (`clocked`). The gate runs it and compares what it prints.
+//! counted; `column` says how bytes are written there. Each exchange goes through `serve` in one piece, a byte at a
+//! time, and cut in every two pieces; where the row says so, also with a write that fails after each number of bytes.
+//! And it goes through `serve_turns` on one, two and fifty connections at once, whose pieces are dealt at random.
+//! `turns.tsv` has connections by a scripted clock (`clocked`). The gate runs it and compares what it prints.
 //!
-//! With the argument `refused` it runs the rows that say `starves` once each, and lets an exchange be short of memory at
-//! one place. So a run for each allocation that is refused in turn (`tests/refused_memory/refused.py exchanges`) shows that
-//! nothing but whole answers is written, and that the counts are those of the answered requests.
+//! With the argument `refused` it runs the rows that say `starves` once each, and lets an exchange be short of memory
+//! at one place. So a run for each allocation that is refused in turn (`tests/refused_memory/refused.py exchanges`)
+//! shows that nothing but whole answers is written, and that the counts are those of the answered requests.
 //!
 //! With `serve FILE` it serves the bytes of a file as one connection, and with `decode FILE N` it reads those of a file
 //! as a body N times, for `bench/http.sh` to count what either costs.
@@ -50,7 +50,10 @@ fn holds<R: Wait + Clock>(
         return short::holds(alloc, &row);
     }
     let answers = trial::joined(alloc, &row.answers)?;
-    Ok(trial::holds(alloc, &row)? && many::holds(rt, alloc, &row, &answers)?)
+    trial::both(
+        trial::holds(alloc, &row, &answers),
+        many::holds(rt, alloc, &row, &answers),
+    )
 }
 
 /// Whether a line is to be run.

@@ -4,13 +4,10 @@ ghost use Rattle.lane_turns.specs.Driving.{FitsNext};
 
 use crate::peers::{Mark, Tail, Ticks};
 use crate::row::Row;
-use crate::trial::{name_of, queued};
+use crate::trial::{both, lane_of, name_of, queued};
 use drop_ledger::{Count, Report};
 use http_lane::{Lent, ServeEnd};
-use lane_queue::ListPort;
-use lane_seq::Lane;
 use lane_turns::{Done, Driver, Leaving, Next, serve_turns};
-use otlp_types::Item;
 use span_ids::Reason;
 use std::alloc::{AllocError, Global};
 use std::cell::Cell;
@@ -161,13 +158,14 @@ impl<'b> Driver for Deal<'b> {
 fn peers(alloc: Global, count: usize) -> Result<Vec<Peer>, AllocError> {
     let mut peers = Vec::with_capacity(alloc, count)?;
     for _ in 0..count {
-        peers.push(Peer {
+        peers.reserve(1)?;
+        peers.push_reserved(Peer {
             at: 0,
             key: 0,
             written: Vec::new(alloc),
             end: None,
             is_refused: false,
-        })?;
+        });
     }
     Ok(peers)
 }
@@ -181,10 +179,9 @@ fn comes<R: Wait + Clock>(
     count: usize,
     step: usize,
 ) -> Result<bool, AllocError> {
-    let mut ports = Vec::with_capacity(alloc, 1)?;
     let capacity = row.setup.capacity.clamp(1, 1000) * count.clamp(1, 1000);
-    ports.push(ListPort::<Item>::new(alloc, capacity)?)?;
-    let mut lane = Lane::new(3, ports);
+    let peers = peers(alloc, count)?;
+    let mut lane = lane_of(alloc, capacity)?;
     let mut report = Report::new();
     let _before = report.add(Count::Received, row.setup.received);
     let mark = Mark {
@@ -198,7 +195,7 @@ fn comes<R: Wait + Clock>(
         step,
         fails: matches!(row.setup.tail, Tail::Fails),
         seed: row.input.len() as u64,
-        peers: peers(alloc, count)?,
+        peers,
         taken: 0,
         told: 0,
     };
@@ -235,8 +232,8 @@ fn comes<R: Wait + Clock>(
     Ok(right && mark.set.get() == row.outcome.is_stopped)
 }
 
-/// Whether the row holds on one, two and fifty connections at once. A row that says what quiet reads come to isn't run so, and
-/// one on one connection alone whose connections would meet at a full queue, a full count or the stop mark.
+/// Whether the row holds on one, two and fifty connections at once. A row that says what quiet reads come to isn't run
+/// so, and one on one connection alone whose connections would meet at a full queue, a full count or the stop mark.
 pub fn holds<R: Wait + Clock>(
     rt: &R,
     alloc: Global,
@@ -247,14 +244,15 @@ pub fn holds<R: Wait + Clock>(
         return Ok(true);
     }
     let step = if row.setup.is_long { 16384 } else { 40 };
-    let mut right = comes(rt, alloc, row, answers, 1, step)?;
+    let alone = comes(rt, alloc, row, answers, 1, step);
     if row.outcome.full > 0 || row.setup.received > 0 || row.outcome.is_stopped {
-        return Ok(right);
+        return alone;
     }
     if row.setup.is_long {
-        return Ok(right & comes(rt, alloc, row, answers, 2, step)?);
+        return both(alone, comes(rt, alloc, row, answers, 2, step));
     }
-    right &= comes(rt, alloc, row, answers, 2, 1)?;
-    right &= comes(rt, alloc, row, answers, 50, 400)?;
-    Ok(right)
+    both(
+        both(alone, comes(rt, alloc, row, answers, 2, 1)),
+        comes(rt, alloc, row, answers, 50, 400),
+    )
 }

@@ -20,7 +20,8 @@ fn spans_of(answer: &[u8]) -> u64 {
 
 /// Whether the exchange comes to its answers, where at most one is `busy` in its place, or the connection ends there:
 /// by that answer, if it closes, or unanswered by `NoMemory`. Each request has one span, and just those that were
-/// answered otherwise are counted and queued, with the connection's next numbers; so is one whose answer found no memory.
+/// answered otherwise are counted and queued, with the connection's next numbers; so is one whose answer found no
+/// memory.
 pub fn holds(alloc: Global, row: &Row) -> Result<bool, AllocError> {
     let came = served(alloc, &row.setup, &row.input, WHOLE)?;
     let mut rest = came.written.as_slice();

@@ -1,4 +1,6 @@
 //! One connection, and whether it is as its row says.
+ghost use Rattle.std.specs.Prelude.{◌≡◌, ◌<◌, IfOk};
+
 use crate::peers::{Mark, Page, Pieces, Ticks};
 use crate::row::{Outcome, Row, Setup};
 use drop_ledger::{Count, Report};
@@ -77,11 +79,20 @@ pub fn queued(lane: Lane<ListPort<Item>>) -> (u64, u64, u64) {
     (pushed, last, moment)
 }
 
+/// A lane with one shard, whose queue has room for so many spans.
+pub fn lane_of(alloc: Global, capacity: usize) -> Result<Lane<ListPort<Item>>, AllocError>
+    requires { 0 < capacity }
+    ensures { IfOk result (λ lane. lane.connected ≡ 0) }
+{
+    let port = ListPort::<Item>::new(alloc, capacity)?;
+    let ports = Vec::from_array(alloc, [port])?;
+    Ok(Lane::new(3, ports))
+}
+
 /// Serves one connection.
 pub fn served(alloc: Global, setup: &Setup, input: &[u8], way: Way) -> Result<Came, AllocError> {
-    let mut ports = Vec::with_capacity(alloc, 1)?;
-    ports.push(ListPort::<Item>::new(alloc, setup.capacity.max(1))?)?;
-    let mut lane = Lane::new(3, ports);
+    let written = Vec::with_capacity(alloc, 4096)?;
+    let mut lane = lane_of(alloc, setup.capacity.max(1))?;
     let mut report = Report::new();
     let _before = report.add(Count::Received, setup.received);
     let mut reader = Reads {
@@ -96,7 +107,7 @@ pub fn served(alloc: Global, setup: &Setup, input: &[u8], way: Way) -> Result<Ca
         allowed: setup.allowed,
     };
     let mut page = Page {
-        bytes: Vec::with_capacity(alloc, 4096)?,
+        bytes: written,
         portion: way.portion,
         room: way.room,
         writes: 0,
@@ -196,47 +207,64 @@ fn is_unanswered(alloc: Global, row: &Row, len: usize) -> Result<bool, AllocErro
     )
 }
 
-/// Whether the row holds in each way.
-pub fn holds(alloc: Global, row: &Row) -> Result<bool, AllocError> {
-    let answers = joined(alloc, &row.answers)?;
-    let whole = served(alloc, &row.setup, &row.input, WHOLE)?;
-    let mut right = row.outcome.reads == 0 || row.outcome.reads == whole.outcome.reads;
-    right &= whole.writes == row.writes();
-    right &= is_answered(alloc, row, &answers, WHOLE)?;
-    right &= is_answered(
-        alloc,
-        row,
-        &answers,
-        Way {
-            portion: 1,
-            ..WHOLE
-        },
-    )?;
-    if row.setup.is_long {
-        right &= is_answered(
-            alloc,
-            row,
-            &answers,
-            Way {
-                step: 1000,
-                ..WHOLE
-            },
-        )?;
-        return Ok(right);
+/// Whether both are so. Where one found no memory, neither is known.
+pub fn both(a: Result<bool, AllocError>, b: Result<bool, AllocError>) -> Result<bool, AllocError> {
+    match (a, b) {
+        (Ok(a), Ok(b)) => Ok(a && b),
+        _ => Err(AllocError),
     }
-    right &= is_answered(alloc, row, &answers, Way { step: 1, ..WHOLE })?;
+}
+
+/// Whether a short row holds with its bytes in pieces, with its first bytes alone, and where writes fail.
+fn holds_in_parts(alloc: Global, row: &Row, answers: &[u8]) -> Result<bool, AllocError> {
+    let mut right = is_answered(alloc, row, answers, Way { step: 1, ..WHOLE });
     for cut in 1..row.input.len() {
-        right &= is_answered(alloc, row, &answers, Way { cut, ..WHOLE })?;
+        right = both(
+            right,
+            is_answered(alloc, row, answers, Way { cut, ..WHOLE }),
+        );
     }
     if row.setup.cuts {
         for len in 0..row.input.len() {
-            right &= is_unanswered(alloc, row, len)?;
+            right = both(right, is_unanswered(alloc, row, len));
         }
     }
     if row.setup.writes {
         for room in 0..answers.len() {
-            right &= is_cut_off(alloc, row, &answers, room)?;
+            right = both(right, is_cut_off(alloc, row, answers, room));
         }
     }
-    Ok(right)
+    right
+}
+
+/// Whether it takes the reads and the writes that the row says.
+fn is_whole(alloc: Global, row: &Row) -> Result<bool, AllocError> {
+    let whole = served(alloc, &row.setup, &row.input, WHOLE)?;
+    let reads = row.outcome.reads == 0 || row.outcome.reads == whole.outcome.reads;
+    Ok(reads && whole.writes == row.writes())
+}
+
+/// Whether the row holds in each way.
+pub fn holds(alloc: Global, row: &Row, answers: &[u8]) -> Result<bool, AllocError> {
+    let bytewise = Way {
+        portion: 1,
+        ..WHOLE
+    };
+    let right = both(
+        both(
+            is_whole(alloc, row),
+            is_answered(alloc, row, answers, WHOLE),
+        ),
+        is_answered(alloc, row, answers, bytewise),
+    );
+    let parts = if row.setup.is_long {
+        let long = Way {
+            step: 1000,
+            ..WHOLE
+        };
+        is_answered(alloc, row, answers, long)
+    } else {
+        holds_in_parts(alloc, row, answers)
+    };
+    both(right, parts)
 }

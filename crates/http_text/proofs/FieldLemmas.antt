@@ -1,10 +1,11 @@
 -- What stands before the first place at which a test passes.
 -- They serve the clauses of `media_type` and `has_word`, and `value` of `blank_len`.
-use Rattle.std.proofs.Common.{◌≡◌, suc, not, ◌<◌, ◌≤◌, ◌+◌, [], ◌∷◌, ◌++◌, get_or, ◌&&◌, true, false, length, take, ℕ, List, Option, Some, None, Bool, cond, refl, ap, sym, ◌∙◌, arith}
+use Rattle.std.proofs.Common.{◌≡◌, suc, ◌<◌, ◌≤◌, ◌+◌, [], ◌∷◌, ◌++◌, get_or, ◌&&◌, true, false, length, take, ℕ, List, Option, Some, None, Bool, cond, refl, ap, sym, ◌∙◌, arith}
 use Rattle.std.specs.Prelude.{nat_lt, position}
-use Rattle.std.specs.List.{before_first, position_or_len, list_all}
+use Rattle.std.specs.List.{before_first, position_or_len, position_from, list_all}
 use Rattle.std.proofs.lemmas.List.{take_all, take_more}
-use borrow.Author.Tests.{ltb-true, ltb-false, lt-ltb, le-ltb}
+use Rattle.std.proofs.lemmas.Iterator.Adapters.{position_from-zero}
+use borrow.Author.Tests.{ltb-true, ltb-false}
 use Rattle.std.specs.Option.{option_map}
 
 place_some : (t : Bool) (n at : ℕ) → cond t (Some n) None ≡ Some at → n ≡ at
@@ -36,23 +37,22 @@ pub list_all_more : {X : Type 0} (p : X → Bool) (xs : List X) (i : ℕ) (d : X
 list_all_more p xs i d inside before here =
     ap (list_all p) (take_more xs i d inside) ∙ list_all-append p (take i xs) _ ∙ (λ k. before k && (here k && true))
 
-lt_suc_by : (u : Bool) (m l : ℕ) → nat_lt m l ≡ u → nat_lt (suc m) (suc l) ≡ u
-lt_suc_by true m l e = let lt : m < l = ltb-true m l e in lt-ltb (suc m) (suc l) (omega arith)
-lt_suc_by false m l e = let le : l ≤ m = ltb-false m l e in le-ltb (suc m) (suc l) (omega arith)
+-- the first place from a place on, and from the next
+shifted : (t : Bool) (i : ℕ) (o : Option ℕ)
+    → cond t (Some (i + 1)) (option_map suc o) ≡ option_map suc (cond t (Some i) o)
+shifted true i o = let next : i + 1 ≡ suc i = omega arith in ap Some next
+shifted false i o = refl
 
-map_cond : (t : Bool) (m : ℕ) → cond t (Some (suc m)) None ≡ option_map suc (cond t (Some m) None)
-map_cond true m = refl
-map_cond false m = refl
-
-place_cons : (t : Bool) (m l : ℕ) → cond (nat_lt (cond {A = ℕ} (not t) (suc m) 0) (suc l)) (Some (cond {A = ℕ} (not t) (suc m) 0)) None ≡ cond t (Some 0) (option_map suc (cond (nat_lt m l) (Some m) None))
-place_cons true m l = ap (λ u. cond u (Some 0) None) (lt-ltb 0 (suc l) (omega arith))
-place_cons false m l = ap (λ u. cond u (Some (suc m)) None) (lt_suc_by (nat_lt m l) m l refl) ∙ map_cond (nat_lt m l) m
+from_next : (p : ℕ → Bool) (i : ℕ) (xs : List ℕ) → position_from p (i + 1) xs ≡ option_map suc (position_from p i xs)
+from_next p i [] = refl
+from_next p i (x ∷ xs) =
+    ap (cond (p x) (Some (i + 1))) (from_next p (i + 1) xs) ∙ shifted (p x) i (position_from p (i + 1) xs)
 
 -- the first place, by recursion
 pub position_cons : (p : ℕ → Bool) (x : ℕ) (xs : List ℕ) → position p (x ∷ xs) ≡ cond (p x) (Some 0) (option_map suc (position p xs))
 position_cons p x xs =
-    let one : 1 + position_or_len p xs ≡ suc (position_or_len p xs) = omega arith in
-    ap (λ (k : ℕ). cond (nat_lt (cond {A = ℕ} (not (p x)) k 0) (suc (length xs))) (Some (cond {A = ℕ} (not (p x)) k 0)) None) one ∙ place_cons (p x) (position_or_len p xs) (length xs)
+    position_from-zero p (x ∷ xs)
+    ∙ ap (cond (p x) (Some 0)) (from_next p 0 xs ∙ ap (option_map suc) (sym (position_from-zero p xs)))
 
 more_by : (t : Bool) (o o' : Option ℕ) (n : ℕ) → ((k : ℕ) → o ≡ Some k → o' ≡ Some k) → cond t (Some 0) (option_map suc o) ≡ Some n → cond t (Some 0) (option_map suc o') ≡ Some n
 more_by true o o' n ih e = e

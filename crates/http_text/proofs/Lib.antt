@@ -5,3 +5,4 @@ pub mod FieldLemmas
 pub mod WordLemmas
 pub mod UniqueLemmas
 pub mod Rows
+pub mod Writing

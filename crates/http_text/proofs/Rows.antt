@@ -41,14 +41,8 @@ unfolding trim_ows
 posted_verdict = refl
 
 -- how many bytes a head, a chunk line and a trailer may have, how many a body, and how many fields a section
-greatest_part : PART_LIMIT ≡ 16384
-greatest_part = refl
-
-greatest_body : BODY_LIMIT ≡ 4194304
-greatest_body = refl
-
-most_fields : FIELD_LIMIT ≡ 64
-most_fields = refl
+limits : PART_LIMIT ∷ BODY_LIMIT ∷ FIELD_LIMIT ∷ [] ≡ 16384 ∷ 4194304 ∷ 64 ∷ []
+limits = refl
 
 -- a body of just so many bytes, and one of a byte more
 bodies_at_the_greatest : fits (Length 4194304) ∷ fits (Length 4194305) ∷ [] ≡ true ∷ false ∷ []
@@ -121,73 +115,41 @@ unframed_head = refl
 verdict_of : List ℕ → List ℕ → Verdict
 verdict_of method target = verdict_by by_default method target 1 (host_field ∷ [])
 
-get_of_traces : verdict_of (codes "GET") (codes "/v1/traces") ≡ Refused MethodNotAllowed false
+by_target : verdict_of (codes "GET") (codes "/v1/traces") ∷ verdict_of (codes "HEAD") (codes "/v1/traces")
+    ∷ verdict_of (codes "GET") (codes "/close") ∷ verdict_of (codes "HEAD") (codes "/close")
+    ∷ verdict_of (codes "GET") (codes "/v1/logs") ∷ verdict_of (codes "HEAD") (codes "/v1/traces/")
+    ∷ verdict_of (codes "POST") (codes "/Close") ∷ verdict_of (codes "POST") (codes "/close") ∷ []
+    ≡ Refused MethodNotAllowed false ∷ Refused MethodNotAllowed true
+    ∷ Refused MethodNotAllowed false ∷ Refused MethodNotAllowed true
+    ∷ Refused NotFound false ∷ Refused NotFound true
+    ∷ Refused NotFound false ∷ Close ∷ []
 unfolding verdict_of host_field
-get_of_traces = refl
-
-head_of_traces : verdict_of (codes "HEAD") (codes "/v1/traces") ≡ Refused MethodNotAllowed true
-unfolding verdict_of host_field
-head_of_traces = refl
-
-get_of_close : verdict_of (codes "GET") (codes "/close") ≡ Refused MethodNotAllowed false
-unfolding verdict_of host_field
-get_of_close = refl
-
-head_of_close : verdict_of (codes "HEAD") (codes "/close") ≡ Refused MethodNotAllowed true
-unfolding verdict_of host_field
-head_of_close = refl
-
-get_of_another : verdict_of (codes "GET") (codes "/v1/logs") ≡ Refused NotFound false
-unfolding verdict_of host_field
-get_of_another = refl
-
-head_of_another : verdict_of (codes "HEAD") (codes "/v1/traces/") ≡ Refused NotFound true
-unfolding verdict_of host_field
-head_of_another = refl
-
-post_of_another : verdict_of (codes "POST") (codes "/Close") ≡ Refused NotFound false
-unfolding verdict_of host_field
-post_of_another = refl
-
-post_of_close : verdict_of (codes "POST") (codes "/close") ≡ Close
-unfolding verdict_of host_field
-post_of_close = refl
+by_target = refl
 
 -- a close needs neither JSON nor a body within the limit
 close_of_anything : routed by_default (codes "POST") (codes "/close") [] (Length 4194306) ≡ Close
 close_of_anything = refl
 
 -- where it isn't allowed there is no such target, whatever the method
-close_not_allowed : routed never_closed (codes "POST") (codes "/close") [] (Length 5) ≡ Refused NotFound false
+close_not_allowed : routed never_closed (codes "POST") (codes "/close") [] (Length 5)
+    ∷ routed never_closed (codes "HEAD") (codes "/close") [] (Length 5)
+    ∷ routed never_closed (codes "GET") (codes "/v1/traces") [] (Length 5) ∷ []
+    ≡ Refused NotFound false ∷ Refused NotFound true ∷ Refused MethodNotAllowed false ∷ []
 close_not_allowed = refl
 
-head_of_close_not_allowed : routed never_closed (codes "HEAD") (codes "/close") [] (Length 5) ≡ Refused NotFound true
-head_of_close_not_allowed = refl
-
-traces_where_close_is_not_allowed : routed never_closed (codes "GET") (codes "/v1/traces") [] (Length 5) ≡ Refused MethodNotAllowed false
-traces_where_close_is_not_allowed = refl
-
 -- a media type that isn't JSON, or a coding of it, goes before a body beyond the limit
-text_beyond_the_limit : posted by_default (codes "POST") ((codes "Content-Type", codes "text/plain") ∷ []) (Length 4194305)
-    ≡ Refused UnsupportedMediaType false
-unfolding trim_ows
-text_beyond_the_limit = refl
-
-coded_beyond_the_limit : posted by_default (codes "POST") (json_field ∷ (codes "Content-Encoding", codes "gzip") ∷ [])
-    (Length 4194305) ≡ Refused UnsupportedMediaType false
+beyond_the_limit : posted by_default (codes "POST") ((codes "Content-Type", codes "text/plain") ∷ []) (Length 4194305)
+    ∷ posted by_default (codes "POST") (json_field ∷ (codes "Content-Encoding", codes "gzip") ∷ []) (Length 4194305)
+    ∷ posted by_default (codes "POST") (json_field ∷ []) (Length 4194305) ∷ []
+    ≡ Refused UnsupportedMediaType false ∷ Refused UnsupportedMediaType false ∷ Refused BodyTooLarge false ∷ []
 unfolding json_field trim_ows
-coded_beyond_the_limit = refl
+beyond_the_limit = refl
 
-json_beyond_the_limit : posted by_default (codes "POST") (json_field ∷ []) (Length 4194305) ≡ Refused BodyTooLarge false
-unfolding json_field trim_ows
-json_beyond_the_limit = refl
-
-no_media_type : posted by_default (codes "POST") [] (Length 5) ≡ Refused UnsupportedMediaType false
-no_media_type = refl
-
-two_media_types : posted by_default (codes "POST") (json_field ∷ json_field ∷ []) (Length 5) ≡ Refused UnsupportedMediaType false
+media_types : posted by_default (codes "POST") [] (Length 5)
+    ∷ posted by_default (codes "POST") (json_field ∷ json_field ∷ []) (Length 5) ∷ []
+    ≡ Refused UnsupportedMediaType false ∷ Refused UnsupportedMediaType false ∷ []
 unfolding json_field
-two_media_types = refl
+media_types = refl
 
 json_in_chunks : posted by_default (codes "POST") (json_field ∷ (codes "Expect", codes "100-Continue") ∷ []) Chunked
     ≡ Posted (record { framing = Chunked; expects_continue = true; is_packed = false; says_close = false })
@@ -222,36 +184,38 @@ no_framings = refl
 gzip_field : Header
 gzip_field = (codes "CONTENT-encoding", codes "GZip")
 
-x_gzip_field : Header
-x_gzip_field = (codes "Content-Encoding", codes "x-gzip")
+coded : List ℕ → Header
+coded value = (codes "Content-Encoding", value)
 
-identity_field : Header
-identity_field = (codes "Content-Encoding", codes "identity")
-
-packings : is_packed [] ∷ is_packed (gzip_field ∷ []) ∷ is_packed (x_gzip_field ∷ []) ∷ is_packed (identity_field ∷ [])
-    ∷ is_packed (identity_field ∷ x_gzip_field ∷ []) ∷ is_packed (gzip_field ∷ gzip_field ∷ [])
-    ∷ is_packed ((codes "Content-Encoding", codes "deflate") ∷ []) ∷ is_packed ((codes "Content-Encoding", codes "gzip, gzip") ∷ [])
+packings : is_packed [] ∷ is_packed (gzip_field ∷ []) ∷ is_packed (coded (codes "x-gzip") ∷ [])
+    ∷ is_packed (coded (codes "identity") ∷ [])
+    ∷ is_packed (coded (codes "identity") ∷ coded (codes "x-gzip") ∷ []) ∷ is_packed (gzip_field ∷ gzip_field ∷ [])
+    ∷ is_packed (coded (codes "deflate") ∷ []) ∷ is_packed (coded (codes "gzip, gzip") ∷ [])
     ∷ is_packed ((codes "Accept-Encoding", codes "gzip") ∷ []) ∷ []
     ≡ false ∷ true ∷ true ∷ false ∷ true ∷ false ∷ false ∷ false ∷ false ∷ []
-unfolding gzip_field x_gzip_field identity_field
+unfolding gzip_field coded
 packings = refl
 
-takings : is_taken with_gzip (gzip_field ∷ []) ∷ is_taken by_default (gzip_field ∷ []) ∷ is_taken with_gzip (identity_field ∷ []) ∷ is_taken by_default (identity_field ∷ [])
-    ∷ is_taken with_gzip (gzip_field ∷ x_gzip_field ∷ []) ∷ is_taken with_gzip [] ∷ is_taken by_default [] ∷ []
+takings : is_taken with_gzip (gzip_field ∷ []) ∷ is_taken by_default (gzip_field ∷ [])
+    ∷ is_taken with_gzip (coded (codes "identity") ∷ [])
+    ∷ is_taken by_default (coded (codes "identity") ∷ [])
+    ∷ is_taken with_gzip (gzip_field ∷ coded (codes "x-gzip") ∷ [])
+    ∷ is_taken with_gzip [] ∷ is_taken by_default [] ∷ []
     ≡ true ∷ false ∷ true ∷ true ∷ false ∷ true ∷ true ∷ []
-unfolding gzip_field x_gzip_field identity_field
+unfolding gzip_field coded
 takings = refl
 
-gzip_taken : posted with_gzip (codes "POST") (json_field ∷ x_gzip_field ∷ (codes "Expect", codes "100-continue") ∷ []) (Length 21)
+gzip_taken : posted with_gzip (codes "POST")
+    (json_field ∷ coded (codes "x-gzip") ∷ (codes "Expect", codes "100-continue") ∷ []) (Length 21)
     ≡ Posted (record { framing = Length 21; expects_continue = true; is_packed = true; says_close = false })
-unfolding json_field x_gzip_field trim_ows
+unfolding json_field coded trim_ows
 gzip_taken = refl
 
 gzip_beyond_the_limit : posted with_gzip (codes "POST") (json_field ∷ gzip_field ∷ []) (Length 4194305) ≡ Refused BodyTooLarge false
 unfolding json_field gzip_field trim_ows
 gzip_beyond_the_limit = refl
 
-deflate_beyond_the_limit : posted with_gzip (codes "POST") (json_field ∷ (codes "Content-Encoding", codes "deflate") ∷ []) (Length 4194305)
+deflate_beyond_the_limit : posted with_gzip (codes "POST") (json_field ∷ coded (codes "deflate") ∷ []) (Length 4194305)
     ≡ Refused UnsupportedMediaType false
-unfolding json_field trim_ows
+unfolding json_field coded trim_ows
 deflate_beyond_the_limit = refl

@@ -16,8 +16,8 @@ use crate::request::{BODY_LIMIT, FIELD_LIMIT, Framing, Post, Refusal, Verdict};
 use httparse::Status;
 use httparse::spans::{EMPTY_HEADER_SPAN, HeaderSpan, RequestSpans, parse_request};
 
-/// Where the parts of a head are, if the whole text is one.
-fn read_head(text: &[u8], headers: &mut [HeaderSpan]) -> Option<RequestSpans>
+/// Where the parts of a head are, if the whole text is one (RFC 9112, section 2.1).
+pub fn read_head(text: &[u8], headers: &mut [HeaderSpan]) -> Option<RequestSpans>
     requires { length headers.old ≡ FIELD_LIMIT }
     ensures head { IfSome result (λ r. (h : RequestHead) × IsHeadAt text.now headers.new r h) }
     ensures within { IfSome result (IsRequestWithin text.now headers.new) }

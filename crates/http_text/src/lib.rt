@@ -14,7 +14,7 @@ mod search;
 
 pub use allowed::Allowed;
 pub use body::{is_trailer, read_size};
-pub use head::judge;
+pub use head::{judge, read_head};
 pub use lines::PART_LIMIT;
 pub use request::{BODY_LIMIT, FIELD_LIMIT, Framing, Post, Refusal, Verdict};
 pub use search::{Cutting, Place, Search, cut_on};

@@ -38,8 +38,8 @@ pub struct Done<'s, J, X> {
     pub ended: Ended<J, X>,
 }
 
-/// What a thread promises that is started with this job: it saw this start word. Where that said yes the job has worked, and
-/// where it said no the job comes back.
+/// What a thread promises that is started with this job: it saw this start word. Where that said yes the job has
+/// worked, and where it said no the job comes back.
 #[derive(Drop)]
 pub struct Works<'s, J> {
     pub word: &'s OnceLock<bool>,

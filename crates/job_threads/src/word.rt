@@ -16,8 +16,8 @@ pub fn await_word<'s, R: Wait>(rt: &R, word: &'s OnceLock<bool>) -> OnceToken<'s
     unreachable!()
 }
 
-/// Says no, once nothing more is started. Those who wait for the word don't say it, so none was said before; where it had
-/// been yes, this would not return.
+/// Says no, once nothing more is started. Those who wait for the word don't say it, so none was said before; where it
+/// had been yes, this would not return.
 pub fn say_no<'s, R: Wait>(rt: &R, word: &'s OnceLock<bool>) -> OnceToken<'s, bool>
     ensures said { result.of ≡ word.now.id }
     ensures no { result.value ≡ false }

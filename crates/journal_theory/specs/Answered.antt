@@ -8,6 +8,7 @@ use Rattle.journal_theory.specs.Fate.{Effect, effect_of_decision}
 abbrev pub effect_answered : Settings → Journal → (answers : List Bool) → Opening → Option Effect
 effect_answered s past answers o = if are_answered (policies_for s (spans_since past o)) answers (spans_since past o) then Some (effect_of_decision (decision s past o answers)) else None
 
--- what the decision at this place of those at the journal's last item does by these answers, where an episode is due there, and there is one answer for each asking
+-- what the decision at this place of those at the journal's last item does by these answers, where an episode is due
+-- there, and there is one answer for each asking
 abbrev pub effect_answered_at : Settings → Journal → (place : ℕ) → (answers : List Bool) → Option Effect
 effect_answered_at s past place answers = option_and_then (effect_answered s past answers) (slice_get (due_now s past) place)

@@ -118,7 +118,8 @@ abbrev pub effect_of_decisions : List Decision → Effect
 effect_of_decisions [] = no_effect
 effect_of_decisions (d ∷ rest) = effect_of_decision d then effect_of_decisions rest
 
--- What a journal's items and decisions have done, in turn: released spans stand by releasing position, then opening, then arrival.
+-- What a journal's items and decisions have done, in turn: released spans stand by releasing position, then opening,
+-- then arrival.
 abbrev pub effect : Settings → Journal → Effect
 effect s [] = no_effect
 effect s (e ∷ before) = (effect s before then effect_of_taking s e before) then effect_of_decisions (decisions_now s (e ∷ before))

@@ -1,5 +1,6 @@
--- What a shard has done, looking back over the items that it has taken (tailsamplingprocessor README: `decision_wait`, `num_traces`, `decision_cache`, `maximum_trace_size_bytes`).
--- A journal is a list of entries, the newest first: the journal before an entry is the list behind it, whose length is the entry's position.
+-- What a shard has done, looking back over the items that it has taken (tailsamplingprocessor README: `decision_wait`,
+-- `num_traces`, `decision_cache`, `maximum_trace_size_bytes`). A journal is a list of entries, the newest first: the
+-- journal before an entry is the list behind it, whose length is the entry's position.
 use Rattle.std.specs.Prelude.{ℕ, zero, suc, ◌+◌, ◌-◌, max, Bool, true, false, not, ◌&&◌, ◌||◌, if◌then◌else◌, ◌==◌, nat_lt, nat_le, is_none, is_some, List, [], ◌∷◌, ◌++◌, reverse, length, take, slice_get, filter, find, Option, Some, None, option_map, ◌≡◌}
 use Rattle.std.specs.List.{list_any}
 use Rattle.trace_buffer.specs.Buffer.{are_of_root, is_too_big}
@@ -15,15 +16,17 @@ use Rattle.otlp_types.specs.declared.arrival.Item.TheVariants.{Span, Tick, End}
 use Rattle.span_ids.specs.declared.outcome.Verdict.{Verdict}
 use Rattle.span_ids.specs.declared.outcome.Verdict.TheVariants.{Sampled, NotSampled}
 
--- An item that a shard has taken, with its marks: memory was refused to the span itself, or to the put of the decision that its opening evicted.
--- With it stand the limiter's answers: for each decision at the item, in order, those to its askings, in the order in which the policies ask.
+-- An item that a shard has taken, with its marks: memory was refused to the span itself, or to the put of the decision
+-- that its opening evicted. With it stand the limiter's answers: for each decision at the item, in order, those to its
+-- askings, in the order in which the policies ask.
 pub record Entry : Type 0 where
   pub item : Item
   pub refused : Bool
   pub lost : Bool
   pub answers : List (List Bool)
 
--- the settings of a shard: times are milliseconds, a `root_wait` of 0 is off, a `limit` of None is no limit, and the greatest size of a trace is bytes, where 0 is none
+-- the settings of a shard: times are milliseconds, a `root_wait` of 0 is off, a `limit` of None is no limit, and the
+-- greatest size of a trace is bytes, where 0 is none
 pub record Settings : Type 0 where
   pub policies : Policies
   pub wait : ℕ
@@ -193,7 +196,8 @@ item_spans o at refused (Span a) = if nat_le o.at at && is_of_trace o.trace a &&
 item_spans o at refused (Tick m) = []
 item_spans o at refused (End sender) = []
 
--- the spans of the opening's trace, not refused, from the opening on, in order of arrival: the episode's, as long as it stands undecided in the buffer
+-- the spans of the opening's trace, not refused, from the opening on, in order of arrival: the episode's, as long as it
+-- stands undecided in the buffer
 abbrev pub spans_since : Journal → Opening → List Arrival
 spans_since [] o = []
 spans_since (e ∷ before) o = spans_since before o ++ item_spans o (length before) e.refused e.item
@@ -213,7 +217,8 @@ is_root_past root_wait now (e ∷ before) o = is_root_past root_wait now before 
 abbrev pub is_oversized : Settings → Journal → Opening → Bool
 is_oversized s past o = is_too_big s.maximum_size (spans_since past o)
 
--- whether an undecided episode is due at a tick, the journal's last item: it opened long enough before, or root wait is on and some root was taken long enough before, or it is too big
+-- whether an undecided episode is due at a tick, the journal's last item: it opened long enough before, or root wait is
+-- on and some root was taken long enough before, or it is too big
 abbrev pub is_due : Settings → Journal → Opening → Bool
 is_due s past o = nat_le (o.moment + s.wait) (clock past) || (nat_lt 0 s.root_wait && is_root_past s.root_wait (clock past) past o) || is_oversized s past o
 
@@ -241,7 +246,8 @@ policies_for s spans = if is_too_big s.maximum_size spans then no_more else s.po
 abbrev pub decision : Settings → Journal → Opening → (answers : List Bool) → Decision
 decision s past o answers = let spans = spans_since past o in record { opening = o; spans = spans; verdict = verdict_given (policies_for s spans) answers spans }
 
--- the decisions of these episodes, in order, each by its answers: as many as were given answers, the others are still to be decided
+-- the decisions of these episodes, in order, each by its answers: as many as were given answers, the others are still
+-- to be decided
 abbrev pub decisions_in_turn : Settings → Journal → List Opening → (answers : List (List Bool)) → List Decision
 decisions_in_turn s past [] answers = []
 decisions_in_turn s past (o ∷ rest) [] = []
@@ -310,7 +316,8 @@ abbrev pub decisions_now : Settings → Journal → List Decision
 decisions_now s [] = []
 decisions_now s (e ∷ before) = decisions_at s e before (after_item s e before e.item (notes s before))
 
--- the notes, where of the decisions at the last item the first `dealt` were dealt with, and the other episodes stand undecided
+-- the notes, where of the decisions at the last item the first `dealt` were dealt with, and the other episodes stand
+-- undecided
 abbrev pub notes_dealt : Settings → Journal → (dealt : ℕ) → Notes
 notes_dealt s [] dealt = no_notes
 notes_dealt s (e ∷ before) dealt = let noted = after_item s e before e.item (notes s before) in after_decisions (take dealt (decisions_at s e before noted)) noted

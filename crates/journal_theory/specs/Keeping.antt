@@ -70,7 +70,8 @@ after_entry s limit refused lost (Span a) st = after_span_in s limit refused los
 after_entry s limit refused lost (Tick m) st = record st { clock = max m st.clock; mark = max m st.clock }
 after_entry s limit refused lost (End sender) st = record st { ends = slice_set st.ends sender true }
 
--- For a limit of at least 1: once each decision was dealt with, what a shard holds after an item is computed from what it held before, and stands for the longer journal.
+-- For a limit of at least 1: once each decision was dealt with, what a shard holds after an item is computed from what
+-- it held before, and stands for the longer journal.
 abbrev pub KeepsStanding : Type 0
 KeepsStanding = (s : Settings) (limit : ℕ) (past : Journal) (dealt : ℕ) (e : Entry) → s.limit ≡ Some limit → 0 < limit → length (due_now s past) ≤ dealt → has_ids e.item ≡ true
     → standing s (e ∷ past) 0 ≡ after_entry s limit e.refused e.lost e.item (standing s past dealt)

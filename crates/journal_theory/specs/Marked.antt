@@ -1,4 +1,5 @@
--- Where a refusal of memory may stand in a journal: the marks that can apply to an item, and journals whose marks can apply.
+-- Where a refusal of memory may stand in a journal: the marks that can apply to an item, and journals whose marks can
+-- apply.
 use Rattle.std.specs.Prelude.{◌≡◌, nat_lt, Bool, true, false, not, ◌&&◌, ◌||◌, [], ◌∷◌, Option, Some, None, option_and_then}
 use Rattle.journal_theory.specs.Journal.{Settings, Journal, Entry, Opening, Notes, Finding, joins, meets, opens, notes, finding, leaving, decided_as, cache_size}
 use Rattle.otlp_types.specs.declared.span.Ids.{Ids}

@@ -12,7 +12,8 @@ use Rattle.journal_theory.specs.Journal.{Entry}
 use Rattle.span_ids.specs.declared.outcome.Verdict.{Verdict}
 use Rattle.span_ids.specs.declared.outcome.Verdict.TheVariants.{Sampled, NotSampled}
 
--- what a shard holds: episodes in order of opening; a cache's traces, the last touched first; whether each sender has ended
+-- what a shard holds: episodes in order of opening; a cache's traces, the last touched first; whether each sender has
+-- ended
 pub record Standing : Type 0 where
   pub episodes : List Episode
   pub sampled : List TraceId
@@ -74,7 +75,8 @@ abbrev pub ends : Journal → (senders : ℕ) → List Bool
 ends past zero = []
 ends past (suc n) = ends past n ++ has_ended past n ∷ []
 
--- what a shard holds that stands for the journal, where of the decisions at its last item the first `dealt` were dealt with
+-- what a shard holds that stands for the journal, where of the decisions at its last item the first `dealt` were dealt
+-- with
 abbrev pub standing : Settings → Journal → (dealt : ℕ) → Standing
 standing s past dealt =
     let noted = notes_dealt s past dealt in

@@ -29,8 +29,8 @@ pub fn root_wait_off()
     ensures { RootWaitOff }
 {}
 
-/// Some root of a trace was taken long enough ago exactly where its first one was, since the clock doesn't go back: so an
-/// episode keeps the clock at its first root alone.
+/// Some root of a trace was taken long enough ago exactly where its first one was, since the clock doesn't go back: so
+/// an episode keeps the clock at its first root alone.
 pub fn due_by_first_root()
     ensures { DueByFirstRoot }
 {}

@@ -16,8 +16,8 @@ use std::net::{Net, TcpListener};
 use std::sync::Wait;
 use std::time::Clock;
 
-/// So many reads a connection has at a turn: a request of a hundred kilobytes that is there is read at one turn, so that its
-/// memory serves the next one.
+/// So many reads a connection has at a turn: a request of a hundred kilobytes that is there is read at one turn, so
+/// that its memory serves the next one.
 const READS: usize = 16;
 
 /// One that has been idle for less isn't closed because too many files are open, in milliseconds.
@@ -37,8 +37,8 @@ enum Follows {
     Waits,
 }
 
-/// Drives a lane by the readiness of its connections, which it takes of a listener that doesn't block. Several lanes may share
-/// the listener: each connection goes to one of them.
+/// Drives a lane by the readiness of its connections, which it takes of a listener that doesn't block. Several lanes
+/// may share the listener: each connection goes to one of them.
 #[derive(Drop)]
 pub struct TurnDriver<'l, P: Stop> {
     alloc: Global,
@@ -177,8 +177,8 @@ impl<'l, P: Stop> TurnDriver<'l, P> {
         Follows::Do(Next::Leave { key, how })
     }
 
-    /// Takes a connection of the listener, unless as many as may be are open and none is idle. Where there is then one too many, the
-    /// one that has been idle longest leaves.
+    /// Takes a connection of the listener, unless as many as may be are open and none is idle. Where there is then one
+    /// too many, the one that has been idle longest leaves.
     fn take(&mut self, piece: &mut [u8]) -> Follows
         requires { 0 < length piece.old }
         ensures { (next : Next) → result ≡ Follows.Do next → FitsNext next (length piece.old) }
@@ -216,8 +216,8 @@ impl<'l, P: Stop> TurnDriver<'l, P> {
         self.make_room(piece, self.now.saturating_add(IDLE_LIMIT - GRACE))
     }
 
-    /// The connection that has been idle longest, and would be idle too long by this moment, leaves, unless bytes wait on it: then it
-    /// has its turn. Where there is none, none is taken for now.
+    /// The connection that has been idle longest, and would be idle too long by this moment, leaves, unless bytes wait
+    /// on it: then it has its turn. Where there is none, none is taken for now.
     fn make_room(&mut self, piece: &mut [u8], by: u64) -> Follows
         requires { 0 < length piece.old }
         ensures { (next : Next) → result ≡ Follows.Do next → FitsNext next (length piece.old) }

@@ -11,8 +11,8 @@ use std::alloc::Global;
 use std::collections::VecDeque;
 use std::sync::Arc;
 
-/// So long a lane leaves a new connection to the others for each connection that it has more than they, in milliseconds: they may
-/// be kept from looking at once by what else the processors do.
+/// So long a lane leaves a new connection to the others for each connection that it has more than they, in
+/// milliseconds: they may be kept from looking at once by what else the processors do.
 const PATIENCE: u64 = 8;
 
 /// And so long at most.
@@ -72,9 +72,9 @@ impl Links {
         self.slab.len() >= self.limit
     }
 
-    /// From when on a connection is taken that may wait since a moment: at once by the lane that has the fewest, and by those that
-    /// have an eighth more at most, so that the one that has least to do takes it; by another the sooner the fewer more it has. One
-    /// that has no room for it leaves it to the others for a while.
+    /// From when on a connection is taken that may wait since a moment: at once by the lane that has the fewest, and by
+    /// those that have an eighth more at most, so that the one that has least to do takes it; by another the sooner the
+    /// fewer more it has. One that has no room for it leaves it to the others for a while.
     pub fn takes_from(&self, since: u64) -> u64 {
         if self.is_at_limit() {
             return since.saturating_add(NAP);
@@ -151,7 +151,8 @@ impl Links {
         self.ready.len()
     }
 
-    /// The place and the key of the connection that has been idle longest, of those that would be idle too long by this moment.
+    /// The place and the key of the connection that has been idle longest, of those that would be idle too long by this
+    /// moment.
     pub fn idle_longest(&self, by: u64) -> Option<(usize, usize)> {
         let mut found = None;
         let mut least = by;

@@ -1,4 +1,5 @@
-//! How many connections each lane has, so that a new one goes to the lane that has the fewest, and what came and went on them.
+//! How many connections each lane has, so that a new one goes to the lane that has the fewest, and what came and went
+//! on them.
 use crate::traffic::Traffic;
 use std::alloc::{AllocError, Global};
 use std::sync::Arc;

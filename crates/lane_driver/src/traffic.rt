@@ -4,8 +4,8 @@ use std::sync::atomic::{AtomicU64, Ordering};
 /// How an answer begins, in front of its status (RFC 9112, section 4). No body has this text.
 const START: &[u8] = b"HTTP/1.1 ";
 
-/// Bytes that came and went, and how many requests were answered with each status. All lanes add to it, and numbers only grow. No
-/// contract rests on it.
+/// Bytes that came and went, and how many requests were answered with each status. All lanes add to it, and numbers
+/// only grow. No contract rests on it.
 #[derive(Drop)]
 pub struct Traffic {
     received: AtomicU64,
@@ -66,7 +66,8 @@ impl Traffic {
         self.sent.load(Ordering::Relaxed)
     }
 
-    /// How many answers had this status: 200, 400, 404, 405, 408, 413, 415, 431 or 503. Of another it is how many had none of these.
+    /// How many answers had this status: 200, 400, 404, 405, 408, 413, 415, 431 or 503. Of another it is how many had
+    /// none of these.
     pub fn answered(&self, status: u64) -> u64 {
         self.cell(status).load(Ordering::Relaxed)
     }

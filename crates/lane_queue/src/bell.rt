@@ -26,8 +26,8 @@ impl Bell {
         }
     }
 
-    /// The receiver found its queues empty. The first time it is to look again, since an item may have come before it said that
-    /// it waits; then it sleeps until it is woken.
+    /// The receiver found its queues empty. The first time it is to look again, since an item may have come before it
+    /// said that it waits; then it sleeps until it is woken.
     pub fn wait<R: Wait>(&self, rt: &R) {
         if self.state.load(Ordering::SeqCst) == AWAKE {
             self.state.store(WAITS, Ordering::SeqCst);

@@ -1,8 +1,8 @@
 //! Whether no more is to be taken for now.
 use std::sync::atomic::{AtomicU64, Ordering};
 
-/// Whether no more is to be taken for now, since memory is short. One thread tells it; lanes look at it, and shards where memory is
-/// shorter still. No contract rests on it.
+/// Whether no more is to be taken for now, since memory is short. One thread tells it; lanes look at it, and shards
+/// where memory is shorter still. No contract rests on it.
 #[derive(Drop)]
 pub struct Brake {
     state: AtomicU64,

@@ -1,5 +1,4 @@
--- To be read in this order: Numbers, Replies, Pushes (a lane); Lists, Lends (one thread).
-pub mod Lends
+-- To be read in this order: Numbers, Replies, Pushes (a lane); Lists (one thread).
 pub mod Lists
 pub mod Numbers
 pub mod Pushes

@@ -31,7 +31,8 @@ module _ {P : Type 0} (takes : P → Item → P → Type 0) (refuses : P → P �
   abbrev pub RefusesAt : (shard : ℕ) → (old new : List P) → Type 0
   RefusesAt shard old new = (before : P) × (after : P) × (slice_get old shard ≡ Some before) × refuses before after × (new ≡ slice_set old shard after)
 
-  -- an item is pushed to the port of its trace's shard; without valid ids it is not pushed; `refused` counts a push that was refused
+  -- an item is pushed to the port of its trace's shard; without valid ids it is not pushed; `refused` counts a push
+  -- that was refused
   abbrev pub PushesOne : Option Ids → Item → (old : List P) → (refused : ℕ) → (new : List P) → Type 0
   PushesOne None item old refused new = (refused ≡ 0) × (new ≡ old)
   PushesOne (Some ids) item old refused new =

@@ -1,5 +1,5 @@
 //! A lane: the one place at which the spans of its connections are numbered, routed and pushed.
-ghost use Rattle.std.specs.Prelude.{◌≡◌, ℕ, ◌+◌, ◌-◌, ◌^◌, ◌<◌, ◌≤◌, false, Some, length, slice_get, IsTrue};
+ghost use Rattle.std.specs.Prelude.{◌≡◌, ℕ, ◌+◌, ◌-◌, ◌^◌, ◌<◌, ◌≤◌, false, Some, length, IsTrue};
 ghost use Rattle.serde_json.specs.Data.{Data};
 ghost use Rattle.otlp_reading.specs.Decoding.{IsJson, IsNoJson, IsNoRequest};
 ghost use Rattle.otlp_reading.specs.Reading.{request_of};
@@ -54,9 +54,6 @@ pub struct LaneEnd<P> {
 }
 
 impl<P> Lane<P> {
-    ghost use Rattle.std.specs.Borrow.{sem};
-    ghost use Rattle.lane_seq.specs.Lends.{LendsPort};
-
     /// The lane of this number, with a port for each shard in their order, of which no connection has come yet. It
     /// discards doubles.
     pub fn new(number: u16, ports: Vec<P>) -> Self
@@ -77,7 +74,8 @@ impl<P> Lane<P> {
         }
     }
 
-    /// The lane, of which a request is answered [`Reply::Busy`] where a queue lacks room for its spans, if `asks_again`.
+    /// The lane, of which a request is answered [`Reply::Busy`] where a queue lacks room for its spans, if
+    /// `asks_again`.
     pub fn asking_again(self, asks_again: bool) -> Self
         ensures { result ≡ self }
     {
@@ -99,15 +97,6 @@ impl<P> Lane<P> {
         ensures { result ≡ self.now.connected }
     {
         self.connected
-    }
-
-    /// Lends the port to a shard.
-    pub fn port(&mut self, shard: usize) -> &mut P
-        requires { shard < length self.old.ports }
-        ensures* writes_back { sem 𝓛 (LendsPort P.row self.entry shard result) }
-        ensures port { slice_get self.old.ports shard ≡ Some result.now }
-    {
-        &mut self.ports[shard]
     }
 
     /// A new connection, of which no span has been received. Connections are numbered from 0. It takes no memory.
@@ -149,8 +138,8 @@ impl<P> Lane<P> {
 impl<P: Port<Item>> Lane<P> {
     /// Takes a request that came on a connection at a moment: its spans get the connection's next numbers, and each
     /// that has valid ids is pushed once, in document order, to the port of its route. After `BadData` and `Busy`
-    /// nothing was pushed and no number was used. A lane that is [`Lane::asking_again`] answers `Busy` where a queue lacks
-    /// room.
+    /// nothing was pushed and no number was used. A lane that is [`Lane::asking_again`] answers `Busy` where a queue
+    /// lacks room.
     pub fn submit(&mut self, alloc: Global, conn: &mut Conn, body: &[u8], moment: Moment) -> Reply
         ensures received { OnReceived result ((d : Data) × (request : Request) × IsJson body.now d
             × (request_of self.old.keeps_doubles d ≡ Some request)

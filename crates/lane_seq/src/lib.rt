@@ -1,6 +1,12 @@
 //! What a lane makes of a request: arrivals with their numbers and routes, pushes to the shards' queues, and a reply.
 //!
 //! A [`Lane`] has a port for each shard. It numbers its connections, and the spans that come on each of them.
+//!
+//! ```
+//! let mut lane = Lane::new(0, ports).keeping_doubles(true);
+//! let mut conn = lane.connect();
+//! let reply = lane.submit(alloc, &mut conn, body, moment);
+//! ```
 #![tactic(auto)]
 
 mod lane;

@@ -14,7 +14,8 @@ use Rattle.http_lane.specs.Turns.{Waiting, came_at, Turned, IsTurn, AwaitsBy}
 use Rattle.lane_turns.specs.declared.serving.Done.{Done}
 use Rattle.lane_turns.specs.declared.serving.Done.TheVariants.{Turned as HadTurn}
 
--- what a lane did: it took a connection, at a moment; or a connection had a turn, before and after which its next span had these numbers. Each names the connection by its number on the lane
+-- what a lane did: it took a connection, at a moment; or a connection had a turn, before and after which its next span
+-- had these numbers. Each names the connection by its number on the lane
 pub data Act : Type 0 where
   took : (ordinal moment : ℕ) → Act
   had : (ordinal before after : ℕ) → Turned → Act
@@ -44,7 +45,8 @@ pub record Numbered : Type 0 where
 abbrev pub numbered : Waiting → ℕ → Numbered
 numbered waiting next = record { waiting = waiting; next = next }
 
--- of these acts, those of one connection are turns of it: each follows the one before it, and numbers its spans where that one ended
+-- of these acts, those of one connection are turns of it: each follows the one before it, and numbers its spans where
+-- that one ended
 abbrev pub TurnsOf : (ordinal : ℕ) → Numbered → List Act → Numbered → Type 0
 TurnsOf ordinal c [] last = last ≡ c
 TurnsOf ordinal c (took j moment ∷ acts) last = MatchBool (j == ordinal) ⊥ (TurnsOf ordinal c acts last)
@@ -64,7 +66,8 @@ HasNone ordinal [] = Unit {0}
 HasNone ordinal (a ∷ acts) = ((of_act a == ordinal) ≡ false) × HasNone ordinal acts
 
 module _ {P : Type 0} (submits : Intake P → Submission → Intake P → Type 0) (number : ℕ) where
-  -- the lane took each connection as its next, and what the turns submitted went to it one after the other, each by its connection
+  -- the lane took each connection as its next, and what the turns submitted went to it one after the other, each by its
+  -- connection
   abbrev pub LaneDid : (old : LaneNow P) → List Act → (new : LaneNow P) → Type 0
   LaneDid old [] new = new ≡ old
   LaneDid old (took ordinal moment ∷ acts) new = (ordinal ≡ old.lane.connected) × LaneDid (lane_now (connected old.lane) old.counted) acts new
@@ -118,7 +121,8 @@ abbrev pub is_full_done : Done → Bool
 is_full_done (HadTurn key end due is_idle) = is_full_end end
 is_full_done _ = false
 
--- the lane and its open connections went on from here to there: whatever acts led here, these more led there, and `by` holds of them; the flag says whether the spans of some request of theirs found no place in the counts
+-- the lane and its open connections went on from here to there: whatever acts led here, these more led there, and `by`
+-- holds of them; the flag says whether the spans of some request of theirs found no place in the counts
 abbrev pub GoesOn : {P : Type 0} → (submits : Intake P → Submission → Intake P → Type 0) → (allowed : Allowed) → (old_open : (key : ℕ) → Option Exchange) → (old : LaneNow P) → (new_open : (key : ℕ) → Option Exchange) → (new : LaneNow P) → (is_full : Bool) → (by : (earlier more : List Act) → Type 0) → Type 0
 GoesOn {P} submits allowed old_open old new_open new is_full by = (number : ℕ) (first : LaneNow P) (acts : List Act) → Fits submits allowed number first old_open acts old
     → (more : List Act) × Fits submits allowed number first new_open (acts ++ more) new × (acts_uncounted more ≡ is_full) × by acts more
@@ -127,7 +131,8 @@ GoesOn {P} submits allowed old_open old new_open new is_full by = (number : ℕ)
 abbrev pub AllAwait : (allowed : Allowed) → (open_at : (key : ℕ) → Option Exchange) → Type 0
 AllAwait allowed open_at = (key : ℕ) (x : Exchange) → open_at key ≡ Some x → (w : Waiting) × AwaitsBy allowed Awaits x.engine w.reading
 
--- A lane served connections until each was over, unless a count would have passed 2^64-1 (the last flag): then it served no further. This was allowed to clients.
+-- A lane served connections until each was over, unless a count would have passed 2^64-1 (the last flag): then it
+-- served no further. This was allowed to clients.
 pub record ServesTurns {P : Type 0} (submits : Intake P → Submission → Intake P → Type 0) (allowed : Allowed) (old new : LaneNow P) (is_full : Bool) : Type 0 where
   pub acts : List Act
   pub open_at : (key : ℕ) → Option Exchange

@@ -32,7 +32,8 @@ coming_of Over = over
 coming_of ReadFailed = read_failed
 coming_of WriteFailed = write_failed
 
--- the connection had one turn, and no other had one. The turn was at this moment, brought what `brings` says, and wrote what `writes` says; the connection's run goes on by it, and ends so, if it does
+-- the connection had one turn, and no other had one. The turn was at this moment, brought what `brings` says, and wrote
+-- what `writes` says; the connection's run goes on by it, and ends so, if it does
 pub record HasTurn (allowed : Allowed) (earlier : List Act) (x : Exchange) (moment : ℕ) (brings : Coming → Type 0) (writes : List ℕ → Type 0) (end : Option ServeEnd) (acts : List Act) : Type 0 where
   pub after : ℕ
   pub turn : Turned
@@ -64,7 +65,8 @@ abbrev pub TakesOne : (old new : Table) → (moment : ℕ) → Option ℕ → Li
 TakesOne old new moment (Some key) acts = (x : Exchange) × (acts ≡ took x.conn.key.ordinal moment ∷ []) × (old key ≡ None) × (new key ≡ Some x) × KeepsOthers old new key
 TakesOne old new moment None acts = DoesNothing old new acts
 
--- the connection at the key ended because it had to leave, and no request was under way on it; or there is none such, and nothing was done
+-- the connection at the key ended because it had to leave, and no request was under way on it; or there is none such,
+-- and nothing was done
 abbrev pub Dismisses : (allowed : Allowed) → (old new : Table) → (key moment : ℕ) → Option ServeEnd → (earlier acts : List Act) → Type 0
 Dismisses allowed old new key moment end earlier acts =
     TurnAt allowed old new key moment (λ x. x.engine ≡ None) (λ coming. coming ≡ dismissed) (λ text. text ≡ []) end earlier acts
@@ -80,7 +82,8 @@ abbrev pub TellsTurn : (new : Table) → (key : ℕ) → Option ServeEnd → Don
 TellsTurn new key end done = (due : ℕ) × (done ≡ HadTurn key end due (is_idle_at (new key)))
 
 module _ (allowed : Allowed) (old new : Table) (earlier : List Act) where
-  -- the connection at the key had a turn that brought this, and what it wrote is to be sent; or there is none at the key
+  -- the connection at the key had a turn that brought this, and what it wrote is to be sent; or there is none at the
+  -- key
   abbrev pub HasTurnAt : (key moment : ℕ) → (brings : Coming → Type 0) → Done → (text : List ℕ) → (acts : List Act) → Type 0
   HasTurnAt key moment brings done text acts =
       ((end : Option ServeEnd) × TurnAt allowed old new key moment AnyOne brings (λ written. text ≡ written) end earlier acts × TellsTurn new key end done)
@@ -95,7 +98,8 @@ module _ (allowed : Allowed) (old new : Table) (earlier : List Act) where
   AsTold (Dismiss key) moment piece done text acts = (end : Option ServeEnd) × Dismisses allowed old new key moment end earlier acts × TellsTurn new key end done × (text ≡ [])
   AsTold End moment piece done text acts = DoesNothing old new acts × (done ≡ Nothing) × (text ≡ [])
 
--- one round of a lane and its driver: what the driver said, and was then; what was done, and the table and the lane then; what the driver was told, and was then
+-- one round of a lane and its driver: what the driver said, and was then; what was done, and the table and the lane
+-- then; what the driver was told, and was then
 pub record Round (D P : Type 0) : Type 0 where
   pub next : Next
   pub moment : ℕ
@@ -109,7 +113,8 @@ pub record Round (D P : Type 0) : Type 0 where
   pub told : D
 
 module _ {D P : Type 0} (asks : D → Next → ℕ → List ℕ → D → Type 0) (hears : D → Done → List ℕ → D → Type 0) (submits : Intake P → Submission → Intake P → Type 0) (allowed : Allowed) (first : LaneNow P) where
-  -- a round: the lane did what its driver said, and told it what came of that. Where the driver said to end, some connection was still open
+  -- a round: the lane did what its driver said, and told it what came of that. Where the driver said to end, some
+  -- connection was still open
   pub record IsRound (driver : D) (open_at : Table) (earlier : List Act) (r : Round D P) : Type 0 where
     pub said : asks driver r.next r.moment r.piece r.asked
     pub still_open : r.next ≡ End → (key : ℕ) × IsSome (open_at key)
@@ -117,7 +122,8 @@ module _ {D P : Type 0} (asks : D → Next → ℕ → List ℕ → D → Type 0
     pub fits : Fits submits allowed first.lane.number first r.open_at (earlier ++ r.acts) r.now
     pub heard : hears r.asked r.done r.text r.told
 
-  -- these rounds follow each other from here, up to where the driver says to end and no connection is open, or a count would have passed 2^64-1 (the last flag)
+  -- these rounds follow each other from here, up to where the driver says to end and no connection is open, or a count
+  -- would have passed 2^64-1 (the last flag)
   abbrev pub RunsFrom : (driver : D) → (open_at : Table) → (acts : List Act) → (now : LaneNow P) → List (Round D P) → (last : D) → (after : LaneNow P) → (is_full : Bool) → Type 0
   RunsFrom driver open_at acts now [] last after is_full =
       (moment : ℕ) × (piece : List ℕ) × asks driver End moment piece last × ((key : ℕ) → open_at key ≡ None) × (after ≡ now) × (is_full ≡ false)

@@ -45,8 +45,8 @@ pub enum Next {
 pub enum Done {
     /// The connection that was taken has this key; `None`: it can't be taken.
     Took(Option<usize>),
-    /// The connection at this key had a turn, and ends so, if it does. Else it is to be looked at by this moment, and is idle
-    /// where no request is under way.
+    /// The connection at this key had a turn, and ends so, if it does. Else it is to be looked at by this moment, and
+    /// is idle where no request is under way.
     Turned {
         key: usize,
         end: Option<ServeEnd>,
@@ -59,15 +59,16 @@ pub enum Done {
 
 /// What finds out which connections are ready, and when, and sends what is answered.
 pub trait Driver {
-    /// What one call of `next` does: the driver before it, what it said, with its moment and the bytes of the piece then, and the
-    /// driver after it.
+    /// What one call of `next` does: the driver before it, what it said, with its moment and the bytes of the piece
+    /// then, and the driver after it.
     ghost asks: { Self → Next → ℕ → List ℕ → Self → Type 0 };
 
-    /// What one call of `done` does: the driver before it, what it was told of what it had said, with what is to be sent, and the
-    /// driver after it.
+    /// What one call of `done` does: the driver before it, what it was told of what it had said, with what is to be
+    /// sent, and the driver after it.
     ghost hears: { Self → Done → List ℕ → Self → Type 0 };
 
-    /// What is to be done next, and its moment in milliseconds. Bytes that came lie at the front of the piece. It may wait.
+    /// What is to be done next, and its moment in milliseconds. Bytes that came lie at the front of the piece. It may
+    /// wait.
     fn next<R: Wait + Clock>(&mut self, rt: &R, piece: &mut [u8]) -> (Next, u64)
         requires { 0 < length piece.old }
         ensures fits { FitsNext result.0 (length piece.old) }
@@ -174,8 +175,8 @@ fn is_full(done: &Done) -> bool
     )
 }
 
-/// Serves connections as the driver says, until it says to end and none is open. It ends at once where a count would have
-/// passed 2^64-1, and says whether it did. `allowed`: what is allowed to clients.
+/// Serves connections as the driver says, until it says to end and none is open. It ends at once where a count would
+/// have passed 2^64-1, and says whether it did. `allowed`: what is allowed to clients.
 pub fn serve_turns<'l, D: Driver, P: Port<Item>, C: Counter, S: Stop, K: Moments, R: Wait + Clock>(
     rt: &R,
     lent: &Lent<'l, S, K>,

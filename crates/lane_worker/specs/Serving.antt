@@ -1,4 +1,5 @@
--- What a lane's thread did: the connections that its feed gave were served, one after the other; or many at once, turn by turn.
+-- What a lane's thread did: the connections that its feed gave were served, one after the other; or many at once, turn
+-- by turn.
 use Rattle.std.specs.Prelude.{◌≡◌, ◌⊎◌, ℕ, ◌-◌, ◌^◌, ◌<◌, Bool, true, false, MatchBool, List, [], ◌∷◌, Option, Some, None}
 use Rattle.otlp_types.specs.declared.arrival.Item.{Item}
 use Rattle.otlp_types.specs.declared.arrival.Item.TheVariants.{End}
@@ -42,7 +43,8 @@ module _ {F X : Type 0} (gives : F → Option X → F → Type 0) (known : X →
   abbrev pub Exhausts : (old : F) → (before : LaneAt) → (new : F) → Type 0
   Exhausts old before new = gives old None new ⊎ ((before.lane.connected ≡ 2 ^ 64 - 1) × (new ≡ old))
 
-  -- the feed gave these connections, one after the other, and each was served; it was asked until it gave nothing, unless a count would have passed 2^64-1
+  -- the feed gave these connections, one after the other, and each was served; it was asked until it gave nothing,
+  -- unless a count would have passed 2^64-1
   abbrev pub ServesAll : List X → (old : F) → (before : LaneAt) → (new : F) → (after : LaneAt) → (is_full : Bool) → Type 0
   ServesAll [] old before new after is_full = Exhausts old before new × (after ≡ before) × (is_full ≡ false)
   ServesAll (x ∷ rest) old before new after is_full = (feed : F) × (lane : LaneAt) × (end : ServeEnd)

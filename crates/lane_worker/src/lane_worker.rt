@@ -88,8 +88,9 @@ fn end_all<'r, C: Room, R: Wait + Clock>(
     senders
 }
 
-/// Serves what the feed gives until it gives nothing, one connection after the other, and says whether a count would have
-/// passed 2^64-1. After 2^64-1 connections, or once a count would have passed that, no further connection is asked for.
+/// Serves what the feed gives until it gives nothing, one connection after the other, and says whether a count would
+/// have passed 2^64-1. After 2^64-1 connections, or once a count would have passed that, no further connection is asked
+/// for.
 pub(crate) fn serve_all<
     'l,
     'r,

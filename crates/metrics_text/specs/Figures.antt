@@ -8,7 +8,8 @@ use Rattle.metrics_text.specs.declared.figure.Figure.{Figure}
 use Rattle.metrics_text.specs.declared.figure.Figure.TheVariants.{SpansWaiting, ReceivedBytes, SentBytes, Lines, OutputBytes, Memory, Answered200, Answered400, Answered404, Answered405, Answered408, Answered413, Answered415, Answered431, Answered503, LateSampled, LateNotSampled, Rejected, AttemptsTaken, AttemptsRefused, AttemptsUnanswered}
 use Rattle.metrics_text.specs.Families.{word_of, head_lines, sample, sample_line}
 
--- what is told of a number: its name, what its family's head says, where it is the first of it and else nothing, the family's kind, and its labels
+-- what is told of a number: its name, what its family's head says, where it is the first of it and else nothing, the
+-- family's kind, and its labels
 pub record FigureRow : Type 0 where
   pub name : List ℕ
   pub help : List ℕ

@@ -54,7 +54,8 @@ pub enum Figure {
 }
 
 impl Figure {
-    /// Its name, the help of its family, where it is the first of it and else nothing, the family's kind, and its labels.
+    /// Its name, the help of its family, where it is the first of it and else nothing, the family's kind, and its
+    /// labels.
     pub fn row(self) -> (&'static str, &'static str, FamilyKind, &'static str)
         ensures name { result.0.now ≡ (spec.figure_row self).name }
         ensures help { result.1.now ≡ (spec.figure_row self).help }

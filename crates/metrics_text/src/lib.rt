@@ -1,6 +1,10 @@
 //! The numbers of a collector as a text that Prometheus reads (its text format, version 0.0.4).
 //!
 //! [`metrics_text`] is the whole of it; its bytes are those of `specs/Text`.
+//!
+//! ```
+//! let text = metrics_text(alloc, &metrics, &policies, &shards)?;
+//! ```
 #![tactic(auto)]
 
 mod deciders;

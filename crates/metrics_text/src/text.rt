@@ -278,8 +278,8 @@ fn put_shards(text: &mut String, shards: &[ShardNumbers]) -> Result<(), AllocErr
     Ok(())
 }
 
-/// The text of these numbers: a few lines for each family, in the order of `families`, then of `all_figures`, then that of
-/// what the policies decided, and then those of `all_shard_figures`. Each line ends with a line feed.
+/// The text of these numbers: a few lines for each family, in the order of `families`, then of `all_figures`, then that
+/// of what the policies decided, and then those of `all_shard_figures`. Each line ends with a line feed.
 pub fn metrics_text(
     alloc: Global,
     metrics: &Metrics,

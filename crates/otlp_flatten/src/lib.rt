@@ -4,6 +4,11 @@
 //! neighbours of equal resource and resource schema URL one `ResourceSpans`, and in it neighbours of equal scope and
 //! scope schema URL one `ScopeSpans`. There is one such request for each list of records, as
 //! [`grouping_is_unique`] says.
+//!
+//! ```
+//! let mut records = flatten(alloc, request)?;
+//! let grouped = group(alloc, records.as_mut_slice())?;
+//! ```
 #![tactic(auto)]
 
 mod grouping;

@@ -8,9 +8,11 @@ use otlp_types::{
 };
 use std::alloc::{AllocError, Global};
 
-/// The spans of a request in document order: resource, scope, span (`trace.proto` v1). `Err` only where memory was refused.
+/// The spans of a request in document order: resource, scope, span (`trace.proto` v1). `Err` only where memory was
+/// refused.
 ///
-/// Room for all of them is taken once, at the start. Each span is moved into memory of its own; spans of one resource, or of one scope, share it.
+/// Room for all of them is taken once, at the start. Each span is moved into memory of its own; spans of one resource,
+/// or of one scope, share it.
 pub fn flatten(alloc: Global, request: Request) -> Result<Vec<Record>, AllocError>
     ensures { IfOk result (λ records. records.items ≡ records_of request) }
 {

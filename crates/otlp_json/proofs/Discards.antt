@@ -17,7 +17,6 @@ use Rattle.otlp_types.specs.declared.request.Scope.{Scope}
 use Rattle.otlp_types.specs.declared.request.ScopeSpans.{ScopeSpans}
 use Rattle.otlp_types.specs.declared.request.ResourceSpans.{ResourceSpans}
 use Rattle.otlp_types.specs.declared.request.Request.{Request}
-use Rattle.otlp_types.specs.Doubles.{is_kept}
 use Rattle.otlp_reading.specs.declared.value.ValueKey.{ValueKey}
 use Rattle.otlp_reading.specs.declared.value.ValueKey.TheVariants as key
 use Rattle.otlp_reading.specs.Kinds.{◌>>=◌, field, text, u32, u64, enum, read_or, items, each, list_of, message, inner, i64_value}
@@ -192,11 +191,7 @@ plain make none None = none_follows (less holds_double) None
 plain make none (Some x) = some_follows (less holds_double) (Some (make x)) (Some (make x)) (sym (less_none holds_double (make x) (none x)))
 
 kept_double_less : (x : Float) → None ≡ less holds_double (kept_double x)
-kept_double_less x = by (is_kept x)
-  where
-    by : (b : Bool) → None ≡ less holds_double (cond b (Some (Double x)) None)
-    by true = rw (holds-Double x) refl
-    by false = refl
+kept_double_less x = rw (holds-Double x) refl
 
 double_follows : (o : Option Float) → Follows (less holds_double) (option_map kept_double o) (Some None)
 double_follows None = none_follows (less holds_double) (Some None)

@@ -9,5 +9,5 @@ pub mod MessagesBack
 pub mod Adding
 pub mod Encoding
 pub mod Depth
-mod Names
+pub mod Names
 pub mod Discards

@@ -21,8 +21,8 @@ use Rattle.otlp_types.specs.declared.request.ResourceSpans.{ResourceSpans}
 use Rattle.otlp_types.specs.declared.request.Request.{Request}
 use Rattle.span_ids.specs.Id.{id_of, id_text}
 use Rattle.otlp_reading.specs.Kinds.{field, text, u32, u64, enum, list_of, message, inner}
-use Rattle.otlp_reading.specs.Reading.{parent_of, valid_ids, ids, status}
-use Rattle.otlp_json.specs.Kept.{attributes, event, link, span, resource, scope, scope_spans, resource_spans, request}
+use Rattle.otlp_reading.specs.Reading.{parent_of, valid_ids, ids, status, event, link, span, resource, scope, scope_spans, resource_spans, request}
+use Rattle.otlp_json.specs.Kept.{attributes}
 use Rattle.otlp_json.specs.Writing.{Table, fields, text_field, u32_field, u64_field, enum_field, trace_field, span_field, parent_field, status_fields, event_fields, link_fields, span_fields, resource_fields, scope_fields, scope_spans_fields, resource_spans_fields, request_fields, status_table, event_table, link_table, span_table, resource_table, scope_table, scope_spans_table, resource_spans_table, request_table}
 use Rattle.otlp_json.specs.ReadsBack.{PairReadsBack, ReadsBack, StatusReadsBack, EventReadsBack, LinkReadsBack, TraceReadsBack, IdReadsBack, OptionalIdReadsBack, ParentReadsBack, CountsReadBack, HeadReadsBack, TailReadsBack}
 use Rattle.otlp_reading.proofs.Spans.{SpanFields, span_of}
@@ -56,11 +56,11 @@ event-is : (e : Event) → AllByRecursion PairReadsBack e.attributes → e.dropp
 event-is e all dropped = (refl, pairs_field-is e.attributes all, (refl, u32_field-present _ dropped, (refl, text_field-present e.name, (refl, u64_field-present _, tt))))
 
 event_of : (e : Event) (ms : Members) → u64 (field (codes "timeUnixNano") ms) ≡ Some e.time_unix_nano → text (field (codes "name") ms) ≡ Some e.name
-    → attributes ms ≡ Some (e.attributes, e.dropped_attributes_count) → event ms ≡ Some e
+    → attributes ms ≡ Some (e.attributes, e.dropped_attributes_count) → event true ms ≡ Some e
 event_of e ms time name all = rw (time, name, all)
 
 pub event-back : (e : Event) → AllByRecursion PairReadsBack e.attributes → e.dropped_attributes_count < 2 ^ 32 → e.time_unix_nano < 2 ^ 64 → EventReadsBack e
-event-back e all dropped time = reads-back event_fields event e (event_table e) refl refl (event-is e all dropped) (λ t h. event_of e (fields (event_table e))
+event-back e all dropped time = reads-back event_fields (event true) e (event_table e) refl refl (event-is e all dropped) (λ t h. event_of e (fields (event_table e))
     (at u64 (codes "timeUnixNano") (event_table e) (u64_field e.time_unix_nano) e.time_unix_nano t refl (u64-back e.time_unix_nano time))
     (at text (codes "name") (event_table e) (text_field e.name) e.name t refl (text-back e.name))
     (attributes-at e.attributes e.dropped_attributes_count (event_table e) all dropped t h refl refl))
@@ -70,11 +70,11 @@ link-is l all dropped flags =
     (refl, pairs_field-is l.attributes all, (refl, u32_field-present _ dropped, (refl, u32_field-present _ flags, (refl, text_field-present l.span_id, (refl, text_field-present l.trace_id, (refl, text_field-present l.trace_state, tt))))))
 
 link_of : (l : Link) (ms : Members) → text (field (codes "traceId") ms) ≡ Some l.trace_id → text (field (codes "spanId") ms) ≡ Some l.span_id
-    → text (field (codes "traceState") ms) ≡ Some l.trace_state → attributes ms ≡ Some (l.attributes, l.dropped_attributes_count) → u32 (field (codes "flags") ms) ≡ Some l.flags → link ms ≡ Some l
+    → text (field (codes "traceState") ms) ≡ Some l.trace_state → attributes ms ≡ Some (l.attributes, l.dropped_attributes_count) → u32 (field (codes "flags") ms) ≡ Some l.flags → link true ms ≡ Some l
 link_of l ms trace span state all flags = rw (trace, span, state, all, flags)
 
 pub link-back : (l : Link) → AllByRecursion PairReadsBack l.attributes → l.dropped_attributes_count < 2 ^ 32 → l.flags < 2 ^ 32 → LinkReadsBack l
-link-back l all dropped flags = reads-back link_fields link l (link_table l) refl refl (link-is l all dropped flags) (λ t h. link_of l (fields (link_table l))
+link-back l all dropped flags = reads-back link_fields (link true) l (link_table l) refl refl (link-is l all dropped flags) (λ t h. link_of l (fields (link_table l))
     (at text (codes "traceId") (link_table l) (text_field l.trace_id) l.trace_id t refl (text-back l.trace_id))
     (at text (codes "spanId") (link_table l) (text_field l.span_id) l.span_id t refl (text-back l.span_id))
     (at text (codes "traceState") (link_table l) (text_field l.trace_state) l.trace_state t refl (text-back l.trace_state))
@@ -178,7 +178,7 @@ span-is s counts head tail = (
           u64_field-present _,
           (
             refl,
-            list-present event event_fields s.events head.events,
+            list-present (event true) event_fields s.events head.events,
             (
               refl,
               u32_field-present _ head.flags,
@@ -187,7 +187,7 @@ span-is s counts head tail = (
                 enum_field-present s.kind head.kind,
                 (
                   refl,
-                  list-present link link_fields s.links tail.links,
+                  list-present (link true) link_fields s.links tail.links,
                   (
                     refl,
                     text_field-present s.name,
@@ -235,73 +235,73 @@ span_fields-are s counts head tail h =
       start = at u64 (codes "startTimeUnixNano") (span_table s) (u64_field s.start_time_unix_nano) s.start_time_unix_nano t refl (u64-back s.start_time_unix_nano tail.start);
       end = at u64 (codes "endTimeUnixNano") (span_table s) (u64_field s.end_time_unix_nano) s.end_time_unix_nano t refl (u64-back s.end_time_unix_nano head.end);
       all = attributes-at s.attributes s.dropped_attributes_count (span_table s) counts.attributes counts.dropped_attributes t h refl refl;
-      events = list-at event event_fields s.events (codes "events") (span_table s) head.events t h refl;
+      events = list-at (event true) event_fields s.events (codes "events") (span_table s) head.events t h refl;
       dropped_events = at u32 (codes "droppedEventsCount") (span_table s) (u32_field s.dropped_events_count) s.dropped_events_count t refl (u32-back s.dropped_events_count counts.dropped_events);
-      links = list-at link link_fields s.links (codes "links") (span_table s) tail.links t h refl;
+      links = list-at (link true) link_fields s.links (codes "links") (span_table s) tail.links t h refl;
       dropped_links = at u32 (codes "droppedLinksCount") (span_table s) (u32_field s.dropped_links_count) s.dropped_links_count t refl (u32-back s.dropped_links_count counts.dropped_links);
       status = inner-at status status_fields s.status (codes "status") (span_table s) tail.status t h refl;
     }
 
-pub span-back : (s : Span) → CountsReadBack s → HeadReadsBack s → TailReadsBack s → ReadsBack span_fields span s
-span-back s counts head tail = reads-back span_fields span s (span_table s) refl refl (span-is s counts head tail) (λ _ h. span_of true s (fields (span_table s)) (span_fields-are s counts head tail h))
+pub span-back : (s : Span) → CountsReadBack s → HeadReadsBack s → TailReadsBack s → ReadsBack span_fields (span true) s
+span-back s counts head tail = reads-back span_fields (span true) s (span_table s) refl refl (span-is s counts head tail) (λ _ h. span_of true s (fields (span_table s)) (span_fields-are s counts head tail h))
 
 -- ---- the request
 
 resource-is : (r : Resource) → AllByRecursion PairReadsBack r.attributes → r.dropped_attributes_count < 2 ^ 32 → IsTable (resource_table r)
 resource-is r all dropped = (refl, pairs_field-is r.attributes all, (refl, u32_field-present _ dropped, tt))
 
-resource_of : (r : Resource) (ms : Members) → attributes ms ≡ Some (r.attributes, r.dropped_attributes_count) → resource ms ≡ Some r
+resource_of : (r : Resource) (ms : Members) → attributes ms ≡ Some (r.attributes, r.dropped_attributes_count) → resource true ms ≡ Some r
 resource_of r ms all = rw all
 
-pub resource-back : (r : Resource) → AllByRecursion PairReadsBack r.attributes → r.dropped_attributes_count < 2 ^ 32 → ReadsBack resource_fields resource r
-resource-back r all dropped = reads-back resource_fields resource r (resource_table r) refl refl (resource-is r all dropped) (λ t h. resource_of r (fields (resource_table r)) (attributes-at r.attributes r.dropped_attributes_count (resource_table r) all dropped t h refl refl))
+pub resource-back : (r : Resource) → AllByRecursion PairReadsBack r.attributes → r.dropped_attributes_count < 2 ^ 32 → ReadsBack resource_fields (resource true) r
+resource-back r all dropped = reads-back resource_fields (resource true) r (resource_table r) refl refl (resource-is r all dropped) (λ t h. resource_of r (fields (resource_table r)) (attributes-at r.attributes r.dropped_attributes_count (resource_table r) all dropped t h refl refl))
 
 scope-is : (s : Scope) → AllByRecursion PairReadsBack s.attributes → s.dropped_attributes_count < 2 ^ 32 → IsTable (scope_table s)
 scope-is s all dropped = (refl, pairs_field-is s.attributes all, (refl, u32_field-present _ dropped, (refl, text_field-present s.name, (refl, text_field-present s.version, tt))))
 
 scope_of : (s : Scope) (ms : Members) → text (field (codes "name") ms) ≡ Some s.name → text (field (codes "version") ms) ≡ Some s.version
-    → attributes ms ≡ Some (s.attributes, s.dropped_attributes_count) → scope ms ≡ Some s
+    → attributes ms ≡ Some (s.attributes, s.dropped_attributes_count) → scope true ms ≡ Some s
 scope_of s ms name version all = rw (name, version, all)
 
-pub scope-back : (s : Scope) → AllByRecursion PairReadsBack s.attributes → s.dropped_attributes_count < 2 ^ 32 → ReadsBack scope_fields scope s
-scope-back s all dropped = reads-back scope_fields scope s (scope_table s) refl refl (scope-is s all dropped) (λ t h. scope_of s (fields (scope_table s))
+pub scope-back : (s : Scope) → AllByRecursion PairReadsBack s.attributes → s.dropped_attributes_count < 2 ^ 32 → ReadsBack scope_fields (scope true) s
+scope-back s all dropped = reads-back scope_fields (scope true) s (scope_table s) refl refl (scope-is s all dropped) (λ t h. scope_of s (fields (scope_table s))
     (at text (codes "name") (scope_table s) (text_field s.name) s.name t refl (text-back s.name))
     (at text (codes "version") (scope_table s) (text_field s.version) s.version t refl (text-back s.version))
     (attributes-at s.attributes s.dropped_attributes_count (scope_table s) all dropped t h refl refl))
 
-scope_spans-is : (g : ScopeSpans) → ReadsBack scope_fields scope g.scope → AllByRecursion (ReadsBack span_fields span) g.spans → IsTable (scope_spans_table g)
-scope_spans-is g s all = (refl, text_field-present g.schema_url, (refl, inner-present scope scope_fields g.scope s, (refl, list-present span span_fields g.spans all, tt)))
+scope_spans-is : (g : ScopeSpans) → ReadsBack scope_fields (scope true) g.scope → AllByRecursion (ReadsBack span_fields (span true)) g.spans → IsTable (scope_spans_table g)
+scope_spans-is g s all = (refl, text_field-present g.schema_url, (refl, inner-present (scope true) scope_fields g.scope s, (refl, list-present (span true) span_fields g.spans all, tt)))
 
-scope_spans_of : (g : ScopeSpans) (ms : Members) → inner scope (field (codes "scope") ms) ≡ Some g.scope → list_of (message span) (field (codes "spans") ms) ≡ Some g.spans
-    → text (field (codes "schemaUrl") ms) ≡ Some g.schema_url → scope_spans ms ≡ Some g
+scope_spans_of : (g : ScopeSpans) (ms : Members) → inner (scope true) (field (codes "scope") ms) ≡ Some g.scope → list_of (message (span true)) (field (codes "spans") ms) ≡ Some g.spans
+    → text (field (codes "schemaUrl") ms) ≡ Some g.schema_url → scope_spans true ms ≡ Some g
 scope_spans_of g ms s all url = rw (s, all, url)
 
-pub scope_spans-back : (g : ScopeSpans) → ReadsBack scope_fields scope g.scope → AllByRecursion (ReadsBack span_fields span) g.spans → ReadsBack scope_spans_fields scope_spans g
-scope_spans-back g s all = reads-back scope_spans_fields scope_spans g (scope_spans_table g) refl refl (scope_spans-is g s all) (λ t h. scope_spans_of g (fields (scope_spans_table g))
-    (inner-at scope scope_fields g.scope (codes "scope") (scope_spans_table g) s t h refl)
-    (list-at span span_fields g.spans (codes "spans") (scope_spans_table g) all t h refl)
+pub scope_spans-back : (g : ScopeSpans) → ReadsBack scope_fields (scope true) g.scope → AllByRecursion (ReadsBack span_fields (span true)) g.spans → ReadsBack scope_spans_fields (scope_spans true) g
+scope_spans-back g s all = reads-back scope_spans_fields (scope_spans true) g (scope_spans_table g) refl refl (scope_spans-is g s all) (λ t h. scope_spans_of g (fields (scope_spans_table g))
+    (inner-at (scope true) scope_fields g.scope (codes "scope") (scope_spans_table g) s t h refl)
+    (list-at (span true) span_fields g.spans (codes "spans") (scope_spans_table g) all t h refl)
     (at text (codes "schemaUrl") (scope_spans_table g) (text_field g.schema_url) g.schema_url t refl (text-back g.schema_url)))
 
-resource_spans-is : (g : ResourceSpans) → ReadsBack resource_fields resource g.resource → AllByRecursion (ReadsBack scope_spans_fields scope_spans) g.scope_spans → IsTable (resource_spans_table g)
+resource_spans-is : (g : ResourceSpans) → ReadsBack resource_fields (resource true) g.resource → AllByRecursion (ReadsBack scope_spans_fields (scope_spans true)) g.scope_spans → IsTable (resource_spans_table g)
 resource_spans-is g r all =
-    (refl, inner-present resource resource_fields g.resource r, (refl, text_field-present g.schema_url, (refl, list-present scope_spans scope_spans_fields g.scope_spans all, tt)))
+    (refl, inner-present (resource true) resource_fields g.resource r, (refl, text_field-present g.schema_url, (refl, list-present (scope_spans true) scope_spans_fields g.scope_spans all, tt)))
 
-resource_spans_of : (g : ResourceSpans) (ms : Members) → inner resource (field (codes "resource") ms) ≡ Some g.resource → list_of (message scope_spans) (field (codes "scopeSpans") ms) ≡ Some g.scope_spans
-    → text (field (codes "schemaUrl") ms) ≡ Some g.schema_url → resource_spans ms ≡ Some g
+resource_spans_of : (g : ResourceSpans) (ms : Members) → inner (resource true) (field (codes "resource") ms) ≡ Some g.resource → list_of (message (scope_spans true)) (field (codes "scopeSpans") ms) ≡ Some g.scope_spans
+    → text (field (codes "schemaUrl") ms) ≡ Some g.schema_url → resource_spans true ms ≡ Some g
 resource_spans_of g ms r all url = rw (r, all, url)
 
-pub resource_spans-back : (g : ResourceSpans) → ReadsBack resource_fields resource g.resource → AllByRecursion (ReadsBack scope_spans_fields scope_spans) g.scope_spans
-    → ReadsBack resource_spans_fields resource_spans g
-resource_spans-back g r all = reads-back resource_spans_fields resource_spans g (resource_spans_table g) refl refl (resource_spans-is g r all) (λ t h. resource_spans_of g (fields (resource_spans_table g))
-    (inner-at resource resource_fields g.resource (codes "resource") (resource_spans_table g) r t h refl)
-    (list-at scope_spans scope_spans_fields g.scope_spans (codes "scopeSpans") (resource_spans_table g) all t h refl)
+pub resource_spans-back : (g : ResourceSpans) → ReadsBack resource_fields (resource true) g.resource → AllByRecursion (ReadsBack scope_spans_fields (scope_spans true)) g.scope_spans
+    → ReadsBack resource_spans_fields (resource_spans true) g
+resource_spans-back g r all = reads-back resource_spans_fields (resource_spans true) g (resource_spans_table g) refl refl (resource_spans-is g r all) (λ t h. resource_spans_of g (fields (resource_spans_table g))
+    (inner-at (resource true) resource_fields g.resource (codes "resource") (resource_spans_table g) r t h refl)
+    (list-at (scope_spans true) scope_spans_fields g.scope_spans (codes "scopeSpans") (resource_spans_table g) all t h refl)
     (at text (codes "schemaUrl") (resource_spans_table g) (text_field g.schema_url) g.schema_url t refl (text-back g.schema_url)))
 
-request-is : (q : Request) → AllByRecursion (ReadsBack resource_spans_fields resource_spans) q.resource_spans → IsTable (request_table q)
-request-is q all = (refl, list-present resource_spans resource_spans_fields q.resource_spans all, tt)
+request-is : (q : Request) → AllByRecursion (ReadsBack resource_spans_fields (resource_spans true)) q.resource_spans → IsTable (request_table q)
+request-is q all = (refl, list-present (resource_spans true) resource_spans_fields q.resource_spans all, tt)
 
-request_from : (q : Request) (ms : Members) → list_of (message resource_spans) (field (codes "resourceSpans") ms) ≡ Some q.resource_spans → request ms ≡ Some q
+request_from : (q : Request) (ms : Members) → list_of (message (resource_spans true)) (field (codes "resourceSpans") ms) ≡ Some q.resource_spans → request true ms ≡ Some q
 request_from q ms all = rw all
 
-pub request-back : (q : Request) → AllByRecursion (ReadsBack resource_spans_fields resource_spans) q.resource_spans → ReadsBack request_fields request q
-request-back q all = reads-back request_fields request q (request_table q) refl refl (request-is q all) (λ t h. request_from q (fields (request_table q)) (list-at resource_spans resource_spans_fields q.resource_spans (codes "resourceSpans") (request_table q) all t h refl))
+pub request-back : (q : Request) → AllByRecursion (ReadsBack resource_spans_fields (resource_spans true)) q.resource_spans → ReadsBack request_fields (request true) q
+request-back q all = reads-back request_fields (request true) q (request_table q) refl refl (request-is q all) (λ t h. request_from q (fields (request_table q)) (list-at (resource_spans true) resource_spans_fields q.resource_spans (codes "resourceSpans") (request_table q) all t h refl))

@@ -1,5 +1,5 @@
 -- What stands for a double.
--- For the contracts of `name` and `double`.
+-- For the contracts of `double_name` and `double`.
 use Rattle.std.proofs.Common.{◌≡◌, codes, true, false, [], ◌∷◌, refl}
 use lib.Ieee.{is_nan}
 use Rattle.std.specs.Float.{Float, nan, inf, fin, float_is_finite, is_sign_negative}

@@ -4,6 +4,12 @@
 //! field, and refuses them only where there is no such value or no such request; [`encode`] writes the canonical
 //! text, which reads as the request again. No contract says that they succeed where there is memory enough: the tests
 //! call both so.
+//!
+//! ```
+//! let request = decode(alloc, true, br#"{"resourceSpans":[]}"#)?;
+//! let text = encode(alloc, &request)?;
+//! assert!(text.as_slice() == b"{}");
+//! ```
 #![tactic(auto)]
 
 ghost use Rattle.std.specs.Prelude.{◌≡◌, ◌≤◌, true, false, IfOk, IsErrOf, Some};
@@ -25,6 +31,7 @@ use otlp_stream::plain_request;
 use otlp_types::Request;
 use std::alloc::{AllocError, Global};
 use writing::Written;
+pub use writing::{double_name, is_set};
 
 /// The room that a text takes at first, in bytes.
 const ROOM: usize = 4096;

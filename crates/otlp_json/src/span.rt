@@ -1,7 +1,6 @@
 //! Spans and what they hold, written.
-ghost use Rattle.std.specs.Prelude.{◌≡◌, IfOk, OnOk, codes};
-ghost use Rattle.otlp_reading.specs.Reading.{status};
-ghost use Rattle.otlp_json.specs.Kept.{span};
+ghost use Rattle.std.specs.Prelude.{◌≡◌, IfOk, OnOk, codes, true};
+ghost use Rattle.otlp_reading.specs.Reading.{status, span};
 ghost use Rattle.otlp_json.specs.Tokens.{Adds, AddsField, span_counts, span_head, span_tail};
 ghost use Rattle.otlp_json.specs.Writing.{trace_field, span_field, parent_field, status_fields, event_fields, link_fields, span_fields, message_field};
 ghost use Rattle.otlp_json.specs.ReadsBack.{ReadsBack, StatusReadsBack, EventReadsBack, LinkReadsBack, TraceReadsBack, IdReadsBack, ParentReadsBack, CountsReadBack, HeadReadsBack, TailReadsBack};
@@ -121,7 +120,7 @@ impl Written for Link {
 impl Written for Span {
     ghost fields = { span_fields };
 
-    ghost reads_back = { ReadsBack span_fields span };
+    ghost reads_back = { ReadsBack span_fields (span true) };
 
     fn write(&self, alloc: Global, out: &mut Writer) -> Result<(), AllocError> {
         out.begin_object()?;

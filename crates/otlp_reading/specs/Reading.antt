@@ -1,5 +1,5 @@
--- The request that a JSON value is, field by field (OTLP 1.x, the JSON encoding of `ExportTraceServiceRequest`).
--- The outer Option is the reading: None is a value of another shape. An Option inside is part of what is read: a discarded
+-- The request that a JSON value is, field by field (OTLP 1.x, the JSON encoding of `ExportTraceServiceRequest`). The
+-- outer Option is the reading: None is a value of another shape. An Option inside is part of what is read: a discarded
 -- value, a root, invalid ids.
 use Rattle.std.specs.Prelude.{◌≡◌, ℕ, zero, suc, ◌≤◌, ◌+◌, ◌-◌, ◌^◌, min, List, [], ◌∷◌, ◌++◌, length, codes, ◌==◌, ◌||◌, if◌then◌else◌, count_by, is_none, Bool, true, false, Option, Some, None, option_map, Bool}
 use Rattle.std.specs.Float.{Float}
@@ -11,7 +11,7 @@ use Rattle.serde_json.specs.Data.{Data, null, boolean, number, string, array, ob
 use Rattle.serde_json.specs.Read.{number_of}
 use Rattle.serde_json.specs.Find.{as_bool, as_str, to_float}
 use Rattle.otlp_types.specs.declared.value.AnyValue.{AnyValue, Empty, Str, Bool as Truth, Int, Double, Array, KvList, Bytes}
-use Rattle.otlp_types.specs.Doubles.{is_number, is_kept}
+use Rattle.otlp_types.specs.Doubles.{is_number}
 use Rattle.otlp_types.specs.declared.value.KeyValue.{KeyValue}
 use Rattle.otlp_types.specs.declared.span.Ids.{Ids}
 use Rattle.otlp_types.specs.declared.span.Status.{Status}
@@ -95,9 +95,9 @@ double_of (string s) = double_of_text s
 double_of (array ds) = None
 double_of (object ms) = None
 
--- a double, if it is kept
+-- a double that is kept
 abbrev pub kept_double : Float → OrDiscarded AnyValue
-kept_double x = if is_kept x then Some (Double x) else None
+kept_double x = Some (Double x)
 
 -- a double, whatever stands there where doubles are discarded
 abbrev pub double_value : Bool → Data → Option (OrDiscarded AnyValue)

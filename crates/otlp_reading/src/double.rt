@@ -22,14 +22,11 @@ pub fn double_of(value: &Value) -> Option<f64>
     }
 }
 
-/// A double, if it is kept.
+/// A double that is kept.
 pub fn kept_double(x: f64) -> Option<AnyValue>
     ensures { result ≡ kept_double x }
 {
-    match Double::new(x) {
-        Some(x) => Some(AnyValue::Double(x)),
-        None => None,
-    }
+    Some(AnyValue::Double(Double::new(x)))
 }
 
 /// The double that a text names or writes.

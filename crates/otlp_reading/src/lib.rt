@@ -1,8 +1,8 @@
-//! What the JSON encoding of OTLP 1.x says a text reads as, and reading with care: over the tree that `serde_json` makes of it.
+//! What the JSON encoding of OTLP 1.x says a text reads as, and reading with care: over the tree that `serde_json`
+//! makes of it.
 //!
-//! The definition stands in `specs/`: `Kinds` (fields and their kinds), `Reading` (the messages), `Decoding` (the value that bytes write, and
-//! the request).
-//! [`decode`] answers it in full; `otlp_json` puts a faster way before it.
+//! The definition stands in `specs/`: `Kinds` (fields and their kinds), `Reading` (the messages), `Decoding` (the value
+//! that bytes write, and the request). [`decode`] answers it in full; `otlp_json` puts a faster way before it.
 #![tactic(auto)]
 
 ghost use Rattle.std.specs.Prelude.{IfOk, IsErrOf};

@@ -71,7 +71,8 @@ fields_of ms name = field name ms
 abbrev pub updated : List ℕ → Option Data → (List ℕ → Option Data) → List ℕ → Option Data
 updated name o seen other = if bytes_eq name other then o else seen other
 
--- the value of a field, or of a member that is none, was taken from the tokens `old`: whatever stood under each name before
+-- the value of a field, or of a member that is none, was taken from the tokens `old`: whatever stood under each name
+-- before
 pub record TakesField {S : Type 0} (so_far : (List ℕ → Option Data) → S → Type 0) (depth : ℕ) (name : List ℕ) (before : S) (old : List Token) (after : S) (new : List Token) : Type 0 where
   pub found : Data
   pub takes : Takes depth old new found

@@ -1,4 +1,2 @@
 pub mod Samples
 pub mod Sent
-mod Doubles
-mod Rows

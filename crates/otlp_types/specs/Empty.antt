@@ -1,4 +1,5 @@
--- Resources, scopes and spans of which nothing is told, or nothing but ids, status code and times: the rest has its default.
+-- Resources, scopes and spans of which nothing is told, or nothing but ids, status code and times: the rest has its
+-- default.
 use Rattle.std.specs.Prelude.{ℕ, pos, [], Option}
 use Rattle.otlp_types.specs.declared.request.Resource.{Resource}
 use Rattle.otlp_types.specs.declared.request.Scope.{Scope}

@@ -5,7 +5,8 @@ use std::alloc::{AllocError, Global};
 use std::marker::Model;
 use std::mem;
 
-/// A value in memory of its own, so that what holds it is small: a queue's slots, and what is moved from place to place.
+/// A value in memory of its own, so that what holds it is small: a queue's slots, and what is moved from place to
+/// place.
 #[derive(Drop)]
 pub struct Boxed<T> {
     inner: Box<T>,

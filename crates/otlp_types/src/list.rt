@@ -109,7 +109,8 @@ impl<T: TryClone + Drop> TryClone for List<T> {
     }
 }
 
-/// A text that contracts see as its bytes. One of at most 16 bytes lies in the value itself, and takes no memory but that.
+/// A text that contracts see as its bytes. One of at most 16 bytes lies in the value itself, and takes no memory but
+/// that.
 #[derive(Drop)]
 pub struct Text {
     held: Held,

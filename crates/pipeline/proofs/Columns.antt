@@ -2,7 +2,7 @@
 -- For the call of lane_jobs in making::make.
 use Rattle.std.proofs.Common.{◌≡◌, ◌<◌, ℕ, List, [], ◌∷◌, length, Vec, All, arith}
 use Rattle.std.proofs.lemmas.List.Elements.{All-nil, All-cons, All-head, All-tail}
-use Rattle.queue_grid.specs.Grid.{ends_of, AreOfLength}
+use Rattle.lane_queue.specs.Grid.{ends_of, AreOfLength}
 
 module _ {X Z : Type 0} where
   pub are_long : (count : ℕ) → 0 < count → (columns : List (Vec X Z)) → AreOfLength count (ends_of columns) → All (λ (v : Vec X Z). 0 < length v.items) columns

@@ -7,7 +7,7 @@ use Rattle.otlp_types.specs.declared.arrival.Item.{Item}
 use Rattle.otlp_types.specs.declared.arrival.Shipment.{Shipment}
 use Rattle.lane_queue.specs.Ends.{EndState, ReceiverState, AreTied}
 use Rattle.policy_tree.specs.declared.limiter_node.LimiterNode.{LimiterNode}
-use Rattle.queue_grid.specs.Grid.{IsTiedGrid, AreNewColumns}
+use Rattle.lane_queue.specs.Grid.{IsTiedGrid, AreNewColumns}
 use Rattle.shared_budget.specs.Seats.{Stand}
 use Rattle.shared_budget.specs.Budget.{AreNewSeats}
 use Rattle.pipeline.specs.Made.{HasEnds}

@@ -10,7 +10,7 @@ use Rattle.otlp_types.specs.declared.arrival.Shipment.{Shipment}
 use Rattle.lane_queue.specs.Ends.{EndState, queues, AreTied, HasHistoryAt}
 use Rattle.lane_worker.specs.Serving.{LaneAt}
 use Rattle.policy_tree.specs.declared.limiter_node.LimiterNode.{LimiterNode}
-use Rattle.queue_grid.specs.Grid.{IsTiedGrid, HaveHistories}
+use Rattle.lane_queue.specs.Grid.{IsTiedGrid, HaveHistories}
 use Rattle.journal_theory.specs.Journal.{Settings}
 use Rattle.shared_budget.specs.Budget.{AreOfOneBudget, NewSeatsAreOfOne, AskingKeepsCells, SameCellsSuffice, HaveOneHistoryEach}
 use Rattle.run_weave.specs.Jobs.{TickerDid, ExporterDid}

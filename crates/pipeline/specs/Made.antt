@@ -8,7 +8,7 @@ use Rattle.policy_tree.specs.Meaning.{meaning}
 use Rattle.policy_tree.specs.declared.limiter_node.LimiterNode.{LimiterNode}
 use Rattle.policy_tree.specs.declared.policy.Policy.{Policy}
 use Rattle.policy_eval.specs.Meaning.{knows}
-use Rattle.queue_grid.specs.Grid.{IsTiedGrid, AreNewColumns}
+use Rattle.lane_queue.specs.Grid.{IsTiedGrid, AreNewColumns}
 use Rattle.shard_core.specs.Held.{Held, StandsFor, has_due, is_finished}
 use Rattle.shared_budget.specs.Seats.{Stand, has_node}
 use Rattle.shared_budget.specs.Budget.{AreNewSeats}
@@ -55,7 +55,8 @@ IsReady shard receiver sender seat =
     StandsFor shard [] 0 × (has_due shard ≡ false) × (is_finished shard ≡ false)
     × All IsNew receiver.ends × IsNew sender × HasNodes seat shard.policies
 
--- New queues and seats: the lanes' ports by shard, the ticker's ends, what the shards pop at, ship at and ask at, and what the exporter pops at.
+-- New queues and seats: the lanes' ports by shard, the ticker's ends, what the shards pop at, ship at and ask at, and
+-- what the exporter pops at.
 pub record HasEnds (nodes : List LimiterNode) (shards : ℕ) (ports : List (List (EndState Item))) (ticker : List (EndState Item)) (receivers : List (ReceiverState Item)) (senders : List (EndState Shipment)) (seats : List (List Stand)) (shipments : ReceiverState Shipment) : Type 0 where
   pub tied : IsTiedGrid (ports ++ ticker ∷ []) receivers
   pub new_columns : AreNewColumns (ports ++ ticker ∷ [])

@@ -7,7 +7,8 @@ use Rattle.drop_ledger.specs.declared.report.Report.{Report}
 use Rattle.pipeline.specs.declared.fault.RunFault.{RunFault}
 use Rattle.pipeline.specs.declared.fault.RunFault.TheVariants.{NoMemory, BookFull, SinkDown}
 
--- The bytes that the sink took and its count of failures, before and after, where a run answered so: bytes are only added; it fails once where the answer tells so, and nothing is written where there was no memory at the start.
+-- The bytes that the sink took and its count of failures, before and after, where a run answered so: bytes are only
+-- added; it fails once where the answer tells so, and nothing is written where there was no memory at the start.
 abbrev pub SinkAnswers : {A : Type 0} → (taken : Option (List ℕ)) → (failures : ℕ) → (taken_after : Option (List ℕ)) → (failures_after : ℕ) → Result A RunFault → Type 0
 SinkAnswers taken failures taken_after failures_after (Ok report) = ((bytes : List ℕ) × Appends taken taken_after bytes) × (failures_after ≡ failures)
 SinkAnswers taken failures taken_after failures_after (Err NoMemory) = (taken_after ≡ taken) × (failures_after ≡ failures)
@@ -25,14 +26,16 @@ TellsSink is_down (Err NoMemory) = ⊥
 TellsSink is_down (Err BookFull) = Unit {0}
 TellsSink is_down (Err (SinkDown report)) = is_down ≡ true
 
--- What a run that came to its end answers, by what its threads counted: a report of the sums exactly where no thread stopped counting and no sum passes 2^64-1.
+-- What a run that came to its end answers, by what its threads counted: a report of the sums exactly where no thread
+-- stopped counting and no sum passes 2^64-1.
 abbrev pub TellsCounts : (is_full : Bool) → List (List ℕ) → Result Report RunFault → Type 0
 TellsCounts is_full counts (Ok report) = (is_full ≡ false) × AreSums counts report × Fits report
 TellsCounts is_full counts (Err NoMemory) = ⊥
 TellsCounts is_full counts (Err BookFull) = (is_full ≡ true) ⊎ SumPasses counts
 TellsCounts is_full counts (Err (SinkDown report)) = (is_full ≡ false) × AreSums counts report × Fits report
 
--- whether a run that answers so has begun; where it hasn't, no job has worked, and nothing was asked of a feed or of the ticks
+-- whether a run that answers so has begun; where it hasn't, no job has worked, and nothing was asked of a feed or of
+-- the ticks
 abbrev pub has_begun : {A : Type 0} → Result A RunFault → Bool
 has_begun (Ok report) = true
 has_begun (Err NoMemory) = false

@@ -45,7 +45,8 @@ IsNewShard config shard = StandsFor shard [] 0 × (has_due shard ≡ false) × (
 abbrev pub nodes_of : Config → List LimiterNode
 nodes_of config = limiters (meaning config.policies)
 
--- what each answer tells of the run, by the sink's bytes and failures before and after: such a run left this report, or one of which no report can tell
+-- what each answer tells of the run, by the sink's bytes and failures before and after: such a run left this report, or
+-- one of which no report can tell
 abbrev pub AnswerTells : (IsSuch : LineSinkState → LineSinkState → List ℕ → Type 0) → (IsBeyond : LineSinkState → LineSinkState → Type 0) → (taken : Option (List ℕ)) → (failures : ℕ) → (taken_after : Option (List ℕ)) → (failures_after : ℕ) → Result Report RunFault → Type 0
 AnswerTells IsSuch IsBeyond taken failures taken_after failures_after (Ok report) = IsSuch (up_state taken failures) (up_state taken_after failures_after) report
 AnswerTells IsSuch IsBeyond taken failures taken_after failures_after (Err (SinkDown report)) = IsSuch (up_state taken failures) (down_state taken_after failures_after) report
@@ -53,7 +54,8 @@ AnswerTells IsSuch IsBeyond taken failures taken_after failures_after (Err NoMem
 AnswerTells IsSuch IsBeyond taken failures taken_after failures_after (Err BookFull) = (is_down : Bool) × IsBeyond (up_state taken failures) (record { taken = taken_after; failures = failures_after; is_down = is_down })
 
 module _ {F T : Type 0} (serves : ℕ → F → LaneAt → F → LaneAt → Bool → Type 0) (ticks_give : T → Option ℕ → T → Type 0) (config : Config) (servers : List F) (ticks : T) where
-  -- all threads did what each promises, and their queues and seats were joined again; each counted these numbers, and where one stopped counting `is_full` says so
+  -- all threads did what each promises, and their queues and seats were joined again; each counted these numbers, and
+  -- where one stopped counting `is_full` says so
   pub record HasWorked (old new : ExporterState) (counts : List (List ℕ)) (is_full : Bool) : Type 0 where
     pub given : Given F T
     pub left : Left
@@ -65,7 +67,8 @@ module _ {F T : Type 0} (serves : ℕ → F → LaneAt → F → LaneAt → Bool
     pub counted : counts ≡ parts_of left
     pub full : is_full ≡ any_full left
 
-  -- what an answer tells of threads that did so: the sums of what they counted, and whether the sink is down; where there was no memory at the start none did anything
+  -- what an answer tells of threads that did so: the sums of what they counted, and whether the sink is down; where
+  -- there was no memory at the start none did anything
   abbrev pub WorkedTells : (old new : ExporterState) → Result Report RunFault → Type 0
   WorkedTells old new (Ok report) = (counts : List (List ℕ)) × (is_full : Bool) × HasWorked old new counts is_full × TellsSink {A = Report} new.sink.is_down (Ok report) × TellsCounts is_full counts (Ok report)
   WorkedTells old new (Err NoMemory) = Unit {0}
@@ -106,7 +109,8 @@ module _ {F T : Type 0} (receives : ℕ → F → LaneAt → List Arrival → F 
 -- ---- a run of connections and ticks of which nothing is said
 
 module _ (config : Config) where
-  -- there is a run of the core, for which the headline holds, of which the report and the sink tell; each shard was sent the same moments
+  -- there is a run of the core, for which the headline holds, of which the report and the sink tell; each shard was
+  -- sent the same moments
   pub record IsCoreRun (old new : LineSinkState) (report : List ℕ) : Type 0 where
     pub threads : Threads
     pub end : Export

@@ -1,7 +1,7 @@
 //! What the threads leave is gathered.
 ghost use Rattle.std.specs.Prelude.{◌≡◌, ◌+◌, ◌++◌, ◌∷◌, ◌≤◌, ◌||◌, [], map, vec_len, vec_capacity};
 ghost use Rattle.std.specs.List.{list_any};
-ghost use Rattle.queue_grid.specs.Grid.{ends_of};
+ghost use Rattle.lane_queue.specs.Grid.{ends_of};
 
 use crate::lane_job::LaneLeft;
 use crate::shard_job::ShardLeft;

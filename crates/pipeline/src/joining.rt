@@ -1,18 +1,17 @@
 //! The queues and seats of a run are joined again.
 ghost use Rattle.std.specs.Prelude.{◌≡◌, ◌<◌, ℕ, All, length, vec_len};
 ghost use Rattle.lane_queue.specs.Ends.{AreTied, HasHistoryAt};
-ghost use Rattle.queue_grid.specs.Grid.{ends_of, HasRoom, IsTiedGrid, HaveHistories};
+ghost use Rattle.lane_queue.specs.Grid.{ends_of, HasRoom, IsTiedGrid, HaveHistories};
 ghost use Rattle.shared_budget.specs.Budget.{AreOfOneBudget, HaveOneHistoryEach};
 
 use crate::shards::ShardEnds;
-use lane_queue::{Receiver, Room, Sender, reunite};
+use lane_queue::{Receiver, Room, Sender, reunite, reunite_grid};
 use otlp_types::{Item, Shipment};
-use queue_grid::reunite_grid;
 use shared_budget::SharedBudget;
 use std::sync::Wait;
 
-/// Joins the ends of all queues and the seats at the limiter: one history of each queue and of each limiter node has all
-/// that was done there.
+/// Joins the ends of all queues and the seats at the limiter: one history of each queue and of each limiter node has
+/// all that was done there.
 pub fn join_all<'s, C: Room, D: Room, R: Wait>(
     columns: Vec<Vec<Sender<Item, C>>>,
     ends: ShardEnds<'s, C, D, R>,

@@ -1,6 +1,6 @@
 //! What the lanes' threads are given.
 ghost use Rattle.std.specs.Prelude.{◌≡◌, ◌+◌, ◌++◌, ◌<◌, ◌≤◌, false, [], All, length, map, vec_len, vec_capacity, IfErr, IfOk};
-ghost use Rattle.queue_grid.specs.Grid.{ends_of};
+ghost use Rattle.lane_queue.specs.Grid.{ends_of};
 ghost use Rattle.pipeline.specs.Made.{NumberedFrom};
 
 use crate::lane_job::LaneJob;

@@ -1,7 +1,7 @@
 //! All that a run needs is made before a thread is started.
 ghost use Rattle.std.specs.Prelude.{◌≡◌, ◌+◌, ◌++◌, ◌∷◌, ◌<◌, ◌≤◌, [], All, length, map, vec_len, vec_capacity, IfErr, IfOk};
 ghost use Rattle.lane_queue.specs.Ends.{AreTied, IsNew};
-ghost use Rattle.queue_grid.specs.Grid.{AreNewColumns, HasRoom, IsTiedGrid, ends_of};
+ghost use Rattle.lane_queue.specs.Grid.{AreNewColumns, HasRoom, IsTiedGrid, ends_of};
 ghost use Rattle.shared_budget.specs.Budget.{AreNewSeats};
 ghost use Rattle.tsc_config.specs.declared.config.Config.{Config};
 ghost use Rattle.pipeline.specs.Made.{NumberedFrom, CanRun, IsReady, HasEnds};
@@ -15,9 +15,8 @@ use crate::shards::{ShardEnds, shard_jobs};
 use crate::ticker_job::TickerJob;
 use drop_ledger::Report;
 use job_threads::Team;
-use lane_queue::{Gate, LaneQueue, Receiver, Room, Sender};
+use lane_queue::{Gate, LaneQueue, QueueGrid, Receiver, Room, Sender, new_grid};
 use otlp_types::{Item, Shipment};
-use queue_grid::{QueueGrid, new_grid};
 use shared_budget::{SharedBudget, new_seats_have_nodes};
 use std::alloc::{AllocError, Global};
 use std::sync::Wait;
@@ -100,8 +99,8 @@ pub fn make<'s, F: Drop, T: Drop, C: Room, D: Room, G: Gate, P, M, R: Wait>(
     })
 }
 
-/// What the threads of a run are given: the lanes, the ticker and the shards; and the list of the feeds, which is empty and
-/// has room for them again.
+/// What the threads of a run are given: the lanes, the ticker and the shards; and the list of the feeds, which is empty
+/// and has room for them again.
 fn team_of<'s, F: Drop, T: Drop, C: Room, D: Room, G: Gate, P, M, R: Wait>(
     lent: &Lent<'s, G, P, M, R>,
     config: &Config,

@@ -32,12 +32,13 @@ use std::time::Clock;
 use trace_hash::TraceHashing;
 use tsc_config::Config;
 
-/// Runs the pipeline until every feed and the ticks have ended, and gives the sink back: a thread for each lane, each shard
-/// and the ticker, and the exporter on this one. Where nothing was begun the servers and the ticks come back as they were.
+/// Runs the pipeline until every feed and the ticks have ended, and gives the sink back: a thread for each lane, each
+/// shard and the ticker, and the exporter on this one. Where nothing was begun the servers and the ticks come back as
+/// they were.
 ///
-/// There is one server for each lane, which serves its feed's connections one after the other. The context's gate, mark and clock are
-/// lent to all lanes, the gate to the shards too. The sink has the lines of the batches that were handed over; the report has the
-/// counts of all threads.
+/// There is one server for each lane, which serves its feed's connections one after the other. The context's gate, mark
+/// and clock are lent to all lanes, the gate to the shards too. The sink has the lines of the batches that were handed
+/// over; the report has the counts of all threads.
 pub fn run<
     's,
     F: Feed + Send + Drop,
@@ -68,8 +69,8 @@ where
     run_servers(context, config, servers, ticks, sink)
 }
 
-/// The same where each lane serves many connections at once, turn by turn, as its driver says. There is one driver for each
-/// lane.
+/// The same where each lane serves many connections at once, turn by turn, as its driver says. There is one driver for
+/// each lane.
 pub fn run_by_turns<
     's,
     D: Driver + Send + Drop,
@@ -140,8 +141,8 @@ fn run_servers<
     (exporter.end().end(), answer, back)
 }
 
-/// Runs the threads, and answers the report. The key by which trace ids are hashed is taken first: where the system has no
-/// random source, nothing is run, and `NoMemory` is answered.
+/// Runs the threads, and answers the report. The key by which trace ids are hashed is taken first: where the system has
+/// no random source, nothing is run, and `NoMemory` is answered.
 fn run_in<
     's,
     V: LaneServer + Send + Drop,
@@ -208,8 +209,8 @@ fn answer_of(counted: &Counted, is_down: bool) -> Result<Report, RunFault>
     }
 }
 
-/// Makes what the threads are given, runs them, and gathers what they counted. It gives all back where there was no memory,
-/// or a thread couldn't be started: then none has done anything.
+/// Makes what the threads are given, runs them, and gathers what they counted. It gives all back where there was no
+/// memory, or a thread couldn't be started: then none has done anything.
 fn run_over<
     's,
     V: LaneServer + Send + Drop,

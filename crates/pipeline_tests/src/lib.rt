@@ -1,5 +1,5 @@
-//! Tests of the whole pipeline over readers in memory, and of ticks, by public calls alone: they stand above the crates that
-//! they call, which are then proved without them.
+//! Tests of the whole pipeline over readers in memory, and of ticks, by public calls alone: they stand above the crates
+//! that they call, which are then proved without them.
 #![tactic(auto)]
 
 #[cfg(test)]

@@ -4,11 +4,10 @@ ghost use Rattle.tsc_config.specs.Values.{InRange};
 
 use crate::gates::{LanesMeet, Places, ShardsBeginEarly, ShardsMeet};
 use crate::memory::{Held, Mark, MemoryFeed, MemorySink, NoTicks, Standing};
-use drop_ledger::{Count, Report};
+use drop_ledger::Report;
 use lane_queue::{Gate, OpenGate};
 use lane_worker::OneByOne;
 use pipeline::{RunContext, RunFault, run};
-use span_ids::Reason;
 use std::alloc::{AllocError, Global};
 use std::random::RandomSource;
 use std::sync::Wait;
@@ -138,21 +137,6 @@ fn run_two<G: Gate + Sync, R: Threads + Wait + Clock + RandomSource + Sync>(
     )
 }
 
-/// The nine numbers of a report.
-pub fn numbers(report: &Report) -> [u64; 9] {
-    [
-        report.number(Count::Received),
-        report.number(Count::Handed),
-        report.number(Count::Dropped(Reason::InvalidId)),
-        report.number(Count::Dropped(Reason::QueueFull)),
-        report.number(Count::Dropped(Reason::NoMemory)),
-        report.number(Count::Dropped(Reason::Evicted)),
-        report.number(Count::Dropped(Reason::NotSampled)),
-        report.number(Count::Dropped(Reason::LateNotSampled)),
-        report.number(Count::Dropped(Reason::ExporterDown)),
-    ]
-}
-
 #[test]
 fn hundred_spans_a_lane(rt: HostRuntime) -> Result<(), Fail> {
     let alloc = rt.alloc();
@@ -162,7 +146,7 @@ fn hundred_spans_a_lane(rt: HostRuntime) -> Result<(), Fail> {
     let Ok(report) = answer else {
         return Err(Fail::from("a fault"));
     };
-    assert_eq!(rt; numbers(&report), [200, 200, 0, 0, 0, 0, 0, 0, 0]);
+    assert_eq!(rt; report.numbers(), [200, 200, 0, 0, 0, 0, 0, 0, 0]);
     assert!(rt; !sink.taken.is_empty());
     Ok(())
 }
@@ -183,7 +167,7 @@ fn two_spans<G: Gate + Sync, R: Threads + Wait + Clock + RandomSource + Sync>(
     let Ok(report) = answer else {
         return Err(Fail::from("a fault"));
     };
-    Ok(numbers(&report))
+    Ok(report.numbers())
 }
 
 #[test]

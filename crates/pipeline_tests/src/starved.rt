@@ -1,7 +1,7 @@
-//! One lane: a reader that fails, a sink that does, a run that is stopped before it begins, and one that may be short of
-//! memory, each of whose allocations `tests/refused_memory/refused.py` refuses in turn.
+//! One lane: a reader that fails, a sink that does, a run that is stopped before it begins, and one that may be short
+//! of memory, each of whose allocations `tests/refused_memory/refused.py` refuses in turn.
 use crate::memory::{Held, MemoryFeed};
-use crate::overlap::{A, Came, Course, numbers, request, run_feeds};
+use crate::overlap::{A, Came, Course, request, run_feeds};
 use drop_ledger::{Count, Report};
 use lane_queue::OpenGate;
 use pipeline::RunFault;
@@ -57,7 +57,7 @@ fn reader_fails_in_a_body(rt: HostRuntime) -> Result<(), Fail> {
     let Ok(report) = answer else {
         return Err(Fail::from("a fault"));
     };
-    assert_eq!(rt; numbers(&report), [1, 1, 0, 0, 0, 0, 0, 0, 0]);
+    assert_eq!(rt; report.numbers(), [1, 1, 0, 0, 0, 0, 0, 0, 0]);
     assert_eq!(rt; spans_in(&sink.taken), 1);
     Ok(())
 }
@@ -75,7 +75,7 @@ fn stopped_before_it_begins(rt: HostRuntime) -> Result<(), Fail> {
     let Ok(report) = answer else {
         return Err(Fail::from("a fault"));
     };
-    assert_eq!(rt; numbers(&report), [0, 0, 0, 0, 0, 0, 0, 0, 0]);
+    assert_eq!(rt; report.numbers(), [0, 0, 0, 0, 0, 0, 0, 0, 0]);
     assert!(rt; sink.taken.is_empty());
     Ok(())
 }
@@ -123,7 +123,7 @@ fn busy_then_done(rt: HostRuntime) -> Result<(), Fail> {
                 sampled,
                 late,
                 down,
-            ] = numbers(&report);
+            ] = report.numbers();
             assert!(rt; received <= 2 && handed <= 2 && refused <= 2);
             assert_eq!(rt; handed + refused, received);
             assert_eq!(rt;

@@ -6,8 +6,8 @@ use otlp_types::{Ids, Item};
 use plain_spans::{numbered_ids, plain_record, received};
 use std::alloc::{AllocError, Global};
 
-/// What a shard takes, in a row of a test: a span by the number of its trace (from 1 to 6), its own number, its moment and
-/// its status code; a tick by its moment; the End of a sender.
+/// What a shard takes, in a row of a test: a span by the number of its trace (from 1 to 6), its own number, its moment
+/// and its status code; a tick by its moment; the End of a sender.
 #[derive(Clone, Copy)]
 pub enum Event {
     Span(u8, u64, u64, i32),

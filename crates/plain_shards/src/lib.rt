@@ -15,8 +15,9 @@ use shard_core::{Shard, ShardSetup};
 use std::alloc::{AllocError, Global};
 use trace_hash::TraceHashing;
 
-/// A shard that decides by one policy of this kind, when a trace has waited so many milliseconds; it has room for so many
-/// traces, and remembers no decision. Beside it the limiter of that policy. `AllocError` where the policy is refused, too.
+/// A shard that decides by one policy of this kind, when a trace has waited so many milliseconds; it has room for so
+/// many traces, and remembers no decision. Beside it the limiter of that policy. `AllocError` where the policy is
+/// refused, too.
 pub fn plain_shard(
     alloc: Global,
     kind: PolicyKind,

@@ -1,4 +1,5 @@
--- What a limiter is asked for: the spans, or their bytes (tailsamplingprocessor README, `rate_limiting`, `bytes_limiting`).
+-- What a limiter is asked for: the spans, or their bytes (tailsamplingprocessor README, `rate_limiting`,
+-- `bytes_limiting`).
 use Rattle.std.specs.Prelude.{◌≡◌, ℕ, Bool, List, [], ◌∷◌, length, Option, Some, None}
 use Rattle.policy_tree.specs.declared.limit.Limit.{Limit}
 use Rattle.policy_tree.specs.declared.limit.Limit.TheVariants.{Spans, Bytes}

@@ -49,7 +49,8 @@ asked-in-turn policies earlier second first behind amounts granted (m ∷ ms) (b
     (λ n l. h n (omega (arith, r.0, l)) ∙ granted-other policies a earlier second (amounts n) n (eqb-less m n (omega (arith, l)))) next k.2 in
     (let x = others.0 in cc, others.1 ∙ ap (limiter_counts policies) (reverse-first a (askings_by granted second amounts ms) earlier))
 
--- the decision is that of the policies where the limiter answers as the askings so far say, and the counts are then those of the decision's askings, too
+-- the decision is that of the policies where the limiter answers as the askings so far say, and the counts are then
+-- those of the decision's askings, too
 pub record DecidesByCounts (policies : Policies) (earlier : List Asking) (second : ℕ) (spans : List Arrival) (answers : List Bool) (new : List LimiterCount) : Type 0 where
   pub answers_are : answers ≡ map (granted_on policies earlier second spans) (asked_given policies answers spans)
   pub asked_are : asked_given policies answers spans ≡ asked_nodes policies (granted_on policies earlier second spans) spans

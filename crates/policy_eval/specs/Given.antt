@@ -84,7 +84,8 @@ are_answered policies answers spans = length (asked_given policies answers spans
 
 -- ---- a limiter that is asked
 
--- asked at these nodes in turn, in this second and at each node for its amount, a limiter gave these answers, and went from one state to the other
+-- asked at these nodes in turn, in this second and at each node for its amount, a limiter gave these answers, and went
+-- from one state to the other
 abbrev pub Asked : {S : Type 0} → (asks : S → ℕ → ℕ → ℕ → Bool → S → Type 0) → (second : ℕ) → (amounts : ℕ → ℕ) → (nodes : List ℕ) → (answers : List Bool) → (old new : S) → Type 0
 Asked asks second amounts [] [] old new = new ≡ old
 Asked {S} asks second amounts (node ∷ nodes) (granted ∷ answers) old new = (between : S) × asks old node second (amounts node) granted between × Asked asks second amounts nodes answers between new

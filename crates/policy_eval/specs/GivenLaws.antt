@@ -1,4 +1,5 @@
--- Answers in turn, and answers by the node: a limiter that answers by the node gives a list of answers, and such a list is some such limiter's.
+-- Answers in turn, and answers by the node: a limiter that answers by the node gives a list of answers, and such a list
+-- is some such limiter's.
 use Rattle.std.proofs.Common.{◌≡◌, ℕ, ◌+◌, ◌≤◌, ◌<◌, ◌==◌, Bool, true, false, cond, List, [], ◌∷◌, ◌++◌, map, length, drop, refl, sym, ap, subst, ◌∙◌, arith, append-nil, append_assoc, length-append}
 use Rattle.std.proofs.lemmas.Bool.Decides.{nat_tests}
 use Rattle.std.proofs.lemmas.List.{map-append, drop-drop, length-map}

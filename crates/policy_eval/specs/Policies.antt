@@ -127,7 +127,8 @@ is_same_answer _ _ = false
 abbrev pub has_answer : Answer → List Answer → Bool
 has_answer one all = list_any (is_same_answer one) all
 
--- a drop decides against, and then an inverted not-sample does; else a sample decides for; else an inverted sample with no not-sample does
+-- a drop decides against, and then an inverted not-sample does; else a sample decides for; else an inverted sample with
+-- no not-sample does
 abbrev pub verdict_of_answers : List Answer → Verdict
 verdict_of_answers all =
     if has_answer dropped all then NotSampled
@@ -140,7 +141,8 @@ verdict_of_answers all =
 abbrev pub first_place : Answer → List Answer → Option ℕ
 first_place one all = position_from (is_same_answer one) 0 all
 
--- the place of the policy that decides: the first of those whose answer the verdict rests on; none where it rests on no answer, since nothing samples
+-- the place of the policy that decides: the first of those whose answer the verdict rests on; none where it rests on no
+-- answer, since nothing samples
 abbrev pub decider_of_answers : List Answer → Option ℕ
 decider_of_answers all =
     if has_answer dropped all then first_place dropped all
@@ -165,7 +167,8 @@ decides not_sample = false
 decides inverted_sample = false
 decides inverted_not_sample = false
 
--- behind this answer no further policy is asked: of a first match behind one that decides, else behind one that isn't for the trace
+-- behind this answer no further policy is asked: of a first match behind one that decides, else behind one that isn't
+-- for the trace
 abbrev pub ends : Join → Answer → Bool
 ends And one = not (samples one)
 ends Not one = not (samples one)

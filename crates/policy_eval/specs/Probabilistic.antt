@@ -1,4 +1,5 @@
--- Which traces a percentage of all is (tailsamplingprocessor README, `probabilistic`): those whose ids have the lowest hashes.
+-- Which traces a percentage of all is (tailsamplingprocessor README, `probabilistic`): those whose ids have the lowest
+-- hashes.
 use Rattle.std.specs.Prelude.{ℕ, ◌-◌, ◌*◌, ◌/◌, ◌%◌, ◌^◌, Bool, nat_le, List, [], ◌∷◌, ◌++◌, fold, bit_xor, Option, None, Some}
 use Rattle.otlp_types.specs.declared.arrival.Arrival.{Arrival}
 use Rattle.otlp_types.specs.declared.span.Ids.{Ids}
@@ -23,7 +24,8 @@ abbrev pub trace_of : List Arrival → List ℕ
 trace_of [] = []
 trace_of (a ∷ rest) = trace_bytes a.rec.span.ids
 
--- the greatest hash that is sampled, by the percentage in ten-thousandths of a percent: that part of the greatest hash, rounded down
+-- the greatest hash that is sampled, by the percentage in ten-thousandths of a percent: that part of the greatest hash,
+-- rounded down
 abbrev pub threshold : (ten_thousandths : ℕ) → ℕ
 threshold ten_thousandths = ten_thousandths * (2 ^ 64 - 1) / 1000000
 

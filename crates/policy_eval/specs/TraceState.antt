@@ -1,4 +1,5 @@
--- The members of a trace state (W3C Trace Context, section 3.3): a comma-separated list, each member a key, `=` and a value, with optional white space around it.
+-- The members of a trace state (W3C Trace Context, section 3.3): a comma-separated list, each member a key, `=` and a
+-- value, with optional white space around it.
 use Rattle.std.specs.Prelude.{ℕ, ◌+◌, Bool, false, ◌&&◌, ◌||◌, ◌==◌, if◌then◌else◌, List, [], ◌∷◌, reverse, take, drop, bytes_eq, position, Option, None, Some}
 use Rattle.std.specs.List.{list_any}
 

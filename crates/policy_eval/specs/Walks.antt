@@ -15,7 +15,8 @@ pub record Settles (p : Policy) (node : ℕ) (spans : List Arrival) (mine : List
   pub leaves : (later : List Bool) → left_by p (mine ++ later) spans ≡ later
   pub asks : (later : List Bool) → nodes_asked p node (mine ++ later) spans ≡ nodes
 
--- asked at these limiter nodes in turn, in this second and each time for what its limit is of, a limiter gave these answers, and went from one state to the other
+-- asked at these limiter nodes in turn, in this second and each time for what its limit is of, a limiter gave these
+-- answers, and went from one state to the other
 abbrev pub AskedEach : {S : Type 0} → (asks : S → ℕ → ℕ → ℕ → Bool → S → Type 0) → (second : ℕ) → List Arrival → List LimiterNode → (answers : List Bool) → (old new : S) → Type 0
 AskedEach asks second spans [] [] old new = new ≡ old
 AskedEach {S} asks second spans (l ∷ nodes) (granted ∷ answers) old new = (between : S) × asks old l.node second (amount_of l.limit spans) granted between × AskedEach asks second spans nodes answers between new

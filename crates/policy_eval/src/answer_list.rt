@@ -15,8 +15,8 @@ use otlp_types::Arrival;
 use policy_tree::{Policies, Policy, PolicyKind};
 use span_ids::Verdict;
 
-/// The verdict of the policies on the spans of a trace, where the askings of a limiter get these answers in turn. None where
-/// their number isn't that of the askings. It takes no memory that can be refused.
+/// The verdict of the policies on the spans of a trace, where the askings of a limiter get these answers in turn. None
+/// where their number isn't that of the askings. It takes no memory that can be refused.
 pub fn judge(
     policies: &Policies,
     spans: &[Arrival],
@@ -35,8 +35,8 @@ pub fn judge(
     }
 }
 
-/// The verdict of the policies on the spans of a trace, where the askings of a limiter get these answers in turn. A missing
-/// answer is a refusal. It takes no memory that can be refused.
+/// The verdict of the policies on the spans of a trace, where the askings of a limiter get these answers in turn. A
+/// missing answer is a refusal. It takes no memory that can be refused.
 pub fn verdict_given(
     policies: &Policies,
     spans: &[Arrival],

@@ -2,8 +2,8 @@
 ghost use Rattle.policy_eval.specs.Amounts.{AmountsAreOfTheLimits};
 ghost use Rattle.policy_eval.specs.Laws.{AnswersByTheNode, AnswersAreByTheNode, AskedNodesRise, DecisionsKeepTheCounts};
 
-/// A `Budgets` that stands for the askings of some decisions gives the next one the answers, and so the verdict, that these
-/// askings give, and then stands for the askings of that decision, too.
+/// A `Budgets` that stands for the askings of some decisions gives the next one the answers, and so the verdict, that
+/// these askings give, and then stands for the askings of that decision, too.
 pub fn decisions_keep_the_counts()
     ensures { DecisionsKeepTheCounts }
 {}

@@ -1,7 +1,12 @@
 //! The verdict of policies on the spans of a trace (tailsamplingprocessor README, "Policies").
 //!
-//! An answer of the limiter is an input of the verdict's definition: whichever limiter it is, the verdict is that of the
-//! policies where it grants so, and it is asked just what they ask.
+//! An answer of the limiter is an input of the verdict's definition: whichever limiter it is, the verdict is that of
+//! the policies where it grants so, and it is asked just what they ask.
+//!
+//! ```
+//! let mut searches = searches_for(alloc, &policies)?;
+//! let verdict = evaluate(&policies, episode.spans(), now, &mut limiter, &mut searches);
+//! ```
 #![tactic(auto)]
 
 mod answer;

@@ -22,9 +22,9 @@ use span_size::size_of;
 /// The verdict of the policies on the spans of a trace, at this moment in milliseconds. It takes no memory that can be
 /// refused.
 ///
-/// The limiter nodes are asked in the order of their numbers, each at most once, for the spans or for their bytes, in the
-/// second of the moment. Of the parts of a policy no further one is asked behind an answer that ends them. The searches know each
-/// expression of the policies (`searches_for`).
+/// The limiter nodes are asked in the order of their numbers, each at most once, for the spans or for their bytes, in
+/// the second of the moment. Of the parts of a policy no further one is asked behind an answer that ends them. The
+/// searches know each expression of the policies (`searches_for`).
 pub fn evaluate<L: Limiter>(
     policies: &Policies,
     spans: &[Arrival],

@@ -1,4 +1,5 @@
--- Policies without their names: their node numbers, their depth, and the limiters among them (tailsamplingprocessor README, "Policies").
+-- Policies without their names: their node numbers, their depth, and the limiters among them (tailsamplingprocessor
+-- README, "Policies").
 use Rattle.std.specs.Prelude.{ℕ, ◌+◌, max, Bool, true, false, ◌||◌, List, [], ◌∷◌, ◌++◌}
 use Rattle.policy_tree.specs.declared.limit.Limit.{Limit}
 use Rattle.policy_tree.specs.declared.limit.Limit.TheVariants.{Spans}

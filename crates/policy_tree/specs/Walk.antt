@@ -26,6 +26,7 @@ abbrev pub limiters_from : (node : ℕ) → List Policy → List LimiterNode
 limiters_from node [] = []
 limiters_from node (p ∷ rest) = limiter_at node p ++ limiters_from (node + 1) rest
 
--- the limiter nodes are those of the walk, in which node k is the k-th policy, from 0 on; there are as many nodes as policies in the walk
+-- the limiter nodes are those of the walk, in which node k is the k-th policy, from 0 on; there are as many nodes as
+-- policies in the walk
 abbrev pub LimitersAreOfTheWalk : Type 0
 LimitersAreOfTheWalk = (policies : Policies) → (limiters policies ≡ limiters_from 0 (walk policies)) × (nodes_in policies ≡ length (walk policies))

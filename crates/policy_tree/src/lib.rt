@@ -1,6 +1,11 @@
-//! Sampling policies as plain data, and lists of them that are within their limits
-//! (tailsamplingprocessor README, "Policies"). What is said of them is read in this order: `specs/Tree` (the data), `Walk`
-//! (the limiter nodes in order), `Meaning` (what a list of policies means), `Faults`, `Expressions`.
+//! Sampling policies as plain data, and lists of them that are within their limits (tailsamplingprocessor README,
+//! "Policies"). What is said of them is read in this order: `specs/Tree` (the data), `Walk` (the limiter nodes in
+//! order), `Meaning` (what a list of policies means), `Faults`, `Expressions`.
+//!
+//! ```
+//! let policies = Policies::new(alloc, list)?;
+//! let nodes = policies.limiters(alloc)?;
+//! ```
 #![tactic(auto)]
 
 mod expressions;

@@ -62,7 +62,8 @@ with_body so_far later = record later { body = record (later.body) { bytes = so_
 abbrev pub SeesBody : (start : Client) → (bytes : List ℕ) → (so_far : List ℕ) → Client → (left : List ℕ) → Type 0
 SeesBody start bytes so_far client left = (later : Seen) (rest : List ℕ) → Trace client left later rest → Trace start bytes (with_body so_far later) rest
 
--- what a client sees behind the head of a response that has this status and these fields: its body, and no other response
+-- what a client sees behind the head of a response that has this status and these fields: its body, and no other
+-- response
 abbrev pub Behind : (client : Client) → (bytes : List ℕ) → (status : ℕ) → (wait : Option ℕ) → (left : List ℕ) → Type 0
 Behind client bytes status wait left =
     (later : Seen) (rest : List ℕ) → later.responses ≡ [] → Trace client left later rest

@@ -32,8 +32,8 @@ pub enum Piece {
     Failed,
 }
 
-/// Writes a request whole, and reads its answer: an interim answer is passed over, and what comes in place of an answer, is too
-/// long, or breaks off, is none. Where a write fails nothing is read.
+/// Writes a request whole, and reads its answer: an interim answer is passed over, and what comes in place of an
+/// answer, is too long, or breaks off, is none. Where a write fails nothing is read.
 pub fn post<R: Read, W: Write, P: Patience>(
     alloc: Global,
     reader: &mut R,

@@ -2,8 +2,9 @@
 use serde_json::Value;
 use std::alloc::Global;
 
-/// The spans that the body of an answer says were rejected: the number at `partialSuccess.rejectedSpans`, which may stand there as a text, as
-/// 64-bit numbers do in the JSON encoding. 0 where there is none, or no memory to read the body.
+/// The spans that the body of an answer says were rejected: the number at `partialSuccess.rejectedSpans`, which may
+/// stand there as a text, as 64-bit numbers do in the JSON encoding. 0 where there is none, or no memory to read the
+/// body.
 pub fn rejected_in(alloc: Global, body: &[u8]) -> u64 {
     if body.is_empty() {
         return 0;

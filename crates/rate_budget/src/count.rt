@@ -5,8 +5,8 @@ ghost use Rattle.rate_budget.specs.Budget.{spent_in, grants_of, asked_count};
 
 use policy_tree::Limit;
 
-/// A limiter node with its limit, its greatest second asked, and what is spent in that second: of spans those granted in
-/// it, of bytes those that are missing in the bucket.
+/// A limiter node with its limit, its greatest second asked, and what is spent in that second: of spans those granted
+/// in it, of bytes those that are missing in the bucket.
 #[derive(Clone, Copy, PartialEq, Eq)]
 pub struct LimiterCount {
     pub node: u16,
@@ -16,8 +16,8 @@ pub struct LimiterCount {
 }
 
 impl LimiterCount {
-    /// Whether so many spans or bytes, as the limit has it, are granted in this second. A second before the greatest one
-    /// counts as the greatest.
+    /// Whether so many spans or bytes, as the limit has it, are granted in this second. A second before the greatest
+    /// one counts as the greatest.
     pub fn ask(&mut self, second: u64, n: u64) -> bool
         ensures answer { result ≡ grants_of second n self.old }
         ensures after { self.new ≡ asked_count second n self.old }

@@ -70,9 +70,10 @@ fn body_of(rt: &HostRuntime, line: &str) -> Result<Option<Vec<u8>>, AllocError> 
     }
 }
 
-/// Reads each body of standard input, a line of hexadecimal digits, by `otlp_json::decode` and by `otlp_reading::decode` alone,
-/// and prints how many are read otherwise, after a line for each of them; with `with_shares` also how many were answered in
-/// which way, and how many of these the one pass declined. Status 1 where one is read otherwise, 2 where a line is no body.
+/// Reads each body of standard input, a line of hexadecimal digits, by `otlp_json::decode` and by
+/// `otlp_reading::decode` alone, and prints how many are read otherwise, after a line for each of them; with
+/// `with_shares` also how many were answered in which way, and how many of these the one pass declined. Status 1 where
+/// one is read otherwise, 2 where a line is no body.
 pub fn compare(rt: &HostRuntime, with_shares: bool) -> io::Result<ExitCode> {
     let mut shares = Shares::default();
     let mut bodies = 0u64;

@@ -1,5 +1,5 @@
-//! Tests of a replay by its public call alone, over sinks that take little or fail. They stand beside `script_session`, so that
-//! it is proved once less.
+//! Tests of a replay by its public call alone, over sinks that take little or fail. They stand beside `script_session`,
+//! so that it is proved once less.
 #![tactic(auto)]
 
 #[cfg(test)]

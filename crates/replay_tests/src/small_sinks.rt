@@ -2,9 +2,8 @@
 ghost use Rattle.std.specs.Prelude.{◌≡◌, IfOk, Some};
 ghost use Rattle.tsc_config.specs.Values.{InRange};
 
-use drop_ledger::{Count, Report};
+use drop_ledger::Report;
 use script_session::{RunFault, replay_run};
-use span_ids::Reason;
 use span_sink::{Sink, SinkFault};
 use std::alloc::{AllocError, Global};
 use std::test::Fail;
@@ -69,8 +68,9 @@ impl Sink for SmallSink {
     }
 }
 
-/// What a replay left: whether its sink took a first part of both lines, how many bytes it took, how many writes failed,
-/// whether the run told of that, and the nine numbers of its report, none of them where it told of anything else.
+/// What a replay left: whether its sink took a first part of both lines, how many bytes it took, how many writes
+/// failed, whether the run told of that, and the nine numbers of its report, none of them where it told of anything
+/// else.
 #[derive(Clone, Copy, PartialEq, Eq)]
 struct ReplayEnd {
     is_first_part: bool,
@@ -91,26 +91,11 @@ fn configured(alloc: Global) -> Result<Config, Fail>
     }
 }
 
-/// The nine numbers of a report.
-fn numbers(report: &Report) -> [u64; 9] {
-    [
-        report.number(Count::Received),
-        report.number(Count::Handed),
-        report.number(Count::Dropped(Reason::InvalidId)),
-        report.number(Count::Dropped(Reason::QueueFull)),
-        report.number(Count::Dropped(Reason::NoMemory)),
-        report.number(Count::Dropped(Reason::Evicted)),
-        report.number(Count::Dropped(Reason::NotSampled)),
-        report.number(Count::Dropped(Reason::LateNotSampled)),
-        report.number(Count::Dropped(Reason::ExporterDown)),
-    ]
-}
-
 /// Whether a run told that a write failed, and the numbers of its report.
 fn told(answer: &Result<Report, RunFault>) -> (bool, Option<[u64; 9]>) {
     match answer {
-        Ok(report) => (false, Some(numbers(report))),
-        Err(RunFault::SinkDown(report)) => (true, Some(numbers(report))),
+        Ok(report) => (false, Some(report.numbers())),
+        Err(RunFault::SinkDown(report)) => (true, Some(report.numbers())),
         Err(_) => (false, None),
     }
 }
@@ -133,8 +118,8 @@ fn replayed(alloc: Global, piece: usize, room: usize) -> Result<ReplayEnd, Fail>
     })
 }
 
-/// What a replay over a sink with so much room must leave: behind a failed write the span is counted under 7, also where it was
-/// the reply that failed, since the span was received.
+/// What a replay over a sink with so much room must leave: behind a failed write the span is counted under 7, also
+/// where it was the reply that failed, since the span was received.
 fn wanted(room: usize) -> ReplayEnd {
     let is_down = room < WHOLE;
     let numbers = if is_down {
@@ -161,7 +146,8 @@ fn first_wrong(alloc: Global, piece: usize) -> Result<Option<usize>, Fail> {
     Ok(None)
 }
 
-/// A sink that takes a byte a write takes just the bytes that another does, and one that fails behind `k` bytes the first `k`.
+/// A sink that takes a byte a write takes just the bytes that another does, and one that fails behind `k` bytes the
+/// first `k`.
 #[test]
 fn fails_after_each_byte(rt: HostRuntime) -> Result<(), Fail> {
     let alloc = rt.alloc();

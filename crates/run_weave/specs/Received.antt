@@ -1,4 +1,5 @@
--- What was received of the connections that a lane's server served: one after the other, or many at once; and what each way of serving keeps.
+-- What was received of the connections that a lane's server served: one after the other, or many at once; and what each
+-- way of serving keeps.
 use Rattle.std.specs.Prelude.{◌≡◌, ℕ, Bool, true, false, not, List, [], ◌∷◌, length, filter, Option, None}
 use Rattle.otlp_types.specs.declared.arrival.Arrival.{Arrival}
 use Rattle.otlp_types.specs.declared.arrival.Item.{Item}
@@ -31,7 +32,8 @@ module _ {V F X : Type 0} (feed_of : V → F) (gives : F → Option X → F → 
 
 -- ---- many connections at once
 
--- the lane took each connection as its next, what the turns submitted went to it one after the other, each by its connection, and this was received of that
+-- the lane took each connection as its next, what the turns submitted went to it one after the other, each by its
+-- connection, and this was received of that
 abbrev pub ActsLog : (capacity number : ℕ) → (old : LaneAt) → (before : List Arrival) → List Act → (new : LaneAt) → (after : List Arrival) → Type 0
 ActsLog capacity number old before [] new after = (new ≡ old) × (after ≡ before)
 ActsLog capacity number old before (took ordinal moment ∷ acts) new after = (ordinal ≡ old.lane.connected) × ActsLog capacity number (lane_at (connected old.lane) old.counted) before acts new after
@@ -39,7 +41,8 @@ ActsLog capacity number old before (had ordinal b a t ∷ acts) new after = (mid
     × SubmitsAll (Logs capacity) (log (intake old.lane (conn_of number ordinal b) old.counted) before) (submissions t.events) (log (intake mid.lane (conn_of number ordinal a) mid.counted) between)
     × ActsLog capacity number mid between acts new after
 
--- Many connections were served at once, and this was received of them: the turns of each follow its transcript by the clock, and number its spans on; each was served to its end, unless a count would have passed 2^64-1.
+-- Many connections were served at once, and this was received of them: the turns of each follow its transcript by the
+-- clock, and number its spans on; each was served to its end, unless a count would have passed 2^64-1.
 pub record ReceivesMany (allowed : Allowed) (capacity : ℕ) (at : LaneAt) (before : List Arrival) (last : LaneAt) (after : List Arrival) (is_full : Bool) : Type 0 where
   pub acts : List Act
   pub open_at : (key : ℕ) → Option Exchange
@@ -74,14 +77,16 @@ abbrev pub Tallied : (is_full : Bool) → (gained : Count → ℕ) → List ℕ 
 Tallied true gained counted = Passes gained zeros
 Tallied false gained counted = Gains gained zeros counted
 
--- what was received is numbered, and was tried at ports that were first these, and counted, unless a number would have passed 2^64-1
+-- what was received is numbered, and was tried at ports that were first these, and counted, unless a number would have
+-- passed 2^64-1
 pub record Keeps (capacity number : ℕ) (first : List (EndState Item)) (is_full : Bool) (received : List Arrival) (ports : List (EndState Item)) (counted : List ℕ) : Type 0 where
   pub refused : ℕ
   pub numbered : AreNumbered number received
   pub tries : TriesOf capacity (λ (e : EndState Item). e.items) received first refused ports
   pub counts : Tallied is_full (lane_gains received refused) counted
 
--- of all that is served of a lane with new numbers, which keeps doubles or discards them, something was received, and it is kept so
+-- of all that is served of a lane with new numbers, which keeps doubles or discards them, something was received, and
+-- it is kept so
 abbrev pub IsReceived : {V : Type 0} → (serves : ℕ → V → LaneAt → V → LaneAt → Bool → Type 0) → (receives : ℕ → V → LaneAt → List Arrival → V → LaneAt → List Arrival → Bool → Type 0) → Type 0
 IsReceived {V} serves receives = (keeps_doubles : Bool) (capacity number : ℕ) (ports : List (EndState Item)) (old new : V) (last : LaneAt) (is_full : Bool)
     → serves capacity old (lane_at (record { number = number; connected = 0; ports = ports; keeps_doubles = keeps_doubles }) zeros) new last is_full

@@ -1,5 +1,5 @@
-//! What the threads of a run did is a run of the core: the promises of lanes, ticker, shards and exporter, with one history
-//! of each queue and of each limiter node, come to the lists that `span_weave` weaves.
+//! What the threads of a run did is a run of the core: the promises of lanes, ticker, shards and exporter, with one
+//! history of each queue and of each limiter node, come to the lists that `span_weave` weaves.
 //!
 //! The definitions are in `specs/`, to be read in this order: `Jobs` (what each thread promises), `Lanes` (what a lane
 //! received of its connections), `Received` (the same of connections that are served one by one, and of many at once),
@@ -16,8 +16,8 @@ use lane_turns::Driver;
 use lane_worker::{ByTurns, Feed, OneByOne, Ticks};
 
 /// What the workers of a run promise, with one history of each of their queues and limiter nodes, is all that the weave
-/// wants of running threads; and the report is the sum of what they counted. Each lane serves the connections of its feed
-/// one after the other.
+/// wants of running threads; and the report is the sum of what they counted. Each lane serves the connections of its
+/// feed one after the other.
 pub fn workers_ran<F: Feed, T: Ticks>()
     ensures { WorkersRan (serves_one_by_one (λ (s : OneByOne F). s.feed) F.gives (λ x. connection (F.Reader.given x.0) (F.Writer.contents x.1)))
         (receives_one_by_one (λ (s : OneByOne F). s.feed) F.gives (λ x. connection (F.Reader.given x.0) (F.Writer.contents x.1))) T.gives }

@@ -12,7 +12,7 @@ use Rattle.lane_seq.specs.declared.reply.Reply.{Reply}
 use Rattle.lane_seq.specs.declared.reply.Reply.TheVariants.{Busy}
 use Rattle.journal_theory.specs.Journal.{Settings}
 use Rattle.span_sink.specs.LineSinks.{LineSinkState, up_state, TakesWhole, FailsInside}
-use Rattle.span_batch.specs.Batches.{records_in, LineIsUnique}
+use Rattle.span_exporter.specs.Batches.{records_in, LineIsUnique}
 use Rattle.span_exporter.specs.Exports.{Sends, Spoils, WritesLine}
 use Rattle.span_exporter.specs.declared.answer.Flushed.{Flushed}
 use Rattle.span_exporter.specs.declared.answer.Flushed.TheVariants.{Handed, Spoiled, Empty}

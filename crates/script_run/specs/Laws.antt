@@ -13,7 +13,8 @@ use Rattle.script_run.specs.Calm.{Calm}
 use Rattle.script_run.specs.Counts.{number_reported}
 use Rattle.drop_ledger.specs.declared.count.Count.{Count}
 
--- settings and sizes with which a script can be played over so many lanes: the senders are the lanes and the ticker, and a batch and a limit hold something
+-- settings and sizes with which a script can be played over so many lanes: the senders are the lanes and the ticker,
+-- and a batch and a limit hold something
 pub record CanPlay (s : Settings) (sizes : Sizes) (lanes : ℕ) : Type 0 where
   pub some_lane : 0 < lanes
   pub senders : s.senders ≡ lanes + 1
@@ -33,7 +34,9 @@ EachIsARunOfCore = OfEachScript (λ s sizes lanes shards first after. IsRunOfCor
 abbrev pub EachWritesItsEvents : Type 0
 EachWritesItsEvents = OfEachScript (λ s sizes lanes shards first after. WritesAll first after.events after.sink × FailedOnce first after.sink)
 
--- two runs did the same: they received the same spans on the same connections, their shards took the same, their limiter was asked the same, their events and their counts are the same; where the bytes of the sink are known at first, they are the same at last
+-- two runs did the same: they received the same spans on the same connections, their shards took the same, their
+-- limiter was asked the same, their events and their counts are the same; where the bytes of the sink are known at
+-- first, they are the same at last
 pub record Agrees (s : Settings) (first : LineSinkState) (a b : World) : Type 0 where
   pub contacts : a.contacts ≡ b.contacts
   pub received : a.received ≡ b.received

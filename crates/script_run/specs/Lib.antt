@@ -1,4 +1,5 @@
--- To be read in this order: Connections, Requests (what a line gives), Limiting, Sending, World (what a run does), Counts, Writing (what it leaves), Calm, CoreRun, Laws (what holds of every run).
+-- To be read in this order: Connections, Requests (what a line gives), Limiting, Sending, World (what a run does),
+-- Counts, Writing (what it leaves), Calm, CoreRun, Laws (what holds of every run).
 pub mod Connections
 pub mod Requests
 pub mod Sending

@@ -6,7 +6,8 @@ use Rattle.policy_eval.specs.Amounts.{amount_at, granted_on}
 use Rattle.rate_budget.specs.Grant.{Asking}
 use Rattle.journal_theory.specs.Journal.{Settings, Entry, Journal, Opening, clock, due_now, policies_for, spans_since}
 
--- the limiter's answers to the decision on these spans in this second, in the order in which the policies ask that decide on them, after these askings, the latest of which comes first
+-- the limiter's answers to the decision on these spans in this second, in the order in which the policies ask that
+-- decide on them, after these askings, the latest of which comes first
 abbrev pub answers_to : Settings → List Asking → (second : ℕ) → List Arrival → List Bool
 answers_to s askings second spans =
     let granted = granted_on s.policies askings second spans in

@@ -18,7 +18,8 @@ pub data Reading : Type 0 where
   reads : Request → Reading
   refuses : Reply → Reading
 
--- where doubles are kept or discarded: a body is refused as no JSON or of the wrong shape only where it is; for want of memory, or of numbers, any body may be refused as busy
+-- where doubles are kept or discarded: a body is refused as no JSON or of the wrong shape only where it is; for want of
+-- memory, or of numbers, any body may be refused as busy
 abbrev pub IsTakenFor : (keeps_doubles : Bool) → List ℕ → Reading → Type 0
 IsTakenFor keeps_doubles body (reads request) = (d : Data) × IsJson body d × (request_of keeps_doubles d ≡ Some request)
 IsTakenFor keeps_doubles body (refuses (BadData Json)) = (d : Data) → IsJson body d → ⊥

@@ -25,7 +25,10 @@ pub data Event : Type 0 where
   replied : Reply → Event
   was_sent : Sent → Event
 
--- Between two lines of a script: the connections, the spans that were received and how many of them found their queue full, what each shard has taken, what the limiter was asked, the latest asking first, what was written in turn, what that left of the sink, and whether the script was closed. All that was due is decided, and all that was released was sent.
+-- Between two lines of a script: the connections, the spans that were received and how many of them found their queue
+-- full, what each shard has taken, what the limiter was asked, the latest asking first, what was written in turn, what
+-- that left of the sink, and whether the script was closed. All that was due is decided, and all that was released was
+-- sent.
 pub record World : Type 0 where
   pub contacts : Contacts
   pub received : List Arrival
@@ -55,7 +58,8 @@ pub record Sizes : Type 0 where
   pub queue : ℕ
   pub keeps_doubles : Bool
 
--- an item as it is taken: whether memory was refused to it, or to the decision that its opening put out of the buffer; no decision at it is answered yet
+-- an item as it is taken: whether memory was refused to it, or to the decision that its opening put out of the buffer;
+-- no decision at it is answered yet
 abbrev pub entry_of : Item → (refused lost : Bool) → Entry
 entry_of item refused lost = record { item = item; refused = refused; lost = lost; answers = [] }
 
@@ -78,7 +82,8 @@ Takes s before (item ∷ more) after = (refused lost : Bool) × (marks_apply s (
 abbrev pub TakesFor : Settings → Turn → List Item → Turn → (released : List Arrival) → Type 0
 TakesFor s before items after released = Takes s before items after × (output s after.journal ≡ output s before.journal ++ released)
 
--- each shard in its turn takes its items, and the limiter is lent to each in turn; what the first one releases comes first
+-- each shard in its turn takes its items, and the limiter is lent to each in turn; what the first one releases comes
+-- first
 abbrev pub TakesEach : Settings → (before : List Journal) → (asked : List Asking) → (items : List (List Item)) → (after : List Journal) → (asked_now : List Asking) → (released : List Arrival) → Type 0
 TakesEach s [] asked [] [] asked_now released = (released ≡ []) × (asked_now ≡ asked)
 TakesEach s (j ∷ js) asked (own ∷ others) (k ∷ ks) asked_now released = (first : List Arrival) × (rest : List Arrival) × (between : List Asking)
@@ -120,7 +125,8 @@ after_receiving number arrivals full old = record old {
   full = old.full + full;
 }
 
--- A request that was refused gives no span. One that was read gives its spans to the connection; those with valid ids are pushed to the empty queues of their shards, as far as these have room.
+-- A request that was refused gives no span. One that was read gives its spans to the connection; those with valid ids
+-- are pushed to the empty queues of their shards, as far as these have room.
 abbrev pub Answers : Settings → Sizes → World → (number moment : ℕ) → Reading → World → Type 0
 Answers s sizes old number moment (refuses reply) new =
     RepliesAndRuns s sizes (record old { contacts = with_connection number old.contacts }) reply [] new
@@ -130,7 +136,8 @@ Answers s sizes old number moment (reads request) new =
     × (pushed : IsPushed TakesLast IsFull arrivals (empty_queues sizes.queue (length old.journals)) reply queues)
     × RepliesAndRuns s sizes (after_receiving number arrivals pushed.refused old) reply (map (λ q. q.items) queues ∷ []) new
 
--- A request comes on the connection with this number. Where a new connection was refused the reply is busy, and there is no such connection.
+-- A request comes on the connection with this number. Where a new connection was refused the reply is busy, and there
+-- is no such connection.
 abbrev pub Receives : Settings → Sizes → World → (number moment : ℕ) → (body : List ℕ) → World → Type 0
 Receives s sizes old number moment body new =
     ((lookup (nat_eq number) old.contacts.connections ≡ None) × RepliesAndRuns s sizes old Busy [] new)
@@ -145,7 +152,8 @@ abbrev pub ends_from : {A : Type 0} → (sender senders : ℕ) → List A → Li
 ends_from sender zero each = []
 ends_from sender (suc more) each = to_each (End sender) each ∷ ends_from (sender + 1) more each
 
--- what an instruction does, where the script was not closed; behind a failed write only a close is played; at a close the lanes end, and then the ticker
+-- what an instruction does, where the script was not closed; behind a failed write only a close is played; at a close
+-- the lanes end, and then the ticker
 abbrev pub Plays : Settings → Sizes → World → Instruction → World → Type 0
 Plays s sizes old (receive number moment body) new = (old.closed ≡ false) × (old.sink.is_down ≡ false) × Receives s sizes old number moment body new
 Plays s sizes old (tick moment) new = (old.closed ≡ false) × (old.sink.is_down ≡ false) × RunsToQuiet s sizes old (to_each (Tick moment) old.journals ∷ []) new

@@ -1,14 +1,14 @@
 //! What a script means, and that each script that is played is a run of the core.
 //!
-//! The definitions are in `specs/`, to be read in this order: `Connections`, `Requests`, `Sending`, `Limiting`, `World` (what an
-//! instruction does), `Counts`, `Writing`, `CoreRun`, `Calm`, `Laws`. The functions of this crate do nothing: the contract
-//! of each is a law of all scripts.
+//! The definitions are in `specs/`, to be read in this order: `Connections`, `Requests`, `Sending`, `Limiting`, `World`
+//! (what an instruction does), `Counts`, `Writing`, `CoreRun`, `Calm`, `Laws`. The functions of this crate do nothing:
+//! the contract of each is a law of all scripts.
 #![tactic(auto)]
 
 ghost use Rattle.script_run.specs.Laws.{CalmRunsAgree, CalmScriptsAgree, CalmStopsAgree, EachIsARunOfCore, EachWritesItsEvents};
 
-/// The sink has the lines of the replies and of the batches that were handed over, in turn, and then at most a part of the
-/// line at which a write failed: behind that nothing more.
+/// The sink has the lines of the replies and of the batches that were handed over, in turn, and then at most a part of
+/// the line at which a write failed: behind that nothing more.
 pub fn writes_its_events()
     ensures { EachWritesItsEvents }
 {}
@@ -21,12 +21,12 @@ pub fn scripts_are_runs_of_the_core()
     ensures { EachIsARunOfCore }
 {}
 
-/// Two runs of one script receive, take and write the same, where in neither memory was refused or a write failed; where
-/// the bytes of the sink are known at first, the runs leave the same bytes.
+/// Two runs of one script receive, take and write the same, where in neither memory was refused or a write failed;
+/// where the bytes of the sink are known at first, the runs leave the same bytes.
 pub fn calm_runs_agree()
     ensures { CalmRunsAgree }
 {
-    span_batch::line_is_unique();
+    span_exporter::line_is_unique();
 }
 
 /// So where in neither run memory was refused or a write failed, what is received, taken, counted and written is one

@@ -9,7 +9,8 @@ use Rattle.drop_ledger.specs.declared.count.Count.TheVariants.{Received, Handed,
 use Rattle.script_run.specs.Sending.{Sent}
 use Rattle.script_run.specs.Counts.{counted_for}
 
--- so many spans were added to each count, and what was below 2^64 is so still; from the first number on that passed 2^64-1 there is no report
+-- so many spans were added to each count, and what was below 2^64 is so still; from the first number on that passed
+-- 2^64-1 there is no report
 abbrev pub Adds : (old : Option (List ℕ)) → (added : Count → ℕ) → (new : Option (List ℕ)) → Type 0
 Adds None added new = new ≡ None
 Adds (Some numbers) added (Some more) = (length more ≡ length numbers) × ((count : Count)

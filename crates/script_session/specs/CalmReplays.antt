@@ -28,7 +28,8 @@ RefusesCalmly run line = StopsAt (PlayedCalmly run) run.unread.left run.unread_a
 abbrev pub LeavesTheSame : (run other : Run) → Type 0
 LeavesTheSame run other = (run.taken_after ≡ other.taken_after) × (run.failures_after ≡ other.failures_after)
 
--- Two calm runs with the same settings, over the same script and from the same bytes of the sink, leave the same bytes, and have the same report; or they refuse the same line.
+-- Two calm runs with the same settings, over the same script and from the same bytes of the sink, leave the same bytes,
+-- and have the same report; or they refuse the same line.
 abbrev pub CalmReplaysAgree : Type 0
 CalmReplaysAgree = (run : Run) (taken : Option (List ℕ)) (failures : ℕ) (unread : KnownReader) (script bytes : List ℕ) → run.unread.left ≡ Some script → run.taken ≡ Some bytes
     → let other = with_end run taken failures unread in

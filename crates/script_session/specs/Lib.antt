@@ -1,4 +1,5 @@
--- To be read in this order: Replay, Answers, CalmReplays (what a run leaves and answers); Starting, Submitting, Signals, Pulling, Adding, Playing (for provers).
+-- To be read in this order: Replay, Answers, CalmReplays (what a run leaves and answers); Starting, Submitting,
+-- Signals, Pulling, Adding, Playing (for provers).
 pub mod Adding
 pub mod Pulling
 pub mod Replay

@@ -20,6 +20,7 @@ module _ {S : Type 0} {sink : Ghosts S} where
   abbrev pub PlaysOne : (old : Session S sink) → Instruction → (new : Session S sink) → Type 0
   PlaysOne old instruction new = (s : Settings) (w : World) → IsOf s w old → (after : World) × Plays s (sizes_of old) w instruction after × IsOf s after new
 
-  -- its sizes stay, that it keeps doubles or not, and that its sink is down; it is closed where the instruction closes it
+  -- its sizes stay, that it keeps doubles or not, and that its sink is down; it is closed where the instruction closes
+  -- it
   abbrev pub Leaves : (old : Session S sink) → Instruction → (new : Session S sink) → Type 0
   Leaves old instruction new = (new.queue_capacity ≡ old.queue_capacity) × GoesOn old.output new.output × (new.closed ≡ is_close instruction) × (new.keeps_doubles ≡ old.keeps_doubles)

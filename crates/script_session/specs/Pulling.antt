@@ -30,7 +30,8 @@ Export = ExporterState × Option (List ℕ)
 abbrev pub GoesOn : (old new : Export) → Type 0
 GoesOn old new = (new.0.size ≡ old.0.size) × (old.0.sink.is_down ≡ true → new.0.sink.is_down ≡ true)
 
--- The spans went into the batch in turn, which was sent each time that it was full. These numbers of spans were dropped, which is counted, and what became of the batches.
+-- The spans went into the batch in turn, which was sent each time that it was full. These numbers of spans were
+-- dropped, which is counted, and what became of the batches.
 pub record PullsAll (old : Export) (spans : List Arrival) (dropped : Reason → ℕ) (new : Export) : Type 0 where
   pub batches : List Sent
   pub full : AllByRecursion (λ (sent : Sent). length sent.batch ≡ old.0.size) batches
@@ -54,7 +55,8 @@ Counts = List LimiterCount
 abbrev pub has_nodes_of : Counts → Held → Bool
 has_nodes_of limiter h = knows (has_node limiter) (limiters (meaning h.policies))
 
--- the shard took these items and asked the limiter; what that released went into the batch, and what it dropped was counted
+-- the shard took these items and asked the limiter; what that released went into the batch, and what it dropped was
+-- counted
 pub record TakesAndPulls (s : Settings) (past : Turn) (items : List Item) (old : Export) (after : Turn) (new : Export) : Type 0 where
   pub released : List Arrival
   pub dropped : Reason → ℕ
@@ -67,12 +69,14 @@ pub record HasTaken (held : Held) (limiter : Counts) (turn : Turn) : Type 0 wher
   pub released_all : HasReleasedAll held turn.journal
   pub limiter_is : limiter ≡ limiter_counts (settings held).policies turn.askings
 
--- a shard that has released all took these items and decided all that was due by the limiter; what that released went into the batch, and it has released all again
+-- a shard that has released all took these items and decided all that was due by the limiter; what that released went
+-- into the batch, and it has released all again
 pub record TakesItems (old : Held) (first : Counts) (before : Export) (items : List Item) (new : Held) (last : Counts) (after : Export) : Type 0 where
   pub takes : (past : Turn) → HasTaken old first past
       → (now : Turn) × HasTaken new last now × TakesAndPulls (settings old) past items before now after
 
--- all that was due at the entry was decided by the limiter; what that released went into the batch, and what it dropped was counted
+-- all that was due at the entry was decided by the limiter; what that released went into the batch, and what it dropped
+-- was counted
 pub record DecidesAll (s : Settings) (e : Entry) (past : Turn) (before : Export) (new : Held) (last : Counts) (after : Export) : Type 0 where
   pub dealt : ℕ
   pub stands : StandsFor new (with_entry s past e).journal dealt
@@ -128,7 +132,8 @@ HaveReleased _ _ = ⊥
 abbrev pub dropped_by_all : Settings → Reason → List Journal → ℕ
 dropped_by_all s reason pasts = sum_by (dropped_by_journal s reason) pasts
 
--- shards with these journals have taken what `Takes` says of the journals now, the limiter's askings now and the spans released; these went into the batch, and what was dropped was counted
+-- shards with these journals have taken what `Takes` says of the journals now, the limiter's askings now and the spans
+-- released; these went into the batch, and what was dropped was counted
 pub record Taking (Takes : List Journal → List Asking → List Arrival → Type 0) (s : Settings) (pasts : List Journal) (before : Export) (new : List Held) (last : Counts) (after : Export) : Type 0 where
   pub nows : List Journal
   pub asked_now : List Asking
@@ -140,7 +145,8 @@ pub record Taking (Takes : List Journal → List Asking → List Arrival → Typ
   pub drops : (reason : Reason) → dropped_by_all s reason nows ≡ dropped_by_all s reason pasts + dropped reason
   pub pulls : PullsAll before released dropped after
 
--- each shard in its turn took its items, and the limiter was lent to each in turn; what that released went into the batch, and what it dropped was counted
+-- each shard in its turn took its items, and the limiter was lent to each in turn; what that released went into the
+-- batch, and what it dropped was counted
 pub record EachTakes (old : List Held) (first : Counts) (before : Export) (items : List (List Item)) (new : List Held) (last : Counts) (after : Export) : Type 0 where
   pub takes : (s : Settings) (pasts : List Journal) (asked : List Asking) → HaveSettings s old → HaveReleased old pasts → first ≡ limiter_counts s.policies asked
       → Taking (TakesEach s pasts asked items) s pasts before new last after
@@ -176,7 +182,8 @@ rounds_of received queues = if received then items_in queues ∷ [] else []
 abbrev pub HoldsQueued : QueueState Item → Type 0
 HoldsQueued queue = list_all is_queued queue.items ≡ true
 
--- the connections, the shards, the limiter, the exporter with the report, and whether all is closed are those of a world, and the shards have these settings
+-- the connections, the shards, the limiter, the exporter with the report, and whether all is closed are those of a
+-- world, and the shards have these settings
 pub record AreOf (s : Settings) (w : World) (contacts : Contacts) (shards : List Held) (limiter : Counts) (output : Export) (closed : Bool) : Type 0 where
   pub contacts_are : contacts ≡ w.contacts
   pub settings_are : HaveSettings s shards

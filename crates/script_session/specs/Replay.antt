@@ -19,11 +19,14 @@ use Rattle.script_run.specs.Counts.{Reports}
 use Rattle.script_run.specs.Writing.{WritesAll, FailedOnce}
 use Rattle.script_run.specs.CoreRun.{IsRunOfCore}
 
--- the settings of each shard of a run: its share of the traces and of the caches; its senders are the lanes and the ticker
+-- the settings of each shard of a run: its share of the traces and of the caches; its senders are the lanes and the
+-- ticker
 abbrev pub settings_by : Config → Settings
 settings_by config = settings_of config.policies config.decision_wait config.root_wait config.maximum_trace_size (config.num_traces / config.shards) (config.sampled_cache_size / config.shards) (config.non_sampled_cache_size / config.shards) (config.lanes + 1)
 
--- From the first state of the sink, these instructions lead to this one, and to these counts. What they do is a run of the core, for which the headline holds; the sink has the lines of the replies and of the batches that were handed over, and has failed once where it is down, else never.
+-- From the first state of the sink, these instructions lead to this one, and to these counts. What they do is a run of
+-- the core, for which the headline holds; the sink has the lines of the replies and of the batches that were handed
+-- over, and has failed once where it is down, else never.
 pub record Leads (s : Settings) (sizes : Sizes) (lanes shards : ℕ) (first : LineSinkState) (played : List Instruction) (last : LineSinkState) (report : Option (List ℕ)) : Type 0 where
   pub after : World
   pub plays : PlaysAll s sizes (new_world lanes shards first) played after
@@ -33,7 +36,8 @@ pub record Leads (s : Settings) (sizes : Sizes) (lanes shards : ℕ) (first : Li
   pub writes : WritesAll first after.events last
   pub failed : FailedOnce first last
 
--- what the run knows: its settings, the sink's bytes and failures before and after, and what the reader had given and had left
+-- what the run knows: its settings, the sink's bytes and failures before and after, and what the reader had given and
+-- had left
 pub record Run : Type 0 where
   pub settings : Settings
   pub sizes : Sizes
@@ -62,7 +66,8 @@ Played run played = (report : Option (List ℕ)) × LeadsIn run played (up_state
 abbrev pub ClosesWith : Run → LineSinkState → Option (List ℕ) → List Instruction → Type 0
 ClosesWith run last report played = (leads : LeadsIn run played last report) × (leads.after.closed ≡ true)
 
--- a write had failed when these instructions had been played, and a close behind them, played in the world to which they had led, led to this state of the sink and these counts
+-- a write had failed when these instructions had been played, and a close behind them, played in the world to which
+-- they had led, led to this state of the sink and these counts
 pub record FellBefore (run : Run) (last : LineSinkState) (report : Option (List ℕ)) (played : List Instruction) : Type 0 where
   pub mid : World
   pub plays : PlaysAll run.settings run.sizes (new_world run.lanes run.shards (first_state run)) played mid

@@ -28,7 +28,8 @@ received_by (Partial spans invalid full) (Dropped InvalidId) = invalid
 received_by (Partial spans invalid full) (Dropped QueueFull) = full
 received_by _ _ = 0
 
--- A request was refused, at a new connection for want of memory or by its body, or it was read: its spans were pushed to the queues of their shards.
+-- A request was refused, at a new connection for want of memory or by its body, or it was read: its spans were pushed
+-- to the queues of their shards.
 abbrev pub Submits : (keeps_doubles : Bool) → Contacts → (number moment : ℕ) → (body : List ℕ) → (before : List (QueueState Item)) → Reply → (after : List (QueueState Item)) → Contacts → Type 0
 Submits keeps_doubles old number moment body before reply after new =
     ((lookup (nat_eq number) old.connections ≡ None) × (reply ≡ Busy) × (after ≡ before) × (new ≡ old))

@@ -1,7 +1,11 @@
 //! A script of requests and moments, run in one thread: lanes, queues, shards, exporter and counts together.
 //!
-//! [`replay_run`] promises that what it did is what the script's instructions lead to, and so a run of the core: `specs/Replay`
-//! says what each of its answers tells of the reader, the sink and the report.
+//! [`replay_run`] promises that what it did is what the script's instructions lead to, and so a run of the core:
+//! `specs/Replay` says what each of its answers tells of the reader, the sink and the report.
+//!
+//! ```
+//! let (sink, answer) = replay_run(alloc, config, &mut reader, sink);
+//! ```
 #![tactic(auto)]
 
 mod connections;

@@ -11,8 +11,8 @@ use span_exporter::{Exporter, Flushed, Pulled};
 use span_sink::Sink;
 use std::marker::Model;
 
-/// The exporter, whose open batch has room, and the counts, or `None` once a count would have passed 2^64-1. Contracts see
-/// both.
+/// The exporter, whose open batch has room, and the counts, or `None` once a count would have passed 2^64-1. Contracts
+/// see both.
 #[derive(Drop)]
 pub struct Output<S: Sink> {
     exporter: Exporter<S>,

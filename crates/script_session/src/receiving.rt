@@ -13,8 +13,8 @@ use span_ids::{Moment, Reason};
 use span_sink::Sink;
 use std::alloc::Global;
 
-/// Reads a request on the lane of its connection, which keeps doubles or discards them: its spans get their numbers and go to the queues of their shards, one
-/// for each. The reply tells what became of it. The queues come back.
+/// Reads a request on the lane of its connection, which keeps doubles or discards them: its spans get their numbers and
+/// go to the queues of their shards, one for each. The reply tells what became of it. The queues come back.
 pub(crate) fn submit(
     alloc: Global,
     keeps_doubles: bool,

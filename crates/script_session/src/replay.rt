@@ -28,9 +28,9 @@ use tsc_script::{Source, play_script};
 
 /// Runs a script, and gives the sink back. A connection is served by the lane of its number modulo the number of lanes.
 ///
-/// A reply line and the lines of batches go to the sink, line by line as the script goes on. At most 2^32 reads are made, and
-/// a script ends before its end only for a cause in what they gave. Where the type of the reader or of the sink doesn't tell
-/// its bytes (`given`, `taken`), nothing is claimed of them.
+/// A reply line and the lines of batches go to the sink, line by line as the script goes on. At most 2^32 reads are
+/// made, and a script ends before its end only for a cause in what they gave. Where the type of the reader or of the
+/// sink doesn't tell its bytes (`given`, `taken`), nothing is claimed of them.
 pub fn replay_run<R: Source, S: Sink>(
     alloc: Global,
     config: Config,
@@ -156,8 +156,8 @@ fn new_shards(alloc: Global, config: &Config, shards: usize) -> Result<Vec<Shard
     Ok(made)
 }
 
-/// A shard with its share of the traces and of the caches. Its senders are the lanes and the ticker. Trace ids are hashed by a
-/// fixed function: they stand in the script.
+/// A shard with its share of the traces and of the caches. Its senders are the lanes and the ticker. Trace ids are
+/// hashed by a fixed function: they stand in the script.
 fn new_shard(alloc: Global, config: &Config) -> Result<Shard, AllocError>
     requires waits { 0 < config.now.decision_wait }
     requires lanes { 0 < config.now.lanes }

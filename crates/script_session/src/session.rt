@@ -29,8 +29,8 @@ use std::alloc::Global;
 use std::mem;
 use tsc_script::{Command, Machine, Stop};
 
-/// The connections, the shards and the exporter, between two lines of a script: the queues are empty, all that was due is
-/// decided, and all that was released has gone to the sink.
+/// The connections, the shards and the exporter, between two lines of a script: the queues are empty, all that was due
+/// is decided, and all that was released has gone to the sink.
 #[derive(Drop)]
 pub struct Session<S: Sink> {
     pub alloc: Global,

@@ -10,7 +10,8 @@ use Rattle.decision_cache.specs.Lists.{CacheLists}
 use Rattle.policy_tree.specs.Meaning.{meaning}
 use Rattle.policy_tree.specs.declared.policy.Policy.{Policy}
 
--- what a shard was made with, and what it holds: the greatest size of a trace is bytes, 0 for none; the limit is on the traces of the buffer, a cache of size 0 is off
+-- what a shard was made with, and what it holds: the greatest size of a trace is bytes, 0 for none; the limit is on the
+-- traces of the buffer, a cache of size 0 is off
 pub record Held : Type 0 where
   pub policies : List Policy
   pub wait : ℕ
@@ -58,6 +59,7 @@ has_due h = list_any (is_due_in h) h.standing.episodes
 abbrev pub due_by : Held → ℕ × ℕ × ℕ
 due_by h = if is_finished h then (h.standing.clock, 0, 0) else (h.standing.mark, h.wait, h.root_wait)
 
--- the shard stands for the journal, where of the decisions at its last item the first `dealt` were dealt with, and just these and all before are answered
+-- the shard stands for the journal, where of the decisions at its last item the first `dealt` were dealt with, and just
+-- these and all before are answered
 abbrev pub StandsFor : Held → Journal → (dealt : ℕ) → Type 0
 StandsFor h past dealt = StoppedInTime (settings h) past × (h.standing ≡ standing (settings h) past dealt) × IsAnsweredUpTo (settings h) past dealt

@@ -1,4 +1,5 @@
--- To be read in this order: Held, Taking (what a caller sees); Holding, Forgotten (for provers). The words for journals are those of `journal_theory`.
+-- To be read in this order: Held, Taking (what a caller sees); Holding, Forgotten (for provers). The words for journals
+-- are those of `journal_theory`.
 pub mod Held
 pub mod Taking
 pub mod Holding

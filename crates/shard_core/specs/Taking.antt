@@ -160,8 +160,10 @@ abbrev pub journal_after : Decided → Journal → (answers : List Bool) → Jou
 journal_after Nothing past answers = past
 journal_after _ past answers = answered past answers
 
--- What `decide` does to a shard and a limiter by these answers of the limiter, by the episodes that are still to be decided: nothing, where none is;
--- else the first is decided on its spans as the policies say with these answers, or as no policy does where they are too big, and the limiter was asked just what they ask, in this second, for its spans or their bytes.
+-- What `decide` does to a shard and a limiter by these answers of the limiter, by the episodes that are still to be
+-- decided: nothing, where none is; else the first is decided on its spans as the policies say with these answers, or as
+-- no policy does where they are too big, and the limiter was asked just what they ask, in this second, for its spans or
+-- their bytes.
 abbrev pub DecidesFirst : {L : Type 0} → (asks : L → ℕ → ℕ → ℕ → Bool → L → Type 0) → (old new : Held) → Decided → (before after : L) → (answers : List Bool) → Journal → List Opening → Type 0
 DecidesFirst asks old new answer before after answers past [] = (answer ≡ Nothing) × (new ≡ old) × (after ≡ before)
 DecidesFirst asks old new answer before after answers past (o ∷ later) =
@@ -179,15 +181,16 @@ AddsDecision s answer answers past dealt =
     (released_dealt s later n ≡ released_dealt s past dealt ++ released_in answer)
     × ((reason : Reason) → dropped_dealt s later n reason ≡ dropped_dealt s past dealt reason + dropped_in reason answer)
 
--- What `decide` does: there are answers of the limiter by which the first due episode is decided, whichever journal the shard stood for; it then stands for that
--- journal with these answers and one more decision dealt with.
+-- What `decide` does: there are answers of the limiter by which the first due episode is decided, whichever journal the
+-- shard stood for; it then stands for that journal with these answers and one more decision dealt with.
 abbrev pub Decides : {L : Type 0} → (asks : L → ℕ → ℕ → ℕ → Bool → L → Type 0) → (old new : Held) → Decided → (before after : L) → Type 0
 Decides asks old new answer before after = (answers : List Bool) × ((past : Journal) (dealt : ℕ) → StandsFor old past dealt →
     DecidesFirst asks old new answer before after answers past (drop dealt (due_now (settings old) past))
     × StandsFor new (journal_after answer past answers) (dealt_after answer dealt)
     × AddsDecision (settings old) answer answers past dealt)
 
--- which policy decided by these answers of the limiter, by the episodes that are still to be decided: the one that decides on the spans of the first, and none where there is none
+-- which policy decided by these answers of the limiter, by the episodes that are still to be decided: the one that
+-- decides on the spans of the first, and none where there is none
 abbrev pub TellsDecider : Settings → (decider : Option ℕ) → (answers : List Bool) → Journal → List Opening → Type 0
 TellsDecider s decider answers past [] = decider ≡ None
 TellsDecider s decider answers past (o ∷ later) = decider ≡ decider_given (policies_for s (spans_since past o)) answers (spans_since past o)

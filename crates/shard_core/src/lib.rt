@@ -2,9 +2,17 @@
 //! and hands late spans on by it (tailsamplingprocessor README, `decision_wait`).
 //!
 //! What a shard answers is a function of the list of items that it has taken, its journal, and of where memory was
-//! refused. No journal is stored: each clause speaks of every journal that the shard stands for. The words for journals are
-//! those of `journal_theory`, whose module `laws`, of what holds of every journal, is shown here too.
-//! The buffer holds so many traces at most; the verdict of a decided trace that leaves it goes into a cache of decisions.
+//! refused. No journal is stored: each clause speaks of every journal that the shard stands for. The words for journals
+//! are those of `journal_theory`, whose module `laws`, of what holds of every journal, is shown here too. The buffer
+//! holds so many traces at most; the verdict of a decided trace that leaves it goes into a cache of decisions.
+//!
+//! ```
+//! let mut shard = Shard::new(alloc, policies, setup)?;
+//! let taken = shard.take(Item::Tick(now), true);
+//! while shard.has_due() {
+//!     let decided = shard.decide(&mut limiter);
+//! }
+//! ```
 #![tactic(auto)]
 
 mod answer;

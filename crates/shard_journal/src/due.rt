@@ -103,8 +103,8 @@ fn oversized(
     Ok(due)
 }
 
-/// Whether an undecided episode is due at a tick, the last of these items: it opened long enough before, or root wait is on
-/// and some root was taken long enough before, or it is too big.
+/// Whether an undecided episode is due at a tick, the last of these items: it opened long enough before, or root wait
+/// is on and some root was taken long enough before, or it is too big.
 fn is_due(
     alloc: Global,
     settings: &Settings,
@@ -119,8 +119,8 @@ fn is_due(
     is_oversized(alloc, settings, past, opening)
 }
 
-/// Whether an episode opened long enough before the last of these items, or root wait is on and some root was taken long
-/// enough before.
+/// Whether an episode opened long enough before the last of these items, or root wait is on and some root was taken
+/// long enough before.
 fn has_waited_enough(settings: &Settings, past: &[Entry], opening: &Opening) -> bool
     ensures { result ≡ (nat_le (opening.now.moment + settings.now.wait) (clock (reverse past.now)) || (nat_lt 0 settings.now.root_wait && is_root_past settings.now.root_wait (clock (reverse past.now)) (reverse past.now) opening.now)) }
 {

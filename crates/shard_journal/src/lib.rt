@@ -1,8 +1,8 @@
 //! What a shard's journal says, computed by looking back over the items that the shard took.
 //!
-//! It holds no buffer and no cache: each answer is read off the list of items, as the definitions of `journal_theory` say.
-//! It is slow, and serves as the plain form against which a shard is compared. In a slice of entries the oldest stands
-//! first. Memory is refused by an `Err`; nothing that was handed in changes.
+//! It holds no buffer and no cache: each answer is read off the list of items, as the definitions of `journal_theory`
+//! say. It is slow, and serves as the plain form against which a shard is compared. In a slice of entries the oldest
+//! stands first. Memory is refused by an `Err`; nothing that was handed in changes.
 #![tactic(auto)]
 
 mod answers;

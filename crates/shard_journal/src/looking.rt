@@ -85,8 +85,8 @@ impl LookBack {
         }
     }
 
-    /// Whether these marks can apply to a span with these ids that is taken after the journal: memory is refused at most
-    /// to an append or an opening, and lost at most by the put of a decision that an opening evicts.
+    /// Whether these marks can apply to a span with these ids that is taken after the journal: memory is refused at
+    /// most to an append or an opening, and lost at most by the put of a decision that an opening evicts.
     pub fn marks_apply(
         &self,
         settings: &Settings,

@@ -16,8 +16,8 @@ use policy_eval::{judge, verdict_given};
 use span_ids::Verdict;
 use span_size::size_of;
 
-/// The verdict on these spans, where the askings of a limiter get these answers in turn. `None` where their number isn't
-/// that of the askings: there is none where the spans are too big. It takes no memory that can be refused.
+/// The verdict on these spans, where the askings of a limiter get these answers in turn. `None` where their number
+/// isn't that of the askings: there is none where the spans are too big. It takes no memory that can be refused.
 pub fn judge_spans(
     settings: &Settings,
     spans: &[Arrival],

@@ -18,8 +18,8 @@ use std::sync::Wait;
 pub struct SharedBudget;
 
 impl SharedBudget {
-    /// So many seats at each limiter node of the policies, before any asking. All memory is reserved here: `Err` where some
-    /// of it was refused. Each seat holds the handle by which it waits.
+    /// So many seats at each limiter node of the policies, before any asking. All memory is reserved here: `Err` where
+    /// some of it was refused. Each seat holds the handle by which it waits.
     pub fn new<'r, R: Wait>(
         rt: &'r R,
         alloc: Global,
@@ -37,8 +37,8 @@ impl SharedBudget {
         Ok(all)
     }
 
-    /// Compares the seats that one [`SharedBudget::new`] gave, once all have ended: each node has one history with every
-    /// seat's askings.
+    /// Compares the seats that one [`SharedBudget::new`] gave, once all have ended: each node has one history with
+    /// every seat's askings.
     pub fn reunite<'r, R: Wait>(seats: Vec<BudgetSeat<'r, R>>)
         requires { AreOfOneBudget seats.items }
         ensures { HaveOneHistoryEach seats.entry.items }

@@ -15,8 +15,8 @@ pub fn asked_seats_may_be_compared()
     ensures same { SameCellsSuffice }
 {}
 
-/// Each seat that one call makes is at every limiter node of the policies, so that it may be lent to their decisions. No
-/// asking changes that (`keeps` of its `Limiter`).
+/// Each seat that one call makes is at every limiter node of the policies, so that it may be lent to their decisions.
+/// No asking changes that (`keeps` of its `Limiter`).
 pub fn new_seats_have_nodes()
     ensures { NewSeatsHaveNodes }
 {}

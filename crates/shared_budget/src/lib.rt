@@ -2,8 +2,14 @@
 //! granted to all of them together is at most what the limit grants to one.
 //!
 //! A limiter node has one cell of two words, the greatest second asked and what is spent in it. Whatever the schedule,
-//! the node has one history of askings at every moment, in which each is answered by the askings before it. The definitions
-//! are in `specs/`, their reading order in its `Lib`.
+//! the node has one history of askings at every moment, in which each is answered by the askings before it. The
+//! definitions are in `specs/`, their reading order in its `Lib`.
+//!
+//! ```
+//! let seats = SharedBudget::new(&rt, alloc, &policies, shards)?;
+//! // Each shard's thread asks by its own seat. Once all are back:
+//! SharedBudget::reunite(seats);
+//! ```
 #![tactic(auto)]
 
 mod budget;

@@ -1,4 +1,9 @@
 //! The shortest decimal text that reads as a 64-bit float again.
+//!
+//! ```
+//! assert!(text_of(0.1).as_str() == "0.1");
+//! assert!(text_of(5e-324).as_str() == "5e-324");
+//! ```
 #![tactic(auto)]
 
 ghost use Rattle.std.specs.Prelude.{◌≡◌, ◌≤◌, true, length, IsAscii};

@@ -44,7 +44,8 @@ abbrev pub PopsLead : {I : Type 0} → (gives : I → Option (ℕ × Shipment) �
 PopsLead gives old [] new = new ≡ old
 PopsLead {I} gives old (turn ∷ turns) new = (between : I) × gives old (given_in turn) between × PopsLead gives between turns new
 
--- The calls were made in turns: the batch was flushed where a pop gave nothing, and behind a shipment that filled it or was the last End, and nowhere else.
+-- The calls were made in turns: the batch was flushed where a pop gave nothing, and behind a shipment that filled it or
+-- was the last End, and nowhere else.
 pub record InTurns {I : Type 0} (gives : I → Option (ℕ × Shipment) → I → Type 0) (old new : I) (calls : List (ℕ × ExporterCall)) : Type 0 where
   pub turns : List Turn
   pub makes : calls ≡ calls_in turns

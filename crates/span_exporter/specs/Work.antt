@@ -49,7 +49,8 @@ counted_by Empty spans count = 0
 abbrev pub counted_in : List FlushedBatch → Count → ℕ
 counted_in batches count = sum_by (λ (b : FlushedBatch). counted_by b.answer (length b.spans) count) batches
 
--- An exporter with an empty batch, of whose shards none had ended, was called so, and ended with this exporter and receiver.
+-- An exporter with an empty batch, of whose shards none had ended, was called so, and ended with this exporter and
+-- receiver.
 pub record Works (old new : ExporterState) (receiver : ReceiverState Shipment) (before after : TallyState) (calls : List (ℕ × ExporterCall)) : Type 0 where
   -- what the calls did
   pub leads : CallsLead old (calls_of calls) new

@@ -10,7 +10,8 @@ use std::time::Clock;
 
 /// Gives shipments, one after the other, each of one shard.
 pub trait Inbox {
-    /// What one call of `next` does: the inbox before it, what it gave, with the number of the shard, and the inbox after it.
+    /// What one call of `next` does: the inbox before it, what it gave, with the number of the shard, and the inbox
+    /// after it.
     ghost gives: { Self → Option (ℕ × ShipmentValue) → Self → Type 0 };
 
     /// The next shipment, or `None` where nothing waits.

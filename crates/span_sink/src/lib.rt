@@ -12,6 +12,6 @@ mod sink;
 mod write_sink;
 
 pub use law::takes_handed_lines;
-pub use line_sink::LineSink;
+pub use line_sink::{LineSink, write_whole};
 pub use sink::{Sink, SinkFault};
 pub use write_sink::WriteSink;

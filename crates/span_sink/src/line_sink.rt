@@ -59,31 +59,28 @@ impl<S: Sink> LineSink<S> {
         if self.is_down {
             return Err(SinkFault::Down);
         }
-        if write_whole(&mut self.sink, line) {
-            Ok(())
-        } else {
+        if write_whole(&mut self.sink, line) < line.len() {
             self.is_down = true;
-            Err(SinkFault::Failed)
+            return Err(SinkFault::Failed);
         }
+        Ok(())
     }
 }
 
-/// Writes until all of the text is taken, or a write fails, and answers whether all was taken.
-fn write_whole<S: Sink>(sink: &mut S, text: &[u8]) -> bool
+/// Writes until all of the text is taken, or a write fails, and answers how many bytes were taken.
+pub fn write_whole<S: Sink>(sink: &mut S, text: &[u8]) -> usize
     requires { S.failures sink.old < 2 ^ 64 - 1 }
-    ensures whole { result ≡ true → TakesWhole
-        (up_state (S.taken sink.old) (S.failures sink.old)) text.now
-        (up_state (S.taken sink.new) (S.failures sink.new)) }
-    ensures part { result ≡ false → FailsInside
-        (up_state (S.taken sink.old) (S.failures sink.old)) text.now
-        (down_state (S.taken sink.new) (S.failures sink.new)) }
+    ensures within { result ≤ length text.now }
+    ensures taken { Appends (S.taken sink.old) (S.taken sink.new) (take result text.now) }
+    ensures whole { result ≡ length text.now → S.failures sink.new ≡ S.failures sink.old }
+    ensures part { result < length text.now → S.failures sink.new ≡ S.failures sink.old + 1 }
 {
     let mut rest = text;
     while !rest.is_empty() {
         match sink.write(rest) {
             Ok(count) => rest = &rest[count..],
-            Err(_) => return false,
+            Err(_) => return text.len() - rest.len(),
         }
     }
-    true
+    text.len()
 }

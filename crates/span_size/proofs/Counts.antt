@@ -1,6 +1,6 @@
 -- Tokens that are counted one after the other.
 -- For the clauses of `Counter` and of what is counted.
-use Rattle.std.proofs.Common.{◌≡◌, ℕ, ◌+◌, Bool, true, false, ◌&&◌, cond, length, List, [], ◌∷◌, ◌++◌, refl, sym, ap, ◌∙◌, length-append, arith}
+use Rattle.std.proofs.Common.{◌≡◌, ℕ, ◌+◌, Bool, true, false, ◌&&◌, cond, length, List, [], ◌∷◌, ◌++◌, refl, sym, ap, ◌∙◌, length-append, append_assoc, subst, arith}
 use Rattle.json.specs.Token.{Token}
 use Rattle.json.specs.Print.{token_text, begins, ends, separator, print_from}
 use Rattle.span_size.specs.declared.counter.Counter.{Counter}
@@ -39,6 +39,10 @@ then {a} {b} {c} {xs} {ys} p q =
       bytes = λ n h. q.bytes (n + printed a.after_value xs) (p.bytes n h) ∙ ap capped (omega (arith, split, place));
       place = q.place ∙ ap (λ (b : Bool). ends_after b ys) p.place ∙ sym (ends-append a.after_value xs ys);
     }
+
+-- these in two parts, and then those
+pub then-both : {a b c : Counter} (xs ys zs : List Token) → Adds a b (xs ++ ys) → Adds b c zs → Adds a c (xs ++ (ys ++ zs))
+then-both {a} {b} {c} xs ys zs p q = subst (λ (ts : List Token). Adds a c ts) (append_assoc xs ys zs) (then p q)
 
 -- one token: its text, and the comma before it
 printed-one : (b : Bool) (t : Token) → printed b (t ∷ []) ≡ cond (b && begins t) 1 0 + length (token_text t)

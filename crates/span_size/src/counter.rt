@@ -38,30 +38,18 @@ impl Counter {
         self.after_value = ends_value;
     }
 
-    /// The brace that opens an object.
-    pub fn begin_object(&mut self)
-        ensures { Adds self.old self.new (begin_object ∷ []) }
+    /// The brace that opens an object, or the bracket that opens an array.
+    pub fn begin_nested(&mut self)
+        ensures object { Adds self.old self.new (begin_object ∷ []) }
+        ensures array { Adds self.old self.new (begin_array ∷ []) }
     {
         self.token(1, true, false);
     }
 
-    /// The brace that closes an object.
-    pub fn end_object(&mut self)
-        ensures { Adds self.old self.new (end_object ∷ []) }
-    {
-        self.token(1, false, true);
-    }
-
-    /// The bracket that opens an array.
-    pub fn begin_array(&mut self)
-        ensures { Adds self.old self.new (begin_array ∷ []) }
-    {
-        self.token(1, true, false);
-    }
-
-    /// The bracket that closes an array.
-    pub fn end_array(&mut self)
-        ensures { Adds self.old self.new (end_array ∷ []) }
+    /// The brace that closes an object, or the bracket that closes an array.
+    pub fn end_nested(&mut self)
+        ensures object { Adds self.old self.new (end_object ∷ []) }
+        ensures array { Adds self.old self.new (end_array ∷ []) }
     {
         self.token(1, false, true);
     }
@@ -122,10 +110,11 @@ impl Counter {
         }
     }
 
-    /// The bytes of an id as text: two hex digits each, with the quotes.
-    pub fn id(&mut self, bytes: &[u8])
-        ensures { Adds self.old self.new (string (id_text bytes.now) ∷ []) }
+    /// A member whose value is the text of an id: two hex digits a byte, with the quotes.
+    pub fn id_member(&mut self, name: &str, bytes: &[u8])
+        ensures { Adds self.old self.new (key name.now ∷ string (id_text bytes.now) ∷ []) }
     {
+        self.key(name);
         let digits = (bytes.len() as u64).saturating_mul(2);
         self.token(digits.saturating_add(2), true, true);
     }

@@ -1,16 +1,16 @@
 //! Fields by their kinds, counted as they would be written. A default is left out.
-ghost use Rattle.std.specs.Prelude.{◌≡◌, ◌∷◌, [], Some, map, codes, true, false};
+ghost use Rattle.std.specs.Prelude.{◌≡◌, ◌∷◌, [], Some, map, codes, true};
 ghost use Rattle.std.specs.Fmt.{signed_decimal};
 ghost use Rattle.std.specs.Float.{float_is_finite};
 ghost use Rattle.serde_json.specs.Data.{Members, no_members, string, boolean, object};
 ghost use Rattle.json.specs.Token.{key as key_token, string as string_token, number as json_number};
-ghost use Rattle.otlp_types.specs.declared.value.AnyValue.{Empty};
 ghost use Rattle.otlp_types.specs.Doubles.{double_text};
 ghost use Rattle.otlp_json.specs.Tokens.{value_tokens};
 ghost use Rattle.otlp_json.specs.Writing.{text_field, u32_field, u64_field, enum_field, message_field, list_field, fields as fields_of, double_data, value_fields, pair_fields};
 ghost use Rattle.span_size.specs.Counting.{Adds, AddsField, AddsObject};
 
 use crate::counter::Counter;
+use otlp_json::{double_name, is_set};
 use otlp_types::{AnyValue, Double, KeyValue, List, Text};
 
 /// What is written as a JSON object.
@@ -28,10 +28,10 @@ impl Counted for KeyValue {
 
     #[cycle(count)]
     fn count(&self, out: &mut Counter) {
-        out.begin_object();
+        out.begin_nested();
         text(out, "key", &self.key);
         count_set_value(out, &self.value);
-        out.end_object();
+        out.end_nested();
     }
 }
 
@@ -109,11 +109,11 @@ pub fn list<T: Counted>(out: &mut Counter, name: &str, items: &[T])
         return;
     }
     out.key(name);
-    out.begin_array();
+    out.begin_nested();
     for item in items {
         item.count(out);
     }
-    out.end_array();
+    out.end_nested();
 }
 
 /// The object of a value that is a list: its one member holds the items under `values`.
@@ -121,40 +121,40 @@ fn object_of_list<T: Counted>(out: &mut Counter, key: &str, items: &List<T>)
     ensures { AddsObject out.old out.new (fields_of
         ((key.now, Some (object (fields_of ((codes "values", list_field (map T.fields items.now)) ∷ [])))) ∷ [])) }
 {
-    out.begin_object();
+    out.begin_nested();
     out.key(key);
-    out.begin_object();
+    out.begin_nested();
     list(out, "values", items.as_slice());
-    out.end_object();
-    out.end_object();
+    out.end_nested();
+    out.end_nested();
 }
 
 /// The object of the value that is not set.
 fn object_of_none(out: &mut Counter)
     ensures { AddsObject out.old out.new no_members }
 {
-    out.begin_object();
-    out.end_object();
+    out.begin_nested();
+    out.end_nested();
 }
 
 /// An object with this text alone, also where it is empty.
 fn object_of_text(out: &mut Counter, name: &str, text: &Text)
     ensures { AddsObject out.old out.new (fields_of ((name.now, Some (string text.now)) ∷ [])) }
 {
-    out.begin_object();
+    out.begin_nested();
     out.key(name);
     out.string(text.as_str());
-    out.end_object();
+    out.end_nested();
 }
 
 /// The object of a truth value.
 fn object_of_bool(out: &mut Counter, b: bool)
     ensures { AddsObject out.old out.new (fields_of ((codes "boolValue", Some (boolean b)) ∷ [])) }
 {
-    out.begin_object();
+    out.begin_nested();
     out.key("boolValue");
     out.boolean(b);
-    out.end_object();
+    out.end_nested();
 }
 
 /// The object of an integer, as text, behind a reference, so that it is known to be within its type's range.
@@ -162,10 +162,10 @@ fn object_of_integer(out: &mut Counter, n: &i64)
     ensures { AddsObject out.old out.new
         (fields_of ((codes "intValue", Some (string (signed_decimal n.now))) ∷ [])) }
 {
-    out.begin_object();
+    out.begin_nested();
     out.key("intValue");
     out.quoted_i64(*n);
-    out.end_object();
+    out.end_nested();
 }
 
 /// The object of a double.
@@ -173,10 +173,10 @@ fn object_of_double(out: &mut Counter, x: &Double)
     ensures { AddsObject out.old out.new
         (fields_of ((codes "doubleValue", Some (double_data x.now)) ∷ [])) }
 {
-    out.begin_object();
+    out.begin_nested();
     out.key("doubleValue");
     double(out, x);
-    out.end_object();
+    out.end_nested();
 }
 
 /// A double: a number, or a name in place of one.
@@ -188,7 +188,7 @@ fn double(out: &mut Counter, x: &Double)
         number(out, x);
         return;
     }
-    out.string(name(value));
+    out.string(double_name(value));
 }
 
 /// A finite double, as a number.
@@ -198,20 +198,6 @@ fn number(out: &mut Counter, x: &Double)
 {
     let text = x.text();
     out.number(text.as_str());
-}
-
-/// The name of a double that is not finite.
-fn name(x: f64) -> &'static str
-    requires { float_is_finite x ≡ false }
-    ensures { string result.now ≡ double_data x }
-{
-    if x.is_nan() {
-        "NaN"
-    } else if x.is_sign_negative() {
-        "-Infinity"
-    } else {
-        "Infinity"
-    }
 }
 
 /// The field `value` of a pair, where one is set.
@@ -224,22 +210,4 @@ fn count_set_value(out: &mut Counter, value: &AnyValue)
     }
     out.key("value");
     value.count(out);
-}
-
-/// Whether a value is set: its object has a member then.
-fn is_set(value: &AnyValue) -> bool
-    ensures unset { result ≡ false → value.now ≡ Empty }
-    ensures set { result ≡ true
-        → message_field (value_fields value.now) ≡ Some (object (value_fields value.now)) }
-{
-    match value {
-        AnyValue::Empty => false,
-        AnyValue::Str(_) => true,
-        AnyValue::Bool(_) => true,
-        AnyValue::Int(_) => true,
-        AnyValue::Double(_) => true,
-        AnyValue::Array(_) => true,
-        AnyValue::KvList(_) => true,
-        AnyValue::Bytes(_) => true,
-    }
 }

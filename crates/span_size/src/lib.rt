@@ -2,6 +2,10 @@
 //!
 //! What is proved: [`span_size`] and [`size_of`] answer exactly that size, up to 2^64 - 1, and one span more adds its
 //! own size. They take no memory.
+//!
+//! ```
+//! let bytes = size_of(episode.spans());
+//! ```
 #![tactic(auto)]
 
 ghost use Rattle.std.specs.Prelude.{◌≡◌, ◌-◌, ◌^◌, min, length};

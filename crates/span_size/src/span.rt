@@ -1,58 +1,51 @@
 //! Spans and what they hold, counted.
-ghost use Rattle.std.specs.Prelude.{◌≡◌, codes};
-ghost use Rattle.otlp_json.specs.Tokens.{span_counts, span_head, span_tail};
-ghost use Rattle.otlp_json.specs.Writing.{trace_field, span_field, parent_field, status_fields, event_fields, link_fields, span_fields, message_field};
+ghost use Rattle.std.specs.Prelude.{◌≡◌, ◌++◌, codes};
+ghost use Rattle.otlp_json.specs.Tokens.{field_tokens, span_counts, span_head, span_tail};
+ghost use Rattle.otlp_json.specs.Writing.{attributes_field, u32_field, trace_field, span_field, parent_field, status_fields, event_fields, link_fields, span_fields, message_field};
 ghost use Rattle.span_size.specs.Counting.{Adds, AddsField};
 
 use crate::counter::Counter;
 use crate::counting;
 use crate::counting::{Counted, list};
-use otlp_types::{Event, Ids, Link, Span, Status};
+use otlp_types::{Event, Ids, KeyValue, Link, List, Span, Status};
 
-/// The field `traceId`.
-fn trace_id(out: &mut Counter, ids: &Option<Ids>)
-    ensures { AddsField out.old out.new (codes "traceId") (trace_field ids.now) }
+/// The field `parentSpanId`, which a root has not.
+fn parent_span_id(out: &mut Counter, ids: &Option<Ids>)
+    ensures { AddsField out.old out.new (codes "parentSpanId") (parent_field ids.now) }
 {
-    let Some(ids) = ids else {
-        return;
-    };
-    out.key("traceId");
-    out.id(&ids.trace.bytes());
+    if let Some(ids) = ids {
+        if let Some(parent) = &ids.parent {
+            out.id_member("parentSpanId", &parent.bytes());
+        }
+    }
 }
 
 /// The field `spanId`.
 fn span_id(out: &mut Counter, ids: &Option<Ids>)
     ensures { AddsField out.old out.new (codes "spanId") (span_field ids.now) }
 {
-    let Some(ids) = ids else {
-        return;
-    };
-    out.key("spanId");
-    out.id(&ids.span.bytes());
+    if let Some(ids) = ids {
+        out.id_member("spanId", &ids.span.bytes());
+    }
 }
 
-/// The field `parentSpanId`, which a root has not.
-fn parent_span_id(out: &mut Counter, ids: &Option<Ids>)
-    ensures { AddsField out.old out.new (codes "parentSpanId") (parent_field ids.now) }
+/// The field `traceId`.
+fn trace_id(out: &mut Counter, ids: &Option<Ids>)
+    ensures { AddsField out.old out.new (codes "traceId") (trace_field ids.now) }
 {
-    let Some(ids) = ids else {
-        return;
-    };
-    let Some(parent) = &ids.parent else {
-        return;
-    };
-    out.key("parentSpanId");
-    out.id(&parent.bytes());
+    if let Some(ids) = ids {
+        out.id_member("traceId", &ids.trace.bytes());
+    }
 }
 
 impl Counted for Status {
     ghost fields = { status_fields };
 
     fn count(&self, out: &mut Counter) {
-        out.begin_object();
+        out.begin_nested();
         counting::enumeration(out, "code", self.code);
         counting::text(out, "message", &self.message);
-        out.end_object();
+        out.end_nested();
     }
 }
 
@@ -67,16 +60,24 @@ fn status_of(out: &mut Counter, status: &Status)
     status.count(out);
 }
 
+/// The attributes, and how many were dropped.
+fn attributes(out: &mut Counter, attributes: &List<KeyValue>, dropped: u32)
+    ensures { Adds out.old out.new (field_tokens (codes "attributes") (attributes_field attributes.now)
+        ++ field_tokens (codes "droppedAttributesCount") (u32_field dropped)) }
+{
+    list(out, "attributes", attributes.as_slice());
+    counting::u32(out, "droppedAttributesCount", dropped);
+}
+
 impl Counted for Event {
     ghost fields = { event_fields };
 
     fn count(&self, out: &mut Counter) {
-        out.begin_object();
-        list(out, "attributes", self.attributes.as_slice());
-        counting::u32(out, "droppedAttributesCount", self.dropped_attributes_count);
+        out.begin_nested();
+        attributes(out, &self.attributes, self.dropped_attributes_count);
         counting::text(out, "name", &self.name);
         counting::u64(out, "timeUnixNano", self.time_unix_nano);
-        out.end_object();
+        out.end_nested();
     }
 }
 
@@ -84,14 +85,13 @@ impl Counted for Link {
     ghost fields = { link_fields };
 
     fn count(&self, out: &mut Counter) {
-        out.begin_object();
-        list(out, "attributes", self.attributes.as_slice());
-        counting::u32(out, "droppedAttributesCount", self.dropped_attributes_count);
+        out.begin_nested();
+        attributes(out, &self.attributes, self.dropped_attributes_count);
         counting::u32(out, "flags", self.flags);
         counting::text(out, "spanId", &self.span_id);
         counting::text(out, "traceId", &self.trace_id);
         counting::text(out, "traceState", &self.trace_state);
-        out.end_object();
+        out.end_nested();
     }
 }
 
@@ -99,11 +99,11 @@ impl Counted for Span {
     ghost fields = { span_fields };
 
     fn count(&self, out: &mut Counter) {
-        out.begin_object();
+        out.begin_nested();
         count_counts(out, self);
         count_head(out, self);
         count_tail(out, self);
-        out.end_object();
+        out.end_nested();
     }
 }
 
@@ -111,8 +111,7 @@ impl Counted for Span {
 fn count_counts(out: &mut Counter, span: &Span)
     ensures { Adds out.old out.new (span_counts span.now) }
 {
-    list(out, "attributes", span.attributes.as_slice());
-    counting::u32(out, "droppedAttributesCount", span.dropped_attributes_count);
+    attributes(out, &span.attributes, span.dropped_attributes_count);
     counting::u32(out, "droppedEventsCount", span.dropped_events_count);
     counting::u32(out, "droppedLinksCount", span.dropped_links_count);
 }

@@ -1,4 +1,5 @@
--- To be read in this order: Threads, Woven (the law); Popped, Calls, Pushes (what ties queues, exporter and lanes to its lists).
+-- To be read in this order: Threads, Woven (the law); Popped, Calls, Pushes (what ties queues, exporter and lanes to
+-- its lists).
 pub mod Threads
 pub mod Woven
 pub mod Popped

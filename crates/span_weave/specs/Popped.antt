@@ -15,7 +15,8 @@ use Rattle.span_weave.specs.Threads.{items_of}
 abbrev pub HaveNoEnd : List Item → Type 0
 HaveNoEnd items = (sender : ℕ) → list_any (is_end_of sender) items ≡ false
 
--- A shard popped of each sender the first part of what that sender sent, which is items without an End, and then its own End; the rest is still held. Where the shard has finished, nothing is held.
+-- A shard popped of each sender the first part of what that sender sent, which is items without an End, and then its
+-- own End; the rest is still held. Where the shard has finished, nothing is held.
 abbrev pub AllWasPopped : Type 0
 AllWasPopped = (lanes : ℕ) (popped : List (ℕ × Entry)) (sent held : (sender : ℕ) → List Item)
     → AllByRecursion (λ (x : ℕ × Entry). x.0 ≤ lanes) popped
@@ -29,7 +30,8 @@ spans_popped [] = []
 spans_popped ((shard, ShippedSpan a) ∷ rest) = (shard, a) ∷ spans_popped rest
 spans_popped ((shard, ShippedEnd s) ∷ rest) = spans_popped rest
 
--- The exporter popped of each shard the first part of what that shard sent, which is spans and then its End; the rest is still held. Where it popped every End, it popped all spans.
+-- The exporter popped of each shard the first part of what that shard sent, which is spans and then its End; the rest
+-- is still held. Where it popped every End, it popped all spans.
 abbrev pub AllWasPulled : Type 0
 AllWasPulled = (shards : ℕ) (popped : List (ℕ × Shipment)) (sent : (shard : ℕ) → List Arrival) (held : (shard : ℕ) → List Shipment)
     → AllByRecursion (λ (x : ℕ × Shipment). x.0 < shards) popped

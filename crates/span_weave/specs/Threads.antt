@@ -69,7 +69,8 @@ pub record Threads : Type 0 where
   pub tries : (lane shard : ℕ) → List Try
   -- the moments of the ticks that the ticker sent to a shard, in order
   pub ticks : (shard : ℕ) → List ℕ
-  -- what a shard popped, the oldest first: each item with the number of its sender, with the marks of its taking, and with the limiter's answers to the decisions at it
+  -- what a shard popped, the oldest first: each item with the number of its sender, with the marks of its taking, and
+  -- with the limiter's answers to the decisions at it
   pub popped : (shard : ℕ) → List (ℕ × Entry)
   -- what the exporter did, in order
   pub acts : List Act
@@ -84,7 +85,8 @@ journal_of t shard = reverse (map (λ (x : ℕ × Entry). x.1) (t.popped shard))
 
 -- ---- the exporter by itself
 
--- what the exporter's acts made: the open batch, the batches that were handed over, what was counted, and whether the sink is down
+-- what the exporter's acts made: the open batch, the batches that were handed over, what was counted, and whether the
+-- sink is down
 pub record Export : Type 0 where
   pub batch : List Arrival
   pub handed : List (List Arrival)
@@ -101,7 +103,8 @@ may_spoil down NoMemory = true
 may_spoil down ExporterDown = down
 may_spoil down _ = false
 
--- after one act: a full batch takes no span, an empty one is neither handed over nor given up, and nothing is handed over where the sink is down
+-- after one act: a full batch takes no span, an empty one is neither handed over nor given up, and nothing is handed
+-- over where the sink is down
 abbrev pub after_act : Config → Export → Act → Option Export
 after_act c x (pulled shard a) = if nat_lt (length x.batch) c.batch_size then Some (record x { batch = x.batch ++ a ∷ [] }) else None
 after_act c x handed_over = if is_empty x.batch || x.down then None else Some (record x { handed = x.handed ++ x.batch ∷ []; batch = [] })
@@ -120,7 +123,8 @@ abbrev pub AreNumbered : (lane : ℕ) → List Arrival → Type 0
 AreNumbered lane received = (before later : List Arrival) (a : Arrival) → received ≡ before ++ a ∷ later
     → (a.key.conn.lane ≡ lane) × (a.key.number ≡ count_by (is_of_conn a.key.conn) before)
 
--- What the threads promise, where the exporter's acts made `end`. A shard's senders are the lanes by their numbers and then the ticker, whose number is how many lanes there are.
+-- What the threads promise, where the exporter's acts made `end`. A shard's senders are the lanes by their numbers and
+-- then the ticker, whose number is how many lanes there are.
 pub record Meets (c : Config) (lanes shards : ℕ) (t : Threads) (end : Export) : Type 0 where
   -- each lane numbers what it receives by its connections
   pub numbered : (lane : ℕ) → lane < lanes → AreNumbered lane (t.received lane)

@@ -45,7 +45,8 @@ StepsTo before s (Err NoMemory) after = (after ≡ before) × (is_some (next_of 
 abbrev pub Runs : Config → (lanes shards : ℕ) → List Step → Type 0
 Runs c lanes shards steps = is_some (run c lanes shards steps) ≡ true
 
--- the steps before place `n` run, and the one at `n` isn't enabled then; or it runs too and memory was refused there, at 0 also to the new world
+-- the steps before place `n` run, and the one at `n` isn't enabled then; or it runs too and memory was refused there,
+-- at 0 also to the new world
 abbrev pub StopsAt : Config → (lanes shards : ℕ) → List Step → ℕ → Refusal → Type 0
 StopsAt c lanes shards steps n NotEnabled = (n < length steps) × Runs c lanes shards (take n steps) × (run c lanes shards (take (n + 1) steps) ≡ None)
 StopsAt c lanes shards steps n NoMemory = (0 < n → (n < length steps) × Runs c lanes shards (take (n + 1) steps)) × Runs c lanes shards (take n steps)

@@ -12,7 +12,8 @@ use crate::world::World;
 use std::alloc::Global;
 
 impl World {
-    /// Makes a step where it is enabled. `Err` where it isn't, or where memory was refused: the world is then as before.
+    /// Makes a step where it is enabled. `Err` where it isn't, or where memory was refused: the world is then as
+    /// before.
     pub fn step(&mut self, step: Step) -> Result<(), Refusal>
         ensures { StepsTo self.old (the_step step) result self.new }
     {

@@ -141,8 +141,8 @@ impl Shard {
         Ok(())
     }
 
-    /// Whether something is due, and there is one of these answers for each asking of its decision. The searches know each
-    /// expression of the policies.
+    /// Whether something is due, and there is one of these answers for each asking of its decision. The searches know
+    /// each expression of the policies.
     pub fn may_decide(
         &self,
         settings: &Settings,
@@ -162,8 +162,8 @@ impl Shard {
         look.is_answered(settings, self.dealt, answers, searches)
     }
 
-    /// The next decision is dealt with by these answers: what it releases is to be shipped, and what it counts is counted.
-    /// Where memory is refused nothing changes.
+    /// The next decision is dealt with by these answers: what it releases is to be shipped, and what it counts is
+    /// counted. Where memory is refused nothing changes.
     pub fn decide(
         &mut self,
         alloc: Global,
@@ -228,8 +228,8 @@ fn lengthen(
     }
 }
 
-/// Puts answers behind those that stand with the last entry of a journal, and looks back over it. Where memory is refused
-/// nothing changes.
+/// Puts answers behind those that stand with the last entry of a journal, and looks back over it. Where memory is
+/// refused nothing changes.
 fn give(
     alloc: Global,
     settings: &Settings,

@@ -44,8 +44,8 @@ pub enum Step {
         shard: usize,
         sender: u16,
     },
-    /// The shard decides its oldest due episode, where the limiter gives these answers to the decision's askings, in the
-    /// order in which the policies ask. Another number of answers isn't enabled.
+    /// The shard decides its oldest due episode, where the limiter gives these answers to the decision's askings, in
+    /// the order in which the policies ask. Another number of answers isn't enabled.
     Decide {
         shard: usize,
         answers: Vec<bool>,

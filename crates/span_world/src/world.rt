@@ -61,8 +61,8 @@ impl Model for World {
 }
 
 impl World {
-    /// A world that has made no step, with so many lanes and shards. A configuration keeps a trace where its limit is at
-    /// least 1. `Err` where memory was refused, or an expression of the policies is none.
+    /// A world that has made no step, with so many lanes and shards. A configuration keeps a trace where its limit is
+    /// at least 1. `Err` where memory was refused, or an expression of the policies is none.
     pub fn new(
         alloc: Global,
         lanes: u16,

@@ -21,8 +21,8 @@ impl Search {
         self.mark == mark && self.wait == wait && self.root_wait == root_wait
     }
 
-    /// What is left of the search once a span is taken at this clock: one that is taken before the mark may make its trace due,
-    /// and so does one after which that is too big.
+    /// What is left of the search once a span is taken at this clock: one that is taken before the mark may make its
+    /// trace due, and so does one after which that is too big.
     pub(crate) fn kept_at(self, clock: Moment, is_too_big: bool) -> Search
         ensures { result ≡ kept_at clock is_too_big self }
     {

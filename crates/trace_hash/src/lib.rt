@@ -6,6 +6,11 @@
 //! function, which takes fewer instructions.
 //!
 //! No answer depends on how ids are hashed, only the time of a look-up.
+//!
+//! ```
+//! let hashing = TraceHashing::keyed(&rt)?; // of a collector
+//! let hashing = TraceHashing::Fixed; // of a replay
+//! ```
 #![tactic(auto)]
 
 mod hasher;

@@ -4,7 +4,8 @@ use Rattle.std.specs.Str.{bytes_eq}
 use Rattle.tsc_config.specs.PolicySettings.{Setting, required, optional}
 use Rattle.tsc_config.specs.declared.policy_settings.ValueKind.TheVariants as value_is
 
--- the settings of `export`: the address, times in milliseconds, how many batches wait, whether lines are printed too, and fields of requests
+-- the settings of `export`: the address, times in milliseconds, how many batches wait, whether lines are printed too,
+-- and fields of requests
 abbrev pub export_settings : List Setting
 export_settings =
     required (codes "endpoint") value_is.Endpoint

@@ -276,7 +276,8 @@ document_expressions (Some members) = policies_expressions (config_of members).p
 abbrev pub text_expressions : List ℕ → ℕ
 text_expressions text = document_expressions (parse_document text)
 
--- what is told of a text: its faults, and behind them that some number of its expressions are too big. How many, it doesn't tell: where it has none, just its faults are told
+-- what is told of a text: its faults, and behind them that some number of its expressions are too big. How many, it
+-- doesn't tell: where it has none, just its faults are told
 abbrev pub Tells : (text : List ℕ) → (told : List ConfigFault) → Type 0
 Tells text told = (big : ℕ) × (told ≡ text_faults text ++ replicate big ExpressionTooBig) × (big ≤ text_expressions text)
 

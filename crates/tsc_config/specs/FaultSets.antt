@@ -75,7 +75,8 @@ abbrev pub SettingsHave : PolicyType → Data → ConfigFault → Type 0
 SettingsHave kind (table members) fault = (unknown_fault (table_is.Settings kind) members ≡ Some fault) ⊎ RowsHave kind members fault
 SettingsHave kind _ fault = fault ≡ WrongType
 
--- the settings of a policy table of this type have this fault, where those of a type that is made of others have the nested ones
+-- the settings of a policy table of this type have this fault, where those of a type that is made of others have the
+-- nested ones
 abbrev pub SettingsAtHave : PolicyType → Members → (Nested : ConfigFault → Type 0) → ConfigFault → Type 0
 SettingsAtHave type_is.AlwaysSample _ Nested fault = ⊥
 SettingsAtHave type_is.TraceFlags _ Nested fault = ⊥
@@ -209,7 +210,8 @@ HasFault members fault =
 abbrev pub SomeIsNone : List (List ℕ) → Type 0
 SomeIsNone texts = (text : List ℕ) × Contains texts text × (is_expression text ≡ false)
 
--- the text of a configuration with this table, if it is TOML, has this fault. Expressions are those of policies without a fault of their own
+-- the text of a configuration with this table, if it is TOML, has this fault. Expressions are those of policies without
+-- a fault of their own
 abbrev pub DocumentHas : Option Members → ConfigFault → Type 0
 DocumentHas None fault = fault ≡ NotToml
 DocumentHas (Some members) fault =

@@ -294,7 +294,8 @@ numbers_fault members =
     (least (number_fault (number_row number_is.Shards) members)
     (number_fault (number_row number_is.Tick) members))))))
 
--- the rows of the sizes of queues and batches, of how many connections may be open, of the limit of memory, and of the size of a trace
+-- the rows of the sizes of queues and batches, of how many connections may be open, of the limit of memory, and of the
+-- size of a trace
 abbrev pub sizes_fault : Members → Option ConfigFault
 sizes_fault members =
     least (number_fault (number_row number_is.QueueCapacity) members)
@@ -304,7 +305,8 @@ sizes_fault members =
     (least (number_fault (number_row number_is.MemoryLimit) members)
     (number_fault (number_row number_is.MaximumTraceSize) members)))))
 
--- the rows of the choices: what a full queue and a fault of the output do, what becomes of doubles, whether the end of the input closes, and the second address
+-- the rows of the choices: what a full queue and a fault of the output do, what becomes of doubles, whether the end of
+-- the input closes, and the second address
 abbrev pub choices_fault : Members → Option ConfigFault
 choices_fault members =
     least (choice_at_fault (choice_row choice_is.QueueFull) members)

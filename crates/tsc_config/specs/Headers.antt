@@ -19,7 +19,8 @@ is_connection_name name =
 abbrev pub is_own_name : List ℕ → Bool
 is_own_name name = is_content_name name || is_connection_name name
 
--- a field may be sent with each request: the name is a token, the value has no control byte but the tab and no white space at either end (RFC 9110, section 5), and it isn't the collector's own
+-- a field may be sent with each request: the name is a token, the value has no control byte but the tab and no white
+-- space at either end (RFC 9110, section 5), and it isn't the collector's own
 abbrev pub may_be_sent : (name value : List ℕ) → Bool
 may_be_sent name value = is_header (name, value) && not (is_own_name name)
 

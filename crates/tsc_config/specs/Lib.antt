@@ -1,4 +1,6 @@
--- To be read in this order: Percentages, PolicySettings, Keys, Composites, Exports, Headers, Faults, Values, Reading (what a text is read as); Settings and PolicyKeys (of each key, without the reading); FaultSets (for provers); FaultLists (all faults of a text).
+-- To be read in this order: Percentages, PolicySettings, Keys, Composites, Exports, Headers, Faults, Values, Reading
+-- (what a text is read as); Settings and PolicyKeys (of each key, without the reading); FaultSets (for provers);
+-- FaultLists (all faults of a text).
 pub mod FaultSets
 pub mod FaultLists
 pub mod Faults

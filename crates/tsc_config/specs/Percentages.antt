@@ -5,7 +5,8 @@ use Rattle.std.specs.Int.{w32}
 use Rattle.toml.specs.Data.{Data, integer, float}
 use lib.Ieee.{of_int, mul, div, eq}
 
--- a whole number over ten thousand as floats divide (IEEE 754): the float that is nearest to that number, as which its text is read
+-- a whole number over ten thousand as floats divide (IEEE 754): the float that is nearest to that number, as which its
+-- text is read
 abbrev pub over_ten_thousand : (count : ℕ) → Float
 over_ten_thousand count = div binary64 (of_int binary64 (pos count)) (of_int binary64 (pos 10000))
 

@@ -1,4 +1,5 @@
--- What each policy has from its table, key by key, for each type of policy: what stands at the key, or the key's default.
+-- What each policy has from its table, key by key, for each type of policy: what stands at the key, or the key's
+-- default.
 use Rattle.std.specs.Prelude.{◌≡◌, ℕ, ◌+◌, ◌*◌, ◌≤◌, min, ℤ, pos, negsuc, Bool, true, false, List, [], ◌∷◌, map, length, slice_get, ◌⊎◌, codes, Option, Some, None, Ok}
 use Rattle.std.specs.Float.{Float}
 use lib.Ieee.{eq}
@@ -53,7 +54,8 @@ IsSaltAt members key salt =
     ⊎ (((get_member key members ≡ Some (string [])) × (salt ≡ codes "default-hash-seed"))
     ⊎ (get_member key members ≡ Some (string salt)))
 
--- the percentage at a required key, in ten-thousandths of a percent: a whole number from 0 to 100, or a float, which is the one nearest to that number
+-- the percentage at a required key, in ten-thousandths of a percent: a whole number from 0 to 100, or a float, which is
+-- the one nearest to that number
 abbrev pub IsPercentage : Members → (key : List ℕ) → (ten_thousandths : ℕ) → Type 0
 IsPercentage members key ten_thousandths =
     ((whole : ℕ) × (get_member key members ≡ Some (integer (pos whole))) × (whole ≤ 100) × (ten_thousandths ≡ whole * 10000))
@@ -139,7 +141,8 @@ abbrev pub ArePartsAt : Join → Option Data → (parts : List Policy) → Type 
 ArePartsAt join_is.Not at parts = (value : Data) × (at ≡ Some value) × (length parts ≡ 1)
 ArePartsAt _ at parts = (items : Items) × (at ≡ Some (array items)) × (length parts ≡ count_items items)
 
--- the parts of a composite are as many as the items of an array, whose names its order has, if it has one; each stands within its share of the total
+-- the parts of a composite are as many as the items of an array, whose names its order has, if it has one; each stands
+-- within its share of the total
 pub record IsComposite (members : Members) (parts : List Policy) : Type 0 where
   pub settings : Members
   pub typed : IsTyped members (codes "composite") settings

@@ -1,4 +1,5 @@
--- The table of the settings of each type of policy (tailsamplingprocessor README): their keys, what stands there, and which of them are required.
+-- The table of the settings of each type of policy (tailsamplingprocessor README): their keys, what stands there, and
+-- which of them are required.
 use Rattle.std.specs.Prelude.{ℕ, pos, Bool, true, false, List, [], ◌∷◌, codes}
 use Rattle.tsc_config.specs.declared.kinds.PolicyType.{PolicyType}
 use Rattle.tsc_config.specs.declared.kinds.PolicyType.TheVariants as type_is

@@ -9,7 +9,8 @@ use Rattle.tsc_config.specs.declared.config.Config.{Config}
 use Rattle.tsc_config.specs.declared.exports.Export.{Export}
 use Rattle.tsc_config.specs.declared.headers.HeaderField.{HeaderField}
 
--- the number of a key: its default, where it doesn't stand there; else the whole number there, which is within these bounds
+-- the number of a key: its default, where it doesn't stand there; else the whole number there, which is within these
+-- bounds
 abbrev pub IsNumberAt : Members → (key : List ℕ) → (default lowest greatest : ℕ) → (number : ℕ) → Type 0
 IsNumberAt members key default lowest greatest number =
     ((get_member key members ≡ None) × (number ≡ default))
@@ -50,7 +51,8 @@ AreHeadersAt given key headers =
     ((get_member key given ≡ None) × (headers ≡ []))
     ⊎ ((fields : Members) × (get_member key given ≡ Some (table fields)) × AreFields fields headers)
 
--- the table of `export`: an address of this form, each number its default or a whole number within its bounds, whether lines are printed too, and fields that may be sent
+-- the table of `export`: an address of this form, each number its default or a whole number within its bounds, whether
+-- lines are printed too, and fields that may be sent
 pub record HasExport (given : Members) (export : Export) : Type 0 where
   pub endpoint : get_member (codes "endpoint") given ≡ Some (string export.endpoint)
   pub form : is_endpoint export.endpoint ≡ true

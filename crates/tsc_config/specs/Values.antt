@@ -149,7 +149,8 @@ abbrev pub texts_wanted : (are_expressions : Bool) → List (List ℕ) → Wante
 texts_wanted false values = StringAmong values
 texts_wanted true values = StringMatching values
 
--- the texts of settings, which are regular expressions where `enabled_regex_matching` is set (tailsamplingprocessor README, `string_attribute`)
+-- the texts of settings, which are regular expressions where `enabled_regex_matching` is set (tailsamplingprocessor
+-- README, `string_attribute`)
 abbrev pub text_wanted : Members → Wanted
 text_wanted members = texts_wanted (truth_of (get_member (codes "enabled_regex_matching") members)) (texts_of (get_member (codes "values") members))
 
@@ -178,7 +179,8 @@ abbrev pub number_or : (default : ℕ) → Option Data → ℕ
 number_or default None = default
 number_or default (Some value) = number_value default value
 
--- a bucket of bytes, which holds twice as many as come back with each second, at most 2^63-1, where it isn't told how many (tailsamplingprocessor README, `bytes_limiting`)
+-- a bucket of bytes, which holds twice as many as come back with each second, at most 2^63-1, where it isn't told how
+-- many (tailsamplingprocessor README, `bytes_limiting`)
 abbrev pub bucket : (per_second : ℕ) → (burst : Option Data) → Limit
 bucket per_second burst = Bytes per_second (number_or (min (per_second * 2) 9223372036854775807) burst)
 

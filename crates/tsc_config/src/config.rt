@@ -61,8 +61,8 @@ pub struct Config {
     /// Mebibytes that the process may take before requests are refused, from 0 to 1048576, where 0 is off (this project's option
     /// `memory_limit_mib`).
     pub memory_limit_mib: u64,
-    /// How many bytes the spans of a trace take at most while it waits, from 0 to 1073741824, where 0 is off; one that grows
-    /// beyond that is decided at once as not sampled (tailsamplingprocessor README, `maximum_trace_size_bytes`).
+    /// How many bytes the spans of a trace take at most while it waits, from 0 to 1073741824, where 0 is off; one that
+    /// grows beyond that is decided at once as not sampled (tailsamplingprocessor README, `maximum_trace_size_bytes`).
     pub maximum_trace_size: u64,
     /// The time between two ticks, at which it is looked for what is due, in milliseconds, from 1 to 60000 (this
     /// project's option `tick_ms`).
@@ -70,18 +70,20 @@ pub struct Config {
     /// The address on which requests are taken, as `address:port` (otlpreceiver README, `endpoint`). It is not looked
     /// at here.
     pub listen: Text,
-    /// The address at which those in charge close the collector and read its numbers, as `address:port`, or nothing: then it is
-    /// closed at the address of requests (this project's option `admin`). It is not looked at here.
+    /// The address at which those in charge close the collector and read its numbers, as `address:port`, or nothing:
+    /// then it is closed at the address of requests (this project's option `admin`). It is not looked at here.
     pub admin: Text,
-    /// Whether bodies that are packed by gzip are taken (RFC 9110, section 8.4.1.3; this project's option `accept_gzip`).
+    /// Whether bodies that are packed by gzip are taken (RFC 9110, section 8.4.1.3; this project's option
+    /// `accept_gzip`).
     pub accept_gzip: bool,
-    /// Whether a request for whose spans a queue lacks room is to be sent again, in place of being answered how many of them were
-    /// discarded (this project's option `queue_full`, `retry`).
+    /// Whether a request for whose spans a queue lacks room is to be sent again, in place of being answered how many of
+    /// them were discarded (this project's option `queue_full`, `retry`).
     pub waits_for_room: bool,
     /// Whether the collector stops once its output fails, in place of discarding what comes after (this project's option
     /// `output_fault`, `stop`).
     pub stops_at_output_fault: bool,
-    /// Whether doubles are kept, in place of discarding each attribute that holds one (this project's option `double_values`, `keep`).
+    /// Whether doubles are kept, in place of discarding each attribute that holds one (this project's option
+    /// `double_values`, `keep`).
     pub keeps_doubles: bool,
     /// Whether the end of the standard input closes the collector (this project's option `close_at_end_of_input`).
     pub close_at_end_of_input: bool,

@@ -34,7 +34,8 @@ pub struct Export {
     pub retry_for: u64,
     /// How long lines are tried once the collector closes, from 0 to 3600000.
     pub close_wait: u64,
-    /// How many batches wait for the backend, over all shards, each of at most `send_batch_size` spans, from 1 to 65536.
+    /// How many batches wait for the backend, over all shards, each of at most `send_batch_size` spans, from 1 to
+    /// 65536.
     pub queue_batches: u64,
     /// Whether the lines are printed too.
     pub lines: bool,

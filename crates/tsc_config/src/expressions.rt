@@ -83,7 +83,8 @@ fn add_texts(
     Ok(())
 }
 
-/// Adds the fault of a text that is wanted to be an expression, where it has one, or what is said of one that is too big.
+/// Adds the fault of a text that is wanted to be an expression, where it has one, or what is said of one that is too
+/// big.
 fn add_text(
     alloc: Global,
     text: &str,

@@ -28,8 +28,9 @@ pub enum ConfigFault {
     /// `string_attribute`). [`crate::read`] answers it only of a text that has none of the faults 1 to 7; [`crate::faults`]
     /// tells it beside others, but where the policies have a fault of their own (7).
     NotAnExpression,
-    /// 10: an expression, compiled, would take more than about 1 MiB. [`crate::read`] answers it only of a text that has none
-    /// of the faults 1 to 7 and 9; [`crate::faults`] tells it behind all others, but where the policies have one (7).
+    /// 10: an expression, compiled, would take more than about 1 MiB. [`crate::read`] answers it only of a text that
+    /// has none of the faults 1 to 7 and 9; [`crate::faults`] tells it behind all others, but where the policies have
+    /// one (7).
     ExpressionTooBig,
 }
 

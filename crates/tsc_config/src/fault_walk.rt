@@ -77,8 +77,8 @@ fn numbers_fault(table: &Table) -> Option<ConfigFault>
     least(wait, least(root_wait, least(received, counts)))
 }
 
-/// The fault of the sizes of queues and batches, of how many connections may be open, of the limit of memory, and of the
-/// size of a trace.
+/// The fault of the sizes of queues and batches, of how many connections may be open, of the limit of memory, and of
+/// the size of a trace.
 fn sizes_fault(table: &Table) -> Option<ConfigFault>
     ensures { result ≡ spec.sizes_fault (table_view table.now) }
 {
@@ -92,8 +92,8 @@ fn sizes_fault(table: &Table) -> Option<ConfigFault>
     least(queue, least(export, least(batch, limits)))
 }
 
-/// The fault of the choices: what a full queue and a fault of the output do, what becomes of doubles, whether the end of
-/// the input closes, and the second address.
+/// The fault of the choices: what a full queue and a fault of the output do, what becomes of doubles, whether the end
+/// of the input closes, and the second address.
 fn choices_fault(table: &Table) -> Option<ConfigFault>
     ensures { result ≡ spec.choices_fault (table_view table.now) }
 {

@@ -1,5 +1,6 @@
-//! What is said of a fault of a configuration: its place, and what would be right. A place is written as the keys that lead
-//! to it, with the number of an item from 0. No contract says more than that a text is made; tests/faulty.py compares them.
+//! What is said of a fault of a configuration: its place, and what would be right. A place is written as the keys that
+//! lead to it, with the number of an item from 0. No contract says more than that a text is made; tests/faulty.py
+//! compares them.
 
 use crate::fault::ConfigFault;
 use crate::kinds::PolicyType;

@@ -3,9 +3,14 @@
 //! "send_batch_size"; the other keys are this project's own).
 //!
 //! [`read`] looks for the faults of the table first, in a walk that takes no memory; what the table gives is made only
-//! where there is none, and the regular expressions of its policies are looked at last. [`faults`] looks at all of them,
-//! whatever it has found, but at expressions only of policies without a fault of their own. No contract keeps [`read`] from
-//! answering that it found no memory, except for a text without keys: that a text can be read is a test.
+//! where there is none, and the regular expressions of its policies are looked at last. [`faults`] looks at all of
+//! them, whatever it has found, but at expressions only of policies without a fault of their own. No contract keeps
+//! [`read`] from answering that it found no memory, except for a text without keys: that a text can be read is a test.
+//!
+//! ```
+//! let config = read(alloc, "decision_wait_ms = 10000\n[[policies]]\nname = \"all\"\ntype = \"always_sample\"\n")?;
+//! assert!(config.decision_wait == 10_000 && config.send_batch_size == 512);
+//! ```
 #![tactic(auto)]
 
 mod composites;

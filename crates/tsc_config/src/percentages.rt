@@ -6,8 +6,8 @@ ghost use Rattle.tsc_config.specs.Percentages as spec;
 use std::num::saturating_f64_to_u32;
 use toml::Value;
 
-/// The ten-thousandths of a percent that a value has: a whole number from 0 to 100, or a number between with at most four
-/// decimals.
+/// The ten-thousandths of a percent that a value has: a whole number from 0 to 100, or a number between with at most
+/// four decimals.
 pub fn percentage_of(value: &Value) -> Option<u32>
     ensures { result ≡ spec.percentage_of (view value.now) }
 {

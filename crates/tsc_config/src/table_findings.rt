@@ -24,12 +24,13 @@ use policy_tree::Policies;
 use std::alloc::{AllocError, Global};
 use toml::Table;
 
-/// Every fault of the text of a configuration, as [`crate::read`] reads it: those of its keys and values, a line for each
-/// place that has one, and then those of what they give, where a value with a fault counts as its key's default; of regular
-/// expressions those in policies without a fault of their own. Last come expressions that take too much memory, which the
-/// text doesn't tell: at most as many as it has. There is none only where the text is read as a configuration; and where
-/// there is one, `read` refuses the text for that of least number ([`crate::laws::lists_each_fault`]), or it is read as a
-/// configuration that has an expression. `Err` only where memory was refused.
+/// Every fault of the text of a configuration, as [`crate::read`] reads it: those of its keys and values, a line for
+/// each place that has one, and then those of what they give, where a value with a fault counts as its key's default;
+/// of regular expressions those in policies without a fault of their own. Last come expressions that take too much
+/// memory, which the text doesn't tell: at most as many as it has. There is none only where the text is read as a
+/// configuration; and where there is one, `read` refuses the text for that of least number
+/// ([`crate::laws::lists_each_fault`]), or it is read as a configuration that has an expression. `Err` only where
+/// memory was refused.
 #[tactic(auto, using(crate::proofs::Told::none_found))]
 pub fn faults(alloc: Global, text: &str) -> Result<Vec<Finding>, AllocError>
     ensures faults { IfOk result (λ found. spec.Tells text.now (spec.faults_in found.items)) }

@@ -1,5 +1,5 @@
--- To be read in this order: Lines, Instructions, LineLaws, Script, Stops (what a script says); Reads, Causes, Progress (how far it was read, and
--- why it stopped); ToRead has words of private functions.
+-- To be read in this order: Lines, Instructions, LineLaws, Script, Stops (what a script says); Reads, Causes, Progress
+-- (how far it was read, and why it stopped); ToRead has words of private functions.
 pub mod Lines
 pub mod Instructions
 pub mod LineLaws

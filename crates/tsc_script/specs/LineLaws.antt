@@ -22,7 +22,8 @@ IsReceive line connection moment json =
 abbrev pub IsTick : (line : List ℕ) → (moment : ℕ) → Type 0
 IsTick line moment = (a : List ℕ) × Says a moment × (line ≡ codes "tick " ++ a)
 
--- A line of at most 4,194,368 bytes says an instruction exactly where it is that instruction's words, and a longer one says none.
+-- A line of at most 4,194,368 bytes says an instruction exactly where it is that instruction's words, and a longer one
+-- says none.
 pub record LinesAreTheirWords : Type 0 where
   pub receives : (line json : List ℕ) (connection moment : ℕ) → length line ≤ 4194368
       → (instruction_of line ≡ Some (receive connection moment json)) ↔ IsReceive line connection moment json

@@ -1,4 +1,5 @@
--- How far a script was read and played. `before` and `after` are the bytes that the reader had left, where they are known.
+-- How far a script was read and played. `before` and `after` are the bytes that the reader had left, where they are
+-- known.
 use Rattle.std.specs.Prelude.{◌≡◌, ◌≢◌, ℕ, ◌+◌, ◌⊎◌, List, [], ◌∷◌, ◌++◌, length, Option, Ok, Err}
 use Rattle.std.specs.Io.KnownBytes.{Consumes, IsAtEnd}
 use Rattle.tsc_script.specs.declared.stop.Stop.{Stop}
@@ -29,13 +30,16 @@ pub record Ends (before after : Option (List ℕ)) (instructions : List Instruct
   pub at_end : IsAtEnd after
   pub says_all : instructions_of script ≡ Ok instructions
 
--- a script stopped at the line with this number: the lines before it were played, of which the last may be a close; `Played done` says that these instructions were played, and no more
+-- a script stopped at the line with this number: the lines before it were played, of which the last may be a close;
+-- `Played done` says that these instructions were played, and no more
 abbrev pub StopsAt : (List Instruction → Type 0) → Option (List ℕ) → Option (List ℕ) → ℕ → Type 0
 StopsAt Played before after number =
     ((done : List Instruction) × Begins before after done × (number ≡ 1 + length done) × Played done)
     ⊎ ((done : List Instruction) × Closes before after done × (number ≡ 2 + length done) × Played (done ++ close ∷ []))
 
--- a machine went down, and the last that it played is a close: it was down when it had played the last of the lines that were read, and from there the close alone led to the end, or it is down after the close at the script's end; `Fell done` says that these led to a machine that was down, and a close played there to the end
+-- a machine went down, and the last that it played is a close: it was down when it had played the last of the lines
+-- that were read, and from there the close alone led to the end, or it is down after the close at the script's end;
+-- `Fell done` says that these led to a machine that was down, and a close played there to the end
 abbrev pub GoesDown : (List Instruction → Type 0) → (List Instruction → Type 0) → Option (List ℕ) → Option (List ℕ) → Type 0
 GoesDown Played Fell before after =
     (done : List Instruction) × Played (done ++ close ∷ [])

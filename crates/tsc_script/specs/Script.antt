@@ -21,7 +21,8 @@ after_line number (Some close) (line ∷ lines) rest = Err (number + 1)
 after_line number (Some (receive connection moment json)) lines rest = with_first (receive connection moment json) rest
 after_line number (Some (tick moment)) lines rest = with_first (tick moment) rest
 
--- the instructions of these lines, the first of which has this number, ended by a close, as which the end acts too; or the number of the first line that is refused
+-- the instructions of these lines, the first of which has this number, ended by a close, as which the end acts too; or
+-- the number of the first line that is refused
 abbrev pub instructions_from : ℕ → List (List ℕ) → Result (List Instruction) ℕ
 instructions_from number [] = Ok (close ∷ [])
 instructions_from number (line ∷ lines) = after_line number (instruction_of line) lines (instructions_from (number + 1) lines)

@@ -8,6 +8,13 @@
 //! A read is tried again after an interruption alone, while fewer than 2^32 were made; any other error ends the script at
 //! that line. Each answer but `Down` has its cause in what the reads gave (`specs/Causes`). A body that always answers
 //! `NoMemory` meets `play_script`'s contract; each run of `tests/run.sh` that is done shows that it isn't answered there.
+//!
+//! ```
+//! match play_script(alloc, &mut reader, &mut machine) {
+//!     Ok(()) => {}
+//!     Err(stop) => tell(stop),
+//! }
+//! ```
 #![tactic(auto)]
 
 mod buffer;

@@ -32,8 +32,8 @@ pub trait Source {
         ensures end { result ≡ ReadTurn.Ended → IsAtEnd (given self.new).left };
 }
 
-/// A reader of std as a [`Source`]: a read that fails as interrupted is an interrupted one, any other failure is a fault,
-/// and a read of 0 bytes is the input's end. What its reads gave is not known afterwards.
+/// A reader of std as a [`Source`]: a read that fails as interrupted is an interrupted one, any other failure is a
+/// fault, and a read of 0 bytes is the input's end. What its reads gave is not known afterwards.
 #[derive(Drop)]
 pub struct Reads<R> {
     /// What is read.

@@ -1,4 +1,5 @@
--- What holds of every run: each received span is in one place that fits its fate, order is kept, remembered decisions are met, and nothing is handed over after close.
+-- What holds of every run: each received span is in one place that fits its fate, order is kept, remembered decisions
+-- are met, and nothing is handed over after close.
 use Rattle.std.specs.Prelude.{IsSome, ◌⊎◌, ◌≡◌, ℕ, ◌<◌, Bool, true, false, ◌&&◌, ◌||◌, ◌==◌, List, [], ◌∷◌, ◌++◌, length, count_by, slice_get, flat_map, Option, Some, None, IsTrue, IsFalse, AllPairs, Contains}
 use Rattle.std.specs.List.{list_any}
 use Rattle.policy_eval.specs.Given.{verdict_given, are_answered}
@@ -57,7 +58,8 @@ HasFate c w a became = (t : Taken w) × (t.arrival ≡ a) × (fate_of c w t ≡ 
 abbrev pub is_received : World → ArrivalKey → Bool
 is_received w k = list_any (λ (l : Lane). list_any (λ a. same_key a.key k) l.received) w.lanes
 
--- a received span's key names its lane, and its number is how many spans its connection received before it: so no two received spans have one key
+-- a received span's key names its lane, and its number is how many spans its connection received before it: so no two
+-- received spans have one key
 abbrev pub IsNumbered : World → Type 0
 IsNumbered w = (lane : ℕ) (l : Lane) (before later : List Arrival) (a : Arrival) → slice_get w.lanes lane ≡ Some l → l.received ≡ before ++ a ∷ later
     → (a.key.conn.lane ≡ lane) × (a.key.number ≡ count_by (is_of_conn a.key.conn) before)
@@ -148,7 +150,8 @@ InReceivedOrder w = AllPairs ComesFirst (handed_spans w)
 
 -- ---- remembered decisions
 
--- the trace's latest episode was due at an item, and the verdict is that of the policies that decide on the spans that it had there, with the limiter's answers that were given to its decision, one for each asking
+-- the trace's latest episode was due at an item, and the verdict is that of the policies that decide on the spans that
+-- it had there, with the limiter's answers that were given to its decision, one for each asking
 pub record WasDecided (s : Settings) (before : Journal) (t : TraceId) (v : Verdict) : Type 0 where
   pub since : Journal
   pub item : Entry
@@ -169,7 +172,8 @@ abbrev pub is_where_late : (shard : ℕ) → Verdict → Place → Bool
 is_where_late shard Sampled place = is_past_release shard place
 is_where_late shard NotSampled place = is_under LateNotSampled place
 
--- A span that was taken while its trace was remembered was not refused, and is where that verdict puts it: in this world and, since journals only grow, in every later one.
+-- A span that was taken while its trace was remembered was not refused, and is where that verdict puts it: in this
+-- world and, since journals only grow, in every later one.
 abbrev pub MeetsRemembered : Config → World → Type 0
 MeetsRemembered c w = (t : Taken w) (v : Verdict) → remembered (settings c w) (notes (settings c w) t.before) t.ids.trace ≡ Some v
     → (t.refused ≡ false) × ((place : Place) × (places c w t.arrival.key ≡ place ∷ []) × IsTrue (is_where_late t.shard v place))

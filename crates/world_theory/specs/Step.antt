@@ -30,7 +30,8 @@ pub data Step : Type 0 where
   close : (lane : ℕ) → Step
   -- the shard takes the sender's End
   end : (shard sender : ℕ) → Step
-  -- the shard decides its oldest due episode, where the limiter gives these answers to the decision's askings, in the order in which the policies ask
+  -- the shard decides its oldest due episode, where the limiter gives these answers to the decision's askings, in the
+  -- order in which the policies ask
   decide : (shard : ℕ) → (answers : List Bool) → Step
   -- the shard's first unshipped span goes to the exporter
   ship : (shard : ℕ) → Step
@@ -144,7 +145,8 @@ after_decision w shard sh answers did = record w {
   counted = w.counted ++ did.counted;
 }
 
--- the oldest due episode is decided by these answers: the first that was due at the last item and was not dealt with, where there is one answer for each asking
+-- the oldest due episode is decided by these answers: the first that was due at the last item and was not dealt with,
+-- where there is one answer for each asking
 abbrev pub decide_on : Config → World → (shard : ℕ) → (answers : List Bool) → Shard → Option World
 decide_on c w shard answers sh = option_map (after_decision w shard sh answers) (effect_answered_at (settings c w) sh.journal sh.dealt answers)
 

@@ -12,7 +12,9 @@ use Rattle.span_ids.specs.declared.keys.ArrivalKey.{ArrivalKey}
 
 -- ---- the world
 
--- The settings of each shard, and the size of a batch: the waits are in milliseconds, a `root_wait` of 0 is off, the greatest size of a trace is in bytes, where 0 is none, a `limit` of None is no limit on the traces of a shard, a cache of size 0 is off.
+-- The settings of each shard, and the size of a batch: the waits are in milliseconds, a `root_wait` of 0 is off, the
+-- greatest size of a trace is in bytes, where 0 is none, a `limit` of None is no limit on the traces of a shard, a
+-- cache of size 0 is off.
 pub record Config : Type 0 where
   pub policies : Policies
   pub wait : ℕ
@@ -33,14 +35,16 @@ pub record Lane : Type 0 where
   pub unrouted : List Arrival
   pub ended : Bool
 
--- a shard: its queue, its journal, how many of the decisions at the journal's last item were dealt with, and what it released and has not shipped
+-- a shard: its queue, its journal, how many of the decisions at the journal's last item were dealt with, and what it
+-- released and has not shipped
 pub record Shard : Type 0 where
   pub queue : List Arrival
   pub journal : Journal
   pub dealt : ℕ
   pub unshipped : List Arrival
 
--- The lanes, the shards and the exporter. What is counted is one list of keys, each with its reason: it keeps the order between reasons too, as the steps give it.
+-- The lanes, the shards and the exporter. What is counted is one list of keys, each with its reason: it keeps the order
+-- between reasons too, as the steps give it.
 pub record World : Type 0 where
   pub lanes : List Lane
   pub shards : List Shard

@@ -2,51 +2,24 @@
 use drop_ledger::{BookFull, Count, Counter, Report, Tally, numbers_are_sums, total};
 use span_ids::Reason;
 
-/// The nine counts.
-const COUNTS: [Count; 9] = [
-    Count::Received,
-    Count::Handed,
-    Count::Dropped(Reason::InvalidId),
-    Count::Dropped(Reason::QueueFull),
-    Count::Dropped(Reason::NoMemory),
-    Count::Dropped(Reason::Evicted),
-    Count::Dropped(Reason::NotSampled),
-    Count::Dropped(Reason::LateNotSampled),
-    Count::Dropped(Reason::ExporterDown),
-];
-
 /// Adds by the trait.
 fn add_to<C: Counter>(counter: &mut C, count: Count, n: u64) -> Result<(), BookFull> {
     counter.add(count, n)
 }
 
-/// The number of each count.
-fn numbers(report: &Report) -> [u64; 9] {
-    [
-        report.number(Count::Received),
-        report.number(Count::Handed),
-        report.number(Count::Dropped(Reason::InvalidId)),
-        report.number(Count::Dropped(Reason::QueueFull)),
-        report.number(Count::Dropped(Reason::NoMemory)),
-        report.number(Count::Dropped(Reason::Evicted)),
-        report.number(Count::Dropped(Reason::NotSampled)),
-        report.number(Count::Dropped(Reason::LateNotSampled)),
-        report.number(Count::Dropped(Reason::ExporterDown)),
-    ]
-}
-
-/// Whether the counts take 1 to 9 and then one of them up to the greatest number and none more, and the numbers behind that.
+/// Whether the counts take 1 to 9 and then one of them up to the greatest number and none more, and the numbers behind
+/// that.
 fn added() -> (bool, [u64; 9]) {
     let mut report = Report::new();
     let mut fits = true;
     let mut n = 0u64;
-    for count in &COUNTS {
+    for count in &Count::ALL {
         n = n.wrapping_add(1);
         fits &= add_to(&mut report, *count, n) == Ok(());
     }
     fits &= report.add(Count::Handed, u64::MAX - 2) == Ok(());
     fits &= add_to(&mut report, Count::Handed, 1) == Err(BookFull);
-    (fits, numbers(&report))
+    (fits, report.numbers())
 }
 
 #[test]
@@ -55,7 +28,8 @@ fn each_count_by_itself(rt: HostRuntime) {
     numbers_are_sums();
 }
 
-/// What a lane or a shard counted, and whether it stopped: from a count on that would pass the greatest number nothing more is counted.
+/// What a lane or a shard counted, and whether it stopped: from a count on that would pass the greatest number nothing
+/// more is counted.
 fn counted(additions: &[(Count, u64)]) -> (Report, bool) {
     let mut tally = Tally::new(Report::new());
     for (count, n) in additions {
@@ -84,7 +58,7 @@ const SHARD: [(Count, u64); 5] = [
 /// The numbers of the sum of these reports, where each fits.
 fn summed(reports: &[Report]) -> Option<[u64; 9]> {
     match total(reports) {
-        Ok(report) => Some(numbers(&report)),
+        Ok(report) => Some(report.numbers()),
         Err(_) => None,
     }
 }

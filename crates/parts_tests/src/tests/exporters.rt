@@ -80,11 +80,12 @@ fn pulled(exporter: &mut Exporter<FailingSink>, rec: Record) -> Flushed {
     }
 }
 
-/// What was flushed after each of three spans and last; what a line that is no batch was answered before that and whether a write had
-/// failed then; how many writes failed; and whether the sink took just what it must.
+/// What was flushed after each of three spans and last; what a line that is no batch was answered before that and
+/// whether a write had failed then; how many writes failed; and whether the sink took just what it must.
 type Seen = ([Flushed; 4], Result<(), SinkFault>, bool, u64, bool);
 
-/// Sends spans, then a line that is no batch unless it is empty, then what is left, to an exporter whose sink must take just `held`.
+/// Sends spans, then a line that is no batch unless it is empty, then what is left, to an exporter whose sink must take
+/// just `held`.
 fn sent(
     mut exporter: Exporter<FailingSink>,
     records: Vec<Record>,
@@ -109,8 +110,8 @@ fn sent(
     (flushes, noted, is_down, failures, is_held)
 }
 
-/// The same with three new spans and batches of this size, over a sink that takes so many bytes, at most `piece` of them in a write. A
-/// batch given up for want of memory is an error.
+/// The same with three new spans and batches of this size, over a sink that takes so many bytes, at most `piece` of
+/// them in a write. A batch given up for want of memory is an error.
 fn exported(
     alloc: Global,
     size: usize,
@@ -158,8 +159,8 @@ fn answer(n: u64, failed: bool) -> Flushed {
     }
 }
 
-/// Whether batches of two meet a sink of this kind as they must: it holds `room` bytes of the two lines, and the batch whose line is cut
-/// short and those after it are given up.
+/// Whether batches of two meet a sink of this kind as they must: it holds `room` bytes of the two lines, and the batch
+/// whose line is cut short and those after it are given up.
 fn two_batches(alloc: Global, piece: usize, room: usize) -> Result<bool, Fail> {
     let whole = two_lines().as_bytes();
     let held = room.min(whole.len());

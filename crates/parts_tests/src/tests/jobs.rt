@@ -52,7 +52,8 @@ fn numbers_of(jobs: &[Adds]) -> Listed {
     (jobs.len(), last)
 }
 
-/// What is kept of what jobs left that are told to work, and of those that came back. `None` where one couldn't be started.
+/// What is kept of what jobs left that are told to work, and of those that came back. `None` where one couldn't be
+/// started.
 fn in_scope<'s, E, R: Threads + Wait + Sync + 's>(
     scope: &Scope<'s, E>,
     rt: &'s R,

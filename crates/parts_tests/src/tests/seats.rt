@@ -124,7 +124,8 @@ fn ask_by_four<'r, R: Threads + Wait + Sync>(
     first_half + second_half
 }
 
-/// Whether four seats on threads of their own, each at 400 askings in each of these seconds, are granted just so many there.
+/// Whether four seats on threads of their own, each at 400 askings in each of these seconds, are granted just so many
+/// there.
 fn seconds_grant<R: Threads + Wait + Sync>(
     rt: &R,
     alloc: Global,

@@ -76,8 +76,8 @@ fn write_of_nothing_is_a_failure(rt: HostRuntime) {
     assert_eq!(rt; came, (Err(SinkFault::Failed), 1, 1));
 }
 
-/// What three lines are answered, whether the sink was down behind the first and is behind all, how many writes failed, how often
-/// the writer was called, and whether it took the first line and a byte of the second.
+/// What three lines are answered, whether the sink was down behind the first and is behind all, how many writes failed,
+/// how often the writer was called, and whether it took the first line and a byte of the second.
 type Handed = ([Result<(), SinkFault>; 3], [bool; 2], u64, u32, bool);
 
 /// Hands three lines to a writer that takes five bytes, one a write.

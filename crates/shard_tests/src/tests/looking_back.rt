@@ -77,8 +77,8 @@ pub fn is_root(place: usize) -> bool {
     place.checked_rem(3) == Some(0)
 }
 
-/// The bytes of the canonical text of the span at this place: two ids, a parent's unless it is a root, and the status of
-/// an error.
+/// The bytes of the canonical text of the span at this place: two ids, a parent's unless it is a root, and the status
+/// of an error.
 fn size_of(place: usize, error: bool) -> u64 {
     let parent = if is_root(place) { 0 } else { 34 };
     let status = if error { 20 } else { 0 };

@@ -5,8 +5,8 @@ use span_ids::Reason;
 use span_world::Step;
 use std::alloc::{AllocError, Global};
 
-/// Random numbers, of which a step is made at about this time. Lanes close and the sink fails only in the second part of a
-/// run, where nothing is received.
+/// Random numbers, of which a step is made at about this time. Lanes close and the sink fails only in the second part
+/// of a run, where nothing is received.
 #[derive(Clone, Copy)]
 pub struct Choice {
     kind: u64,

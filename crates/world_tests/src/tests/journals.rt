@@ -11,8 +11,8 @@ use std::alloc::{AllocError, Global};
 use std::process::Abort;
 use std::test::Fail;
 
-/// One policy: on this status code, or one that samples each trace; the greatest size of a trace, in bytes, where 0 is none;
-/// and how many sampled and how many other traces are remembered.
+/// One policy: on this status code, or one that samples each trace; the greatest size of a trace, in bytes, where 0 is
+/// none; and how many sampled and how many other traces are remembered.
 #[derive(Clone, Copy)]
 struct Given {
     code: Option<i32>,
@@ -35,8 +35,8 @@ fn settings_with(alloc: Global, given: Given) -> Result<Settings, AllocError> {
     })
 }
 
-/// What is still to be released and to be counted, by numbers, and reasons and numbers; and whether at each item just what was
-/// due could be decided, and what was released and what was counted were as wanted.
+/// What is still to be released and to be counted, by numbers, and reasons and numbers; and whether at each item just
+/// what was due could be decided, and what was released and what was counted were as wanted.
 #[derive(Clone, Copy)]
 struct Wanted<'a> {
     released: &'a [u64],
@@ -120,8 +120,8 @@ fn play(
     Ok(())
 }
 
-/// Plays these events over a new journal. Whether just what was due could be decided; whether spans of these numbers were
-/// released; and whether these were counted, by their reasons and numbers.
+/// Plays these events over a new journal. Whether just what was due could be decided; whether spans of these numbers
+/// were released; and whether these were counted, by their reasons and numbers.
 fn played(
     alloc: Global,
     given: Given,
@@ -264,9 +264,9 @@ fn too_big_is_decided_at_once(rt: HostRuntime) -> Result<(), Fail> {
     Ok(())
 }
 
-/// What a journal answers: of each of four traces; what it remembers of the first; whether a mark applies to a span of a
-/// trace, that it was refused of the third and of the first trace, that a decision was lost of the fourth; its clock; and
-/// whether sender 1 and sender 2 have ended, and the first two and the first three.
+/// What a journal answers: of each of four traces; what it remembers of the first; whether a mark applies to a span of
+/// a trace, that it was refused of the third and of the first trace, that a decision was lost of the fourth; its clock;
+/// and whether sender 1 and sender 2 have ended, and the first two and the first three.
 #[derive(Clone, Copy)]
 struct Answers {
     findings: [Finding; 4],

@@ -6,8 +6,8 @@ use span_world::{Config, Refusal, World};
 use std::alloc::{AllocError, Global};
 use std::test::Fail;
 
-/// Makes a step in the world and in the simulation; one to which memory was refused is made again. Whether both answered
-/// the same, and are alike.
+/// Makes a step in the world and in the simulation; one to which memory was refused is made again. Whether both
+/// answered the same, and are alike.
 fn step_both(
     alloc: Global,
     world: &mut World,
@@ -43,8 +43,8 @@ fn new_world(alloc: Global, root_wait: u64, maximum_size: u64) -> Result<World, 
     World::new(alloc, 2, 2, config)
 }
 
-/// Notes the reasons that were counted, by their numbers, at 8 that a batch was handed over, at 9 that each shard took every
-/// End, and at 10 that a trace was too big.
+/// Notes the reasons that were counted, by their numbers, at 8 that a batch was handed over, at 9 that each shard took
+/// every End, and at 10 that a trace was too big.
 fn note(reached: &mut [bool; 11], world: &World, simulated: &Simulated) {
     for span in world.counted() {
         if let Some(is_reached) = reached.get_mut(span.reason.number() as usize) {

@@ -1,8 +1,8 @@
 //! A shard by running state: a ring of episodes, caches in order of use, a clock.
 use crate::tests::spans::Kept;
 
-/// A trace in the ring: when it opened, when its first root came, how many bytes its spans have, whether one of them has an
-/// error, whether it is due, and whether it is sampled, once it is decided.
+/// A trace in the ring: when it opened, when its first root came, how many bytes its spans have, whether one of them
+/// has an error, whether it is due, and whether it is sampled, once it is decided.
 #[derive(Clone, Copy)]
 struct Episode {
     trace: u8,
@@ -14,8 +14,8 @@ struct Episode {
     verdict: Option<bool>,
 }
 
-/// A shard with room for two traces, which remembers one that was sampled and two others. It is due to decide no more than
-/// what became due at one moment, and that in the order of the ring.
+/// A shard with room for two traces, which remembers one that was sampled and two others. It is due to decide no more
+/// than what became due at one moment, and that in the order of the ring.
 #[derive(Clone, Copy)]
 pub struct Shard {
     /// The oldest first.
@@ -97,8 +97,8 @@ impl Shard {
         Found::Opens
     }
 
-    /// Whether a mark can apply to a span that finds this: that memory was refused to it, or that the decision was lost of a
-    /// trace that it puts out of the ring. Both caches have room.
+    /// Whether a mark can apply to a span that finds this: that memory was refused to it, or that the decision was lost
+    /// of a trace that it puts out of the ring. Both caches have room.
     pub fn marks_apply(&self, found: Found, refused: bool, lost: bool) -> bool {
         let puts = self.ring[0].is_some_and(|left| left.verdict.is_some());
         match found {
@@ -204,8 +204,8 @@ impl Shard {
             .any(|episode| episode.is_some_and(|it| it.is_due))
     }
 
-    /// Decides the first episode that is due: its trace, and whether that is sampled. A trace with an error is, where it
-    /// isn't too big.
+    /// Decides the first episode that is due: its trace, and whether that is sampled. A trace with an error is, where
+    /// it isn't too big.
     pub fn decide(&mut self, maximum_size: u64) -> Option<(u8, bool)> {
         for episode in self.ring.iter_mut() {
             match episode {

@@ -39,8 +39,8 @@ struct Lane {
     numbers: [u64; 2],
 }
 
-/// Two lanes, two shards, a wait of ten milliseconds, and batches of two spans. A trace with an error is sampled. Given are
-/// the root wait, in milliseconds, and the greatest size of a trace, in bytes, where 0 is off.
+/// Two lanes, two shards, a wait of ten milliseconds, and batches of two spans. A trace with an error is sampled. Given
+/// are the root wait, in milliseconds, and the greatest size of a trace, in bytes, where 0 is off.
 #[derive(Drop)]
 pub struct Simulated {
     spans: Vec<Kept>,

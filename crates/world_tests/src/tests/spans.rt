@@ -1,11 +1,11 @@
-//! The spans of a run in one list, each with the place where it is. What moves goes to the end of the list, so that the spans of
-//! each place stand in the order in which they came there.
+//! The spans of a run in one list, each with the place where it is. What moves goes to the end of the list, so that the
+//! spans of each place stand in the order in which they came there.
 use otlp_types::Arrival;
 use shard_journal::DroppedSpan;
 use span_ids::{ArrivalKey, Reason};
 
-/// Where a span is: not received, or of a lane for a shard, in a shard's queue, in its trace's episode, released by a shard,
-/// with the exporter, in the open batch, in a batch of this number that was handed over, or counted.
+/// Where a span is: not received, or of a lane for a shard, in a shard's queue, in its trace's episode, released by a
+/// shard, with the exporter, in the open batch, in a batch of this number that was handed over, or counted.
 #[derive(Clone, Copy, PartialEq, Eq)]
 pub enum Place {
     Nowhere,

@@ -9,8 +9,8 @@ use std::alloc::{AllocError, Global};
 use std::process::Abort;
 use std::test::Fail;
 
-/// A step in a world of one lane and one shard: the receipt of a span of a trace at a moment, or of one of trace 1 at 0 whose
-/// request had this target; a tick by its moment; a decision by the limiter's answers; the End of a sender.
+/// A step in a world of one lane and one shard: the receipt of a span of a trace at a moment, or of one of trace 1 at 0
+/// whose request had this target; a tick by its moment; a decision by the limiter's answers; the End of a sender.
 #[derive(Clone, Copy)]
 enum Act<'a> {
     Receive(u8, u64),
@@ -154,8 +154,9 @@ fn steps_of(alloc: Global, acts: &[Act<'_>]) -> Result<Vec<Step>, AllocError> {
     Ok(steps)
 }
 
-/// What acts did to a world: at which place, if at one, the first ones were refused, whether behind them one batch of one span
-/// had been handed over, which of those that followed were enabled, and how many spans had been counted in the end.
+/// What acts did to a world: at which place, if at one, the first ones were refused, whether behind them one batch of
+/// one span had been handed over, which of those that followed were enabled, and how many spans had been counted in the
+/// end.
 #[derive(Clone, Copy)]
 struct Outcome {
     refused_at: Option<usize>,
@@ -183,8 +184,8 @@ fn outcome_of(alloc: Global, world: &mut World, acts: &[Act<'_>]) -> Result<Outc
     })
 }
 
-/// What acts do to a new world with a wait of ten milliseconds, room for one trace, no decision remembered, and batches of
-/// one span. Given is the greatest size of a trace, in bytes, where 0 is none.
+/// What acts do to a new world with a wait of ten milliseconds, room for one trace, no decision remembered, and batches
+/// of one span. Given is the greatest size of a trace, in bytes, where 0 is none.
 fn play(
     alloc: Global,
     policies: Policies,
@@ -247,8 +248,8 @@ fn second_tick_while_due(rt: HostRuntime) -> Result<(), Fail> {
     Ok(())
 }
 
-/// How many spans are counted by the decision behind these acts, or the place of what is refused, of an act or, behind those,
-/// of the decision.
+/// How many spans are counted by the decision behind these acts, or the place of what is refused, of an act or, behind
+/// those, of the decision.
 fn decided_by(
     alloc: Global,
     policies: Policies,

@@ -2,7 +2,7 @@ use Rattle.std.proofs.Common.{◌∙◌, ◌<◌, ℕ, sym, subst, Some, None, a
 use Rattle.std.proofs.KnownBytes.{Consumes-trans}
 use Rattle.http_text.specs.Lines.{cut, head_len}
 use Rattle.admin_http.specs.Asked.{IsHeard}
-use Rattle.admin_http.proofs.Pieces.{read_on, read_still, unheard_waits}
+use Rattle.admin_http.proofs.Pieces.{read_on, read_still, still_waits, unheard_waits}
 use Rattle.admin_http.specs.declared.ends.TheConstants.{QUIET_LIMIT}
 use Rattle.admin_http.proofs.serving.hear.Goals as goal
 use Rattle.admin_http.proofs.serving.hear.Goals.{in-More+in_default, in-Nothing+else-is_stopping+else-quiet-ge-QUIET_LIMIT, in-Interrupted}
@@ -18,30 +18,15 @@ returns-in-Some g c =
 
 pub returns-then-is_stopping : goal.returns-then-is_stopping
 returns-then-is_stopping g c =
-    let known = g.R.Read.remaining in
-    let still = c.in-Nothing.ensures in (
-      c.loop.read.items,
-      read_still (known c.args.reader.now) (known c.loop.reader) (known c.take_piece.new.reader) c.loop.read.items c.loop.read.items c.loop.invariant.read still.0 refl,
-      c.loop.invariant.waits,
-    )
+    still_waits _ _ _ c.loop.read.items c.loop.invariant.read c.in-Nothing.ensures.0 c.loop.invariant.waits
 
 pub returns-then-quiet-ge-QUIET_LIMIT : goal.returns-then-quiet-ge-QUIET_LIMIT
 returns-then-quiet-ge-QUIET_LIMIT g c =
-    let known = g.R.Read.remaining in
-    let still = c.in-Nothing.ensures in (
-      c.loop.read.items,
-      read_still (known c.args.reader.now) (known c.loop.reader) (known c.take_piece.new.reader) c.loop.read.items c.loop.read.items c.loop.invariant.read still.0 refl,
-      c.loop.invariant.waits,
-    )
+    still_waits _ _ _ c.loop.read.items c.loop.invariant.read c.in-Nothing.ensures.0 c.loop.invariant.waits
 
 pub returns-in-Failed : goal.returns-in-Failed
 returns-in-Failed g c =
-    let known = g.R.Read.remaining in
-    let still = c.in-Failed.ensures in (
-      c.loop.read.items,
-      read_still (known c.args.reader.now) (known c.loop.reader) (known c.take_piece.new.reader) c.loop.read.items c.loop.read.items c.loop.invariant.read still.0 refl,
-      c.loop.invariant.waits,
-    )
+    still_waits _ _ _ c.loop.read.items c.loop.invariant.read c.in-Failed.ensures.0 c.loop.invariant.waits
 
 pub returns-in-End : goal.returns-in-End
 returns-in-End g c =

@@ -1,6 +1,6 @@
 use Rattle.std.proofs.Common.{◌≡◌, ◌++◌, ◌∷◌, [], ap, sym, ◌∙◌, arith, append_assoc, length}
 use Rattle.std.proofs.lemmas.List.{map-append}
-use Rattle.queue_grid.specs.Grid.{ends_of}
+use Rattle.lane_queue.specs.Grid.{ends_of}
 use Rattle.pipeline.proofs.Gathered.{one_more, any_more}
 use Rattle.pipeline.proofs.gathering.gather_lanes.Goals as goal
 

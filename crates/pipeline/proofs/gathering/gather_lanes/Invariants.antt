@@ -1,5 +1,5 @@
 use Rattle.std.proofs.Common.{◌≡◌, ◌+◌, ◌++◌, ◌||◌, length, map, vec_len, vec_capacity}
-use Rattle.queue_grid.specs.Grid.{ends_of}
+use Rattle.lane_queue.specs.Grid.{ends_of}
 use Rattle.std.specs.List.{list_any}
 use Rattle.pipeline.proofs.gathering.gather_lanes.Given as goal
 

@@ -1,7 +1,7 @@
 use Rattle.std.proofs.Common.{◌≡◌, ℕ, ◌<◌, ◌≤◌, ◌∙◌, [], ◌∷◌, ap, sym, subst, length, arith, map, vec_len, vec_capacity, All, Some}
 use Rattle.std.proofs.lemmas.List.{length-map, map-append}
 use Rattle.pipeline.specs.Made.{NumberedFrom}
-use Rattle.queue_grid.specs.Grid.{ends_of}
+use Rattle.lane_queue.specs.Grid.{ends_of}
 use Rattle.pipeline.proofs.Dealt.{dealt, numbered, all_dealt, all_reverse}
 use Rattle.std.proofs.lemmas.List.Elements.{All-push, All-pop}
 use Rattle.pipeline.proofs.lanes.lane_jobs.Goals as goal

@@ -1,5 +1,5 @@
 use Rattle.std.proofs.Common.{◌≡◌, ◌+◌, ◌++◌, ◌<◌, ◌≤◌, All, length, map, reverse, vec_len, vec_capacity, []}
-use Rattle.queue_grid.specs.Grid.{ends_of}
+use Rattle.lane_queue.specs.Grid.{ends_of}
 use Rattle.pipeline.specs.Made.{NumberedFrom}
 use Rattle.pipeline.proofs.lanes.lane_jobs.Given as goal
 

@@ -1,5 +1,5 @@
 use Rattle.std.proofs.Common.{◌≡◌, ◌+◌, sym, subst, arith, vec_len, All}
-use Rattle.queue_grid.specs.Grid.{ends_of, HasRoom}
+use Rattle.lane_queue.specs.Grid.{ends_of, HasRoom}
 use Rattle.pipeline.specs.Promise.{nodes_of}
 use Rattle.pipeline.proofs.Ends.{has_ends}
 use Rattle.pipeline.proofs.making.make.Goals as goal

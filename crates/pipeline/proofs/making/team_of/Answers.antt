@@ -3,7 +3,7 @@ use Rattle.std.proofs.lemmas.List.{map-append}
 use Rattle.std.proofs.lemmas.List.Elements.{All-pop}
 use Rattle.policy_tree.specs.Tree.{limiters}
 use Rattle.policy_tree.specs.Meaning.{meaning}
-use Rattle.queue_grid.specs.Grid.{ends_of}
+use Rattle.lane_queue.specs.Grid.{ends_of}
 use Rattle.pipeline.proofs.making.team_of.Goals as goal
 
 pub shard_jobs-requires-clause-seats : goal.shard_jobs-requires-clause-seats

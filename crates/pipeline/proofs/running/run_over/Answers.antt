@@ -2,7 +2,7 @@ use Rattle.std.specs.List.{list_any}
 use Rattle.std.proofs.Common.{◌≡◌, ◌+◌, ◌++◌, ◌||◌, ◌<◌, ◌≤◌, ◌∙◌, ℕ, [], ◌∷◌, All, refl, ap, sym, subst, arith, length, map, vec_len, vec_capacity}
 use Rattle.std.proofs.lemmas.List.{length-map, map-append}
 use Rattle.lane_queue.specs.Ends.{AreTied, HasHistoryAt}
-use Rattle.queue_grid.specs.Grid.{ends_of, HasRoom, IsTiedGrid, HaveHistories}
+use Rattle.lane_queue.specs.Grid.{ends_of, HasRoom, IsTiedGrid, HaveHistories}
 use Rattle.shard_core.specs.Held.{settings}
 use Rattle.shared_budget.specs.Budget.{AreOfOneBudget, HaveOneHistoryEach}
 use Rattle.world_theory.specs.World.{settings_for}

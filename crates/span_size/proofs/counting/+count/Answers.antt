@@ -31,7 +31,7 @@ pub AnyValueCounted::count-returns-in-Bytes : goal.AnyValueCounted::count-return
 AnyValueCounted::count-returns-in-Bytes t c = rw (c.in-Bytes.is, fields-Bytes c.in-Bytes.text) c.object_of_text-in-Bytes.ensures
 
 pub KeyValueCounted::count-returns : goal.KeyValueCounted::count-returns
-KeyValueCounted::count-returns t c = rw (fields-pair c.args.self.now) (object-added (pair_table c.args.self.now) refl (then c.begin_object.ensures (then c.text.ensures (then c.count_set_value.ensures c.end_object.ensures))))
+KeyValueCounted::count-returns t c = rw (fields-pair c.args.self.now) (object-added (pair_table c.args.self.now) refl (then c.begin_nested.ensures.object (then c.text.ensures (then c.count_set_value.ensures c.end_nested.ensures.object))))
 
 pub count_set_value-returns-then-not-is_set : goal.count_set_value-returns-then-not-is_set
 count_set_value-returns-then-not-is_set t c = rw (c.is_set.ensures.unset c.if-not-is_set.true, fields-Empty) (nothing c.args.out.now)

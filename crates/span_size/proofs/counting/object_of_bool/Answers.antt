@@ -4,4 +4,4 @@ use Rattle.span_size.proofs.Objects.{one-added}
 use Rattle.span_size.proofs.counting.object_of_bool.Goals as goal
 
 pub returns : goal.returns
-returns c = one-added (codes "boolValue") (boolean c.args.b) c.begin_object.ensures c.key.ensures c.boolean.ensures c.end_object.ensures
+returns c = one-added (codes "boolValue") (boolean c.args.b) c.begin_nested.ensures.object c.key.ensures c.boolean.ensures c.end_nested.ensures.object

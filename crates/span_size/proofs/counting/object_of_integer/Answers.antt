@@ -9,4 +9,4 @@ use Rattle.span_size.proofs.counting.object_of_integer.Goals as goal
 pub returns : goal.returns
 returns c =
     let text : Adds c.key.new.self c.quoted_i64.new.self (token.string (signed_decimal c.args.n.now) ∷ []) = search (rules, c.quoted_i64.ensures) in
-    one-added (codes "intValue") (string (signed_decimal c.args.n.now)) c.begin_object.ensures c.key.ensures text c.end_object.ensures
+    one-added (codes "intValue") (string (signed_decimal c.args.n.now)) c.begin_nested.ensures.object c.key.ensures text c.end_nested.ensures.object

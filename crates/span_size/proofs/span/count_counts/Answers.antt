@@ -1,5 +1,5 @@
-use Rattle.span_size.proofs.Counts.{then}
+use Rattle.span_size.proofs.Counts.{then, then-both}
 use Rattle.span_size.proofs.span.count_counts.Goals as goal
 
 pub returns : goal.returns
-returns c = then (rw c.as_slice.ensures at c.list.ensures) (then c.u32.ensures (then c.u32-2.ensures c.u32-3.ensures))
+returns c = then-both _ _ _ c.attributes.ensures (then c.u32.ensures c.u32-2.ensures)

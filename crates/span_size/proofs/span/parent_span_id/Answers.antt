@@ -1,8 +1,4 @@
-use Rattle.std.proofs.Common.{codes}
-use Rattle.serde_json.specs.Data.{string}
-use Rattle.span_ids.specs.Id.{id_text}
 use Rattle.span_size.proofs.Counts.{nothing}
-use Rattle.span_size.proofs.Objects.{field}
 use Rattle.span_size.proofs.span.parent_span_id.Goals as goal
 
 pub returns-in_default : goal.returns-in_default
@@ -11,6 +7,5 @@ returns-in_default c = rw c.in_default.is (nothing c.args.out.now)
 pub returns-in_default-parent : goal.returns-in_default-parent
 returns-in_default-parent c = rw (c.in-Some.is, c.in_default-parent.is) (nothing c.args.out.now)
 
-pub returns : goal.returns
-returns c =
-    rw (c.in-Some.is, c.in-Some-parent.is) (field (codes "parentSpanId") (string (id_text c.in-Some-parent.parent)) c.key.ensures (rw c.bytes.ensures at c.id.ensures))
+pub returns-in-Some-parent : goal.returns-in-Some-parent
+returns-in-Some-parent c = rw (c.in-Some.is, c.in-Some-parent.is) (rw c.bytes.ensures at c.id_member.ensures)

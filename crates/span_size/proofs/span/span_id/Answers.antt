@@ -1,12 +1,8 @@
-use Rattle.std.proofs.Common.{codes}
-use Rattle.serde_json.specs.Data.{string}
-use Rattle.span_ids.specs.Id.{id_text}
 use Rattle.span_size.proofs.Counts.{nothing}
-use Rattle.span_size.proofs.Objects.{field}
 use Rattle.span_size.proofs.span.span_id.Goals as goal
 
 pub returns-in_default : goal.returns-in_default
 returns-in_default c = rw c.in_default.is (nothing c.args.out.now)
 
-pub returns : goal.returns
-returns c = rw c.in-Some.is (field (codes "spanId") (string (id_text c.in-Some.ids.span)) c.key.ensures (rw c.bytes.ensures at c.id.ensures))
+pub returns-in-Some : goal.returns-in-Some
+returns-in-Some c = rw c.in-Some.is (rw c.bytes.ensures at c.id_member.ensures)

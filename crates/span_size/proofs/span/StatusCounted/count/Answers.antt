@@ -7,5 +7,5 @@ use Rattle.span_size.proofs.span.StatusCounted.count.Goals as goal
 
 pub returns : goal.returns
 returns c =
-    let code : AddsField c.begin_object.new.self c.enumeration.new.out (codes "code") (enum_field c.args.self.now.code) = search (rules, c.enumeration.ensures) in
-    object-added (status_table c.args.self.now) refl (then c.begin_object.ensures (then code (then c.text.ensures c.end_object.ensures)))
+    let code : AddsField c.begin_nested.new.self c.enumeration.new.out (codes "code") (enum_field c.args.self.now.code) = search (rules, c.enumeration.ensures) in
+    object-added (status_table c.args.self.now) refl (then c.begin_nested.ensures.object (then code (then c.text.ensures c.end_nested.ensures.object)))

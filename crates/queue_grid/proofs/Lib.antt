@@ -1,3 +1,0 @@
-mod Dealing
-mod Grids
-mod Reunion

@@ -1,6 +1,0 @@
-use Rattle.std.proofs.Common.{refl}
-use Rattle.json.specs.Token.{begin_object}
-use Rattle.span_size.proofs.counter.Counter.begin_object.Goals as goal
-
-pub returns : goal.returns
-returns c = c.token.ensures begin_object (record { size = refl; begin = refl; end = refl })

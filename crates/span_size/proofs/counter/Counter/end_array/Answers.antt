@@ -1,6 +1,0 @@
-use Rattle.std.proofs.Common.{refl}
-use Rattle.json.specs.Token.{end_array}
-use Rattle.span_size.proofs.counter.Counter.end_array.Goals as goal
-
-pub returns : goal.returns
-returns c = c.token.ensures end_array (record { size = refl; begin = refl; end = refl })
