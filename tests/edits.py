@@ -11,7 +11,7 @@ read fails, and so do the edits of a crate that isn't proved as it stands. No so
 The edits of a crate that touch different functions are tried in one check of those functions: a function is proved from the contracts of
 what it calls, so what is said of one doesn't depend on another's body (`rt plant` tries its bodies so). Each must be refused by a goal of its
 own function; one of which that isn't plain is tried by itself, at last on the whole crate. --alone tries each alone, on the whole crate.
---jobs N takes N crates side by side, and a check takes 1 to 4 GB. It prints a line an edit and one a check, with its processor seconds.
+--jobs N makes N checks side by side, and a check takes 1 to 4 GB. It prints a line an edit and one a check, with its processor seconds.
 
 The record, tests/edits.passed, has a line for each crate all of whose edits were refused: its name, a sum over its files, those of the crates
 below it and the kit's logic, the number of its edits, and the processor seconds of the tries. --stale compares the sums with the files that
@@ -21,7 +21,7 @@ import collections
 import os
 import re
 import sys
-from concurrent.futures import ThreadPoolExecutor
+from concurrent.futures import ThreadPoolExecutor, as_completed
 from pathlib import Path
 
 sys.path.insert(0, str(Path(__file__).resolve().parent.parent / "tools"))
@@ -183,32 +183,33 @@ def try_round(edits, crate, below, names, is_alone):
     return results, seconds
 
 
-def try_crate(crate, below, is_alone):
-    """Tries a crate's edits, and returns its name, what is said of each edit, and the processor seconds."""
+def try_crate(crate, below, is_alone, checks):
+    """Tries a crate's edits in this pool, and returns its name, what is said of each edit, and the processor seconds."""
     found = {it: read_edit(f"crates/{crate}", it) for it in edits_in(crate)}
     tried = [(name, (False, f"BAD EDIT: {why}")) for name, why in found.items() if isinstance(why, str)]
     said, seconds = proof_of(crate, below), 0
     if not said:
-        _, said, seconds = check(crate, below, [])
+        _, said, seconds = checks.submit(check, crate, below, []).result()
     if not re.search(r"(?m)^logic=proved", said):
         return crate, [(it, (False, "BAD CRATE: it is not proved as it stands")) for it in found], seconds
-    names = re.findall(r"(?m)^fn (\S+): proved$", said)
-    for edits in rounds_of([it for it in found.values() if isinstance(it, Edit)], is_alone):
-        results, more = try_round(edits, crate, below, names, is_alone)
+    names, alone = re.findall(r"(?m)^fn (\S+): proved$", said), []
+    rounds = rounds_of([it for it in found.values() if isinstance(it, Edit)], is_alone)
+    for edits, (results, more) in zip(rounds, checks.map(lambda it: try_round(it, crate, below, names, is_alone), rounds)):
         seconds += more
-        for edit, result in zip(edits, results):
-            if not result:
-                (result,), more = try_round([edit], crate, below, names, is_alone)
-                seconds += more
-            tried.append((edit.name, result))
+        tried += [(edit.name, result) for edit, result in zip(edits, results) if result]
+        alone += [edit for edit, result in zip(edits, results) if not result]
+    for edit, ((result,), more) in zip(alone, checks.map(lambda it: try_round([it], crate, below, names, is_alone), alone)):
+        seconds += more
+        tried.append((edit.name, result))
     return crate, tried, seconds
 
 
 def try_all(crates, below, jobs, is_alone):
     """Tries the crates' edits, notes those of which all are refused, and returns how many edits passed and failed."""
     passed = failed = 0
-    with ThreadPoolExecutor(jobs) as pool:
-        for crate, tried, seconds in pool.map(lambda it: try_crate(it, below[it], is_alone), crates):
+    with ThreadPoolExecutor(jobs) as checks, ThreadPoolExecutor(len(crates) or 1) as pool:
+        for each in as_completed([pool.submit(try_crate, it, below[it], is_alone, checks) for it in crates]):
+            crate, tried, seconds = each.result()
             for name, (is_well, why) in tried:
                 passed, failed = passed + is_well, failed + (not is_well)
                 print(f"{crate}/{name}: {why[:240]}", flush=True)

@@ -95,7 +95,7 @@ class Backend:
                         self.taken.append(body)
                 for piece in step:
                     connection.sendall(piece, socket.MSG_NOSIGNAL)
-                    time.sleep(0.01 if len(step) > 1 else 0)
+                    time.sleep(min(0.01, 0.1 / len(step)) if len(step) > 1 else 0)
                 if isinstance(step, tuple) or b"Connection: close" in whole:
                     return
         except OSError:
