@@ -95,7 +95,7 @@ class Backend:
                         self.taken.append(body)
                 for piece in step:
                     connection.sendall(piece, socket.MSG_NOSIGNAL)
-                    time.sleep(min(0.01, 0.1 / len(step)) if len(step) > 1 else 0)
+                    time.sleep(0.01 if len(step) > 1 else 0)
                 if isinstance(step, tuple) or b"Connection: close" in whole:
                     return
         except OSError:
@@ -195,7 +195,7 @@ def tries_again(start):
     """What may be tried again is, on a connection that is made again where it breaks; each line arrives once, in order."""
     chunked = [b"HTTP/1.1 200 OK\r\nTransfer-Encoding: chunked\r\n\r\n", b"2\r\n{", b"}\r\n0", b"\r\n\r\n"]
     script = [[answer(503, "Retry-After: 1\r\n")], [answer(429)], [answer(502)], [answer(504)], 10, [OK[:20]], [b"unasked"]]
-    script += [[b"HTTP/1.1 100 Continue\r\n\r\n", OK], chunked, [OK.replace(b"\r\n\r\n", b"\r\nConnection: close\r\n\r\n")], [OK[i : i + 1] for i in range(len(OK))]]
+    script += [[b"HTTP/1.1 100 Continue\r\n\r\n", OK], chunked, [OK.replace(b"\r\n\r\n", b"\r\nConnection: close\r\n\r\n")], [OK[at : at + 4] for at in range(0, len(OK), 4)]]
     backend = Backend(script)
     collector = start(FAST + ALL + backend.settings())
     for number in range(5):
