@@ -4,12 +4,14 @@ it isn't 0; one name a line on standard output.
 
     tests/configurations.py FOLDER
 
-The fault of each stands in the tables, by its number in README.md, and the bounds of whole numbers in the definition (tests/settings.py); none
-of it is the program's answer. Of two faults the one with the lower number is told.
+The fault of each stands in the tables, by its number in README.md, and the bounds of whole numbers in the definition (tests/settings.py); the
+settings that each type of policy has are those of its table (tests/tables.py). None of it is the program's answer. Of two faults the one with the
+lower number is told.
 """
 import sys
 
 from settings import top_numbers
+from tables import policy_settings
 
 NOT_TOML, UNKNOWN_KEY, MISSING_KEY, WRONG_TYPE, OUT_OF_RANGE, TOO_FEW_TRACES = "123456"
 NOT_AN_EXPRESSION, EXPRESSION_TOO_BIG = "9", "10"
@@ -379,6 +381,37 @@ def at_the_bounds():
         yield f"{key} = 1\n{key} = 1", NOT_TOML
 
 
+# Of each kind of value one that is taken, and such as aren't.
+KINDS = {
+    "Integer": ("0", [("1.0", WRONG_TYPE), ('"1"', WRONG_TYPE), ("[1]", WRONG_TYPE), ("true", WRONG_TYPE)]),
+    "Whole": ("1", [("1.0", WRONG_TYPE), ('"1"', WRONG_TYPE), ("[1]", WRONG_TYPE), ("true", WRONG_TYPE)]),
+    "Truth": ("true", [("1", WRONG_TYPE), ('"true"', WRONG_TYPE), ("[true]", WRONG_TYPE)]),
+    "Text": ('"a"', [("1", WRONG_TYPE), ('["a"]', WRONG_TYPE), ("true", WRONG_TYPE)]),
+    "Percentage": ("50", [("101", OUT_OF_RANGE), ("-1", OUT_OF_RANGE), ("0.00001", OUT_OF_RANGE), ('"1"', WRONG_TYPE), ("[1]", WRONG_TYPE)]),
+    "Array": ('["OK"]', [("1", WRONG_TYPE), ('"OK"', WRONG_TYPE), ("[1]", WRONG_TYPE), ("{}", WRONG_TYPE)]),
+}  # fmt: skip
+
+
+def by_table(settings):
+    """Settings of a type by its table: the required ones, all, each required one left out, each of another type or out of range, and one more."""
+    values = {it.key: KINDS[it.kind][0] for it in settings}
+    required = [it.key for it in settings if it.is_required]
+
+    def written(keys, /, **other):
+        return ", ".join(f"{key} = {value}" for key, value in ({key: values[key] for key in keys} | other).items())
+
+    yield written(required), TAKEN
+    yield written(values), TAKEN
+    yield from ((written(other for other in required if other != key), MISSING_KEY) for key in required)
+    for it in settings:
+        yield from ((written(required, **{it.key: value}), fault) for value, fault in KINDS[it.kind][1])
+        if it.kind == "Integer":
+            yield from ((written(required, **{it.key: value}), TAKEN) for value in (it.least, it.greatest))
+            yield written(required, **{it.key: it.least - 1}), OUT_OF_RANGE
+            yield written(required, **{it.key: it.greatest + 1}), NOT_TOML if it.greatest == WHOLE_TOP else OUT_OF_RANGE
+        yield written(required, **{f"{it.key}_": 1}), UNKNOWN_KEY
+
+
 def of_two_faults():
     """Each two of the faults together: the one of lower number is told."""
     for place, (line, policy, fault) in enumerate(FAULTY):
@@ -444,6 +477,10 @@ def main(folder):
     for kind, rows in SETTINGS.items():
         texts = [(f'policies = [{{ name = "a", type = "{kind}", {kind} = {{ {settings} }} }}]', fault) for settings, fault in rows]
         numbered(folder, f"settings of {kind}", texts)
+    for kind, settings in policy_settings().items():
+        if settings and kind != "composite":
+            texts = [(f'policies = [{{ name = "a", type = "{kind}", {kind} = {{ {inner} }} }}]', fault) for inner, fault in by_table(settings)]
+            numbered(folder, f"table of {kind}", texts)
     numbered(folder, "first match", [(f"sample_on_first_match = true\npolicies = [{inner}]", fault) for inner, fault in first_matches()])
     numbered(folder, "list of policies", [(f"policies = [{inner}]", fault) for inner, fault in [*lists(), *percentages()]])
 

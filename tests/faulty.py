@@ -4,18 +4,22 @@ line on standard output.
 
     tests/faulty.py FOLDER
 
-The lines are worked out by hand from OPERATING.md and the README's tables: a line for each fault, first those of keys and values in the order of
-those tables (the keys that there aren't first), then those of what they give, where a value with a fault counts as its key's default, and a
+The lines are worked out by hand from OPERATING.md and the README's tables, the names of keys and types from the definitions (tests/tables.py): a line
+for each fault, first those of keys and values in the order of those tables (the keys that there aren't first), then those of what they give, where a value with a fault counts as its key's default, and a
 policy's list that isn't there as empty.
 """
 import sys
+
+from tables import policy_types, table_settings
 
 ALL = '{ name = "all", type = "always_sample" }'
 POLICIES = f"policies = [{ALL}]\n"
 EMPTY = "policies: a list of policies is empty (fault 7.1)"
 NO_VALUES = "policies: the values or status codes of a policy are an empty list (fault 7.6)"
 SAME_NAME = "policies: two policies of one list have the same name (fault 7.4)"
-TYPES = "always_sample, latency, status_code, string_attribute, numeric_attribute, boolean_attribute, span_count, rate_limiting, bytes_limiting, probabilistic, trace_state, trace_flags, and, not, drop, composite"
+TYPES = ", ".join(policy_types())
+TABLES = ("decision_cache", "export")
+WANTED = {"Integer": "a whole number is wanted", "Text": "a text is wanted", "Choice": "a text is wanted", "Truth": "true or false is wanted"}
 
 # A name, a text, and its lines; of a text without a fault there is none.
 ROWS = [
@@ -38,22 +42,10 @@ ROWS = [
         "tick_ms: 60001 is not from 1 to 60000 (fault 5)",
         "queue_capacity: 65537 is not from 1 to 65536 (fault 5)",
     ]),
-    ("each top key of another type", "\n".join(f"{key} = [1]" for key in (
-        "decision_wait_ms", "root_wait_ms", "num_traces", "decision_cache", "lanes", "shards", "queue_capacity", "send_batch_size", "export_capacity",
-        "max_connections", "memory_limit_mib", "maximum_trace_size_bytes", "tick_ms", "listen", "accept_gzip", "sample_on_first_match", "queue_full", "output_fault", "double_values", "close_at_end_of_input", "admin", "export")) + "\npolicies = 1\n", [
-        *(f"{key}: a whole number is wanted (fault 4)" for key in (
-            "decision_wait_ms", "root_wait_ms", "num_traces", "lanes", "shards", "tick_ms", "queue_capacity", "export_capacity", "send_batch_size", "max_connections",
-            "memory_limit_mib", "maximum_trace_size_bytes")),
-        "listen: a text is wanted (fault 4)",
-        "accept_gzip: true or false is wanted (fault 4)",
-        "sample_on_first_match: true or false is wanted (fault 4)",
-        "queue_full: a text is wanted (fault 4)",
-        "output_fault: a text is wanted (fault 4)",
-        "double_values: a text is wanted (fault 4)",
-        "close_at_end_of_input: true or false is wanted (fault 4)",
-        "admin: a text is wanted (fault 4)",
-        "decision_cache: a table is wanted (fault 4)",
-        "export: a table is wanted (fault 4)",
+    ("each top key of another type", "\n".join(f"{key} = [1]" for key in [*(it.key for it in table_settings("top_settings") if it.key != "decision_wait_after_root_received_ms"), *TABLES])
+     + "\npolicies = 1\n", [
+        *(f"{it.key}: {WANTED[it.kind]} (fault 4)" for it in table_settings("top_settings") if it.key != "decision_wait_after_root_received_ms"),
+        *(f"{key}: a table is wanted (fault 4)" for key in TABLES),
         "policies: an array is wanted (fault 4)",
         EMPTY,
     ]),

@@ -10,6 +10,8 @@ import sys
 import tomllib
 from pathlib import Path
 
+from tables import policy_settings, policy_types
+
 TOP = Path(__file__).resolve().parent.parent
 DEFINITION = TOP / "crates/tsc_config/specs/Settings.antt"
 CACHES = "decision_cache"
@@ -80,8 +82,26 @@ def readme_others():
     return found
 
 
+def readme_types():
+    """Of each type of policy what the README's table of their settings names."""
+    rows = [line.split("|") for line in (TOP / "README.md").read_text().splitlines() if re.match(r"\| `\w+` \|(?:[^|]*\|){3}$", line)]
+    return {row[1].strip(" `"): re.findall(r"`(\w+)`", row[2]) for row in rows if row[1].strip(" `") in policy_types()}
+
+
+def type_differences():
+    """A line for each type of policy of which the README's table or the example of every key has other settings than the definition."""
+    example = (TOP / "examples/every_key.toml").read_text()
+    for name, settings in policy_settings().items():
+        said = readme_types().get(name)
+        if said is None or not {it.key for it in settings} <= set(said):
+            yield f"README.md has {said} for {name}, the definition {[it.key for it in settings]}"
+        if f'type = "{name}"' not in example:
+            yield f"examples/every_key.toml has no policy of type {name}"
+
+
 def differences():
     """A line for each difference."""
+    yield from type_differences()
     wanted = top_numbers() | cache_numbers() | export_numbers()
     said = readme_numbers()
     if not top_numbers() or not cache_numbers() or not export_numbers():

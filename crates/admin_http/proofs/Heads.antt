@@ -9,17 +9,17 @@ use Rattle.http_text.specs.Lines.{Cut, head_len, cut}
 use Rattle.http_text.specs.Head.{IsHead, IsVerdict, Judges, field_lines}
 use Rattle.http_text.specs.Search.{Searched}
 use Rattle.http_text.specs.declared.request.TheConstants.{FIELD_LIMIT}
-use Rattle.http_text.specs.declared.request.Verdict.{Verdict}
-use Rattle.http_text.specs.declared.search.Place.TheVariants.{Blank}
+use Rattle.http_text.specs.declared.request.HeadVerdict.{HeadVerdict}
+use Rattle.http_text.specs.declared.search.SearchPlace.TheVariants.{Blank}
 use Rattle.admin_http.specs.declared.asked.AdminRequest.{AdminRequest}
 use Rattle.admin_http.specs.Asked.{HeardBy, IsHeard, refused_as, nothing}
 
-judged_head : (text : List ℕ) (v : Verdict) → refused_as v ≡ None → Judges nothing text v → (h : RequestHead) × IsHead text h
+judged_head : (text : List ℕ) (v : HeadVerdict) → refused_as v ≡ None → Judges nothing text v → (h : RequestHead) × IsHead text h
 judged_head text v e (inl found) = (found.0, found.1)
 judged_head text v e (inr none) = let bad = ap refused_as none.1 in absurd (cc)
 
 -- a text that isn't refused is a head
-pub head_there : (text : List ℕ) (v : Verdict) → IsVerdict nothing text v → refused_as v ≡ None → (h : RequestHead) × IsHead text h
+pub head_there : (text : List ℕ) (v : HeadVerdict) → IsVerdict nothing text v → refused_as v ≡ None → (h : RequestHead) × IsHead text h
 head_there text v is e = by_lines (nat_le (field_lines text) FIELD_LIMIT) refl where
   by_lines : (t : Bool) → nat_le (field_lines text) FIELD_LIMIT ≡ t → (h : RequestHead) × IsHead text h
   by_lines true few = judged_head text v e (is.few (leb-true (field_lines text) FIELD_LIMIT few))

@@ -8,18 +8,18 @@ use Rattle.httparse.proofs.GrammarLemmas.{request_unique}
 use Rattle.http_text.specs.Lines.{Cut, Whole, Waits, TooLong, cut, head_len}
 use Rattle.http_text.specs.Head.{IsVerdict, Judges, field_lines, verdict}
 use Rattle.http_text.specs.declared.request.TheConstants.{FIELD_LIMIT}
-use Rattle.http_text.specs.declared.request.Verdict.{Verdict}
+use Rattle.http_text.specs.declared.request.HeadVerdict.{HeadVerdict}
 use Rattle.http_text.proofs.CutLemmas.{cut_within, head_stable, head_within, too_long_more, whole_more}
 use Rattle.admin_http.specs.declared.asked.AdminRequest.{AdminRequest}
 use Rattle.admin_http.specs.Asked.{AskedAs, HeardBy, IsAsked, IsHeard, OneRequest, StaysHeard, asked_by, refused_as, nothing}
 
-judged_once : (text : List ℕ) (v w : Verdict) → Judges nothing text v → Judges nothing text w → v ≡ w
+judged_once : (text : List ℕ) (v w : HeadVerdict) → Judges nothing text v → Judges nothing text w → v ≡ w
 judged_once text v w (inl a) (inl b) = a.2 ∙ ap (verdict nothing) (request_unique text a.0 b.0 [] [] a.1.0 b.1.0).0 ∙ sym b.2
 judged_once text v w (inl a) (inr b) = absurd (b.0 a.0 a.1)
 judged_once text v w (inr a) (inl b) = absurd (a.0 b.0 b.1)
 judged_once text v w (inr a) (inr b) = a.1 ∙ sym b.1
 
-one_verdict : (text : List ℕ) (v w : Verdict) → IsVerdict nothing text v → IsVerdict nothing text w → v ≡ w
+one_verdict : (text : List ℕ) (v w : HeadVerdict) → IsVerdict nothing text v → IsVerdict nothing text w → v ≡ w
 one_verdict text v w a b = by_lines (nat_le (field_lines text) FIELD_LIMIT) refl where
   by_lines : (t : Bool) → nat_le (field_lines text) FIELD_LIMIT ≡ t → v ≡ w
   by_lines true e = let few = leb-true (field_lines text) FIELD_LIMIT e in judged_once text v w (a.few few) (b.few few)

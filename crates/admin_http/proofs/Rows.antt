@@ -4,9 +4,9 @@ use Rattle.std.proofs.Common.{◌≡◌, true, false, refl, List, ℕ, [], ◌�
 use Rattle.std.specs.Prelude.{codes, map}
 use Rattle.std.specs.Fmt.{digits}
 use Rattle.http_text.specs.Lines.{Whole, Waits, cut, head_len}
-use Rattle.http_text.specs.declared.request.Refusal.TheVariants.{BadRequest, HeadTooLarge, MethodNotAllowed, NotFound as NotFoundThere}
-use Rattle.http_text.specs.declared.request.Verdict.{Verdict}
-use Rattle.http_text.specs.declared.request.Verdict.TheVariants.{Refused, Close as CloseThere}
+use Rattle.http_text.specs.declared.request.RequestRefusal.TheVariants.{BadRequest, HeadTooLarge, MethodNotAllowed, NotFound as NotFoundThere}
+use Rattle.http_text.specs.declared.request.HeadVerdict.{HeadVerdict}
+use Rattle.http_text.specs.declared.request.HeadVerdict.TheVariants.{Refused, Close as CloseThere}
 use Rattle.http_text.specs.Fields.{Header}
 use Rattle.http_text.specs.Head.{verdict_by}
 use Rattle.admin_http.specs.declared.asked.Method.TheVariants.{Get, Post}
@@ -55,7 +55,7 @@ refusals = refl
 host : Header
 host = (codes "Host", codes "x")
 
-refused_for : ℕ → List Header → Verdict
+refused_for : ℕ → List Header → HeadVerdict
 refused_for minor headers = verdict_by nothing (codes "GET") (codes "/metrics") minor headers
 
 bad_heads : refused_as (refused_for 0 (host ∷ [])) ∷ refused_as (refused_for 1 []) ∷ refused_as (refused_for 1 (host ∷ host ∷ [])) ∷ refused_as (refused_for 1 (host ∷ [])) ∷ []

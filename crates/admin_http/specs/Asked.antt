@@ -4,9 +4,9 @@ use Rattle.httparse.specs.Grammar.{RequestHead}
 use Rattle.http_text.specs.Lines.{Cut, Whole, Waits, TooLong, cut, head_len}
 use Rattle.http_text.specs.Head.{IsHead, IsVerdict}
 use Rattle.http_text.specs.declared.allowed.Allowed.{Allowed}
-use Rattle.http_text.specs.declared.request.Verdict.{Verdict}
-use Rattle.http_text.specs.declared.request.Verdict.TheVariants.{Refused}
-use Rattle.http_text.specs.declared.request.Refusal.TheVariants.{BadRequest, HeadTooLarge}
+use Rattle.http_text.specs.declared.request.HeadVerdict.{HeadVerdict}
+use Rattle.http_text.specs.declared.request.HeadVerdict.TheVariants.{Refused}
+use Rattle.http_text.specs.declared.request.RequestRefusal.TheVariants.{BadRequest, HeadTooLarge}
 use Rattle.admin_http.specs.declared.asked.Method.{Method}
 use Rattle.admin_http.specs.declared.asked.Method.TheVariants.{Get, Post}
 use Rattle.admin_http.specs.declared.asked.Route.{Route}
@@ -39,7 +39,7 @@ abbrev pub asked_by : (method target : List ℕ) → AdminRequest
 asked_by method target = asked (routed method target) (bytes_eq method (codes "HEAD"))
 
 -- a text that is refused as no head, or as too large a one, at the address of the traces is so here
-abbrev pub refused_as : Verdict → Option AdminRequest
+abbrev pub refused_as : HeadVerdict → Option AdminRequest
 refused_as (Refused HeadTooLarge is_head) = Some (asked TooLarge is_head)
 refused_as (Refused BadRequest is_head) = Some (asked Bad is_head)
 refused_as _ = None
@@ -55,7 +55,7 @@ nothing = record { gzip = false; close = false }
 
 -- what the text of a head asks for
 abbrev pub IsAsked : (text : List ℕ) → AdminRequest → Type 0
-IsAsked text a = (v : Verdict) × IsVerdict nothing text v × AskedAs text (refused_as v) a
+IsAsked text a = (v : HeadVerdict) × IsVerdict nothing text v × AskedAs text (refused_as v) a
 
 -- what was read so far asks for this, or its head isn't whole yet
 abbrev pub HeardBy : Cut → (read : List ℕ) → Option AdminRequest → Type 0

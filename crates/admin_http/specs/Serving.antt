@@ -16,7 +16,8 @@ use Rattle.admin_http.specs.declared.ends.PieceRead.TheVariants.{More, End, NoRo
 use Rattle.admin_http.specs.Asked.{IsHeard}
 use Rattle.admin_http.specs.Texts.{AdminState, answer_of}
 
--- what an answer tells of is what the collector said: whether it is closing, what its configuration is, and, where they are asked for, its numbers
+-- what an answer tells of is what the collector said: whether it is closing, what its configuration is, and, where they
+-- are asked for, its numbers
 pub record IsStateOf (stops : Bool → Type 0) (tells : List ℕ → Type 0) (configuration : List ℕ) (route : Route) (s : AdminState) : Type 0 where
   pub is_stopping : stops s.is_stopping
   pub config : s.config ≡ configuration

@@ -8,7 +8,8 @@ ghost use Rattle.admin_http.specs.Asked.{IsAsked, IsHeard, asked_by, only_by, re
 
 use crate::asked::{AdminRequest, Method, Route};
 use http_text::{
-    Allowed, Cutting, FIELD_LIMIT, Place, Refusal, Search, Verdict, cut_on, judge, read_head,
+    Allowed, Cutting, FIELD_LIMIT, HeadVerdict, PartSearch, RequestRefusal, SearchPlace, cut_on,
+    judge, read_head,
 };
 use httparse::spans::EMPTY_HEADER_SPAN;
 
@@ -75,19 +76,19 @@ fn asked_by(method: &[u8], target: &[u8]) -> AdminRequest
 }
 
 /// What a text asks for that is no head, or too large a one.
-fn refused_as(verdict: Verdict) -> Option<AdminRequest>
+fn refused_as(verdict: HeadVerdict) -> Option<AdminRequest>
     ensures { result ≡ refused_as verdict }
 {
     match verdict {
-        Verdict::Refused {
-            refusal: Refusal::HeadTooLarge,
+        HeadVerdict::Refused {
+            refusal: RequestRefusal::HeadTooLarge,
             is_head,
         } => Some(AdminRequest {
             route: Route::TooLarge,
             is_head,
         }),
-        Verdict::Refused {
-            refusal: Refusal::BadRequest,
+        HeadVerdict::Refused {
+            refusal: RequestRefusal::BadRequest,
             is_head,
         } => Some(AdminRequest {
             route: Route::Bad,
@@ -111,9 +112,9 @@ fn asked_in(text: &[u8]) -> AdminRequest
 pub fn heard(read: &[u8]) -> Option<AdminRequest>
     ensures { IsHeard read.now result }
 {
-    let search = Search {
+    let search = PartSearch {
         at: 0,
-        place: Place::Blank,
+        place: SearchPlace::Blank,
     };
     match cut_on(read, search) {
         Cutting::Whole(n) => Some(asked_in(&read[..n])),

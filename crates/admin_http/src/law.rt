@@ -1,8 +1,8 @@
 //! What holds of all that is heard.
 ghost use Rattle.admin_http.specs.Asked.{OneRequest, StaysHeard};
 
-/// The bytes that were read ask for one thing only, and more bytes behind them don't change it: so a request is the same in
-/// whatever pieces its bytes come.
+/// The bytes that were read ask for one thing only, and more bytes behind them don't change it: so a request is the
+/// same in whatever pieces its bytes come.
 pub fn heard_in_any_pieces()
     ensures one { OneRequest }
     ensures stays { StaysHeard }

@@ -1,7 +1,7 @@
 //! One request at the address for those in charge of a collector, over any reader and writer (RFC 9112).
 //!
-//! [`serve`] is the whole of it: it reads a head, answers it once, and ends. What a head asks for stands in `specs/Asked`,
-//! the bytes of each answer in `specs/Texts`, and what a connection does in `specs/Serving`.
+//! [`serve`] is the whole of it: it reads a head, answers it once, and ends. What a head asks for stands in
+//! `specs/Asked`, the bytes of each answer in `specs/Texts`, and what a connection does in `specs/Serving`.
 #![tactic(auto)]
 
 mod admin;

@@ -126,9 +126,9 @@ fn hear<R: Read, A: Admin>(
     Err(Silence::Reads)
 }
 
-/// Serves one connection: reads until the head of a request is whole, answers it once, by one write where the writer takes
-/// it whole, and ends. Where no head gets whole nothing is written. A request to close is passed to `admin` before its
-/// answer is written, and also where that can't be written.
+/// Serves one connection: reads until the head of a request is whole, answers it once, by one write where the writer
+/// takes it whole, and ends. Where no head gets whole nothing is written. A request to close is passed to `admin`
+/// before its answer is written, and also where that can't be written.
 pub fn serve<R: Read, W: Write, A: Admin>(
     alloc: Global,
     reader: &mut R,

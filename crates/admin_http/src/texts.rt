@@ -14,8 +14,8 @@ struct AdminPage<'a> {
     body: &'a str,
 }
 
-/// The answer to a request, from what it may tell of: whether the collector is closing, the text of its numbers and that
-/// of its configuration.
+/// The answer to a request, from what it may tell of: whether the collector is closing, the text of its numbers and
+/// that of its configuration.
 pub fn answer(
     alloc: Global,
     asked: AdminRequest,

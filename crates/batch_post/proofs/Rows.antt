@@ -1,9 +1,9 @@
 -- What is done after an answer, computed, and a log by hand.
 use Rattle.std.proofs.Common.{◌≡◌, [], ◌∷◌, Some, None, refl}
-use Rattle.batch_post.specs.declared.outcome.Outcome.TheVariants.{Answered, NoAnswer}
-use Rattle.batch_post.specs.declared.outcome.Fate.TheVariants.{Delivered, GivenUp}
+use Rattle.batch_post.specs.declared.outcome.AttemptOutcome.TheVariants.{Answered, NoAnswer}
+use Rattle.batch_post.specs.declared.outcome.BatchFate.TheVariants.{Delivered, GivenUp}
 use Rattle.batch_post.specs.declared.rule.Retry.{Retry}
-use Rattle.batch_post.specs.declared.rule.Verdict.TheVariants.{Taken, Waits, Ends}
+use Rattle.batch_post.specs.declared.rule.RetryVerdict.TheVariants.{Taken, Waits, Ends}
 use Rattle.batch_post.specs.Rules.{next_wait, with_jitter, verdict_of}
 use Rattle.batch_post.specs.Logs.{tried, settled}
 use Rattle.batch_post.specs.Deliveries.{settled_bytes}

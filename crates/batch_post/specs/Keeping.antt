@@ -4,7 +4,8 @@ use Rattle.std.specs.Io.KnownBytes.{Appends, Keeps}
 use Rattle.span_sink.specs.declared.sink.SinkFault.{SinkFault}
 use Rattle.span_sink.specs.LineSinks.{LineSinkState, TakesWhole, FailsInside}
 
--- what was printed, where that is known, how many writes of the printing sink have failed, what was sent, how many writes of this sink have failed, and whether it is down
+-- what was printed, where that is known, how many writes of the printing sink have failed, what was sent, how many
+-- writes of this sink have failed, and whether it is down
 pub record KeepingState : Type 0 where
   pub printed : Option (List ℕ)
   pub print_failures : ℕ
@@ -12,8 +13,9 @@ pub record KeepingState : Type 0 where
   pub failures : ℕ
   pub is_down : Bool
 
--- So many bytes of a line were printed, from the first on: all of them where no write of the printing sink failed, and fewer where one did. The line was sent where it was printed whole,
--- and else nothing was. The sink is down exactly where the one or the other failed.
+-- So many bytes of a line were printed, from the first on: all of them where no write of the printing sink failed, and
+-- fewer where one did. The line was sent where it was printed whole, and else nothing was. The sink is down exactly
+-- where the one or the other failed.
 pub record KeepsLine (old : KeepingState) (line : List ℕ) (count : ℕ) (new : KeepingState) : Type 0 where
   pub prints : Appends old.printed new.printed (take count line)
   pub whole : count ≡ length line → new.print_failures ≡ old.print_failures

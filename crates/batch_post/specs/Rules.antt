@@ -1,18 +1,19 @@
--- What each answer means, and how long is waited (OTLP 1.x, OTLP/HTTP: "Failures", "Retryable Response Codes", "OTLP/HTTP Throttling").
+-- What each answer means, and how long is waited (OTLP 1.x, OTLP/HTTP: "Failures", "Retryable Response Codes",
+-- "OTLP/HTTP Throttling").
 use Rattle.std.specs.Prelude.{ℕ, ◌+◌, ◌-◌, ◌*◌, ◌/◌, ◌%◌, ◌^◌, ◌==◌, min, nat_lt, Bool, true, false, not, ◌&&◌, ◌||◌, Option, Some, None, if◌then◌else◌}
-use Rattle.batch_post.specs.declared.outcome.Outcome.{Outcome}
-use Rattle.batch_post.specs.declared.outcome.Outcome.TheVariants.{Answered, NoAnswer}
+use Rattle.batch_post.specs.declared.outcome.AttemptOutcome.{AttemptOutcome}
+use Rattle.batch_post.specs.declared.outcome.AttemptOutcome.TheVariants.{Answered, NoAnswer}
 use Rattle.batch_post.specs.declared.rule.Retry.{Retry}
-use Rattle.batch_post.specs.declared.rule.Verdict.{Verdict}
-use Rattle.batch_post.specs.declared.rule.Verdict.TheVariants.{Taken, Waits, Ends}
+use Rattle.batch_post.specs.declared.rule.RetryVerdict.{RetryVerdict}
+use Rattle.batch_post.specs.declared.rule.RetryVerdict.TheVariants.{Taken, Waits, Ends}
 
 -- the backend took the batch
-abbrev pub is_taken : Outcome → Bool
+abbrev pub is_taken : AttemptOutcome → Bool
 is_taken (Answered status asked) = status == 200
 is_taken NoAnswer = false
 
 -- the batch may be tried again: the backend says so, or nothing is known
-abbrev pub may_try_again : Outcome → Bool
+abbrev pub may_try_again : AttemptOutcome → Bool
 may_try_again (Answered status asked) = status == 429 || status == 502 || status == 503 || status == 504
 may_try_again NoAnswer = true
 
@@ -29,7 +30,7 @@ abbrev pub with_jitter : (wait random : ℕ) → ℕ
 with_jitter wait random = wait - random % (wait / 2 + 1)
 
 -- how long is waited: as the answer asks, where it asks for some time, else this wait with jitter
-abbrev pub wait_after : Outcome → (wait random : ℕ) → ℕ
+abbrev pub wait_after : AttemptOutcome → (wait random : ℕ) → ℕ
 wait_after (Answered status (Some asked)) wait random = if asked == 0 then with_jitter wait random else asked
 wait_after (Answered status None) wait random = with_jitter wait random
 wait_after NoAnswer wait random = with_jitter wait random
@@ -44,7 +45,7 @@ is_too_late rule elapsed wait None = is_over rule elapsed wait
 is_too_late rule elapsed wait (Some left) = is_over rule elapsed wait || nat_lt left wait
 
 -- what is done after an attempt
-abbrev pub verdict_of : Retry → Outcome → (wait random elapsed : ℕ) → (left : Option ℕ) → Verdict
+abbrev pub verdict_of : Retry → AttemptOutcome → (wait random elapsed : ℕ) → (left : Option ℕ) → RetryVerdict
 verdict_of rule outcome wait random elapsed left =
     if is_taken outcome then Taken
     else (if may_try_again outcome && not (is_too_late rule elapsed (wait_after outcome wait random) left) then Waits (wait_after outcome wait random) else Ends)

@@ -1,20 +1,20 @@
 //! What takes batches.
 ghost use Rattle.std.specs.Prelude.{◌∷◌, [], List, Option};
-ghost use Rattle.batch_post.specs.Logs.{Entry, Grows, settled, tried};
+ghost use Rattle.batch_post.specs.Logs.{LogEntry, Grows, settled, tried};
 
-use crate::outcome::{Fate, Outcome};
+use crate::outcome::{AttemptOutcome, BatchFate};
 
 /// A backend, as one sees it who delivers batches to it.
 pub trait Backend {
     /// What was tried, and what was settled, in order, where that is known.
-    ghost log: { Self → Option (List Entry) };
+    ghost log: { Self → Option (List LogEntry) };
 
     /// Tries to hand a batch over, and answers how that ended.
-    fn attempt(&mut self, batch: &[u8]) -> Outcome
+    fn attempt(&mut self, batch: &[u8]) -> AttemptOutcome
         ensures { Grows (log self.old) (log self.new) (tried batch.now result ∷ []) };
 
     /// A batch was delivered or given up.
-    fn settle(&mut self, batch: &[u8], fate: Fate)
+    fn settle(&mut self, batch: &[u8], fate: BatchFate)
         ensures { Grows (log self.old) (log self.new) (settled batch.now fate ∷ []) };
 
     /// Waits for so many milliseconds, or less where the collector closes meanwhile.

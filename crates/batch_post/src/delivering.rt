@@ -3,12 +3,17 @@ ghost use Rattle.std.specs.Prelude.{◌≡◌};
 ghost use Rattle.batch_post.specs.Deliveries.{Delivers};
 
 use crate::backend::Backend;
-use crate::outcome::Fate;
-use crate::rule::{Retry, Verdict};
+use crate::outcome::BatchFate;
+use crate::rule::{Retry, RetryVerdict};
 use std::sync::Wait;
 
 /// Tries a batch until the backend took it or it is to be given up. That is settled by the caller.
-pub fn deliver<B: Backend, R: Wait>(rt: &R, rule: &Retry, backend: &mut B, batch: &[u8]) -> Fate
+pub fn deliver<B: Backend, R: Wait>(
+    rt: &R,
+    rule: &Retry,
+    backend: &mut B,
+    batch: &[u8],
+) -> BatchFate
     ensures { Delivers (B.log backend.old) (B.log backend.new) batch.now result }
 {
     let began = backend.now();
@@ -18,9 +23,9 @@ pub fn deliver<B: Backend, R: Wait>(rt: &R, rule: &Retry, backend: &mut B, batch
         let random = backend.random();
         let elapsed = backend.now().saturating_sub(began);
         match rule.verdict(outcome, wait, random, elapsed, backend.left()) {
-            Verdict::Taken => return Fate::Delivered,
-            Verdict::Waits(milliseconds) => backend.wait(milliseconds),
-            Verdict::Ends => return Fate::GivenUp,
+            RetryVerdict::Taken => return BatchFate::Delivered,
+            RetryVerdict::Waits(milliseconds) => backend.wait(milliseconds),
+            RetryVerdict::Ends => return BatchFate::GivenUp,
         }
         wait = rule.next_wait(wait);
     }

@@ -7,8 +7,8 @@ ghost use Rattle.batch_post.specs.Keeping.{KeepsLine, StaysDown, printed_by};
 use span_sink::{LineSink, Sink, SinkFault, write_whole};
 use std::marker::Model;
 
-/// A sink that prints each line, and sends it once it is printed whole. What it takes is what is printed. Once a write has failed, of
-/// either, it prints and sends nothing more.
+/// A sink that prints each line, and sends it once it is printed whole. What it takes is what is printed. Once a write
+/// has failed, of either, it prints and sends nothing more.
 #[derive(Drop)]
 pub struct KeepingSink<L: Sink, S: Sink> {
     lines: L,
@@ -58,7 +58,8 @@ impl<L: Sink, S: Sink> KeepingSink<L, S> {
         (lines, sent)
     }
 
-    /// Prints a line and then sends it, and answers how many of its bytes were printed: all, or fewer where a write failed.
+    /// Prints a line and then sends it, and answers how many of its bytes were printed: all, or fewer where a write
+    /// failed.
     pub fn keep(&mut self, line: &[u8]) -> usize
         requires up { self.old.is_down ≡ false }
         ensures within { result ≤ length line.now }

@@ -1,7 +1,9 @@
 //! The delivery of batches to a backend, one after the other (OTLP 1.x, OTLP/HTTP, "Failures" and "Throttling").
 //!
-//! [`deliver`] tries one batch until the backend took it or it is to be given up, [`BatchSink`] is a sink whose lines are the batches, and [`KeepingSink`] prints each line before another sink gets it. They know no threads and no sockets: what tries, tells the time and
-//! waits is a [`Backend`]. `specs/Rules` says what each answer means and how long is waited, `specs/Deliveries` what a delivery did.
+//! [`deliver`] tries one batch until the backend took it or it is to be given up, [`BatchSink`] is a sink whose lines
+//! are the batches, and [`KeepingSink`] prints each line before another sink gets it. They know no threads and no
+//! sockets: what tries, tells the time and waits is a [`Backend`]. `specs/Rules` says what each answer means and how
+//! long is waited, `specs/Deliveries` what a delivery did.
 #![tactic(auto)]
 
 mod backend;
@@ -15,7 +17,7 @@ mod spans;
 pub use backend::Backend;
 pub use delivering::deliver;
 pub use keeping::KeepingSink;
-pub use outcome::{Fate, Outcome};
-pub use rule::{Retry, Verdict};
+pub use outcome::{AttemptOutcome, BatchFate};
+pub use rule::{Retry, RetryVerdict};
 pub use sink::BatchSink;
 pub use spans::Spans;

@@ -2,7 +2,7 @@
 
 /// How an attempt ended.
 #[derive(Clone, Copy, PartialEq, Eq)]
-pub enum Outcome {
+pub enum AttemptOutcome {
     /// It was answered with this status, and asked to wait for so many milliseconds, or for none.
     Answered(u16, Option<u64>),
     /// It was not answered: there was no connection, it broke, or its time was over.
@@ -11,7 +11,7 @@ pub enum Outcome {
 
 /// What became of a batch.
 #[derive(Clone, Copy, PartialEq, Eq)]
-pub enum Fate {
+pub enum BatchFate {
     /// The backend took it: it answered 200.
     Delivered,
     /// It was given up.

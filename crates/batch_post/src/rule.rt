@@ -2,7 +2,7 @@
 ghost use Rattle.std.specs.Prelude.{◌≡◌};
 ghost use Rattle.batch_post.specs.Rules.{may_try_again, is_taken, next_wait, with_jitter, wait_after, is_too_late, verdict_of};
 
-use crate::outcome::Outcome;
+use crate::outcome::AttemptOutcome;
 
 /// For how long a batch is tried, in milliseconds.
 #[derive(Clone, Copy)]
@@ -17,7 +17,7 @@ pub struct Retry {
 
 /// What is done after an attempt.
 #[derive(Clone, Copy, PartialEq, Eq)]
-pub enum Verdict {
+pub enum RetryVerdict {
     /// The backend took the batch.
     Taken,
     /// The batch is tried again after so many milliseconds.
@@ -27,20 +27,20 @@ pub enum Verdict {
 }
 
 /// Whether the batch is tried again after this, while there is time.
-pub(crate) fn may_try_again(outcome: Outcome) -> bool
+pub(crate) fn may_try_again(outcome: AttemptOutcome) -> bool
     ensures { result ≡ may_try_again outcome }
 {
     match outcome {
-        Outcome::Answered(status, _) => matches!(status, 429 | 502 | 503 | 504),
-        Outcome::NoAnswer => true,
+        AttemptOutcome::Answered(status, _) => matches!(status, 429 | 502 | 503 | 504),
+        AttemptOutcome::NoAnswer => true,
     }
 }
 
 /// Whether the backend took the batch.
-pub(crate) fn is_taken(outcome: Outcome) -> bool
+pub(crate) fn is_taken(outcome: AttemptOutcome) -> bool
     ensures { result ≡ is_taken outcome }
 {
-    matches!(outcome, Outcome::Answered(200, _))
+    matches!(outcome, AttemptOutcome::Answered(200, _))
 }
 
 impl Retry {
@@ -51,8 +51,8 @@ impl Retry {
         wait.saturating_mul(2).min(self.longest)
     }
 
-    /// Whether it is too late for an attempt after this wait, so long after the first one began, where so much time is left to
-    /// a collector that closes.
+    /// Whether it is too late for an attempt after this wait, so long after the first one began, where so much time is
+    /// left to a collector that closes.
     fn is_too_late(&self, elapsed: u64, wait: u64, left: Option<u64>) -> bool
         ensures { result ≡ is_too_late self.now elapsed wait left }
     {
@@ -63,25 +63,26 @@ impl Retry {
         }
     }
 
-    /// What is done after an attempt that ended so, when the wait that no answer asks for is this one, with a random number.
+    /// What is done after an attempt that ended so, when the wait that no answer asks for is this one, with a random
+    /// number.
     pub fn verdict(
         &self,
-        outcome: Outcome,
+        outcome: AttemptOutcome,
         wait: u64,
         random: u64,
         elapsed: u64,
         left: Option<u64>,
-    ) -> Verdict
+    ) -> RetryVerdict
         ensures { result ≡ verdict_of self.now outcome wait random elapsed left }
     {
         if is_taken(outcome) {
-            return Verdict::Taken;
+            return RetryVerdict::Taken;
         }
         let wait = wait_after(outcome, wait, random);
         if may_try_again(outcome) && !self.is_too_late(elapsed, wait, left) {
-            Verdict::Waits(wait)
+            RetryVerdict::Waits(wait)
         } else {
-            Verdict::Ends
+            RetryVerdict::Ends
         }
     }
 }
@@ -93,12 +94,13 @@ fn with_jitter(wait: u64, random: u64) -> u64
     wait - random % (wait / 2 + 1)
 }
 
-/// How long is waited after an attempt: as the answer asks, where it asks for some time, else for this long, with jitter.
-fn wait_after(outcome: Outcome, wait: u64, random: u64) -> u64
+/// How long is waited after an attempt: as the answer asks, where it asks for some time, else for this long, with
+/// jitter.
+fn wait_after(outcome: AttemptOutcome, wait: u64, random: u64) -> u64
     ensures { result ≡ wait_after outcome wait random }
 {
     match outcome {
-        Outcome::Answered(_, Some(asked)) if asked > 0 => asked,
+        AttemptOutcome::Answered(_, Some(asked)) if asked > 0 => asked,
         _ => with_jitter(wait, random),
     }
 }

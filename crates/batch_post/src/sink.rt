@@ -6,15 +6,16 @@ ghost use Rattle.batch_post.specs.Logs.{IsNewLog};
 
 use crate::backend::Backend;
 use crate::delivering::deliver;
-use crate::outcome::Fate;
+use crate::outcome::BatchFate;
 use crate::rule::Retry;
 use crate::spans::Spans;
 use span_sink::{Sink, SinkFault};
 use std::marker::Model;
 use std::sync::Wait;
 
-/// A sink that hands each line over as one batch, and takes it whole once that is settled: the backend took it, or it was given up and
-/// its spans are counted here. A write fails, and nothing was taken, only where a batch was to be given up whose spans can't be counted.
+/// A sink that hands each line over as one batch, and takes it whole once that is settled: the backend took it, or it
+/// was given up and its spans are counted here. A write fails, and nothing was taken, only where a batch was to be
+/// given up whose spans can't be counted.
 #[derive(Drop)]
 pub struct BatchSink<'r, B: Backend, C: Spans, R: Wait> {
     rt: &'r R,
@@ -70,13 +71,13 @@ impl<'r, B: Backend, C: Spans, R: Wait> Sink for BatchSink<'r, B, C, R> {
             return Ok(0);
         }
         match deliver(self.rt, &self.rule, &mut self.backend, bytes) {
-            Fate::Delivered => self.backend.settle(bytes, Fate::Delivered),
-            Fate::GivenUp => {
+            BatchFate::Delivered => self.backend.settle(bytes, BatchFate::Delivered),
+            BatchFate::GivenUp => {
                 let Some(sum) = counted(&self.spans, bytes, self.given_up) else {
                     self.failures += 1;
                     return Err(SinkFault::Failed);
                 };
-                self.backend.settle(bytes, Fate::GivenUp);
+                self.backend.settle(bytes, BatchFate::GivenUp);
                 self.given_up = sum;
             }
         }

@@ -1,23 +1,24 @@
--- Worked rows of the program's endings, by computation: those that no run reaches, and one beside them. No clause needs them: they show what `text_of` and `exit_status` say, which code and contracts follow.
--- No contract rests on it: it shows the definitions on worked cases.
+-- Worked rows of the program's endings, by computation: those that no run reaches, and one beside them. No clause needs
+-- them: they show what `text_of` and `exit_status` say, which code and contracts follow. No contract rests on it: it
+-- shows the definitions on worked cases.
 use Rattle.std.specs.Prelude.{◌≡◌, refl, codes, true, false, Err}
-use Rattle.script_session.specs.declared.fault.RunFault.TheVariants.{BookFull as Overflows, Fault}
-use Rattle.collector_main.specs.declared.program.Outcome.TheVariants.{BookFull, Script}
+use Rattle.script_session.specs.declared.fault.ReplayFault.TheVariants.{CounterOverflow as Overflows, Fault}
+use Rattle.collector_main.specs.declared.program.Outcome.TheVariants.{CounterOverflow, Script}
 use Rattle.collector_main.specs.Ending.{text_of}
 use Rattle.collector_main.specs.Outcomes.{outcome_of, exit_status}
 
 -- a run whose counts would pass 2^64-1, by its text and its status, also where the text found no room
-pub full_book : outcome_of (Err Overflows) ≡ BookFull
-full_book = refl
+pub overflow : outcome_of (Err Overflows) ≡ CounterOverflow
+overflow = refl
 
-pub full_book_text : text_of BookFull ≡ codes "tsc: book full\n"
-full_book_text = refl
+pub overflow_text : text_of CounterOverflow ≡ codes "tsc: book full\n"
+overflow_text = refl
 
-pub full_book_status : exit_status BookFull true ≡ 7
-full_book_status = refl
+pub overflow_status : exit_status CounterOverflow true ≡ 7
+overflow_status = refl
 
-pub full_book_unwritten : exit_status BookFull false ≡ 7
-full_book_unwritten = refl
+pub overflow_unwritten : exit_status CounterOverflow false ≡ 7
+overflow_unwritten = refl
 
 -- a reader that fails in a script's second line
 pub failing_reader : outcome_of (Err (Fault 2)) ≡ Script 2

@@ -4,8 +4,8 @@ use Rattle.std.proofs.Common.{◌≡◌, ℕ, Bool, List, Option, Result, Ok, Er
 use Rattle.drop_ledger.specs.declared.report.Report.{Report}
 use Rattle.pipeline.specs.Outcome.{SinkAnswers}
 use Rattle.pipeline.specs.Promise.{CoreRunTells}
-use Rattle.pipeline.specs.declared.fault.RunFault.{RunFault}
-use Rattle.pipeline.specs.declared.fault.RunFault.TheVariants.{NoMemory, BookFull, SinkDown}
+use Rattle.pipeline.specs.declared.fault.ServeFault.{ServeFault}
+use Rattle.pipeline.specs.declared.fault.ServeFault.TheVariants.{NoMemory, CounterOverflow, SinkDown}
 use Rattle.tsc_config.specs.declared.config.Config.{Config}
 use Rattle.collector_main.specs.Configuration.{IsConfigOf}
 use Rattle.collector_main.specs.Outcomes.{served_to}
@@ -13,16 +13,16 @@ use Rattle.collector_main.specs.Ending.{Course, IsExportedTo, SendsTo, RunsTo, S
 use Rattle.collector_main.specs.declared.program.Outcome.{Outcome}
 use Rattle.collector_main.specs.declared.program.Outcome.TheVariants.{CannotListen}
 
-served : (course : Course) (config : Config) (failures : ℕ) (answer : Result Report RunFault) → IsConfigOf course.file config → prints config ≡ true → course.unread_after ≡ course.unread
+served : (course : Course) (config : Config) (failures : ℕ) (answer : Result Report ServeFault) → IsConfigOf course.file config → prints config ≡ true → course.unread_after ≡ course.unread
     → SinkAnswers course.taken 0 course.taken_after failures answer → CoreRunTells config course.taken 0 course.taken_after failures answer → ServedTo course (served_to answer)
 served course config failures answer read printed unread sink ran = record { config = config; is_read = read; printed = printed; failures_after = failures; answer = answer; sink = sink; ran = ran; unread = unread; outcome_is = refl }
 
 -- what a run by a configuration answered
-pub Serves-ran : (course : Course) (config : Config) (failures : ℕ) (answer : Result Report RunFault) → IsConfigOf course.file config → prints config ≡ true → course.unread_after ≡ course.unread
+pub Serves-ran : (course : Course) (config : Config) (failures : ℕ) (answer : Result Report ServeFault) → IsConfigOf course.file config → prints config ≡ true → course.unread_after ≡ course.unread
     → SinkAnswers course.taken 0 course.taken_after failures answer → CoreRunTells config course.taken 0 course.taken_after failures answer → Serves course (served_to answer)
 Serves-ran course config failures (Ok report) read printed unread sink ran = inl (served course config failures (Ok report) read printed unread sink ran)
 Serves-ran course config failures (Err NoMemory) read printed unread sink ran = inr (inl (served course config failures (Err NoMemory) read printed unread sink ran))
-Serves-ran course config failures (Err BookFull) read printed unread sink ran = inl (served course config failures (Err BookFull) read printed unread sink ran)
+Serves-ran course config failures (Err CounterOverflow) read printed unread sink ran = inl (served course config failures (Err CounterOverflow) read printed unread sink ran)
 Serves-ran course config failures (Err (SinkDown report)) read printed unread sink ran = inl (served course config failures (Err (SinkDown report)) read printed unread sink ran)
 
 -- where a run whose lines were sent came to
@@ -30,7 +30,7 @@ exported : (course : Course) (config : Config) (outcome : Outcome) → IsConfigO
     → SendsTo config course.taken course.taken_after outcome → ExportedTo course outcome
 exported course config outcome read sent unread to = record { config = config; is_read = read; sent = sent; sends = to; unread = unread }
 
-Serves-sent : (course : Course) (config : Config) (answer : Result Report RunFault) (given_up : ℕ) (outcome : Outcome) → IsConfigOf course.file config → prints config ≡ false
+Serves-sent : (course : Course) (config : Config) (answer : Result Report ServeFault) (given_up : ℕ) (outcome : Outcome) → IsConfigOf course.file config → prints config ≡ false
     → course.unread_after ≡ course.unread → SendsTo config course.taken course.taken_after outcome → IsExportedTo answer given_up outcome → Serves course outcome
 Serves-sent course config (Ok report) given_up outcome read sent unread to (inl told) =
     subst (λ o. Serves course o) (sym told.2) (inr (subst (λ o. ExportedTo course o) told.2 (exported course config outcome read sent unread to)))
@@ -38,7 +38,7 @@ Serves-sent course config (Ok report) given_up outcome read sent unread to (inr 
     subst (λ o. Serves course o) (sym full.1) (inr (subst (λ o. ExportedTo course o) full.1 (exported course config outcome read sent unread to)))
 Serves-sent course config (Err NoMemory) given_up outcome read sent unread to is =
     subst (λ o. Serves course o) (sym is) (inr (inr (subst (λ o. ExportedTo course o) is (exported course config outcome read sent unread to))))
-Serves-sent course config (Err BookFull) given_up outcome read sent unread to is =
+Serves-sent course config (Err CounterOverflow) given_up outcome read sent unread to is =
     subst (λ o. Serves course o) (sym is) (inr (subst (λ o. ExportedTo course o) is (exported course config outcome read sent unread to)))
 Serves-sent course config (Err (SinkDown report)) given_up outcome read sent unread to is =
     subst (λ o. Serves course o) (sym is) (inr (subst (λ o. ExportedTo course o) is (exported course config outcome read sent unread to)))

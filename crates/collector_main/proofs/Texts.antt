@@ -19,7 +19,7 @@ use Rattle.span_sink.specs.declared.sink.SinkFault.{SinkFault}
 use Rattle.span_sink.specs.declared.sink.SinkFault.TheVariants.{Failed, Down}
 use Rattle.collector_main.specs.Ending.{WritesText, HandsText, text_of, name_of, count_line, counts}
 use Rattle.collector_main.specs.declared.program.Outcome.TheVariants.{Done, Configuration, Script}
-use Rattle.tsc_config.specs.declared.fault.ConfigFault.TheVariants.{Policy, MissingKey}
+use Rattle.config_faults.specs.declared.fault.ConfigFault.TheVariants.{Policy, MissingKey}
 use Rattle.policy_tree.specs.declared.fault.PolicyFault.TheVariants.{EmptyList}
 
 -- ---- examples, computed

@@ -4,7 +4,7 @@ use Rattle.std.specs.Option.{option_map}
 use Rattle.tsc_config.specs.FaultSets.{MayBeTooBig}
 use Rattle.tsc_config.specs.Reading.{reading}
 use Rattle.tsc_config.specs.declared.config.Config.{Config}
-use Rattle.tsc_config.specs.declared.fault.ConfigFault.TheVariants.{NoMemory as ReadsNothing, ExpressionTooBig}
+use Rattle.config_faults.specs.declared.fault.ConfigFault.TheVariants.{NoMemory as ReadsNothing, ExpressionTooBig}
 use Rattle.collector_main.specs.declared.configuration.FileFault.{FileFault}
 use Rattle.collector_main.specs.declared.configuration.FileFault.TheVariants as file_is
 use Rattle.collector_main.specs.declared.program.Outcome.{Outcome}

@@ -10,9 +10,9 @@ use Rattle.drop_ledger.specs.declared.count.Count.{Count}
 use Rattle.drop_ledger.specs.declared.count.Count.TheVariants.{Received, Handed, Dropped}
 use Rattle.drop_ledger.specs.declared.report.Report.{Report}
 use Rattle.tsc_config.specs.declared.config.Config.{Config}
-use Rattle.script_session.specs.declared.fault.RunFault.{RunFault}
+use Rattle.script_session.specs.declared.fault.ReplayFault.{ReplayFault}
 use Rattle.collector_main.specs.declared.program.Outcome.{Outcome}
-use Rattle.collector_main.specs.declared.program.Outcome.TheVariants.{Done, SinkDown, Usage, Unreadable, Configuration, Script, NoMemory, BookFull, CannotListen, Valid, Faulty}
+use Rattle.collector_main.specs.declared.program.Outcome.TheVariants.{Done, SinkDown, Usage, Unreadable, Configuration, Script, NoMemory, CounterOverflow, CannotListen, Valid, Faulty}
 use Rattle.collector_main.specs.declared.program.Outcome.TheVariants as is
 use Rattle.collector_main.specs.declared.program.Command.{Command}
 use Rattle.collector_main.specs.declared.program.Command.TheVariants.{Replay, Serve, Validate, Close, Help, Version}
@@ -22,8 +22,9 @@ use Rattle.collector_main.specs.Configuration.{FileFails, IsConfigOf}
 use Rattle.collector_main.specs.Validating.{FileTells, fault_number}
 use Rattle.collector_main.specs.Closing.{FileCloses}
 use Rattle.collector_main.specs.declared.configuration.FileFault.{FileFault}
-use Rattle.script_session.specs.Replay.{Run, RunEnds, settings_by}
-use Rattle.pipeline.specs.declared.fault.RunFault.{RunFault as ServeFault}
+use Rattle.config_shards.specs.Shards.{settings_by}
+use Rattle.script_session.specs.Replay.{ReplayRun, RunEnds}
+use Rattle.pipeline.specs.declared.fault.ServeFault.{ServeFault}
 use Rattle.pipeline.specs.Outcome.{SinkAnswers}
 use Rattle.pipeline.specs.Promise.{CoreRunTells}
 use Rattle.tsc_script.specs.Reads.{KnownReader}
@@ -77,7 +78,7 @@ text_of Unreadable = codes "tsc: configuration refused: unreadable\n"
 text_of (Configuration fault) = codes "tsc: configuration refused: " ++ fault_number fault ++ codes "\n"
 text_of (Script line) = codes "tsc: script refused: line " ++ decimal line ++ codes "\n"
 text_of NoMemory = codes "tsc: no memory\n"
-text_of BookFull = codes "tsc: book full\n"
+text_of CounterOverflow = codes "tsc: book full\n"
 text_of CannotListen = codes "tsc: cannot listen\n"
 text_of Valid = codes "ok\n"
 text_of (Faulty lines) = string_bytes lines
@@ -146,7 +147,7 @@ abbrev pub NothingDone : Course → Type 0
 NothingDone course = (course.unread_after ≡ course.unread) × (course.taken_after ≡ course.taken)
 
 -- the run over a course, with the sink's failures after it
-abbrev pub run_of : Course → Config → (failures : ℕ) → Run
+abbrev pub run_of : Course → Config → (failures : ℕ) → ReplayRun
 run_of course config failures = record {
   settings = settings_by config;
   sizes = record { batch = config.send_batch_size; queue = config.queue_capacity; keeps_doubles = config.keeps_doubles };
@@ -165,7 +166,7 @@ pub record RanTo (course : Course) (outcome : Outcome) : Type 0 where
   pub config : Config
   pub is_read : IsConfigOf course.file config
   pub failures_after : ℕ
-  pub answer : Result Report RunFault
+  pub answer : Result Report ReplayFault
   pub ends : RunEnds (run_of course config failures_after) answer
   pub outcome_is : outcome ≡ outcome_of answer
 
@@ -204,7 +205,7 @@ spans_of None = 2 ^ 64
 -- counted as given up, and not as handed over
 abbrev pub IsExportedTo : Result Report ServeFault → (given_up : ℕ) → Outcome → Type 0
 IsExportedTo (Ok report) given_up outcome =
-    ((told : List ℕ) × IsMoved given_up report told × (outcome ≡ Done told)) ⊎ (CannotMove given_up report × (outcome ≡ BookFull))
+    ((told : List ℕ) × IsMoved given_up report told × (outcome ≡ Done told)) ⊎ (CannotMove given_up report × (outcome ≡ CounterOverflow))
 IsExportedTo (Err fault) given_up outcome = outcome ≡ served_to (Err fault)
 
 -- by a configuration requests were taken, and the lines sent to a backend; or the address couldn't be listened at, or

@@ -1,27 +1,27 @@
 -- The program's outcomes and exit statuses.
 use Rattle.std.specs.Prelude.{ℕ, Bool, Result, Ok, Err, if◌then◌else◌}
 use Rattle.drop_ledger.specs.declared.report.Report.{Report}
-use Rattle.script_session.specs.declared.fault.RunFault.{RunFault}
-use Rattle.script_session.specs.declared.fault.RunFault.TheVariants.{NoMemory as NoRoom, Refused, Fault, BookFull as Overflows, SinkDown as Fails}
-use Rattle.pipeline.specs.declared.fault.RunFault.{RunFault as ServeFault}
-use Rattle.pipeline.specs.declared.fault.RunFault.TheVariants as serve_is
+use Rattle.script_session.specs.declared.fault.ReplayFault.{ReplayFault}
+use Rattle.script_session.specs.declared.fault.ReplayFault.TheVariants.{NoMemory as NoRoom, Refused, Fault, CounterOverflow as Overflows, SinkDown as Fails}
+use Rattle.pipeline.specs.declared.fault.ServeFault.{ServeFault}
+use Rattle.pipeline.specs.declared.fault.ServeFault.TheVariants as serve_is
 use Rattle.collector_main.specs.declared.program.Outcome.{Outcome}
-use Rattle.collector_main.specs.declared.program.Outcome.TheVariants.{Done, SinkDown, Usage, Unreadable, Configuration, Script, NoMemory, BookFull, CannotListen, Valid, Faulty, Help, Version, Closed, CannotClose}
+use Rattle.collector_main.specs.declared.program.Outcome.TheVariants.{Done, SinkDown, Usage, Unreadable, Configuration, Script, NoMemory, CounterOverflow, CannotListen, Valid, Faulty, Help, Version, Closed, CannotClose}
 
 -- how the program ends after a script's run with this answer
-abbrev pub outcome_of : Result Report RunFault → Outcome
+abbrev pub outcome_of : Result Report ReplayFault → Outcome
 outcome_of (Ok report) = Done report
 outcome_of (Err NoRoom) = NoMemory
 outcome_of (Err (Refused line)) = Script line
 outcome_of (Err (Fault line)) = Script line
-outcome_of (Err Overflows) = BookFull
+outcome_of (Err Overflows) = CounterOverflow
 outcome_of (Err (Fails report)) = SinkDown
 
 -- how the program ends after a run on a listener with this answer
 abbrev pub served_to : Result Report ServeFault → Outcome
 served_to (Ok report) = Done report
 served_to (Err serve_is.NoMemory) = NoMemory
-served_to (Err serve_is.BookFull) = BookFull
+served_to (Err serve_is.CounterOverflow) = CounterOverflow
 served_to (Err (serve_is.SinkDown report)) = SinkDown
 
 -- the exit status: a fault in writing the last text counts only where all else was done
@@ -33,7 +33,7 @@ exit_status Unreadable written = 3
 exit_status (Configuration fault) written = 3
 exit_status (Script line) written = 4
 exit_status NoMemory written = 5
-exit_status BookFull written = 7
+exit_status CounterOverflow written = 7
 exit_status CannotListen written = 6
 exit_status (Faulty lines) written = 3
 exit_status Closed written = 0

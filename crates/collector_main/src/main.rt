@@ -1,9 +1,8 @@
-//! `tsc`: a tail-sampling trace collector. `tsc serve CONFIG` takes requests on a listener until `POST /close`;
-//! `tsc replay CONFIG` runs a script of requests and moments from standard input in one thread. Both print the spans that
-//! they keep as lines of JSON, which `serve` can send to a backend as well, or instead, and a report of every span's end; a replay
-//! prints its replies, too. `tsc validate CONFIG` prints
-//! a line for each fault of a configuration; `tsc close CONFIG` asks a running collector to close; `tsc help` and `tsc version`
-//! print what they say.
+//! `tsc`: a tail-sampling trace collector. `tsc serve CONFIG` takes requests on a listener until `POST /close`; `tsc
+//! replay CONFIG` runs a script of requests and moments from standard input in one thread. Both print the spans that
+//! they keep as lines of JSON, which `serve` can send to a backend as well, or instead, and a report of every span's
+//! end; a replay prints its replies, too. `tsc validate CONFIG` prints a line for each fault of a configuration; `tsc
+//! close CONFIG` asks a running collector to close; `tsc help` and `tsc version` print what they say.
 #![tactic(auto)]
 
 mod asking;

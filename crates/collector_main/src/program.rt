@@ -14,10 +14,11 @@ use crate::opening::{charge_of, copy_of, opened, watches_memory};
 use crate::running::serve_with;
 use crate::validating::told_of;
 use collector_serve::end_admin;
+use config_faults::ConfigFault;
 use drop_ledger::{Count, Report};
 use itoa::Buffer;
 use lane_seq::put;
-use script_session::{RunFault, replay_run};
+use script_session::{ReplayFault, replay_run};
 use span_ids::Reason;
 use span_sink::{LineSink, Sink, WriteSink};
 use std::alloc::Global;
@@ -29,7 +30,6 @@ use std::rt::Files;
 use std::sync::Wait;
 use std::thread::Threads;
 use std::time::Clock;
-use tsc_config::ConfigFault;
 use tsc_script::Source;
 
 /// Room for a line of the report or of a refusal, in bytes.
@@ -71,7 +71,7 @@ pub enum Outcome {
     /// process takes where that is limited.
     NoMemory,
     /// A count would have passed 2^64-1.
-    BookFull,
+    CounterOverflow,
     /// The address can't be listened at, or too many files are open for a lane to watch its connections.
     CannotListen,
     /// The configuration has no fault.
@@ -155,7 +155,7 @@ fn exit_status(outcome: &Outcome, written: bool) -> u8
         Outcome::Configuration(_) => 3,
         Outcome::Script(_) => 4,
         Outcome::NoMemory => 5,
-        Outcome::BookFull => 7,
+        Outcome::CounterOverflow => 7,
         Outcome::CannotListen => 6,
         Outcome::Faulty(_) => 3,
         Outcome::Closed => 0,
@@ -270,16 +270,16 @@ fn serve_by<
     ended
 }
 
-fn outcome_of(answer: Result<Report, RunFault>) -> Outcome
+fn outcome_of(answer: Result<Report, ReplayFault>) -> Outcome
     ensures { result ≡ outcome_of answer }
 {
     match answer {
         Ok(report) => Outcome::Done(report),
-        Err(RunFault::NoMemory) => Outcome::NoMemory,
-        Err(RunFault::Refused(line)) => Outcome::Script(line),
-        Err(RunFault::Fault(line)) => Outcome::Script(line),
-        Err(RunFault::BookFull) => Outcome::BookFull,
-        Err(RunFault::SinkDown(_)) => Outcome::SinkDown,
+        Err(ReplayFault::NoMemory) => Outcome::NoMemory,
+        Err(ReplayFault::Refused(line)) => Outcome::Script(line),
+        Err(ReplayFault::Fault(line)) => Outcome::Script(line),
+        Err(ReplayFault::CounterOverflow) => Outcome::CounterOverflow,
+        Err(ReplayFault::SinkDown(_)) => Outcome::SinkDown,
     }
 }
 
@@ -308,7 +308,7 @@ fn say<S: Sink>(lines: &mut LineSink<S>, text: &mut Vec<u8>, outcome: &Outcome) 
             hand_line(lines, text)
         }
         Outcome::NoMemory => hand_line(lines, b"tsc: no memory\n"),
-        Outcome::BookFull => hand_line(lines, b"tsc: book full\n"),
+        Outcome::CounterOverflow => hand_line(lines, b"tsc: book full\n"),
         Outcome::CannotListen => hand_line(lines, b"tsc: cannot listen\n"),
         Outcome::Valid => hand_line(lines, b"ok\n"),
         Outcome::Faulty(told) => say_told(lines, told.as_str()),

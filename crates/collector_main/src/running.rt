@@ -8,7 +8,7 @@ use crate::program::Outcome;
 use crate::sending::send_with;
 use collector_serve::{Charge, StoppingSink, WallClock, drivers, serve_on};
 use drop_ledger::Report;
-use pipeline::{RunContext, RunFault};
+use pipeline::{RunContext, ServeFault};
 use span_sink::WriteSink;
 use std::alloc::Global;
 use std::io::{ErrorKind, Write};
@@ -82,13 +82,13 @@ fn print_with<'s, T: Net + Threads + Wait + Clock + RandomSource + Sync, W: Writ
 }
 
 /// How the program ends after a run.
-pub fn served_to(answer: Result<Report, RunFault>) -> Outcome
+pub fn served_to(answer: Result<Report, ServeFault>) -> Outcome
     ensures { result ≡ served_to answer }
 {
     match answer {
         Ok(report) => Outcome::Done(report),
-        Err(RunFault::NoMemory) => Outcome::NoMemory,
-        Err(RunFault::BookFull) => Outcome::BookFull,
-        Err(RunFault::SinkDown(_)) => Outcome::SinkDown,
+        Err(ServeFault::NoMemory) => Outcome::NoMemory,
+        Err(ServeFault::CounterOverflow) => Outcome::CounterOverflow,
+        Err(ServeFault::SinkDown(_)) => Outcome::SinkDown,
     }
 }

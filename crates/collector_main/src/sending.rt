@@ -17,9 +17,9 @@ use export_report::moved;
 use lane_turns::Driver;
 use lane_worker::ByTurns;
 use otlp_types::TryClone;
-use pipeline::{RunContext, RunFault};
+use pipeline::{RunContext, ServeFault};
 use post_http::endpoint_of;
-use post_socket::{Settings, SocketBackend};
+use post_socket::{BackendSettings, SocketBackend};
 use span_sink::{Sink, WriteSink};
 use std::alloc::Global;
 use std::io::{ErrorKind, Write};
@@ -69,7 +69,7 @@ pub fn send_with<
     let Ok(fields) = request_fields(alloc, endpoint.authority, headers.as_slice()) else {
         return (writer, Outcome::NoMemory);
     };
-    let settings = Settings {
+    let settings = BackendSettings {
         authority: endpoint.authority,
         path: endpoint.path,
         fields: &fields,
@@ -100,7 +100,7 @@ fn export_on<
     alloc: Global,
     config: Config,
     drivers: Vec<ByTurns<D>>,
-    settings: Settings<'t>,
+    settings: BackendSettings<'t>,
     shared: &'s Charge,
 ) -> Outcome
     requires ranges { InRange config }
@@ -131,7 +131,7 @@ fn keep_on<
     alloc: Global,
     config: Config,
     drivers: Vec<ByTurns<D>>,
-    settings: Settings<'s>,
+    settings: BackendSettings<'s>,
     shared: &'s Charge,
     writer: W,
 ) -> (W, Outcome)
@@ -166,7 +166,7 @@ fn serve_through<
     drivers: Vec<ByTurns<D>>,
     sink: S,
     shared: &'s Charge,
-) -> (S, Result<Report, RunFault>)
+) -> (S, Result<Report, ServeFault>)
     requires ranges { InRange config }
     requires drivers { vec_len drivers ≡ config.lanes }
     requires failures { S.failures sink < 2 ^ 64 - 1 }
@@ -201,17 +201,17 @@ fn retry_by(config: &Config) -> Retry
 
 /// How the program ends after a run whose lines were sent to a backend, of which it gave up so many spans, or more than
 /// can be counted.
-fn exported_to(answer: Result<Report, RunFault>, given_up: Option<u64>) -> Outcome
+fn exported_to(answer: Result<Report, ServeFault>, given_up: Option<u64>) -> Outcome
     ensures { IsExportedTo answer (spans_of given_up) result }
 {
     let Ok(report) = answer else {
         return served_to(answer);
     };
     let Some(given_up) = given_up else {
-        return Outcome::BookFull;
+        return Outcome::CounterOverflow;
     };
     match moved(&report, given_up) {
         Ok(report) => Outcome::Done(report),
-        Err(_) => Outcome::BookFull,
+        Err(_) => Outcome::CounterOverflow,
     }
 }

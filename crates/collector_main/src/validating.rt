@@ -5,8 +5,9 @@ ghost use Rattle.collector_main.specs.Validating.{FileTells, fault_number, line_
 
 use crate::configuration::{FileFault, text_in};
 use crate::program::Outcome;
+use config_faults::ConfigFault;
+use config_findings::{ConfigFinding, faults};
 use std::alloc::{AllocError, Global};
-use tsc_config::{ConfigFault, Finding, faults};
 
 /// What is told of the configuration in what was read of its file.
 pub fn told_of(alloc: Global, file: Result<Vec<u8>, FileFault>) -> Outcome
@@ -33,7 +34,7 @@ pub fn told_of(alloc: Global, file: Result<Vec<u8>, FileFault>) -> Outcome
 }
 
 /// The lines of findings.
-fn lines_of(alloc: Global, findings: &[Finding]) -> Result<String, AllocError>
+fn lines_of(alloc: Global, findings: &[ConfigFinding]) -> Result<String, AllocError>
     ensures { IfOk result (λ lines. string_bytes lines ≡ lines_of findings.now) }
 {
     let mut lines = String::new(alloc);
@@ -45,7 +46,7 @@ fn lines_of(alloc: Global, findings: &[Finding]) -> Result<String, AllocError>
 }
 
 /// The line of a finding: what is said of it, and the number of the fault.
-fn line_of(alloc: Global, finding: &Finding) -> Result<String, AllocError>
+fn line_of(alloc: Global, finding: &ConfigFinding) -> Result<String, AllocError>
     ensures { IfOk result (λ line. string_bytes line ≡ line_of finding.now) }
 {
     let number = number_text(alloc, finding.fault)?;

@@ -44,7 +44,8 @@ fewer_wait = refl
 back : memory_after (state 901 40) 799 80 ≡ state 800 0
 back = refl
 
--- the room of a shard: of the defaults, of three batches of ten spans for four shards, and of fewer than may wait anyway
+-- the room of a shard: of the defaults, of three batches of ten spans for four shards, and of fewer than may wait
+-- anyway
 rooms : (room_of 256 512 1 1024 ≡ 131072) × (room_of 3 10 4 5 ≡ 7) × (room_of 1 1 64 2 ≡ 2)
 rooms = (refl, refl, refl)
 

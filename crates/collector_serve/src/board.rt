@@ -1,7 +1,7 @@
 //! What all threads of a run have counted, for readers while it runs.
-use batch_post::Outcome;
+use batch_post::AttemptOutcome;
 use drop_ledger::{Count, Report};
-use lane_queue::{Brake, Gate, Place, ShardLoad};
+use lane_queue::{Brake, Gate, GatePlace, ShardLoad};
 use metrics_text::{PolicyNumbers, ShardNumbers};
 use otlp_types::{Text, TryClone};
 use policy_tree::Policies;
@@ -165,11 +165,11 @@ impl Board {
     }
 
     /// An attempt to send a line ended so.
-    pub fn attempts(&self, outcome: Outcome) {
+    pub fn attempts(&self, outcome: AttemptOutcome) {
         let cell = match outcome {
-            Outcome::Answered(200, _) => &self.attempts_taken,
-            Outcome::Answered(..) => &self.attempts_refused,
-            Outcome::NoAnswer => &self.attempts_unanswered,
+            AttemptOutcome::Answered(200, _) => &self.attempts_taken,
+            AttemptOutcome::Answered(..) => &self.attempts_refused,
+            AttemptOutcome::NoAnswer => &self.attempts_unanswered,
         };
         cell.fetch_add(1, Ordering::Relaxed);
     }
@@ -290,7 +290,7 @@ fn policy_cells(alloc: Global, policies: &Policies) -> Result<Vec<PolicyCells>, 
 }
 
 impl Gate for Board {
-    fn reach(&self, _place: Place) {}
+    fn reach(&self, _place: GatePlace) {}
 
     fn brake(&self) -> Option<&Brake> {
         Some(&self.brake)

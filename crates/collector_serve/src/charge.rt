@@ -4,7 +4,7 @@ ghost use Rattle.std.specs.Prelude.{◌≡◌};
 use crate::board::Board;
 use crate::stop_mark::StopMark;
 use admin_http::Admin;
-use http_lane::Stop;
+use http_lane::HasStopMark;
 use lane_driver::Loads;
 use metrics_text::{Metrics, metrics_text};
 use otlp_types::Text;

@@ -1,8 +1,8 @@
 //! The collector, as its backend sees it.
 use crate::board::Board;
 use crate::stop_mark::StopMark;
-use batch_post::{Fate, Outcome};
-use http_lane::Stop;
+use batch_post::{AttemptOutcome, BatchFate};
+use http_lane::HasStopMark;
 use post_socket::Watch;
 
 /// A mark to stop, and a board that is told what was delivered.
@@ -24,12 +24,12 @@ impl<'s> Watch for ExportWatch<'s> {
         self.stop.is_set()
     }
 
-    fn attempted(&self, outcome: Outcome) {
+    fn attempted(&self, outcome: AttemptOutcome) {
         self.board.attempts(outcome);
     }
 
-    fn settled(&self, bytes: u64, fate: Fate) {
-        if fate == Fate::Delivered {
+    fn settled(&self, bytes: u64, fate: BatchFate) {
+        if fate == BatchFate::Delivered {
             self.board.delivered(bytes);
         }
     }

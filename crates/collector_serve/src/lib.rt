@@ -1,6 +1,6 @@
-//! `tsc serve` without its command line: what drives each lane on a listener, ticks of the system's clock and a mark to stop,
-//! over the pipeline; beside it the address for those in charge, the look at the process's memory, and what a backend is told and
-//! tells where lines are sent.
+//! `tsc serve` without its command line: what drives each lane on a listener, ticks of the system's clock and a mark to
+//! stop, over the pipeline; beside it the address for those in charge, the look at the process's memory, and what a
+//! backend is told and tells where lines are sent.
 //!
 //! ```
 //! let listener = listen(&rt, "127.0.0.1:4318")?;

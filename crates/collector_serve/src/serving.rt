@@ -8,12 +8,12 @@ ghost use Rattle.collector_serve.specs.Sharing.{share_of, allowed_by};
 use crate::board::Board;
 use crate::ticker::Ticker;
 use drop_ledger::Report;
-use http_lane::{Clock as Moments, Stop};
+use http_lane::{Clock as Moments, HasStopMark};
 use http_text::Allowed;
-use lane_driver::{Loads, Share, TurnDriver};
+use lane_driver::{ConnectionShare, Loads, TurnDriver};
 use lane_turns::Driver;
 use lane_worker::ByTurns;
-use pipeline::{RunContext, RunFault, run_by_turns};
+use pipeline::{RunContext, ServeFault, run_by_turns};
 use span_sink::Sink;
 use std::alloc::Global;
 use std::io;
@@ -41,15 +41,15 @@ pub fn listen<R: Net<Listener = TcpListener, Stream = TcpStream>>(
 }
 
 /// Runs the collector on what drives its lanes, until a request says `POST /close`, which sets the mark, or it is set
-/// otherwise. It may be set already: then what is asked on a connection that waits is refused. It gives the sink back, and the
-/// report of all spans: what the threads did is a run of the core. The context's board shows the counts meanwhile.
-/// `NoMemory`: there was none at the start, or the system has no random source for the key by which trace ids are hashed. Then
-/// no connection was taken, and the drivers come back as they were.
+/// otherwise. It may be set already: then what is asked on a connection that waits is refused. It gives the sink back,
+/// and the report of all spans: what the threads did is a run of the core. The context's board shows the counts
+/// meanwhile. `NoMemory`: there was none at the start, or the system has no random source for the key by which trace
+/// ids are hashed. Then no connection was taken, and the drivers come back as they were.
 pub fn serve_on<
     's,
     D: Driver + Send + Drop,
     S: Sink + Drop,
-    P: Stop + Sync,
+    P: HasStopMark + Sync,
     M: Moments + Sync,
     R: Threads + Wait + Clock + RandomSource + Sync,
 >(
@@ -57,7 +57,7 @@ pub fn serve_on<
     config: Config,
     drivers: Vec<ByTurns<D>>,
     sink: S,
-) -> (S, Result<Report, RunFault>, Option<Vec<ByTurns<D>>>)
+) -> (S, Result<Report, ServeFault>, Option<Vec<ByTurns<D>>>)
     requires ranges { InRange config }
     requires drivers { vec_len drivers ≡ config.lanes }
     requires failures { S.failures sink < 2 ^ 64 - 1 }
@@ -99,7 +99,7 @@ fn allowed_by(config: &Config) -> Allowed
 
 /// What drives each lane, and what is allowed to its clients. Each has its share of the connections that may be open at
 /// once. `Err`: there is no memory, or too many files are open for a lane to watch its connections.
-pub fn drivers<'l, P: Stop, R: Net + Clock>(
+pub fn drivers<'l, P: HasStopMark, R: Net + Clock>(
     rt: &R,
     alloc: Global,
     config: &Config,
@@ -118,7 +118,7 @@ pub fn drivers<'l, P: Stop, R: Net + Clock>(
     let mut drivers = Vec::with_capacity(alloc, lanes)?;
     for lane in 0..lanes {
         let loads = Arc::try_clone(loads)?;
-        let share = Share { limit, loads, lane };
+        let share = ConnectionShare { limit, loads, lane };
         let driver = TurnDriver::new(rt, alloc, listener, stop, share)?;
         drivers.push(ByTurns { driver, allowed })?;
     }

@@ -1,5 +1,5 @@
 //! The mark to stop.
-use http_lane::Stop;
+use http_lane::HasStopMark;
 use std::sync::OnceLock;
 
 /// A mark that any thread may set, and that stays set: what is written once behind a `&` can't be taken back there.
@@ -17,7 +17,7 @@ impl StopMark {
     }
 }
 
-impl Stop for StopMark {
+impl HasStopMark for StopMark {
     fn is_set(&self) -> bool {
         self.set.get().is_some()
     }

@@ -2,7 +2,7 @@
 ghost use Rattle.std.specs.Prelude.{◌≡◌};
 
 use crate::board::Board;
-use http_lane::Stop;
+use http_lane::HasStopMark;
 use span_sink::{Sink, SinkFault};
 
 /// A sink over another one. Where a write fails it sets a mark to stop, if it is told to, and what was taken is told to
@@ -15,7 +15,7 @@ pub struct StoppingSink<'s, S, P> {
     board: &'s Board,
 }
 
-impl<'s, S: Sink, P: Stop> StoppingSink<'s, S, P> {
+impl<'s, S: Sink, P: HasStopMark> StoppingSink<'s, S, P> {
     /// A sink over this one; `stops`: a write that fails sets the mark.
     pub fn new(sink: S, stop: &'s P, stops: bool, board: &'s Board) -> Self
         ensures { result.sink ≡ sink }
@@ -42,7 +42,7 @@ impl<'s, S: Sink, P: Stop> StoppingSink<'s, S, P> {
     }
 }
 
-impl<'s, S: Sink, P: Stop> Sink for StoppingSink<'s, S, P> {
+impl<'s, S: Sink, P: HasStopMark> Sink for StoppingSink<'s, S, P> {
     ghost taken = { λ s. S.taken s.sink };
 
     ghost failures = { λ s. S.failures s.sink };

@@ -1,7 +1,6 @@
 pub mod Put
 pub mod Lookups
 pub mod Within
-pub mod Alike
 pub mod SameReading
 pub mod Standing
 pub mod Texts

@@ -1,29 +1,30 @@
 -- A table with its defaults is read as the table.
 -- For the clause `reads` of `settings_in_force`.
-use Rattle.std.proofs.Common.{◌≡◌, ℕ, Bool, true, false, ◌&&◌, List, [], ◌∷◌, Option, Some, None, codes, pos, refl, ap, ◌∙◌, if◌then◌else◌, nat_cmp, is_eq}
+use Rattle.std.proofs.Common.{◌≡◌, ℕ, Bool, true, false, not, ◌&&◌, List, [], ◌∷◌, map, Option, Some, None, codes, pos, refl, ap, ◌∙◌, if◌then◌else◌, nat_cmp, is_eq}
 use Rattle.std.specs.Cmp.Lexicographic.{slice_cmp}
+use Rattle.std.specs.List.{list_all}
 use Rattle.std.specs.Option.{is_some}
 use Rattle.toml.specs.Data.{Data, string, integer, boolean, table, Members, no_members, get_member}
-use Rattle.tsc_config.specs.Exports.{export_settings}
-use Rattle.tsc_config.specs.Faults.{optional, required, unknown_fault, number_fault, integer_fault, choice_fault, choice_at_fault, text_fault, truth_fault, endpoint_fault, headers_fault, cache_fault, export_fault, each_setting_fault, twice_fault}
-use Rattle.tsc_config.specs.Keys.{number_row, choice_row, is_key, has_unknown_key}
+use Rattle.config_faults.specs.Faults.{least, optional, required, unknown_fault, wanted_fault, integer_fault, cache_fault, export_fault, policies_fault, each_setting_fault, twice_fault, keys_fault, table_fault}
+use Rattle.config_faults.specs.Keys.{is_key, has_unknown_key}
+use Rattle.config_faults.specs.Setting.{Setting}
+use Rattle.config_faults.specs.Tables.{number_row, choice_row, other_settings, top_settings, cache_settings, export_settings}
+use Rattle.config_faults.specs.declared.fault.ConfigFault.{ConfigFault}
+use Rattle.config_faults.specs.declared.fault.ConfigFault.TheVariants.{UnknownKey}
+use Rattle.config_faults.specs.declared.tables.ChoiceKey.{ChoiceKey}
+use Rattle.config_faults.specs.declared.tables.ChoiceKey.TheVariants as choice_is
+use Rattle.config_faults.specs.declared.tables.NumberKey.{NumberKey}
+use Rattle.config_faults.specs.declared.tables.NumberKey.TheVariants as number_is
+use Rattle.config_faults.specs.declared.keys.TableKind.{TableKind}
+use Rattle.config_faults.specs.declared.keys.TableKind.TheVariants as table_is
 use Rattle.tsc_config.specs.Reading.{reading_of_table}
-use Rattle.tsc_config.specs.Values.{positive_by, positive_of, natural_of, first_found, cache_size, address_of, truth_of, is_other, number_or, export_in, export_of}
+use Rattle.tsc_config.specs.Values.{bounded_of, number_by, first_found, root_wait_of, cache_size, address_of, truth_of, is_other, export_in, export_of, config_of}
 use Rattle.tsc_config.specs.declared.exports.Export.{Export}
-use Rattle.tsc_config.specs.declared.fault.ConfigFault.{ConfigFault}
-use Rattle.tsc_config.specs.declared.fault.ConfigFault.TheVariants.{UnknownKey}
-use Rattle.tsc_config.specs.declared.kinds.ChoiceKey.{ChoiceKey}
-use Rattle.tsc_config.specs.declared.kinds.ChoiceKey.TheVariants as choice_is
-use Rattle.tsc_config.specs.declared.kinds.NumberKey.{NumberKey}
-use Rattle.tsc_config.specs.declared.kinds.NumberKey.TheVariants as number_is
-use Rattle.tsc_config.specs.declared.kinds.TableKind.{TableKind}
-use Rattle.tsc_config.specs.declared.kinds.TableKind.TheVariants as table_is
 use Rattle.config_text.specs.Defaults.{number_default, defaults, cache_defaults, export_defaults}
 use Rattle.config_text.specs.Members.{Default, with_default, with_each, with_inner}
 use Rattle.config_text.specs.Whole.{with_root_wait, with_defaults}
-use Rattle.config_text.proofs.Alike.{Alike, both, readings_alike}
 use Rattle.config_text.proofs.Lookups.{or_else, value_at, each}
-use Rattle.config_text.proofs.Within.{filled, unfilled, inner_value, inner_here, inner_elsewhere, default_known, each_known, inner_known, are_keys}
+use Rattle.config_text.proofs.Within.{filled, unfilled, inner_value, inner_here, inner_elsewhere, default_known, each_known, inner_known, are_keys, first_of, second_of}
 
 -- two names differ
 abbrev pub Apart : (key name : List ℕ) → Type 0
@@ -79,63 +80,79 @@ pair A f m same =
     ∙ ap (f (get_member (codes "root_wait_ms") (with_root_wait m))) (received_here m)
     ∙ joint A f m (get_member (codes "decision_wait_after_root_received_ms") m) same
 
--- ---- numbers
+-- ---- faults of settings
 
-number_fault_of : (key : NumberKey) (m : Members) → Apart (number_row key).name (codes "export") → Apart (number_row key).name (codes "decision_cache") → Apart (number_row key).name (codes "root_wait_ms")
-    → value_at (number_row key).name defaults ≡ Some (integer (pos (number_row key).default))
-    → optional (integer_fault (pos (number_row key).lowest) (pos (number_row key).greatest)) (Some (integer (pos (number_row key).default))) ≡ None
-    → number_fault (number_row key) (with_defaults m) ≡ number_fault (number_row key) m
-number_fault_of key m a b c at same =
-    plain (Option ConfigFault) (optional (integer_fault (pos (number_row key).lowest) (pos (number_row key).greatest))) (number_row key).name (integer (pos (number_row key).default)) m a b c at same
+both : (a b c d : Option ConfigFault) → a ≡ b → c ≡ d → least a c ≡ least b d
+both a b c d e f = rw (e, f) refl
 
-number_faults : (m : Members) (key : NumberKey) → number_fault (number_row key) (with_defaults m) ≡ number_fault (number_row key) m
-number_faults m number_is.DecisionWait = number_fault_of number_is.DecisionWait m refl refl refl refl refl
-number_faults m number_is.RootWait = pair (Option ConfigFault) (λ root _. optional (integer_fault (pos 0) (pos 3600000)) root) m refl
-number_faults m number_is.RootReceived = ap (optional (integer_fault (pos 0) (pos 3600000))) (received_here m)
-number_faults m number_is.NumTraces = number_fault_of number_is.NumTraces m refl refl refl refl refl
-number_faults m number_is.Lanes = number_fault_of number_is.Lanes m refl refl refl refl refl
-number_faults m number_is.Shards = number_fault_of number_is.Shards m refl refl refl refl refl
-number_faults m number_is.QueueCapacity = number_fault_of number_is.QueueCapacity m refl refl refl refl refl
-number_faults m number_is.ExportCapacity = number_fault_of number_is.ExportCapacity m refl refl refl refl refl
-number_faults m number_is.SendBatchSize = number_fault_of number_is.SendBatchSize m refl refl refl refl refl
-number_faults m number_is.MaxConnections = number_fault_of number_is.MaxConnections m refl refl refl refl refl
-number_faults m number_is.MemoryLimit = number_fault_of number_is.MemoryLimit m refl refl refl refl refl
-number_faults m number_is.MaximumTraceSize = number_fault_of number_is.MaximumTraceSize m refl refl refl refl refl
-number_faults m number_is.Tick = number_fault_of number_is.Tick m refl refl refl refl refl
+-- the fault of what stands at the key of a setting
+abbrev key_fault : Setting → Option Data → Option ConfigFault
+key_fault s at = if s.is_required then required (wanted_fault s.value) at else optional (wanted_fault s.value) at
+
+-- the fault of what these settings have by these defaults, and where nothing stands there
+abbrev defaults_fit : List Default → List Setting → Type 0
+defaults_fit rows settings = map (λ (s : Setting). key_fault s (value_at s.name rows)) settings ≡ map (λ (s : Setting). key_fault s None) settings
+
+same_or : (f : Option Data → Option ConfigFault) (g d : Option Data) → f d ≡ f None → f (or_else g d) ≡ f g
+same_or f None d h = h
+same_or f (Some x) d h = refl
+
+-- within a table with these defaults
+each_fault : (rows : List Default) (settings : List Setting) (m : Members) → defaults_fit rows settings → each_setting_fault settings (with_each rows m) ≡ each_setting_fault settings m
+each_fault rows [] m e = refl
+each_fault rows (s ∷ rest) m e =
+    let first : key_fault s (value_at s.name rows) ≡ key_fault s None = cc in
+    let others : defaults_fit rows rest = cc in
+    both _ _ _ _ (ap (key_fault s) (each s.name rows m) ∙ same_or (key_fault s) (get_member s.name m) (value_at s.name rows) first) (each_fault rows rest m others)
+
+-- a key that isn't one of those of tables, nor the wait from a trace's root on
+abbrev is_apart : (key : List ℕ) → Bool
+is_apart key = not (is_eq (slice_cmp nat_cmp key (codes "export"))) && (not (is_eq (slice_cmp nat_cmp key (codes "decision_cache"))) && not (is_eq (slice_cmp nat_cmp key (codes "root_wait_ms"))))
+
+differ : (r : Bool) → not r ≡ true → r ≡ false
+differ true h = cc
+differ false h = refl
+
+at_key : (key : List ℕ) (m : Members) → is_apart key ≡ true → get_member key (with_defaults m) ≡ or_else (get_member key m) (value_at key defaults)
+at_key key m h =
+    let a = first_of (not (is_eq (slice_cmp nat_cmp key (codes "export")))) _ h in
+    let r = second_of (not (is_eq (slice_cmp nat_cmp key (codes "export")))) _ h in
+    let b = first_of (not (is_eq (slice_cmp nat_cmp key (codes "decision_cache")))) _ r in
+    let c = second_of (not (is_eq (slice_cmp nat_cmp key (codes "decision_cache")))) _ r in
+    above key m (differ _ a) (differ _ b) ∙ each key defaults (with_root_wait m) ∙ ap (λ o. or_else o (value_at key defaults)) (root_elsewhere key m (differ _ c))
+
+-- of the whole table
+outer_fault : (settings : List Setting) (m : Members) → list_all (λ (s : Setting). is_apart s.name) settings ≡ true → defaults_fit defaults settings
+    → each_setting_fault settings (with_defaults m) ≡ each_setting_fault settings m
+outer_fault [] m h e = refl
+outer_fault (s ∷ rest) m h e =
+    let first : key_fault s (value_at s.name defaults) ≡ key_fault s None = cc in
+    let others : defaults_fit defaults rest = cc in
+    both _ _ _ _ (ap (key_fault s) (at_key s.name m (first_of (is_apart s.name) _ h)) ∙ same_or (key_fault s) (get_member s.name m) (value_at s.name defaults) first)
+    (outer_fault rest m (second_of (is_apart s.name) _ h) others)
+
+top_fault : (m : Members) → each_setting_fault top_settings (with_defaults m) ≡ each_setting_fault top_settings m
+top_fault m =
+    both _ _ _ _ (plain (Option ConfigFault) (optional (integer_fault (pos 1) (pos 3600000))) (codes "decision_wait_ms") (integer (pos 30000)) m refl refl refl refl refl)
+    (both _ _ _ _ (pair (Option ConfigFault) (λ root _. optional (integer_fault (pos 0) (pos 3600000)) root) m refl)
+    (both _ _ _ _ (ap (optional (integer_fault (pos 0) (pos 3600000))) (received_here m)) (outer_fault other_settings m refl refl)))
+
+-- ---- values of settings
 
 number_of : (key : NumberKey) (m : Members) → Apart (number_row key).name (codes "export") → Apart (number_row key).name (codes "decision_cache") → Apart (number_row key).name (codes "root_wait_ms")
-    → value_at (number_row key).name defaults ≡ Some (integer (pos (number_row key).default))
-    → positive_of (number_row key).default (number_row key).greatest (Some (integer (pos (number_row key).default))) ≡ (number_row key).default
-    → positive_by (number_row key) (with_defaults m) ≡ positive_by (number_row key) m
-number_of key m a b c at same =
-    plain ℕ (positive_of (number_row key).default (number_row key).greatest) (number_row key).name (integer (pos (number_row key).default)) m a b c at same
+    → value_at (number_row key).name defaults ≡ Some (integer (pos (number_row key).default)) → bounded_of (number_row key) (Some (integer (pos (number_row key).default))) ≡ (number_row key).default
+    → number_by (number_row key) (with_defaults m) ≡ number_by (number_row key) m
+number_of key m a b c at same = plain ℕ (bounded_of (number_row key)) (number_row key).name (integer (pos (number_row key).default)) m a b c at same
 
-numbers : (m : Members) (key : NumberKey) → positive_by (number_row key) (with_defaults m) ≡ positive_by (number_row key) m
-numbers m number_is.DecisionWait = number_of number_is.DecisionWait m refl refl refl refl refl
-numbers m number_is.RootWait = pair ℕ (λ root _. positive_of 0 3600000 root) m refl
-numbers m number_is.RootReceived = ap (positive_of 0 3600000) (received_here m)
-numbers m number_is.NumTraces = number_of number_is.NumTraces m refl refl refl refl refl
-numbers m number_is.Lanes = number_of number_is.Lanes m refl refl refl refl refl
-numbers m number_is.Shards = number_of number_is.Shards m refl refl refl refl refl
-numbers m number_is.QueueCapacity = number_of number_is.QueueCapacity m refl refl refl refl refl
-numbers m number_is.ExportCapacity = number_of number_is.ExportCapacity m refl refl refl refl refl
-numbers m number_is.SendBatchSize = number_of number_is.SendBatchSize m refl refl refl refl refl
-numbers m number_is.MaxConnections = number_of number_is.MaxConnections m refl refl refl refl refl
-numbers m number_is.MemoryLimit = number_of number_is.MemoryLimit m refl refl refl refl refl
-numbers m number_is.MaximumTraceSize = number_of number_is.MaximumTraceSize m refl refl refl refl refl
-numbers m number_is.Tick = number_of number_is.Tick m refl refl refl refl refl
+choice_of : (key : ChoiceKey) (m : Members) → Apart (choice_row key).name (codes "export") → Apart (choice_row key).name (codes "decision_cache") → Apart (choice_row key).name (codes "root_wait_ms")
+    → value_at (choice_row key).name defaults ≡ Some (string (choice_row key).default) → is_other (choice_row key) (Some (string (choice_row key).default)) ≡ false
+    → is_other (choice_row key) (get_member (choice_row key).name (with_defaults m)) ≡ is_other (choice_row key) (get_member (choice_row key).name m)
+choice_of key m a b c at same = plain Bool (is_other (choice_row key)) (choice_row key).name (string (choice_row key).default) m a b c at same
 
--- ---- choices
-
-choice_faults : (m : Members) (key : ChoiceKey) → choice_at_fault (choice_row key) (with_defaults m) ≡ choice_at_fault (choice_row key) m
-choice_faults m choice_is.QueueFull = plain (Option ConfigFault) (optional (choice_fault (choice_row choice_is.QueueFull))) (codes "queue_full") (string (codes "partial")) m refl refl refl refl refl
-choice_faults m choice_is.OutputFault = plain (Option ConfigFault) (optional (choice_fault (choice_row choice_is.OutputFault))) (codes "output_fault") (string (codes "discard")) m refl refl refl refl refl
-choice_faults m choice_is.DoubleValues = plain (Option ConfigFault) (optional (choice_fault (choice_row choice_is.DoubleValues))) (codes "double_values") (string (codes "discard")) m refl refl refl refl refl
-
-choices : (m : Members) (key : ChoiceKey) → is_other (choice_row key) (get_member (choice_row key).name (with_defaults m)) ≡ is_other (choice_row key) (get_member (choice_row key).name m)
-choices m choice_is.QueueFull = plain Bool (is_other (choice_row choice_is.QueueFull)) (codes "queue_full") (string (codes "partial")) m refl refl refl refl refl
-choices m choice_is.OutputFault = plain Bool (is_other (choice_row choice_is.OutputFault)) (codes "output_fault") (string (codes "discard")) m refl refl refl refl refl
-choices m choice_is.DoubleValues = plain Bool (is_other (choice_row choice_is.DoubleValues)) (codes "double_values") (string (codes "discard")) m refl refl refl refl refl
+-- the number of a row of a table with these defaults
+within_of : (key : NumberKey) (rows : List Default) (given : Members) → value_at (number_row key).name rows ≡ Some (integer (pos (number_row key).default))
+    → bounded_of (number_row key) (Some (integer (pos (number_row key).default))) ≡ (number_row key).default → number_by (number_row key) (with_each rows given) ≡ number_by (number_row key) given
+within_of key rows given at same = filled ℕ (bounded_of (number_row key)) (number_row key).name rows (integer (pos (number_row key).default)) given at same
 
 -- ---- keys that the tables have
 
@@ -195,21 +212,14 @@ caches A f m same = ap f (cache_here m) ∙ same (get_member (codes "decision_ca
 cache_fault_of : (at : Option Data) → optional cache_fault (inner_value cache_defaults (or_else at (Some (table no_members)))) ≡ optional cache_fault at
 unfolding is_key
 cache_fault_of None = refl
-cache_fault_of (Some (table sizes)) =
-    both _ _ _ _ (known table_is.DecisionCache cache_defaults sizes cache_keys)
-    (both _ _ _ _ (filled (Option ConfigFault) (optional (integer_fault (pos 0) (pos 1000000))) (codes "sampled_cache_size") cache_defaults (integer (pos 0)) sizes refl refl)
-    (filled (Option ConfigFault) (optional (integer_fault (pos 0) (pos 1000000))) (codes "non_sampled_cache_size") cache_defaults (integer (pos 0)) sizes refl refl))
+cache_fault_of (Some (table sizes)) = both _ _ _ _ (known table_is.DecisionCache cache_defaults sizes cache_keys) (each_fault cache_defaults cache_settings sizes refl)
 cache_fault_of (Some _) = refl
 
-sampled_of : (at : Option Data) → cache_size (codes "sampled_cache_size") (inner_value cache_defaults (or_else at (Some (table no_members)))) ≡ cache_size (codes "sampled_cache_size") at
-sampled_of None = refl
-sampled_of (Some (table sizes)) = filled ℕ natural_of (codes "sampled_cache_size") cache_defaults (integer (pos 0)) sizes refl refl
-sampled_of (Some _) = refl
-
-non_sampled_of : (at : Option Data) → cache_size (codes "non_sampled_cache_size") (inner_value cache_defaults (or_else at (Some (table no_members)))) ≡ cache_size (codes "non_sampled_cache_size") at
-non_sampled_of None = refl
-non_sampled_of (Some (table sizes)) = filled ℕ natural_of (codes "non_sampled_cache_size") cache_defaults (integer (pos 0)) sizes refl refl
-non_sampled_of (Some _) = refl
+size_of : (key : NumberKey) (at : Option Data) → value_at (number_row key).name cache_defaults ≡ Some (integer (pos (number_row key).default)) → bounded_of (number_row key) (Some (integer (pos (number_row key).default))) ≡ (number_row key).default
+    → cache_size (number_row key) (inner_value cache_defaults (or_else at (Some (table no_members)))) ≡ cache_size (number_row key) at
+size_of key None at same = within_of key cache_defaults no_members at same
+size_of key (Some (table sizes)) at same = within_of key cache_defaults sizes at same
+size_of key (Some _) at same = refl
 
 -- ---- the table of `export`
 
@@ -225,35 +235,25 @@ exported : (A : Type 0) (f : Option Data → A) (m : Members) → ((at : Option 
     → f (get_member (codes "export") (with_defaults m)) ≡ f (get_member (codes "export") m)
 exported A f m same = ap f (export_here m) ∙ same (get_member (codes "export") m)
 
-each_export_fault : (given : Members) → each_setting_fault export_settings (with_each export_defaults given) ≡ each_setting_fault export_settings given
-each_export_fault given =
-    both _ _ _ _ (ap (required endpoint_fault) (unfilled (codes "endpoint") export_defaults given refl))
-    (both _ _ _ _ (filled (Option ConfigFault) (optional (integer_fault (pos 1) (pos 600000))) (codes "timeout_ms") export_defaults (integer (pos 10000)) given refl refl)
-    (both _ _ _ _ (filled (Option ConfigFault) (optional (integer_fault (pos 1) (pos 3600000))) (codes "retry_initial_ms") export_defaults (integer (pos 500)) given refl refl)
-    (both _ _ _ _ (filled (Option ConfigFault) (optional (integer_fault (pos 1) (pos 3600000))) (codes "retry_max_ms") export_defaults (integer (pos 30000)) given refl refl)
-    (both _ _ _ _ (filled (Option ConfigFault) (optional (integer_fault (pos 0) (pos 86400000))) (codes "retry_for_ms") export_defaults (integer (pos 300000)) given refl refl)
-    (both _ _ _ _ (filled (Option ConfigFault) (optional (integer_fault (pos 0) (pos 3600000))) (codes "close_wait_ms") export_defaults (integer (pos 10000)) given refl refl)
-    (both _ _ _ _ (filled (Option ConfigFault) (optional (integer_fault (pos 1) (pos 65536))) (codes "queue_batches") export_defaults (integer (pos 256)) given refl refl)
-    (both _ _ _ _ (filled (Option ConfigFault) (optional truth_fault) (codes "lines") export_defaults (boolean false) given refl refl)
-    (both _ _ _ _ (ap (optional headers_fault) (unfilled (codes "headers") export_defaults given refl)) refl))))))))
-
 export_fault_of : (at : Option Data) → optional export_fault (inner_value export_defaults at) ≡ optional export_fault at
 export_fault_of None = refl
-export_fault_of (Some (table given)) = both _ _ _ _ (known table_is.Export export_defaults given export_keys) (each_export_fault given)
+export_fault_of (Some (table given)) = both _ _ _ _ (known table_is.Export export_defaults given export_keys) (each_fault export_defaults export_settings given refl)
 export_fault_of (Some _) = refl
 
 export_in_of : (given : Members) → export_in (with_each export_defaults given) ≡ export_in given
 export_in_of given =
-    let endpoint = unfilled (codes "endpoint") export_defaults given refl in
-    let timeout = filled ℕ (number_or 10000) (codes "timeout_ms") export_defaults (integer (pos 10000)) given refl refl in
-    let initial = filled ℕ (number_or 500) (codes "retry_initial_ms") export_defaults (integer (pos 500)) given refl refl in
-    let longest = filled ℕ (number_or 30000) (codes "retry_max_ms") export_defaults (integer (pos 30000)) given refl refl in
-    let patience = filled ℕ (number_or 300000) (codes "retry_for_ms") export_defaults (integer (pos 300000)) given refl refl in
-    let close = filled ℕ (number_or 10000) (codes "close_wait_ms") export_defaults (integer (pos 10000)) given refl refl in
-    let batches = filled ℕ (number_or 256) (codes "queue_batches") export_defaults (integer (pos 256)) given refl refl in
-    let lines = filled Bool truth_of (codes "lines") export_defaults (boolean false) given refl refl in
-    let headers = unfilled (codes "headers") export_defaults given refl in
-    rw (endpoint, timeout, initial, longest, patience, close, batches, lines, headers) refl
+    rw (
+      unfilled (codes "endpoint") export_defaults given refl,
+      within_of number_is.Timeout export_defaults given refl refl,
+      within_of number_is.RetryInitial export_defaults given refl refl,
+      within_of number_is.RetryMax export_defaults given refl refl,
+      within_of number_is.RetryFor export_defaults given refl refl,
+      within_of number_is.CloseWait export_defaults given refl refl,
+      within_of number_is.QueueBatches export_defaults given refl refl,
+      filled Bool truth_of (codes "lines") export_defaults (boolean false) given refl refl,
+      unfilled (codes "headers") export_defaults given refl,
+    )
+    refl
 
 export_of_it : (at : Option Data) → export_of (inner_value export_defaults at) ≡ export_of at
 export_of_it None = refl
@@ -266,33 +266,46 @@ twice : (m : Members) → twice_fault (with_defaults m) ≡ twice_fault m
 unfolding twice_fault
 twice m = pair (Option ConfigFault) (λ root received. if is_some root && is_some received then Some UnknownKey else None) m refl
 
-alike : (m : Members) → Alike (with_defaults m) m
-alike m = record {
-  unknown = all_known m;
-  twice = twice m;
-  number_faults = number_faults m;
-  numbers = numbers m;
-  root_wait = pair ℕ (λ root received. natural_of (first_found root received)) m refl;
-  limit = plain ℕ natural_of (codes "memory_limit_mib") (integer (pos 0)) m refl refl refl refl refl;
-  trace_size = plain ℕ natural_of (codes "maximum_trace_size_bytes") (integer (pos 0)) m refl refl refl refl refl;
-  choice_faults = choice_faults m;
-  choices = choices m;
-  listen_fault = plain (Option ConfigFault) (optional text_fault) (codes "listen") (string (codes "127.0.0.1:4318")) m refl refl refl refl refl;
-  listen = plain (List ℕ) (address_of (codes "127.0.0.1:4318")) (codes "listen") (string (codes "127.0.0.1:4318")) m refl refl refl refl refl;
-  gzip_fault = plain (Option ConfigFault) (optional truth_fault) (codes "accept_gzip") (boolean false) m refl refl refl refl refl;
-  gzip = plain Bool truth_of (codes "accept_gzip") (boolean false) m refl refl refl refl refl;
-  close_fault = plain (Option ConfigFault) (optional truth_fault) (codes "close_at_end_of_input") (boolean false) m refl refl refl refl refl;
-  close = plain Bool truth_of (codes "close_at_end_of_input") (boolean false) m refl refl refl refl refl;
-  first_fault = plain (Option ConfigFault) (optional truth_fault) (codes "sample_on_first_match") (boolean false) m refl refl refl refl refl;
-  first = plain Bool truth_of (codes "sample_on_first_match") (boolean false) m refl refl refl refl refl;
-  admin = bare (codes "admin") m refl refl refl refl;
-  policies = bare (codes "policies") m refl refl refl refl;
-  cache_faults = caches (Option ConfigFault) (optional cache_fault) m cache_fault_of;
-  sampled = caches ℕ (cache_size (codes "sampled_cache_size")) m sampled_of;
-  non_sampled = caches ℕ (cache_size (codes "non_sampled_cache_size")) m non_sampled_of;
-  export_faults = exported (Option ConfigFault) (optional export_fault) m export_fault_of;
-  export = exported Export export_of m export_of_it;
-}
+keys_same : (m : Members) → keys_fault (with_defaults m) ≡ keys_fault m
+unfolding keys_fault
+keys_same m = rw (all_known m, twice m) refl
+
+faults_same : (m : Members) → table_fault (with_defaults m) ≡ table_fault m
+unfolding table_fault
+faults_same m =
+    both _ _ _ _ (keys_same m) (both _ _ _ _ (top_fault m) (both _ _ _ _ (caches (Option ConfigFault) (optional cache_fault) m cache_fault_of)
+    (both _ _ _ _ (exported (Option ConfigFault) (optional export_fault) m export_fault_of) (ap (required policies_fault) (bare (codes "policies") m refl refl refl refl)))))
+
+-- what is read of each key is the same
+configs_same : (m : Members) → config_of (with_defaults m) ≡ config_of m
+configs_same m =
+    rw (
+      number_of number_is.DecisionWait m refl refl refl refl refl,
+      pair ℕ (λ root received. bounded_of (number_row number_is.RootWait) (first_found root received)) m refl,
+      number_of number_is.NumTraces m refl refl refl refl refl,
+      caches ℕ (cache_size (number_row number_is.SampledCacheSize)) m (λ at. size_of number_is.SampledCacheSize at refl refl),
+      caches ℕ (cache_size (number_row number_is.NonSampledCacheSize)) m (λ at. size_of number_is.NonSampledCacheSize at refl refl),
+      plain Bool truth_of (codes "sample_on_first_match") (boolean false) m refl refl refl refl refl,
+      bare (codes "policies") m refl refl refl refl,
+      number_of number_is.Lanes m refl refl refl refl refl,
+      number_of number_is.Shards m refl refl refl refl refl,
+      number_of number_is.QueueCapacity m refl refl refl refl refl,
+      number_of number_is.ExportCapacity m refl refl refl refl refl,
+      number_of number_is.SendBatchSize m refl refl refl refl refl,
+      number_of number_is.MaxConnections m refl refl refl refl refl,
+      number_of number_is.MemoryLimit m refl refl refl refl refl,
+      number_of number_is.MaximumTraceSize m refl refl refl refl refl,
+      number_of number_is.Tick m refl refl refl refl refl,
+      plain (List ℕ) (address_of (codes "127.0.0.1:4318")) (codes "listen") (string (codes "127.0.0.1:4318")) m refl refl refl refl refl,
+      bare (codes "admin") m refl refl refl refl,
+      plain Bool truth_of (codes "accept_gzip") (boolean false) m refl refl refl refl refl,
+      choice_of choice_is.QueueFull m refl refl refl refl refl,
+      choice_of choice_is.OutputFault m refl refl refl refl refl,
+      choice_of choice_is.DoubleValues m refl refl refl refl refl,
+      plain Bool truth_of (codes "close_at_end_of_input") (boolean false) m refl refl refl refl refl,
+      exported Export export_of m export_of_it,
+    )
+    refl
 
 pub same_reading : (m : Members) → reading_of_table (with_defaults m) ≡ reading_of_table m
-same_reading m = readings_alike (with_defaults m) m (alike m)
+same_reading m = rw (faults_same m, configs_same m) refl

@@ -10,7 +10,7 @@ use Rattle.config_text.specs.Whole.{HasEach, IsWhole, with_root_wait, with_defau
 use Rattle.config_text.proofs.Lookups.{or_else, value_at}
 use Rattle.config_text.proofs.SameReading.{outer, root_here, received_here, cache_here, export_here}
 use Rattle.config_text.proofs.Within.{inner_value, inner_stands, each_stands, all_stand}
-use Rattle.tsc_config.specs.declared.kinds.NumberKey.TheVariants as number_is
+use Rattle.config_faults.specs.declared.tables.NumberKey.TheVariants as number_is
 
 settings_stand : (m : Members) → HasEach defaults (with_defaults m)
 unfolding with_defaults

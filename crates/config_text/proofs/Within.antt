@@ -7,8 +7,8 @@ use Rattle.std.specs.List.{list_all}
 use Rattle.std.specs.Option.{is_some}
 use Rattle.std.specs.Ordering.{match_ordering}
 use Rattle.toml.specs.Data.{Data, Members, no_members, member, get_member}
-use Rattle.tsc_config.specs.Keys.{is_key, has_unknown_key}
-use Rattle.tsc_config.specs.declared.kinds.TableKind.{TableKind}
+use Rattle.config_faults.specs.Keys.{is_key, has_unknown_key}
+use Rattle.config_faults.specs.declared.keys.TableKind.{TableKind}
 use Rattle.config_text.specs.Members.{Default, put_member, with_default, with_each, value_with, with_inner, with_inner_at}
 use Rattle.config_text.proofs.Lookups.{or_else, value_at, or_none, equal_from, put_here, put_elsewhere, each}
 
@@ -69,11 +69,11 @@ abbrev pub are_keys : TableKind → List Default → Bool
 are_keys kind [] = true
 are_keys kind (row ∷ rest) = is_key kind row.name && are_keys kind rest
 
-first_of : (a b : Bool) → a && b ≡ true → a ≡ true
+pub first_of : (a b : Bool) → a && b ≡ true → a ≡ true
 first_of true b h = refl
 first_of false b h = cc
 
-second_of : (a b : Bool) → a && b ≡ true → b ≡ true
+pub second_of : (a b : Bool) → a && b ≡ true → b ≡ true
 second_of true b h = h
 second_of false b h = cc
 

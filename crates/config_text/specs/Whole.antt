@@ -5,8 +5,8 @@ use Rattle.std.specs.List.{list_all}
 use Rattle.std.specs.Option.{is_some}
 use Rattle.toml.specs.Data.{table, Members, get_member, members_depth, members_have_valid_dates}
 use Rattle.toml.specs.Parse.{parse_document}
-use Rattle.tsc_config.specs.Keys.{number_row}
-use Rattle.tsc_config.specs.declared.kinds.NumberKey.TheVariants as number_is
+use Rattle.config_faults.specs.Tables.{number_row}
+use Rattle.config_faults.specs.declared.tables.NumberKey.TheVariants as number_is
 use Rattle.config_text.specs.Members.{Default, with_default, with_each, with_inner}
 use Rattle.config_text.specs.Defaults.{number_default, defaults, cache_defaults, export_defaults}
 

@@ -6,10 +6,8 @@
 //! ```
 #![tactic(auto)]
 
-mod defaults;
 mod depth;
 mod filling;
-mod plain;
 mod writing;
 
 pub use writing::settings_in_force;

@@ -5,12 +5,12 @@ ghost use Rattle.toml.specs.View.{table_view};
 ghost use Rattle.tsc_config.specs.Reading.{reading};
 ghost use Rattle.config_text.specs.Whole.{IsTextWithDefaults, IsWritable, TellsEach, with_defaults, with_root_wait};
 
-use crate::defaults::{cache_sizes, export_settings, root_wait, settings};
 use crate::depth::members_are_within;
-use crate::filling::{member, put_default, put_each, put_inner};
+use crate::filling::{put_default, put_each, put_empty, put_inner};
+use config_faults::{NumberKey, cache_settings, export_settings, member, top_settings};
 use std::alloc::{AllocError, Global};
-use toml::Table;
 use toml::ser::Error;
+use toml::{Table, Value};
 
 /// The deepest that a table may nest, so that its text can be read.
 const DEEPEST: u32 = 80;
@@ -51,9 +51,10 @@ fn complete(alloc: Global, table: &mut Table) -> Result<(), AllocError>
     ensures { IfOk result (λ _. table_view table.new ≡ with_defaults (table_view table.old)) }
 {
     put_root_wait(alloc, table)?;
-    put_each(alloc, table, settings())?;
-    put_inner(alloc, table, "decision_cache", cache_sizes())?;
-    put_inner(alloc, table, "export", export_settings())?;
+    put_empty(alloc, table, "decision_cache")?;
+    put_each(alloc, table, &top_settings())?;
+    put_inner(alloc, table, "decision_cache", &cache_settings())?;
+    put_inner(alloc, table, "export", &export_settings())?;
     Ok(())
 }
 
@@ -61,10 +62,11 @@ fn complete(alloc: Global, table: &mut Table) -> Result<(), AllocError>
 fn put_root_wait(alloc: Global, table: &mut Table) -> Result<(), AllocError>
     ensures { IfOk result (λ _. table_view table.new ≡ with_root_wait (table_view table.old)) }
 {
-    if member(table, "decision_wait_after_root_received_ms").is_some() {
+    if member(table, NumberKey::RootReceived.row().0).is_some() {
         return Ok(());
     }
-    put_default(alloc, table, &root_wait())
+    let (name, default, ..) = NumberKey::RootWait.row();
+    put_default(alloc, table, name, Value::Integer(default))
 }
 
 /// The text of a table, or `None` where it nests too deep for a text, or has a date that a text can't have.

@@ -109,7 +109,8 @@ held-first t (suc n) (x ∷ before) more h = (elim (same_trace t x) as (λ b. (b
   | false ↦ λ h. held-first t n before more h ∙ below_suc (length before) n
 ]) h
 
--- THE LAW: a cache of the last n traces touched with v holds a trace whose own last touch was with v just where fewer than n others were touched with v since.
+-- THE LAW: a cache of the last n traces touched with v holds a trace whose own last touch was with v just where fewer
+-- than n others were touched with v since.
 pub holds_where_remembered : (v : Verdict) (t : TraceId) (n : ℕ) (touches : List Touch) (last : Touch) → find (λ u. same_trace u.trace t) touches ≡ Some last → last.verdict ≡ v →
     is_held t (take n (last_touched v touches)) ≡ nat_lt (length (last_touched v (touches_since t touches))) n
 holds_where_remembered v t n touches last e k =

@@ -2,11 +2,12 @@
 ghost use Rattle.std.specs.Prelude.{IfOk, IfErr};
 ghost use Rattle.drop_ledger.specs.Sums.{AreSums, Fits, SumPasses};
 
-use crate::count::BookFull;
+use crate::count::CounterOverflow;
 use crate::report::Report;
 
-/// The report whose numbers are the sums of those of all these reports. `BookFull`: one of the sums passes 2^64-1.
-pub fn total(reports: &[Report]) -> Result<Report, BookFull>
+/// The report whose numbers are the sums of those of all these reports. `CounterOverflow`: one of the sums passes
+/// 2^64-1.
+pub fn total(reports: &[Report]) -> Result<Report, CounterOverflow>
     ensures sums { IfOk result (AreSums reports.now) }
     ensures fits { IfOk result Fits }
     ensures full { IfErr result (λ fault. SumPasses reports.now) }

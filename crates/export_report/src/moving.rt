@@ -5,18 +5,18 @@ ghost use Rattle.drop_ledger.specs.declared.count.Count.TheVariants.{Handed as H
 ghost use Rattle.drop_ledger.specs.Places.{place_of, with_added};
 ghost use Rattle.export_report.specs.Moves.{IsMoved, CannotMove};
 
-use drop_ledger::{BookFull, Count, Report};
+use drop_ledger::{Count, CounterOverflow, Report};
 use span_ids::Reason;
 
 /// The report with so many spans fewer that were handed over, and as many more that were given up since the exporter
-/// failed. `BookFull`: fewer were handed over, or more would be given up than 2^64-1.
-pub fn moved(report: &Report, spans: u64) -> Result<Report, BookFull>
+/// failed. `CounterOverflow`: fewer were handed over, or more would be given up than 2^64-1.
+pub fn moved(report: &Report, spans: u64) -> Result<Report, CounterOverflow>
     ensures moved { IfOk result (IsMoved spans report.now) }
     ensures full { OnErr result (CannotMove spans report.now) }
 {
     let handed = report.number(Count::Handed);
     if handed < spans {
-        return Err(BookFull);
+        return Err(CounterOverflow);
     }
     let mut moved = Report::new();
     moved.add(Count::Received, report.number(Count::Received))?;
@@ -33,7 +33,7 @@ pub fn moved(report: &Report, spans: u64) -> Result<Report, BookFull>
 }
 
 /// Adds what a report counts for a reason.
-fn copy(report: &Report, moved: &mut Report, reason: Reason) -> Result<(), BookFull>
+fn copy(report: &Report, moved: &mut Report, reason: Reason) -> Result<(), CounterOverflow>
     ensures added { OnOk result (moved.new ≡ with_added (Dropped reason) (slice_index report.now (place_of (Dropped reason))) moved.old) }
     ensures full { OnErr result (2 ^ 64 ≤ slice_index moved.old (place_of (Dropped reason)) + slice_index report.now (place_of (Dropped reason))) }
     ensures small { slice_index report.now (place_of (Dropped reason)) < 2 ^ 64 }

@@ -19,7 +19,8 @@ pub expressions_of_a_value : map (λ (text : List ℕ). is_match text (codes "/a
 unfolding matches_on_literals
 expressions_of_a_value = refl
 
--- branches tied to an end, the empty text, a count, a class; a parenthesis that isn't closed, counts in the wrong order, a back reference, a star at the beginning
+-- branches tied to an end, the empty text, a count, a class; a parenthesis that isn't closed, counts in the wrong
+-- order, a back reference, a star at the beginning
 pub texts_of_expressions : map is_expression (codes "^/a|b$" ∷ codes "" ∷ codes "a{2,3}" ∷ codes "[0-9]+" ∷ codes "(a" ∷ codes "a{2,1}" ∷ codes "(a)\\1" ∷ codes "*a" ∷ []) ≡ true ∷ true ∷ true ∷ true ∷ false ∷ false ∷ false ∷ false ∷ []
 unfolding is_expression regex_on_literals
 texts_of_expressions = refl

@@ -6,6 +6,7 @@ ghost use Rattle.regex.specs.Patterns.{default_config};
 
 use regex::{Error, Matcher, Regex, RegexBuilder};
 use std::alloc::{AllocError, Global};
+use std::fmt;
 use std::marker::Model;
 
 /// About how many bytes a compiled expression may take.
@@ -32,7 +33,7 @@ impl Model for Expression {
 }
 
 /// Why a text is no expression that a policy can have.
-#[derive(Clone, Copy, PartialEq, Eq)]
+#[derive(Clone, Copy, Debug, PartialEq, Eq)]
 pub enum ExpressionFault {
     /// The text isn't one.
     NotAnExpression,
@@ -41,6 +42,23 @@ pub enum ExpressionFault {
     /// Memory was refused.
     NoMemory,
 }
+
+impl fmt::Display for ExpressionFault {
+    ghost use Rattle.std.specs.Prelude.{Some};
+    ghost use Rattle.expression.specs.FaultTexts.{fault_text};
+
+    ghost output = { λ fault. Some (fault_text fault) };
+
+    fn fmt<W: fmt::Write>(&self, f: &mut fmt::Formatter<W>) -> fmt::Result {
+        match self {
+            ExpressionFault::NotAnExpression => f.write_str("the text is no regular expression"),
+            ExpressionFault::TooBig => f.write_str("the regular expression is too big"),
+            ExpressionFault::NoMemory => f.write_str("no memory"),
+        }
+    }
+}
+
+impl std::error::Error for ExpressionFault {}
 
 /// Tells whether a text is an expression that a policy can have.
 pub fn check(alloc: Global, text: &str) -> Result<(), ExpressionFault>

@@ -17,8 +17,8 @@ use Rattle.lane_seq.specs.declared.reply.BadData.TheVariants.{Json, Shape}
 use Rattle.lane_seq.specs.Numbers.{arrival_of, arrivals_from, is_invalid}
 use Rattle.lane_seq.specs.Pushes.{LaneState}
 use Rattle.lane_seq.specs.Replies.{IsReplyTo, OnReceived}
-use Rattle.http_lane.specs.declared.answer.Fate.{Fate}
-use Rattle.http_lane.specs.Connection.{Cause, submitted, Event, Submission, submission, submission_by, submissions, SubmitsAll, is_counted}
+use Rattle.http_lane.specs.declared.answer.EventFate.{EventFate}
+use Rattle.http_lane.specs.Connection.{Cause, submitted, ConnectionEvent, Submission, submission, submission_by, submissions, SubmitsAll, is_counted}
 use Rattle.http_lane.specs.Intake.{Intake, Submits}
 use Rattle.http_lane.specs.Agreement.{said_by, RepliesAreDetermined}
 
@@ -128,7 +128,7 @@ pub same_cause : (c : Cause) → RepliesSame c c
 same_cause (submitted x m r k) = λ e f. refl
 same_cause _ = tt
 
-abbrev pub RepliesSameAsFar : List Event → List Event → Type 0
+abbrev pub RepliesSameAsFar : List ConnectionEvent → List ConnectionEvent → Type 0
 RepliesSameAsFar [] fs = Unit {0}
 RepliesSameAsFar (e ∷ es) [] = Unit {0}
 RepliesSameAsFar (e ∷ es) (f ∷ fs) = RepliesSame e.cause f.cause × RepliesSameAsFar es fs
@@ -154,13 +154,13 @@ module _ {P Q : Type 0} (takes : P → Item → P → Type 0) (refuses : P → P
       tells_same a.lane.keeps_doubles s.body s.reply t.reply (submits_tells takes refuses a b s h)
       (subst (λ body. Tells a.lane.keeps_doubles body t.reply) (sym same) (subst (λ keeps. Tells keeps t.body t.reply) (sym alike) (submits_tells its_takes its_refuses c d t g))) said
 
-  one_reply : (a b : Intake P) (c d : Intake Q) (fate its_fate : Fate) (p q : Cause) → a.lane.keeps_doubles ≡ c.lane.keeps_doubles → SubmitsAll (Submits takes refuses) a (submission_by fate p) b
+  one_reply : (a b : Intake P) (c d : Intake Q) (fate its_fate : EventFate) (p q : Cause) → a.lane.keeps_doubles ≡ c.lane.keeps_doubles → SubmitsAll (Submits takes refuses) a (submission_by fate p) b
       → SubmitsAll (Submits its_takes its_refuses) c (submission_by its_fate q) d → RepliesSame p q
   one_reply a b c d fate its_fate (submitted x m r k) (submitted y n s l) alike h g =
       replies_determined a h.0 (submission x m r (is_counted fate)) c g.0 (submission y n s (is_counted its_fate)) alike h.1 g.1
   one_reply a b c d fate its_fate _ _ alike h g = tt
 
-  pub replies_as_far : (es fs : List Event) (a b : Intake P) (c d : Intake Q) → a.lane.keeps_doubles ≡ c.lane.keeps_doubles → SubmitsAll (Submits takes refuses) a (submissions es) b
+  pub replies_as_far : (es fs : List ConnectionEvent) (a b : Intake P) (c d : Intake Q) → a.lane.keeps_doubles ≡ c.lane.keeps_doubles → SubmitsAll (Submits takes refuses) a (submissions es) b
       → SubmitsAll (Submits its_takes its_refuses) c (submissions fs) d → RepliesSameAsFar es fs
   replies_as_far [] fs a b c d alike h g = tt
   replies_as_far (e ∷ es) [] a b c d alike h g = tt

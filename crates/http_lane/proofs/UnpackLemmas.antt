@@ -5,15 +5,15 @@ use Rattle.inflate.specs.declared.fault.GzipFault.{GzipFault}
 use Rattle.inflate.specs.declared.fault.GzipFault.TheVariants.{Broken, TooLong, NoMemory}
 use Rattle.inflate.specs.Answers.{Refuses}
 use Rattle.http_text.specs.declared.request.TheConstants.{BODY_LIMIT}
-use Rattle.http_text.specs.declared.request.Refusal.TheVariants.{NotGzip, BodyTooLarge}
-use Rattle.http_lane.specs.declared.answer.Answer.{Answer}
-use Rattle.http_lane.specs.declared.answer.Fate.{Fate}
+use Rattle.http_text.specs.declared.request.RequestRefusal.TheVariants.{NotGzip, BodyTooLarge}
+use Rattle.http_lane.specs.declared.answer.Response.{Response}
+use Rattle.http_lane.specs.declared.answer.EventFate.{EventFate}
 use Rattle.http_lane.specs.Connection.{Submission, refusal, starved}
 use Rattle.http_lane.specs.Engine.{IsFateOfText, Puts, Responds, text_of_answer, answer_to}
 use Rattle.http_lane.proofs.EventLemmas.{can_text}
 
 module _ {L : Type 0} (submits : L → Submission → L → Type 0) (old_text new_text : Option (List ℕ)) (lane : L) (body : List ℕ) (closing : Bool) where
-  by_fault : (fault : GzipFault) (fate : Fate) → Refuses BODY_LIMIT body fault → IsFateOfText fate → Puts old_text new_text fate (text_of_answer (answer_to fault))
+  by_fault : (fault : GzipFault) (fate : EventFate) → Refuses BODY_LIMIT body fault → IsFateOfText fate → Puts old_text new_text fate (text_of_answer (answer_to fault))
       → Responds submits old_text new_text lane lane true (Some body) closing (true, fate)
   by_fault Broken fate why is puts =
       (refusal NotGzip false, (body, refl, why, refl), record { can = can_text fate (refusal NotGzip false) is refl; closes = refl; puts = puts; lane = refl })
@@ -22,6 +22,6 @@ module _ {L : Type 0} (submits : L → Submission → L → Type 0) (old_text ne
   by_fault NoMemory fate why is puts = (starved, tt, record { can = can_text fate starved is refl; closes = refl; puts = puts; lane = refl })
 
   -- it is answered so
-  pub unfit_did : (fault : GzipFault) (told : Answer) (fate : Fate) → told ≡ answer_to fault → Refuses BODY_LIMIT body fault → IsFateOfText fate
+  pub unfit_did : (fault : GzipFault) (told : Response) (fate : EventFate) → told ≡ answer_to fault → Refuses BODY_LIMIT body fault → IsFateOfText fate
       → Puts old_text new_text fate (text_of_answer told) → Responds submits old_text new_text lane lane true (Some body) closing (true, fate)
   unfit_did fault told fate e why is puts = by_fault fault fate why is (subst (λ a. Puts old_text new_text fate (text_of_answer a)) e puts)

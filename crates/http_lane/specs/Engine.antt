@@ -3,19 +3,19 @@ use Rattle.std.specs.Prelude.{◌≡◌, ℕ, ◌<◌, ◌≤◌, Bool, true, fa
 use Rattle.std.specs.Io.KnownBytes.{Appends, Consumes, IsAtEnd}
 use Rattle.std.specs.Borrow.{Bor}
 use Rattle.http_text.specs.declared.allowed.Allowed.{Allowed}
-use Rattle.http_text.specs.declared.request.Refusal.TheVariants.{NotGzip, BodyTooLarge}
+use Rattle.http_text.specs.declared.request.RequestRefusal.TheVariants.{NotGzip, BodyTooLarge}
 use Rattle.inflate.specs.declared.fault.GzipFault.{GzipFault}
 use Rattle.inflate.specs.declared.fault.GzipFault.TheVariants.{Broken, TooLong, NoMemory}
 use Rattle.http_lane.specs.declared.answer.Brought.{Brought}
 use Rattle.http_lane.specs.declared.answer.Brought.TheVariants.{Nothing, Refused, Close, Accepted, Whole}
-use Rattle.http_lane.specs.declared.answer.Answer.{Answer}
-use Rattle.http_lane.specs.declared.answer.Answer.TheVariants.{Continue, Refused as ARefused, CloseAsked, Starved, Stopping, TimedOut, Replied}
+use Rattle.http_lane.specs.declared.answer.Response.{Response}
+use Rattle.http_lane.specs.declared.answer.Response.TheVariants.{Continue, Refused as ARefused, CloseAsked, Starved, Stopping, TimedOut, Replied}
 use Rattle.http_lane.specs.declared.answer.ReadTurn.{ReadTurn}
 use Rattle.http_lane.specs.declared.answer.ReadTurn.TheVariants.{Gave, Quiet as TQuiet, Interrupted as TInterrupted, Failed as TFailed, Ended as TEnded}
-use Rattle.http_lane.specs.declared.answer.Fate.{Fate}
-use Rattle.http_lane.specs.declared.answer.Fate.TheVariants.{Uncounted}
+use Rattle.http_lane.specs.declared.answer.EventFate.{EventFate}
+use Rattle.http_lane.specs.declared.answer.EventFate.TheVariants.{Uncounted}
 use Rattle.http_lane.specs.declared.answer.ServeEnd.{ServeEnd}
-use Rattle.http_lane.specs.Connection.{Reading, Cause, accepts, refusal, close_asked, starved, stopping, submitted, Brings, Rests, IsTextOf, IsUnfit, Event, Settles, Writes, WritesBy, text_of, SubmitsAll, Submission, submissions, submission_by, can_be, closes as closes_of, end_with, Turn, gave, quiet, interrupted, failed, ended, bytes_given, is_ended, Round, Standing, standing, IsRoundBy, IsTranscript, turns_of, events_of}
+use Rattle.http_lane.specs.Connection.{RequestReading, Cause, accepts, refusal, close_asked, starved, stopping, submitted, Brings, Rests, IsTextOf, IsUnfit, ConnectionEvent, Settles, Writes, WritesBy, text_of, SubmitsAll, Submission, submissions, submission_by, can_be, closes as closes_of, end_with, ConnectionTurn, gave, quiet, interrupted, failed, ended, bytes_given, is_ended, ReadRound, ConnectionStanding, standing, IsRoundBy, IsTranscript, turns_of, events_of}
 use Rattle.http_lane.specs.Turns.{answers, has_answer}
 use Rattle.http_lane.specs.Answer.{continue_text, answer_text, refusal_row, done_row, busy_row, closing_row, timeout_row, reply_row}
 
@@ -34,13 +34,13 @@ Sees (Some seen) body = body ≡ Some seen.now
 
 -- what an engine that stood for a reading found there, and what it stands for then
 -- `awaits` says that it has looked at all of the reading and has room for a piece
-abbrev pub Advances : {E : Type 0} → (stands awaits : E → Reading → Type 0) → Option (List ℕ) → Brought → Reading → E → Type 0
+abbrev pub Advances : {E : Type 0} → (stands awaits : E → RequestReading → Type 0) → Option (List ℕ) → Brought → RequestReading → E → Type 0
 Advances stands awaits body Nothing r new = Rests r × awaits new r
-Advances stands awaits body (Refused x is_head) r new = (next : Reading) × Brings r (refusal x is_head) next
-Advances stands awaits body Close r new = (next : Reading) × Brings r close_asked next
-Advances stands awaits body (Accepted awaited) r new = (next : Reading) × Brings r (accepts awaited) next × stands new next
+Advances stands awaits body (Refused x is_head) r new = (next : RequestReading) × Brings r (refusal x is_head) next
+Advances stands awaits body Close r new = (next : RequestReading) × Brings r close_asked next
+Advances stands awaits body (Accepted awaited) r new = (next : RequestReading) × Brings r (accepts awaited) next × stands new next
 Advances stands awaits body (Whole is_packed closing) r new =
-    (next : Reading) × stands new next × ((cause : Cause) → Serves is_packed body closing cause → Brings r cause next)
+    (next : RequestReading) × stands new next × ((cause : Cause) → Serves is_packed body closing cause → Brings r cause next)
 
 -- something was found after which the connection can go on
 abbrev pub GoesOn : Brought → Type 0
@@ -49,7 +49,7 @@ GoesOn (Whole is_packed closing) = Unit {0}
 GoesOn _ = ⊥
 
 -- the bytes of an answer
-abbrev pub text_of_answer : Answer → List ℕ
+abbrev pub text_of_answer : Response → List ℕ
 text_of_answer Continue = continue_text
 text_of_answer (ARefused r is_head) = answer_text (refusal_row r) true is_head
 text_of_answer CloseAsked = answer_text done_row true false
@@ -59,59 +59,59 @@ text_of_answer TimedOut = answer_text timeout_row true false
 text_of_answer (Replied reply closes) = answer_text (reply_row reply) closes false
 
 -- the answer to a packed body that gives no text
-abbrev pub answer_to : GzipFault → Answer
+abbrev pub answer_to : GzipFault → Response
 answer_to Broken = ARefused NotGzip false
 answer_to TooLong = ARefused BodyTooLarge false
 answer_to NoMemory = Starved
 
 -- what an answer's bytes do to a writer
-abbrev pub Puts : Option (List ℕ) → Option (List ℕ) → Fate → List ℕ → Type 0
+abbrev pub Puts : Option (List ℕ) → Option (List ℕ) → EventFate → List ℕ → Type 0
 Puts old new fate text = (bytes : List ℕ) × Appends old new bytes × WritesBy fate text bytes
 
 -- the events did this to the writer and to the lane
-abbrev pub Does : {L : Type 0} → (L → Submission → L → Type 0) → Option (List ℕ) → Option (List ℕ) → L → L → List Event → Type 0
+abbrev pub Does : {L : Type 0} → (L → Submission → L → Type 0) → Option (List ℕ) → Option (List ℕ) → L → L → List ConnectionEvent → Type 0
 Does submits old_text new_text old new events =
     (bytes : List ℕ) × Appends old_text new_text bytes × Writes events bytes × SubmitsAll submits old (submissions events) new
 
 -- what the engine's bytes brought, until they brought nothing more or the connection ended
-abbrev pub SettledTo : {E L : Type 0} → (awaits : E → Reading → Type 0) → (L → Submission → L → Type 0) → Option (List ℕ) → Option (List ℕ) → L → L → Reading → Option ServeEnd → E → Type 0
+abbrev pub SettledTo : {E L : Type 0} → (awaits : E → RequestReading → Type 0) → (L → Submission → L → Type 0) → Option (List ℕ) → Option (List ℕ) → L → L → RequestReading → Option ServeEnd → E → Type 0
 SettledTo awaits submits old_text new_text old new r end engine =
-    (events : List Event) × (last : Reading) × Settles r events end last × (end ≡ None → awaits engine last) × Does submits old_text new_text old new events
+    (events : List ConnectionEvent) × (last : RequestReading) × Settles r events end last × (end ≡ None → awaits engine last) × Does submits old_text new_text old new events
 
 -- the same, and whether a request was answered
-abbrev pub Settled : {E L : Type 0} → (awaits : E → Reading → Type 0) → (L → Submission → L → Type 0) → Option (List ℕ) → Option (List ℕ) → L → L → Reading → (Option ServeEnd × Bool) → E → Type 0
+abbrev pub Settled : {E L : Type 0} → (awaits : E → RequestReading → Type 0) → (L → Submission → L → Type 0) → Option (List ℕ) → Option (List ℕ) → L → L → RequestReading → (Option ServeEnd × Bool) → E → Type 0
 Settled awaits submits old_text new_text old new r settled engine =
-    (events : List Event) × (last : Reading) × Settles r events settled.0 last × (settled.0 ≡ None → awaits engine last) × Does submits old_text new_text old new events × (settled.1 ≡ has_answer events)
+    (events : List ConnectionEvent) × (last : RequestReading) × Settles r events settled.0 last × (settled.0 ≡ None → awaits engine last) × Does submits old_text new_text old new events × (settled.1 ≡ has_answer events)
 
 -- one event: its cause is true of `brings`, and this was done for it
-pub record Did {L : Type 0} (submits : L → Submission → L → Type 0) (old_text new_text : Option (List ℕ)) (old new : L) (cause : Cause) (closing : Bool) (fate : Fate) : Type 0 where
+pub record Did {L : Type 0} (submits : L → Submission → L → Type 0) (old_text new_text : Option (List ℕ)) (old new : L) (cause : Cause) (closing : Bool) (fate : EventFate) : Type 0 where
   pub can : can_be fate cause ≡ true
   pub closes : closes_of cause ≡ closing
   pub puts : Puts old_text new_text fate (text_of cause)
   pub lane : SubmitsAll submits old (submission_by fate cause) new
 
 -- a whole body was served
-abbrev pub Responds : {L : Type 0} → (L → Submission → L → Type 0) → Option (List ℕ) → Option (List ℕ) → L → L → Bool → Option (List ℕ) → Bool → (Bool × Fate) → Type 0
+abbrev pub Responds : {L : Type 0} → (L → Submission → L → Type 0) → Option (List ℕ) → Option (List ℕ) → L → L → Bool → Option (List ℕ) → Bool → (Bool × EventFate) → Type 0
 Responds submits old_text new_text old new is_packed body closing r =
     (cause : Cause) × Serves is_packed body closing cause × Did submits old_text new_text old new cause r.0 r.1
 
 -- one step of serving, from a reading
-abbrev pub Acts : {E L : Type 0} → (stands awaits : E → Reading → Type 0) → (L → Submission → L → Type 0) → Option (List ℕ) → Option (List ℕ) → L → L → Reading → Option (Bool × Fate × Bool) → E → Type 0
+abbrev pub Acts : {E L : Type 0} → (stands awaits : E → RequestReading → Type 0) → (L → Submission → L → Type 0) → Option (List ℕ) → Option (List ℕ) → L → L → RequestReading → Option (Bool × EventFate × Bool) → E → Type 0
 Acts stands awaits submits old_text new_text old new r None engine = Rests r × awaits engine r × (new_text ≡ old_text) × (new ≡ old)
 Acts stands awaits submits old_text new_text old new r (Some done) engine =
-    (cause : Cause) × (next : Reading) × Brings r cause next × (end_with done.1 done.0 ≡ None → stands engine next) × Did submits old_text new_text old new cause done.0 done.1 × (answers cause ≡ done.2)
+    (cause : Cause) × (next : RequestReading) × Brings r cause next × (end_with done.1 done.0 ≡ None → stands engine next) × Did submits old_text new_text old new cause done.0 done.1 × (answers cause ≡ done.2)
 
-abbrev pub IsOpenAfter : Option (Bool × Fate × Bool) → Type 0
+abbrev pub IsOpenAfter : Option (Bool × EventFate × Bool) → Type 0
 IsOpenAfter None = ⊥
 IsOpenAfter (Some done) = end_with done.1 done.0 ≡ None
 
 -- what may become of a text
-abbrev pub IsFateOfText : Fate → Type 0
+abbrev pub IsFateOfText : EventFate → Type 0
 IsFateOfText Uncounted = ⊥
 IsFateOfText _ = Unit {0}
 
 -- what a read of a source gave
-abbrev pub turn_of : ReadTurn → List ℕ → Turn
+abbrev pub turn_of : ReadTurn → List ℕ → ConnectionTurn
 turn_of (Gave n) piece = gave (take n piece)
 turn_of TQuiet piece = quiet
 turn_of TInterrupted piece = interrupted
@@ -125,20 +125,20 @@ FitsPiece _ len = Unit {0}
 
 -- what is known of a reader: what its reads gave so far, the bytes that it has left, and what is allowed to its client
 pub record KnownReader : Type 0 where
-  pub turns : Option (List Turn)
+  pub turns : Option (List ConnectionTurn)
   pub left : Option (List ℕ)
   pub allowed : Allowed
 
-abbrev pub known_reader : Option (List Turn) → Option (List ℕ) → Allowed → KnownReader
+abbrev pub known_reader : Option (List ConnectionTurn) → Option (List ℕ) → Allowed → KnownReader
 known_reader turns left allowed = record { turns = turns; left = left; allowed = allowed }
 
 -- where it is known what its reads gave, these turns are more
-abbrev pub Tells : Option (List Turn) → Option (List Turn) → List Turn → Type 0
+abbrev pub Tells : Option (List ConnectionTurn) → Option (List ConnectionTurn) → List ConnectionTurn → Type 0
 Tells None new turns = Unit {0}
 Tells (Some old) new turns = new ≡ Some (old ++ turns)
 
 -- a reader gave these turns: their bytes were the next that it had, and its end is told only where it has no more
-pub record Gives (old new : KnownReader) (turns : List Turn) : Type 0 where
+pub record Gives (old new : KnownReader) (turns : List ConnectionTurn) : Type 0 where
   pub told : Tells old.turns new.turns turns
   pub bytes : Consumes old.left new.left (bytes_given turns)
   pub end : is_ended turns ≡ true → IsAtEnd new.left
@@ -146,14 +146,14 @@ pub record Gives (old new : KnownReader) (turns : List Turn) : Type 0 where
 -- a connection was served: it has a transcript, which the reader, the writer and the lane followed
 abbrev pub Served : {L : Type 0} → (L → Submission → L → Type 0) → Option (List ℕ) → Option (List ℕ) → L → L → KnownReader → KnownReader → ServeEnd → Type 0
 Served submits old_text new_text old new old_reader new_reader end =
-    (rounds : List Round) × IsTranscript old_reader.allowed rounds end × Gives old_reader new_reader (turns_of rounds) × Does submits old_text new_text old new (events_of rounds)
+    (rounds : List ReadRound) × IsTranscript old_reader.allowed rounds end × Gives old_reader new_reader (turns_of rounds) × Does submits old_text new_text old new (events_of rounds)
 
 -- a quiet turn was dealt with, whatever lane there is
-abbrev pub Waits : Option (List ℕ) → Option (List ℕ) → Standing → ℕ → Option ServeEnd → Type 0
+abbrev pub Waits : Option (List ℕ) → Option (List ℕ) → ConnectionStanding → ℕ → Option ServeEnd → Type 0
 Waits old_text new_text s row end =
-    (is_stopped : Bool) × (events : List Event) × IsRoundBy quiet s is_stopped events (standing s.reading row end)
+    (is_stopped : Bool) × (events : List ConnectionEvent) × IsRoundBy quiet s is_stopped events (standing s.reading row end)
     × (bytes : List ℕ) × Appends old_text new_text bytes × Writes events bytes × (submissions events ≡ [])
 
 -- it awaits more of some reading
-abbrev pub IsAtRest : {E : Type 0} → (awaits : E → Reading → Type 0) → E → Type 0
-IsAtRest awaits engine = (r : Reading) × awaits engine r
+abbrev pub IsAtRest : {E : Type 0} → (awaits : E → RequestReading → Type 0) → E → Type 0
+IsAtRest awaits engine = (r : RequestReading) × awaits engine r

@@ -6,7 +6,7 @@ use Rattle.http_text.specs.declared.allowed.Allowed.{Allowed}
 use Rattle.http_lane.specs.declared.answer.ServeEnd.{ServeEnd}
 use Rattle.http_lane.specs.declared.answer.ServeEnd.TheVariants.{Closed, Cut, Quiet, Stopped, ReadFault, WriteFault, NoMemory}
 use Rattle.http_lane.specs.declared.turns.TheConstants.{IDLE_LIMIT, REQUEST_LIMIT}
-use Rattle.http_lane.specs.Connection.{Reading, in_head, in_body, grown, is_between, Cause, accepts, timed_out, Event, end_of, can_be, Settles}
+use Rattle.http_lane.specs.Connection.{RequestReading, in_head, in_body, grown, is_between, Cause, accepts, timed_out, ConnectionEvent, end_of, can_be, Settles}
 
 -- what a turn brought: some bytes, or some for which there was no memory; nothing, so that only the time was looked at;
 -- the input's end; a fault of a read; that a write had failed or stood still for too long; or that the connection had
@@ -20,17 +20,17 @@ abbrev pub answers : Cause → Bool
 answers (accepts awaited) = false
 answers _ = true
 
-abbrev pub has_answer : List Event → Bool
-has_answer events = list_any (λ (e : Event). answers e.cause) events
+abbrev pub has_answer : List ConnectionEvent → Bool
+has_answer events = list_any (λ (e : ConnectionEvent). answers e.cause) events
 
 -- a connection between two turns: the request that is being read, and since when: the moment at which its first byte
 -- came, or between requests that at which the last one was answered
 pub record Waiting : Type 0 where
-  pub reading : Reading
+  pub reading : RequestReading
   pub since : ℕ
   pub end : Option ServeEnd
 
-abbrev pub waiting : Reading → ℕ → Option ServeEnd → Waiting
+abbrev pub waiting : RequestReading → ℕ → Option ServeEnd → Waiting
 waiting reading since end = record { reading = reading; since = since; end = end }
 
 -- the connection came at this moment, with this allowed to its client
@@ -42,14 +42,14 @@ pub record Turned : Type 0 where
   pub coming : Coming
   pub moment : ℕ
   pub is_stopped : Bool
-  pub events : List Event
+  pub events : List ConnectionEvent
 
-abbrev pub turned : Coming → ℕ → Bool → List Event → Turned
+abbrev pub turned : Coming → ℕ → Bool → List ConnectionEvent → Turned
 turned coming moment is_stopped events = record { coming = coming; moment = moment; is_stopped = is_stopped; events = events }
 
 -- since when a connection waits after bytes: a request that was under way before, and isn't answered yet, keeps its
 -- moment
-abbrev pub since_after : Waiting → (moment : ℕ) → List Event → Reading → ℕ
+abbrev pub since_after : Waiting → (moment : ℕ) → List ConnectionEvent → RequestReading → ℕ
 since_after w moment events last = if is_between last || (is_between w.reading || has_answer events) then moment else w.since
 
 -- nothing came between requests
@@ -57,12 +57,12 @@ abbrev pub idle_end : (since moment : ℕ) → Bool → Option ServeEnd
 idle_end since moment is_stopped = if is_stopped then Some Stopped else (if nat_le (since + IDLE_LIMIT) moment then Some Quiet else None)
 
 -- nothing came within a request: it is answered once its time is over
-abbrev pub IsLate : (since moment : ℕ) → List Event → Option ServeEnd → Type 0
+abbrev pub IsLate : (since moment : ℕ) → List ConnectionEvent → Option ServeEnd → Type 0
 IsLate since moment events end =
-    ((since + REQUEST_LIMIT ≤ moment) × (e : Event) × (events ≡ e ∷ []) × (e.cause ≡ timed_out) × (can_be e.fate timed_out ≡ true) × (end ≡ end_of e))
+    ((since + REQUEST_LIMIT ≤ moment) × (e : ConnectionEvent) × (events ≡ e ∷ []) × (e.cause ≡ timed_out) × (can_be e.fate timed_out ≡ true) × (end ≡ end_of e))
     ⊎ ((moment < since + REQUEST_LIMIT) × (events ≡ []) × (end ≡ None))
 
-abbrev pub IsTurnBy : Coming → Waiting → (moment : ℕ) → Bool → List Event → Waiting → Type 0
+abbrev pub IsTurnBy : Coming → Waiting → (moment : ℕ) → Bool → List ConnectionEvent → Waiting → Type 0
 IsTurnBy (came bytes) w moment is_stopped events next =
     (0 < length bytes) × Settles (grown w.reading bytes) events next.end next.reading × (next.end ≡ None → next.since ≡ since_after w moment events next.reading)
 IsTurnBy (unkept bytes) w moment is_stopped events next = (is_between w.reading ≡ true) × (events ≡ []) × (next.end ≡ Some NoMemory)
@@ -83,12 +83,12 @@ Turns w [] last = last ≡ w
 Turns w (t ∷ turns) last = (w.end ≡ None) × (next : Waiting) × IsTurn w t next × Turns next turns last
 
 -- what is allowed to the client
-abbrev pub allowed_in : Reading → Allowed
+abbrev pub allowed_in : RequestReading → Allowed
 allowed_in (in_head allowed bytes) = allowed
 allowed_in (in_body allowed post bytes) = allowed
 
 -- what awaits more of a reading: an engine while a request is under way, and nothing between requests
-abbrev pub AwaitsBy : {E : Type 0} → (allowed : Allowed) → (awaits : E → Reading → Type 0) → Option E → Reading → Type 0
+abbrev pub AwaitsBy : {E : Type 0} → (allowed : Allowed) → (awaits : E → RequestReading → Type 0) → Option E → RequestReading → Type 0
 AwaitsBy allowed awaits None r = r ≡ in_head allowed []
 AwaitsBy allowed awaits (Some engine) r = awaits engine r × (is_between r ≡ false) × (allowed_in r ≡ allowed)
 

@@ -27,7 +27,7 @@ mod turns;
 
 pub use answer::{QUIET_LIMIT, READ_LIMIT, ReadTurn, SLOW_LIMIT, ServeEnd};
 pub use laws::{in_any_pieces, pieces_do_not_matter, replies_are_determined, whole_connections};
-pub use lent::{Clock, Lent, Stop};
+pub use lent::{Clock, HasStopMark, Lent};
 pub use reads::{PIECE_LIMIT, Reads, Source};
 pub use requests::Requests;
 pub use serving::serve;

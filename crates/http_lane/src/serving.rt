@@ -3,21 +3,21 @@ ghost use Rattle.std.specs.Prelude.{◌≡◌, ◌+◌, [], ℕ, ◌<◌, ◌≤
 ghost use Rattle.http_lane.specs.Intake.{Submits, intake, Counts, first_conn, connected};
 ghost use Rattle.lane_seq.specs.declared.preparing.Conn.{Conn};
 ghost use Rattle.std.specs.Io.KnownBytes.{Appends};
-ghost use Rattle.http_lane.specs.Connection.{Reading, IsTextOf};
+ghost use Rattle.http_lane.specs.Connection.{RequestReading, IsTextOf};
 ghost use Rattle.http_lane.specs.Engine.{Puts, Settled, SettledTo, text_of_answer, Responds, Acts, IsOpenAfter, IsFateOfText, Waits, Served, Sees, answer_to};
-ghost use Rattle.http_lane.specs.Connection.{end_with, Standing, in_head, is_between, counts_spans};
+ghost use Rattle.http_lane.specs.Connection.{end_with, ConnectionStanding, in_head, is_between, counts_spans};
 ghost use Rattle.http_lane.specs.declared.answer.ServeEnd.TheVariants.{Closed, Cut};
 
 use crate::answer::{
-    Answer, Brought, Fate, QUIET_LIMIT, READ_LIMIT, ReadTurn, SLOW_LIMIT, ServeEnd,
+    Brought, EventFate, QUIET_LIMIT, READ_LIMIT, ReadTurn, Response, SLOW_LIMIT, ServeEnd,
 };
 use crate::engine::Engine;
-use crate::lent::{Clock, Lent, Stop};
+use crate::lent::{Clock, HasStopMark, Lent};
 use crate::reads::{PIECE_LIMIT, Source};
 use crate::requests::Requests;
 use crate::texts::text_of;
 use drop_ledger::{Count, Counter};
-use http_text::{BODY_LIMIT, Refusal};
+use http_text::{BODY_LIMIT, RequestRefusal};
 use inflate::{GzipFault, gunzip};
 use lane_queue::Port;
 use lane_seq::{Conn, Lane, Reply};
@@ -27,7 +27,7 @@ use std::alloc::Global;
 use std::io::Write;
 
 /// Writes the whole text, unless a write fails.
-fn write_text<W: Write>(writer: &mut W, text: &[u8]) -> Fate
+fn write_text<W: Write>(writer: &mut W, text: &[u8]) -> EventFate
     ensures puts { Puts (W.contents writer.old) (W.contents writer.new) result text.now }
     ensures fate { IsFateOfText result }
 {
@@ -35,20 +35,20 @@ fn write_text<W: Write>(writer: &mut W, text: &[u8]) -> Fate
     while at < text.len() {
         match writer.write(&text[at..]) {
             Ok(n) if n > 0 => at += n,
-            _ => return Fate::Unwritten,
+            _ => return EventFate::Unwritten,
         }
     }
-    Fate::Written
+    EventFate::Written
 }
 
 /// Writes an answer.
-pub(crate) fn answer<W: Write>(alloc: Global, writer: &mut W, answer: &Answer) -> Fate
+pub(crate) fn answer<W: Write>(alloc: Global, writer: &mut W, answer: &Response) -> EventFate
     ensures puts { Puts (W.contents writer.old) (W.contents writer.new) result (text_of_answer answer.now) }
     ensures fate { IsFateOfText result }
 {
     match text_of(alloc, answer) {
         Ok(text) => write_text(writer, text.as_bytes()),
-        Err(_) => Fate::Unmade,
+        Err(_) => EventFate::Unmade,
     }
 }
 
@@ -80,20 +80,20 @@ fn count<C: Counter>(counts: &mut C, reply: &Reply) -> bool
 }
 
 /// How an event ends the connection.
-pub(crate) fn end_with(fate: Fate, closes: bool) -> Option<ServeEnd>
+pub(crate) fn end_with(fate: EventFate, closes: bool) -> Option<ServeEnd>
     ensures { result ≡ end_with fate closes }
 {
     match fate {
-        Fate::Written if closes => Some(ServeEnd::Answered),
-        Fate::Written => None,
-        Fate::Uncounted => Some(ServeEnd::BookFull),
-        Fate::Unmade => Some(ServeEnd::NoMemory),
-        Fate::Unwritten => Some(ServeEnd::WriteFault),
+        EventFate::Written if closes => Some(ServeEnd::Answered),
+        EventFate::Written => None,
+        EventFate::Uncounted => Some(ServeEnd::CounterOverflow),
+        EventFate::Unmade => Some(ServeEnd::NoMemory),
+        EventFate::Unwritten => Some(ServeEnd::WriteFault),
     }
 }
 
 /// Hands a text to the lane, counts its spans and answers.
-fn submit<'l, P: Port<Item>, C: Counter, W: Write, S: Stop, K: Clock>(
+fn submit<'l, P: Port<Item>, C: Counter, W: Write, S: HasStopMark, K: Clock>(
     lent: &Lent<'l, S, K>,
     lane: &mut Lane<P>,
     conn: &mut Conn,
@@ -101,14 +101,14 @@ fn submit<'l, P: Port<Item>, C: Counter, W: Write, S: Stop, K: Clock>(
     writer: &mut W,
     text: &[u8],
     says_close: bool,
-) -> (bool, Fate)
+) -> (bool, EventFate)
     ensures { (is_packed : Bool) (body : List ℕ) → IsTextOf is_packed body text.now → Responds (Submits P.takes P.refuses) (W.contents writer.old) (W.contents writer.new) (intake lane.old conn.old (C.counted counts.old)) (intake lane.new conn.new (C.counted counts.new)) is_packed (Some body) says_close result }
 {
     let reply = lane.submit(lent.alloc, conn, text, lent.clock.now());
     if !count(counts, &reply) {
-        return (says_close, Fate::Uncounted);
+        return (says_close, EventFate::Uncounted);
     }
-    let replied = Answer::Replied {
+    let replied = Response::Replied {
         reply,
         closes: says_close,
     };
@@ -116,24 +116,24 @@ fn submit<'l, P: Port<Item>, C: Counter, W: Write, S: Stop, K: Clock>(
 }
 
 /// The answer to a packed body that gives no text.
-fn unfit(fault: GzipFault) -> Answer
+fn unfit(fault: GzipFault) -> Response
     ensures { result ≡ answer_to fault }
 {
     match fault {
-        GzipFault::Broken => Answer::Refused {
-            refusal: Refusal::NotGzip,
+        GzipFault::Broken => Response::Refused {
+            refusal: RequestRefusal::NotGzip,
             is_head: false,
         },
-        GzipFault::TooLong => Answer::Refused {
-            refusal: Refusal::BodyTooLarge,
+        GzipFault::TooLong => Response::Refused {
+            refusal: RequestRefusal::BodyTooLarge,
             is_head: false,
         },
-        GzipFault::NoMemory => Answer::Starved,
+        GzipFault::NoMemory => Response::Starved,
     }
 }
 
 /// Unpacks a body and serves its text.
-fn unpack<'l, P: Port<Item>, C: Counter, W: Write, S: Stop, K: Clock>(
+fn unpack<'l, P: Port<Item>, C: Counter, W: Write, S: HasStopMark, K: Clock>(
     lent: &Lent<'l, S, K>,
     lane: &mut Lane<P>,
     conn: &mut Conn,
@@ -141,7 +141,7 @@ fn unpack<'l, P: Port<Item>, C: Counter, W: Write, S: Stop, K: Clock>(
     writer: &mut W,
     body: &[u8],
     says_close: bool,
-) -> (bool, Fate)
+) -> (bool, EventFate)
     ensures { Responds (Submits P.takes P.refuses) (W.contents writer.old) (W.contents writer.new) (intake lane.old conn.old (C.counted counts.old)) (intake lane.new conn.new (C.counted counts.new)) true (Some body.now) says_close result }
 {
     match gunzip(lent.alloc, body, BODY_LIMIT) {
@@ -159,7 +159,7 @@ fn unpack<'l, P: Port<Item>, C: Counter, W: Write, S: Stop, K: Clock>(
 }
 
 /// Serves a body that was read whole, packed by gzip or not; `None`: there was no memory for it.
-fn respond<'l, P: Port<Item>, C: Counter, W: Write, S: Stop, K: Clock>(
+fn respond<'l, P: Port<Item>, C: Counter, W: Write, S: HasStopMark, K: Clock>(
     lent: &Lent<'l, S, K>,
     lane: &mut Lane<P>,
     conn: &mut Conn,
@@ -168,14 +168,14 @@ fn respond<'l, P: Port<Item>, C: Counter, W: Write, S: Stop, K: Clock>(
     is_packed: bool,
     body: Option<&[u8]>,
     says_close: bool,
-) -> (bool, Fate)
+) -> (bool, EventFate)
     ensures { (given : Option (List ℕ)) → Sees body.entry given → Responds (Submits P.takes P.refuses) (W.contents writer.old) (W.contents writer.new) (intake lane.old conn.old (C.counted counts.old)) (intake lane.new conn.new (C.counted counts.new)) is_packed given says_close result }
 {
     let Some(body) = body else {
-        return (true, answer(lent.alloc, writer, &Answer::Starved));
+        return (true, answer(lent.alloc, writer, &Response::Starved));
     };
     if lent.stop.is_set() {
-        return (true, answer(lent.alloc, writer, &Answer::Stopping));
+        return (true, answer(lent.alloc, writer, &Response::Stopping));
     }
     if is_packed {
         return unpack(lent, lane, conn, counts, writer, body, says_close);
@@ -184,31 +184,39 @@ fn respond<'l, P: Port<Item>, C: Counter, W: Write, S: Stop, K: Clock>(
 }
 
 /// Does what the bytes bring next, if they bring anything. The last flag says whether a request was answered.
-fn act<'l, E: Engine, P: Port<Item>, C: Counter, W: Write, S: Stop, K: Clock>(
+fn act<'l, E: Engine, P: Port<Item>, C: Counter, W: Write, S: HasStopMark, K: Clock>(
     lent: &Lent<'l, S, K>,
     engine: &mut E,
     lane: &mut Lane<P>,
     conn: &mut Conn,
     counts: &mut C,
     writer: &mut W,
-) -> Option<(bool, Fate, bool)>
-    ensures acts { (r : Reading) → E.stands engine.old r → Acts E.stands E.awaits (Submits P.takes P.refuses) (W.contents writer.old) (W.contents writer.new) (intake lane.old conn.old (C.counted counts.old)) (intake lane.new conn.new (C.counted counts.new)) r result engine.new }
+) -> Option<(bool, EventFate, bool)>
+    ensures acts { (r : RequestReading) → E.stands engine.old r → Acts E.stands E.awaits (Submits P.takes P.refuses) (W.contents writer.old) (W.contents writer.new) (intake lane.old conn.old (C.counted counts.old)) (intake lane.new conn.new (C.counted counts.new)) r result engine.new }
     ensures less { IsOpenAfter result → E.left engine.new < E.left engine.old }
 {
     match engine.advance() {
         Brought::Nothing => None,
         Brought::Refused { refusal, is_head } => {
-            let refused = Answer::Refused { refusal, is_head };
+            let refused = Response::Refused { refusal, is_head };
             Some((true, answer(lent.alloc, writer, &refused), true))
         }
         Brought::Close => {
             lent.stop.set();
-            Some((true, answer(lent.alloc, writer, &Answer::CloseAsked), true))
+            Some((
+                true,
+                answer(lent.alloc, writer, &Response::CloseAsked),
+                true,
+            ))
         }
         Brought::Accepted { awaited: true } => {
-            Some((false, answer(lent.alloc, writer, &Answer::Continue), false))
+            Some((
+                false,
+                answer(lent.alloc, writer, &Response::Continue),
+                false,
+            ))
         }
-        Brought::Accepted { awaited: false } => Some((false, Fate::Written, false)),
+        Brought::Accepted { awaited: false } => Some((false, EventFate::Written, false)),
         Brought::Whole {
             is_packed,
             says_close,
@@ -223,7 +231,7 @@ fn act<'l, E: Engine, P: Port<Item>, C: Counter, W: Write, S: Stop, K: Clock>(
 }
 
 /// Does all that the bytes bring, and says how the connection ends, if it does, and whether a request was answered.
-pub(crate) fn settle<'l, E: Engine, P: Port<Item>, C: Counter, W: Write, S: Stop, K: Clock>(
+pub(crate) fn settle<'l, E: Engine, P: Port<Item>, C: Counter, W: Write, S: HasStopMark, K: Clock>(
     lent: &Lent<'l, S, K>,
     engine: &mut E,
     lane: &mut Lane<P>,
@@ -231,7 +239,7 @@ pub(crate) fn settle<'l, E: Engine, P: Port<Item>, C: Counter, W: Write, S: Stop
     counts: &mut C,
     writer: &mut W,
 ) -> (Option<ServeEnd>, bool)
-    ensures { (r : Reading) → E.stands engine.old r → Settled E.awaits (Submits P.takes P.refuses) (W.contents writer.old) (W.contents writer.new) (intake lane.old conn.old (C.counted counts.old)) (intake lane.new conn.new (C.counted counts.new)) r result engine.new }
+    ensures { (r : RequestReading) → E.stands engine.old r → Settled E.awaits (Submits P.takes P.refuses) (W.contents writer.old) (W.contents writer.new) (intake lane.old conn.old (C.counted counts.old)) (intake lane.new conn.new (C.counted counts.new)) r result engine.new }
 {
     let mut answered = false;
     while let Some((closes, fate, answers)) = act(lent, engine, lane, conn, counts, writer) {
@@ -244,7 +252,7 @@ pub(crate) fn settle<'l, E: Engine, P: Port<Item>, C: Counter, W: Write, S: Stop
 }
 
 /// The same, where nobody asks whether a request was answered.
-fn settle_to_end<'l, E: Engine, P: Port<Item>, C: Counter, W: Write, S: Stop, K: Clock>(
+fn settle_to_end<'l, E: Engine, P: Port<Item>, C: Counter, W: Write, S: HasStopMark, K: Clock>(
     lent: &Lent<'l, S, K>,
     engine: &mut E,
     lane: &mut Lane<P>,
@@ -252,21 +260,21 @@ fn settle_to_end<'l, E: Engine, P: Port<Item>, C: Counter, W: Write, S: Stop, K:
     counts: &mut C,
     writer: &mut W,
 ) -> Option<ServeEnd>
-    ensures { (r : Reading) → E.stands engine.old r → SettledTo E.awaits (Submits P.takes P.refuses) (W.contents writer.old) (W.contents writer.new) (intake lane.old conn.old (C.counted counts.old)) (intake lane.new conn.new (C.counted counts.new)) r result engine.new }
+    ensures { (r : RequestReading) → E.stands engine.old r → SettledTo E.awaits (Submits P.takes P.refuses) (W.contents writer.old) (W.contents writer.new) (intake lane.old conn.old (C.counted counts.old)) (intake lane.new conn.new (C.counted counts.new)) r result engine.new }
 {
     let (end, _) = settle(lent, engine, lane, conn, counts, writer);
     end
 }
 
 /// Deals with a quiet turn, the last of so many in a row.
-fn wait<E: Engine, W: Write, S: Stop>(
+fn wait<E: Engine, W: Write, S: HasStopMark>(
     alloc: Global,
     engine: &E,
     writer: &mut W,
     stop: &S,
     row: u64,
 ) -> Option<ServeEnd>
-    ensures { (s : Standing) → E.awaits engine.now s.reading → row ≡ s.row + 1 → Waits (W.contents writer.old) (W.contents writer.new) s row result }
+    ensures { (s : ConnectionStanding) → E.awaits engine.now s.reading → row ≡ s.row + 1 → Waits (W.contents writer.old) (W.contents writer.new) s row result }
 {
     if engine.is_between() {
         if stop.is_set() {
@@ -278,14 +286,14 @@ fn wait<E: Engine, W: Write, S: Stop>(
         return None;
     }
     if row >= SLOW_LIMIT {
-        return end_with(answer(alloc, writer, &Answer::TimedOut), true);
+        return end_with(answer(alloc, writer, &Response::TimedOut), true);
     }
     None
 }
 
 /// How a connection ends at the end of its stream: between requests, or within one.
 fn ended<E: Engine>(engine: &E) -> ServeEnd
-    ensures { (r : Reading) → E.awaits engine.now r → result ≡ (if is_between r then Closed else Cut) }
+    ensures { (r : RequestReading) → E.awaits engine.now r → result ≡ (if is_between r then Closed else Cut) }
 {
     if engine.is_between() {
         ServeEnd::Closed
@@ -295,7 +303,16 @@ fn ended<E: Engine>(engine: &E) -> ServeEnd
 }
 
 /// Serves one connection with an engine that has read nothing.
-fn serve_turns<'l, E: Engine, P: Port<Item>, C: Counter, R: Source, W: Write, S: Stop, K: Clock>(
+fn serve_turns<
+    'l,
+    E: Engine,
+    P: Port<Item>,
+    C: Counter,
+    R: Source,
+    W: Write,
+    S: HasStopMark,
+    K: Clock,
+>(
     lent: &Lent<'l, S, K>,
     engine: &mut E,
     lane: &mut Lane<P>,
@@ -339,7 +356,7 @@ fn serve_turns<'l, E: Engine, P: Port<Item>, C: Counter, R: Source, W: Write, S:
 ///
 /// The moment of a request is asked of the clock once, when its body has been read. It ends as
 /// [`ServeEnd::NoMemory`], with nothing read, where memory for its buffer was refused.
-pub fn serve<'l, P: Port<Item>, C: Counter, R: Source, W: Write, S: Stop, K: Clock>(
+pub fn serve<'l, P: Port<Item>, C: Counter, R: Source, W: Write, S: HasStopMark, K: Clock>(
     lent: &Lent<'l, S, K>,
     lane: &mut Lane<P>,
     counter: &mut C,

@@ -2,16 +2,16 @@
 ghost use Rattle.std.specs.Prelude.{◌≡◌, ◌+◌, ◌<◌, ◌≤◌, [], ℕ, List, Option, None, Bool, false, IfSome, IfNone, length, nat_le, ◌||◌, if◌then◌else◌};
 ghost use Rattle.http_lane.specs.Intake.{Submits, intake};
 ghost use Rattle.std.specs.Io.KnownBytes.{Appends};
-ghost use Rattle.http_lane.specs.Connection.{Reading, Event, in_head, is_between, grown, Writes, submissions};
+ghost use Rattle.http_lane.specs.Connection.{RequestReading, ConnectionEvent, in_head, is_between, grown, Writes, submissions};
 ghost use Rattle.http_lane.specs.declared.answer.ServeEnd.TheVariants.{Closed, Cut};
 ghost use Rattle.http_lane.specs.Engine.{Does, IsAtRest, Settled};
 ghost use Rattle.http_lane.specs.Requests.{Awaits};
 ghost use Rattle.http_lane.specs.Turns.{Waiting, waiting, AwaitsBy, Coming, IsTaken, IsTurnBy, nothing};
 ghost use Rattle.http_text.specs.declared.allowed.Allowed.{Allowed};
 
-use crate::answer::{Answer, ServeEnd};
+use crate::answer::{Response, ServeEnd};
 use crate::engine::Engine;
-use crate::lent::{Clock, Lent, Stop};
+use crate::lent::{Clock, HasStopMark, Lent};
 use crate::reads::PIECE_LIMIT;
 use crate::requests::Requests;
 use crate::serving::{answer, end_with, settle};
@@ -68,7 +68,7 @@ impl Exchange {
     }
 
     /// A turn that brought bytes. What is allowed to the client is the same at each turn.
-    pub fn came<'l, 'p, P: Port<Item>, C: Counter, W: Write, S: Stop, K: Clock>(
+    pub fn came<'l, 'p, P: Port<Item>, C: Counter, W: Write, S: HasStopMark, K: Clock>(
         &mut self,
         lent: &Lent<'l, S, K>,
         spare: &mut Option<Requests>,
@@ -81,7 +81,7 @@ impl Exchange {
         requires at { (w : Waiting) × AwaitsBy arrived.allowed Awaits self.old.engine w.reading }
         requires spare { IfSome spare.old (λ engine. Awaits engine (in_head arrived.allowed [])) }
         ensures turn { (w : Waiting) → AwaitsBy arrived.entry.allowed Awaits self.old.engine w.reading → self.old.since ≡ w.since
-            → (coming : Coming) × (events : List Event) × (next : Waiting) × IsTaken arrived.entry.piece.now coming × IsTurnBy coming w arrived.entry.moment false events next × (next.end ≡ result)
+            → (coming : Coming) × (events : List ConnectionEvent) × (next : Waiting) × IsTaken arrived.entry.piece.now coming × IsTurnBy coming w arrived.entry.moment false events next × (next.end ≡ result)
             × (result ≡ None → AwaitsBy arrived.entry.allowed Awaits self.new.engine next.reading × (self.new.since ≡ next.since))
             × Does (Submits P.takes P.refuses) (W.contents writer.old) (W.contents writer.new) (intake lane.old self.old.conn (C.counted counts.old)) (intake lane.new self.new.conn (C.counted counts.new)) events }
         ensures spare { IfSome spare.new (λ engine. Awaits engine (in_head arrived.entry.allowed [])) }
@@ -118,7 +118,7 @@ impl Exchange {
     }
 
     /// A turn that brought nothing.
-    pub fn waited<W: Write, S: Stop>(
+    pub fn waited<W: Write, S: HasStopMark>(
         &self,
         alloc: Global,
         writer: &mut W,
@@ -126,7 +126,7 @@ impl Exchange {
         moment: u64,
     ) -> Option<ServeEnd>
         ensures turn { (allowed : Allowed) (w : Waiting) → AwaitsBy allowed Awaits self.now.engine w.reading → self.now.since ≡ w.since
-            → (is_stopped : Bool) × (events : List Event) × IsTurnBy nothing w moment is_stopped events (waiting w.reading w.since result)
+            → (is_stopped : Bool) × (events : List ConnectionEvent) × IsTurnBy nothing w moment is_stopped events (waiting w.reading w.since result)
             × (bytes : List ℕ) × Appends (W.contents writer.old) (W.contents writer.new) bytes × Writes events bytes × (submissions events ≡ []) }
     {
         if self.is_between() {
@@ -139,7 +139,7 @@ impl Exchange {
             return None;
         }
         if is_over(self.since, REQUEST_LIMIT, moment) {
-            return end_with(answer(alloc, writer, &Answer::TimedOut), true);
+            return end_with(answer(alloc, writer, &Response::TimedOut), true);
         }
         None
     }
@@ -192,7 +192,7 @@ fn taken(
     spare: &mut Option<Requests>,
 ) -> Option<Requests>
     requires spare { IfSome spare.old (λ engine. Awaits engine (in_head allowed [])) }
-    ensures own { IfSome result (λ engine. (r : Reading) → AwaitsBy allowed Awaits own.old r → Awaits engine r) }
+    ensures own { IfSome result (λ engine. (r : RequestReading) → AwaitsBy allowed Awaits own.old r → Awaits engine r) }
     ensures none { IfNone result (own.old ≡ None) }
     ensures left { own.new ≡ None }
     ensures spare { IfSome spare.new (λ engine. Awaits engine (in_head allowed [])) }
@@ -207,7 +207,7 @@ fn taken(
 }
 
 /// Bytes came to an engine that awaits them: all is done that they bring.
-fn come<'l, E: Engine, P: Port<Item>, C: Counter, W: Write, S: Stop, K: Clock>(
+fn come<'l, E: Engine, P: Port<Item>, C: Counter, W: Write, S: HasStopMark, K: Clock>(
     lent: &Lent<'l, S, K>,
     engine: &mut E,
     lane: &mut Lane<P>,
@@ -218,7 +218,7 @@ fn come<'l, E: Engine, P: Port<Item>, C: Counter, W: Write, S: Stop, K: Clock>(
 ) -> (Option<ServeEnd>, bool)
     requires rests { IsAtRest E.awaits engine.old }
     requires fits { length piece.now ≤ PIECE_LIMIT }
-    ensures { (r : Reading) → E.awaits engine.old r → Settled E.awaits (Submits P.takes P.refuses) (W.contents writer.old) (W.contents writer.new) (intake lane.old conn.old (C.counted counts.old)) (intake lane.new conn.new (C.counted counts.new)) (grown r piece.now) result engine.new }
+    ensures { (r : RequestReading) → E.awaits engine.old r → Settled E.awaits (Submits P.takes P.refuses) (W.contents writer.old) (W.contents writer.new) (intake lane.old conn.old (C.counted counts.old)) (intake lane.new conn.new (C.counted counts.new)) (grown r piece.now) result engine.new }
 {
     engine.take(piece);
     settle(lent, engine, lane, conn, counts, writer)

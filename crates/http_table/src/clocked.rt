@@ -1,6 +1,7 @@
-//! One connection by a clock: a row of `turns.tsv` has a name, what a driver says, the bytes that are answered, and how the
-//! connection ends and at which of these steps. The steps, parted by ` | `: `take MOMENT`, `came MOMENT BYTES`, `look MOMENT`,
-//! `over MOMENT`, `read_failed MOMENT`, `write_failed MOMENT`, `dismiss MOMENT`, and `stop MOMENT`, which sets the stop mark.
+//! One connection by a clock: a row of `turns.tsv` has a name, what a driver says, the bytes that are answered, and how
+//! the connection ends and at which of these steps. The steps, parted by ` | `: `take MOMENT`, `came MOMENT BYTES`,
+//! `look MOMENT`, `over MOMENT`, `read_failed MOMENT`, `write_failed MOMENT`, `dismiss MOMENT`, and `stop MOMENT`,
+//! which sets the stop mark.
 ghost use Rattle.std.specs.Prelude.{◌≡◌, ◌<◌, ◌≤◌, length, ⊤};
 ghost use Rattle.lane_turns.specs.Driving.{FitsNext};
 
@@ -8,7 +9,7 @@ use crate::column::bytes_of;
 use crate::peers::{Mark, Ticks};
 use crate::trial::{lane_of, name_of};
 use drop_ledger::Report;
-use http_lane::{Lent, ServeEnd, Stop};
+use http_lane::{HasStopMark, Lent, ServeEnd};
 use http_text::Allowed;
 use lane_turns::{Done, Driver, Leaving, Next, serve_turns};
 use std::alloc::{AllocError, Global};

@@ -1,7 +1,7 @@
 //! What a connection is served with: a reader of pieces, a writer with room, a stop mark and a clock.
 ghost use Rattle.std.specs.Prelude.{None, Some};
 
-use http_lane::{Clock, Stop};
+use http_lane::{Clock, HasStopMark};
 use std::cell::Cell;
 use std::io;
 use std::io::{ErrorKind, Read, Write};
@@ -105,7 +105,7 @@ pub struct Mark {
     pub set: Cell<bool>,
 }
 
-impl Stop for Mark {
+impl HasStopMark for Mark {
     fn is_set(&self) -> bool {
         self.set.get()
     }

@@ -58,7 +58,7 @@ pub fn name_of(end: ServeEnd) -> &'static str {
         ServeEnd::WriteFault => "WriteFault",
         ServeEnd::Turns => "Turns",
         ServeEnd::NoMemory => "NoMemory",
-        ServeEnd::BookFull => "BookFull",
+        ServeEnd::CounterOverflow => "BookFull",
     }
 }
 

@@ -5,9 +5,9 @@ use Rattle.std.specs.Prelude.{codes}
 use Rattle.http_text.specs.declared.allowed.Allowed.{Allowed}
 use Rattle.http_text.specs.declared.lines.TheConstants.{PART_LIMIT}
 use Rattle.http_text.specs.declared.request.TheConstants.{BODY_LIMIT, FIELD_LIMIT}
-use Rattle.http_text.specs.declared.request.Verdict.{Verdict}
-use Rattle.http_text.specs.declared.request.Verdict.TheVariants.{Refused, Close, Post as Posted}
-use Rattle.http_text.specs.declared.request.Refusal.TheVariants.{BadRequest, NotFound, MethodNotAllowed, UnsupportedMediaType, BodyTooLarge}
+use Rattle.http_text.specs.declared.request.HeadVerdict.{HeadVerdict}
+use Rattle.http_text.specs.declared.request.HeadVerdict.TheVariants.{Refused, Close, Post as Posted}
+use Rattle.http_text.specs.declared.request.RequestRefusal.TheVariants.{BadRequest, NotFound, MethodNotAllowed, UnsupportedMediaType, BodyTooLarge}
 use Rattle.http_text.specs.declared.request.Framing.TheVariants.{Length, Chunked}
 use Rattle.http_text.specs.Lines.{head_len, trailer_len, line_len, blank_len}
 use Rattle.http_text.specs.Fields.{Header, framing, is_plain, is_packed, is_taken}
@@ -83,7 +83,7 @@ length_field : Header
 length_field = (codes "Content-Length", codes "7")
 
 -- a message of another version than 1.1, of no `Host` or of two, or with two lengths, is refused whatever it asks for
-verdict_of_version : ℕ → Verdict
+verdict_of_version : ℕ → HeadVerdict
 verdict_of_version minor =
     verdict_by by_default (codes "POST") (codes "/v1/traces") minor (host_field ∷ json_field ∷ length_field ∷ [])
 
@@ -112,7 +112,7 @@ unfolding host_field length_field
 unframed_head = refl
 
 -- by target and method: another target goes before another method, and the answer to `HEAD` has no body
-verdict_of : List ℕ → List ℕ → Verdict
+verdict_of : List ℕ → List ℕ → HeadVerdict
 verdict_of method target = verdict_by by_default method target 1 (host_field ∷ [])
 
 by_target : verdict_of (codes "GET") (codes "/v1/traces") ∷ verdict_of (codes "HEAD") (codes "/v1/traces")

@@ -7,11 +7,11 @@ use Rattle.std.specs.Option.{option_map}
 use Rattle.std.proofs.lemmas.List.{take-append-drop, take_all, length-take, take-append-le}
 use Rattle.std.proofs.Math.Seq.{take-add}
 use borrow.Author.Tests.{lt-ltb, le-leb, leb-true}
-use Rattle.http_text.specs.declared.search.Place.{Place}
-use Rattle.http_text.specs.declared.search.Place.TheVariants.{Blank, Start, Middle, Line}
-use Rattle.http_text.specs.declared.search.Search.{Search}
-use Rattle.http_text.specs.declared.search.Step.{Step}
-use Rattle.http_text.specs.declared.search.Step.TheVariants.{Found, On, Pause}
+use Rattle.http_text.specs.declared.search.SearchPlace.{SearchPlace}
+use Rattle.http_text.specs.declared.search.SearchPlace.TheVariants.{Blank, Start, Middle, Line}
+use Rattle.http_text.specs.declared.search.PartSearch.{PartSearch}
+use Rattle.http_text.specs.declared.search.SearchStep.{SearchStep}
+use Rattle.http_text.specs.declared.search.SearchStep.TheVariants.{Found, On, Pause}
 use Rattle.http_text.specs.Lines.{head_len, line_len, len_through_empty, empty_line_len, blank_len, cut_of}
 use Rattle.http_text.specs.declared.search.Ending.TheVariants.{At, Open}
 use Rattle.http_text.specs.declared.search.Cutting.TheVariants.{Whole, Waits, TooLong}
@@ -87,7 +87,7 @@ start_found : (a : ℕ) (ys : List ℕ) (n : ℕ) → empty_line_len (a ∷ ys) 
 start_found a ys n e h = search_found a ys (subst (λ k. 0 < k) (sym e) h) ∙ ap Some e
 
 -- a step at a byte that isn't the end of a line
-abbrev Choice : Place → List ℕ → Bool → Bool → Bool → Step → Step → Step → Step → Type 0
+abbrev Choice : SearchPlace → List ℕ → Bool → Bool → Bool → SearchStep → SearchStep → SearchStep → SearchStep → Type 0
 Choice place rest s t u w x y z = IsStep place rest (cond s w (cond t (cond u x y) z))
 
 blank_one : (a : ℕ) (s t : Bool) → (a == 10) ≡ s → (a == 13) ≡ t → IsStep Blank (a ∷ []) (cond s (On 1 Blank) (cond t Pause (On 1 Middle)))
@@ -131,7 +131,7 @@ line_by a bytes true e = (omega arith, omega arith, λ ys. line_cons a (bytes ++
 line_by a bytes false e = (omega arith, omega arith, λ ys. line_cons a ys false e ∙ line_shift (position is_lf ys))
 
 -- each step is right
-pub step_is : (place : Place) (rest : List ℕ) → IsStep place rest (step place rest)
+pub step_is : (place : SearchPlace) (rest : List ℕ) → IsStep place rest (step place rest)
 step_is Blank [] = refl
 step_is Blank (a ∷ []) = blank_one a (a == 10) (a == 13) refl refl
 step_is Blank (a ∷ b ∷ bytes) = blank_two a b bytes (a == 10) (a == 13) (b == 10) refl refl refl
@@ -144,7 +144,7 @@ step_is Line [] = refl
 step_is Line (a ∷ bytes) = line_by a bytes (a == 10) refl
 
 -- a search goes on behind a step
-pub searched_on : (len_of : List ℕ → Option ℕ) (at n : ℕ) (place next : Place) (bytes : List ℕ) → Searched len_of (record { at = at; place = place }) bytes
+pub searched_on : (len_of : List ℕ → Option ℕ) (at n : ℕ) (place next : SearchPlace) (bytes : List ℕ) → Searched len_of (record { at = at; place = place }) bytes
     → IsStep place (drop at bytes) (On n next) → Searched len_of (record { at = at + n; place = next }) bytes
 searched_on len_of at n place next bytes s t = (
   omega (arith, s.0, t.1, length-drop at bytes),
@@ -153,19 +153,19 @@ searched_on len_of at n place next bytes s t = (
 )
 
 -- and ends where a step ends it
-pub searched_found : (len_of : List ℕ → Option ℕ) (at n : ℕ) (place : Place) (bytes : List ℕ) → Searched len_of (record { at = at; place = place }) bytes
+pub searched_found : (len_of : List ℕ → Option ℕ) (at n : ℕ) (place : SearchPlace) (bytes : List ℕ) → Searched len_of (record { at = at; place = place }) bytes
     → IsStep place (drop at bytes) (Found n) → (len_of bytes ≡ Some (at + n)) × (at + n ≤ length bytes)
 searched_found len_of at n place bytes s t = (
   ap len_of (sym (take-append-drop at bytes)) ∙ s.1 (drop at bytes) ∙ ap (λ l. option_map (λ k. at + k) (ends place l)) (sym (append-nil (drop at bytes))) ∙ ap (option_map (λ k. at + k)) (t.2 []),
   omega (arith, s.0, t.1, length-drop at bytes),
 )
 
-pub searched_open : (len_of : List ℕ → Option ℕ) (at : ℕ) (place : Place) (bytes : List ℕ) → Searched len_of (record { at = at; place = place }) bytes
+pub searched_open : (len_of : List ℕ → Option ℕ) (at : ℕ) (place : SearchPlace) (bytes : List ℕ) → Searched len_of (record { at = at; place = place }) bytes
     → ends place (drop at bytes) ≡ None → len_of bytes ≡ None
 searched_open len_of at place bytes s t = ap len_of (sym (take-append-drop at bytes)) ∙ s.1 (drop at bytes) ∙ ap (option_map (λ k. at + k)) t
 
 -- a search on the bytes in which the part has to end
-pub searched_front : (len_of : List ℕ → Option ℕ) (s : Search) (stream : List ℕ) → Searched len_of s stream → s.at ≤ PART_LIMIT → Searched len_of s (take PART_LIMIT stream)
+pub searched_front : (len_of : List ℕ → Option ℕ) (s : PartSearch) (stream : List ℕ) → Searched len_of s stream → s.at ≤ PART_LIMIT → Searched len_of s (take PART_LIMIT stream)
 searched_front len_of s stream h le =
     let fits : s.at ≤ length (take PART_LIMIT stream) = omega (arith, h.0, length-take PART_LIMIT stream) in
     let same : take s.at stream ≡ take s.at (take PART_LIMIT stream) = ap (take s.at) (sym (take-append-drop PART_LIMIT stream)) ∙ take-append-le s.at (take PART_LIMIT stream) (drop PART_LIMIT stream) fits in
@@ -174,10 +174,10 @@ searched_front len_of s stream h le =
 pub cutting_at : (len_of : List ℕ → Option ℕ) (stream : List ℕ) (n : ℕ) → IsEnding len_of (take PART_LIMIT stream) (At n) → IsCutting len_of stream (Whole n)
 cutting_at len_of stream n h = (ap (cut_of (length stream)) h.0, h.1, omega (arith, h.2, length-take PART_LIMIT stream))
 
-pub cutting_long : (len_of : List ℕ → Option ℕ) (stream : List ℕ) (s : Search) → IsEnding len_of (take PART_LIMIT stream) (Open s) → PART_LIMIT ≤ length stream → IsCutting len_of stream TooLong
+pub cutting_long : (len_of : List ℕ → Option ℕ) (stream : List ℕ) (s : PartSearch) → IsEnding len_of (take PART_LIMIT stream) (Open s) → PART_LIMIT ≤ length stream → IsCutting len_of stream TooLong
 cutting_long len_of stream s h le = ap (cut_of (length stream)) h.0 ∙ ap (λ t. cond t CTooLong CWaits) (le-leb PART_LIMIT (length stream) le)
 
-pub cutting_waits : (len_of : List ℕ → Option ℕ) (stream : List ℕ) (s : Search) → IsEnding len_of (take PART_LIMIT stream) (Open s) → length stream < PART_LIMIT → IsCutting len_of stream (Waits s)
+pub cutting_waits : (len_of : List ℕ → Option ℕ) (stream : List ℕ) (s : PartSearch) → IsEnding len_of (take PART_LIMIT stream) (Open s) → length stream < PART_LIMIT → IsCutting len_of stream (Waits s)
 cutting_waits len_of stream s h lt = (
   ap (cut_of (length stream)) h.0 ∙ ap (λ t. cond t CTooLong CWaits) (lt-leb' PART_LIMIT (length stream) lt),
   subst (Searched len_of s) (take_all PART_LIMIT stream (omega arith)) h.1,

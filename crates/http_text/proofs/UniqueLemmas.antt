@@ -11,34 +11,34 @@ use Rattle.httparse.proofs.ChunkLemmas.{chunk_line_unique}
 use Rattle.http_text.specs.declared.allowed.Allowed.{Allowed}
 use Rattle.http_text.specs.Lines.{Cut, Whole, Waits, TooLong}
 use Rattle.http_text.specs.declared.request.TheConstants.{BODY_LIMIT, FIELD_LIMIT}
-use Rattle.http_text.specs.declared.request.Verdict.{Verdict}
+use Rattle.http_text.specs.declared.request.HeadVerdict.{HeadVerdict}
 use Rattle.http_text.specs.Lines.{cut, head_len, trailer_len, line_len}
 use Rattle.http_text.specs.Head.{HeadBy, BeginsWithHead, IsVerdict, Judges, verdict, field_lines}
-use Rattle.http_text.specs.Body.{Found, waits, refuses, found, with_front, Chunks, StopsBy, BySize, IsCutChunk, AtTrailerBy, begins_crlf, ChunkedBody, content, GivesSize}
+use Rattle.http_text.specs.Body.{FoundBody, waits, refuses, found, with_front, Chunks, StopsBy, BySize, IsCutChunk, AtTrailerBy, begins_crlf, ChunkedBody, content, GivesSize}
 
-judges_unique : (g : Allowed) (text : List ℕ) (v w : Verdict) → Judges g text v → Judges g text w → v ≡ w
+judges_unique : (g : Allowed) (text : List ℕ) (v w : HeadVerdict) → Judges g text v → Judges g text w → v ≡ w
 judges_unique g text v w (inl a) (inl b) = a.2 ∙ ap (verdict g) (request_unique text a.0 b.0 [] [] a.1.0 b.1.0).0 ∙ sym b.2
 judges_unique g text v w (inl a) (inr b) = absurd (b.0 a.0 a.1)
 judges_unique g text v w (inr a) (inl b) = absurd (a.0 b.0 b.1)
 judges_unique g text v w (inr a) (inr b) = a.1 ∙ sym b.1
 
-verdict_by_lines : (g : Allowed) (t : Bool) (text : List ℕ) (v w : Verdict) → nat_le (field_lines text) FIELD_LIMIT ≡ t → IsVerdict g text v → IsVerdict g text w → v ≡ w
+verdict_by_lines : (g : Allowed) (t : Bool) (text : List ℕ) (v w : HeadVerdict) → nat_le (field_lines text) FIELD_LIMIT ≡ t → IsVerdict g text v → IsVerdict g text w → v ≡ w
 verdict_by_lines g true text v w e a b = let le = leb-true (field_lines text) FIELD_LIMIT e in judges_unique g text v w (a.few le) (b.few le)
 verdict_by_lines g false text v w e a b = let lt = leb-false (field_lines text) FIELD_LIMIT e in a.many lt ∙ sym (b.many lt)
 
-head_by_unique : (g : Allowed) (c : Cut) (xs : List ℕ) (v w : Verdict) (r s : List ℕ) → HeadBy g c xs v r → HeadBy g c xs w s → (v ≡ w) × (r ≡ s)
+head_by_unique : (g : Allowed) (c : Cut) (xs : List ℕ) (v w : HeadVerdict) (r s : List ℕ) → HeadBy g c xs v r → HeadBy g c xs w s → (v ≡ w) × (r ≡ s)
 head_by_unique g (Whole n) xs v w r s a b = (verdict_by_lines g (nat_le (field_lines (take n xs)) FIELD_LIMIT) (take n xs) v w refl a.0 b.0, a.1 ∙ sym b.1)
 head_by_unique g Waits xs v w r s a b = absurd a
 head_by_unique g TooLong xs v w r s a b = (a.0 ∙ sym b.0, a.1 ∙ sym b.1)
 
 -- a stream begins with one head at most
-pub head_unique : (g : Allowed) (xs : List ℕ) (v w : Verdict) (r s : List ℕ) → BeginsWithHead g xs v r → BeginsWithHead g xs w s → (v ≡ w) × (r ≡ s)
+pub head_unique : (g : Allowed) (xs : List ℕ) (v w : HeadVerdict) (r s : List ℕ) → BeginsWithHead g xs v r → BeginsWithHead g xs w s → (v ≡ w) × (r ≡ s)
 head_unique g xs v w r s a b = head_by_unique g (cut head_len xs) xs v w r s a b
 
 pub size_unique : (line : List ℕ) (m n : ℕ) → GivesSize line m → GivesSize line n → m ≡ n
 size_unique line m n a b = a.2 ∙ ap chunk_size (chunk_line_unique line a.0 b.0 [] [] a.1 b.1).0 ∙ sym b.2
 
-trailer_unique : (c : Cut) (xs : List ℕ) (f g : Found) → AtTrailerBy c xs f → AtTrailerBy c xs g → f ≡ g
+trailer_unique : (c : Cut) (xs : List ℕ) (f g : FoundBody) → AtTrailerBy c xs f → AtTrailerBy c xs g → f ≡ g
 trailer_unique Waits xs f g a b = a ∙ sym b
 trailer_unique TooLong xs f g a b = a ∙ sym b
 trailer_unique (Whole n) xs f g (inl a) (inl b) = a.1 ∙ sym b.1
@@ -46,18 +46,18 @@ trailer_unique (Whole n) xs f g (inl a) (inr b) = absurd (b.0 a.0)
 trailer_unique (Whole n) xs f g (inr a) (inl b) = absurd (a.0 b.0)
 trailer_unique (Whole n) xs f g (inr a) (inr b) = a.1 ∙ sym b.1
 
-cut_chunk_unique : (t : Bool) (size : ℕ) (xs : List ℕ) (f g : Found) → nat_le size (length xs) ≡ t → IsCutChunk size xs f → IsCutChunk size xs g → f ≡ g
+cut_chunk_unique : (t : Bool) (size : ℕ) (xs : List ℕ) (f g : FoundBody) → nat_le size (length xs) ≡ t → IsCutChunk size xs f → IsCutChunk size xs g → f ≡ g
 cut_chunk_unique true size xs f g e a b = let le = leb-true size (length xs) e in (a.long le).1 ∙ sym (b.long le).1
 cut_chunk_unique false size xs f g e a b = let lt = leb-false size (length xs) e in a.short lt ∙ sym (b.short lt)
 
-by_size_unique : (size total : ℕ) (xs : List ℕ) (f g : Found) → BySize total size xs f → BySize total size xs g → f ≡ g
+by_size_unique : (size total : ℕ) (xs : List ℕ) (f g : FoundBody) → BySize total size xs f → BySize total size xs g → f ≡ g
 by_size_unique zero total xs f g a b = trailer_unique (cut trailer_len xs) xs f g (a.last refl) (b.last refl)
 by_size_unique (suc n) total xs f g a b = by_limit (nat_le (total + suc n) BODY_LIMIT) refl where
   by_limit : (t : Bool) → nat_le (total + suc n) BODY_LIMIT ≡ t → f ≡ g
   by_limit true e = let le = leb-true (total + suc n) BODY_LIMIT e in let p : 0 < suc n = omega arith in cut_chunk_unique (nat_le (suc n) (length xs)) (suc n) xs f g refl (a.cut p le) (b.cut p le)
   by_limit false e = let lt = leb-false (total + suc n) BODY_LIMIT e in let p : 0 < suc n = omega arith in a.large p lt ∙ sym (b.large p lt)
 
-stops_unique : (c : Cut) (total : ℕ) (xs : List ℕ) (f g : Found) → StopsBy c total xs f → StopsBy c total xs g → f ≡ g
+stops_unique : (c : Cut) (total : ℕ) (xs : List ℕ) (f g : FoundBody) → StopsBy c total xs f → StopsBy c total xs g → f ≡ g
 stops_unique Waits total xs f g a b = a ∙ sym b
 stops_unique TooLong total xs f g a b = a ∙ sym b
 stops_unique (Whole n) total xs f g (inl a) (inl b) = by_size_unique a.0 total (drop n xs) f g a.2 (subst (λ s. BySize total s (drop n xs) g) (size_unique (take n xs) b.0 a.0 b.1 a.1) b.2)
@@ -66,7 +66,7 @@ stops_unique (Whole n) total xs f g (inr a) (inl b) = absurd (a.0 b.1.0 b.1.1)
 stops_unique (Whole n) total xs f g (inr a) (inr b) = a.1 ∙ sym b.1
 
 -- where a whole chunk within the limit stands, the chunks don't stop
-no_stop : (c : Cut) (n total : ℕ) (xs piece rest : List ℕ) (f : Found) → c ≡ Whole n → 0 < length piece → total + length piece ≤ BODY_LIMIT
+no_stop : (c : Cut) (n total : ℕ) (xs piece rest : List ℕ) (f : FoundBody) → c ≡ Whole n → 0 < length piece → total + length piece ≤ BODY_LIMIT
     → GivesSize (take n xs) (length piece) → drop n xs ≡ piece ++ (crlf_bytes ++ rest) → StopsBy c total xs f → ⊥
 no_stop Waits n total xs piece rest f e some le size split s = cc
 no_stop TooLong n total xs piece rest f e some le size split s = cc
@@ -81,31 +81,31 @@ no_stop (Whole k) n total xs piece rest f e some le size split (inl b) =
     let no = long.0 in cc
 
 -- chunks and where they stop, behind `total` bytes of content
-abbrev pub From : ℕ → List ℕ → List (List ℕ) → List ℕ → Found → Type 0
+abbrev pub From : ℕ → List ℕ → List (List ℕ) → List ℕ → FoundBody → Type 0
 From total bytes pieces after end = Chunks bytes pieces after × (total + length (content pieces) ≤ BODY_LIMIT) × StopsBy (cut line_len after) (total + length (content pieces)) after end
 
 none_total : (total : ℕ) → total + length (content []) ≡ total
 none_total total = omega arith
 
-end_at : (total : ℕ) (bytes after : List ℕ) (e : Found) → From total bytes [] after e → StopsBy (cut line_len bytes) total bytes e
+end_at : (total : ℕ) (bytes after : List ℕ) (e : FoundBody) → From total bytes [] after e → StopsBy (cut line_len bytes) total bytes e
 end_at total bytes after e a = subst (λ n. StopsBy (cut line_len bytes) n bytes e) (none_total total) (subst (λ l. StopsBy (cut line_len l) (total + 0) l e) (sym a.0) a.2)
 
-stop_meets : (total : ℕ) (bytes after : List ℕ) (e : Found) (q : List ℕ) (qs : List (List ℕ)) (b : List ℕ) (f : Found) → StopsBy (cut line_len bytes) total bytes e → From total bytes (q ∷ qs) b f → ⊥
+stop_meets : (total : ℕ) (bytes after : List ℕ) (e : FoundBody) (q : List ℕ) (qs : List (List ℕ)) (b : List ℕ) (f : FoundBody) → StopsBy (cut line_len bytes) total bytes e → From total bytes (q ∷ qs) b f → ⊥
 stop_meets total bytes after e q qs b f s h =
     no_stop (cut line_len bytes) h.0.0 total bytes q h.0.4 e h.0.1 h.0.2 (omega (arith, h.1, length-append q (content qs))) h.0.3 h.0.5 s
 
 -- the rest of the chunks behind the first
-tail_of : (total : ℕ) (bytes : List ℕ) (q : List ℕ) (qs : List (List ℕ)) (b : List ℕ) (f : Found) → (h : From total bytes (q ∷ qs) b f) → From (total + length q) h.0.4 qs b f
+tail_of : (total : ℕ) (bytes : List ℕ) (q : List ℕ) (qs : List (List ℕ)) (b : List ℕ) (f : FoundBody) → (h : From total bytes (q ∷ qs) b f) → From (total + length q) h.0.4 qs b f
 tail_of total bytes q qs b f h =
     let sum : total + length (q ++ content qs) ≡ total + length q + length (content qs) = omega (arith, length-append q (content qs)) in
     (h.0.6, subst (λ n. n ≤ BODY_LIMIT) sum h.1, subst (λ n. StopsBy (cut line_len b) n b f) sum h.2)
 
-front_twice : (p c : List ℕ) (e : Found) → with_front (p ++ c) e ≡ with_front p (with_front c e)
+front_twice : (p c : List ℕ) (e : FoundBody) → with_front (p ++ c) e ≡ with_front p (with_front c e)
 front_twice p c waits = refl
 front_twice p c (refuses r) = refl
 front_twice p c (found body rest) = ap (λ l. found l rest) (append_assoc p c body)
 
-pub from_unique : (total : ℕ) (bytes : List ℕ) (ps qs : List (List ℕ)) (a b : List ℕ) (e f : Found) → From total bytes ps a e → From total bytes qs b f → with_front (content ps) e ≡ with_front (content qs) f
+pub from_unique : (total : ℕ) (bytes : List ℕ) (ps qs : List (List ℕ)) (a b : List ℕ) (e f : FoundBody) → From total bytes ps a e → From total bytes qs b f → with_front (content ps) e ≡ with_front (content qs) f
 from_unique total bytes [] [] a b e f x y = ap (with_front []) (stops_unique (cut line_len bytes) total bytes e f (end_at total bytes a e x) (end_at total bytes b f y))
 from_unique total bytes [] (q ∷ qs) a b e f x y = absurd (stop_meets total bytes a e q qs b f (end_at total bytes a e x) y)
 from_unique total bytes (p ∷ ps) [] a b e f x y = absurd (stop_meets total bytes b f p ps a e (end_at total bytes b f y) x)
@@ -125,11 +125,11 @@ from_unique total bytes (p ∷ ps) (q ∷ qs) a b e f x y =
     let ih = from_unique (total + length p) u.4 ps qs a b e f (tail_of total bytes p ps a e x) tail in
     front_twice p (content ps) e ∙ ap (with_front p) ih ∙ ap (λ l. with_front l (with_front (content qs) f)) pieces ∙ sym (front_twice q (content qs) f)
 
-from_body : (bytes : List ℕ) (f : Found) → (h : ChunkedBody bytes f) → From 0 bytes h.pieces h.after h.end
+from_body : (bytes : List ℕ) (f : FoundBody) → (h : ChunkedBody bytes f) → From 0 bytes h.pieces h.after h.end
 from_body bytes f h =
     let sum : length (content h.pieces) ≡ 0 + length (content h.pieces) = omega arith in
     (h.chunks, subst (λ n. n ≤ BODY_LIMIT) sum h.within, subst (λ n. StopsBy (cut line_len h.after) n h.after h.end) sum h.stops)
 
 -- behind a head stands one thing only
-pub chunked_unique : (bytes : List ℕ) (f g : Found) → ChunkedBody bytes f → ChunkedBody bytes g → f ≡ g
+pub chunked_unique : (bytes : List ℕ) (f g : FoundBody) → ChunkedBody bytes f → ChunkedBody bytes g → f ≡ g
 chunked_unique bytes f g x y = x.is ∙ from_unique 0 bytes x.pieces y.pieces x.after y.after x.end y.end (from_body bytes f x) (from_body bytes g y) ∙ sym y.is

@@ -6,18 +6,19 @@ use Rattle.http_text.specs.Lines.{Cut, Whole, Waits, TooLong}
 use Rattle.http_text.specs.declared.request.TheConstants.{BODY_LIMIT, FIELD_LIMIT}
 use Rattle.http_text.specs.declared.request.Framing.{Framing}
 use Rattle.http_text.specs.declared.request.Framing.TheVariants.{Length, Chunked}
-use Rattle.http_text.specs.declared.request.Refusal.{Refusal}
-use Rattle.http_text.specs.declared.request.Refusal.TheVariants.{BadRequest, BodyTooLarge}
+use Rattle.http_text.specs.declared.request.RequestRefusal.{RequestRefusal}
+use Rattle.http_text.specs.declared.request.RequestRefusal.TheVariants.{BadRequest, BodyTooLarge}
 use Rattle.http_text.specs.Lines.{line_len, trailer_len, cut}
 
--- what stands at the front of the bytes behind a head: more is to come, or a refusal, or a whole body and what follows it
-pub data Found : Type 0 where
-  waits : Found
-  refuses : Refusal → Found
-  found : List ℕ → List ℕ → Found
+-- what stands at the front of the bytes behind a head: more is to come, or a refusal, or a whole body and what follows
+-- it
+pub data FoundBody : Type 0 where
+  waits : FoundBody
+  refuses : RequestRefusal → FoundBody
+  found : List ℕ → List ℕ → FoundBody
 
 -- the same with more of the body in front
-abbrev pub with_front : List ℕ → Found → Found
+abbrev pub with_front : List ℕ → FoundBody → FoundBody
 with_front front waits = waits
 with_front front (refuses r) = refuses r
 with_front front (found body rest) = found (front ++ body) rest
@@ -41,14 +42,14 @@ Chunks bytes (piece ∷ pieces) after =
     × (rest : List ℕ) × (drop n bytes ≡ piece ++ (crlf_bytes ++ rest)) × Chunks rest pieces after
 
 -- behind the last chunk's line stands the trailer
-abbrev pub AtTrailerBy : Cut → List ℕ → Found → Type 0
+abbrev pub AtTrailerBy : Cut → List ℕ → FoundBody → Type 0
 AtTrailerBy Waits bytes f = f ≡ waits
 AtTrailerBy TooLong bytes f = f ≡ refuses BadRequest
 AtTrailerBy (Whole n) bytes f =
     (IsTrailer (take n bytes) × (f ≡ found [] (drop n bytes))) ⊎ (¬ (IsTrailer (take n bytes)) × (f ≡ refuses BadRequest))
 
 -- the two bytes behind a chunk's data, where they aren't CRLF
-abbrev pub behind_data : List ℕ → Found
+abbrev pub behind_data : List ℕ → FoundBody
 behind_data [] = waits
 behind_data (a ∷ []) = waits
 behind_data (a ∷ b ∷ bytes) = refuses BadRequest
@@ -59,18 +60,18 @@ begins_crlf (a ∷ []) = false
 begins_crlf (a ∷ b ∷ bytes) = (a == carriage_return) && (b == line_feed)
 
 -- the data of a chunk of this size hasn't come whole, or CRLF doesn't follow it
-pub record IsCutChunk (size : ℕ) (bytes : List ℕ) (f : Found) : Type 0 where
+pub record IsCutChunk (size : ℕ) (bytes : List ℕ) (f : FoundBody) : Type 0 where
   pub short : length bytes < size → f ≡ waits
   pub long : size ≤ length bytes → (begins_crlf (drop size bytes) ≡ false) × (f ≡ behind_data (drop size bytes))
 
 -- a line of size 0 is the last; the others add up
-pub record BySize (total size : ℕ) (bytes : List ℕ) (f : Found) : Type 0 where
+pub record BySize (total size : ℕ) (bytes : List ℕ) (f : FoundBody) : Type 0 where
   pub last : size ≡ 0 → AtTrailerBy (cut trailer_len bytes) bytes f
   pub large : 0 < size → BODY_LIMIT < total + size → f ≡ refuses BodyTooLarge
   pub cut : 0 < size → total + size ≤ BODY_LIMIT → IsCutChunk size bytes f
 
 -- where the chunks stop that have come whole, `total` bytes
-abbrev pub StopsBy : Cut → ℕ → List ℕ → Found → Type 0
+abbrev pub StopsBy : Cut → ℕ → List ℕ → FoundBody → Type 0
 StopsBy Waits total bytes f = f ≡ waits
 StopsBy TooLong total bytes f = f ≡ refuses BadRequest
 StopsBy (Whole n) total bytes f =
@@ -81,19 +82,19 @@ abbrev pub content : List (List ℕ) → List ℕ
 content pieces = flat_map (λ (piece : List ℕ). piece) pieces
 
 -- chunked-body = *chunk last-chunk trailer-section CRLF
-pub record ChunkedBody (bytes : List ℕ) (f : Found) : Type 0 where
+pub record ChunkedBody (bytes : List ℕ) (f : FoundBody) : Type 0 where
   pub pieces : List (List ℕ)
   pub after : List ℕ
   pub chunks : Chunks bytes pieces after
   pub within : length (content pieces) ≤ BODY_LIMIT
-  pub end : Found
+  pub end : FoundBody
   pub stops : StopsBy (cut line_len after) (length (content pieces)) after end
   pub is : f ≡ with_front (content pieces) end
 
-abbrev pub sized_body : ℕ → List ℕ → Found
+abbrev pub sized_body : ℕ → List ℕ → FoundBody
 sized_body len bytes = if nat_le len (length bytes) then found (take len bytes) (drop len bytes) else waits
 
 -- what stands behind a head with this framing
-abbrev pub BodyIs : Framing → List ℕ → Found → Type 0
+abbrev pub BodyIs : Framing → List ℕ → FoundBody → Type 0
 BodyIs (Length len) bytes f = f ≡ sized_body len bytes
 BodyIs Chunked bytes f = ChunkedBody bytes f

@@ -60,7 +60,8 @@ has name test h = str_eq_ignore_ascii_case h.0 name && test h.1
 abbrev pub is_plain : List Header → Bool
 is_plain headers = not (list_any (has (codes "content-encoding") (λ value. not (str_eq_ignore_ascii_case value (codes "identity")))) headers)
 
--- the codings of the content but `identity`, in the order in which they were applied (RFC 9110, section 8.4), by fields of one coding each
+-- the codings of the content but `identity`, in the order in which they were applied (RFC 9110, section 8.4), by fields
+-- of one coding each
 abbrev pub codings : List Header → List (List ℕ)
 codings headers = map (λ (h : Header). h.1) (filter (has (codes "content-encoding") (λ value. not (str_eq_ignore_ascii_case value (codes "identity")))) headers)
 

@@ -8,10 +8,10 @@ use Rattle.http_text.specs.Lines.{Cut, Whole, Waits, TooLong}
 use Rattle.http_text.specs.declared.request.TheConstants.{BODY_LIMIT, FIELD_LIMIT}
 use Rattle.http_text.specs.declared.request.Framing.{Framing}
 use Rattle.http_text.specs.declared.request.Framing.TheVariants.{Length, Chunked}
-use Rattle.http_text.specs.declared.request.Refusal.{Refusal}
-use Rattle.http_text.specs.declared.request.Refusal.TheVariants.{HeadTooLarge, BadRequest, NotFound, MethodNotAllowed, UnsupportedMediaType, BodyTooLarge}
-use Rattle.http_text.specs.declared.request.Verdict.{Verdict}
-use Rattle.http_text.specs.declared.request.Verdict.TheVariants.{Refused, Close, Post as Posted}
+use Rattle.http_text.specs.declared.request.RequestRefusal.{RequestRefusal}
+use Rattle.http_text.specs.declared.request.RequestRefusal.TheVariants.{HeadTooLarge, BadRequest, NotFound, MethodNotAllowed, UnsupportedMediaType, BodyTooLarge}
+use Rattle.http_text.specs.declared.request.HeadVerdict.{HeadVerdict}
+use Rattle.http_text.specs.declared.request.HeadVerdict.TheVariants.{Refused, Close, Post as Posted}
 use Rattle.http_text.specs.Fields.{Header, values_named, framing, is_json, is_packed, is_taken, says_close, expects_continue}
 use Rattle.http_text.specs.Lines.{head_len, blank_len, cut}
 
@@ -22,7 +22,7 @@ field_lines text = count_by (λ b. b == line_feed) (drop (blank_len text) text) 
 abbrev pub is_post : List ℕ → Bool
 is_post method = bytes_eq method (codes "POST")
 
-abbrev pub refused : List ℕ → Refusal → Verdict
+abbrev pub refused : List ℕ → RequestRefusal → HeadVerdict
 refused method refusal = Refused refusal (bytes_eq method (codes "HEAD"))
 
 -- a length within the limit; chunks are added up as they come
@@ -31,7 +31,7 @@ fits (Length n) = nat_le n BODY_LIMIT
 fits Chunked = true
 
 -- a request for the traces, by its fields
-abbrev pub posted : Allowed → List ℕ → List Header → Framing → Verdict
+abbrev pub posted : Allowed → List ℕ → List Header → Framing → HeadVerdict
 posted allowed method headers framed =
     if not (is_json headers && is_taken allowed headers) then refused method UnsupportedMediaType
     else (if not (fits framed) then refused method BodyTooLarge
@@ -42,25 +42,25 @@ abbrev pub is_close : Allowed → List ℕ → Bool
 is_close allowed target = allowed.close && bytes_eq target (codes "/close")
 
 -- where a message that is framed goes, by its target
-abbrev pub routed : Allowed → List ℕ → List ℕ → List Header → Framing → Verdict
+abbrev pub routed : Allowed → List ℕ → List ℕ → List Header → Framing → HeadVerdict
 routed allowed method target headers framed =
     if is_close allowed target && is_post method then Close
     else (if not (is_close allowed target || bytes_eq target (codes "/v1/traces")) then refused method NotFound
     else (if not (is_post method) then refused method MethodNotAllowed
     else posted allowed method headers framed))
 
-abbrev pub framed_or_bad : Allowed → List ℕ → List ℕ → List Header → Option Framing → Verdict
+abbrev pub framed_or_bad : Allowed → List ℕ → List ℕ → List Header → Option Framing → HeadVerdict
 framed_or_bad allowed method target headers None = refused method BadRequest
 framed_or_bad allowed method target headers (Some framed) = routed allowed method target headers framed
 
 -- the rows of the table that are about the head, in their order; what is allowed is a setting
-abbrev pub verdict_by : Allowed → List ℕ → List ℕ → ℕ → List Header → Verdict
+abbrev pub verdict_by : Allowed → List ℕ → List ℕ → ℕ → List Header → HeadVerdict
 verdict_by allowed method target minor headers =
     if (minor == 1) && (length (values_named (codes "host") headers) == 1)
     then framed_or_bad allowed method target headers (framing headers)
     else refused method BadRequest
 
-abbrev pub verdict : Allowed → RequestHead → Verdict
+abbrev pub verdict : Allowed → RequestHead → HeadVerdict
 verdict allowed h = verdict_by allowed h.method h.target h.minor (map name_and_value h.fields)
 
 -- the whole text is this head
@@ -68,21 +68,21 @@ abbrev pub IsHead : List ℕ → RequestHead → Type 0
 IsHead text h = ReadsRequest text h [] × (length h.fields ≤ FIELD_LIMIT)
 
 -- what the text of a head comes to, where it has no more lines than are allowed
-abbrev pub Judges : Allowed → List ℕ → Verdict → Type 0
+abbrev pub Judges : Allowed → List ℕ → HeadVerdict → Type 0
 Judges allowed text v =
     ((h : RequestHead) × IsHead text h × (v ≡ verdict allowed h))
     ⊎ (((h : RequestHead) → ¬ (IsHead text h)) × (v ≡ Refused BadRequest false))
 
 -- what the text of a head comes to, by what is allowed
-pub record IsVerdict (allowed : Allowed) (text : List ℕ) (v : Verdict) : Type 0 where
+pub record IsVerdict (allowed : Allowed) (text : List ℕ) (v : HeadVerdict) : Type 0 where
   pub many : FIELD_LIMIT < field_lines text → v ≡ Refused HeadTooLarge false
   pub few : field_lines text ≤ FIELD_LIMIT → Judges allowed text v
 
 -- the stream begins with a head that comes to this, and the rest follows it
-abbrev pub HeadBy : Allowed → Cut → List ℕ → Verdict → List ℕ → Type 0
+abbrev pub HeadBy : Allowed → Cut → List ℕ → HeadVerdict → List ℕ → Type 0
 HeadBy allowed (Whole n) stream v rest = IsVerdict allowed (take n stream) v × (rest ≡ drop n stream)
 HeadBy allowed Waits stream v rest = ⊥
 HeadBy allowed TooLong stream v rest = (v ≡ Refused HeadTooLarge false) × (rest ≡ stream)
 
-abbrev pub BeginsWithHead : Allowed → List ℕ → Verdict → List ℕ → Type 0
+abbrev pub BeginsWithHead : Allowed → List ℕ → HeadVerdict → List ℕ → Type 0
 BeginsWithHead allowed stream v rest = HeadBy allowed (cut head_len stream) stream v rest

@@ -7,3 +7,4 @@ pub mod Head
 pub mod Named
 pub mod Spans
 pub mod Body
+pub mod FaultTexts

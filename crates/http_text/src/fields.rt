@@ -17,7 +17,7 @@ use httparse::spans::HeaderSpan;
 
 /// The value of the fields with one name.
 #[derive(Clone, Copy)]
-pub enum Named<'b> {
+pub enum NamedFields<'b> {
     /// No field has the name.
     Absent,
     /// One field has it, with this value.
@@ -34,16 +34,16 @@ pub fn eq_ignore_case(a: &[u8], b: &[u8]) -> bool
 }
 
 /// The value of the fields with this name.
-pub fn find_named<'b>(text: &'b [u8], spans: &[HeaderSpan], name: &[u8]) -> Named<'b>
+pub fn find_named<'b>(text: &'b [u8], spans: &[HeaderSpan], name: &[u8]) -> NamedFields<'b>
     requires { All (IsHeaderWithin (length text.now)) spans.now }
     ensures { Seen result (values_named name.now (map (header_bytes text.now) spans.now)) }
 {
-    let mut found = Named::Absent;
+    let mut found = NamedFields::Absent;
     for span in spans {
         if eq_ignore_case(span.name.of(text), name) {
             found = match found {
-                Named::Absent => Named::One(span.value.of(text)),
-                _ => Named::Many,
+                NamedFields::Absent => NamedFields::One(span.value.of(text)),
+                _ => NamedFields::Many,
             };
         }
     }
@@ -122,7 +122,7 @@ pub fn is_json(text: &[u8], spans: &[HeaderSpan]) -> bool
     ensures { result ≡ is_json (map (header_bytes text.now) spans.now) }
 {
     match find_named(text, spans, b"content-type") {
-        Named::One(value) => eq_ignore_case(media_type(value), b"application/json"),
+        NamedFields::One(value) => eq_ignore_case(media_type(value), b"application/json"),
         _ => false,
     }
 }
@@ -141,16 +141,16 @@ fn is_plain(text: &[u8], spans: &[HeaderSpan]) -> bool
 }
 
 /// The coding of the content that isn't `identity`.
-fn find_coding<'b>(text: &'b [u8], spans: &[HeaderSpan]) -> Named<'b>
+fn find_coding<'b>(text: &'b [u8], spans: &[HeaderSpan]) -> NamedFields<'b>
     requires { All (IsHeaderWithin (length text.now)) spans.now }
     ensures { Seen result (codings (map (header_bytes text.now) spans.now)) }
 {
-    let mut found = Named::Absent;
+    let mut found = NamedFields::Absent;
     for span in spans {
         if is_coding(span.name.of(text), span.value.of(text)) {
             found = match found {
-                Named::Absent => Named::One(span.value.of(text)),
-                _ => Named::Many,
+                NamedFields::Absent => NamedFields::One(span.value.of(text)),
+                _ => NamedFields::Many,
             };
         }
     }
@@ -177,7 +177,7 @@ pub fn is_packed(text: &[u8], spans: &[HeaderSpan]) -> bool
     ensures { result ≡ is_packed (map (header_bytes text.now) spans.now) }
 {
     match find_coding(text, spans) {
-        Named::One(coding) => is_gzip(coding),
+        NamedFields::One(coding) => is_gzip(coding),
         _ => false,
     }
 }
@@ -253,9 +253,9 @@ pub fn framing(text: &[u8], spans: &[HeaderSpan]) -> Option<Framing>
         find_named(text, spans, b"content-length"),
         find_named(text, spans, b"transfer-encoding"),
     ) {
-        (Named::Absent, Named::Absent) => Some(Framing::Length(0)),
-        (Named::One(len), Named::Absent) => body_len(len),
-        (Named::Absent, Named::One(coding)) if eq_ignore_case(coding, b"chunked") => {
+        (NamedFields::Absent, NamedFields::Absent) => Some(Framing::Length(0)),
+        (NamedFields::One(len), NamedFields::Absent) => body_len(len),
+        (NamedFields::Absent, NamedFields::One(coding)) if eq_ignore_case(coding, b"chunked") => {
             Some(Framing::Chunked)
         }
         _ => None,

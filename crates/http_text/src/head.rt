@@ -9,10 +9,10 @@ ghost use Rattle.http_text.specs.Spans.{IsHeadAt};
 
 use crate::allowed::Allowed;
 use crate::fields::{
-    Named, expects_continue, find_named, framing, is_json, is_packed, is_taken, says_close,
+    NamedFields, expects_continue, find_named, framing, is_json, is_packed, is_taken, says_close,
 };
 use crate::lines::blank_len;
-use crate::request::{BODY_LIMIT, FIELD_LIMIT, Framing, Post, Refusal, Verdict};
+use crate::request::{BODY_LIMIT, FIELD_LIMIT, Framing, HeadVerdict, Post, RequestRefusal};
 use httparse::Status;
 use httparse::spans::{EMPTY_HEADER_SPAN, HeaderSpan, RequestSpans, parse_request};
 
@@ -41,12 +41,12 @@ fn field_lines(text: &[u8]) -> usize
 }
 
 /// What the text of a head comes to, by what is allowed.
-pub fn judge(text: &[u8], allowed: Allowed) -> Verdict
+pub fn judge(text: &[u8], allowed: Allowed) -> HeadVerdict
     ensures { IsVerdict allowed text.now result }
 {
     if field_lines(text) > FIELD_LIMIT {
-        return Verdict::Refused {
-            refusal: Refusal::HeadTooLarge,
+        return HeadVerdict::Refused {
+            refusal: RequestRefusal::HeadTooLarge,
             is_head: false,
         };
     }
@@ -63,18 +63,18 @@ pub fn judge(text: &[u8], allowed: Allowed) -> Verdict
                 fields,
             )
         }
-        None => Verdict::Refused {
-            refusal: Refusal::BadRequest,
+        None => HeadVerdict::Refused {
+            refusal: RequestRefusal::BadRequest,
             is_head: false,
         },
     }
 }
 
 /// A refusal.
-fn refused(method: &[u8], refusal: Refusal) -> Verdict
+fn refused(method: &[u8], refusal: RequestRefusal) -> HeadVerdict
     ensures { result ≡ refused method.now refusal }
 {
-    Verdict::Refused {
+    HeadVerdict::Refused {
         refusal,
         is_head: method == b"HEAD".as_slice(),
     }
@@ -88,15 +88,15 @@ fn verdict_by(
     minor: u8,
     text: &[u8],
     headers: &[HeaderSpan],
-) -> Verdict
+) -> HeadVerdict
     requires { All (IsHeaderWithin (length text.now)) headers.now }
     ensures { result ≡ verdict_by allowed method.now target.now minor (map (header_bytes text.now) headers.now) }
 {
-    if minor != 1 || !matches!(find_named(text, headers, b"host"), Named::One(_)) {
-        return refused(method, Refusal::BadRequest);
+    if minor != 1 || !matches!(find_named(text, headers, b"host"), NamedFields::One(_)) {
+        return refused(method, RequestRefusal::BadRequest);
     }
     match framing(text, headers) {
-        None => refused(method, Refusal::BadRequest),
+        None => refused(method, RequestRefusal::BadRequest),
         Some(framed) => routed(allowed, method, target, text, headers, framed),
     }
 }
@@ -109,20 +109,20 @@ fn routed(
     text: &[u8],
     headers: &[HeaderSpan],
     framed: Framing,
-) -> Verdict
+) -> HeadVerdict
     requires { All (IsHeaderWithin (length text.now)) headers.now }
     ensures { result ≡ routed allowed method.now target.now (map (header_bytes text.now) headers.now) framed }
 {
     let is_post = method == b"POST".as_slice();
     let is_close = allowed.close && target == b"/close".as_slice();
     if is_close && is_post {
-        return Verdict::Close;
+        return HeadVerdict::Close;
     }
     if !(is_close || target == b"/v1/traces".as_slice()) {
-        return refused(method, Refusal::NotFound);
+        return refused(method, RequestRefusal::NotFound);
     }
     if !is_post {
-        return refused(method, Refusal::MethodNotAllowed);
+        return refused(method, RequestRefusal::MethodNotAllowed);
     }
     posted(allowed, method, text, headers, framed)
 }
@@ -134,17 +134,17 @@ fn posted(
     text: &[u8],
     headers: &[HeaderSpan],
     framed: Framing,
-) -> Verdict
+) -> HeadVerdict
     requires { All (IsHeaderWithin (length text.now)) headers.now }
     ensures { result ≡ posted allowed method.now (map (header_bytes text.now) headers.now) framed }
 {
     if !(is_json(text, headers) && is_taken(allowed, text, headers)) {
-        return refused(method, Refusal::UnsupportedMediaType);
+        return refused(method, RequestRefusal::UnsupportedMediaType);
     }
     if matches!(framed, Framing::Length(len) if len > BODY_LIMIT) {
-        return refused(method, Refusal::BodyTooLarge);
+        return refused(method, RequestRefusal::BodyTooLarge);
     }
-    Verdict::Post(Post {
+    HeadVerdict::Post(Post {
         framing: framed,
         expects_continue: expects_continue(text, headers),
         is_packed: is_packed(text, headers),

@@ -16,5 +16,5 @@ pub use allowed::Allowed;
 pub use body::{is_trailer, read_size};
 pub use head::{judge, read_head};
 pub use lines::PART_LIMIT;
-pub use request::{BODY_LIMIT, FIELD_LIMIT, Framing, Post, Refusal, Verdict};
-pub use search::{Cutting, Place, Search, cut_on};
+pub use request::{BODY_LIMIT, FIELD_LIMIT, Framing, HeadVerdict, Post, RequestRefusal};
+pub use search::{Cutting, PartSearch, SearchPlace, cut_on};

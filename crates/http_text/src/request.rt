@@ -1,4 +1,6 @@
 //! What the head of a request asks for (RFC 9112, sections 2 to 7).
+use std::error::Error;
+use std::fmt;
 
 /// A body may have so many bytes.
 pub const BODY_LIMIT: usize = 4_194_304;
@@ -7,8 +9,8 @@ pub const BODY_LIMIT: usize = 4_194_304;
 pub const FIELD_LIMIT: usize = 64;
 
 /// Why a request is refused. Each refusal closes the connection.
-#[derive(Clone, Copy, PartialEq, Eq)]
-pub enum Refusal {
+#[derive(Clone, Copy, Debug, PartialEq, Eq)]
+pub enum RequestRefusal {
     /// 431: no end of the head within its limit, or too many fields.
     HeadTooLarge,
     /// 400: no head of HTTP/1.1, not one `Host`, or no one way to frame the body.
@@ -24,6 +26,29 @@ pub enum Refusal {
     /// 400: a body that says to be gzip, and isn't (RFC 1952).
     NotGzip,
 }
+
+impl fmt::Display for RequestRefusal {
+    ghost use Rattle.std.specs.Prelude.{Some};
+    ghost use Rattle.http_text.specs.FaultTexts.{fault_text};
+
+    ghost output = { λ fault. Some (fault_text fault) };
+
+    fn fmt<W: fmt::Write>(&self, f: &mut fmt::Formatter<W>) -> fmt::Result {
+        match self {
+            RequestRefusal::HeadTooLarge => f.write_str("the head is too large"),
+            RequestRefusal::BadRequest => f.write_str("the head is no request of HTTP/1.1"),
+            RequestRefusal::NotFound => f.write_str("the target is unknown"),
+            RequestRefusal::MethodNotAllowed => f.write_str("the method is not POST"),
+            RequestRefusal::UnsupportedMediaType => f.write_str(
+                "the content is no JSON, or has a coding that is not taken",
+            ),
+            RequestRefusal::BodyTooLarge => f.write_str("the body is too large"),
+            RequestRefusal::NotGzip => f.write_str("the body is no gzip stream"),
+        }
+    }
+}
+
+impl Error for RequestRefusal {}
 
 /// How long the body is.
 #[derive(Clone, Copy, PartialEq, Eq)]
@@ -49,9 +74,12 @@ pub struct Post {
 
 /// What the head of a request comes to.
 #[derive(Clone, Copy, PartialEq, Eq)]
-pub enum Verdict {
+pub enum HeadVerdict {
     /// It is refused. `is_head`: the answer to `HEAD` has no body.
-    Refused { refusal: Refusal, is_head: bool },
+    Refused {
+        refusal: RequestRefusal,
+        is_head: bool,
+    },
     /// `POST /close`.
     Close,
     /// A body that is to be read.

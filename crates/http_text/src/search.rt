@@ -7,7 +7,7 @@ use crate::lines::{PART_LIMIT, front};
 
 /// Where a search stands among the lines of a part.
 #[derive(Clone, Copy, PartialEq, Eq)]
-pub enum Place {
+pub enum SearchPlace {
     /// Among the empty lines in front of a head.
     Blank,
     /// At the start of a line.
@@ -20,20 +20,20 @@ pub enum Place {
 
 /// A search that has looked at so many bytes.
 #[derive(Clone, Copy, PartialEq, Eq)]
-pub struct Search {
+pub struct PartSearch {
     /// How many bytes it has looked at.
     pub at: usize,
     /// Where these leave it.
-    pub place: Place,
+    pub place: SearchPlace,
 }
 
 /// What the next byte, or the next two, say.
 #[derive(Clone, Copy, PartialEq, Eq)]
-pub enum Step {
+pub enum SearchStep {
     /// The part ends behind so many bytes.
     Found(usize),
     /// The search goes on behind so many bytes.
-    On(usize, Place),
+    On(usize, SearchPlace),
     /// More bytes are wanted.
     Pause,
 }
@@ -44,7 +44,7 @@ pub enum Ending {
     /// The part has so many bytes.
     At(usize),
     /// Its end hasn't come.
-    Open(Search),
+    Open(PartSearch),
 }
 
 /// What stands at the front of a stream, by a search that is under way.
@@ -53,73 +53,73 @@ pub enum Cutting {
     /// A part of so many bytes.
     Whole(usize),
     /// Less than a part; the search goes on when more bytes have come.
-    Waits(Search),
+    Waits(PartSearch),
     /// No end of a part within [`PART_LIMIT`] bytes.
     TooLong,
 }
 
 /// A step among the empty lines in front of a head.
-fn step_blank(rest: &[u8]) -> Step
+fn step_blank(rest: &[u8]) -> SearchStep
     ensures { result ≡ step_blank rest.now }
 {
     match rest {
-        [] | [b'\r'] => Step::Pause,
-        [b'\n', ..] => Step::On(1, Place::Blank),
-        [b'\r', b'\n', ..] => Step::On(2, Place::Blank),
-        [b'\r', _, ..] => Step::On(2, Place::Middle),
-        _ => Step::On(1, Place::Middle),
+        [] | [b'\r'] => SearchStep::Pause,
+        [b'\n', ..] => SearchStep::On(1, SearchPlace::Blank),
+        [b'\r', b'\n', ..] => SearchStep::On(2, SearchPlace::Blank),
+        [b'\r', _, ..] => SearchStep::On(2, SearchPlace::Middle),
+        _ => SearchStep::On(1, SearchPlace::Middle),
     }
 }
 
 /// A step at the start of a line.
-fn step_start(rest: &[u8]) -> Step
+fn step_start(rest: &[u8]) -> SearchStep
     ensures { result ≡ step_start rest.now }
 {
     match rest {
-        [] | [b'\r'] => Step::Pause,
-        [b'\n', ..] => Step::Found(1),
-        [b'\r', b'\n', ..] => Step::Found(2),
-        [b'\r', _, ..] => Step::On(2, Place::Middle),
-        _ => Step::On(1, Place::Middle),
+        [] | [b'\r'] => SearchStep::Pause,
+        [b'\n', ..] => SearchStep::Found(1),
+        [b'\r', b'\n', ..] => SearchStep::Found(2),
+        [b'\r', _, ..] => SearchStep::On(2, SearchPlace::Middle),
+        _ => SearchStep::On(1, SearchPlace::Middle),
     }
 }
 
 /// A step within a line.
-fn step_middle(rest: &[u8]) -> Step
+fn step_middle(rest: &[u8]) -> SearchStep
     ensures { result ≡ step_middle rest.now }
 {
     match rest {
-        [] => Step::Pause,
-        [b'\n', ..] => Step::On(1, Place::Start),
-        _ => Step::On(1, Place::Middle),
+        [] => SearchStep::Pause,
+        [b'\n', ..] => SearchStep::On(1, SearchPlace::Start),
+        _ => SearchStep::On(1, SearchPlace::Middle),
     }
 }
 
 /// A step within a chunk line.
-fn step_line(rest: &[u8]) -> Step
+fn step_line(rest: &[u8]) -> SearchStep
     ensures { result ≡ step_line rest.now }
 {
     match rest {
-        [] => Step::Pause,
-        [b'\n', ..] => Step::Found(1),
-        _ => Step::On(1, Place::Line),
+        [] => SearchStep::Pause,
+        [b'\n', ..] => SearchStep::Found(1),
+        _ => SearchStep::On(1, SearchPlace::Line),
     }
 }
 
 /// What the bytes say that come next.
-fn next_step(place: Place, rest: &[u8]) -> Step
+fn next_step(place: SearchPlace, rest: &[u8]) -> SearchStep
     ensures { result ≡ step place rest.now }
 {
     match place {
-        Place::Blank => step_blank(rest),
-        Place::Start => step_start(rest),
-        Place::Middle => step_middle(rest),
-        Place::Line => step_line(rest),
+        SearchPlace::Blank => step_blank(rest),
+        SearchPlace::Start => step_start(rest),
+        SearchPlace::Middle => step_middle(rest),
+        SearchPlace::Line => step_line(rest),
     }
 }
 
 /// Goes on with a search.
-fn find(bytes: &[u8], search: Search) -> Ending
+fn find(bytes: &[u8], search: PartSearch) -> Ending
     requires { search.at ≤ length bytes.now }
     ensures ends { (len_of : List ℕ → Option ℕ) → Searched len_of search bytes.now → IsEnding len_of bytes.now result }
     ensures inside { IsEndingInside bytes.now result }
@@ -128,19 +128,19 @@ fn find(bytes: &[u8], search: Search) -> Ending
     let mut place = search.place;
     'steps: loop {
         match next_step(place, &bytes[at..]) {
-            Step::Found(n) => return Ending::At(at + n),
-            Step::On(n, next) => {
+            SearchStep::Found(n) => return Ending::At(at + n),
+            SearchStep::On(n, next) => {
                 at += n;
                 place = next;
             }
-            Step::Pause => return Ending::Open(Search { at, place }),
+            SearchStep::Pause => return Ending::Open(PartSearch { at, place }),
         }
     }
 }
 
 /// Goes on with a search for the part at the front of a stream, which has to end within [`PART_LIMIT`] bytes. It looks
 /// only at what the search hasn't looked at.
-pub fn cut_on(stream: &[u8], search: Search) -> Cutting
+pub fn cut_on(stream: &[u8], search: PartSearch) -> Cutting
     requires { IsInside search stream.now }
     ensures cuts { Cuts search stream.now result }
     ensures inside { IsCutInside stream.now result }

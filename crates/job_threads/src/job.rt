@@ -33,7 +33,7 @@ pub enum Ended<J, X> {
 
 /// What a thread gives back: the start word that it saw, and what became of its job.
 #[derive(Drop)]
-pub struct Done<'s, J, X> {
+pub struct ThreadResult<'s, J, X> {
     pub word: OnceToken<'s, bool>,
     pub ended: Ended<J, X>,
 }
@@ -41,12 +41,12 @@ pub struct Done<'s, J, X> {
 /// What a thread promises that is started with this job: it saw this start word. Where that said yes the job has
 /// worked, and where it said no the job comes back.
 #[derive(Drop)]
-pub struct Works<'s, J> {
+pub struct ThreadPromise<'s, J> {
     pub word: &'s OnceLock<bool>,
     pub job: Snapshot<J>,
 }
 
-impl<'s, J: Job> Promise<Done<'s, J, J::Left>> for Works<'s, J> {
+impl<'s, J: Job> Promise<ThreadResult<'s, J, J::Left>> for ThreadPromise<'s, J> {
     ghost use Rattle.std.specs.Prelude.{◌≡◌};
     ghost use Rattle.job_threads.specs.Jobs.{EndsBy};
 

@@ -2,7 +2,7 @@
 ghost use Rattle.std.specs.Prelude.{◌≡◌, ◌+◌, ◌++◌, ◌≤◌, All, true, false, map, reverse, [], vec_len, vec_capacity};
 ghost use Rattle.job_threads.specs.Jobs.{HaveDone};
 
-use crate::job::{Done, Ended, Job};
+use crate::job::{Ended, Job, ThreadResult};
 use crate::starting::{Begun, Handle};
 use std::sync::OnceToken;
 use std::thread::Threads;
@@ -16,7 +16,7 @@ pub fn join<'s, J: Job + Drop, R: Threads>(
     requires { (token.now.value ≡ true) × (handle.promise.word.now.id ≡ token.now.of) }
     ensures { J.did handle.entry.promise.job.value result }
 {
-    let Done { word, ended } = handle.join(rt);
+    let ThreadResult { word, ended } = handle.join(rt);
     token.agrees(&word);
     match ended {
         Ended::Left(left) => left,
@@ -53,7 +53,7 @@ pub fn take_back<'s, J: Job + Drop, R: Threads>(
     requires { (token.now.value ≡ false) × (handle.promise.word.now.id ≡ token.now.of) }
     ensures { result ≡ handle.entry.promise.job.value }
 {
-    let Done { word, ended } = handle.join(rt);
+    let ThreadResult { word, ended } = handle.join(rt);
     token.agrees(&word);
     match ended {
         Ended::Back(job) => job,

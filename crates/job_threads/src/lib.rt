@@ -19,7 +19,7 @@ mod starting;
 mod team;
 mod word;
 
-pub use job::{Done, Ended, Job, Works};
+pub use job::{Ended, Job, ThreadPromise, ThreadResult};
 pub use joining::{join, join_all, take_all_back, take_back};
 pub use starting::{Begun, Handle, Started, start, start_all};
 pub use team::{Team, run_team};

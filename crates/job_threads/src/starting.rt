@@ -2,7 +2,7 @@
 ghost use Rattle.std.specs.Prelude.{◌≡◌, ◌+◌, ◌++◌, ◌≤◌, vec_capacity, [], ◌∷◌, All, true, false, IfOk, OnOk, IfErr, IfSome, vec_len, map, reverse};
 ghost use Rattle.job_threads.specs.Jobs.{EndsBy};
 
-use crate::job::{Done, Ended, Job, Works};
+use crate::job::{Ended, Job, ThreadPromise, ThreadResult};
 use crate::word::{await_word, say_no};
 use std::alloc::Global;
 use std::snapshot::Snapshot;
@@ -10,7 +10,10 @@ use std::sync::{OnceLock, OnceToken, Wait};
 use std::thread::{PromisedHandle, Scope, Threads};
 
 /// A thread that was started.
-pub type Handle<'s, J> = PromisedHandle<Done<'s, J, <J as Job>::Left>, Works<'s, J>>;
+pub type Handle<'s, J> = PromisedHandle<
+    ThreadResult<'s, J, <J as Job>::Left>,
+    ThreadPromise<'s, J>,
+>;
 
 /// Jobs: those for which no thread was started, and the threads of the others, the last job's first.
 #[derive(Drop)]
@@ -27,7 +30,7 @@ fn thread<'s, J: Job + Drop, R: Wait>(
     rt: &R,
     word: &'s OnceLock<bool>,
     job: J,
-) -> Done<'s, J, J::Left>
+) -> ThreadResult<'s, J, J::Left>
     requires { J.ready job }
     ensures { (result.word.of ≡ word.now.id) × EndsBy J.did job result.word.value result.ended }
 {
@@ -37,7 +40,7 @@ fn thread<'s, J: Job + Drop, R: Wait>(
     } else {
         Ended::Back(job)
     };
-    Done { word: token, ended }
+    ThreadResult { word: token, ended }
 }
 
 /// Starts a thread for a job. Where no thread can be made the word says no, and the job comes back.
@@ -54,13 +57,13 @@ where
     ensures back { IfErr result (λ back. back.0 ≡ job) }
     ensures said { IfErr result (λ back. (back.1.of ≡ word.now.id) × (back.1.value ≡ false)) }
 {
-    let promise = Works {
+    let promise = ThreadPromise {
         word,
         job: Snapshot::of(&job),
     };
     let spawned = scope.spawn_with(
         promise,
-        move || -> Done<'_, J, J::Left>
+        move || -> ThreadResult<'_, J, J::Left>
             requires { J.ready job }
             ensures { (result.word.of ≡ word.entry.now.id) × EndsBy J.did job result.word.value result.ended }
         { thread(rt, word, job) },
@@ -70,7 +73,7 @@ where
         Err(refused) => {
             let token = say_no(rt, word);
             let told = refused.value;
-            let Done { word: seen, ended } = told();
+            let ThreadResult { word: seen, ended } = told();
             token.agrees(&seen);
             match ended {
                 Ended::Back(job) => Err((job, token)),

@@ -21,7 +21,7 @@ pub struct Team<J, K, L> {
 
 /// Room for what the jobs of a team leave.
 #[derive(Drop)]
-struct Rooms<A, B> {
+struct TeamRooms<A, B> {
     first: Vec<A>,
     third: Vec<B>,
 }
@@ -93,11 +93,11 @@ fn rooms_for<A: Drop, B: Drop>(
     alloc: Global,
     first: usize,
     third: usize,
-) -> Result<Rooms<A, B>, AllocError>
+) -> Result<TeamRooms<A, B>, AllocError>
     ensures first { IfOk result (λ rooms. (rooms.first.items ≡ []) × (first ≤ vec_capacity rooms.first)) }
     ensures third { IfOk result (λ rooms. (rooms.third.items ≡ []) × (third ≤ vec_capacity rooms.third)) }
 {
-    Ok(Rooms {
+    Ok(TeamRooms {
         first: Vec::with_capacity(alloc, first)?,
         third: Vec::with_capacity(alloc, third)?,
     })
@@ -129,7 +129,7 @@ fn work_and_join<'s, J: Job + Drop, K: Job + Drop, L: Job + Drop, M: Job, R: Thr
     rt: &R,
     token: &OnceToken<'s, bool>,
     handles: Handles<'s, J, K, L>,
-    rooms: Rooms<J::Left, L::Left>,
+    rooms: TeamRooms<J::Left, L::Left>,
     main: M,
 ) -> (Team<J::Left, K::Left, L::Left>, M::Left)
     requires yes { token.now.value ≡ true }

@@ -1,5 +1,5 @@
--- One more decision's answers in a journal's newest entry: what was known of the journal stays, and that decision is given by them.
--- Serves the clause `decides` of `Shard::decide`.
+-- One more decision's answers in a journal's newest entry: what was known of the journal stays, and that decision is
+-- given by them. Serves the clause `decides` of `Shard::decide`.
 use Rattle.std.proofs.Common.{◌≡◌, ℕ, zero, suc, Bool, true, false, not, ◌&&◌, cond, List, [], ◌∷◌, ◌++◌, take, drop, Option, Some, None, refl, sym, ap, ◌∙◌}
 use Rattle.std.proofs.lemmas.Bool.{and_parts}
 use Rattle.journal_theory.specs.Journal.{Entry, Settings, Journal, Opening, Decision, Notes, notes, notes_dealt, due_at, due_now, have_ended, has_ended, policies_for, decision, decisions_in_turn, decisions_now, after_item, after_span, after_decisions, undecided, oversized, spans_since, answered, are_each_answered, IsAnswered, IsAnsweredUpTo}

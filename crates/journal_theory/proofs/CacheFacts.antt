@@ -1,5 +1,5 @@
--- What is known of what the caches hold: at first, after decisions, and after an item that touches nothing or one trace.
--- For `keeps_standing` and `found_as_held` of `laws`.
+-- What is known of what the caches hold: at first, after decisions, and after an item that touches nothing or one
+-- trace. For `keeps_standing` and `found_as_held` of `laws`.
 use Rattle.std.proofs.Common.{◌≡◌, ℕ, zero, suc, ◌<◌, Bool, true, false, cond, ◌||◌, ◌==◌, List, [], ◌∷◌, ◌++◌, take, reverse, find, Option, Some, None, option_map, refl, ap, sym, ◌∙◌, arith, ne_eqb, eq-eqb}
 use Rattle.std.specs.List.{list_any}
 use Rattle.std.proofs.lemmas.Bool.{or_parts}
@@ -106,14 +106,14 @@ nothing_held : (n : ℕ) (t : TraceId) → is_held t (take n []) ≡ false
 nothing_held zero t = refl
 nothing_held (suc n) t = refl
 
-nothing_buffered : (limit : Option ℕ) → last_of limit [] ≡ []
+nothing_buffered : (num_traces : Option ℕ) → last_of num_traces [] ≡ []
 nothing_buffered None = refl
 nothing_buffered (Some zero) = refl
 nothing_buffered (Some (suc n)) = refl
 
 pub remembering_none : (s : Settings) → Remembering s no_notes 0
 remembering_none s = record {
-  apart = rw (nothing_buffered s.limit) tt;
+  apart = rw (nothing_buffered s.num_traces) tt;
   touched = tt;
   held = λ v t e. clash (sym e ∙ nothing_held (cache_size s v) t);
   last = λ v t o. absurd (cc (o.latest));
@@ -224,7 +224,7 @@ module _ (s : Settings) (noted : Notes) (n : ℕ) (J : Journal) (sound : Sound s
 pub behind_buffer : (s : Settings) (noted : Notes) (J : Journal) → Sound s J noted → (t : TraceId) (o : Opening) → latest_episode noted t ≡ Some o → find (λ (p : Opening). same_trace p.trace t) (in_buffer s noted) ≡ None → is_in_buffer s noted o.at ≡ false
 behind_buffer s noted J sound t o l e =
     let own = λ (p : Opening). same_trace p.trace t in
-    let front = buffer_front s.limit noted.openings in
+    let front = buffer_front s.num_traces noted.openings in
     let rest : find own front.0 ≡ Some o = sym (ap (find own) front.1 ∙ find_past own (in_buffer s noted) front.0 (not_found own (in_buffer s noted) e)) ∙ l in
     let k = found own front.0 o rest in
     any_none (λ (p : Opening). p.at == o.at) (in_buffer s noted)

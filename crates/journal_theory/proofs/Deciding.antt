@@ -35,15 +35,15 @@ map-same : (f g : Opening → Episode) (os : List Opening) → Each (λ o. f o �
 map-same f g [] a = refl
 map-same f g (o ∷ os) a = rw (a.0) (ap (λ (es : List Episode). g o ∷ es) (map-same f g os a.1))
 
-module _ (s : Settings) (room : HasRoom s.limit) where
+module _ (s : Settings) (room : HasRoom s.num_traces) where
   abbrev test : Journal → Notes → Opening → Bool
   test past noted o = open_due s room past noted o
 
   settle-map : (past : Journal) (m noted : Notes) (d : Decision) (os : List Opening) → m.decisions ≡ d ∷ noted.decisions → Apart OtherPlace os → find (test past noted) os ≡ Some d.opening →
-      set_first (is_due_by (have_ended past s.senders) (mark past) s.wait s.root_wait) (settled d.verdict) (map (episode s past noted) os) ≡ map (episode s past m) os
+      set_first (is_due_by (have_ended past s.senders) (mark past) s.decision_wait s.root_wait) (settled d.verdict) (map (episode s past noted) os) ≡ map (episode s past m) os
   settle-map past m noted d [] e a f = cc
-  settle-map past m noted d (o ∷ os) e a f = ap (λ b. cond b (settled d.verdict (episode s past noted o) ∷ map (episode s past noted) os) (episode s past noted o ∷ set_first (is_due_by (have_ended past s.senders) (mark past) s.wait s.root_wait) (settled d.verdict) (map (episode s past noted) os))) (episode-due s room past noted (have_ended past s.senders) (mark past) o) ∙ (elim (test past noted o) as (λ b. cond b (Some o) (find (test past noted) os) ≡ Some d.opening →
-      cond b (settled d.verdict (episode s past noted o) ∷ map (episode s past noted) os) (episode s past noted o ∷ set_first (is_due_by (have_ended past s.senders) (mark past) s.wait s.root_wait) (settled d.verdict) (map (episode s past noted) os)) ≡ episode s past m o ∷ map (episode s past m) os) [
+  settle-map past m noted d (o ∷ os) e a f = ap (λ b. cond b (settled d.verdict (episode s past noted o) ∷ map (episode s past noted) os) (episode s past noted o ∷ set_first (is_due_by (have_ended past s.senders) (mark past) s.decision_wait s.root_wait) (settled d.verdict) (map (episode s past noted) os))) (episode-due s room past noted (have_ended past s.senders) (mark past) o) ∙ (elim (test past noted o) as (λ b. cond b (Some o) (find (test past noted) os) ≡ Some d.opening →
+      cond b (settled d.verdict (episode s past noted o) ∷ map (episode s past noted) os) (episode s past noted o ∷ set_first (is_due_by (have_ended past s.senders) (mark past) s.decision_wait s.root_wait) (settled d.verdict) (map (episode s past noted) os)) ≡ episode s past m o ∷ map (episode s past m) os) [
         | true ↦ λ f.
             let same : o ≡ d.opening = cc in
             let at : (d.opening.at == o.at) ≡ true = ap (λ (p : Opening). p.at == o.at) (sym same) ∙ eqb-same o.at in
@@ -75,7 +75,7 @@ module _ (s : Settings) (room : HasRoom s.limit) where
   deciding st v = record st { episodes = set_first (DueIn s room st) (settled v) st.episodes }
 
   pub decides-step : (x : Entry) (before : Journal) (k : ℕ) (st : Standing) (e : Episode) → let past : Journal = x ∷ before in
-      0 < s.wait → have_ended before s.senders ≡ false → st ≡ standing s past k → IsAnsweredUpTo s past k → find (DueIn s room st) st.episodes ≡ Some e →
+      0 < s.decision_wait → have_ended before s.senders ≡ false → st ≡ standing s past k → IsAnsweredUpTo s past k → find (DueIn s room st) st.episodes ≡ Some e →
       (o : Opening) × (later : List Opening) × (drop k (due_now s past) ≡ o ∷ later) × (spans_since past o ≡ e.spans)
       × ((answers : List Bool) → standing s (answered past answers) (k + 1) ≡ deciding st (verdict_given (policies_for s e.spans) answers e.spans))
   decides-step x before k st e w h eq given f =
@@ -87,9 +87,9 @@ module _ (s : Settings) (room : HasRoom s.limit) where
       let R = front s room m in
       let now = standing s past k in
       let IsFound = λ (t : Standing). find (DueIn s room t) t.episodes ≡ Some e in
-      let f1 : find (is_due_by (list_all (λ b. b) (ends past s.senders)) (mark past) s.wait s.root_wait) (map (episode s past n) R) ≡ Some e = subst IsFound eq f in
-      let IsFoundBy = λ (b : Bool). find (is_due_by b (mark past) s.wait s.root_wait) (map (episode s past n) R) ≡ Some e in
-      let f2 : find (is_due_by (have_ended past s.senders) (mark past) s.wait s.root_wait) (map (episode s past n) R) ≡ Some e = subst IsFoundBy (all_ended s room past s.senders) f1 in
+      let f1 : find (is_due_by (list_all (λ b. b) (ends past s.senders)) (mark past) s.decision_wait s.root_wait) (map (episode s past n) R) ≡ Some e = subst IsFound eq f in
+      let IsFoundBy = λ (b : Bool). find (is_due_by b (mark past) s.decision_wait s.root_wait) (map (episode s past n) R) ≡ Some e in
+      let f2 : find (is_due_by (have_ended past s.senders) (mark past) s.decision_wait s.root_wait) (map (episode s past n) R) ≡ Some e = subst IsFoundBy (all_ended s room past s.senders) f1 in
       let o = opening_of (episode s past n) (find (test past n) R) e (sym (find-episodes s room past n (have_ended past s.senders) (mark past) R) ∙ f2) in
       let p = o.0 in
       let rest = filter-from_find (test past n) R p o.1 in
@@ -111,9 +111,9 @@ module _ (s : Settings) (room : HasRoom s.limit) where
             let moved = settle-map past after n d R one_more places o.1 in
             let H = λ (es : List Episode). (let t : Standing = record { episodes = es; sampled = cache s n Sampled; non_sampled = cache s n NotSampled; clock = clock past; mark = mark past; ends = ends past s.senders } in t) in
             let into : deciding st v ≡ deciding now v = ap (λ (t : Standing). deciding t v) eq in
-            let by_ends : deciding now v ≡ H (set_first (is_due_by (have_ended past s.senders) (mark past) s.wait s.root_wait) (settled v) (map (episode s past n) R))
-            = ap (λ b. H (set_first (is_due_by b (mark past) s.wait s.root_wait) (settled v) (map (episode s past n) R))) (all_ended s room past s.senders) in
-            let by_verdict = ap (λ (y : Verdict). H (set_first (is_due_by (have_ended past s.senders) (mark past) s.wait s.root_wait) (settled y) (map (episode s past n) R))) (sym judgement) in
+            let by_ends : deciding now v ≡ H (set_first (is_due_by (have_ended past s.senders) (mark past) s.decision_wait s.root_wait) (settled v) (map (episode s past n) R))
+            = ap (λ b. H (set_first (is_due_by b (mark past) s.decision_wait s.root_wait) (settled v) (map (episode s past n) R))) (all_ended s room past s.senders) in
+            let by_verdict = ap (λ (y : Verdict). H (set_first (is_due_by (have_ended past s.senders) (mark past) s.decision_wait s.root_wait) (settled y) (map (episode s past n) R))) (sym judgement) in
             ap (standing s (answered past answers)) (take-one k) ∙ standing-answered s x before k answers p rest.0 left given ∙ sym (into ∙ by_ends ∙ by_verdict ∙ ap H moved),
       )
 
@@ -123,13 +123,13 @@ first_set : (p : Episode → Bool) (v : Verdict) (es : List Episode) → set_fir
 first_set p v [] = refl
 first_set p v (e ∷ es) = ap (λ (r : List Episode). cond (p e) (settled v e ∷ es) (e ∷ r)) (first_set p v es)
 
-none_found : (s : Settings) (k : ℕ) (e : Episode) (limit : Option ℕ) → find (is_due_held s.wait s.root_wait (standing s [] k)) (map (episode s [] (notes_dealt s [] k)) (reverse (last_of limit []))) ≡ Some e → ⊥
+none_found : (s : Settings) (k : ℕ) (e : Episode) (num_traces : Option ℕ) → find (is_due_held s.decision_wait s.root_wait (standing s [] k)) (map (episode s [] (notes_dealt s [] k)) (reverse (last_of num_traces []))) ≡ Some e → ⊥
 none_found s k e None f = cc f
 none_found s k e (Some zero) f = cc f
 none_found s k e (Some (suc n)) f = cc f
 
-some_next : (s : Settings) → HasRoom s.limit → 0 < s.wait → (past : Journal) (k : ℕ) → StoppedInTime s past → IsAnsweredUpTo s past k → (e : Episode) → find (is_due_held s.wait s.root_wait (standing s past k)) (standing s past k).episodes ≡ Some e → DecidesNext s past k (Some e)
-some_next s room w [] k h g e f = absurd (none_found s k e s.limit f)
+some_next : (s : Settings) → HasRoom s.num_traces → 0 < s.decision_wait → (past : Journal) (k : ℕ) → StoppedInTime s past → IsAnsweredUpTo s past k → (e : Episode) → find (is_due_held s.decision_wait s.root_wait (standing s past k)) (standing s past k).episodes ≡ Some e → DecidesNext s past k (Some e)
+some_next s room w [] k h g e f = absurd (none_found s k e s.num_traces f)
 some_next s room w (x ∷ before) k h g e f =
     let st = standing s (x ∷ before) k in
     let step = decides-step s room x before k st e w h refl g f in (
@@ -139,12 +139,12 @@ some_next s room w (x ∷ before) k h g e f =
       step.3,
       λ answers.
           let v = verdict_given (policies_for s e.spans) answers e.spans in
-          step.4 answers ∙ ap (λ (es : List Episode). record st { episodes = es }) (first_set (is_due_held s.wait s.root_wait st) v st.episodes),
+          step.4 answers ∙ ap (λ (es : List Episode). record st { episodes = es }) (first_set (is_due_held s.decision_wait s.root_wait st) v st.episodes),
     )
 
-next : (s : Settings) → HasRoom s.limit → 0 < s.wait → (past : Journal) (k : ℕ) → StoppedInTime s past → IsAnsweredUpTo s past k → (r : Option Episode) → find (is_due_held s.wait s.root_wait (standing s past k)) (standing s past k).episodes ≡ r → DecidesNext s past k r
+next : (s : Settings) → HasRoom s.num_traces → 0 < s.decision_wait → (past : Journal) (k : ℕ) → StoppedInTime s past → IsAnsweredUpTo s past k → (r : Option Episode) → find (is_due_held s.decision_wait s.root_wait (standing s past k)) (standing s past k).episodes ≡ r → DecidesNext s past k r
 next s room w past k h g None f = nothing_left s room past k (standing s past k) w h refl g f
 next s room w past k h g (Some e) f = some_next s room w past k h g e f
 
 pub decides_standing : DecidesStanding
-decides_standing s past dealt room w h g = next s room w past dealt h g (find (is_due_held s.wait s.root_wait (standing s past dealt)) (standing s past dealt).episodes) refl
+decides_standing s past dealt room w h g = next s room w past dealt h g (find (is_due_held s.decision_wait s.root_wait (standing s past dealt)) (standing s past dealt).episodes) refl

@@ -45,20 +45,20 @@ not-leb m n h = grind (arith, nat_tests)
 abbrev pub OtherPlace : Opening → Opening → Type 0
 OtherPlace o p = ((o.at == p.at) ≡ false) × ((p.at == o.at) ≡ false)
 
-module _ (s : Settings) (room : HasRoom s.limit) where
+module _ (s : Settings) (room : HasRoom s.num_traces) where
   -- the openings of the buffer, in order
   abbrev pub front : Notes → List Opening
   front noted = reverse (in_buffer s noted)
 
   pub front-places : (J : Journal) (noted : Notes) → Sound s J noted → Apart OtherPlace (front noted)
   front-places J noted h =
-      let f = buffer_front s.limit noted.openings in
+      let f = buffer_front s.num_traces noted.openings in
       Pairs-weaker (λ x y. IsOlder y x) OtherPlace (front noted) (λ x y l. (eqb-below x.at y.at l, eqb-above x.at y.at l))
       (Pairs-reverse IsOlder (in_buffer s noted) (Pairs-left IsOlder (in_buffer s noted) f.0 (rw f.1 at (h.ordered))))
 
   pub front-below : (J : Journal) (noted : Notes) → Sound s J noted → Each (λ o. o.at < length J) (front noted)
   front-below J noted h =
-      let f = buffer_front s.limit noted.openings in
+      let f = buffer_front s.num_traces noted.openings in
       Each-reverse (λ (o : Opening). o.at < length J) (in_buffer s noted) (Each-left (λ (o : Opening). o.at < length J) (in_buffer s noted) f.0 (rw f.1 at (h.below)))
 
   -- ---- an item changes no decision
@@ -115,7 +115,7 @@ module _ (s : Settings) (room : HasRoom s.limit) where
 
   -- it opened long enough before the mark, or its first root was taken so
   abbrev pub ripe : Journal → (mark : ℕ) → Opening → Bool
-  ripe past mark o = nat_le (o.moment + s.wait) mark || is_root_due mark s.root_wait (first_root_since past o)
+  ripe past mark o = nat_le (o.moment + s.decision_wait) mark || is_root_due mark s.root_wait (first_root_since past o)
 
   -- an undecided episode that is ripe at this mark, or too big, or the ends are complete
   abbrev pub due_by : (finished : Bool) → (mark : ℕ) → Journal → Notes → Opening → Bool
@@ -158,10 +158,10 @@ module _ (s : Settings) (room : HasRoom s.limit) where
   not_due-opening past noted m n now mark t o d h w =
       let new : Opening = record { at = n; trace = t; moment = now } in
       let P = λ (p : Opening). is_none (decided_as noted p.at) ≡ true → ripe past mark p ≡ false in
-      let made = makes_room s.limit room noted.openings in
+      let made = makes_room s.num_traces room noted.openings in
       let held : Each P (in_buffer s noted) = unreversed P (in_buffer s noted) w in
-      let stays : Each P made.kept = Each-left P made.kept (option_to_list (leaving s.limit noted.openings)) (rw (made.was) at held) in
-      let next : in_buffer s m ≡ new ∷ made.kept = ap (last_of s.limit) o ∙ made.with_next new in
+      let stays : Each P made.kept = Each-left P made.kept (option_to_list (leaving s.num_traces noted.openings)) (rw (made.was) at held) in
+      let next : in_buffer s m ≡ new ∷ made.kept = ap (last_of s.num_traces) o ∙ made.with_next new in
       rw (next, d) (Each-reverse P (new ∷ made.kept) ((λ _. h), stays))
 
   not_due-finding : (past : Journal) (noted : Notes) (n now mark : ℕ) (t : TraceId) (lost : Bool) (f : Finding) → let new : Opening = record { at = n; trace = t; moment = now } in ripe past mark new ≡ false → NotDue past mark noted → NotDue past mark (after_finding s t lost n now noted f)
@@ -174,19 +174,19 @@ module _ (s : Settings) (room : HasRoom s.limit) where
   not_due-refused past noted m mark false w v = v
 
   -- one that opens at the mark or later isn't due by that mark
-  unripe : (e : Entry) (before : Journal) (mark : ℕ) (t : TraceId) → mark ≤ clock (e ∷ before) → 0 < s.wait → let new : Opening = record { at = length before; trace = t; moment = clock (e ∷ before) } in ripe (e ∷ before) mark new ≡ false
+  unripe : (e : Entry) (before : Journal) (mark : ℕ) (t : TraceId) → mark ≤ clock (e ∷ before) → 0 < s.decision_wait → let new : Opening = record { at = length before; trace = t; moment = clock (e ∷ before) } in ripe (e ∷ before) mark new ≡ false
   unripe e before mark t h k =
       let new : Opening = record { at = length before; trace = t; moment = clock (e ∷ before) } in
-      let late : nat_le (clock (e ∷ before) + s.wait) mark ≡ false = leb-not (clock (e ∷ before) + s.wait) mark (omega (arith, h, k)) in
+      let late : nat_le (clock (e ∷ before) + s.decision_wait) mark ≡ false = leb-not (clock (e ∷ before) + s.decision_wait) mark (omega (arith, h, k)) in
       let roots = none_due_after_mark s.root_wait mark e before new h ∙ ap (is_root_due mark s.root_wait) (no_roots before new (omega arith)) in
       ap (λ b. b || is_root_due mark s.root_wait (first_root_since (e ∷ before) new)) late ∙ roots
 
   -- nothing becomes due by a mark that has passed
   not_due-later : (e : Entry) (before : Journal) (mark : ℕ) (noted : Notes) → mark ≤ clock (e ∷ before) → NotDue before mark noted → NotDue (e ∷ before) mark noted
   not_due-later e before mark noted h w = Each-weaken (λ o. is_none (decided_as noted o.at) ≡ true → ripe before mark o ≡ false) (λ o. is_none (decided_as noted o.at) ≡ true → ripe (e ∷ before) mark o ≡ false)
-      (λ o f k. ap (λ b. nat_le (o.moment + s.wait) mark || b) (none_due_after_mark s.root_wait mark e before o h) ∙ f k) (front noted) w
+      (λ o f k. ap (λ b. nat_le (o.moment + s.decision_wait) mark || b) (none_due_after_mark s.root_wait mark e before o h) ∙ f k) (front noted) w
 
-  not_due-ids : (e : Entry) (before : Journal) (noted : Notes) (mark : ℕ) (ids : Option Ids) → mark ≤ clock (e ∷ before) → 0 < s.wait → NotDue (e ∷ before) mark noted → NotDue (e ∷ before) mark (after_span s ids e before noted)
+  not_due-ids : (e : Entry) (before : Journal) (noted : Notes) (mark : ℕ) (ids : Option Ids) → mark ≤ clock (e ∷ before) → 0 < s.decision_wait → NotDue (e ∷ before) mark noted → NotDue (e ∷ before) mark (after_span s ids e before noted)
   not_due-ids e before noted mark None h k w = w
   not_due-ids e before noted mark (Some ids) h k w = not_due-refused (e ∷ before) noted (after_finding s ids.trace e.lost (length before) (clock (e ∷ before)) noted (finding s noted ids.trace)) mark e.refused w (not_due-finding (e ∷ before) noted (length before) (clock (e ∷ before)) mark ids.trace e.lost (finding s noted ids.trace) (unripe e before mark ids.trace h k) w)
 
@@ -199,7 +199,7 @@ module _ (s : Settings) (room : HasRoom s.limit) where
   due-tick m refused lost given before noted h =
       let e : Entry = record { item = Tick m; refused = refused; lost = lost; answers = given } in
       filter-same (open_due (e ∷ before) noted) (λ o. is_none (decided_as noted o.at) && is_due s (e ∷ before) o) (front noted)
-      (Each-all (λ o. open_due (e ∷ before) noted o ≡ (is_none (decided_as noted o.at) && is_due s (e ∷ before) o)) (λ o. ap (λ b. due_by b (clock (e ∷ before)) (e ∷ before) noted o) (ended-tick m refused lost given before s.senders ∙ h) ∙ ap (λ b. is_none (decided_as noted o.at) && (nat_le (o.moment + s.wait) (clock (e ∷ before)) || b || is_oversized s (e ∷ before) o)) (due_by_first_root s.root_wait (clock (e ∷ before)) (e ∷ before) o)) (front noted))
+      (Each-all (λ o. open_due (e ∷ before) noted o ≡ (is_none (decided_as noted o.at) && is_due s (e ∷ before) o)) (λ o. ap (λ b. due_by b (clock (e ∷ before)) (e ∷ before) noted o) (ended-tick m refused lost given before s.senders ∙ h) ∙ ap (λ b. is_none (decided_as noted o.at) && (nat_le (o.moment + s.decision_wait) (clock (e ∷ before)) || b || is_oversized s (e ∷ before) o)) (due_by_first_root s.root_wait (clock (e ∷ before)) (e ∷ before) o)) (front noted))
       ∙ sym (filter-filter (is_due s (e ∷ before)) (λ o. is_none (decided_as noted o.at)) (front noted))
       ∙ ap (filter (is_due s (e ∷ before))) (filter-reverse (λ o. is_none (decided_as noted o.at)) (in_buffer s noted))
 
@@ -217,7 +217,7 @@ module _ (s : Settings) (room : HasRoom s.limit) where
 
   -- right after an item, what is due is what the journal says
   pub due-item : (item : Item) (refused lost : Bool) (given : List (List Bool)) (before : Journal) (noted : Notes) → let e : Entry = record { item = item; refused = refused; lost = lost; answers = given } in
-      have_ended before s.senders ≡ false → 0 < s.wait → NotDue before (mark before) noted →
+      have_ended before s.senders ≡ false → 0 < s.decision_wait → NotDue before (mark before) noted →
       let n = after_item s e before item noted in filter (open_due (e ∷ before) n) (front n) ≡ due_at s e before item n
   due-item (Span a) refused lost given before noted h k w =
       let e : Entry = record { item = Span a; refused = refused; lost = lost; answers = given } in
@@ -305,7 +305,7 @@ module _ (s : Settings) (room : HasRoom s.limit) where
   abbrev pub due_list : Entry → Journal → List Opening
   due_list e before = due_at s e before e.item (item_notes e before)
 
-  pub due-dealt : (e : Entry) (before : Journal) (k : ℕ) → have_ended before s.senders ≡ false → 0 < s.wait → Known before → IsAnsweredUpTo s (e ∷ before) k →
+  pub due-dealt : (e : Entry) (before : Journal) (k : ℕ) → have_ended before s.senders ≡ false → 0 < s.decision_wait → Known before → IsAnsweredUpTo s (e ∷ before) k →
       filter (open_due (e ∷ before) (notes_dealt s (e ∷ before) k)) (front (item_notes e before)) ≡ drop k (due_list e before)
   due-dealt e before k h w g given =
       let noted = notes s before in
@@ -326,11 +326,11 @@ module _ (s : Settings) (room : HasRoom s.limit) where
   taken-whole (o ∷ os) = ap (λ ps. o ∷ ps) (taken-whole os)
 
   -- every journal that took no item after its ends, and each of whose decisions is answered
-  pub known : (past : Journal) → 0 < s.wait → Stopped past → IsAnswered s past → Known past
+  pub known : (past : Journal) → 0 < s.decision_wait → Stopped past → IsAnswered s past → Known past
   unfolding notes
-  known [] w h given = λ _. none_yet s.limit
+  known [] w h given = λ _. none_yet s.num_traces
     where
-      none_yet : (limit : Option ℕ) → Each (λ (o : Opening). is_none (decided_as no_notes o.at) ≡ true → ripe [] 0 o ≡ false) (reverse (last_of limit []))
+      none_yet : (num_traces : Option ℕ) → Each (λ (o : Opening). is_none (decided_as no_notes o.at) ≡ true → ripe [] 0 o ≡ false) (reverse (last_of num_traces []))
       none_yet None = tt
       none_yet (Some zero) = tt
       none_yet (Some (suc n)) = tt
@@ -389,29 +389,29 @@ module _ (s : Settings) (room : HasRoom s.limit) where
   -- ---- the shard's side of what is due
 
   -- an opening's episode is due in the shard where the opening is ripe
-  pub episode-due : (past : Journal) (noted : Notes) (fin : Bool) (m : ℕ) (o : Opening) → is_due_by fin m s.wait s.root_wait (episode s past noted o) ≡ due_by fin m past noted o
+  pub episode-due : (past : Journal) (noted : Notes) (fin : Bool) (m : ℕ) (o : Opening) → is_due_by fin m s.decision_wait s.root_wait (episode s past noted o) ≡ due_by fin m past noted o
   episode-due past noted fin m o = by (decided_as noted o.at)
     where
-      by : (v : Option Verdict) → (is_none v && (fin || (nat_le (o.moment + s.wait) m || is_root_due m s.root_wait (root_left (first_root_since past o) v) || is_too_big s.maximum_size (spans_left (spans_since past o) v)))) ≡ (is_none v && (fin || (ripe past m o || is_oversized s past o)))
+      by : (v : Option Verdict) → (is_none v && (fin || (nat_le (o.moment + s.decision_wait) m || is_root_due m s.root_wait (root_left (first_root_since past o) v) || is_too_big s.maximum_trace_size (spans_left (spans_since past o) v)))) ≡ (is_none v && (fin || (ripe past m o || is_oversized s past o)))
       by None = refl
       by (Some v) = refl
 
-  any-episodes : (past : Journal) (noted : Notes) (fin : Bool) (m : ℕ) (os : List Opening) → list_any (is_due_by fin m s.wait s.root_wait) (map (episode s past noted) os) ≡ list_any (due_by fin m past noted) os
+  any-episodes : (past : Journal) (noted : Notes) (fin : Bool) (m : ℕ) (os : List Opening) → list_any (is_due_by fin m s.decision_wait s.root_wait) (map (episode s past noted) os) ≡ list_any (due_by fin m past noted) os
   any-episodes past noted fin m [] = refl
-  any-episodes past noted fin m (o ∷ os) = ap (λ b. b || list_any (is_due_by fin m s.wait s.root_wait) (map (episode s past noted) os)) (episode-due past noted fin m o) ∙ ap (λ b. due_by fin m past noted o || b) (any-episodes past noted fin m os)
+  any-episodes past noted fin m (o ∷ os) = ap (λ b. b || list_any (is_due_by fin m s.decision_wait s.root_wait) (map (episode s past noted) os)) (episode-due past noted fin m o) ∙ ap (λ b. due_by fin m past noted o || b) (any-episodes past noted fin m os)
 
   find-episode : (past : Journal) (noted : Notes) (fin : Bool) (m : ℕ) (o : Opening) (os : List Opening) (b : Bool) → due_by fin m past noted o ≡ b →
-      find (is_due_by fin m s.wait s.root_wait) (map (episode s past noted) os) ≡ option_map (episode s past noted) (find (due_by fin m past noted) os) →
-      find (is_due_by fin m s.wait s.root_wait) (map (episode s past noted) (o ∷ os)) ≡ option_map (episode s past noted) (find (due_by fin m past noted) (o ∷ os))
-  find-episode past noted fin m o os true h ih = ap (λ b. cond b (Some (episode s past noted o)) (find (is_due_by fin m s.wait s.root_wait) (map (episode s past noted) os))) (episode-due past noted fin m o ∙ h) ∙ ap (λ b. option_map (episode s past noted) (cond b (Some o) (find (due_by fin m past noted) os))) (sym h)
-  find-episode past noted fin m o os false h ih = ap (λ b. cond b (Some (episode s past noted o)) (find (is_due_by fin m s.wait s.root_wait) (map (episode s past noted) os))) (episode-due past noted fin m o ∙ h) ∙ ih ∙ ap (λ b. option_map (episode s past noted) (cond b (Some o) (find (due_by fin m past noted) os))) (sym h)
+      find (is_due_by fin m s.decision_wait s.root_wait) (map (episode s past noted) os) ≡ option_map (episode s past noted) (find (due_by fin m past noted) os) →
+      find (is_due_by fin m s.decision_wait s.root_wait) (map (episode s past noted) (o ∷ os)) ≡ option_map (episode s past noted) (find (due_by fin m past noted) (o ∷ os))
+  find-episode past noted fin m o os true h ih = ap (λ b. cond b (Some (episode s past noted o)) (find (is_due_by fin m s.decision_wait s.root_wait) (map (episode s past noted) os))) (episode-due past noted fin m o ∙ h) ∙ ap (λ b. option_map (episode s past noted) (cond b (Some o) (find (due_by fin m past noted) os))) (sym h)
+  find-episode past noted fin m o os false h ih = ap (λ b. cond b (Some (episode s past noted o)) (find (is_due_by fin m s.decision_wait s.root_wait) (map (episode s past noted) os))) (episode-due past noted fin m o ∙ h) ∙ ih ∙ ap (λ b. option_map (episode s past noted) (cond b (Some o) (find (due_by fin m past noted) os))) (sym h)
 
-  pub find-episodes : (past : Journal) (noted : Notes) (fin : Bool) (m : ℕ) (os : List Opening) → find (is_due_by fin m s.wait s.root_wait) (map (episode s past noted) os) ≡ option_map (episode s past noted) (find (due_by fin m past noted) os)
+  pub find-episodes : (past : Journal) (noted : Notes) (fin : Bool) (m : ℕ) (os : List Opening) → find (is_due_by fin m s.decision_wait s.root_wait) (map (episode s past noted) os) ≡ option_map (episode s past noted) (find (due_by fin m past noted) os)
   find-episodes past noted fin m [] = refl
   find-episodes past noted fin m (o ∷ os) = find-episode past noted fin m o os (due_by fin m past noted o) refl (find-episodes past noted fin m os)
 
   abbrev pub DueIn : Standing → Episode → Bool
-  DueIn st e = is_due_by (list_all (λ b. b) st.ends) st.mark s.wait s.root_wait e
+  DueIn st e = is_due_by (list_all (λ b. b) st.ends) st.mark s.decision_wait s.root_wait e
 
   -- nothing is due in what stands for a journal: each decision has been dealt with
   pub drop_nil : (k : ℕ) → drop {A = Opening} k [] ≡ []
@@ -422,13 +422,13 @@ module _ (s : Settings) (room : HasRoom s.limit) where
   none_mapped f None e = refl
   none_mapped f (Some o) e = cc
 
-  pub nothing_left : (past : Journal) (k : ℕ) (st : Standing) → 0 < s.wait → Stopped past → st ≡ standing s past k → IsAnsweredUpTo s past k → find (DueIn st) st.episodes ≡ None → drop k (due_now s past) ≡ []
+  pub nothing_left : (past : Journal) (k : ℕ) (st : Standing) → 0 < s.decision_wait → Stopped past → st ≡ standing s past k → IsAnsweredUpTo s past k → find (DueIn st) st.episodes ≡ None → drop k (due_now s past) ≡ []
   nothing_left [] k st w h e given f = drop_nil k
   nothing_left (x ∷ before) k st w h e given f =
       let past : Journal = x ∷ before in
       let n = notes_dealt s past k in
       let g : find (DueIn (standing s past k)) (map (episode s past n) (front n)) ≡ None = (let P = λ (z : Standing). find (DueIn z) z.episodes ≡ None in subst P e f) in
-      let g2 : find (is_due_by (have_ended past s.senders) (mark past) s.wait s.root_wait) (map (episode s past n) (front n)) ≡ None = (let P = λ (b : Bool). find (is_due_by b (mark past) s.wait s.root_wait) (map (episode s past n) (front n)) ≡ None in subst P (all_ended past s.senders) g) in
+      let g2 : find (is_due_by (have_ended past s.senders) (mark past) s.decision_wait s.root_wait) (map (episode s past n) (front n)) ≡ None = (let P = λ (b : Bool). find (is_due_by b (mark past) s.decision_wait s.root_wait) (map (episode s past n) (front n)) ≡ None in subst P (all_ended past s.senders) g) in
       let g3 : find (open_due past n) (front n) ≡ None = none_mapped (episode s past n) (find (open_due past n) (front n)) (sym (find-episodes past n (have_ended past s.senders) (mark past) (front n)) ∙ g2) in
       sym (due-dealt x before k h w (known before w (stopped-before x before h) given.1) given) ∙ none-from_find (open_due past n) (front n) g3
 

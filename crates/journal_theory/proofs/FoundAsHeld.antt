@@ -125,13 +125,13 @@ module _ (s : Settings) (past : Journal) (noted : Notes) (n : ℕ) (t : TraceId)
   pub state_is : (r : Option Opening) → find own (in_buffer s noted) ≡ r → state_found (finding s noted t) ≡ (elim r [ None ↦ cached | Some o ↦ Some (decided_as noted o.at) ])
   state_is None e = found_past (latest_episode noted t) refl e
   state_is (Some o) e =
-      let front = buffer_front s.limit noted.openings in
+      let front = buffer_front s.num_traces noted.openings in
       let k = found own (in_buffer s noted) o e in
       let l : latest_episode noted t ≡ Some o = ap (find own) front.1 ∙ find_front own (in_buffer s noted) front.0 o e in
       let inside : is_in_buffer s noted o.at ≡ true = ap (list_any (λ (x : Opening). x.at == o.at)) k.is ∙ any_split (λ (x : Opening). x.at == o.at) k.front k.back o (eq-eqb o.at o.at refl) in
       found_here o l inside (decided_as noted o.at) refl
 
-by_episode : (s : Settings) (past : Journal) (dealt : ℕ) (t : TraceId) → HasRoom s.limit → notes_dealt s past dealt ≡ notes s past → (r : Option Opening) → find (λ (o : Opening). same_trace o.trace t) (in_buffer s (notes s past)) ≡ r →
+by_episode : (s : Settings) (past : Journal) (dealt : ℕ) (t : TraceId) → HasRoom s.num_traces → notes_dealt s past dealt ≡ notes s past → (r : Option Opening) → find (λ (o : Opening). same_trace o.trace t) (in_buffer s (notes s past)) ≡ r →
     state_found (finding s (notes s past) t) ≡ state_in (standing s past dealt) t
 by_episode s past dealt t room n r e =
     let noted = notes s past in

@@ -30,8 +30,8 @@ use Rattle.journal_theory.proofs.FoundAsHeld.{find_reversed, find_episode, all_d
 use Rattle.journal_theory.proofs.Due.{ends-span, ends-tick, ends-end}
 use Rattle.journal_theory.proofs.StandingParts.{joins_none, joins_own, roots_before, map_same, episode_same, episode_decided, standing_by, standing_of, same_parts, less-one, taken_full, taken_short, short, taken_next, stands_for, buffered_not_cached, sizes_asked, put_remembers, sizes_put, state_asked, asked_from, asked_none}
 
-module _ (s : Settings) (m : ℕ) (lim : s.limit ≡ Some (suc m)) (past : Journal) (a : Arrival) (ids : Ids) (i : a.rec.span.ids ≡ Some ids) (given : List (List Bool)) where
-  room : HasRoom s.limit
+module _ (s : Settings) (m : ℕ) (lim : s.num_traces ≡ Some (suc m)) (past : Journal) (a : Arrival) (ids : Ids) (i : a.rec.span.ids ≡ Some ids) (given : List (List Bool)) where
+  room : HasRoom s.num_traces
   room e = absurd (cc (lim, e))
 
   abbrev noted : Notes
@@ -56,7 +56,7 @@ module _ (s : Settings) (m : ℕ) (lim : s.limit ≡ Some (suc m)) (past : Journ
   front = reverse (in_buffer s noted)
 
   below : Each (λ (o : Opening). o.at < length past) (in_buffer s noted)
-  below = let f = buffer_front s.limit noted.openings in Each-left (λ (o : Opening). o.at < length past) (in_buffer s noted) f.0 (rw f.1 at (sound.below))
+  below = let f = buffer_front s.num_traces noted.openings in Each-left (λ (o : Opening). o.at < length past) (in_buffer s noted) f.0 (rw f.1 at (sound.below))
 
   -- the clock and the ends after the span
   abbrev clocked : Standing
@@ -157,10 +157,10 @@ module _ (s : Settings) (m : ℕ) (lim : s.limit ≡ Some (suc m)) (past : Journ
       let sizes = sizes_asked t c in
       let u = touched_by o.at t v in
       let is : touch o v ≡ u = ap (λ (x : TraceId). touched_by o.at x v) trace in
-      let sampled : take s.sampled_size (last_touched Sampled (touch o v ∷ noted.touches)) ≡ (after_asking t c).sampled.traces
-      = ap (λ (x : Touch). take s.sampled_size (last_touched Sampled (x ∷ noted.touches))) is ∙ ap (λ n. take n (last_touched Sampled (u ∷ noted.touches))) (sym sizes.0) ∙ sym stands.0.0 in
-      let non_sampled : take s.non_sampled_size (last_touched NotSampled (touch o v ∷ noted.touches)) ≡ (after_asking t c).not_sampled.traces
-      = ap (λ (x : Touch). take s.non_sampled_size (last_touched NotSampled (x ∷ noted.touches))) is ∙ ap (λ n. take n (last_touched NotSampled (u ∷ noted.touches))) (sym sizes.1) ∙ sym stands.1.0 in
+      let sampled : take s.sampled_cache_size (last_touched Sampled (touch o v ∷ noted.touches)) ≡ (after_asking t c).sampled.traces
+      = ap (λ (x : Touch). take s.sampled_cache_size (last_touched Sampled (x ∷ noted.touches))) is ∙ ap (λ n. take n (last_touched Sampled (u ∷ noted.touches))) (sym sizes.0) ∙ sym stands.0.0 in
+      let non_sampled : take s.non_sampled_cache_size (last_touched NotSampled (touch o v ∷ noted.touches)) ≡ (after_asking t c).not_sampled.traces
+      = ap (λ (x : Touch). take s.non_sampled_cache_size (last_touched NotSampled (x ∷ noted.touches))) is ∙ ap (λ n. take n (last_touched NotSampled (u ∷ noted.touches))) (sym sizes.1) ∙ sym stands.1.0 in
       ap (λ b. standing_by s (entry_of false lost ∷ past) (record noted { touches = cond b [] (touch o v ∷ []) ++ noted.touches })) out
       ∙ same_parts s noted _ _ _ _ _ _ (max a.moment (clock past)) (mark past) _ _ (others_same lost noted refl front none) sampled non_sampled (same_ends false lost)
 
@@ -181,10 +181,10 @@ module _ (s : Settings) (m : ℕ) (lim : s.limit ≡ Some (suc m)) (past : Journ
   buffer_next : (touches : List Touch) → in_buffer s (opened touches) ≡ new ∷ kept
   buffer_next touches = ap (λ l. last_of l (new ∷ noted.openings)) lim
 
-  leaving_is : leaving s.limit noted.openings ≡ slice_get noted.openings m
+  leaving_is : leaving s.num_traces noted.openings ≡ slice_get noted.openings m
   leaving_is = ap (λ l. leaving l noted.openings) lim ∙ ap (slice_get noted.openings) (less-one m)
 
-  new_episode : (lost : Bool) (touches : List Touch) → episode s (entry_of false lost ∷ past) (opened touches) new ≡ opening_episode t a (max a.moment (clock past)) s.maximum_size
+  new_episode : (lost : Bool) (touches : List Touch) → episode s (entry_of false lost ∷ past) (opened touches) new ≡ opening_episode t a (max a.moment (clock past)) s.maximum_trace_size
   new_episode lost touches =
       let undecided : decided_as noted (length past) ≡ None = ap (option_map (λ (d : Decision). d.verdict)) (find_none (λ (d : Decision). d.opening.at == length past) noted.decisions
       (Each-weaker (λ (d : Decision). d.opening.at < length past) (λ (d : Decision). (d.opening.at == length past) ≡ false) noted.decisions (λ d h. ne_eqb d.opening.at (length past) (λ e. omega (arith, h, e))) sound.decided)) in
@@ -202,7 +202,7 @@ module _ (s : Settings) (m : ℕ) (lim : s.limit ≡ Some (suc m)) (past : Journ
       unreversed : Each (λ (x : Opening). same_trace x.trace t ≡ false) front → Each (λ (x : Opening). same_trace x.trace t ≡ false) (in_buffer s noted)
       unreversed h = rw (reverse-reverse (in_buffer s noted)) at (Each-reverse (λ (x : Opening). same_trace x.trace t ≡ false) front h)
 
-  episodes_next : (lost : Bool) (touches : List Touch) → Each (λ (x : Opening). same_trace x.trace t ≡ false) front → episodes s (entry_of false lost ∷ past) (opened touches) ≡ stay ++ opening_episode t a (max a.moment (clock past)) s.maximum_size ∷ []
+  episodes_next : (lost : Bool) (touches : List Touch) → Each (λ (x : Opening). same_trace x.trace t ≡ false) front → episodes s (entry_of false lost ∷ past) (opened touches) ≡ stay ++ opening_episode t a (max a.moment (clock past)) s.maximum_trace_size ∷ []
   episodes_next lost touches none =
       let g = episode s (entry_of false lost ∷ past) (opened touches) in
       ap (λ (os : List Opening). map g (reverse os)) (buffer_next touches)
@@ -246,12 +246,12 @@ module _ (s : Settings) (m : ℕ) (lim : s.limit ≡ Some (suc m)) (past : Journ
       ∙ ap (λ b. cond b (Some (evicted_as (episode s past noted p))) None) (eq-eqb (length (episode s past noted p ∷ stay)) (suc m) full)
 
   -- what leaves the buffer is the oldest opening's episode, if the buffer is full
-  pub leaves_held : leaves (buffer (suc m) held) ≡ option_map (evicted_of s past noted) (leaving s.limit noted.openings)
+  pub leaves_held : leaves (buffer (suc m) held) ≡ option_map (evicted_of s past noted) (leaving s.num_traces noted.openings)
   leaves_held = leaves_is (slice_get noted.openings m) refl ∙ ap (option_map (evicted_of s past noted)) (sym leaving_is)
 
   -- the caches after the touches that an opening made
   abbrev caches_of : Notes → CacheLists
-  caches_of n = record { sampled = record { traces = cache s n Sampled; size = s.sampled_size }; not_sampled = record { traces = cache s n NotSampled; size = s.non_sampled_size } }
+  caches_of n = record { sampled = record { traces = cache s n Sampled; size = s.sampled_cache_size }; not_sampled = record { traces = cache s n NotSampled; size = s.non_sampled_cache_size } }
 
   same_lists : (c d : CacheLists) → c.sampled.traces ≡ d.sampled.traces → c.not_sampled.traces ≡ d.not_sampled.traces → c.sampled.size ≡ d.sampled.size → c.not_sampled.size ≡ d.not_sampled.size → c ≡ d
   same_lists c d e f g h = both_lists c.sampled.traces d.sampled.traces c.not_sampled.traces d.not_sampled.traces c.sampled.size d.sampled.size c.not_sampled.size d.not_sampled.size e f g h
@@ -295,7 +295,7 @@ module _ (s : Settings) (m : ℕ) (lim : s.limit ≡ Some (suc m)) (past : Journ
   opens_holds lost none =
       let r = slice_get noted.openings m in
       let touches = cond lost [] (touch_of_leaving noted r) ++ noted.touches in
-      let x = opening_episode t a (max a.moment (clock past)) s.maximum_size in
+      let x = opening_episode t a (max a.moment (clock past)) s.maximum_trace_size in
       let c = opens_caches lost r refl ∙ ap (λ e. after_leaving lost e (caches s held)) (sym (leaves_is r refl)) in
       ap (λ (l : Option Opening). standing_by s (entry_of false lost ∷ past) (opened (cond lost [] (touch_of_leaving noted l) ++ noted.touches))) leaving_is
       ∙ same_parts s noted _ _ _ _ _ _ (max a.moment (clock past)) (mark past) _ _
@@ -329,7 +329,7 @@ module _ (s : Settings) (m : ℕ) (lim : s.limit ≡ Some (suc m)) (past : Journ
   kept_holds lost None e = unknown_holds lost e (finding s noted t) refl (asked_state (found_past s past noted (length past) t sound w (latest_episode noted t) refl e))
   kept_holds lost (Some o) e =
       let own = λ (x : Opening). same_trace x.trace t in
-      let f = buffer_front s.limit noted.openings in
+      let f = buffer_front s.num_traces noted.openings in
       let k = found own (in_buffer s noted) o e in
       let l : latest_episode noted t ≡ Some o = ap (find own) f.1 ∙ find_front own (in_buffer s noted) f.0 o e in
       let inside : is_in_buffer s noted o.at ≡ true = ap (list_any (λ (x : Opening). x.at == o.at)) k.is ∙ any_split (λ (x : Opening). x.at == o.at) k.front k.back o (eq-eqb o.at o.at refl) in
@@ -345,13 +345,13 @@ module _ (s : Settings) (m : ℕ) (lim : s.limit ≡ Some (suc m)) (past : Journ
 
 -- ---- an item
 
-module _ (s : Settings) (m : ℕ) (lim : s.limit ≡ Some (suc m)) (past : Journal) where
+module _ (s : Settings) (m : ℕ) (lim : s.num_traces ≡ Some (suc m)) (past : Journal) where
   span_ids : (a : Arrival) (refused lost : Bool) (given : List (List Bool)) (ids : Option Ids) → a.rec.span.ids ≡ ids → has_ids (Span a) ≡ true → let e : Entry = record { item = Span a; refused = refused; lost = lost; answers = given } in
       standing_by s (e ∷ past) (after_span s ids e past (notes s past)) ≡ after_span_in s (suc m) refused lost a ids (record (standing_by s past (notes s past)) { clock = max a.moment (clock past) })
   span_ids a refused lost given None i h = absurd (cc (i, h))
   span_ids a refused lost given (Some ids) i h = span_holds s m lim past a ids i given refused lost
 
-  lim_room : HasRoom s.limit
+  lim_room : HasRoom s.num_traces
   lim_room e = absurd (cc (lim, e))
 
   zero-max : (n : ℕ) → max 0 n ≡ n

@@ -19,7 +19,7 @@ use Rattle.journal_theory.proofs.Find.{Found, found, not_found, find_past, find_
 
 -- a limit is at least 1
 abbrev pub HasRoom : Option ℕ → Type 0
-HasRoom limit = limit ≢ Some 0
+HasRoom num_traces = num_traces ≢ Some 0
 
 -- ---- traces
 
@@ -91,7 +91,7 @@ pub record Sound (s : Settings) (J : Journal) (noted : Notes) : Type 0 where
   pub apart : Pairs (IsApart (is_open noted)) (in_buffer s noted)
 
 -- the buffer is a front of the openings
-pub buffer_front : (limit : Option ℕ) (os : List Opening) → (rest : List Opening) × (os ≡ last_of limit os ++ rest)
+pub buffer_front : (num_traces : Option ℕ) (os : List Opening) → (rest : List Opening) × (os ≡ last_of num_traces os ++ rest)
 buffer_front None os = ([], sym (append-nil os))
 buffer_front (Some n) os = (drop n os, sym (take-append-drop n os))
 
@@ -160,7 +160,7 @@ module _ (s : Settings) (J : Journal) (noted : Notes) (t : TraceId) (h : Sound s
   meeting = go (find (λ (o : Opening). same_trace o.trace t) (in_buffer s noted)) refl
     where
       fr : (rest : List Opening) × (noted.openings ≡ in_buffer s noted ++ rest)
-      fr = buffer_front s.limit noted.openings
+      fr = buffer_front s.num_traces noted.openings
 
       go : (r : Option Opening) → find (λ (o : Opening). same_trace o.trace t) (in_buffer s noted) ≡ r → Meeting s noted t
       go None e =

@@ -39,7 +39,7 @@ module _ (s : Settings) (noted : Notes) (n : ℕ) (J : Journal) (sound : Sound s
   none_own = go (find own (in_buffer s noted)) refl
     where
       front : (rest : List Opening) × (noted.openings ≡ in_buffer s noted ++ rest)
-      front = buffer_front s.limit noted.openings
+      front = buffer_front s.num_traces noted.openings
 
       go : (r : Option Opening) → find own (in_buffer s noted) ≡ r → Each (λ (p : Opening). same_trace p.trace t ≡ false) (in_buffer s noted)
       go None e = not_found own (in_buffer s noted) e
@@ -64,21 +64,21 @@ module _ (s : Settings) (noted : Notes) (n : ℕ) (J : Journal) (sound : Sound s
   opens_with = record { none = none_own; forgotten = λ v. forgotten_own v (in_cache s noted v t) refl }
 
   -- the notes after it: the opening, and the touches that the leaving made
-  module _ (room : HasRoom s.limit) (is_below : Each (λ (p : Opening). p.at < n) noted.openings) (now : ℕ) where
+  module _ (room : HasRoom s.num_traces) (is_below : Each (λ (p : Opening). p.at < n) noted.openings) (now : ℕ) where
     abbrev new : Opening
     new = record { at = n; trace = t; moment = now }
 
     abbrev opened : List Touch → Notes
     opened touches = record noted { openings = new ∷ noted.openings; touches = touches }
 
-    makes : Makes s.limit noted.openings
-    makes = makes_room s.limit room noted.openings
+    makes : Makes s.num_traces noted.openings
+    makes = makes_room s.num_traces room noted.openings
 
     -- a position out of the buffer, and not that of the opening, stays out
     stays_out : (touches : List Touch) (at : ℕ) → at < n → is_in_buffer s noted at ≡ false → is_in_buffer s (opened touches) at ≡ false
     stays_out touches at l e =
         let q = λ (p : Opening). p.at == at in
-        let kept : list_any q makes.kept ≡ false = any-left q makes.kept (option_to_list (leaving s.limit noted.openings)) (sym (ap (list_any q) makes.was) ∙ e) in
+        let kept : list_any q makes.kept ≡ false = any-left q makes.kept (option_to_list (leaving s.num_traces noted.openings)) (sym (ap (list_any q) makes.was) ∙ e) in
         ap (list_any q) (makes.with_next new) ∙ ap (λ b. b || list_any q makes.kept) (ne_eqb n at (λ k. omega (arith, l, k))) ∙ kept
 
     below_of : (x : TraceId) (o : Opening) → latest_episode noted x ≡ Some o → o.at < n
@@ -109,7 +109,7 @@ module _ (s : Settings) (noted : Notes) (n : ℕ) (J : Journal) (sound : Sound s
 
     apart_opened : (touches : List Touch) → Pairs OtherTrace (in_buffer s (opened touches))
     apart_opened touches =
-        let back = option_to_list (leaving s.limit noted.openings) in
+        let back = option_to_list (leaving s.num_traces noted.openings) in
         rw (makes.with_next new) (
           Each-left (OtherTrace new) makes.kept back (rw (makes.was) at (opens_with.none)),
           Pairs-left OtherTrace makes.kept back (rw (makes.was) at (w.apart)),
@@ -147,7 +147,7 @@ module _ (s : Settings) (noted : Notes) (n : ℕ) (J : Journal) (sound : Sound s
 
     -- ---- a decided episode left, and was touched
 
-    module _ (p : Opening) (v : Verdict) (leaves : leaving s.limit noted.openings ≡ Some p) (d : decided_as noted p.at ≡ Some v) where
+    module _ (p : Opening) (v : Verdict) (leaves : leaving s.num_traces noted.openings ≡ Some p) (d : decided_as noted p.at ≡ Some v) where
       abbrev moved : Notes
       moved = opened (touch p v ∷ noted.touches)
 
@@ -155,7 +155,7 @@ module _ (s : Settings) (noted : Notes) (n : ℕ) (J : Journal) (sound : Sound s
       was_last = makes.was ∙ ap (λ (r : Option Opening). makes.kept ++ option_to_list r) leaves
 
       front : (rest : List Opening) × (noted.openings ≡ in_buffer s noted ++ rest)
-      front = buffer_front s.limit noted.openings
+      front = buffer_front s.num_traces noted.openings
 
       openings_are : noted.openings ≡ (makes.kept ++ p ∷ []) ++ front.0
       openings_are = front.1 ∙ ap (λ (os : List Opening). os ++ front.0) was_last
@@ -265,7 +265,7 @@ meets_latest s noted t o v f = go (latest_episode noted t) refl
     go None l = absurd (cc (sym (ap (finding_of s noted) l) ∙ f))
     go (Some x) l = at_latest x l (decided_as noted x.at) refl
 
-module _ (s : Settings) (room : HasRoom s.limit) (J : Journal) where
+module _ (s : Settings) (room : HasRoom s.num_traces) (J : Journal) where
   remembering_found : (t : TraceId) (lost : Bool) (now : ℕ) (noted : Notes) → Sound s J noted → Remembering s noted (length J) → (f : Finding) → finding s noted t ≡ f → Remembering s (after_finding s t lost (length J) now noted f) (suc (length J))
   remembering_found t lost now noted h w (joins o) f = later s noted (length J) w
   remembering_found t lost now noted h w (meets o v) f = go (is_in_buffer s noted o.at) refl
@@ -279,16 +279,16 @@ module _ (s : Settings) (room : HasRoom s.limit) (J : Journal) where
       go : (b : Bool) → is_in_buffer s noted o.at ≡ b → Remembering s (record noted { touches = cond b [] (touch o v ∷ []) ++ noted.touches }) (suc (length J))
       go true e = later s noted (length J) w
       go false e = later s (record noted { touches = touch o v ∷ noted.touches }) (length J) (remembering_met s noted (length J) J h w t o v facts.0 below e facts.1)
-  remembering_found t lost now noted h w opens f = go lost (leaving s.limit noted.openings) refl
+  remembering_found t lost now noted h w opens f = go lost (leaving s.num_traces noted.openings) refl
     where
       made : List Touch → Notes
       made touches = record noted { openings = record { at = length J; trace = t; moment = now } ∷ noted.openings; touches = touches ++ noted.touches }
 
-      left : (p : Opening) (d : Option Verdict) → leaving s.limit noted.openings ≡ Some p → decided_as noted p.at ≡ d → Remembering s (made (touch_of_leaving_decided p d)) (suc (length J))
+      left : (p : Opening) (d : Option Verdict) → leaving s.num_traces noted.openings ≡ Some p → decided_as noted p.at ≡ d → Remembering s (made (touch_of_leaving_decided p d)) (suc (length J))
       left p None l d = remembering_quiet s noted (length J) J h w t f room h.below now
       left p (Some v) l d = remembering_moved s noted (length J) J h w t f room h.below now p v l d
 
-      go : (b : Bool) (r : Option Opening) → leaving s.limit noted.openings ≡ r → Remembering s (made (cond b [] (touch_of_leaving noted r))) (suc (length J))
+      go : (b : Bool) (r : Option Opening) → leaving s.num_traces noted.openings ≡ r → Remembering s (made (cond b [] (touch_of_leaving noted r))) (suc (length J))
       go true r e = remembering_quiet s noted (length J) J h w t f room h.below now
       go false None e = remembering_quiet s noted (length J) J h w t f room h.below now
       go false (Some p) e = left p (decided_as noted p.at) e refl
@@ -322,7 +322,7 @@ turns_each s P J [] answers h = tt
 turns_each s P J (o ∷ os) [] h = tt
 turns_each s P J (o ∷ os) (a ∷ answers) h = (h.0, turns_each s P J os answers h.1)
 
-pub remembering_notes : (s : Settings) → HasRoom s.limit → (J : Journal) → Remembering s (notes s J) (length J)
+pub remembering_notes : (s : Settings) → HasRoom s.num_traces → (J : Journal) → Remembering s (notes s J) (length J)
 unfolding notes
 remembering_notes s room [] = remembering_none s
 remembering_notes s room (e ∷ J) =

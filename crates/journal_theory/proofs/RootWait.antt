@@ -20,7 +20,7 @@ and-none true = refl
 and-none false = refl
 
 pub root_wait_off : RootWaitOff
-root_wait_off s past o h = ap (λ r. nat_le (o.moment + s.wait) (clock past) || (nat_lt 0 r && is_root_past r (clock past) past o) || is_oversized s past o) h ∙ ap (λ b. b || is_oversized s past o) (or-none (nat_le (o.moment + s.wait) (clock past)))
+root_wait_off s past o h = ap (λ r. nat_le (o.moment + s.decision_wait) (clock past) || (nat_lt 0 r && is_root_past r (clock past) past o) || is_oversized s past o) h ∙ ap (λ b. b || is_oversized s past o) (or-none (nat_le (o.moment + s.decision_wait) (clock past)))
 
 -- ---- the first root among spans
 

@@ -55,8 +55,8 @@ abbrev always : Policies
 always = one_more (leaf AlwaysSample) no_more
 
 -- two senders, a wait of ten seconds
-abbrev settings : Policies → (limit : Option ℕ) → (sampled non_sampled : ℕ) → Settings
-settings policies limit sampled non_sampled = record { policies = policies; wait = 10000; root_wait = 0; maximum_size = 0; limit = limit; sampled_size = sampled; non_sampled_size = non_sampled; senders = 2 }
+abbrev settings : Policies → (num_traces : Option ℕ) → (sampled non_sampled : ℕ) → Settings
+settings policies num_traces sampled non_sampled = record { policies = policies; decision_wait = 10000; root_wait = 0; maximum_trace_size = 0; num_traces = num_traces; sampled_cache_size = sampled; non_sampled_cache_size = non_sampled; senders = 2 }
 
 -- no limit, and no caches
 abbrev plain : Settings
@@ -318,7 +318,7 @@ child_error t n m = child_with 2 t n m
 
 -- a root wait of two seconds
 abbrev with_roots : Option ℕ → Settings
-with_roots limit = record (settings errors limit 0 0) { root_wait = 2000 }
+with_roots num_traces = record (settings errors num_traces 0 0) { root_wait = 2000 }
 
 abbrev root_items : List Entry
 root_items = child_error 1 0 0 ∷ error 2 1 1000 ∷ tick 3000 ∷ span 1 2 4000 ∷ tick 5999 ∷ tick 6000 ∷ []
@@ -345,7 +345,7 @@ sizes = refl
 
 -- all is sampled, but for traces of more bytes than these
 abbrev up_to : (maximum : ℕ) → Settings
-up_to maximum = record (settings always None 0 0) { maximum_size = maximum }
+up_to maximum = record (settings always None 0 0) { maximum_trace_size = maximum }
 
 abbrev two_sizes : List Entry
 two_sizes = span 1 0 0 ∷ error 1 1 0 ∷ []
@@ -371,8 +371,8 @@ unfolding notes size_of print_from escape_byte encode_with digits
 refused_adds_none = refl
 
 -- its cache remembers it once it left the buffer
-pub too_big_remembered : (counted (record (settings always (Some 1) 0 1) { maximum_size = 49 }) (error 1 0 0 ∷ span 2 1 0 ∷ span 1 2 0 ∷ []) ≡ 0 ∷ 0 ∷ 1 ∷ 1 ∷ [])
-    × (counted (record (settings always (Some 1) 0 0) { maximum_size = 49 }) (error 1 0 0 ∷ span 2 1 0 ∷ span 1 2 0 ∷ []) ≡ 0 ∷ 1 ∷ 1 ∷ 0 ∷ [])
+pub too_big_remembered : (counted (record (settings always (Some 1) 0 1) { maximum_trace_size = 49 }) (error 1 0 0 ∷ span 2 1 0 ∷ span 1 2 0 ∷ []) ≡ 0 ∷ 0 ∷ 1 ∷ 1 ∷ [])
+    × (counted (record (settings always (Some 1) 0 0) { maximum_trace_size = 49 }) (error 1 0 0 ∷ span 2 1 0 ∷ span 1 2 0 ∷ []) ≡ 0 ∷ 1 ∷ 1 ∷ 0 ∷ [])
 unfolding notes size_of print_from escape_byte encode_with digits
 too_big_remembered = (refl, refl)
 

@@ -12,26 +12,26 @@ use Rattle.journal_theory.proofs.Notes.{HasRoom, is_open, IsApart, Sound, buffer
 use Rattle.journal_theory.proofs.ListFacts.{Each, Each-append, Each-left, Each-right, Each-weaker, Each-reverse, Each-filter, Pairs-left, Pairs-weaker}
 use Rattle.journal_theory.proofs.Find.{not_found, find_none, take_next}
 
-pub last_of_nil : (limit : Option ℕ) → last_of limit [] ≡ []
+pub last_of_nil : (num_traces : Option ℕ) → last_of num_traces [] ≡ []
 last_of_nil None = refl
 last_of_nil (Some zero) = refl
 last_of_nil (Some (suc n)) = refl
 
 -- what an opening puts out: the last of the buffer, if it is full
-pub record Makes (limit : Option ℕ) (os : List Opening) : Type 0 where
+pub record Makes (num_traces : Option ℕ) (os : List Opening) : Type 0 where
   pub kept : List Opening
-  pub was : last_of limit os ≡ kept ++ option_to_list (leaving limit os)
-  pub with_next : (o : Opening) → last_of limit (o ∷ os) ≡ o ∷ kept
+  pub was : last_of num_traces os ≡ kept ++ option_to_list (leaving num_traces os)
+  pub with_next : (o : Opening) → last_of num_traces (o ∷ os) ≡ o ∷ kept
 
-pub makes_room : (limit : Option ℕ) → HasRoom limit → (os : List Opening) → Makes limit os
+pub makes_room : (num_traces : Option ℕ) → HasRoom num_traces → (os : List Opening) → Makes num_traces os
 makes_room None h os = record { kept = os; was = sym (append-nil os); with_next = λ o. refl }
 makes_room (Some zero) h os = absurd (h refl)
 makes_room (Some (suc m)) h os = record { kept = take m os; was = take_next m os ∙ ap (λ i. take m os ++ option_to_list (slice_get os i)) (sym (sub-one (suc m))); with_next = λ o. refl }
 
 sound_none : (s : Settings) → Sound s [] no_notes
-sound_none s = record { below = tt; ordered = tt; decided = tt; apart = rw (last_of_nil s.limit) tt }
+sound_none s = record { below = tt; ordered = tt; decided = tt; apart = rw (last_of_nil s.num_traces) tt }
 
-module _ (s : Settings) (room : HasRoom s.limit) (J : Journal) where
+module _ (s : Settings) (room : HasRoom s.num_traces) (J : Journal) where
   weaker : (e : Entry) (noted : Notes) → Sound s J noted → Sound s (e ∷ J) noted
   weaker e noted h = record {
     below = Each-weaker (λ (o : Opening). o.at < length J) (λ (o : Opening). o.at < suc (length J)) noted.openings (λ o l. omega arith) h.below;
@@ -46,8 +46,8 @@ module _ (s : Settings) (room : HasRoom s.limit) (J : Journal) where
       k : Sound s (e ∷ J) noted
       k = weaker e noted h
 
-      m : Makes s.limit noted.openings
-      m = makes_room s.limit room noted.openings
+      m : Makes s.num_traces noted.openings
+      m = makes_room s.num_traces room noted.openings
 
       go : Meeting s noted t → Sound s (e ∷ J) (after_finding s t lost (length J) now noted (finding s noted t))
       go (it_joins o newer older is same d l n b f) = rw f k
@@ -57,8 +57,8 @@ module _ (s : Settings) (room : HasRoom s.limit) (J : Journal) where
         ordered = (h.below, h.ordered);
         decided = k.decided;
         apart = rw (m.with_next (record { at = length J; trace = t; moment = now })) (
-          (Each-left (IsApart (is_open noted) (record { at = length J; trace = t; moment = now })) m.kept (option_to_list (leaving s.limit noted.openings)) (rw (m.was) at others)),
-          (Pairs-left (IsApart (is_open noted)) m.kept (option_to_list (leaving s.limit noted.openings)) (rw (m.was) at (h.apart))),
+          (Each-left (IsApart (is_open noted) (record { at = length J; trace = t; moment = now })) m.kept (option_to_list (leaving s.num_traces noted.openings)) (rw (m.was) at others)),
+          (Pairs-left (IsApart (is_open noted)) m.kept (option_to_list (leaving s.num_traces noted.openings)) (rw (m.was) at (h.apart))),
         );
       })
 
@@ -113,13 +113,13 @@ Each-due P s e J (End i) noted h = go (has_finished s e J) (Each-undecided P s n
     go false k = Each-filter P (is_oversized s (e ∷ J)) (undecided s noted) k
 
 pub Each-buffer : (P : Opening → Type 0) (s : Settings) (noted : Notes) → Each P noted.openings → Each P (in_buffer s noted)
-Each-buffer P s noted h = let f = buffer_front s.limit noted.openings in Each-left P (in_buffer s noted) f.0 (rw f.1 at h)
+Each-buffer P s noted h = let f = buffer_front s.num_traces noted.openings in Each-left P (in_buffer s noted) f.0 (rw f.1 at h)
 
 pub decisions_below : (s : Settings) (e : Entry) (J : Journal) (noted : Notes) → Sound s (e ∷ J) noted → Each (λ (d : Decision). d.opening.at < length (e ∷ J)) (decisions_at s e J noted)
 decisions_below s e J noted h = in_turn_below s (e ∷ J) (suc (length J)) (due_at s e J e.item noted) e.answers
     (Each-due (λ (o : Opening). o.at < suc (length J)) s e J e.item noted (Each-buffer (λ (o : Opening). o.at < suc (length J)) s noted h.below))
 
-pub sound_notes : (s : Settings) → HasRoom s.limit → (J : Journal) → Sound s J (notes s J)
+pub sound_notes : (s : Settings) → HasRoom s.num_traces → (J : Journal) → Sound s J (notes s J)
 unfolding notes
 sound_notes s room [] = sound_none s
 sound_notes s room (e ∷ J) =
@@ -132,7 +132,7 @@ Each-take P zero xs h = tt
 Each-take P (suc n) [] h = tt
 Each-take P (suc n) (x ∷ xs) h = (h.0, Each-take P n xs h.1)
 
-pub sound_dealt : (s : Settings) → HasRoom s.limit → (J : Journal) (dealt : ℕ) → Sound s J (notes_dealt s J dealt)
+pub sound_dealt : (s : Settings) → HasRoom s.num_traces → (J : Journal) (dealt : ℕ) → Sound s J (notes_dealt s J dealt)
 sound_dealt s room [] dealt = sound_none s
 sound_dealt s room (e ∷ J) dealt =
     let noted = after_item s e J e.item (notes s J) in

@@ -1,5 +1,5 @@
--- The parts of a standing: an episode one entry later, the lists that it is made of, and what the caches hold and become.
--- For `keeps_standing` of `laws`.
+-- The parts of a standing: an episode one entry later, the lists that it is made of, and what the caches hold and
+-- become. For `keeps_standing` of `laws`.
 use Rattle.std.proofs.Common.{le-leb, ◌≡◌, ℕ, zero, suc, ◌-◌, ◌≤◌, nat_le, Bool, true, false, not, ◌&&◌, ◌||◌, cond, ◌==◌, List, [], ◌∷◌, ◌++◌, map, length, take, find, slice_get, Option, Some, None, option_map, option_to_list, refl, ap, sym, ◌∙◌, arith, append-nil, ne_eqb, eq-eqb}
 use Rattle.std.specs.List.{list_any}
 use Rattle.span_ids.proofs.SameTraces.{same_trace-refl}
@@ -56,8 +56,8 @@ map_same f g (o ∷ os) h = rw (h.0) (ap (λ (es : List Episode). g o ∷ es) (m
 -- an entry that joins no episode changes none
 pub episode_same : (s : Settings) (e : Entry) (past : Journal) (noted : Notes) (o : Opening) → item_spans o (length past) e.refused e.item ≡ [] → episode s (e ∷ past) noted o ≡ episode s past noted o
 episode_same s e past noted o none =
-    ap (λ (xs : List Arrival). record { trace = o.trace; moment = o.moment; maximum = s.maximum_size; first_root = root_left (root_among (first_root_since past o) (clock (e ∷ past)) xs) (decided_as noted o.at); spans = spans_left (spans_since past o ++ xs) (decided_as noted o.at); verdict = decided_as noted o.at }) none
-    ∙ ap (λ (spans : List Arrival). record { trace = o.trace; moment = o.moment; maximum = s.maximum_size; first_root = root_left (first_root_since past o) (decided_as noted o.at); spans = spans_left spans (decided_as noted o.at); verdict = decided_as noted o.at }) (append-nil (spans_since past o))
+    ap (λ (xs : List Arrival). record { trace = o.trace; moment = o.moment; maximum = s.maximum_trace_size; first_root = root_left (root_among (first_root_since past o) (clock (e ∷ past)) xs) (decided_as noted o.at); spans = spans_left (spans_since past o ++ xs) (decided_as noted o.at); verdict = decided_as noted o.at }) none
+    ∙ ap (λ (spans : List Arrival). record { trace = o.trace; moment = o.moment; maximum = s.maximum_trace_size; first_root = root_left (first_root_since past o) (decided_as noted o.at); spans = spans_left spans (decided_as noted o.at); verdict = decided_as noted o.at }) (append-nil (spans_since past o))
 
 -- a decided episode holds no spans
 pub episode_decided : (s : Settings) (later past : Journal) (noted : Notes) (o : Opening) (v : Verdict) → decided_as noted o.at ≡ Some v → episode s later noted o ≡ episode s past noted o
@@ -125,7 +125,7 @@ buffered_not_cached s noted n w p k v true e =
     let own = λ (o : Opening). same_trace o.trace p.trace in
     let old = w.held v p.trace e in
     let q = some_found own (in_buffer s noted) (ap (list_any own) k.is ∙ any_split own k.front k.back p (same_trace-refl p.trace)) in
-    let front = buffer_front s.limit noted.openings in
+    let front = buffer_front s.num_traces noted.openings in
     let l : latest_episode noted p.trace ≡ Some q.0 = ap (find own) front.1 ∙ find_front own (in_buffer s noted) front.0 q.0 q.1 in
     let is : q.0 ≡ old.opening = cc (l, old.latest) in
     let at = found own (in_buffer s noted) q.0 q.1 in

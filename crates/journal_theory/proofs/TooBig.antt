@@ -15,7 +15,7 @@ too_big_is_not_sampled s past o answers h =
     let spans = spans_since past o in
     (ap (λ b. verdict_given (cond b no_more s.policies) answers spans) h, ap (λ b. asked_given (cond b no_more s.policies) answers spans) h)
 
-none_oversized : (s : Settings) (past : Journal) (noted : Notes) → s.maximum_size ≡ 0 → oversized s past noted ≡ []
+none_oversized : (s : Settings) (past : Journal) (noted : Notes) → s.maximum_trace_size ≡ 0 → oversized s past noted ≡ []
 none_oversized s past noted h = filter-none (is_oversized s past) (undecided s noted)
     (Each-all (λ (o : Opening). is_oversized s past o ≡ false) (λ o. ap (λ maximum. is_too_big maximum (spans_since past o)) h) (undecided s noted))
 

@@ -9,8 +9,8 @@ use Rattle.span_ids.specs.declared.outcome.Verdict.{Verdict}
 
 -- an undecided episode is due where it, or its first root, had waited long enough at the last tick, or it is too big,
 -- or all senders have ended
-abbrev pub is_due_by : (finished : Bool) → (mark wait root_wait : ℕ) → Episode → Bool
-is_due_by finished mark wait root_wait e = is_none e.verdict && (finished || (nat_le (e.moment + wait) mark || is_root_due mark root_wait e.first_root || is_too_big e.maximum e.spans))
+abbrev pub is_due_by : (finished : Bool) → (mark decision_wait root_wait : ℕ) → Episode → Bool
+is_due_by finished mark decision_wait root_wait e = is_none e.verdict && (finished || (nat_le (e.moment + decision_wait) mark || is_root_due mark root_wait e.first_root || is_too_big e.maximum e.spans))
 
 -- the first episode that passes is decided so
 abbrev pub decide_first : (Episode → Bool) → Verdict → List Episode → List Episode
@@ -18,12 +18,12 @@ decide_first p v [] = []
 decide_first p v (e ∷ rest) = if p e then settled v e ∷ rest else e ∷ decide_first p v rest
 
 -- an episode of a shard with this wait is due
-abbrev pub is_due_held : (wait root_wait : ℕ) → Standing → Episode → Bool
-is_due_held wait root_wait st e = is_due_by (list_all (λ b. b) st.ends) st.mark wait root_wait e
+abbrev pub is_due_held : (decision_wait root_wait : ℕ) → Standing → Episode → Bool
+is_due_held decision_wait root_wait st e = is_due_by (list_all (λ b. b) st.ends) st.mark decision_wait root_wait e
 
 -- what a shard holds after the first episode that is due was decided so: its spans are handed out
 abbrev pub after_deciding : Settings → Standing → Verdict → Standing
-after_deciding s st v = record st { episodes = decide_first (is_due_held s.wait s.root_wait st) v st.episodes }
+after_deciding s st v = record st { episodes = decide_first (is_due_held s.decision_wait s.root_wait st) v st.episodes }
 
 -- the next decision, by the first episode that is due: whatever the limiter answers, it is on the spans that the shard
 -- holds
@@ -36,5 +36,5 @@ DecidesNext s past dealt (Some e) = (o : Opening) × (later : List Opening) × (
 -- decisions so far are answered: what is due in a shard is the journal's next decision, and what a shard holds after it
 -- is computed from what it held before.
 abbrev pub DecidesStanding : Type 0
-DecidesStanding = (s : Settings) (past : Journal) (dealt : ℕ) → s.limit ≢ Some 0 → 0 < s.wait → StoppedInTime s past → IsAnsweredUpTo s past dealt
-    → let st = standing s past dealt in DecidesNext s past dealt (find (is_due_held s.wait s.root_wait st) st.episodes)
+DecidesStanding = (s : Settings) (past : Journal) (dealt : ℕ) → s.num_traces ≢ Some 0 → 0 < s.decision_wait → StoppedInTime s past → IsAnsweredUpTo s past dealt
+    → let st = standing s past dealt in DecidesNext s past dealt (find (is_due_held s.decision_wait s.root_wait st) st.episodes)

@@ -85,7 +85,7 @@ effect_of_leaving before noted (Some o) = effect_of_leaving_decided Evicted (spa
 abbrev pub effect_of_finding : Settings → (before : Journal) → Notes → Arrival → Finding → Effect
 effect_of_finding s before noted a (meets o v) = effect_of_verdict LateNotSampled (a ∷ []) v
 effect_of_finding s before noted a (joins o) = no_effect
-effect_of_finding s before noted a opens = effect_of_leaving before noted (leaving s.limit noted.openings)
+effect_of_finding s before noted a opens = effect_of_leaving before noted (leaving s.num_traces noted.openings)
 
 -- a span with these ids
 abbrev pub effect_of_span : Settings → (before : Journal) → (refused : Bool) → Arrival → Option Ids → Effect

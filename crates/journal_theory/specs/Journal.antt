@@ -25,16 +25,16 @@ pub record Entry : Type 0 where
   pub lost : Bool
   pub answers : List (List Bool)
 
--- the settings of a shard: times are milliseconds, a `root_wait` of 0 is off, a `limit` of None is no limit, and the
--- greatest size of a trace is bytes, where 0 is none
+-- the settings of a shard: times are milliseconds, a `root_wait` of 0 is off, a `num_traces` of None is no limit, and
+-- the greatest size of a trace is bytes, where 0 is none
 pub record Settings : Type 0 where
   pub policies : Policies
-  pub wait : ℕ
+  pub decision_wait : ℕ
   pub root_wait : ℕ
-  pub maximum_size : ℕ
-  pub limit : Option ℕ
-  pub sampled_size : ℕ
-  pub non_sampled_size : ℕ
+  pub maximum_trace_size : ℕ
+  pub num_traces : Option ℕ
+  pub sampled_cache_size : ℕ
+  pub non_sampled_cache_size : ℕ
   pub senders : ℕ
 
 -- what a shard has taken, the newest first
@@ -108,14 +108,14 @@ pub record Notes : Type 0 where
 
 -- ---- the buffer
 
--- the last `limit` of the openings, or all
+-- the last `num_traces` of the openings, or all
 abbrev pub last_of : Option ℕ → List Opening → List Opening
 last_of None openings = openings
-last_of (Some limit) openings = take limit openings
+last_of (Some num_traces) openings = take num_traces openings
 
--- the openings of the episodes in the buffer: fewer than `limit` openings lie after each
+-- the openings of the episodes in the buffer: fewer than `num_traces` openings lie after each
 abbrev pub in_buffer : Settings → Notes → List Opening
-in_buffer s noted = last_of s.limit noted.openings
+in_buffer s noted = last_of s.num_traces noted.openings
 
 -- the episode that opened at this position is in the buffer
 abbrev pub is_in_buffer : Settings → Notes → (opened_at : ℕ) → Bool
@@ -124,7 +124,7 @@ is_in_buffer s noted opened_at = list_any (λ o. o.at == opened_at) (in_buffer s
 -- the episode that the next opening puts out of a full buffer
 abbrev pub leaving : Option ℕ → List Opening → Option Opening
 leaving None openings = None
-leaving (Some limit) openings = slice_get openings (limit - 1)
+leaving (Some num_traces) openings = slice_get openings (num_traces - 1)
 
 -- the verdict of the episode that opened at this position, once it is decided
 abbrev pub decided_as : Notes → (opened_at : ℕ) → Option Verdict
@@ -142,8 +142,8 @@ latest_episode noted t = find (λ o. same_trace o.trace t) noted.openings
 
 -- the size of the cache of a verdict
 abbrev pub cache_size : Settings → Verdict → ℕ
-cache_size s Sampled = s.sampled_size
-cache_size s NotSampled = s.non_sampled_size
+cache_size s Sampled = s.sampled_cache_size
+cache_size s NotSampled = s.non_sampled_cache_size
 
 -- its episode left without losing the verdict, and fewer other traces were touched since than the cache has room for
 abbrev pub is_cached : Settings → Notes → Opening → Verdict → Bool
@@ -215,12 +215,12 @@ is_root_past root_wait now (e ∷ before) o = is_root_past root_wait now before 
 
 -- the spans of the opening's episode have more bytes than a trace may have
 abbrev pub is_oversized : Settings → Journal → Opening → Bool
-is_oversized s past o = is_too_big s.maximum_size (spans_since past o)
+is_oversized s past o = is_too_big s.maximum_trace_size (spans_since past o)
 
 -- whether an undecided episode is due at a tick, the journal's last item: it opened long enough before, or root wait is
 -- on and some root was taken long enough before, or it is too big
 abbrev pub is_due : Settings → Journal → Opening → Bool
-is_due s past o = nat_le (o.moment + s.wait) (clock past) || (nat_lt 0 s.root_wait && is_root_past s.root_wait (clock past) past o) || is_oversized s past o
+is_due s past o = nat_le (o.moment + s.decision_wait) (clock past) || (nat_lt 0 s.root_wait && is_root_past s.root_wait (clock past) past o) || is_oversized s past o
 
 -- the senders' Ends became complete
 abbrev pub has_finished : Settings → Entry → (before : Journal) → Bool
@@ -240,7 +240,7 @@ due_at s e before (End sender) noted = if has_finished s e before then undecided
 
 -- the policies that decide on these spans: none where they are too big, which doesn't sample and asks nothing
 abbrev pub policies_for : Settings → List Arrival → Policies
-policies_for s spans = if is_too_big s.maximum_size spans then no_more else s.policies
+policies_for s spans = if is_too_big s.maximum_trace_size spans then no_more else s.policies
 
 -- the decision of an episode at the journal's end, where the limiter answers so
 abbrev pub decision : Settings → Journal → Opening → (answers : List Bool) → Decision
@@ -275,7 +275,7 @@ after_finding s t lost at clock_after noted (joins o) = noted
 after_finding s t lost at clock_after noted (meets o v) = record noted { touches = (if is_in_buffer s noted o.at then [] else touch o v ∷ []) ++ noted.touches }
 after_finding s t lost at clock_after noted opens = record noted {
   openings = record { at = at; trace = t; moment = clock_after } ∷ noted.openings;
-  touches = (if lost then [] else touch_of_leaving noted (leaving s.limit noted.openings)) ++ noted.touches;
+  touches = (if lost then [] else touch_of_leaving noted (leaving s.num_traces noted.openings)) ++ noted.touches;
 }
 
 -- the notes after a span with these ids

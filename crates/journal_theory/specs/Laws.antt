@@ -35,5 +35,5 @@ state_in st t = state_by st t (find (λ e. same_trace e.trace t) st.episodes)
 -- For a limit of at least 1: what a span finds, looking back over the journal, is how its trace stands in a shard that
 -- stands for the journal, once each decision was dealt with.
 abbrev pub FoundAsHeld : Type 0
-FoundAsHeld = (s : Settings) (past : Journal) (dealt : ℕ) (t : TraceId) → s.limit ≢ Some 0 → length (due_now s past) ≤ dealt
+FoundAsHeld = (s : Settings) (past : Journal) (dealt : ℕ) (t : TraceId) → s.num_traces ≢ Some 0 → length (due_now s past) ≤ dealt
     → state_found (finding s (notes s past) t) ≡ state_in (standing s past dealt) t

@@ -22,7 +22,7 @@ cache_is_on s (Some v) = nat_lt 0 (cache_size s v)
 abbrev pub loss_applies : Settings → Notes → Finding → Bool
 loss_applies s noted (joins o) = false
 loss_applies s noted (meets o v) = false
-loss_applies s noted opens = cache_is_on s (option_and_then (λ (o : Opening). decided_as noted o.at) (leaving s.limit noted.openings))
+loss_applies s noted opens = cache_is_on s (option_and_then (λ (o : Opening). decided_as noted o.at) (leaving s.num_traces noted.openings))
 
 -- the marks are such as can apply to a span that finds this
 abbrev pub marks_apply_to : Settings → Notes → (refused lost : Bool) → Finding → Bool

@@ -6,7 +6,7 @@ use Rattle.journal_theory.specs.Standing.{first_root_since}
 
 -- with root wait off, an episode is due by its opening, or its size
 abbrev pub RootWaitOff : Type 0
-RootWaitOff = (s : Settings) (past : Journal) (o : Opening) → s.root_wait ≡ 0 → is_due s past o ≡ (nat_le (o.moment + s.wait) (clock past) || is_oversized s past o)
+RootWaitOff = (s : Settings) (past : Journal) (o : Opening) → s.root_wait ≡ 0 → is_due s past o ≡ (nat_le (o.moment + s.decision_wait) (clock past) || is_oversized s past o)
 
 -- some root is past exactly where the first one is: the clock doesn't go back
 abbrev pub DueByFirstRoot : Type 0

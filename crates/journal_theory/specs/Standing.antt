@@ -45,7 +45,7 @@ root_left root (Some v) = None
 -- the episode of an opening
 abbrev pub episode : Settings → Journal → Notes → Opening → Episode
 episode s past noted o = let verdict = decided_as noted o.at in
-    record { trace = o.trace; moment = o.moment; maximum = s.maximum_size; first_root = root_left (first_root_since past o) verdict; spans = spans_left (spans_since past o) verdict; verdict = verdict }
+    record { trace = o.trace; moment = o.moment; maximum = s.maximum_trace_size; first_root = root_left (first_root_since past o) verdict; spans = spans_left (spans_since past o) verdict; verdict = verdict }
 
 -- what is told of the episode that leaves: its trace, how many spans it still holds, and its verdict
 abbrev pub evicted_of : Settings → (before : Journal) → Notes → Opening → Evicted

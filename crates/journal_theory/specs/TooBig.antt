@@ -13,4 +13,4 @@ TooBigIsNotSampled = (s : Settings) (past : Journal) (o : Opening) (answers : Li
 
 -- without a maximum nothing is due at a span
 abbrev pub NoneTooBigWithoutMaximum : Type 0
-NoneTooBigWithoutMaximum = (s : Settings) (e : Entry) (before : Journal) (a : Arrival) → s.maximum_size ≡ 0 → e.item ≡ Span a → due_now s (e ∷ before) ≡ []
+NoneTooBigWithoutMaximum = (s : Settings) (e : Entry) (before : Journal) (a : Arrival) → s.maximum_trace_size ≡ 0 → e.item ≡ Span a → due_now s (e ∷ before) ≡ []

@@ -2,12 +2,12 @@
 ghost use Rattle.std.specs.Prelude.{◌≡◌, ◌<◌, ◌≤◌, Some, IfOk, length, ⊤};
 ghost use Rattle.lane_turns.specs.Driving.{FitsNext};
 
-use crate::link::{Got, Link, Looked, Phase, Step};
+use crate::link::{ConnectionSocket, Got, Looked, Phase, SocketStep};
 use crate::links::Links;
-use crate::loads::Share;
+use crate::loads::ConnectionShare;
 use crate::readiness::{Accepted, EVENTS, NAP, Readiness, Ready};
 use crate::walk::Walk;
-use http_lane::{IDLE_LIMIT, ServeEnd, Stop};
+use http_lane::{HasStopMark, IDLE_LIMIT, ServeEnd};
 use lane_turns::{Done, Driver, Leaving, Next};
 use mio::net::TcpStream;
 use std::alloc::Global;
@@ -40,7 +40,7 @@ enum Follows {
 /// Drives a lane by the readiness of its connections, which it takes of a listener that doesn't block. Several lanes
 /// may share the listener: each connection goes to one of them.
 #[derive(Drop)]
-pub struct TurnDriver<'l, P: Stop> {
+pub struct TurnDriver<'l, P: HasStopMark> {
     alloc: Global,
     stop: &'l P,
     readiness: Readiness<'l>,
@@ -65,18 +65,18 @@ pub struct TurnDriver<'l, P: Stop> {
     now: u64,
 }
 
-impl<'l, P: Stop> TurnDriver<'l, P> {
+impl<'l, P: HasStopMark> TurnDriver<'l, P> {
     /// One with no connection.
     pub fn new<R: Net + Clock>(
         rt: &R,
         alloc: Global,
         listener: &'l TcpListener,
         stop: &'l P,
-        share: Share,
+        share: ConnectionShare,
     ) -> io::Result<Self>
         ensures { IfOk result (λ driver. driver.links.limit ≡ share.limit) }
     {
-        let Share { limit, loads, lane } = share;
+        let ConnectionShare { limit, loads, lane } = share;
         Ok(TurnDriver {
             alloc,
             stop,
@@ -106,14 +106,14 @@ impl<'l, P: Stop> TurnDriver<'l, P> {
     }
 
     /// The link at this place goes on so.
-    fn goes(&mut self, place: usize, step: Step) {
+    fn goes(&mut self, place: usize, step: SocketStep) {
         if self.current == Some(place) {
             self.current = None;
         }
         match step {
-            Step::Waits => self.watch_deadline(place),
-            Step::GoesOn => self.links.list(place),
-            Step::Over => self.forget(place),
+            SocketStep::Waits => self.watch_deadline(place),
+            SocketStep::GoesOn => self.links.list(place),
+            SocketStep::Over => self.forget(place),
         }
     }
 
@@ -142,13 +142,13 @@ impl<'l, P: Stop> TurnDriver<'l, P> {
                     return self.leave(place, key, Leaving::WriteFailed);
                 }
                 if !link.outgoing.is_empty() {
-                    Step::Waits
+                    SocketStep::Waits
                 } else if reads == 0 {
-                    Step::GoesOn
+                    SocketStep::GoesOn
                 } else {
                     match link.receive(piece) {
                         Got::Bytes(len) => return self.came(place, key, len),
-                        Got::Nothing => Step::Waits,
+                        Got::Nothing => SocketStep::Waits,
                         Got::End => return self.leave(place, key, Leaving::Over),
                         Got::Fault => return self.leave(place, key, Leaving::ReadFailed),
                     }
@@ -368,7 +368,8 @@ impl<'l, P: Stop> TurnDriver<'l, P> {
         let (Some(key), Some(stream)) = (key, self.arrived.take()) else {
             return;
         };
-        let link = Link::new(self.alloc, stream, key, self.now.saturating_add(IDLE_LIMIT));
+        let until = self.now.saturating_add(IDLE_LIMIT);
+        let link = ConnectionSocket::new(self.alloc, stream, key, until);
         let Some(place) = self.links.insert(link) else {
             self.orphan = Some(key);
             return;
@@ -415,7 +416,7 @@ impl<'l, P: Stop> TurnDriver<'l, P> {
     }
 }
 
-impl<'l, P: Stop> Driver for TurnDriver<'l, P> {
+impl<'l, P: HasStopMark> Driver for TurnDriver<'l, P> {
     ghost asks = { λ old next moment piece new. ⊤ };
 
     ghost hears = { λ old done text new. ⊤ };

@@ -7,7 +7,7 @@
 //! a while, so that the answer reaches it (RFC 9112, section 9.6).
 //!
 //! ```
-//! let share = Share { limit: 64, loads, lane: 0 };
+//! let share = ConnectionShare { limit: 64, loads, lane: 0 };
 //! let driver = TurnDriver::new(&rt, alloc, &listener, &mark, share)?;
 //! ```
 #![tactic(auto)]
@@ -23,6 +23,6 @@ mod walk;
 
 pub use driver::TurnDriver;
 pub use link::{LINGER_BYTES, LINGER_LIMIT, WRITE_LIMIT};
-pub use loads::{Loads, Share};
-pub use outgoing::{Outgoing, Sent};
+pub use loads::{ConnectionShare, Loads};
+pub use outgoing::{Outgoing, SendResult};
 pub use traffic::Traffic;

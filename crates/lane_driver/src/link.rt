@@ -1,7 +1,7 @@
 //! A connection's socket.
 ghost use Rattle.std.specs.Prelude.{◌≡◌, ◌<◌, ◌≤◌, ℕ, [], length};
 
-use crate::outgoing::{Outgoing, Sent};
+use crate::outgoing::{Outgoing, SendResult};
 use http_lane::ServeEnd;
 use lane_turns::Leaving;
 use mio::net::TcpStream;
@@ -37,7 +37,7 @@ pub enum Phase {
 
 /// How a connection goes on.
 #[derive(Clone, Copy, PartialEq, Eq)]
-pub enum Step {
+pub enum SocketStep {
     /// It waits until it is ready.
     Waits,
     /// It may go on at once.
@@ -74,7 +74,7 @@ pub enum Got {
 
 /// A connection's socket, and what is to be sent there.
 #[derive(Drop)]
-pub struct Link {
+pub struct ConnectionSocket {
     pub stream: TcpStream,
     pub outgoing: Outgoing,
     /// Its key in the lane's table, until it has ended there.
@@ -90,10 +90,10 @@ pub struct Link {
     pub is_listed: bool,
 }
 
-impl Link {
+impl ConnectionSocket {
     /// A connection that has just come.
     pub fn new(alloc: Global, stream: TcpStream, key: usize, due: u64) -> Self {
-        Link {
+        ConnectionSocket {
             stream,
             outgoing: Outgoing::new(alloc),
             key,
@@ -155,9 +155,9 @@ impl Link {
                 return true;
             }
             match self.outgoing.send(&mut self.stream) {
-                Sent::Some => self.since = moment,
-                Sent::Blocked => return true,
-                Sent::Failed => return false,
+                SendResult::Some => self.since = moment,
+                SendResult::Blocked => return true,
+                SendResult::Failed => return false,
             }
         }
         true
@@ -172,50 +172,50 @@ impl Link {
     }
 
     /// Its connection has ended in the lane's table. An answer that closes is still to be sent.
-    pub fn end(&mut self, end: ServeEnd, moment: u64) -> Step {
+    pub fn end(&mut self, end: ServeEnd, moment: u64) -> SocketStep {
         if end != ServeEnd::Answered {
-            return Step::Over;
+            return SocketStep::Over;
         }
         self.phase = Phase::Closing;
         self.close(moment)
     }
 
     /// Sends the rest of the last answer, and then tells the client that nothing more comes.
-    pub fn close(&mut self, moment: u64) -> Step {
+    pub fn close(&mut self, moment: u64) -> SocketStep {
         if !self.flush(moment) {
-            return Step::Over;
+            return SocketStep::Over;
         }
         if !self.outgoing.is_empty() {
-            return Step::Waits;
+            return SocketStep::Waits;
         }
         if self.stream.shutdown(Shutdown::Write).is_err() {
-            return Step::Over;
+            return SocketStep::Over;
         }
         self.phase = Phase::Lingering { left: LINGER_BYTES };
         self.since = moment;
-        Step::GoesOn
+        SocketStep::GoesOn
     }
 
     /// Throws away what came, of which so many bytes may come still.
-    pub fn drain(&mut self, piece: &mut [u8], left: usize) -> Step {
+    pub fn drain(&mut self, piece: &mut [u8], left: usize) -> SocketStep {
         let mut left = left;
         for _ in 0..THROWN {
             match read(&mut self.stream, piece) {
                 Got::Bytes(n) => {
                     if n >= left {
-                        return Step::Over;
+                        return SocketStep::Over;
                     }
                     left -= n;
                 }
                 Got::Nothing => {
                     self.phase = Phase::Lingering { left };
-                    return Step::Waits;
+                    return SocketStep::Waits;
                 }
-                Got::End | Got::Fault => return Step::Over,
+                Got::End | Got::Fault => return SocketStep::Over,
             }
         }
         self.phase = Phase::Lingering { left };
-        Step::GoesOn
+        SocketStep::GoesOn
     }
 }
 

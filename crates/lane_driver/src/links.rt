@@ -2,7 +2,7 @@
 ghost use Rattle.std.specs.Prelude.{◌≡◌, ◌≤◌, ◌<◌, ◌+◌, IfSome, IsFalse, IsTrue};
 ghost use Rattle.slab.specs.Slab.{slab_len};
 
-use crate::link::{Link, Phase};
+use crate::link::{ConnectionSocket, Phase};
 use crate::loads::Loads;
 use crate::readiness::NAP;
 use crate::traffic::Traffic;
@@ -21,7 +21,7 @@ const MOST_PATIENCE: u64 = 32;
 /// The sockets of the connections that are served, and of those whose last answer is under way, each at its place.
 #[derive(Drop)]
 pub struct Links {
-    slab: Slab<Link>,
+    slab: Slab<ConnectionSocket>,
     /// So many are open at once at most, besides one that came last.
     pub limit: usize,
     /// Places from which on there is no link.
@@ -93,17 +93,17 @@ impl Links {
     }
 
     /// The link at this place.
-    pub fn get(&self, place: usize) -> Option<&Link> {
+    pub fn get(&self, place: usize) -> Option<&ConnectionSocket> {
         self.slab.get(place)
     }
 
     /// The same, to be changed.
-    pub fn get_mut(&mut self, place: usize) -> Option<&mut Link> {
+    pub fn get_mut(&mut self, place: usize) -> Option<&mut ConnectionSocket> {
         self.slab.get_mut(place)
     }
 
     /// One more, and its place. `None`: there is no memory for it, or more are open than may be.
-    pub fn insert(&mut self, link: Link) -> Option<usize>
+    pub fn insert(&mut self, link: ConnectionSocket) -> Option<usize>
         ensures { IfSome result (λ _. slab_len self.new.slab ≤ self.new.limit + 1) }
     {
         if self.is_beyond_limit() {

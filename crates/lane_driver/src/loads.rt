@@ -54,7 +54,7 @@ impl Loads {
 
 /// A lane's share of the connections.
 #[derive(Drop)]
-pub struct Share {
+pub struct ConnectionShare {
     /// How many may be open at most.
     pub limit: usize,
     /// How many each lane has.

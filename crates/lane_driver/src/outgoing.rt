@@ -8,7 +8,7 @@ use std::marker::Model;
 
 /// What a write that doesn't wait came to.
 #[derive(Clone, Copy, PartialEq, Eq)]
-pub enum Sent {
+pub enum SendResult {
     /// Some bytes were taken.
     Some,
     /// None can be taken now.
@@ -63,18 +63,18 @@ impl Outgoing {
     }
 
     /// One write: what was taken goes from the front.
-    pub fn send<W: Write>(&mut self, writer: &mut W) -> Sent
+    pub fn send<W: Write>(&mut self, writer: &mut W) -> SendResult
         ensures { (sent : List ℕ) × (self.old ≡ sent ++ self.new) × Appends (W.contents writer.old) (W.contents writer.new) sent }
     {
         match writer.write(&self.bytes[self.at..]) {
-            Ok(0) => Sent::Failed,
+            Ok(0) => SendResult::Failed,
             Ok(n) => {
                 self.skip(n);
-                Sent::Some
+                SendResult::Some
             }
             Err(error) => match error.kind() {
-                ErrorKind::WouldBlock | ErrorKind::Interrupted => Sent::Blocked,
-                _ => Sent::Failed,
+                ErrorKind::WouldBlock | ErrorKind::Interrupted => SendResult::Blocked,
+                _ => SendResult::Failed,
             },
         }
     }

@@ -5,11 +5,11 @@
 //! `Sender` with the handle by which it may wait, so `try_push` is passed none. [`new_grid`] makes the queues from each
 //! of several senders to each of several receivers at once, and [`reunite_grid`] joins them again.
 //!
-//! Between threads, whatever the schedule: each sender's queue has a history at every moment. Its pushes are those of the
-//! sender's calls that were answered `Ok`, its pops those of the receiver there, each once and in order; a push is refused
-//! only where the history leaves as many items as the queue may hold, a pop answers `None` only where each queue's leaves
-//! none, and [`reunite`] gives one history of each queue that has all its pushes and pops. The definitions are in
-//! `specs/`, their reading order in its `Lib`.
+//! Between threads, whatever the schedule: each sender's queue has a history at every moment. Its pushes are those of
+//! the sender's calls that were answered `Ok`, its pops those of the receiver there, each once and in order; a push is
+//! refused only where the history leaves as many items as the queue may hold, a pop answers `None` only where each
+//! queue's leaves none, and [`reunite`] gives one history of each queue that has all its pushes and pops. The
+//! definitions are in `specs/`, their reading order in its `Lib`.
 //!
 //! ```
 //! let mut port = ListPort::new(alloc, 2)?;
@@ -36,7 +36,7 @@ mod sender_port;
 
 pub use brake::Brake;
 pub use ends::Sender;
-pub use gate::{Gate, OpenGate, Place, ShardLoad};
+pub use gate::{Gate, GatePlace, OpenGate, ShardLoad};
 pub use law::{popped_then_held_is_pushed, pops_take_turns};
 pub use list_port::ListPort;
 pub use making::{QueueGrid, new_grid};

@@ -6,8 +6,8 @@ use crate::ends::Sender;
 use crate::receiver::{Receiver, reunite};
 use crate::rule::Room;
 
-/// Joins all ends that one [`crate::new_grid`] gave: one history of each queue has all that was pushed and popped there.
-/// `rows` are the lists that it gave beside them.
+/// Joins all ends that one [`crate::new_grid`] gave: one history of each queue has all that was pushed and popped
+/// there. `rows` are the lists that it gave beside them.
 pub fn reunite_grid<T: Drop, C: Room>(
     receivers: Vec<Receiver<T, C>>,
     columns: Vec<Vec<Sender<T, C>>>,

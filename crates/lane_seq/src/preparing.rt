@@ -11,7 +11,7 @@ ghost use Rattle.lane_seq.specs.Replies.{IsRefusal};
 
 use crate::reply::{BadData, Reply};
 use otlp_flatten::flatten;
-use otlp_json::{Bad, decode};
+use otlp_json::{DecodeError, decode};
 use otlp_types::{Arrival, Record};
 use span_ids::{ArrivalKey, ConnKey, Moment};
 use std::alloc::{AllocError, Global};
@@ -53,9 +53,9 @@ pub fn prepare(
 {
     let request = match decode(alloc, keeps_doubles, body) {
         Ok(request) => request,
-        Err(Bad::Json) => return Err(Reply::BadData(BadData::Json)),
-        Err(Bad::Shape) => return Err(Reply::BadData(BadData::Shape)),
-        Err(Bad::NoMemory) => return Err(Reply::Busy),
+        Err(DecodeError::Json) => return Err(Reply::BadData(BadData::Json)),
+        Err(DecodeError::Shape) => return Err(Reply::BadData(BadData::Shape)),
+        Err(DecodeError::NoMemory) => return Err(Reply::Busy),
     };
     let Ok(records) = flatten(alloc, request) else {
         return Err(Reply::Busy);

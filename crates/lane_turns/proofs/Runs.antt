@@ -10,11 +10,11 @@ use Rattle.lane_seq.specs.Pushes.{LaneState}
 use Rattle.otlp_types.specs.declared.arrival.Item.{Item}
 use Rattle.http_text.specs.declared.allowed.Allowed.{Allowed}
 use Rattle.http_lane.specs.declared.turns.Exchange.{Exchange}
-use Rattle.http_lane.specs.Connection.{Event, Submission, SubmitsAll, submissions}
+use Rattle.http_lane.specs.Connection.{ConnectionEvent, Submission, SubmitsAll, submissions}
 use Rattle.http_lane.specs.Intake.{Intake, intake, Submits, connected}
 use Rattle.http_lane.specs.Requests.{Awaits}
 use Rattle.http_lane.specs.Turns.{Waiting, came_at, Coming, Turned, turned, IsTurn, IsTurnBy, AwaitsBy}
-use Rattle.lane_turns.specs.Acts.{Act, took, had, of_act, LaneNow, lane_now, conn_of, Numbered, numbered, TurnsOf, RunOf, HasNone, LaneDid, IsOpen, IsRun, Fits}
+use Rattle.lane_turns.specs.Acts.{Act, took, had, of_act, LaneNow, lane_now, conn_of, Numbered, numbered, TurnsOf, RunOf, HasNone, LaneDid, IsOpen, HasRun, Fits}
 
 -- ---- what is submitted leaves the connection's number
 
@@ -131,7 +131,7 @@ pub record Left (g : Allowed) (conn : Conn) (next : Waiting) (y : Exchange) : Ty
 
 module _ {P : Type 0} (takes : P → Item → P → Type 0) (refuses : P → P → Type 0) (g : Allowed) (number : ℕ) (first : LaneNow P) (before after : (key : ℕ) → Option Exchange) (acts : List Act) (now : LaneNow P)
     (key : ℕ) (x : Exchange) (at_key : before key ≡ Some x) (others : (other : ℕ) → other ≢ key → after other ≡ before other) where
-  pub fits_turn : (f : Fits (Submits takes refuses) g number first before acts now) (coming : Coming) (moment : ℕ) (is_stopped : Bool) (events : List Event) (next : Waiting) (conn : Conn) (lane : LaneState P) (counted : List ℕ)
+  pub fits_turn : (f : Fits (Submits takes refuses) g number first before acts now) (coming : Coming) (moment : ℕ) (is_stopped : Bool) (events : List ConnectionEvent) (next : Waiting) (conn : Conn) (lane : LaneState P) (counted : List ℕ)
       → IsTurnBy coming (f.each key x at_key).waiting moment is_stopped events next
       → SubmitsAll (Submits takes refuses) (intake now.lane x.conn now.counted) (submissions events) (intake lane conn counted)
       → ((y : Exchange) → after key ≡ Some y → Left g conn next y)
@@ -212,7 +212,7 @@ module _ {P : Type 0} (takes : P → Item → P → Type 0) (refuses : P → P �
           (λ (other : k ≢ key). (y, sym (others k other) ∙ e, refl))
           (same_or_not k key)
 
-      run_after : (ordinal : ℕ) → IsRun (Submits takes refuses) g number before acts ordinal → (ordinal ≡ mine) ⊎ (ordinal ≢ mine) → IsRun (Submits takes refuses) g number after (acts ++ a ∷ []) ordinal
+      run_after : (ordinal : ℕ) → HasRun (Submits takes refuses) g number before acts ordinal → (ordinal ≡ mine) ⊎ (ordinal ≢ mine) → HasRun (Submits takes refuses) g number after (acts ++ a ∷ []) ordinal
       run_after ordinal r (inl same) = record {
         last = numbered next conn.next;
         run = subst (λ k. RunOf g k (acts ++ a ∷ []) (numbered next conn.next)) (sym same) run_own;
@@ -292,7 +292,7 @@ module _ {P : Type 0} (takes : P → Item → P → Type 0) (refuses : P → P �
       apart_by k j u v e h ne same (inr p) (inl q) = absurd (omega (arith, is_y j v h q, below_mine k u e p, same))
       apart_by k j u v e h ne same (inr p) (inr q) = f.apart k j u v (sym (others k p) ∙ e) (sym (others j q) ∙ h) ne same
 
-      run_after : (ordinal : ℕ) → first.lane.connected ≤ ordinal → ordinal < mine + 1 → (ordinal ≡ mine) ⊎ (ordinal ≢ mine) → IsRun (Submits takes refuses) g number after (acts ++ a ∷ []) ordinal
+      run_after : (ordinal : ℕ) → first.lane.connected ≤ ordinal → ordinal < mine + 1 → (ordinal ≡ mine) ⊎ (ordinal ≢ mine) → HasRun (Submits takes refuses) g number after (acts ++ a ∷ []) ordinal
       run_after ordinal from below (inl same) = record {
         last = numbered (came_at g moment) 0;
         run = subst (λ k. RunOf g k (acts ++ a ∷ []) (numbered (came_at g moment) 0)) (sym same) run_own;

@@ -5,18 +5,18 @@ use Rattle.std.specs.Prelude.{slice_index_or}
 use Rattle.http_text.specs.declared.allowed.Allowed.{Allowed}
 use Rattle.http_lane.specs.declared.turns.Exchange.{Exchange}
 use Rattle.http_lane.specs.declared.answer.ServeEnd.{ServeEnd}
-use Rattle.http_lane.specs.Connection.{Reading, is_between, Event, Submission, Writes}
+use Rattle.http_lane.specs.Connection.{RequestReading, is_between, ConnectionEvent, Submission, Writes}
 use Rattle.http_lane.specs.Intake.{Intake}
 use Rattle.http_lane.specs.Turns.{Waiting, Coming, turned, IsTurnBy, AwaitsBy}
 use Rattle.lane_turns.specs.declared.serving.Next.{Next}
 use Rattle.lane_turns.specs.declared.serving.Done.{Done}
 use Rattle.lane_turns.specs.Acts.{Act, had, LaneNow, numbered, RunOf, Fits, GoesOn, AllAwait, is_full_done}
-use Rattle.lane_turns.specs.Driven.{Table, HasTurn, TurnAt, Round, IsRound, RunsFrom}
+use Rattle.lane_turns.specs.Driven.{Table, HasTurn, TurnAt, DriverRound, IsRound, RunsFrom}
 use Rattle.lane_turns.proofs.Runs.{of_own, of_other, run_more}
 
 -- ---- a turn
 
-pub has_turn : (g : Allowed) (acts : List Act) (x : Exchange) (moment : ℕ) (brings : Coming → Type 0) (writes : List ℕ → Type 0) (end : Option ServeEnd) (w : Waiting) (coming : Coming) (is_stopped : Bool) (events : List Event) (next : Waiting) (after : ℕ) (text : List ℕ)
+pub has_turn : (g : Allowed) (acts : List Act) (x : Exchange) (moment : ℕ) (brings : Coming → Type 0) (writes : List ℕ → Type 0) (end : Option ServeEnd) (w : Waiting) (coming : Coming) (is_stopped : Bool) (events : List ConnectionEvent) (next : Waiting) (after : ℕ) (text : List ℕ)
     → RunOf g x.conn.key.ordinal acts (numbered w x.conn.next) → w.end ≡ None → IsTurnBy coming w moment is_stopped events next → brings coming → next.end ≡ end → Writes events text → writes text
     → HasTurn g acts x moment brings writes end (had x.conn.key.ordinal x.conn.next after (turned coming moment is_stopped events) ∷ [])
 has_turn g acts x moment brings writes end w coming is_stopped events next after text run goes_on turn brought ends text_is written = record {
@@ -74,15 +74,15 @@ module _ {P : Type 0} (submits : Intake P → Submission → Intake P → Type 0
       let went = goes number first acts fits in (went.0, went.1, went.2 ∙ sym e, f acts went.0 (λ key x at. let o = went.1.each key x at in (o.waiting, o.awaits)) went.3)
 
 -- a request is under way where there is an engine
-pub no_engine : {E : Type 0} (awaits : E → Reading → Type 0) (g : Allowed) (engine : Option E) (r : Reading) → AwaitsBy g awaits engine r → is_between r ≡ true → engine ≡ None
+pub no_engine : {E : Type 0} (awaits : E → RequestReading → Type 0) (g : Allowed) (engine : Option E) (r : RequestReading) → AwaitsBy g awaits engine r → is_between r ≡ true → engine ≡ None
 no_engine awaits g None r a idle = refl
 no_engine awaits g (Some e) r a idle = absurd (let both = sym a.1 ∙ idle in cc)
 
-pub an_engine : {E : Type 0} (awaits : E → Reading → Type 0) (g : Allowed) (engine : Option E) (r : Reading) → AwaitsBy g awaits engine r → is_between r ≡ false → engine ≢ None
+pub an_engine : {E : Type 0} (awaits : E → RequestReading → Type 0) (g : Allowed) (engine : Option E) (r : RequestReading) → AwaitsBy g awaits engine r → is_between r ≡ false → engine ≢ None
 an_engine awaits g None r a busy = λ e. absurd (let both = sym busy ∙ ap is_between a in cc)
 an_engine awaits g (Some x) r a busy = λ e. absurd cc
 
-pub idle_is : {E : Type 0} (awaits : E → Reading → Type 0) (g : Allowed) (engine : Option E) (r : Reading) → AwaitsBy g awaits engine r → is_between r ≡ not (is_some engine)
+pub idle_is : {E : Type 0} (awaits : E → RequestReading → Type 0) (g : Allowed) (engine : Option E) (r : RequestReading) → AwaitsBy g awaits engine r → is_between r ≡ not (is_some engine)
 idle_is awaits g None r a = ap is_between a
 idle_is awaits g (Some e) r a = a.1
 
@@ -96,11 +96,11 @@ some_open (Some x ∷ slots) e = (0, refl)
 module _ {D P : Type 0} (asks : D → Next → ℕ → List ℕ → D → Type 0) (hears : D → Done → List ℕ → D → Type 0) (submits : Intake P → Submission → Intake P → Type 0) (g : Allowed) (first : LaneNow P)
     (driver : D) (open_at : Table) (acts : List Act) (now : LaneNow P) where
   -- one round more, and the rounds behind it
-  pub more_rounds : (r : Round D P) (rounds : List (Round D P)) (last : D) (after : LaneNow P) (is_full : Bool) → IsRound asks hears submits g first driver open_at acts r → is_full_done r.done ≡ false
+  pub more_rounds : (r : DriverRound D P) (rounds : List (DriverRound D P)) (last : D) (after : LaneNow P) (is_full : Bool) → IsRound asks hears submits g first driver open_at acts r → is_full_done r.done ≡ false
       → RunsFrom asks hears submits g first r.told r.open_at (acts ++ r.acts) r.now rounds last after is_full → RunsFrom asks hears submits g first driver open_at acts now (r ∷ rounds) last after is_full
   more_rounds r rounds last after is_full round e rest = (round, of_other _ _ (is_full_done r.done) e rest)
 
   -- the last round, in which a count would have passed 2^64-1
-  pub last_round : (r : Round D P) → IsRound asks hears submits g first driver open_at acts r → is_full_done r.done ≡ true
+  pub last_round : (r : DriverRound D P) → IsRound asks hears submits g first driver open_at acts r → is_full_done r.done ≡ true
       → RunsFrom asks hears submits g first driver open_at acts now (r ∷ []) r.told r.now true
   last_round r round e = (round, of_own _ _ (is_full_done r.done) e (refl, refl, refl, refl))

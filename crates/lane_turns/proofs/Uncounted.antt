@@ -1,14 +1,14 @@
--- A turn ends its connection because a count would have passed 2^64-1 exactly where the spans of some request of it found no place in the counts.
--- For the clauses `fits` of `came`, `waited` and `leave`.
+-- A turn ends its connection because a count would have passed 2^64-1 exactly where the spans of some request of it
+-- found no place in the counts. For the clauses `fits` of `came`, `waited` and `leave`.
 use Rattle.std.proofs.Common.{◌≡◌, ℕ, ◌+◌, ◌||◌, Bool, true, false, not, List, [], ◌∷◌, ◌++◌, Option, Some, None, MatchOption, MatchBool, inl, inr, refl, sym, ap, ◌∙◌}
 use Rattle.std.specs.Prelude.{if◌then◌else◌, nat_le}
 use Rattle.std.proofs.lemmas.List.Folds.{list_any-append}
-use Rattle.http_lane.specs.declared.answer.Fate.{Fate}
-use Rattle.http_lane.specs.declared.answer.Fate.TheVariants.{Written, Uncounted, Unmade, Unwritten}
+use Rattle.http_lane.specs.declared.answer.EventFate.{EventFate}
+use Rattle.http_lane.specs.declared.answer.EventFate.TheVariants.{Written, Uncounted, Unmade, Unwritten}
 use Rattle.http_lane.specs.declared.answer.ServeEnd.{ServeEnd}
 use Rattle.http_lane.specs.declared.answer.ServeEnd.TheVariants.{Closed, Cut, Quiet}
 use Rattle.http_lane.specs.declared.turns.TheConstants.{IDLE_LIMIT}
-use Rattle.http_lane.specs.Connection.{Reading, Cause, accepts, refusal, close_asked, starved, stopping, timed_out, submitted, Event, Settles, end_of, end_with, closes, can_be, is_between, Submission, submissions, submission_by}
+use Rattle.http_lane.specs.Connection.{RequestReading, Cause, accepts, refusal, close_asked, starved, stopping, timed_out, submitted, ConnectionEvent, Settles, end_of, end_with, closes, can_be, is_between, Submission, submissions, submission_by}
 use Rattle.http_lane.specs.Turns.{Waiting, Coming, came, unkept, nothing, over, read_failed, write_failed, dismissed, IsTurnBy, IsLate, idle_end}
 use Rattle.lane_turns.specs.Acts.{Act, any_uncounted, act_uncounted, acts_uncounted, is_full_end}
 
@@ -29,7 +29,7 @@ written_ends : (closing : Bool) → false ≡ is_full_end (end_with Written clos
 written_ends true = refl
 written_ends false = refl
 
-event_full : (fate : Fate) (cause : Cause) → can_be fate cause ≡ true → any_uncounted (submission_by fate cause) ≡ is_full_end (end_with fate (closes cause))
+event_full : (fate : EventFate) (cause : Cause) → can_be fate cause ≡ true → any_uncounted (submission_by fate cause) ≡ is_full_end (end_with fate (closes cause))
 event_full Written (accepts awaited) can = refl
 event_full Written (refusal r is_head) can = refl
 event_full Written close_asked can = refl
@@ -59,10 +59,10 @@ event_full Unwritten stopping can = refl
 event_full Unwritten timed_out can = refl
 event_full Unwritten (submitted body moment reply closing) can = refl
 
-none_full : (events : List Event) (end : Option ServeEnd) → events ≡ [] → is_full_end end ≡ false → any_uncounted (submissions events) ≡ is_full_end end
-none_full events end none e = ap (λ (es : List Event). any_uncounted (submissions es)) none ∙ sym e
+none_full : (events : List ConnectionEvent) (end : Option ServeEnd) → events ≡ [] → is_full_end end ≡ false → any_uncounted (submissions events) ≡ is_full_end end
+none_full events end none e = ap (λ (es : List ConnectionEvent). any_uncounted (submissions es)) none ∙ sym e
 
-settles_full : (r : Reading) (events : List Event) (end : Option ServeEnd) (last : Reading) → Settles r events end last → any_uncounted (submissions events) ≡ is_full_end end
+settles_full : (r : RequestReading) (events : List ConnectionEvent) (end : Option ServeEnd) (last : RequestReading) → Settles r events end last → any_uncounted (submissions events) ≡ is_full_end end
 settles_full r [] end last h = sym (ap is_full_end h.1)
 settles_full r (e ∷ events) end last h = go (end_of e) refl h.3 (λ k. settles_full h.0 events end last k)
   where
@@ -76,7 +76,7 @@ settles_full r (e ∷ events) end last h = go (end_of e) refl h.3 (λ k. settles
         → any_uncounted (submissions (e ∷ events)) ≡ is_full_end end
     go None is more rest = both ∙ (λ i. (head ∙ ap is_full_end is) i || rest more i)
     go (Some why) is more rest =
-        both ∙ ((λ i. (head ∙ ap is_full_end is) i || ap (λ (es : List Event). any_uncounted (submissions es)) more.0 i) ∙ (or_false (is_full_end (Some why)) ∙ sym (ap is_full_end more.1)))
+        both ∙ ((λ i. (head ∙ ap is_full_end is) i || ap (λ (es : List ConnectionEvent). any_uncounted (submissions es)) more.0 i) ∙ (or_false (is_full_end (Some why)) ∙ sym (ap is_full_end more.1)))
 
 -- ---- a turn
 
@@ -96,14 +96,14 @@ over_ends false = refl
 pub over_full : (end : ServeEnd) (b : Bool) → end ≡ (if b then Closed else Cut) → false ≡ is_full_end (Some end)
 over_full end b e = sym (ap (λ (why : ServeEnd). is_full_end (Some why)) e ∙ over_ends b)
 
-late_full : (since moment : ℕ) (events : List Event) (end : Option ServeEnd) → IsLate since moment events end → any_uncounted (submissions events) ≡ is_full_end end
+late_full : (since moment : ℕ) (events : List ConnectionEvent) (end : Option ServeEnd) → IsLate since moment events end → any_uncounted (submissions events) ≡ is_full_end end
 late_full since moment events end (inl h) =
-    ap (λ (es : List Event). any_uncounted (submissions es)) h.2
+    ap (λ (es : List ConnectionEvent). any_uncounted (submissions es)) h.2
     ∙ (list_any-append (λ (s : Submission). not s.is_counted) (submission_by h.1.fate h.1.cause) []
     ∙ (or_false (any_uncounted (submission_by h.1.fate h.1.cause)) ∙ (event_full h.1.fate h.1.cause (ap (can_be h.1.fate) h.3 ∙ h.4) ∙ sym (ap is_full_end h.5))))
 late_full since moment events end (inr h) = none_full events end h.1 (ap is_full_end h.2)
 
-pub turn_full : (coming : Coming) (w : Waiting) (moment : ℕ) (is_stopped : Bool) (events : List Event) (next : Waiting) → IsTurnBy coming w moment is_stopped events next
+pub turn_full : (coming : Coming) (w : Waiting) (moment : ℕ) (is_stopped : Bool) (events : List ConnectionEvent) (next : Waiting) → IsTurnBy coming w moment is_stopped events next
     → any_uncounted (submissions events) ≡ is_full_end next.end
 turn_full (came bytes) w moment is_stopped events next h = settles_full _ events next.end next.reading h.1
 turn_full (unkept bytes) w moment is_stopped events next h = none_full events next.end h.1 (ap is_full_end h.2)

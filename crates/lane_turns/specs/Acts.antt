@@ -6,7 +6,7 @@ use Rattle.lane_seq.specs.declared.preparing.Conn.{Conn}
 use Rattle.http_text.specs.declared.allowed.Allowed.{Allowed}
 use Rattle.http_lane.specs.declared.turns.Exchange.{Exchange}
 use Rattle.http_lane.specs.declared.answer.ServeEnd.{ServeEnd}
-use Rattle.http_lane.specs.declared.answer.ServeEnd.TheVariants.{BookFull}
+use Rattle.http_lane.specs.declared.answer.ServeEnd.TheVariants.{CounterOverflow}
 use Rattle.http_lane.specs.Connection.{Submission, SubmitsAll, submissions}
 use Rattle.http_lane.specs.Intake.{Intake, intake, connected}
 use Rattle.http_lane.specs.Requests.{Awaits}
@@ -87,7 +87,7 @@ module _ {P : Type 0} (submits : Intake P → Submission → Intake P → Type 0
     pub below : x.conn.key.ordinal < now.lane.connected
 
   -- a connection that was taken has a run; where that didn't end, it is open
-  pub record IsRun (open_at : (key : ℕ) → Option Exchange) (acts : List Act) (ordinal : ℕ) : Type 0 where
+  pub record HasRun (open_at : (key : ℕ) → Option Exchange) (acts : List Act) (ordinal : ℕ) : Type 0 where
     pub last : Numbered
     pub run : RunOf allowed ordinal acts last
     pub is_open : last.waiting.end ≡ None → (key : ℕ) × (x : Exchange) × (open_at key ≡ Some x) × (x.conn.key.ordinal ≡ ordinal)
@@ -97,7 +97,7 @@ module _ {P : Type 0} (submits : Intake P → Submission → Intake P → Type 0
     pub did : LaneDid submits number first acts now
     pub each : (key : ℕ) (x : Exchange) → open_at key ≡ Some x → IsOpen acts now x
     pub apart : (key other : ℕ) (x y : Exchange) → open_at key ≡ Some x → open_at other ≡ Some y → key ≢ other → x.conn.key.ordinal ≢ y.conn.key.ordinal
-    pub runs : (ordinal : ℕ) → first.lane.connected ≤ ordinal → ordinal < now.lane.connected → IsRun open_at acts ordinal
+    pub runs : (ordinal : ℕ) → first.lane.connected ≤ ordinal → ordinal < now.lane.connected → HasRun open_at acts ordinal
     pub fresh : (ordinal : ℕ) → now.lane.connected ≤ ordinal → HasNone ordinal acts
     pub number_is : now.lane.number ≡ number
 
@@ -114,7 +114,7 @@ acts_uncounted acts = list_any act_uncounted acts
 
 -- a connection ends because a count would have passed 2^64-1
 abbrev pub is_full_end : Option ServeEnd → Bool
-is_full_end (Some BookFull) = true
+is_full_end (Some CounterOverflow) = true
 is_full_end _ = false
 
 abbrev pub is_full_done : Done → Bool

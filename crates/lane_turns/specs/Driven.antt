@@ -100,7 +100,7 @@ module _ (allowed : Allowed) (old new : Table) (earlier : List Act) where
 
 -- one round of a lane and its driver: what the driver said, and was then; what was done, and the table and the lane
 -- then; what the driver was told, and was then
-pub record Round (D P : Type 0) : Type 0 where
+pub record DriverRound (D P : Type 0) : Type 0 where
   pub next : Next
   pub moment : ℕ
   pub piece : List ℕ
@@ -115,7 +115,7 @@ pub record Round (D P : Type 0) : Type 0 where
 module _ {D P : Type 0} (asks : D → Next → ℕ → List ℕ → D → Type 0) (hears : D → Done → List ℕ → D → Type 0) (submits : Intake P → Submission → Intake P → Type 0) (allowed : Allowed) (first : LaneNow P) where
   -- a round: the lane did what its driver said, and told it what came of that. Where the driver said to end, some
   -- connection was still open
-  pub record IsRound (driver : D) (open_at : Table) (earlier : List Act) (r : Round D P) : Type 0 where
+  pub record IsRound (driver : D) (open_at : Table) (earlier : List Act) (r : DriverRound D P) : Type 0 where
     pub said : asks driver r.next r.moment r.piece r.asked
     pub still_open : r.next ≡ End → (key : ℕ) × IsSome (open_at key)
     pub as_told : AsTold allowed open_at r.open_at earlier r.next r.moment r.piece r.done r.text r.acts
@@ -124,7 +124,7 @@ module _ {D P : Type 0} (asks : D → Next → ℕ → List ℕ → D → Type 0
 
   -- these rounds follow each other from here, up to where the driver says to end and no connection is open, or a count
   -- would have passed 2^64-1 (the last flag)
-  abbrev pub RunsFrom : (driver : D) → (open_at : Table) → (acts : List Act) → (now : LaneNow P) → List (Round D P) → (last : D) → (after : LaneNow P) → (is_full : Bool) → Type 0
+  abbrev pub RunsFrom : (driver : D) → (open_at : Table) → (acts : List Act) → (now : LaneNow P) → List (DriverRound D P) → (last : D) → (after : LaneNow P) → (is_full : Bool) → Type 0
   RunsFrom driver open_at acts now [] last after is_full =
       (moment : ℕ) × (piece : List ℕ) × asks driver End moment piece last × ((key : ℕ) → open_at key ≡ None) × (after ≡ now) × (is_full ≡ false)
   RunsFrom driver open_at acts now (r ∷ rounds) last after is_full = IsRound driver open_at acts r
@@ -133,4 +133,4 @@ module _ {D P : Type 0} (asks : D → Next → ℕ → List ℕ → D → Type 0
 -- a lane with no open connection did what its driver said, round by round, to the end
 abbrev pub IsDriven : {D P : Type 0} → (asks : D → Next → ℕ → List ℕ → D → Type 0) → (hears : D → Done → List ℕ → D → Type 0) → (submits : Intake P → Submission → Intake P → Type 0) → (allowed : Allowed)
     → (driver : D) → (before : LaneNow P) → (last : D) → (after : LaneNow P) → (is_full : Bool) → Type 0
-IsDriven {D} {P} asks hears submits allowed driver before last after is_full = (rounds : List (Round D P)) × RunsFrom asks hears submits allowed before driver (λ key. None) [] before rounds last after is_full
+IsDriven {D} {P} asks hears submits allowed driver before last after is_full = (rounds : List (DriverRound D P)) × RunsFrom asks hears submits allowed before driver (λ key. None) [] before rounds last after is_full

@@ -14,7 +14,9 @@ ghost use Rattle.http_text.specs.declared.allowed.Allowed.{Allowed};
 
 use crate::table::{Leaving, came, dismiss, leave, take, waited};
 use drop_ledger::Counter;
-use http_lane::{Arrived, Clock as Moments, Exchange, Lent, PIECE_LIMIT, Requests, ServeEnd, Stop};
+use http_lane::{
+    Arrived, Clock as Moments, Exchange, HasStopMark, Lent, PIECE_LIMIT, Requests, ServeEnd,
+};
 use http_text::Allowed;
 use lane_queue::Port;
 use lane_seq::Lane;
@@ -80,7 +82,7 @@ pub trait Driver {
 }
 
 /// Does what is to be done next. The text is then what is to be sent.
-fn turn<'l, P: Port<Item>, C: Counter, S: Stop, K: Moments>(
+fn turn<'l, P: Port<Item>, C: Counter, S: HasStopMark, K: Moments>(
     lent: &Lent<'l, S, K>,
     allowed: Allowed,
     next: Next,
@@ -169,7 +171,7 @@ fn is_full(done: &Done) -> bool
     matches!(
         done,
         Done::Turned {
-            end: Some(ServeEnd::BookFull),
+            end: Some(ServeEnd::CounterOverflow),
             ..
         }
     )
@@ -177,7 +179,15 @@ fn is_full(done: &Done) -> bool
 
 /// Serves connections as the driver says, until it says to end and none is open. It ends at once where a count would
 /// have passed 2^64-1, and says whether it did. `allowed`: what is allowed to clients.
-pub fn serve_turns<'l, D: Driver, P: Port<Item>, C: Counter, S: Stop, K: Moments, R: Wait + Clock>(
+pub fn serve_turns<
+    'l,
+    D: Driver,
+    P: Port<Item>,
+    C: Counter,
+    S: HasStopMark,
+    K: Moments,
+    R: Wait + Clock,
+>(
     rt: &R,
     lent: &Lent<'l, S, K>,
     allowed: Allowed,

@@ -11,7 +11,7 @@ ghost use Rattle.lane_turns.specs.Driven.{AnyOne, TurnAt, TakesOne, Dismisses, c
 ghost use Rattle.http_text.specs.declared.allowed.Allowed.{Allowed};
 
 use drop_ledger::Counter;
-use http_lane::{Arrived, Clock, Exchange, Lent, PIECE_LIMIT, Requests, ServeEnd, Stop};
+use http_lane::{Arrived, Clock, Exchange, HasStopMark, Lent, PIECE_LIMIT, Requests, ServeEnd};
 use http_text::Allowed;
 use lane_queue::Port;
 use lane_seq::Lane;
@@ -20,7 +20,7 @@ use slab::Slab;
 use std::io::Write;
 
 /// The connection at this key has a turn that brought bytes. Where that ends it, it is open no more.
-pub(crate) fn came<'l, 'p, P: Port<Item>, C: Counter, W: Write, S: Stop, K: Clock>(
+pub(crate) fn came<'l, 'p, P: Port<Item>, C: Counter, W: Write, S: HasStopMark, K: Clock>(
     lent: &Lent<'l, S, K>,
     open: &mut Slab<Exchange>,
     key: usize,
@@ -60,7 +60,7 @@ pub enum Leaving {
 }
 
 /// The connection at this key has a turn that brought nothing. Where that ends it, it is open no more.
-pub(crate) fn waited<'l, P: Port<Item>, C: Counter, W: Write, S: Stop, K: Clock>(
+pub(crate) fn waited<'l, P: Port<Item>, C: Counter, W: Write, S: HasStopMark, K: Clock>(
     lent: &Lent<'l, S, K>,
     open: &mut Slab<Exchange>,
     key: usize,

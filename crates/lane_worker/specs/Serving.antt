@@ -1,5 +1,5 @@
--- What a lane's thread did: the connections that its feed gave were served, one after the other; or many at once, turn
--- by turn.
+-- What a lane's thread did: the connections that its acceptor gave were served, one after the other; or many at once,
+-- turn by turn.
 use Rattle.std.specs.Prelude.{◌≡◌, ◌⊎◌, ℕ, ◌-◌, ◌^◌, ◌<◌, Bool, true, false, MatchBool, List, [], ◌∷◌, Option, Some, None}
 use Rattle.otlp_types.specs.declared.arrival.Item.{Item}
 use Rattle.otlp_types.specs.declared.arrival.Item.TheVariants.{End}
@@ -8,12 +8,12 @@ use Rattle.lane_seq.specs.Pushes.{LaneState}
 use Rattle.lane_seq.specs.declared.preparing.Conn.{Conn}
 use Rattle.http_text.specs.declared.allowed.Allowed.{Allowed}
 use Rattle.http_lane.specs.declared.answer.ServeEnd.{ServeEnd}
-use Rattle.http_lane.specs.declared.answer.ServeEnd.TheVariants.{BookFull}
+use Rattle.http_lane.specs.declared.answer.ServeEnd.TheVariants.{CounterOverflow}
 use Rattle.http_lane.specs.Engine.{KnownReader, Served}
 use Rattle.http_lane.specs.Intake.{Submits, intake, first_conn, connected}
 use Rattle.lane_turns.specs.Acts.{LaneNow, lane_now, ServesTurns}
 
--- what was known of a connection's reader and writer when the feed gave it
+-- what was known of a connection's reader and writer when the acceptor gave it
 pub record Connection : Type 0 where
   pub reader : KnownReader
   pub written : Option (List ℕ)
@@ -29,9 +29,9 @@ abbrev pub lane_at : LaneState (EndState Item) → List ℕ → LaneAt
 lane_at lane counted = lane_now lane counted
 
 -- the connection ended because a count would have passed 2^64-1
-abbrev pub is_book_full : ServeEnd → Bool
-is_book_full BookFull = true
-is_book_full _ = false
+abbrev pub is_overflow : ServeEnd → Bool
+is_overflow CounterOverflow = true
+is_overflow _ = false
 
 -- the connection was the lane's next one; it was served as some transcript says, and ended so
 abbrev pub ServedOne : (capacity : ℕ) → Connection → (old new : LaneAt) → ServeEnd → Type 0
@@ -39,17 +39,17 @@ ServedOne capacity c old new end = (conn : Conn) × (reader : KnownReader) × (w
     × Served (Submits (TakesItem capacity) (IsRefused capacity)) c.written written (intake (connected old.lane) (first_conn old.lane) old.counted) (intake new.lane conn new.counted) c.reader reader end
 
 module _ {F X : Type 0} (gives : F → Option X → F → Type 0) (known : X → Connection) (capacity : ℕ) where
-  -- the feed was asked no more: it gave nothing, or it had given 2^64-1 connections
+  -- the acceptor was asked no more: it gave nothing, or it had given 2^64-1 connections
   abbrev pub Exhausts : (old : F) → (before : LaneAt) → (new : F) → Type 0
   Exhausts old before new = gives old None new ⊎ ((before.lane.connected ≡ 2 ^ 64 - 1) × (new ≡ old))
 
-  -- the feed gave these connections, one after the other, and each was served; it was asked until it gave nothing,
+  -- the acceptor gave these connections, one after the other, and each was served; it was asked until it gave nothing,
   -- unless a count would have passed 2^64-1
   abbrev pub ServesAll : List X → (old : F) → (before : LaneAt) → (new : F) → (after : LaneAt) → (is_full : Bool) → Type 0
   ServesAll [] old before new after is_full = Exhausts old before new × (after ≡ before) × (is_full ≡ false)
-  ServesAll (x ∷ rest) old before new after is_full = (feed : F) × (lane : LaneAt) × (end : ServeEnd)
-      × gives old (Some x) feed × ServedOne capacity (known x) before lane end
-      × MatchBool (is_book_full end) ((rest ≡ []) × (new ≡ feed) × (after ≡ lane) × (is_full ≡ true)) (ServesAll rest feed lane new after is_full)
+  ServesAll (x ∷ rest) old before new after is_full = (acceptor : F) × (lane : LaneAt) × (end : ServeEnd)
+      × gives old (Some x) acceptor × ServedOne capacity (known x) before lane end
+      × MatchBool (is_overflow end) ((rest ≡ []) × (new ≡ acceptor) × (after ≡ lane) × (is_full ≡ true)) (ServesAll rest acceptor lane new after is_full)
 
   -- there are connections of which that is so
   abbrev pub HasServed : (old : F) → (before : LaneAt) → (new : F) → (after : LaneAt) → (is_full : Bool) → Type 0

@@ -3,10 +3,10 @@ ghost use Rattle.std.specs.Prelude.{◌≡◌, ℕ, Bool};
 ghost use Rattle.lane_queue.specs.Ends.{queues};
 ghost use Rattle.lane_worker.specs.Serving.{LaneAt, lane_at};
 
-use crate::feed::Feed;
+use crate::acceptor::Acceptor;
 use crate::lane_worker::serve_all;
 use drop_ledger::Counter;
-use http_lane::{Clock as MomentClock, Lent, Stop};
+use http_lane::{Clock as MomentClock, HasStopMark, Lent};
 use http_text::Allowed;
 use lane_queue::{Gate, Room, SenderPort};
 use lane_seq::Lane;
@@ -23,7 +23,16 @@ pub trait LaneServer {
 
     /// Serves connections until there are none any more, or a count would have passed 2^64-1, and says whether that was
     /// so.
-    fn serve_all<'l, 'r, C: Room, K: Counter, G: Gate, S: Stop, M: MomentClock, R: Wait + Clock>(
+    fn serve_all<
+        'l,
+        'r,
+        C: Room,
+        K: Counter,
+        G: Gate,
+        S: HasStopMark,
+        M: MomentClock,
+        R: Wait + Clock,
+    >(
         &mut self,
         rt: &'r R,
         lent: &Lent<'l, S, M>,
@@ -36,18 +45,27 @@ pub trait LaneServer {
         ensures same_queues { queues lane.new.ports ≡ queues lane.old.ports };
 }
 
-/// Serves what a feed gives, one connection after the other, each to its end.
+/// Serves what an acceptor gives, one connection after the other, each to its end.
 #[derive(Drop)]
 pub struct OneByOne<F> {
-    pub feed: F,
+    pub acceptor: F,
 }
 
-impl<F: Feed> LaneServer for OneByOne<F> {
+impl<F: Acceptor> LaneServer for OneByOne<F> {
     ghost use Rattle.lane_worker.specs.Serving.{connection, HasServed};
 
-    ghost serves = { λ capacity old before new after is_full. HasServed F.gives (λ x. connection (F.Reader.given x.0) (F.Writer.contents x.1)) capacity old.feed before new.feed after is_full };
+    ghost serves = { λ capacity old before new after is_full. HasServed F.gives (λ x. connection (F.Reader.given x.0) (F.Writer.contents x.1)) capacity old.acceptor before new.acceptor after is_full };
 
-    fn serve_all<'l, 'r, C: Room, K: Counter, G: Gate, S: Stop, M: MomentClock, R: Wait + Clock>(
+    fn serve_all<
+        'l,
+        'r,
+        C: Room,
+        K: Counter,
+        G: Gate,
+        S: HasStopMark,
+        M: MomentClock,
+        R: Wait + Clock,
+    >(
         &mut self,
         rt: &'r R,
         lent: &Lent<'l, S, M>,
@@ -56,7 +74,7 @@ impl<F: Feed> LaneServer for OneByOne<F> {
         counter: &mut K,
         gate: &G,
     ) -> bool {
-        serve_all(rt, lent, number, lane, &mut self.feed, counter, gate)
+        serve_all(rt, lent, number, lane, &mut self.acceptor, counter, gate)
     }
 }
 
@@ -73,7 +91,16 @@ impl<D: Driver> LaneServer for ByTurns<D> {
 
     ghost serves = { λ capacity old before new after is_full. ServesMany old.allowed capacity before after is_full };
 
-    fn serve_all<'l, 'r, C: Room, K: Counter, G: Gate, S: Stop, M: MomentClock, R: Wait + Clock>(
+    fn serve_all<
+        'l,
+        'r,
+        C: Room,
+        K: Counter,
+        G: Gate,
+        S: HasStopMark,
+        M: MomentClock,
+        R: Wait + Clock,
+    >(
         &mut self,
         rt: &'r R,
         lent: &Lent<'l, S, M>,

@@ -1,13 +1,13 @@
 //! The loop of a lane's thread.
 ghost use Rattle.std.specs.Prelude.{◌≡◌, ◌++◌, ◌∷◌, ◌≤◌, ◌<◌, ◌-◌, ◌^◌, [], ℕ, List, length, map, vec_capacity, vec_len};
 ghost use Rattle.lane_queue.specs.Ends.{EndState, queues};
-ghost use Rattle.lane_worker.specs.Serving.{LaneAt, connection, lane_at, ServedOne, HasServed, is_book_full, with_end};
+ghost use Rattle.lane_worker.specs.Serving.{LaneAt, connection, lane_at, ServedOne, HasServed, is_overflow, with_end};
 
-use crate::feed::Feed;
+use crate::acceptor::Acceptor;
 use crate::lane_server::LaneServer;
 use drop_ledger::Counter;
-use http_lane::{Clock as MomentClock, Lent, ServeEnd, Source, Stop, serve};
-use lane_queue::{Gate, Place, Room, Sender, SenderPort};
+use http_lane::{Clock as MomentClock, HasStopMark, Lent, ServeEnd, Source, serve};
+use lane_queue::{Gate, GatePlace, Room, Sender, SenderPort};
 use lane_seq::Lane;
 use otlp_types::Item;
 use std::io::Write;
@@ -16,7 +16,7 @@ use std::time::Clock;
 
 /// What is left of a lane's thread.
 #[derive(Drop)]
-pub struct LaneEnd<C: Room> {
+pub struct LaneThreadEnd<C: Room> {
     /// The ends at which it pushed, by shard.
     pub senders: Vec<Sender<Item, C>>,
     /// Whether a count would have passed 2^64-1.
@@ -41,7 +41,7 @@ pub fn work<
     C: Room,
     K: Counter,
     G: Gate,
-    S: Stop,
+    S: HasStopMark,
     M: MomentClock,
     R: Wait + Clock,
 >(
@@ -51,7 +51,7 @@ pub fn work<
     server: &mut V,
     counter: &mut K,
     gate: &G,
-) -> LaneEnd<C>
+) -> LaneThreadEnd<C>
     requires number { task.lane.number ≡ task.number }
     requires room { (task.room.items ≡ []) × (length task.lane.ports ≤ vec_capacity task.room) }
     ensures works { (after : LaneAt) × V.serves C.capacity server.old (lane_at task.entry.lane (K.counted counter.old)) server.new after result.is_full
@@ -66,7 +66,7 @@ pub fn work<
     } = task;
     let is_full = server.serve_all(rt, lent, number, &mut lane, counter, gate);
     let senders = end_all(rt, number, lane.end().ports, room);
-    LaneEnd { senders, is_full }
+    LaneThreadEnd { senders, is_full }
 }
 
 /// Pushes the End to each shard.
@@ -88,17 +88,17 @@ fn end_all<'r, C: Room, R: Wait + Clock>(
     senders
 }
 
-/// Serves what the feed gives until it gives nothing, one connection after the other, and says whether a count would
-/// have passed 2^64-1. After 2^64-1 connections, or once a count would have passed that, no further connection is asked
-/// for.
+/// Serves what the acceptor gives until it gives nothing, one connection after the other, and says whether a count
+/// would have passed 2^64-1. After 2^64-1 connections, or once a count would have passed that, no further connection is
+/// asked for.
 pub(crate) fn serve_all<
     'l,
     'r,
-    F: Feed,
+    F: Acceptor,
     C: Room,
     K: Counter,
     G: Gate,
-    S: Stop,
+    S: HasStopMark,
     M: MomentClock,
     R: Wait + Clock,
 >(
@@ -106,23 +106,23 @@ pub(crate) fn serve_all<
     lent: &Lent<'l, S, M>,
     number: u16,
     lane: &mut Lane<SenderPort<'r, Item, C, R>>,
-    feed: &mut F,
+    acceptor: &mut F,
     counter: &mut K,
     gate: &G,
 ) -> bool
     ensures served { HasServed F.gives (λ x. connection (F.Reader.given x.0) (F.Writer.contents x.1)) C.capacity
-        feed.old (lane_at lane.old (K.counted counter.old)) feed.new (lane_at lane.new (K.counted counter.new)) result }
+        acceptor.old (lane_at lane.old (K.counted counter.old)) acceptor.new (lane_at lane.new (K.counted counter.new)) result }
     ensures same_queues { queues lane.new.ports ≡ queues lane.old.ports }
 {
     for _ in rt.forever() {
         if lane.connected() == u64::MAX {
             return false;
         }
-        let Some((reader, writer)) = feed.next(rt) else {
+        let Some((reader, writer)) = acceptor.next(rt) else {
             return false;
         };
         let end = serve_next(lent, number, lane, counter, reader, writer, gate);
-        if is_book_full(&end) {
+        if is_overflow(&end) {
             return true;
         }
     }
@@ -130,11 +130,11 @@ pub(crate) fn serve_all<
 }
 
 /// Whether the connection ended because a count would have passed 2^64-1.
-fn is_book_full(end: &ServeEnd) -> bool
-    ensures { result ≡ is_book_full end.now }
+fn is_overflow(end: &ServeEnd) -> bool
+    ensures { result ≡ is_overflow end.now }
 {
     match end {
-        ServeEnd::BookFull => true,
+        ServeEnd::CounterOverflow => true,
         _ => false,
     }
 }
@@ -148,7 +148,7 @@ fn serve_next<
     C: Room,
     K: Counter,
     G: Gate,
-    S: Stop,
+    S: HasStopMark,
     M: MomentClock,
     R: Wait + Clock,
 >(
@@ -167,12 +167,12 @@ fn serve_next<
     let mut reader = reader;
     let mut writer = writer;
     let ordinal = lane.connected();
-    gate.reach(Place::Connected {
+    gate.reach(GatePlace::Connected {
         lane: number,
         ordinal,
     });
     let end = serve(lent, lane, counter, &mut reader, &mut writer);
-    gate.reach(Place::Served {
+    gate.reach(GatePlace::Served {
         lane: number,
         ordinal,
     });

@@ -1,8 +1,9 @@
 //! A lane and the ticker, each on a thread of its own: what their threads do, and what they promise of it.
 //!
-//! [`work`] has a [`LaneServer`] serve the lane's connections, and then pushes the lane's `End` to each shard. [`OneByOne`]
-//! serves the connections that a [`Feed`] gives, one after the other; [`ByTurns`] serves many at once, as a
-//! `lane_turns::Driver` says. [`tick`] pushes the moments that [`Ticks`] give to every shard, and then its own `End`.
+//! [`work`] has a [`LaneServer`] serve the lane's connections, and then pushes the lane's `End` to each shard.
+//! [`OneByOne`] serves the connections that an [`Acceptor`] gives, one after the other; [`ByTurns`] serves many at once,
+//! as a `lane_turns::Driver` says. [`tick`] pushes the moments that [`Ticks`] give to every shard, and then its own
+//! `End`.
 //!
 //! ```
 //! let task = LaneTask { number, lane, room };
@@ -11,12 +12,12 @@
 //! ```
 #![tactic(auto)]
 
-mod feed;
+mod acceptor;
 mod lane_server;
 mod lane_worker;
 mod ticker;
 
-pub use feed::{Feed, Ticks};
+pub use acceptor::{Acceptor, Ticks};
 pub use lane_server::{ByTurns, LaneServer, OneByOne};
-pub use lane_worker::{LaneEnd, LaneTask, work};
+pub use lane_worker::{LaneTask, LaneThreadEnd, work};
 pub use ticker::tick;

@@ -1,5 +1,5 @@
--- Texts that are appended one after the other, and the lines of the reasons.
--- For the contracts of `put_build`, `put_spans`, `put_collector`, `put_all_dropped`, `put_shard_lines` and `metrics_text`.
+-- Texts that are appended one after the other, and the lines of the reasons. For the contracts of `put_build`,
+-- `put_spans`, `put_collector`, `put_all_dropped`, `put_shard_lines` and `metrics_text`.
 use Rattle.std.proofs.Common.{◌≡◌, ◌<◌, ◌++◌, ◌+◌, ◌∷◌, ℕ, List, [], add-one, ap, sym, ◌∙◌, append_assoc, append-nil, drop, drop-cons, get_or, length, suc}
 use Rattle.std.specs.Prelude.{Result, Ok, Err, OnOk, map}
 use Rattle.std.specs.List.{concat}

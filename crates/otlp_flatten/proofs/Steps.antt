@@ -11,7 +11,7 @@ use Rattle.otlp_types.specs.declared.request.ResourceSpans.{ResourceSpans}
 use Rattle.otlp_types.specs.declared.arrival.Record.{Record}
 use Rattle.otlp_flatten.specs.Flat.{scope_records, resource_records}
 use Rattle.otlp_flatten.specs.Grouped.{HasSpan, IsResourceGroup, scope_key, resource_key}
-use Rattle.otlp_flatten.specs.Runs.{resource_of, scope_of, IsRun}
+use Rattle.otlp_flatten.specs.Runs.{resource_of, scope_of, IsKeyRun}
 use Rattle.otlp_flatten.proofs.Groups.{Continues, Continues-push, Continues-end, Another, another_behind}
 use Rattle.otlp_flatten.proofs.Levels.{scope_begins, resource_begins, scope_records-restored}
 
@@ -55,7 +55,7 @@ module _ {A : Type 0} where
       ∙ sym (map-append record_in (take n rest) (drop n rest)) ∙ ap (map record_in) (take-append-drop n rest))
 
   module _ (record_in : A → Record) (rest front behind : List A) (n : ℕ) (all : List Record) (is_front : front ≡ take n rest) (is_behind : behind ≡ drop n rest) where
-    pub scope_step : (r : Resource) (url : List ℕ) (done : List ScopeSpans) (g : ScopeSpans) → IsRun (λ x. scope_of (record_in x)) rest n
+    pub scope_step : (r : Resource) (url : List ℕ) (done : List ScopeSpans) (g : ScopeSpans) → IsKeyRun (λ x. scope_of (record_in x)) rest n
         → g.spans ≡ map (λ x. (record_in x).span) front → Some (scope_key g) ≡ option_map (λ x. scope_of (record_in x)) (slice_get front 0)
         → AllByRecursion (λ x. resource_of (record_in x) ≡ (r, url)) rest
         → Continues scope_key (scope_records r url) HasSpan done (map record_in rest) all
@@ -77,7 +77,7 @@ module _ {A : Type 0} where
               some (scope_records-restored record_in r url g front spans of_scope of_resource) (all_mapped record_in n rest front behind is_front is_behind) other,
         )
 
-    pub resource_step : (done : List ResourceSpans) (g : ResourceSpans) → IsRun (λ x. resource_of (record_in x)) rest n
+    pub resource_step : (done : List ResourceSpans) (g : ResourceSpans) → IsKeyRun (λ x. resource_of (record_in x)) rest n
         → IsResourceGroup g → resource_records g ≡ map record_in front → Some (resource_key g) ≡ option_map (λ x. resource_of (record_in x)) (slice_get front 0)
         → Continues resource_key resource_records IsResourceGroup done (map record_in rest) all
         → Continues resource_key resource_records IsResourceGroup (done ++ g ∷ []) (map record_in behind) all

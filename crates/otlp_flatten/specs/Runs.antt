@@ -13,7 +13,7 @@ abbrev pub scope_of : Record → Scope × List ℕ
 scope_of r = (r.scope, r.scope_schema_url)
 
 -- the first n have one key, and the next has another
-pub record IsRun {A : Type 0} {K : Type 0} (key : A → K) (xs : List A) (n : ℕ) : Type 0 where
+pub record IsKeyRun {A : Type 0} {K : Type 0} (key : A → K) (xs : List A) (n : ℕ) : Type 0 where
   pub some : 0 < n
   pub within : n ≤ length xs
   pub same : (k : ℕ) → k < n → option_map key (slice_get xs k) ≡ option_map key (slice_get xs 0)

@@ -3,7 +3,7 @@ ghost use Rattle.std.specs.Prelude.{◌≡◌, ◌<◌, ◌↔◌, ℕ, List, le
 ghost use Rattle.otlp_types.specs.declared.arrival.Record.{Record};
 ghost use Rattle.otlp_types.specs.declared.request.Resource.{Resource};
 ghost use Rattle.otlp_types.specs.declared.request.Scope.{Scope};
-ghost use Rattle.otlp_flatten.specs.Runs.{resource_of, scope_of, IsRun};
+ghost use Rattle.otlp_flatten.specs.Runs.{resource_of, scope_of, IsKeyRun};
 
 use crate::same::Same;
 use otlp_types::{Arrival, Record, Span};
@@ -48,7 +48,7 @@ impl HasRecord for Arrival {
 }
 
 /// What neighbouring records may have in common.
-pub trait Part {
+pub trait SharedPart {
     /// What tells parts apart.
     ghost Key: { Type 0 };
 
@@ -63,7 +63,7 @@ pub trait Part {
 /// The resource and its schema URL.
 pub struct ResourcePart;
 
-impl Part for ResourcePart {
+impl SharedPart for ResourcePart {
     ghost Key = { Resource × List ℕ };
 
     ghost part_of = { resource_of };
@@ -79,7 +79,7 @@ impl Part for ResourcePart {
 /// The scope and its schema URL.
 pub struct ScopePart;
 
-impl Part for ScopePart {
+impl SharedPart for ScopePart {
     ghost Key = { Scope × List ℕ };
 
     ghost part_of = { scope_of };
@@ -90,9 +90,9 @@ impl Part for ScopePart {
 }
 
 /// How many spans at the front have the first one's part.
-pub fn run<P: Part, T: HasRecord>(spans: &[T]) -> usize
+pub fn run<P: SharedPart, T: HasRecord>(spans: &[T]) -> usize
     requires { 0 < length spans.now }
-    ensures { IsRun (λ x. P.part_of (T.record_in x)) spans.now result }
+    ensures { IsKeyRun (λ x. P.part_of (T.record_in x)) spans.now result }
 {
     let first = spans[0].rec();
     for i in 1..spans.len() {

@@ -1,5 +1,5 @@
--- The fields of a message that is written read as what they were written for: numbers, texts, messages, lists, attributes.
--- For the clauses `back` of what is written.
+-- The fields of a message that is written read as what they were written for: numbers, texts, messages, lists,
+-- attributes. For the clauses `back` of what is written.
 use Rattle.std.proofs.Common.{◌≡◌, ℕ, ◌+◌, ◌-◌, ◌<◌, ◌≤◌, ◌^◌, List, [], ◌∷◌, map, codes, Bool, true, false, Option, Some, None, ℤ, pos, negsuc, refl, ap, ◌∙◌, arith}
 use Rattle.std.specs.Prelude.{FitsSigned, min, ◌==◌, cond}
 use Rattle.std.specs.Int.{w32}

@@ -1,4 +1,5 @@
--- What is written reads as itself: each key comes once and in order, and each number has a text that reads as it. For private clauses.
+-- What is written reads as itself: each key comes once and in order, and each number has a text that reads as it. For
+-- private clauses.
 use Rattle.std.specs.Prelude.{◌≡◌, ℕ, List, Some}
 use Rattle.std.specs.Cmp.Lexicographic.{slice_cmp}
 use Rattle.std.specs.Ordering.{nat_cmp}

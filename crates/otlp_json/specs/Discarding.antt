@@ -1,4 +1,5 @@
--- What is left of a request where doubles are discarded: each attribute that holds one, at any depth, is left out and counted.
+-- What is left of a request where doubles are discarded: each attribute that holds one, at any depth, is left out and
+-- counted.
 use Rattle.std.specs.Prelude.{◌≡◌, ℕ, ◌+◌, ◌-◌, ◌^◌, ◌==◌, min, not, Bool, true, false, List, map, count_by, if◌then◌else◌, Some}
 use Rattle.std.specs.List.{filter, list_any, AllByRecursion}
 use Rattle.serde_json.specs.Data.{Data}
@@ -84,7 +85,8 @@ resource_spans_left g = record g { resource = resource_left g.resource; scope_sp
 abbrev pub without_doubles : Request → Request
 without_doubles r = record { resource_spans = map resource_spans_left r.resource_spans }
 
--- A request that is read where doubles are kept is read where they are discarded, too, and is then the same but for its doubles.
+-- A request that is read where doubles are kept is read where they are discarded, too, and is then the same but for its
+-- doubles.
 abbrev pub DoublesAreLeftOut : Type 0
 DoublesAreLeftOut = (d : Data) (r : Request) → request_of true d ≡ Some r → request_of false d ≡ Some (without_doubles r)
 

@@ -26,7 +26,7 @@ mod writing;
 
 use json::Writer;
 pub use laws::{doubles_are_left_out, levels_suffice};
-pub use otlp_reading::Bad;
+pub use otlp_reading::DecodeError;
 use otlp_stream::plain_request;
 use otlp_types::Request;
 use std::alloc::{AllocError, Global};
@@ -40,10 +40,10 @@ const ROOM: usize = 4096;
 /// says. Doubles are kept, or an attribute that holds one is discarded and counted.
 ///
 /// `Json` where the bytes are no such text, `Shape` where some field of the value has another shape than its kind.
-pub fn decode(alloc: Global, keeps_doubles: bool, bytes: &[u8]) -> Result<Request, Bad>
+pub fn decode(alloc: Global, keeps_doubles: bool, bytes: &[u8]) -> Result<Request, DecodeError>
     ensures ok { IfOk result (IsRequest keeps_doubles bytes.now) }
-    ensures json { IsErrOf result Bad.Json → IsNoJson bytes.now }
-    ensures shape { IsErrOf result Bad.Shape → IsNoRequest keeps_doubles bytes.now }
+    ensures json { IsErrOf result DecodeError.Json → IsNoJson bytes.now }
+    ensures shape { IsErrOf result DecodeError.Shape → IsNoRequest keeps_doubles bytes.now }
 {
     match plain_request(alloc, keeps_doubles, bytes)? {
         Some(request) => Ok(request),
@@ -54,8 +54,8 @@ pub fn decode(alloc: Global, keeps_doubles: bool, bytes: &[u8]) -> Result<Reques
 /// The canonical text of a request: no white space, the names of each object in order, and no field that has its
 /// default. `Err` only where memory was refused.
 ///
-/// A request that nests at most 127 deep as JSON is read again from its text where doubles are kept. Where they are discarded it is
-/// read without the attributes that hold one: one without doubles is read again there, too.
+/// A request that nests at most 127 deep as JSON is read again from its text where doubles are kept. Where they are
+/// discarded it is read without the attributes that hold one: one without doubles is read again there, too.
 pub fn encode(alloc: Global, request: &Request) -> Result<Vec<u8>, AllocError>
     ensures text { IfOk result (λ bytes. bytes.items ≡ canonical_text request.now) }
     ensures back { IfOk result (λ bytes. depth (data_of request.now) ≤ 127

@@ -5,3 +5,4 @@ pub mod SpanParts
 pub mod Gives
 pub mod Zero
 pub mod Decoding
+pub mod FaultTexts

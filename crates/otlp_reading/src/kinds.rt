@@ -7,7 +7,7 @@ ghost use Rattle.otlp_reading.specs.Kinds.{field, unless_null, read_or, text, wh
 ghost use Rattle.otlp_reading.specs.Gives.{Gives, GivesAs};
 ghost use Rattle.otlp_reading.specs.Zero.{zero_only};
 
-use crate::bad::Bad;
+use crate::decode_error::DecodeError;
 use otlp_types::Text;
 use serde_json::{Map, Value};
 use std::alloc::Global;
@@ -39,55 +39,58 @@ pub fn field<'v>(members: &'v Map<String, Value>, name: &str) -> Option<&'v Valu
 }
 
 /// A text value, copied.
-pub fn text_of(alloc: Global, value: &Value) -> Result<Text, Bad>
+pub fn text_of(alloc: Global, value: &Value) -> Result<Text, DecodeError>
     ensures { Gives result (as_str (view value.now)) }
 {
     match value.as_str() {
         Some(text) => Ok(Text::from_str(alloc, text)?),
-        None => Err(Bad::Shape),
+        None => Err(DecodeError::Shape),
     }
 }
 
 /// The text of a field, where it stands. An absent one is empty.
-pub fn borrowed_text<'v>(members: &'v Map<String, Value>, name: &str) -> Result<&'v str, Bad>
+pub fn borrowed_text<'v>(
+    members: &'v Map<String, Value>,
+    name: &str,
+) -> Result<&'v str, DecodeError>
     ensures { GivesAs (λ s. s.now) result
         (text (field name.now (members_view members.now.entries))) }
 {
     match field(members, name) {
-        Some(value) => value.as_str().ok_or(Bad::Shape),
+        Some(value) => value.as_str().ok_or(DecodeError::Shape),
         None => Ok(""),
     }
 }
 
 /// The text of a field, copied.
-pub fn text(alloc: Global, members: &Map<String, Value>, name: &str) -> Result<Text, Bad>
+pub fn text(alloc: Global, members: &Map<String, Value>, name: &str) -> Result<Text, DecodeError>
     ensures { Gives result (text (field name.now (members_view members.now.entries))) }
 {
     Ok(Text::from_str(alloc, borrowed_text(members, name)?)?)
 }
 
 /// A truth value.
-pub fn bool_of(value: &Value) -> Result<bool, Bad>
+pub fn bool_of(value: &Value) -> Result<bool, DecodeError>
     ensures { Gives result (as_bool (view value.now)) }
 {
-    value.as_bool().ok_or(Bad::Shape)
+    value.as_bool().ok_or(DecodeError::Shape)
 }
 
 /// The members of an object.
-pub fn object(value: &Value) -> Result<&Map<String, Value>, Bad>
+pub fn object(value: &Value) -> Result<&Map<String, Value>, DecodeError>
     ensures { GivesAs (λ ms. members_view ms.now.entries) result (as_object (view value.now)) }
 {
-    value.as_object().ok_or(Bad::Shape)
+    value.as_object().ok_or(DecodeError::Shape)
 }
 
 /// The items of a list. An absent one has none.
-pub fn items<'v>(members: &'v Map<String, Value>, name: &str) -> Result<&'v [Value], Bad>
+pub fn items<'v>(members: &'v Map<String, Value>, name: &str) -> Result<&'v [Value], DecodeError>
     ensures { GivesAs (λ s. items_view s.now) result
         (items (field name.now (members_view members.now.entries))) }
 {
     match field(members, name) {
         Some(Value::Array(items)) => Ok(items.as_slice()),
-        Some(_) => Err(Bad::Shape),
+        Some(_) => Err(DecodeError::Shape),
         None => Ok(&[]),
     }
 }
@@ -135,18 +138,18 @@ pub fn i64_text(text: &str) -> Option<i64>
 }
 
 /// An unsigned number, or decimal text.
-fn u64_of(value: &Value) -> Result<u64, Bad>
+fn u64_of(value: &Value) -> Result<u64, DecodeError>
     ensures { Gives result (option_and_then (natural_below (2 ^ 64)) (whole (view value.now))) }
 {
     let found = match value {
         Value::String(text) => u64_text(text.as_str()),
         _ => value.as_u64(),
     };
-    found.ok_or(Bad::Shape)
+    found.ok_or(DecodeError::Shape)
 }
 
 /// An unsigned field of 64 bits. An absent one is 0.
-pub fn u64(members: &Map<String, Value>, name: &str) -> Result<u64, Bad>
+pub fn u64(members: &Map<String, Value>, name: &str) -> Result<u64, DecodeError>
     ensures { Gives result (u64 (field name.now (members_view members.now.entries))) }
 {
     match field(members, name) {
@@ -156,25 +159,25 @@ pub fn u64(members: &Map<String, Value>, name: &str) -> Result<u64, Bad>
 }
 
 /// A signed number, or decimal text.
-pub fn i64_of(value: &Value) -> Result<i64, Bad>
+pub fn i64_of(value: &Value) -> Result<i64, DecodeError>
     ensures { Gives result (i64_value (view value.now)) }
 {
     let found = match value {
         Value::String(text) => i64_text(text.as_str()),
         _ => value.as_i64(),
     };
-    found.ok_or(Bad::Shape)
+    found.ok_or(DecodeError::Shape)
 }
 
 /// An unsigned number of 32 bits, or decimal text.
-fn u32_of(value: &Value) -> Result<u32, Bad>
+fn u32_of(value: &Value) -> Result<u32, DecodeError>
     ensures { Gives result (option_and_then (natural_below (2 ^ 32)) (whole (view value.now))) }
 {
-    u32::try_from(u64_of(value)?).map_err(|_| Bad::Shape)
+    u32::try_from(u64_of(value)?).map_err(|_| DecodeError::Shape)
 }
 
 /// An unsigned field of 32 bits. An absent one is 0.
-pub fn u32(members: &Map<String, Value>, name: &str) -> Result<u32, Bad>
+pub fn u32(members: &Map<String, Value>, name: &str) -> Result<u32, DecodeError>
     ensures { Gives result (u32 (field name.now (members_view members.now.entries))) }
 {
     match field(members, name) {
@@ -184,15 +187,15 @@ pub fn u32(members: &Map<String, Value>, name: &str) -> Result<u32, Bad>
 }
 
 /// The number of an enumeration. Text is refused.
-fn enum_of(value: &Value) -> Result<i32, Bad>
+fn enum_of(value: &Value) -> Result<i32, DecodeError>
     ensures { Gives result (enum (Some (view value.now))) }
 {
-    let n = value.as_i64().ok_or(Bad::Shape)?;
-    i32::try_from(n).map_err(|_| Bad::Shape)
+    let n = value.as_i64().ok_or(DecodeError::Shape)?;
+    i32::try_from(n).map_err(|_| DecodeError::Shape)
 }
 
 /// A field of an enumeration. An absent one is 0.
-pub fn enumeration(members: &Map<String, Value>, name: &str) -> Result<i32, Bad>
+pub fn enumeration(members: &Map<String, Value>, name: &str) -> Result<i32, DecodeError>
     ensures { Gives result (enum (field name.now (members_view members.now.entries))) }
 {
     match field(members, name) {

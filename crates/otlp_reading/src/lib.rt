@@ -8,7 +8,7 @@
 ghost use Rattle.std.specs.Prelude.{IfOk, IsErrOf};
 ghost use Rattle.otlp_reading.specs.Decoding.{IsRequest, IsNoJson, IsNoRequest};
 
-mod bad;
+mod decode_error;
 mod double;
 mod kinds;
 mod message;
@@ -16,7 +16,7 @@ mod request;
 mod span;
 mod value;
 
-pub use bad::Bad;
+pub use decode_error::DecodeError;
 pub use double::{double_of_number, double_of_text, kept_double};
 pub use kinds::{first_byte, i64_text, u64_text};
 use message::Message;
@@ -30,17 +30,17 @@ pub use value::ValueKey;
 /// says. Doubles are kept, or an attribute that holds one is discarded and counted.
 ///
 /// `Json` where the bytes are no such text, `Shape` where some field of the value has another shape than its kind.
-pub fn decode(alloc: Global, keeps_doubles: bool, bytes: &[u8]) -> Result<Request, Bad>
+pub fn decode(alloc: Global, keeps_doubles: bool, bytes: &[u8]) -> Result<Request, DecodeError>
     ensures ok { IfOk result (IsRequest keeps_doubles bytes.now) }
-    ensures json { IsErrOf result Bad.Json → IsNoJson bytes.now }
-    ensures shape { IsErrOf result Bad.Shape → IsNoRequest keeps_doubles bytes.now }
+    ensures json { IsErrOf result DecodeError.Json → IsNoJson bytes.now }
+    ensures shape { IsErrOf result DecodeError.Shape → IsNoRequest keeps_doubles bytes.now }
 {
     match Value::from_slice(alloc, bytes) {
         Ok(value) => Request::read(alloc, keeps_doubles, kinds::object(&value)?),
         Err(e) => if e.is_memory() {
-            Err(Bad::NoMemory)
+            Err(DecodeError::NoMemory)
         } else {
-            Err(Bad::Json)
+            Err(DecodeError::Json)
         },
     }
 }

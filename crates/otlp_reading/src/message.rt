@@ -5,7 +5,7 @@ ghost use Rattle.std.specs.Prelude.{Bool, Option};
 ghost use Rattle.otlp_reading.specs.Kinds.{field, each, list_of, message, inner};
 ghost use Rattle.otlp_reading.specs.Gives.{Gives};
 
-use crate::bad::Bad;
+use crate::decode_error::DecodeError;
 use crate::kinds;
 use otlp_types::List;
 use serde_json::{Map, Value};
@@ -17,12 +17,16 @@ pub trait Message: Sized {
     ghost meaning: { Bool → Members → Option Self };
 
     /// The message. `Shape` where the members are of none.
-    fn read(alloc: Global, keeps_doubles: bool, members: &Map<String, Value>) -> Result<Self, Bad>
+    fn read(
+        alloc: Global,
+        keeps_doubles: bool,
+        members: &Map<String, Value>,
+    ) -> Result<Self, DecodeError>
         ensures { Gives result (meaning keeps_doubles (members_view members.now.entries)) };
 }
 
 /// An item of a list: null, as any value that is no object, is of another shape.
-fn read_item<T: Message>(alloc: Global, keeps_doubles: bool, item: &Value) -> Result<T, Bad>
+fn read_item<T: Message>(alloc: Global, keeps_doubles: bool, item: &Value) -> Result<T, DecodeError>
     ensures { Gives result (message (T.meaning keeps_doubles) (view item.now)) }
 {
     T::read(alloc, keeps_doubles, kinds::object(item)?)
@@ -33,7 +37,7 @@ fn each<T: Message + Drop>(
     alloc: Global,
     keeps_doubles: bool,
     items: &[Value],
-) -> Result<List<T>, Bad>
+) -> Result<List<T>, DecodeError>
     ensures { Gives result (each (message (T.meaning keeps_doubles)) (items_view items.now)) }
 {
     let mut all = List::from_vec(Vec::with_capacity(alloc, items.len())?);
@@ -49,7 +53,7 @@ pub fn list_of<T: Message + Drop>(
     keeps_doubles: bool,
     members: &Map<String, Value>,
     name: &str,
-) -> Result<List<T>, Bad>
+) -> Result<List<T>, DecodeError>
     ensures { Gives result
         (list_of (message (T.meaning keeps_doubles)) (field name.now (members_view members.now.entries))) }
 {
@@ -62,7 +66,7 @@ pub fn inner<T: Message>(
     keeps_doubles: bool,
     members: &Map<String, Value>,
     name: &str,
-) -> Result<T, Bad>
+) -> Result<T, DecodeError>
     ensures { Gives result (inner (T.meaning keeps_doubles) (field name.now (members_view members.now.entries))) }
 {
     match kinds::field(members, name) {

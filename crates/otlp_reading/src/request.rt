@@ -4,7 +4,7 @@ ghost use Rattle.serde_json.specs.View.{members_view};
 ghost use Rattle.otlp_reading.specs.Gives.{Gives};
 ghost use Rattle.otlp_reading.specs.Reading.{resource, scope, grouped, scope_spans, resource_spans, request};
 
-use crate::bad::Bad;
+use crate::decode_error::DecodeError;
 use crate::kinds;
 use crate::message::{Message, inner, list_of};
 use crate::span::attributes;
@@ -19,7 +19,7 @@ impl Message for Resource {
         alloc: Global,
         keeps_doubles: bool,
         members: &Map<String, Value>,
-    ) -> Result<Resource, Bad> {
+    ) -> Result<Resource, DecodeError> {
         let (attributes, dropped_attributes_count) = attributes(alloc, keeps_doubles, members)?;
         Ok(Resource {
             attributes,
@@ -35,7 +35,7 @@ impl Message for Scope {
         alloc: Global,
         keeps_doubles: bool,
         members: &Map<String, Value>,
-    ) -> Result<Scope, Bad> {
+    ) -> Result<Scope, DecodeError> {
         let name = kinds::text(alloc, members, "name")?;
         let version = kinds::text(alloc, members, "version")?;
         let (attributes, dropped_attributes_count) = attributes(alloc, keeps_doubles, members)?;
@@ -55,7 +55,7 @@ fn grouped<S: Message + Drop, T: Message + Drop>(
     members: &Map<String, Value>,
     shared: &str,
     list: &str,
-) -> Result<(S, List<T>, Text), Bad>
+) -> Result<(S, List<T>, Text), DecodeError>
     ensures { Gives result
         (grouped (S.meaning keeps_doubles) (T.meaning keeps_doubles) shared.now list.now (members_view members.now.entries)) }
 {
@@ -72,7 +72,7 @@ impl Message for ScopeSpans {
         alloc: Global,
         keeps_doubles: bool,
         members: &Map<String, Value>,
-    ) -> Result<ScopeSpans, Bad> {
+    ) -> Result<ScopeSpans, DecodeError> {
         let (scope, spans, schema_url) = grouped(alloc, keeps_doubles, members, "scope", "spans")?;
         Ok(ScopeSpans {
             scope,
@@ -89,7 +89,7 @@ impl Message for ResourceSpans {
         alloc: Global,
         keeps_doubles: bool,
         members: &Map<String, Value>,
-    ) -> Result<ResourceSpans, Bad> {
+    ) -> Result<ResourceSpans, DecodeError> {
         let (resource, scope_spans, schema_url) = grouped(
             alloc,
             keeps_doubles,
@@ -112,7 +112,7 @@ impl Message for Request {
         alloc: Global,
         keeps_doubles: bool,
         members: &Map<String, Value>,
-    ) -> Result<Request, Bad> {
+    ) -> Result<Request, DecodeError> {
         let resource_spans = list_of(alloc, keeps_doubles, members, "resourceSpans")?;
         Ok(Request { resource_spans })
     }

@@ -5,7 +5,7 @@ ghost use Rattle.otlp_reading.specs.Gives.{Gives};
 ghost use Rattle.otlp_reading.specs.Reading.{attributes, parent_of, valid_ids, ids, status, event, link, span};
 ghost use Rattle.otlp_reading.specs.SpanParts.{context, kind_and_times, held_fields};
 
-use crate::bad::Bad;
+use crate::decode_error::DecodeError;
 use crate::kinds;
 use crate::message::{Message, inner, list_of};
 use crate::value::key_values;
@@ -22,7 +22,7 @@ pub fn attributes(
     alloc: Global,
     keeps_doubles: bool,
     members: &Map<String, Value>,
-) -> Result<(List<KeyValue>, u32), Bad>
+) -> Result<(List<KeyValue>, u32), DecodeError>
     ensures { Gives result (attributes keeps_doubles (members_view members.now.entries)) }
 {
     let items = kinds::items(members, "attributes")?;
@@ -70,7 +70,7 @@ fn valid_ids(trace_id: &str, span_id: &str, parent_id: &str) -> Option<Ids>
 }
 
 /// The ids of a span. A request stands with a span whose ids are invalid.
-fn ids(members: &Map<String, Value>) -> Result<Option<Ids>, Bad>
+fn ids(members: &Map<String, Value>) -> Result<Option<Ids>, DecodeError>
     ensures { Gives result (ids (members_view members.now.entries)) }
 {
     let trace_id = kinds::borrowed_text(members, "traceId")?;
@@ -86,7 +86,7 @@ impl Message for Status {
         alloc: Global,
         keeps_doubles: bool,
         members: &Map<String, Value>,
-    ) -> Result<Status, Bad> {
+    ) -> Result<Status, DecodeError> {
         let message = kinds::text(alloc, members, "message")?;
         let code = kinds::enumeration(members, "code")?;
         Ok(Status { message, code })
@@ -100,7 +100,7 @@ impl Message for Event {
         alloc: Global,
         keeps_doubles: bool,
         members: &Map<String, Value>,
-    ) -> Result<Event, Bad> {
+    ) -> Result<Event, DecodeError> {
         let time_unix_nano = kinds::u64(members, "timeUnixNano")?;
         let name = kinds::text(alloc, members, "name")?;
         let (attributes, dropped_attributes_count) = attributes(alloc, keeps_doubles, members)?;
@@ -116,7 +116,11 @@ impl Message for Event {
 impl Message for Link {
     ghost meaning = { link };
 
-    fn read(alloc: Global, keeps_doubles: bool, members: &Map<String, Value>) -> Result<Link, Bad> {
+    fn read(
+        alloc: Global,
+        keeps_doubles: bool,
+        members: &Map<String, Value>,
+    ) -> Result<Link, DecodeError> {
         let trace_id = kinds::text(alloc, members, "traceId")?;
         let span_id = kinds::text(alloc, members, "spanId")?;
         let trace_state = kinds::text(alloc, members, "traceState")?;
@@ -141,7 +145,7 @@ struct SpanContext {
     flags: u32,
 }
 
-fn context(alloc: Global, members: &Map<String, Value>) -> Result<SpanContext, Bad>
+fn context(alloc: Global, members: &Map<String, Value>) -> Result<SpanContext, DecodeError>
     ensures { Gives result (context (members_view members.now.entries)) }
 {
     let ids = ids(members)?;
@@ -155,7 +159,7 @@ fn context(alloc: Global, members: &Map<String, Value>) -> Result<SpanContext, B
 }
 
 /// The kind of a span, and when it started and ended.
-fn kind_and_times(members: &Map<String, Value>) -> Result<(i32, u64, u64), Bad>
+fn kind_and_times(members: &Map<String, Value>) -> Result<(i32, u64, u64), DecodeError>
     ensures { Gives result (kind_and_times (members_view members.now.entries)) }
 {
     let kind = kinds::enumeration(members, "kind")?;
@@ -178,7 +182,7 @@ fn held_fields(
     alloc: Global,
     keeps_doubles: bool,
     members: &Map<String, Value>,
-) -> Result<HeldFields, Bad>
+) -> Result<HeldFields, DecodeError>
     ensures { Gives result (held_fields keeps_doubles (members_view members.now.entries)) }
 {
     let events = list_of(alloc, keeps_doubles, members, "events")?;
@@ -198,7 +202,11 @@ fn held_fields(
 impl Message for Span {
     ghost meaning = { span };
 
-    fn read(alloc: Global, keeps_doubles: bool, members: &Map<String, Value>) -> Result<Span, Bad> {
+    fn read(
+        alloc: Global,
+        keeps_doubles: bool,
+        members: &Map<String, Value>,
+    ) -> Result<Span, DecodeError> {
         let context = context(alloc, members)?;
         let name = kinds::text(alloc, members, "name")?;
         let (kind, start_time_unix_nano, end_time_unix_nano) = kind_and_times(members)?;

@@ -5,7 +5,7 @@ ghost use Rattle.otlp_reading.specs.Kinds.{field, items, each, message};
 ghost use Rattle.otlp_reading.specs.Gives.{Gives, GivesAs};
 ghost use Rattle.otlp_reading.specs.Reading.{value_member, value_members, at_most_one, kept, discarded, sieved, key_value, double_value, value_by, value_to};
 
-use crate::bad::Bad;
+use crate::decode_error::DecodeError;
 use crate::double::kept_double;
 use crate::{double, kinds};
 use otlp_types::{AnyValue, KeyValue, List};
@@ -59,7 +59,9 @@ fn value_member<'v>(name: &str, value: &'v Value) -> Option<(ValueKey, &'v Value
 }
 
 /// The one value key that isn't null, and what it holds.
-fn only_value_member(members: &Map<String, Value>) -> Result<Option<(ValueKey, &Value)>, Bad>
+fn only_value_member(
+    members: &Map<String, Value>,
+) -> Result<Option<(ValueKey, &Value)>, DecodeError>
     ensures { GivesAs (option_map (λ h. (h.0, view h.1.now))) result
         (at_most_one (value_members (members_view members.now.entries))) }
 {
@@ -67,7 +69,7 @@ fn only_value_member(members: &Map<String, Value>) -> Result<Option<(ValueKey, &
     for (name, value) in members.iter() {
         if let Some(here) = value_member(name.as_str(), value) {
             if found.is_some() {
-                return Err(Bad::Shape);
+                return Err(DecodeError::Shape);
             }
             found = Some(here);
         }
@@ -82,11 +84,11 @@ fn value_to(
     keeps_doubles: bool,
     value: &Value,
     levels: usize,
-) -> Result<Option<AnyValue>, Bad>
+) -> Result<Option<AnyValue>, DecodeError>
     ensures { Gives result (value_to keeps_doubles levels (view value.now)) }
 {
     if levels == 0 {
-        return Err(Bad::Shape);
+        return Err(DecodeError::Shape);
     }
     match only_value_member(kinds::object(value)?)? {
         Some((key, inner)) => value_by(alloc, keeps_doubles, key, inner, levels - 1),
@@ -102,7 +104,7 @@ fn value_by(
     key: ValueKey,
     value: &Value,
     levels: usize,
-) -> Result<Option<AnyValue>, Bad>
+) -> Result<Option<AnyValue>, DecodeError>
     ensures { Gives result (value_by (value_to keeps_doubles levels) keeps_doubles key (view value.now)) }
 {
     match key {
@@ -123,17 +125,17 @@ fn value_by(
 }
 
 /// A double, whatever stands there where doubles are discarded.
-fn double_value(keeps_doubles: bool, value: &Value) -> Result<Option<AnyValue>, Bad>
+fn double_value(keeps_doubles: bool, value: &Value) -> Result<Option<AnyValue>, DecodeError>
     ensures { Gives result (double_value keeps_doubles (view value.now)) }
 {
     if !keeps_doubles {
         return Ok(None);
     }
-    Ok(kept_double(double::double_of(value).ok_or(Bad::Shape)?))
+    Ok(kept_double(double::double_of(value).ok_or(DecodeError::Shape)?))
 }
 
 /// The items of an `ArrayValue` or of a `KeyValueList`.
-fn listed(value: &Value) -> Result<&[Value], Bad>
+fn listed(value: &Value) -> Result<&[Value], DecodeError>
     ensures { GivesAs (λ s. items_view s.now) result
         (message (λ ms. items (field (codes "values") ms)) (view value.now)) }
 {
@@ -187,7 +189,7 @@ fn values(
     keeps_doubles: bool,
     items: &[Value],
     levels: usize,
-) -> Result<(List<AnyValue>, usize), Bad>
+) -> Result<(List<AnyValue>, usize), DecodeError>
     ensures { Gives result (option_map sieved (each (value_to keeps_doubles levels) (items_view items.now))) }
 {
     let mut all = Sieve::new(alloc, items.len())?;
@@ -204,7 +206,7 @@ pub fn key_values(
     keeps_doubles: bool,
     items: &[Value],
     levels: usize,
-) -> Result<(List<KeyValue>, usize), Bad>
+) -> Result<(List<KeyValue>, usize), DecodeError>
     ensures { Gives result
         (option_map sieved (each (message (key_value (value_to keeps_doubles levels))) (items_view items.now))) }
 {
@@ -222,7 +224,7 @@ fn key_value(
     keeps_doubles: bool,
     item: &Value,
     levels: usize,
-) -> Result<Option<KeyValue>, Bad>
+) -> Result<Option<KeyValue>, DecodeError>
     ensures { Gives result (message (key_value (value_to keeps_doubles levels)) (view item.now)) }
 {
     let members = kinds::object(item)?;

@@ -6,7 +6,7 @@ use Rattle.span_ids.specs.Id.{id_of}
 use Rattle.otlp_types.specs.declared.span.Ids.{Ids}
 use Rattle.otlp_types.specs.declared.value.KeyValue.{KeyValue}
 use Rattle.otlp_types.specs.declared.request.Resource.{Resource}
-use Rattle.otlp_stream.specs.declared.values.Kept.{Kept}
+use Rattle.otlp_stream.specs.declared.values.KeptItems.{KeptItems}
 use Rattle.otlp_reading.specs.Kinds.{field, text, u32, list_of, message}
 use Rattle.otlp_reading.specs.Reading.{OrDiscarded, kept, discarded, any_value, key_value, attributes, resource, parent_of, valid_ids, ids}
 use Rattle.otlp_stream.specs.SoFar.{kept_attributes, trace_field, id_field, parent_field}
@@ -39,7 +39,7 @@ ids_built ms tr id pa r e0 e1 e2 is =
 abbrev counted_with : Option (List (OrDiscarded KeyValue)) → Option ℕ → Option (List KeyValue × ℕ)
 counted_with all d = option_and_then (λ a. option_and_then (λ n. Some (kept a, min (n + discarded a) (2 ^ 32 - 1))) d) all
 
-pub attributes_built : (keeps_doubles : Bool) (ms : Members) (k : Kept KeyValue) (n r : ℕ) → kept_attributes keeps_doubles (field (codes "attributes") ms) ≡ Some k → u32 (field (codes "droppedAttributesCount") ms) ≡ Some n
+pub attributes_built : (keeps_doubles : Bool) (ms : Members) (k : KeptItems KeyValue) (n r : ℕ) → kept_attributes keeps_doubles (field (codes "attributes") ms) ≡ Some k → u32 (field (codes "droppedAttributesCount") ms) ≡ Some n
     → r ≡ min (n + k.discarded) (2 ^ 32 - 1) → attributes keeps_doubles ms ≡ Some (k.kept, r)
 attributes_built keeps_doubles ms k n r e0 e1 is =
     let read = message (key_value (any_value keeps_doubles)) in

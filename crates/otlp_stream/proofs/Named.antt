@@ -7,7 +7,7 @@ use mathlib.Core.Path.{fun_ext}
 use Rattle.json.specs.Token.{Token}
 use Rattle.serde_json.specs.Data.{Data, Members, put}
 use Rattle.otlp_reading.specs.Kinds.{field, unless_null}
-use Rattle.otlp_stream.specs.declared.take.Stop.{Stop}
+use Rattle.otlp_stream.specs.declared.take.Declined.{Declined}
 use Rattle.otlp_stream.specs.Taking.{TakesAs, TakesField, present, fields_of, updated}
 use Rattle.otlp_stream.proofs.Streaming.{field_put, field_put_other}
 
@@ -35,7 +35,7 @@ module _ {S : Type 0} (so_far : (List ℕ → Option Data) → S → Type 0) (de
     keeps = λ seen s. subst (λ k. so_far (updated k (unless_null t.found) seen) after) (sym same) (step seen (unless_null t.found) t.is s);
   }
 
-  module _ (done : Result Unit Stop) (r : Result A Stop) (x : A) (is : OnOk done (r ≡ Ok x)) (same : name ≡ q) where
+  module _ (done : Result Unit Declined) (r : Result A Declined) (x : A) (is : OnOk done (r ≡ Ok x)) (same : name ≡ q) where
     -- what was read was put in the place of a field
     pub put_at : IfOk r (λ y. TakesAs (present read) depth old new y)
         → ((seen : List ℕ → Option Data) (o : Option Data) → read o ≡ Some x → so_far seen before → so_far (updated q o seen) after) → OnOk done (TakesField so_far depth name before old after new)

@@ -11,13 +11,13 @@ use Rattle.otlp_reading.specs.declared.value.ValueKey.{ValueKey}
 use Rattle.otlp_reading.specs.Kinds.{field, unless_null, each, list_of, message, text, read_or}
 use Rattle.otlp_reading.specs.Reading.{OrDiscarded, kept, discarded, all_kept, value_key, at_most_one, value_of_member, value_in, value_by, value_to, key_value}
 use Rattle.std.specs.Option.{option_to_list}
-use Rattle.otlp_stream.specs.declared.values.Kept.{Kept}
+use Rattle.otlp_stream.specs.declared.values.KeptItems.{KeptItems}
 use Rattle.otlp_stream.specs.Taking.{Takes, TakesAs, TakesMembers, WithinItems, Sieved, sieved_list, present, held, items_then}
 use Rattle.otlp_reading.proofs.Each.{kept-append, discarded-append}
 use Rattle.otlp_reading.proofs.Levels.{value_to-step}
 use Rattle.otlp_stream.proofs.Streaming.{Within-start, Within-member, Within-end, takes_object, takes_array, WithinItems-start, WithinItems-next, WithinItems-end, items_then-all, each-push, field_put, field_put_other}
 
-Sieved-next : {A : Type 0} (read : Data → Option (OrDiscarded A)) (done : List Data) (before after : Kept A) (d : Data) (x : OrDiscarded A)
+Sieved-next : {A : Type 0} (read : Data → Option (OrDiscarded A)) (done : List Data) (before after : KeptItems A) (d : Data) (x : OrDiscarded A)
     → Sieved read done before → read d ≡ Some x → after.kept ≡ before.kept ++ kept (x ∷ []) → after.discarded ≡ before.discarded + discarded (x ∷ []) → Sieved read (done ++ d ∷ []) after
 Sieved-next read done before after d x s r more count = record {
   all = s.all ++ x ∷ [];
@@ -27,13 +27,13 @@ Sieved-next read done before after d x s r more count = record {
 }
 
 -- the list that began at `start` has had items of which these are kept and so many discarded, and `now` is left
-pub record WithinSieved {A : Type 0} (read : Data → Option (OrDiscarded A)) (depth : ℕ) (start now : List Token) (found : Kept A) : Type 0 where
+pub record WithinSieved {A : Type 0} (read : Data → Option (OrDiscarded A)) (depth : ℕ) (start now : List Token) (found : KeptItems A) : Type 0 where
   pub done : List Data
   pub within : WithinItems depth start now done
   pub sieved : Sieved read done found
 
 module _ {A : Type 0} (read : Data → Option (OrDiscarded A)) (depth : ℕ) (start : List Token) where
-  pub WithinSieved-start : (none : Kept A) → none ≡ record { kept = []; discarded = 0 } → WithinSieved read depth start start none
+  pub WithinSieved-start : (none : KeptItems A) → none ≡ record { kept = []; discarded = 0 } → WithinSieved read depth start start none
   WithinSieved-start none e = record {
     done = [];
     within = WithinItems-start depth start;
@@ -41,7 +41,7 @@ module _ {A : Type 0} (read : Data → Option (OrDiscarded A)) (depth : ℕ) (st
   }
 
   -- one more item, where the test for the end of the array took nothing
-  pub WithinSieved-next : (now moved new : List Token) (before after : Kept A) (x : OrDiscarded A) → WithinSieved read depth start now before → after_end_array now ≡ None → moved ≡ now → TakesAs read depth moved new x
+  pub WithinSieved-next : (now moved new : List Token) (before after : KeptItems A) (x : OrDiscarded A) → WithinSieved read depth start now before → after_end_array now ≡ None → moved ≡ now → TakesAs read depth moved new x
       → after.kept ≡ before.kept ++ kept (x ∷ []) → after.discarded ≡ before.discarded + discarded (x ∷ []) → WithinSieved read depth start new after
   WithinSieved-next now moved new before after x w going stays t more count = record {
     done = w.done ++ t.found ∷ [];
@@ -49,7 +49,7 @@ module _ {A : Type 0} (read : Data → Option (OrDiscarded A)) (depth : ℕ) (st
     sieved = Sieved-next read w.done before after t.found x w.sieved t.is more count;
   }
 
-pub sieved_array : {A : Type 0} (read : Data → Option (OrDiscarded A)) (found : Kept A) (depth : ℕ) (old s now new : List Token)
+pub sieved_array : {A : Type 0} (read : Data → Option (OrDiscarded A)) (found : KeptItems A) (depth : ℕ) (old s now new : List Token)
     → (depth ≡ 0 → ⊥) → old ≡ Token.begin_array ∷ s → WithinSieved read (depth - 1) s now found → after_end_array now ≡ Some new → TakesAs (present (sieved_list read)) depth old new found
 sieved_array read found depth old s now new h e w over =
     let m = w.sieved in
@@ -90,10 +90,10 @@ module _ (depth : ℕ) (old s new : List Token) (h : depth ≡ 0 → ⊥) (e : o
 abbrev all_in : {A : Type 0} → (List A → AnyValue) → (Data → Option (OrDiscarded A)) → Data → Option (OrDiscarded AnyValue)
 all_in C read d = option_map (option_map C) (message (λ ms. option_map all_kept (list_of read (field (codes "values") ms))) d)
 
-abbrev whole : {A : Type 0} → Kept A → OrDiscarded (List A)
+abbrev whole : {A : Type 0} → KeptItems A → OrDiscarded (List A)
 whole found = if found.discarded == 0 then Some found.kept else None
 
-all_of : {A : Type 0} (C : List A → AnyValue) (l : Option (List (OrDiscarded A))) (found : Kept A) → option_map (λ xs. record { kept = kept xs; discarded = discarded xs }) l ≡ Some found
+all_of : {A : Type 0} (C : List A → AnyValue) (l : Option (List (OrDiscarded A))) (found : KeptItems A) → option_map (λ xs. record { kept = kept xs; discarded = discarded xs }) l ≡ Some found
     → option_map (option_map C) (option_map all_kept l) ≡ Some (option_map C (whole found))
 all_of C None found e = absurd (cc)
 all_of C (Some xs) found e = ap (λ k. Some (option_map C (whole k))) (ap (unsome found) e)
@@ -102,7 +102,7 @@ module _ {A : Type 0} (C : List A → AnyValue) (read : Data → Option (OrDisca
   pub all_none : (xs : List A) → xs ≡ [] → read_key s ≡ Some (None, new) → TakesAs (held (all_in C read)) depth old new (Some (C xs))
   all_none xs none over = record { found = object no_members; takes = takes_empty depth old s new h e over; is = ap (λ ys. Some (Some (C ys))) (sym none) }
 
-  pub all_read : (t u : List Token) (found : Kept A) (all : OrDiscarded (List A)) → read_key s ≡ Some (Some (codes "values"), t) → TakesAs (present (sieved_list read)) (depth - 1) t u found → read_key u ≡ Some (None, new)
+  pub all_read : (t u : List Token) (found : KeptItems A) (all : OrDiscarded (List A)) → read_key s ≡ Some (Some (codes "values"), t) → TakesAs (present (sieved_list read)) (depth - 1) t u found → read_key u ≡ Some (None, new)
       → all ≡ whole found → TakesAs (held (all_in C read)) depth old new (option_map C all)
   all_read t u found all key m over is = record {
     found = object (put (codes "values") m.found no_members);

@@ -12,7 +12,7 @@ use Rattle.serde_json.specs.Read.{of_json, of_items, of_members, converted, read
 use Rattle.serde_json.specs.View.{items_of}
 use Rattle.serde_json.proofs.Views.{get_member-put, get_member-put_other}
 use Rattle.otlp_reading.specs.Kinds.{field, unless_null, each, message, list_of, inner}
-use Rattle.otlp_stream.specs.Taking.{Takes, TakesAs, TakesItems, TakesMembers, Within, WithinItems, present, items_then}
+use Rattle.otlp_stream.specs.Taking.{Takes, TakesAs, ReadsItems, TakesMembers, Within, WithinItems, present, items_then}
 
 -- ---- the conversion, a turn at a time
 
@@ -142,7 +142,7 @@ pub WithinItems-next : (depth : ℕ) (start now : List Token) (done : List Data)
 WithinItems-next depth start now done moved new d w going stays t = WithinItems-item depth start now done new d w going (subst (λ (s : List Token). Takes depth s new d) stays t)
 
 pub WithinItems-end : (depth : ℕ) (start now : List Token) (done : List Data) (new : List Token)
-    → WithinItems depth start now done → after_end_array now ≡ Some new → TakesItems depth start new (items_then done no_items)
+    → WithinItems depth start now done → after_end_array now ≡ Some new → ReadsItems depth start new (items_then done no_items)
 WithinItems-end depth start now done new w over =
     let less = after_end_array-shorter now new over in
     let before = w.shorter in
@@ -152,7 +152,7 @@ WithinItems-end depth start now done new w over =
     }
 
 pub takes_array : (depth : ℕ) (old s new : List Token) (all : Items) → (depth ≡ 0 → ⊥) → old ≡ Token.begin_array ∷ s
-    → TakesItems (depth - 1) s new all → Takes depth old new (array all)
+    → ReadsItems (depth - 1) s new all → Takes depth old new (array all)
 takes_array depth old s new all some e m =
     let shorter = m.shorter in
     let positive : 0 < depth = omega arith in

@@ -7,7 +7,7 @@ use Rattle.otlp_types.specs.declared.request.ScopeSpans.{ScopeSpans}
 use Rattle.otlp_types.specs.declared.request.ResourceSpans.{ResourceSpans}
 use Rattle.otlp_types.specs.declared.request.Request.{Request}
 use Rattle.otlp_types.specs.declared.value.KeyValue.{KeyValue}
-use Rattle.otlp_stream.specs.declared.values.Kept.{Kept}
+use Rattle.otlp_stream.specs.declared.values.KeptItems.{KeptItems}
 use Rattle.otlp_stream.specs.declared.attributes.AttributesPart.{AttributesPart}
 use Rattle.otlp_stream.specs.declared.spans.EventParts.{EventParts}
 use Rattle.otlp_stream.specs.declared.spans.LinkParts.{LinkParts}
@@ -18,7 +18,7 @@ use Rattle.otlp_reading.specs.Reading.{any_value, key_value, parent_of, status, 
 use Rattle.otlp_stream.specs.Taking.{sieved_list}
 
 -- the attributes of a field: those that are kept, and how many are discarded
-abbrev pub kept_attributes : Bool → Option Data → Option (Kept KeyValue)
+abbrev pub kept_attributes : Bool → Option Data → Option (KeptItems KeyValue)
 kept_attributes keeps_doubles = sieved_list (message (key_value (any_value keeps_doubles)))
 
 abbrev pub trace_field : Option Data → Option (Option (List ℕ))

@@ -9,7 +9,7 @@ use Rattle.otlp_reading.specs.Kinds.{◌>>=◌, unless_null, field, each, list_o
 use Rattle.serde_json.specs.View.{items_of}
 use Rattle.std.specs.Prelude.{option_map}
 use Rattle.otlp_reading.specs.Reading.{OrDiscarded, kept, discarded}
-use Rattle.otlp_stream.specs.declared.values.Kept.{Kept}
+use Rattle.otlp_stream.specs.declared.values.KeptItems.{KeptItems}
 
 -- of the tokens `old` the first are the value d, and `new` are the rest
 pub record Takes (depth : ℕ) (old new : List Token) (d : Data) : Type 0 where
@@ -50,7 +50,7 @@ items_then [] rest = rest
 items_then (d ∷ ds) rest = item d (items_then ds rest)
 
 -- of the tokens `old`, which stand within a list, the first are all items that are left, and `new` follow its end
-pub record TakesItems (depth : ℕ) (old new : List Token) (all : Items) : Type 0 where
+pub record ReadsItems (depth : ℕ) (old new : List Token) (all : Items) : Type 0 where
   pub reads : converted of_items (items (value depth) (length old) old) ≡ Some (all, new)
   pub shorter : length new < length old
 
@@ -79,12 +79,12 @@ pub record TakesField {S : Type 0} (so_far : (List ℕ → Option Data) → S �
   pub keeps : (seen : List ℕ → Option Data) → so_far seen before → so_far (updated name (unless_null found) seen) after
 
 -- what was read of the items of a list, of which some are kept and the others are discarded
-pub record Sieved {A : Type 0} (read : Data → Option (OrDiscarded A)) (done : List Data) (found : Kept A) : Type 0 where
+pub record Sieved {A : Type 0} (read : Data → Option (OrDiscarded A)) (done : List Data) (found : KeptItems A) : Type 0 where
   pub all : List (OrDiscarded A)
   pub reads : each read (items_of done) ≡ Some all
   pub kept_is : found.kept ≡ kept all
   pub discarded_is : found.discarded ≡ discarded all
 
 -- a list in a field: what is kept, and how many are discarded
-abbrev pub sieved_list : {A : Type 0} → (Data → Option (OrDiscarded A)) → Option Data → Option (Kept A)
+abbrev pub sieved_list : {A : Type 0} → (Data → Option (OrDiscarded A)) → Option Data → Option (KeptItems A)
 sieved_list read o = option_map (λ xs. record { kept = kept xs; discarded = discarded xs }) (list_of read o)

@@ -5,8 +5,8 @@ ghost use Rattle.otlp_stream.specs.SoFar.{kept_attributes, AttributesSoFar};
 ghost use Rattle.otlp_stream.specs.Taking.{TakesAs, present};
 
 use crate::stream::Building;
-use crate::take::{Stop, number_u32, put, skip};
-use crate::values::{Kept, key_values};
+use crate::take::{Declined, number_u32, put, skip};
+use crate::values::{KeptItems, key_values};
 use json::Reader;
 use otlp_reading::dropped;
 use otlp_types::{KeyValue, List, Resource};
@@ -21,11 +21,11 @@ fn attributes(
     keeps_doubles: bool,
     reader: &mut Reader<'_>,
     depth: usize,
-) -> Result<Kept<KeyValue>, Stop>
+) -> Result<KeptItems<KeyValue>, Declined>
     ensures { IfOk result (λ x. TakesAs (present (kept_attributes keeps_doubles)) depth reader.old reader.new x) }
 {
     let found = key_values(alloc, keeps_doubles, reader, depth, LEVELS)?;
-    Ok(Kept {
+    Ok(KeptItems {
         kept: fitted(found.kept),
         discarded: found.discarded,
     })
@@ -43,7 +43,7 @@ fn fitted<T>(list: List<T>) -> List<T>
 /// What is read of a message's attributes. A `Resource` has nothing else.
 #[derive(Drop)]
 pub struct AttributesPart {
-    attributes: Kept<KeyValue>,
+    attributes: KeptItems<KeyValue>,
     counted: u32,
 }
 
@@ -56,7 +56,7 @@ impl Building for AttributesPart {
 
     fn start(alloc: Global) -> AttributesPart {
         AttributesPart {
-            attributes: Kept::none(alloc),
+            attributes: KeptItems::none(alloc),
             counted: 0,
         }
     }
@@ -69,7 +69,7 @@ impl Building for AttributesPart {
         reader: &mut Reader<'_>,
         depth: usize,
         name: &str,
-    ) -> Result<(), Stop> {
+    ) -> Result<(), Declined> {
         match name {
             "attributes" => put(
                 &mut self.attributes,

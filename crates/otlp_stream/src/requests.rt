@@ -7,9 +7,9 @@ ghost use Rattle.otlp_stream.specs.SoFar.{ScopeSoFar, ScopeSpansSoFar, ResourceS
 use crate::attributes::AttributesPart;
 use crate::spans::SpanParts;
 use crate::stream::{Building, list_of, message, message_of};
-use crate::take::{Stop, put, skip, text};
+use crate::take::{Declined, put, skip, text};
 use json::Reader;
-use otlp_reading::Bad;
+use otlp_reading::DecodeError;
 use otlp_types::{List, Request, Resource, ResourceSpans, Scope, ScopeSpans, Text};
 use std::alloc::Global;
 
@@ -44,7 +44,7 @@ impl Building for ScopeParts {
         reader: &mut Reader<'_>,
         depth: usize,
         name: &str,
-    ) -> Result<(), Stop> {
+    ) -> Result<(), Declined> {
         match name {
             "name" => put(&mut self.name, text(alloc, reader)),
             "version" => put(&mut self.version, text(alloc, reader)),
@@ -86,7 +86,7 @@ impl Building for ScopeSpans {
         reader: &mut Reader<'_>,
         depth: usize,
         name: &str,
-    ) -> Result<(), Stop> {
+    ) -> Result<(), Declined> {
         match name {
             "scope" => put(
                 &mut self.scope,
@@ -129,7 +129,7 @@ impl Building for ResourceSpans {
         reader: &mut Reader<'_>,
         depth: usize,
         name: &str,
-    ) -> Result<(), Stop> {
+    ) -> Result<(), Declined> {
         match name {
             "resource" => put(
                 &mut self.resource,
@@ -170,7 +170,7 @@ impl Building for Request {
         reader: &mut Reader<'_>,
         depth: usize,
         name: &str,
-    ) -> Result<(), Stop> {
+    ) -> Result<(), Declined> {
         match name {
             "resourceSpans" => put(
                 &mut self.resource_spans,
@@ -190,13 +190,13 @@ pub fn plain_request(
     alloc: Global,
     keeps_doubles: bool,
     bytes: &[u8],
-) -> Result<Option<Request>, Bad>
+) -> Result<Option<Request>, DecodeError>
     ensures plain { IfOk result (λ found. IfSome found (IsRequest keeps_doubles bytes.now)) }
-    ensures memory { IfErr result (λ e. e ≡ Bad.NoMemory) }
+    ensures memory { IfErr result (λ e. e ≡ DecodeError.NoMemory) }
 {
     match message_of::<Request>(alloc, keeps_doubles, bytes) {
         Ok(request) => Ok(Some(request)),
-        Err(Stop::Declined) => Ok(None),
-        Err(Stop::NoMemory) => Err(Bad::NoMemory),
+        Err(Declined::Declined) => Ok(None),
+        Err(Declined::NoMemory) => Err(DecodeError::NoMemory),
     }
 }

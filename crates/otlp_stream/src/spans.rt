@@ -7,7 +7,7 @@ ghost use Rattle.otlp_stream.specs.SoFar.{trace_field, id_field, parent_field, S
 
 use crate::attributes::AttributesPart;
 use crate::stream::{Building, list_of, message};
-use crate::take::{Stop, enumeration, number_u32, number_u64, piece, put, skip, text};
+use crate::take::{Declined, enumeration, number_u32, number_u64, piece, put, skip, text};
 use json::Reader;
 use otlp_reading::parent_of;
 use otlp_types::{Event, Ids, Link, Span, Status, Text};
@@ -16,7 +16,7 @@ use std::alloc::Global;
 
 /// The trace's id in a field, if it is valid.
 #[inline(always)]
-fn trace_id(reader: &mut Reader<'_>) -> Result<Option<TraceId>, Stop>
+fn trace_id(reader: &mut Reader<'_>) -> Result<Option<TraceId>, Declined>
     ensures { IfOk result (λ x. (depth : ℕ) → TakesAs (present trace_field) depth reader.old reader.new x) }
 {
     let text = piece(reader)?;
@@ -25,7 +25,7 @@ fn trace_id(reader: &mut Reader<'_>) -> Result<Option<TraceId>, Stop>
 
 /// A span's id in a field, if it is valid.
 #[inline(always)]
-fn span_id(reader: &mut Reader<'_>) -> Result<Option<SpanId>, Stop>
+fn span_id(reader: &mut Reader<'_>) -> Result<Option<SpanId>, Declined>
     ensures { IfOk result (λ x. (depth : ℕ) → TakesAs (present id_field) depth reader.old reader.new x) }
 {
     let text = piece(reader)?;
@@ -34,7 +34,7 @@ fn span_id(reader: &mut Reader<'_>) -> Result<Option<SpanId>, Stop>
 
 /// The parent in a field, if it is valid.
 #[inline(always)]
-fn parent_id(reader: &mut Reader<'_>) -> Result<Option<Option<SpanId>>, Stop>
+fn parent_id(reader: &mut Reader<'_>) -> Result<Option<Option<SpanId>>, Declined>
     ensures { IfOk result (λ x. (depth : ℕ) → TakesAs (present parent_field) depth reader.old reader.new x) }
 {
     let text = piece(reader)?;
@@ -81,7 +81,7 @@ impl Building for Status {
         reader: &mut Reader<'_>,
         depth: usize,
         name: &str,
-    ) -> Result<(), Stop> {
+    ) -> Result<(), Declined> {
         match name {
             "message" => put(&mut self.message, text(alloc, reader)),
             "code" => put(&mut self.code, enumeration(reader)),
@@ -125,7 +125,7 @@ impl Building for EventParts {
         reader: &mut Reader<'_>,
         depth: usize,
         name: &str,
-    ) -> Result<(), Stop> {
+    ) -> Result<(), Declined> {
         match name {
             "timeUnixNano" => put(&mut self.time, number_u64(reader)),
             "name" => put(&mut self.name, text(alloc, reader)),
@@ -179,7 +179,7 @@ impl Building for LinkParts {
         reader: &mut Reader<'_>,
         depth: usize,
         name: &str,
-    ) -> Result<(), Stop> {
+    ) -> Result<(), Declined> {
         match name {
             "traceId" => put(&mut self.trace_id, text(alloc, reader)),
             "spanId" => put(&mut self.span_id, text(alloc, reader)),
@@ -237,7 +237,7 @@ impl Building for SpanParts {
         reader: &mut Reader<'_>,
         depth: usize,
         name: &str,
-    ) -> Result<(), Stop> {
+    ) -> Result<(), Declined> {
         match name {
             "traceId" => put(&mut self.trace, trace_id(reader)),
             "spanId" => put(&mut self.id, span_id(reader)),

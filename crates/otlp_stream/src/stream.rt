@@ -6,7 +6,7 @@ ghost use Rattle.otlp_reading.specs.Decoding.{IsJson};
 ghost use Rattle.otlp_reading.specs.Kinds.{message, inner, list_of};
 ghost use Rattle.otlp_stream.specs.Taking.{TakesAs, TakesMembers, TakesField, fields_of, present};
 
-use crate::take::{Stop, begin_array, begin_object};
+use crate::take::{Declined, begin_array, begin_object};
 use json::{Reader, Scratch};
 use otlp_types::List;
 use std::alloc::Global;
@@ -37,7 +37,7 @@ pub trait Building: Sized {
         reader: &mut Reader<'_>,
         depth: usize,
         name: &str,
-    ) -> Result<(), Stop>
+    ) -> Result<(), Declined>
         ensures { OnOk result
             (TakesField (so_far keeps_doubles) depth name.now self.old reader.old self.new reader.new) };
 
@@ -54,7 +54,7 @@ fn members<B: Building + Drop>(
     keeps_doubles: bool,
     reader: &mut Reader<'_>,
     depth: usize,
-) -> Result<B::Message, Stop>
+) -> Result<B::Message, Declined>
     ensures { IfOk result (λ x. TakesMembers (B.meaning keeps_doubles) depth reader.old reader.new x) }
 {
     let mut built = B::start(alloc);
@@ -64,7 +64,7 @@ fn members<B: Building + Drop>(
         };
         built.field(alloc, keeps_doubles, reader, depth, name)?;
     }
-    Err(Stop::Declined)
+    Err(Declined::Declined)
 }
 
 /// A message in a list, or in a field.
@@ -74,7 +74,7 @@ pub fn message<B: Building + Drop>(
     keeps_doubles: bool,
     reader: &mut Reader<'_>,
     depth: usize,
-) -> Result<B::Message, Stop>
+) -> Result<B::Message, Declined>
     ensures item { IfOk result (λ x. TakesAs (message (B.meaning keeps_doubles)) depth reader.old reader.new x) }
     ensures field { IfOk result (λ x. TakesAs (present (inner (B.meaning keeps_doubles))) depth reader.old reader.new x) }
 {
@@ -88,7 +88,7 @@ pub fn list_of<B: Building + Drop>(
     keeps_doubles: bool,
     reader: &mut Reader<'_>,
     depth: usize,
-) -> Result<List<B::Message>, Stop>
+) -> Result<List<B::Message>, Declined>
 where
     B::Message: Drop,
     ensures { IfOk result
@@ -102,7 +102,7 @@ where
         }
         all.push(message::<B>(alloc, keeps_doubles, reader, depth - 1)?)?;
     }
-    Err(Stop::Declined)
+    Err(Declined::Declined)
 }
 
 /// The message that a whole text is.
@@ -110,7 +110,7 @@ fn whole<B: Building + Drop>(
     alloc: Global,
     keeps_doubles: bool,
     text: &str,
-) -> Result<B::Message, Stop>
+) -> Result<B::Message, Declined>
 where
     B::Message: Drop,
     ensures { IfOk result
@@ -121,7 +121,7 @@ where
     let found = message::<B>(alloc, keeps_doubles, &mut reader, DEPTH)?;
     match reader.next() {
         None => Ok(found),
-        Some(_) => Err(Stop::Declined),
+        Some(_) => Err(Declined::Declined),
     }
 }
 
@@ -130,7 +130,7 @@ pub fn message_of<B: Building + Drop>(
     alloc: Global,
     keeps_doubles: bool,
     bytes: &[u8],
-) -> Result<B::Message, Stop>
+) -> Result<B::Message, Declined>
 where
     B::Message: Drop,
     ensures { IfOk result
@@ -138,6 +138,6 @@ where
 {
     match simdutf8::compat::from_utf8(bytes) {
         Ok(text) => whole::<B>(alloc, keeps_doubles, text),
-        Err(_) => Err(Stop::Declined),
+        Err(_) => Err(Declined::Declined),
     }
 }

@@ -1,5 +1,6 @@
-//! Values of attributes, read from tokens. What isn't plain is declined: a pair whose members are others than `key` and then
-//! `value`, a value with another member than its one value key, and a list within one that has another than `values`.
+//! Values of attributes, read from tokens. What isn't plain is declined: a pair whose members are others than `key` and
+//! then `value`, a value with another member than its one value key, and a list within one that has another than
+//! `values`.
 ghost use Rattle.std.specs.Prelude.{◌≡◌, ◌+◌, ◌==◌, if◌then◌else◌, [], ◌∷◌, ◌++◌, Some, None, IfOk, OnOk, option_map};
 ghost use Rattle.otlp_types.specs.declared.value.AnyValue.{Array, KvList};
 ghost use Rattle.otlp_reading.specs.Kinds.{message};
@@ -7,7 +8,7 @@ ghost use Rattle.otlp_reading.specs.Reading.{values, pairs, key_value, value_by,
 ghost use Rattle.otlp_stream.specs.Taking.{TakesAs, present, held, sieved_list};
 
 use crate::take::{
-    Stop, begin_array, begin_object, end_object, has_next, held_bool, held_double, held_i64,
+    Declined, begin_array, begin_object, end_object, has_next, held_bool, held_double, held_i64,
     held_text, text,
 };
 use json::Reader;
@@ -17,17 +18,17 @@ use std::alloc::Global;
 
 /// Items of a list: those that are kept, and how many are discarded.
 #[derive(Drop)]
-pub struct Kept<T> {
+pub struct KeptItems<T> {
     pub kept: List<T>,
     pub discarded: usize,
 }
 
-impl<T: Drop> Kept<T> {
+impl<T: Drop> KeptItems<T> {
     /// Of no items.
-    pub fn none(alloc: Global) -> Kept<T>
+    pub fn none(alloc: Global) -> KeptItems<T>
         ensures { result ≡ record { kept = []; discarded = 0 } }
     {
-        Kept {
+        KeptItems {
             kept: List::new(alloc),
             discarded: 0,
         }
@@ -35,7 +36,7 @@ impl<T: Drop> Kept<T> {
 
     /// Takes one more item.
     #[inline(always)]
-    fn take(&mut self, found: Option<T>) -> Result<(), Stop>
+    fn take(&mut self, found: Option<T>) -> Result<(), Declined>
         ensures kept { OnOk result (self.new.kept ≡ self.old.kept ++ kept (found ∷ [])) }
         ensures discarded { OnOk result (self.new.discarded ≡ self.old.discarded + discarded (found ∷ [])) }
     {
@@ -43,7 +44,7 @@ impl<T: Drop> Kept<T> {
             Some(item) => self.kept.push(item)?,
             None => {
                 if self.discarded == usize::MAX {
-                    return Err(Stop::Declined);
+                    return Err(Declined::Declined);
                 }
                 self.discarded += 1;
             }
@@ -72,18 +73,18 @@ fn value_to(
     reader: &mut Reader<'_>,
     depth: usize,
     levels: usize,
-) -> Result<Option<AnyValue>, Stop>
+) -> Result<Option<AnyValue>, Declined>
     ensures { IfOk result (λ x. TakesAs (value_to keeps_doubles levels) depth reader.old reader.new x) }
 {
     begin_object(reader, depth)?;
     if levels == 0 {
-        return Err(Stop::Declined);
+        return Err(Declined::Declined);
     }
     let Some(name) = reader.next_key()? else {
         return Ok(Some(AnyValue::Empty));
     };
     let Some(key) = ValueKey::named(name) else {
-        return Err(Stop::Declined);
+        return Err(Declined::Declined);
     };
     let value = value_by(alloc, keeps_doubles, reader, depth - 1, levels - 1, key)?;
     end_object(reader)?;
@@ -99,7 +100,7 @@ fn value_by(
     depth: usize,
     levels: usize,
     key: ValueKey,
-) -> Result<Option<AnyValue>, Stop>
+) -> Result<Option<AnyValue>, Declined>
     ensures { IfOk result (λ x. TakesAs (held (value_by (value_to keeps_doubles levels) keeps_doubles key)) depth reader.old reader.new x) }
 {
     match key {
@@ -121,7 +122,7 @@ fn array(
     reader: &mut Reader<'_>,
     depth: usize,
     levels: usize,
-) -> Result<Option<AnyValue>, Stop>
+) -> Result<Option<AnyValue>, Declined>
     ensures { IfOk result (λ x. TakesAs
         (held (λ d. option_map (option_map Array) (message (values (value_to keeps_doubles levels)) d)))
         depth reader.old reader.new x) }
@@ -146,7 +147,7 @@ fn kv_list(
     reader: &mut Reader<'_>,
     depth: usize,
     levels: usize,
-) -> Result<Option<AnyValue>, Stop>
+) -> Result<Option<AnyValue>, Declined>
     ensures { IfOk result (λ x. TakesAs
         (held (λ d. option_map (option_map KvList) (message (pairs (value_to keeps_doubles levels)) d)))
         depth reader.old reader.new x) }
@@ -171,18 +172,18 @@ fn all_values(
     reader: &mut Reader<'_>,
     depth: usize,
     levels: usize,
-) -> Result<Kept<AnyValue>, Stop>
+) -> Result<KeptItems<AnyValue>, Declined>
     ensures { IfOk result (λ x. TakesAs (present (sieved_list (value_to keeps_doubles levels))) depth reader.old reader.new x) }
 {
     begin_array(reader, depth)?;
-    let mut found = Kept::none(alloc);
+    let mut found = KeptItems::none(alloc);
     'items: for _ in 0..u64::MAX {
         if reader.take_end_array() {
             return Ok(found);
         }
         found.take(value_to(alloc, keeps_doubles, reader, depth - 1, levels)?)?;
     }
-    Err(Stop::Declined)
+    Err(Declined::Declined)
 }
 
 /// The pairs that are kept, and how many are discarded.
@@ -193,19 +194,19 @@ pub fn key_values(
     reader: &mut Reader<'_>,
     depth: usize,
     levels: usize,
-) -> Result<Kept<KeyValue>, Stop>
+) -> Result<KeptItems<KeyValue>, Declined>
     ensures { IfOk result (λ x. TakesAs (present (sieved_list (message (key_value (value_to keeps_doubles levels)))))
         depth reader.old reader.new x) }
 {
     begin_array(reader, depth)?;
-    let mut found = Kept::none(alloc);
+    let mut found = KeptItems::none(alloc);
     'items: for _ in 0..u64::MAX {
         if reader.take_end_array() {
             return Ok(found);
         }
         found.take(pair(alloc, keeps_doubles, reader, depth - 1, levels)?)?;
     }
-    Err(Stop::Declined)
+    Err(Declined::Declined)
 }
 
 /// A pair.
@@ -216,12 +217,12 @@ fn pair(
     reader: &mut Reader<'_>,
     depth: usize,
     levels: usize,
-) -> Result<Option<KeyValue>, Stop>
+) -> Result<Option<KeyValue>, Declined>
     ensures { IfOk result (λ x. TakesAs (message (key_value (value_to keeps_doubles levels))) depth reader.old reader.new x) }
 {
     begin_object(reader, depth)?;
     if !has_next(reader, "key")? {
-        return Err(Stop::Declined);
+        return Err(Declined::Declined);
     }
     let key = text(alloc, reader)?;
     if !has_next(reader, "value")? {

@@ -1,5 +1,6 @@
--- Records, arrivals and what is sent of them may go to another thread, type by type. What records share may also be read from several threads.
--- For each call above that starts threads: the lines before its result are found step by step from these.
+-- Records, arrivals and what is sent of them may go to another thread, type by type. What records share may also be
+-- read from several threads. For each call above that starts threads: the lines before its result are found step by
+-- step from these.
 use denote.Param.Send.{IsSend, IsSync, sendable}
 use Rattle.otlp_types.proofs.value.AnyValue.TheLaws.TheKnot as knot
 use Rattle.otlp_types.proofs.list.List.TheSendSync as list

@@ -113,12 +113,12 @@ impl<T: TryClone + Drop> TryClone for List<T> {
 /// that.
 #[derive(Drop)]
 pub struct Text {
-    held: Held,
+    held: TextBytes,
 }
 
 /// Where the bytes of a text lie: keys, names and values of spans are mostly short.
 #[derive(Drop)]
-enum Held {
+enum TextBytes {
     Short(ArrayString<16>),
     Long(String),
 }
@@ -145,7 +145,7 @@ impl Text {
         ensures { result ≡ string_bytes text }
     {
         Text {
-            held: Held::Long(text),
+            held: TextBytes::Long(text),
         }
     }
 
@@ -154,8 +154,8 @@ impl Text {
         ensures { IfOk result (λ it. it ≡ text.now) }
     {
         let held = match ArrayString::from(text) {
-            Ok(short) => Held::Short(short),
-            Err(_) => Held::Long(String::from_str(alloc, text)?),
+            Ok(short) => TextBytes::Short(short),
+            Err(_) => TextBytes::Long(String::from_str(alloc, text)?),
         };
         Ok(Text { held })
     }
@@ -165,8 +165,8 @@ impl Text {
         ensures { result.now ≡ self.now }
     {
         match &self.held {
-            Held::Short(text) => text.as_str(),
-            Held::Long(text) => text.as_str(),
+            TextBytes::Short(text) => text.as_str(),
+            TextBytes::Long(text) => text.as_str(),
         }
     }
 }

@@ -13,20 +13,20 @@ use Rattle.run_weave.specs.Workers.{zeros, LaneOut, ShardIn, ShardOut, LanesDid,
 use Rattle.pipeline.specs.Made.{NumberedFrom}
 
 module _ {F J L : Type 0} (serves : ℕ → F → LaneAt → F → LaneAt → Bool → Type 0) (keeps_doubles : Bool) (capacity : ℕ)
-    (number_of : J → ℕ) (feed_of : J → F) (lane_of : J → LaneState (EndState Item)) (out_of : L → LaneOut) (did : J → L → Type 0)
-    (tells : (j : J) (l : L) → did j l → LaneDid serves capacity (number_of j) (feed_of j) (lane_of j) zeros (out_of l).senders (out_of l).counted (out_of l).is_full) where
+    (number_of : J → ℕ) (acceptor_of : J → F) (lane_of : J → LaneState (EndState Item)) (out_of : L → LaneOut) (did : J → L → Type 0)
+    (tells : (j : J) (l : L) → did j l → LaneDid serves capacity (number_of j) (acceptor_of j) (lane_of j) zeros (out_of l).senders (out_of l).counted (out_of l).is_full) where
   -- the lane is new, keeps doubles or not, and has the job's number
   abbrev pub IsNewLane : J → Type 0
   IsNewLane j = ((lane_of j).number ≡ number_of j) × ((lane_of j).connected ≡ 0) × ((lane_of j).keeps_doubles ≡ keeps_doubles)
 
   pub lanes_did : (number : ℕ) (jobs : List J) (lefts : List L) → NumberedFrom number (map number_of jobs) → All IsNewLane jobs → HaveDone did jobs lefts
-      → LanesDid serves keeps_doubles capacity number (map feed_of jobs) (map (λ (j : J). (lane_of j).ports) jobs) (map out_of lefts)
+      → LanesDid serves keeps_doubles capacity number (map acceptor_of jobs) (map (λ (j : J). (lane_of j).ports) jobs) (map out_of lefts)
   lanes_did number [] [] numbers new done = tt
   lanes_did number [] (l ∷ lefts) numbers new done = absurd done
   lanes_did number (j ∷ jobs) [] numbers new done = absurd done
   lanes_did number (j ∷ jobs) (l ∷ lefts) numbers new done = (
-    subst (λ n. LaneDid serves capacity n (feed_of j) (record { number = n; connected = 0; ports = (lane_of j).ports; keeps_doubles = keeps_doubles }) zeros out.senders out.counted out.is_full) numbers.0
-        (subst (λ (z : LaneState (EndState Item)). LaneDid serves capacity (number_of j) (feed_of j) z zeros out.senders out.counted out.is_full) same (tells j l done.0)),
+    subst (λ n. LaneDid serves capacity n (acceptor_of j) (record { number = n; connected = 0; ports = (lane_of j).ports; keeps_doubles = keeps_doubles }) zeros out.senders out.counted out.is_full) numbers.0
+        (subst (λ (z : LaneState (EndState Item)). LaneDid serves capacity (number_of j) (acceptor_of j) z zeros out.senders out.counted out.is_full) same (tells j l done.0)),
     lanes_did (number + 1) jobs lefts numbers.1 (All-tail IsNewLane j jobs new) done.1,
   )
     where

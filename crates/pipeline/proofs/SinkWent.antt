@@ -5,8 +5,8 @@ use Rattle.std.specs.Prelude.{replicate}
 use Rattle.std.specs.List.{concat, list_any}
 use Rattle.span_sink.specs.LineSinks.{LineSinkState}
 use Rattle.span_sink.specs.Hands.{Handing, TookLines, StopsWithin, handed_lines}
-use Rattle.pipeline.specs.declared.fault.RunFault.{RunFault}
-use Rattle.pipeline.specs.declared.fault.RunFault.TheVariants.{NoMemory, BookFull, SinkDown}
+use Rattle.pipeline.specs.declared.fault.ServeFault.{ServeFault}
+use Rattle.pipeline.specs.declared.fault.ServeFault.TheVariants.{NoMemory, CounterOverflow, SinkDown}
 use Rattle.pipeline.specs.Outcome.{SinkAnswers, SinkWent, TellsSink}
 
 failed_once : (old new : LineSinkState) (calls : List Handing) (part : List ℕ) → old.is_down ≡ false
@@ -22,10 +22,10 @@ down_or_up : (old new : LineSinkState) → new.failures ≡ (if new.is_down then
 down_or_up old new e true down = inr (e ∙ ap (λ b. if b then old.failures + 1 else old.failures) down)
 down_or_up old new e false down = inl (e ∙ ap (λ b. if b then old.failures + 1 else old.failures) down)
 
-pub answers : {A : Type 0} → (old new : LineSinkState) (answer : Result A RunFault) → SinkWent old new → TellsSink new.is_down answer → SinkAnswers old.taken old.failures new.taken new.failures answer
+pub answers : {A : Type 0} → (old new : LineSinkState) (answer : Result A ServeFault) → SinkWent old new → TellsSink new.is_down answer → SinkAnswers old.taken old.failures new.taken new.failures answer
 answers old new (Ok report) went told = (went.0, went.1 ∙ ap (λ b. if b then old.failures + 1 else old.failures) told)
 answers old new (Err NoMemory) went told = absurd told
-answers old new (Err BookFull) went told = (went.0, down_or_up old new went.1 new.is_down refl)
+answers old new (Err CounterOverflow) went told = (went.0, down_or_up old new went.1 new.is_down refl)
 answers old new (Err (SinkDown report)) went told = (went.0, went.1 ∙ ap (λ b. if b then old.failures + 1 else old.failures) told)
 
 -- before any shard has ended none has

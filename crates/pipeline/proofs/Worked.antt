@@ -46,14 +46,14 @@ any_mapped test f (x ∷ xs) = ap (λ (b : Bool). test (f x) || b) (any_mapped t
 module _ {F T : Type 0} (serves : ℕ → F → LaneAt → F → LaneAt → Bool → Type 0) (ticks_give : T → Option ℕ → T → Type 0) (s : Settings) (nodes : List LimiterNode) (keeps_doubles : Bool) (capacity lanes shards : ℕ) (given : Given F T) (left : Left) where
   -- all did what they promise, with new ends and seats
   pub record Done : Type 0 where
-    pub lane_count : length given.feeds ≡ lanes
+    pub lane_count : length given.acceptors ≡ lanes
     pub shard_count : length given.shards ≡ shards
     pub senders : s.senders ≡ lanes + 1
     pub ends : HasEnds nodes shards given.columns given.ticker (map (λ (x : ShardIn). x.receiver) given.shards) (map (λ (x : ShardIn). x.sender) given.shards) (map (λ (x : ShardIn). x.seat) given.shards) given.shipments
     pub new_batch : given.exporter.batch ≡ []
     pub up : given.exporter.sink.is_down ≡ false
     pub exporter_ends : length given.exporter.ends ≡ shards
-    pub lanes_did : LanesDid serves keeps_doubles capacity 0 given.feeds given.columns left.lanes
+    pub lanes_did : LanesDid serves keeps_doubles capacity 0 given.acceptors given.columns left.lanes
     pub ticker_did : TickerDid ticks_give lanes given.ticks given.ticker left.ticker
     pub shards_did : ShardsDid s 0 given.shards left.shards
     pub exporter_did : ExporterDid given.exporter given.shipments zeros left.exporter.exporter left.exporter.receiver left.exporter.counted left.exporter.is_full
@@ -61,7 +61,7 @@ module _ {F T : Type 0} (serves : ℕ → F → LaneAt → F → LaneAt → Bool
   pub tied_left : Done → IsTiedGrid (senders_of left) (map (λ (x : ShardOut). x.receiver) left.shards)
   tied_left d = tied_still (given.columns ++ given.ticker ∷ []) (senders_of left) (map (λ (x : ShardIn). x.receiver) given.shards) (map (λ (x : ShardOut). x.receiver) left.shards)
       (map-append (λ (column : List (EndState Item)). queues column) (map (λ (out : LaneOut). out.senders) left.lanes) (left.ticker ∷ [])
-      ∙ (ap (λ (z : List (List TableId)). z ++ queues left.ticker ∷ []) (lanes_queues serves keeps_doubles capacity 0 given.feeds given.columns left.lanes d.lanes_did)
+      ∙ (ap (λ (z : List (List TableId)). z ++ queues left.ticker ∷ []) (lanes_queues serves keeps_doubles capacity 0 given.acceptors given.columns left.lanes d.lanes_did)
       ∙ (ap (λ (z : List TableId). map (λ (column : List (EndState Item)). queues column) given.columns ++ z ∷ []) (ap queues d.ticker_did.ends ∙ ticks_queues d.ticker_did.moments lanes given.ticker)
       ∙ sym (map-append (λ (column : List (EndState Item)). queues column) given.columns (given.ticker ∷ [])))))
       (shards_queues s 0 given.shards left.shards d.shards_did) d.ends.tied

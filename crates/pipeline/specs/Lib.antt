@@ -2,3 +2,4 @@
 pub mod Made
 pub mod Outcome
 pub mod Promise
+pub mod FaultTexts

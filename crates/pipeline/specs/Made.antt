@@ -12,6 +12,7 @@ use Rattle.lane_queue.specs.Grid.{IsTiedGrid, AreNewColumns}
 use Rattle.shard_core.specs.Held.{Held, StandsFor, has_due, is_finished}
 use Rattle.shared_budget.specs.Seats.{Stand, has_node}
 use Rattle.shared_budget.specs.Budget.{AreNewSeats}
+use Rattle.config_shards.specs.Shards.{CanBegin}
 use Rattle.tsc_config.specs.declared.config.Config.{Config}
 
 -- the numbers from the first on
@@ -19,31 +20,9 @@ abbrev pub NumberedFrom : (first : ℕ) → List ℕ → Type 0
 NumberedFrom first [] = Unit {0}
 NumberedFrom first (number ∷ numbers) = (number ≡ first) × NumberedFrom (first + 1) numbers
 
--- a configuration by which a run can be begun
-abbrev pub CanBegin : Config → Type 0
-CanBegin config = record {
-  waits : 0 < config.decision_wait;
-  some_lane : 0 < config.lanes;
-  some : 0 < config.shards;
-  few : config.shards ≤ 64;
-  traces : config.shards ≤ config.num_traces;
-  queue_room : 0 < config.queue_capacity;
-  export_room : 0 < config.export_capacity;
-  batch_room : 0 < config.send_batch_size;
-}
-
--- a configuration by which shards can be made, over queues of these capacities: each keeps a trace, and they are few
+-- a configuration by which shards can be made, over queues of these capacities
 abbrev pub CanRun : Config → (queue export : ℕ) → Type 0
-CanRun config queue export = record {
-  waits : 0 < config.decision_wait;
-  some : 0 < config.shards;
-  few : config.shards ≤ 64;
-  traces : config.shards ≤ config.num_traces;
-  queue_room : 0 < config.queue_capacity;
-  queue : config.queue_capacity ≡ queue;
-  export_room : 0 < config.export_capacity;
-  export : config.export_capacity ≡ export;
-}
+CanRun config queue export = CanBegin config × (config.queue_capacity ≡ queue) × (config.export_capacity ≡ export)
 
 -- a seat is at each limiter node of these policies
 abbrev pub HasNodes : (seat : List Stand) → List Policy → Type 0

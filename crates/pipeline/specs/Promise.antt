@@ -10,36 +10,24 @@ use Rattle.policy_tree.specs.Tree.{limiters}
 use Rattle.shard_core.specs.Held.{Held, StandsFor, has_due, is_finished, settings}
 use Rattle.span_exporter.specs.Exports.{ExporterState}
 use Rattle.span_sink.specs.LineSinks.{LineSinkState, up_state, down_state}
-use Rattle.world_theory.specs.World.{Config as CoreConfig, settings_for}
-use Rattle.span_weave.specs.Threads.{Threads, Export}
+use Rattle.config_shards.specs.Shards.{settings_by}
+use Rattle.world_theory.specs.World.{CoreConfig, settings_for}
+use Rattle.span_weave.specs.Threads.{Threads, ExporterMade}
 use Rattle.span_weave.specs.Woven.{HoldsOfThreads}
 use Rattle.tsc_config.specs.declared.config.Config.{Config}
 use Rattle.run_weave.specs.Workers.{Given, Left, Worked, any_full, parts_of}
 use Rattle.run_weave.specs.Ran.{ThreadsRan, Ran, Reports, CountPasses}
-use Rattle.pipeline.specs.declared.fault.RunFault.{RunFault}
-use Rattle.pipeline.specs.declared.fault.RunFault.TheVariants.{NoMemory, BookFull, SinkDown}
+use Rattle.pipeline.specs.declared.fault.ServeFault.{ServeFault}
+use Rattle.pipeline.specs.declared.fault.ServeFault.TheVariants.{NoMemory, CounterOverflow, SinkDown}
 use Rattle.pipeline.specs.Outcome.{TellsCounts, TellsSink}
 
 -- the core's configuration: each shard has its share of the traces and of the caches
 abbrev pub core_of : Config → CoreConfig
-core_of config = record {
-  policies = meaning config.policies;
-  wait = config.decision_wait;
-  root_wait = config.root_wait;
-  maximum_size = config.maximum_trace_size;
-  limit = Some (config.num_traces / config.shards);
-  sampled_size = config.sampled_cache_size / config.shards;
-  non_sampled_size = config.non_sampled_cache_size / config.shards;
-  batch_size = config.send_batch_size;
-}
+core_of config = record { shard = settings_by config; batch_size = config.send_batch_size }
 
 -- a shard of the core by this configuration, whose senders are the lanes and the ticker
 abbrev pub HasSettings : Config → Held → Type 0
 HasSettings config shard = settings shard ≡ settings_for (core_of config) (config.lanes + 1)
-
--- a shard of this configuration that has taken nothing
-abbrev pub IsNewShard : Config → Held → Type 0
-IsNewShard config shard = StandsFor shard [] 0 × (has_due shard ≡ false) × (is_finished shard ≡ false) × HasSettings config shard × (shard.policies ≡ config.policies)
 
 -- the limiter nodes of the policies
 abbrev pub nodes_of : Config → List LimiterNode
@@ -47,11 +35,11 @@ nodes_of config = limiters (meaning config.policies)
 
 -- what each answer tells of the run, by the sink's bytes and failures before and after: such a run left this report, or
 -- one of which no report can tell
-abbrev pub AnswerTells : (IsSuch : LineSinkState → LineSinkState → List ℕ → Type 0) → (IsBeyond : LineSinkState → LineSinkState → Type 0) → (taken : Option (List ℕ)) → (failures : ℕ) → (taken_after : Option (List ℕ)) → (failures_after : ℕ) → Result Report RunFault → Type 0
+abbrev pub AnswerTells : (IsSuch : LineSinkState → LineSinkState → List ℕ → Type 0) → (IsBeyond : LineSinkState → LineSinkState → Type 0) → (taken : Option (List ℕ)) → (failures : ℕ) → (taken_after : Option (List ℕ)) → (failures_after : ℕ) → Result Report ServeFault → Type 0
 AnswerTells IsSuch IsBeyond taken failures taken_after failures_after (Ok report) = IsSuch (up_state taken failures) (up_state taken_after failures_after) report
 AnswerTells IsSuch IsBeyond taken failures taken_after failures_after (Err (SinkDown report)) = IsSuch (up_state taken failures) (down_state taken_after failures_after) report
 AnswerTells IsSuch IsBeyond taken failures taken_after failures_after (Err NoMemory) = Unit {0}
-AnswerTells IsSuch IsBeyond taken failures taken_after failures_after (Err BookFull) = (is_down : Bool) × IsBeyond (up_state taken failures) (record { taken = taken_after; failures = failures_after; is_down = is_down })
+AnswerTells IsSuch IsBeyond taken failures taken_after failures_after (Err CounterOverflow) = (is_down : Bool) × IsBeyond (up_state taken failures) (record { taken = taken_after; failures = failures_after; is_down = is_down })
 
 module _ {F T : Type 0} (serves : ℕ → F → LaneAt → F → LaneAt → Bool → Type 0) (ticks_give : T → Option ℕ → T → Type 0) (config : Config) (servers : List F) (ticks : T) where
   -- all threads did what each promises, and their queues and seats were joined again; each counted these numbers, and
@@ -60,7 +48,7 @@ module _ {F T : Type 0} (serves : ℕ → F → LaneAt → F → LaneAt → Bool
     pub given : Given F T
     pub left : Left
     pub worked : Worked serves ticks_give (settings_for (core_of config) (config.lanes + 1)) (nodes_of config) config.keeps_doubles config.queue_capacity config.export_capacity config.lanes config.shards given left
-    pub feeds_are : given.feeds ≡ servers
+    pub acceptors_are : given.acceptors ≡ servers
     pub ticks_are : given.ticks ≡ ticks
     pub exporter_is : given.exporter ≡ old
     pub exporter_left : left.exporter.exporter ≡ new
@@ -69,14 +57,14 @@ module _ {F T : Type 0} (serves : ℕ → F → LaneAt → F → LaneAt → Bool
 
   -- what an answer tells of threads that did so: the sums of what they counted, and whether the sink is down; where
   -- there was no memory at the start none did anything
-  abbrev pub WorkedTells : (old new : ExporterState) → Result Report RunFault → Type 0
+  abbrev pub WorkedTells : (old new : ExporterState) → Result Report ServeFault → Type 0
   WorkedTells old new (Ok report) = (counts : List (List ℕ)) × (is_full : Bool) × HasWorked old new counts is_full × TellsSink {A = Report} new.sink.is_down (Ok report) × TellsCounts is_full counts (Ok report)
   WorkedTells old new (Err NoMemory) = Unit {0}
-  WorkedTells old new (Err BookFull) = (counts : List (List ℕ)) × (is_full : Bool) × HasWorked old new counts is_full × TellsSink {A = Report} new.sink.is_down (Err BookFull) × TellsCounts is_full counts (Err BookFull)
+  WorkedTells old new (Err CounterOverflow) = (counts : List (List ℕ)) × (is_full : Bool) × HasWorked old new counts is_full × TellsSink {A = Report} new.sink.is_down (Err CounterOverflow) × TellsCounts is_full counts (Err CounterOverflow)
   WorkedTells old new (Err (SinkDown report)) = (counts : List (List ℕ)) × (is_full : Bool) × HasWorked old new counts is_full × TellsSink {A = Report} new.sink.is_down (Err (SinkDown report)) × TellsCounts is_full counts (Err (SinkDown report))
 
   -- the same by the sink's bytes and failures, before and after
-  pub record ServersTell (taken : Option (List ℕ)) (failures : ℕ) (taken_after : Option (List ℕ)) (failures_after : ℕ) (answer : Result Report RunFault) : Type 0 where
+  pub record ServersTell (taken : Option (List ℕ)) (failures : ℕ) (taken_after : Option (List ℕ)) (failures_after : ℕ) (answer : Result Report ServeFault) : Type 0 where
     pub old : ExporterState
     pub new : ExporterState
     pub size : old.size ≡ config.send_batch_size
@@ -103,7 +91,7 @@ module _ {F T : Type 0} (receives : ℕ → F → LaneAt → List Arrival → F 
     pub holds : HoldsOfThreads (core_of config) config.lanes config.shards ran.threads ran.end
 
   -- what each answer tells of the run
-  abbrev pub RunTells : (taken : Option (List ℕ)) → (failures : ℕ) → (taken_after : Option (List ℕ)) → (failures_after : ℕ) → Result Report RunFault → Type 0
+  abbrev pub RunTells : (taken : Option (List ℕ)) → (failures : ℕ) → (taken_after : Option (List ℕ)) → (failures_after : ℕ) → Result Report ServeFault → Type 0
   RunTells = AnswerTells IsRun IsRunBeyond
 
 -- ---- a run of connections and ticks of which nothing is said
@@ -113,7 +101,7 @@ module _ (config : Config) where
   -- sent the same moments
   pub record IsCoreRun (old new : LineSinkState) (report : List ℕ) : Type 0 where
     pub threads : Threads
-    pub end : Export
+    pub end : ExporterMade
     pub ran : ThreadsRan (core_of config) (nodes_of config) config.queue_capacity config.lanes config.shards old new threads end
     pub reports : Reports (core_of config) config.lanes config.shards threads end report
     pub fits : Fits report
@@ -124,7 +112,7 @@ module _ (config : Config) where
   -- the same of a run some of whose counts passes 2^64-1
   pub record IsCoreRunBeyond (old new : LineSinkState) : Type 0 where
     pub threads : Threads
-    pub end : Export
+    pub end : ExporterMade
     pub ran : ThreadsRan (core_of config) (nodes_of config) config.queue_capacity config.lanes config.shards old new threads end
     pub passes : CountPasses (core_of config) config.lanes config.shards threads end
     pub moments : List ℕ
@@ -132,5 +120,5 @@ module _ (config : Config) where
     pub holds : HoldsOfThreads (core_of config) config.lanes config.shards threads end
 
   -- what each answer tells of it
-  abbrev pub CoreRunTells : (taken : Option (List ℕ)) → (failures : ℕ) → (taken_after : Option (List ℕ)) → (failures_after : ℕ) → Result Report RunFault → Type 0
+  abbrev pub CoreRunTells : (taken : Option (List ℕ)) → (failures : ℕ) → (taken_after : Option (List ℕ)) → (failures_after : ℕ) → Result Report ServeFault → Type 0
   CoreRunTells = AnswerTells IsCoreRun IsCoreRunBeyond

@@ -13,14 +13,14 @@ use std::sync::Wait;
 
 /// What the threads of a run counted.
 #[derive(Drop)]
-pub struct Counted {
+pub struct ThreadCounts {
     /// What each thread counted.
     pub counts: Vec<Report>,
     /// Whether some thread stopped counting, since a number of its own would have passed 2^64-1.
     pub is_full: bool,
 }
 
-impl Counted {
+impl ThreadCounts {
     /// Adds what a thread counted, and whether it stopped counting.
     pub fn add(&mut self, counts: Report, is_full: bool)
         requires { vec_len self.old.counts + 1 ≤ vec_capacity self.old.counts }
@@ -38,7 +38,7 @@ impl Counted {
 pub fn gather_lanes<C: Room>(
     lanes: Vec<LaneLeft<C>>,
     columns: &mut Vec<Vec<Sender<Item, C>>>,
-    counted: &mut Counted,
+    counted: &mut ThreadCounts,
 )
     requires columns { vec_len columns.old + vec_len lanes ≤ vec_capacity columns.old }
     requires counts { vec_len counted.old.counts + vec_len lanes ≤ vec_capacity counted.old.counts }
@@ -58,7 +58,7 @@ pub fn gather_lanes<C: Room>(
 pub fn gather_shards<'s, C: Room, D: Room, R: Wait>(
     shards: Vec<ShardLeft<'s, C, D, R>>,
     ends: &mut ShardEnds<'s, C, D, R>,
-    counted: &mut Counted,
+    counted: &mut ThreadCounts,
 )
     requires ends { (vec_len ends.old.seats + vec_len shards ≤ vec_capacity ends.old.seats) × (vec_len ends.old.receivers + vec_len shards ≤ vec_capacity ends.old.receivers) × (vec_len ends.old.exports + vec_len shards ≤ vec_capacity ends.old.exports) }
     requires counts { vec_len counted.old.counts + vec_len shards ≤ vec_capacity counted.old.counts }

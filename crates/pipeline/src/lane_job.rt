@@ -4,7 +4,7 @@ ghost use Rattle.run_weave.specs.Jobs.{LaneDid};
 
 use crate::telling::Told;
 use drop_ledger::Report;
-use http_lane::{Clock as MomentClock, Lent, Stop};
+use http_lane::{Clock as MomentClock, HasStopMark, Lent};
 use job_threads::Job;
 use lane_queue::{Gate, Room, Sender, SenderPort};
 use lane_seq::Lane;
@@ -20,7 +20,7 @@ pub struct LaneJob<'s, V, C: Room, G, P, M, R: Wait> {
     pub rt: &'s R,
     pub alloc: Global,
     pub number: u16,
-    pub feed: V,
+    pub acceptor: V,
     pub lane: Lane<SenderPort<'s, Item, C, R>>,
     pub room: Vec<Sender<Item, C>>,
     pub gate: &'s G,
@@ -39,8 +39,15 @@ pub struct LaneLeft<C: Room> {
     pub is_full: bool,
 }
 
-impl<'s, V: LaneServer + Drop, C: Room, G: Gate, P: Stop, M: MomentClock, R: Wait + Clock> Job
-    for LaneJob<'s, V, C, G, P, M, R> {
+impl<
+    's,
+    V: LaneServer + Drop,
+    C: Room,
+    G: Gate,
+    P: HasStopMark,
+    M: MomentClock,
+    R: Wait + Clock,
+> Job for LaneJob<'s, V, C, G, P, M, R> {
     ghost use Rattle.std.specs.Prelude.{◌≡◌, ◌≤◌, [], length, vec_capacity};
     ghost use Rattle.run_weave.specs.Jobs.{LaneDid};
     ghost use Rattle.run_weave.specs.Workers.{zeros};
@@ -50,14 +57,14 @@ impl<'s, V: LaneServer + Drop, C: Room, G: Gate, P: Stop, M: MomentClock, R: Wai
     ghost ready = { λ job. (job.lane.number ≡ job.number) × (job.room.items ≡ []) × (length job.lane.ports ≤ vec_capacity job.room) };
 
     ghost did = { λ job left. LaneDid V.serves C.capacity
-        job.number job.feed job.lane zeros left.senders.items left.counts left.is_full };
+        job.number job.acceptor job.lane zeros left.senders.items left.counts left.is_full };
 
     fn work(self) -> LaneLeft<C> {
         let LaneJob {
             rt,
             alloc,
             number,
-            mut feed,
+            mut acceptor,
             lane,
             room,
             gate,
@@ -67,7 +74,7 @@ impl<'s, V: LaneServer + Drop, C: Room, G: Gate, P: Stop, M: MomentClock, R: Wai
         let mut counts = Told::new(gate);
         let lent = Lent { alloc, stop, clock };
         let task = LaneTask { number, lane, room };
-        let end = lane_worker::work(rt, &lent, task, &mut feed, &mut counts, gate);
+        let end = lane_worker::work(rt, &lent, task, &mut acceptor, &mut counts, gate);
         let report = counts.end();
         LaneLeft {
             senders: end.senders,

@@ -4,90 +4,91 @@ ghost use Rattle.lane_queue.specs.Grid.{ends_of};
 ghost use Rattle.pipeline.specs.Made.{NumberedFrom};
 
 use crate::lane_job::LaneJob;
-use crate::lent::Lent;
+use crate::lent::ThreadContext;
 use lane_queue::{Brake, Gate, Room, Sender, SenderPort};
 use lane_seq::Lane;
 use otlp_types::Item;
 use std::alloc::{AllocError, Global};
 use std::sync::Wait;
 
-/// What the lanes' threads are given, and the list of the feeds, which is empty and has room for them again.
+/// What the lanes' threads are given, and the list of the acceptors, which is empty and has room for them again.
 #[derive(Drop)]
 pub struct LaneJobs<'s, F, C: Room, G, P, M, R: Wait> {
     pub jobs: Vec<LaneJob<'s, F, C, G, P, M, R>>,
-    pub feeds: Vec<F>,
+    pub acceptors: Vec<F>,
 }
 
-/// What the lanes' threads are given: for each feed, in their order, a lane of its number over its ends. `asks_again`: a
-/// request for whose spans a queue lacks room is to be sent again. One that comes while the gate's brake is on is in any case.
-/// `keeps_doubles`: the lanes keep doubles. Where there is no memory the feeds come back.
+/// What the lanes' threads are given: for each acceptor, in their order, a lane of its number over its ends.
+/// `asks_again`: a request for whose spans a queue lacks room is to be sent again. One that comes while the gate's
+/// brake is on is in any case. `keeps_doubles`: the lanes keep doubles. Where there is no memory the acceptors come
+/// back.
 pub fn lane_jobs<'s, F: Drop, C: Room, G: Gate, P, M, R: Wait>(
-    lent: &Lent<'s, G, P, M, R>,
+    lent: &ThreadContext<'s, G, P, M, R>,
     asks_again: bool,
     keeps_doubles: bool,
-    feeds: Vec<F>,
+    acceptors: Vec<F>,
     columns: Vec<Vec<Sender<Item, C>>>,
 ) -> Result<LaneJobs<'s, F, C, G, P, M, R>, Vec<F>>
-    requires few { vec_len feeds < 65536 }
-    requires columns { (vec_len columns ≡ vec_len feeds) × All (λ c. 0 < length c.items) columns.items }
-    ensures count { IfOk result (λ made. vec_len made.jobs ≡ vec_len feeds) }
+    requires few { vec_len acceptors < 65536 }
+    requires columns { (vec_len columns ≡ vec_len acceptors) × All (λ c. 0 < length c.items) columns.items }
+    ensures count { IfOk result (λ made. vec_len made.jobs ≡ vec_len acceptors) }
     ensures ready { IfOk result (λ made. All (λ job. (job.lane.number ≡ job.number) × (job.room.items ≡ []) × (length job.lane.ports ≤ vec_capacity job.room)) made.jobs.items) }
-    ensures feeds { IfOk result (λ made. map (λ job. job.feed) made.jobs.items ≡ feeds.items) }
+    ensures acceptors { IfOk result (λ made. map (λ job. job.acceptor) made.jobs.items ≡ acceptors.items) }
     ensures columns { IfOk result (λ made. map (λ job. job.lane.ports) made.jobs.items ≡ ends_of columns.items) }
     ensures numbers { IfOk result (λ made. NumberedFrom 0 (map (λ job. job.number) made.jobs.items)) }
     ensures new { IfOk result (λ made. All (λ job. (job.lane.connected ≡ 0) × (job.lane.keeps_doubles ≡ keeps_doubles)) made.jobs.items) }
-    ensures room { IfOk result (λ made. (made.feeds.items ≡ []) × (vec_len feeds ≤ vec_capacity made.feeds)) }
-    ensures back { IfErr result (λ back. back.items ≡ feeds.items) }
+    ensures room { IfOk result (λ made. (made.acceptors.items ≡ []) × (vec_len acceptors ≤ vec_capacity made.acceptors)) }
+    ensures back { IfErr result (λ back. back.items ≡ acceptors.items) }
 {
-    let mut feeds = feeds;
+    let mut acceptors = acceptors;
     let mut columns = columns;
-    let Ok(mut jobs) = Vec::with_capacity(lent.alloc, feeds.len()) else {
-        return Err(feeds);
+    let Ok(mut jobs) = Vec::with_capacity(lent.alloc, acceptors.len()) else {
+        return Err(acceptors);
     };
     while let Some(senders) = columns.pop() {
         let Ok(lists) = lane_lists(lent.alloc, senders.len()) else {
             jobs.reverse();
-            return Err(feeds_of(jobs, feeds));
+            return Err(acceptors_of(jobs, acceptors));
         };
-        let feed = feeds.take_last();
-        let number = feeds.len() as u16;
+        let acceptor = acceptors.take_last();
+        let number = acceptors.len() as u16;
         jobs.push_reserved(lane_job(
             lent,
             asks_again,
             keeps_doubles,
             number,
-            feed,
+            acceptor,
             senders,
             lists,
         ));
     }
     jobs.reverse();
-    Ok(LaneJobs { jobs, feeds })
+    Ok(LaneJobs { jobs, acceptors })
 }
 
-/// These feeds, and then those of jobs that nobody began; the list has room for them.
-pub fn feeds_of<'s, F: Drop, C: Room, G, P, M, R: Wait>(
+/// These acceptors, and then those of jobs that nobody began; the list has room for them.
+pub fn acceptors_of<'s, F: Drop, C: Room, G, P, M, R: Wait>(
     jobs: Vec<LaneJob<'s, F, C, G, P, M, R>>,
-    feeds: Vec<F>,
+    acceptors: Vec<F>,
 ) -> Vec<F>
-    requires { vec_len feeds + vec_len jobs ≤ vec_capacity feeds }
-    ensures { result.items ≡ feeds.items ++ map (λ job. job.feed) jobs.entry.items }
+    requires { vec_len acceptors + vec_len jobs ≤ vec_capacity acceptors }
+    ensures { result.items ≡ acceptors.items ++ map (λ job. job.acceptor) jobs.entry.items }
 {
-    let mut feeds = feeds;
+    let mut acceptors = acceptors;
     for job in jobs {
-        let LaneJob { feed, .. } = job;
-        feeds.push_reserved(feed);
+        let LaneJob { acceptor, .. } = job;
+        acceptors.push_reserved(acceptor);
     }
-    feeds
+    acceptors
 }
 
 /// What a lane's thread is given; `lists` has room for its ports, and for their ends.
 fn lane_job<'s, F: Drop, C: Room, G: Gate, P, M, R: Wait>(
-    lent: &Lent<'s, G, P, M, R>,
+    lent: &ThreadContext<'s, G, P, M, R>,
     asks_again: bool,
     keeps_doubles: bool,
     number: u16,
-    feed: F,
+    acceptor: F,
     senders: Vec<Sender<Item, C>>,
     lists: LaneLists<'s, C, R>,
 ) -> LaneJob<'s, F, C, G, P, M, R>
@@ -97,7 +98,7 @@ fn lane_job<'s, F: Drop, C: Room, G: Gate, P, M, R: Wait>(
     ensures number { result.number ≡ number }
     ensures lane { result.lane ≡ record { number = number; connected = 0; ports = senders.items; keeps_doubles = keeps_doubles } }
     ensures room { (result.room.items ≡ []) × (length result.lane.ports ≤ vec_capacity result.room) }
-    ensures feed { result.feed ≡ feed }
+    ensures acceptor { result.acceptor ≡ acceptor }
 {
     let LaneLists { ports, room } = lists;
     let brake = lent.gate.brake();
@@ -105,7 +106,7 @@ fn lane_job<'s, F: Drop, C: Room, G: Gate, P, M, R: Wait>(
         rt: lent.rt,
         alloc: lent.alloc,
         number,
-        feed,
+        acceptor,
         lane: lane_of(lent.rt, asks_again, brake, number, senders, ports).keeping_doubles(
             keeps_doubles,
         ),

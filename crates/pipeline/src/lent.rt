@@ -4,7 +4,7 @@ use trace_hash::TraceHashing;
 
 /// What all threads of a run are lent.
 #[derive(Drop)]
-pub struct Lent<'s, G, P, M, R> {
+pub struct ThreadContext<'s, G, P, M, R> {
     pub rt: &'s R,
     pub alloc: Global,
     /// How every shard hashes trace ids.

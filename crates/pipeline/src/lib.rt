@@ -1,8 +1,8 @@
 //! A running collector: a thread for each lane, each shard and the ticker, and the exporter on the caller's.
 //!
-//! [`run`] (over feeds, one connection after the other) and [`run_by_turns`] (many at once) make all that the threads
-//! need, run them as one team of jobs, gather what they leave, and join their queues and seats again: what they did is
-//! a run of the core (`specs/Promise`).
+//! [`run`] (over acceptors, one connection after the other) and [`run_by_turns`] (many at once) make all that the
+//! threads need, run them as one team of jobs, gather what they leave, and join their queues and seats again: what they
+//! did is a run of the core (`specs/Promise`).
 //!
 //! ```
 //! let context = RunContext { rt: &rt, alloc, gate: &board, stop: &mark, clock: &clock };
@@ -24,6 +24,6 @@ mod shards;
 mod telling;
 mod ticker_job;
 
-pub use fault::RunFault;
+pub use fault::ServeFault;
 pub use lent::RunContext;
 pub use running::{run, run_by_turns};

@@ -9,7 +9,7 @@ ghost use Rattle.pipeline.specs.Promise.{HasSettings, nodes_of};
 
 use crate::lane_job::LaneJob;
 use crate::lanes::{LaneJobs, lane_jobs};
-use crate::lent::Lent;
+use crate::lent::ThreadContext;
 use crate::shard_job::ShardJob;
 use crate::shards::{ShardEnds, shard_jobs};
 use crate::ticker_job::TickerJob;
@@ -30,14 +30,14 @@ pub struct Made<'s, F, T, C: Room, D: Room, G, P, M, R: Wait> {
     /// The ends at which the exporter pops, by shard.
     pub shipments: Receiver<Shipment, D>,
     /// Room for what the threads leave.
-    pub rooms: Rooms<'s, C, D, R>,
-    /// Room for the feeds, where they come back.
-    pub feeds: Vec<F>,
+    pub rooms: RunRooms<'s, C, D, R>,
+    /// Room for the acceptors, where they come back.
+    pub acceptors: Vec<F>,
 }
 
 /// Room for what the threads of a run leave, and the lists with which its queues are joined again.
 #[derive(Drop)]
-pub struct Rooms<'s, C: Room, D: Room, R: Wait> {
+pub struct RunRooms<'s, C: Room, D: Room, R: Wait> {
     /// The ends at which items were pushed, for each lane and then for the ticker, by shard.
     pub columns: Vec<Vec<Sender<Item, C>>>,
     /// The shards' seats and ends.
@@ -48,21 +48,21 @@ pub struct Rooms<'s, C: Room, D: Room, R: Wait> {
     pub rows: Vec<Vec<Sender<Item, C>>>,
 }
 
-/// Makes all that the threads of a run are given. Where there is no memory the feeds and the ticks come back.
+/// Makes all that the threads of a run are given. Where there is no memory the acceptors and the ticks come back.
 pub fn make<'s, F: Drop, T: Drop, C: Room, D: Room, G: Gate, P, M, R: Wait>(
-    lent: &Lent<'s, G, P, M, R>,
+    lent: &ThreadContext<'s, G, P, M, R>,
     config: &Config,
-    feeds: Vec<F>,
+    acceptors: Vec<F>,
     ticks: T,
 ) -> Result<Made<'s, F, T, C, D, G, P, M, R>, (Vec<F>, T)>
     requires runs { CanRun config.now C.capacity D.capacity }
-    requires feeds { vec_len feeds ≡ config.now.lanes }
+    requires acceptors { vec_len acceptors ≡ config.now.lanes }
     ensures lanes { IfOk result (λ made. (vec_len made.team.first ≡ config.now.lanes)
         × All (λ job. (job.lane.number ≡ job.number) × (job.room.items ≡ []) × (length job.lane.ports ≤ vec_capacity job.room)) made.team.first.items) }
     ensures shards { IfOk result (λ made. (vec_len made.team.third ≡ config.now.shards)
         × All (λ job. IsReady job.shard job.receiver job.sender job.seat) made.team.third.items) }
     ensures shipments { IfOk result (λ made. All IsNew made.shipments.ends) }
-    ensures feeds { IfOk result (λ made. map (λ job. job.feed) made.team.first.items ≡ feeds.items) }
+    ensures acceptors { IfOk result (λ made. map (λ job. job.acceptor) made.team.first.items ≡ acceptors.items) }
     ensures ticker { IfOk result (λ made. (made.team.second.number ≡ config.now.lanes) × (made.team.second.ticks ≡ ticks)) }
     ensures numbers { IfOk result (λ made. NumberedFrom 0 (map (λ job. job.number) made.team.first.items) × NumberedFrom 0 (map (λ job. job.number) made.team.third.items)) }
     ensures new_lanes { IfOk result (λ made. All (λ job. (job.lane.connected ≡ 0) × (job.lane.keeps_doubles ≡ config.now.keeps_doubles)) made.team.first.items) }
@@ -75,11 +75,11 @@ pub fn make<'s, F: Drop, T: Drop, C: Room, D: Room, G: Gate, P, M, R: Wait>(
     ensures exports { IfOk result (λ made. (made.rooms.ends.exports.items ≡ []) × (config.now.shards ≤ vec_capacity made.rooms.ends.exports)) }
     ensures counts_room { IfOk result (λ made. (made.rooms.counts.items ≡ []) × (config.now.lanes + config.now.shards + 1 ≤ vec_capacity made.rooms.counts)) }
     ensures rows { IfOk result (λ made. (vec_len made.rooms.rows ≡ config.now.shards) × All (HasRoom (config.now.lanes + 1)) made.rooms.rows.items) }
-    ensures feeds_room { IfOk result (λ made. (made.feeds.items ≡ []) × (config.now.lanes ≤ vec_capacity made.feeds)) }
-    ensures back { IfErr result (λ back. (back.0.items ≡ feeds.items) × (back.1 ≡ ticks)) }
+    ensures acceptors_room { IfOk result (λ made. (made.acceptors.items ≡ []) × (config.now.lanes ≤ vec_capacity made.acceptors)) }
+    ensures back { IfErr result (λ back. (back.0.items ≡ acceptors.items) × (back.1 ≡ ticks)) }
 {
     let Ok(made) = run_ends::<C, D, R>(lent.rt, lent.alloc, config) else {
-        return Err((feeds, ticks));
+        return Err((acceptors, ticks));
     };
     let RunEnds {
         columns,
@@ -88,23 +88,23 @@ pub fn make<'s, F: Drop, T: Drop, C: Room, D: Room, G: Gate, P, M, R: Wait>(
         rows,
     } = made;
     let Ok(rooms) = rooms_for(lent.alloc, config.lanes as usize, config.shards, rows) else {
-        return Err((feeds, ticks));
+        return Err((acceptors, ticks));
     };
-    let (team, feeds) = team_of(lent, config, feeds, ticks, columns, ends)?;
+    let (team, acceptors) = team_of(lent, config, acceptors, ticks, columns, ends)?;
     Ok(Made {
         team,
         shipments,
         rooms,
-        feeds,
+        acceptors,
     })
 }
 
-/// What the threads of a run are given: the lanes, the ticker and the shards; and the list of the feeds, which is empty
-/// and has room for them again.
+/// What the threads of a run are given: the lanes, the ticker and the shards; and the list of the acceptors, which is
+/// empty and has room for them again.
 fn team_of<'s, F: Drop, T: Drop, C: Room, D: Room, G: Gate, P, M, R: Wait>(
-    lent: &Lent<'s, G, P, M, R>,
+    lent: &ThreadContext<'s, G, P, M, R>,
     config: &Config,
-    feeds: Vec<F>,
+    acceptors: Vec<F>,
     ticks: T,
     columns: Vec<Vec<Sender<Item, C>>>,
     ends: ShardEnds<'s, C, D, R>,
@@ -116,7 +116,7 @@ fn team_of<'s, F: Drop, T: Drop, C: Room, D: Room, G: Gate, P, M, R: Wait>(
     (Vec<F>, T),
 >
     requires runs { CanRun config.now C.capacity D.capacity }
-    requires feeds { (vec_len feeds ≡ config.now.lanes) × (vec_len feeds < 65536) }
+    requires acceptors { (vec_len acceptors ≡ config.now.lanes) × (vec_len acceptors < 65536) }
     requires columns { (vec_len columns ≡ config.now.lanes + 1) × All (λ c. 0 < length c.items) columns.items }
     requires seats { AreNewSeats (nodes_of config.now) config.now.shards ends.seats.items }
     requires receivers { (vec_len ends.receivers ≡ config.now.shards) × All (λ r. All IsNew r.ends) ends.receivers.items }
@@ -125,28 +125,28 @@ fn team_of<'s, F: Drop, T: Drop, C: Room, D: Room, G: Gate, P, M, R: Wait>(
         × All (λ job. (job.lane.number ≡ job.number) × (job.room.items ≡ []) × (length job.lane.ports ≤ vec_capacity job.room)) made.0.first.items) }
     ensures shards { IfOk result (λ made. (vec_len made.0.third ≡ config.now.shards)
         × All (λ job. IsReady job.shard job.receiver job.sender job.seat) made.0.third.items) }
-    ensures feeds { IfOk result (λ made. map (λ job. job.feed) made.0.first.items ≡ feeds.items) }
+    ensures acceptors { IfOk result (λ made. map (λ job. job.acceptor) made.0.first.items ≡ acceptors.items) }
     ensures ticker { IfOk result (λ made. (made.0.second.number ≡ config.now.lanes) × (made.0.second.ticks ≡ ticks)) }
     ensures numbers { IfOk result (λ made. NumberedFrom 0 (map (λ job. job.number) made.0.first.items) × NumberedFrom 0 (map (λ job. job.number) made.0.third.items)) }
     ensures new_lanes { IfOk result (λ made. All (λ job. (job.lane.connected ≡ 0) × (job.lane.keeps_doubles ≡ config.now.keeps_doubles)) made.0.first.items) }
     ensures new_shards { IfOk result (λ made. All (λ job. HasSettings config.now job.shard) made.0.third.items) }
     ensures ports { IfOk result (λ made. ends_of columns.items ≡ map (λ job. job.lane.ports) made.0.first.items ++ made.0.second.senders.items ∷ []) }
     ensures ends { IfOk result (λ made. (map (λ job. job.seat) made.0.third.items ≡ ends.entry.seats.items) × (map (λ job. job.receiver) made.0.third.items ≡ ends.entry.receivers.items) × (map (λ job. job.sender) made.0.third.items ≡ ends.entry.exports.items)) }
-    ensures feeds_room { IfOk result (λ made. (made.1.items ≡ []) × (config.now.lanes ≤ vec_capacity made.1)) }
-    ensures back { IfErr result (λ back. (back.0.items ≡ feeds.items) × (back.1 ≡ ticks)) }
+    ensures acceptors_room { IfOk result (λ made. (made.1.items ≡ []) × (config.now.lanes ≤ vec_capacity made.1)) }
+    ensures back { IfErr result (λ back. (back.0.items ≡ acceptors.items) × (back.1 ≡ ticks)) }
 {
     new_seats_have_nodes();
     let mut columns = columns;
     let senders = columns.take_last();
     let Ok(third) = shard_jobs(lent, config, ends) else {
-        return Err((feeds, ticks));
+        return Err((acceptors, ticks));
     };
     let (waits, keeps) = (config.waits_for_room, config.keeps_doubles);
-    let made = match lane_jobs(lent, waits, keeps, feeds, columns) {
+    let made = match lane_jobs(lent, waits, keeps, acceptors, columns) {
         Ok(made) => made,
-        Err(feeds) => return Err((feeds, ticks)),
+        Err(acceptors) => return Err((acceptors, ticks)),
     };
-    let LaneJobs { jobs, feeds } = made;
+    let LaneJobs { jobs, acceptors } = made;
     let team = Team {
         first: jobs,
         second: TickerJob {
@@ -157,7 +157,7 @@ fn team_of<'s, F: Drop, T: Drop, C: Room, D: Room, G: Gate, P, M, R: Wait>(
         },
         third,
     };
-    Ok((team, feeds))
+    Ok((team, acceptors))
 }
 
 /// The new queues and seats of a run.
@@ -218,7 +218,7 @@ fn rooms_for<'s, C: Room, D: Room, R: Wait>(
     lanes: usize,
     shards: usize,
     rows: Vec<Vec<Sender<Item, C>>>,
-) -> Result<Rooms<'s, C, D, R>, AllocError>
+) -> Result<RunRooms<'s, C, D, R>, AllocError>
     requires { lanes + shards < 1000000 }
     ensures columns { IfOk result (λ rooms. (rooms.columns.items ≡ []) × (lanes + 1 ≤ vec_capacity rooms.columns)) }
     ensures seats { IfOk result (λ rooms. (rooms.ends.seats.items ≡ []) × (shards ≤ vec_capacity rooms.ends.seats)) }
@@ -230,7 +230,7 @@ fn rooms_for<'s, C: Room, D: Room, R: Wait>(
     let columns = Vec::with_capacity(alloc, lanes + 1)?;
     let counts = Vec::with_capacity(alloc, lanes + shards + 1)?;
     let ends = ends_room(alloc, shards)?;
-    Ok(Rooms {
+    Ok(RunRooms {
         columns,
         ends,
         counts,

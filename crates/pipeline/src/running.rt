@@ -3,24 +3,25 @@ ghost use Rattle.std.specs.Prelude.{◌≡◌, ◌-◌, ◌^◌, ◌<◌, ◌≤
 ghost use Rattle.std.specs.List.{list_any};
 ghost use Rattle.lane_worker.specs.Serving.{connection};
 ghost use Rattle.run_weave.specs.Received.{receives_one_by_one, receives_by_turns};
-ghost use Rattle.pipeline.specs.Made.{CanBegin, CanRun};
+ghost use Rattle.pipeline.specs.Made.{CanRun};
 ghost use Rattle.pipeline.specs.Outcome.{SinkAnswers, SinkWent, TellsCounts, TellsSink, has_begun};
 ghost use Rattle.pipeline.specs.Promise.{HasWorked, WorkedTells, ServersTell, RunTells};
+ghost use Rattle.config_shards.specs.Shards.{CanBegin};
 ghost use Rattle.tsc_config.specs.declared.config.Config.{Config};
 
 use crate::exporter_job::ExporterJob;
-use crate::fault::RunFault;
-use crate::gathering::{Counted, gather_lanes, gather_shards};
+use crate::fault::ServeFault;
+use crate::gathering::{ThreadCounts, gather_lanes, gather_shards};
 use crate::joining::join_all;
-use crate::lanes::feeds_of;
-use crate::lent::{Lent, RunContext};
-use crate::making::{Made, Rooms, make};
+use crate::lanes::acceptors_of;
+use crate::lent::{RunContext, ThreadContext};
+use crate::making::{Made, RunRooms, make};
 use drop_ledger::{Report, total};
-use http_lane::{Clock as MomentClock, Stop};
+use http_lane::{Clock as MomentClock, HasStopMark};
 use job_threads::{Team, run_team};
 use lane_queue::{Gate, Room};
 use lane_turns::Driver;
-use lane_worker::{ByTurns, Feed, LaneServer, OneByOne, Ticks};
+use lane_worker::{Acceptor, ByTurns, LaneServer, OneByOne, Ticks};
 use shared_budget::asked_seats_may_be_compared;
 use span_exporter::{Exporter, sink_takes_lines};
 use span_sink::{LineSink, Sink, takes_handed_lines};
@@ -32,20 +33,20 @@ use std::time::Clock;
 use trace_hash::TraceHashing;
 use tsc_config::Config;
 
-/// Runs the pipeline until every feed and the ticks have ended, and gives the sink back: a thread for each lane, each
-/// shard and the ticker, and the exporter on this one. Where nothing was begun the servers and the ticks come back as
-/// they were.
+/// Runs the pipeline until every acceptor and the ticks have ended, and gives the sink back: a thread for each lane,
+/// each shard and the ticker, and the exporter on this one. Where nothing was begun the servers and the ticks come back
+/// as they were.
 ///
-/// There is one server for each lane, which serves its feed's connections one after the other. The context's gate, mark
-/// and clock are lent to all lanes, the gate to the shards too. The sink has the lines of the batches that were handed
-/// over; the report has the counts of all threads.
+/// There is one server for each lane, which serves its acceptor's connections one after the other. The context's gate,
+/// mark and clock are lent to all lanes, the gate to the shards too. The sink has the lines of the batches that were
+/// handed over; the report has the counts of all threads.
 pub fn run<
     's,
-    F: Feed + Send + Drop,
+    F: Acceptor + Send + Drop,
     T: Ticks + Send + Drop,
     S: Sink + Drop,
     G: Gate + Sync,
-    P: Stop + Sync,
+    P: HasStopMark + Sync,
     M: MomentClock + Sync,
     R: Threads + Wait + Clock + RandomSource + Sync,
 >(
@@ -54,15 +55,15 @@ pub fn run<
     servers: Vec<OneByOne<F>>,
     ticks: T,
     sink: S,
-) -> (S, Result<Report, RunFault>, Option<(Vec<OneByOne<F>>, T)>)
+) -> (S, Result<Report, ServeFault>, Option<(Vec<OneByOne<F>>, T)>)
 where
     F::Reader: Send,
     F::Writer: Send,
-    requires config { CanBegin config }
+    requires ranges { CanBegin config }
     requires servers { vec_len servers ≡ config.lanes }
     requires failures { S.failures sink < 2 ^ 64 - 1 }
     ensures sink { SinkAnswers (S.taken sink) (S.failures sink) (S.taken result.0) (S.failures result.0) result.1 }
-    ensures ran { RunTells (receives_one_by_one (λ (s : OneByOne F). s.feed) F.gives (λ x. connection (F.Reader.given x.0) (F.Writer.contents x.1))) T.gives config servers.items ticks (S.taken sink) (S.failures sink) (S.taken result.0) (S.failures result.0) result.1 }
+    ensures ran { RunTells (receives_one_by_one (λ (s : OneByOne F). s.acceptor) F.gives (λ x. connection (F.Reader.given x.0) (F.Writer.contents x.1))) T.gives config servers.items ticks (S.taken sink) (S.failures sink) (S.taken result.0) (S.failures result.0) result.1 }
     ensures begun { is_none result.2 ≡ has_begun result.1 }
     ensures back { IfSome result.2 (λ back. (back.0.items ≡ servers.items) × (back.1 ≡ ticks)) }
 {
@@ -77,7 +78,7 @@ pub fn run_by_turns<
     T: Ticks + Send + Drop,
     S: Sink + Drop,
     G: Gate + Sync,
-    P: Stop + Sync,
+    P: HasStopMark + Sync,
     M: MomentClock + Sync,
     R: Threads + Wait + Clock + RandomSource + Sync,
 >(
@@ -86,8 +87,8 @@ pub fn run_by_turns<
     drivers: Vec<ByTurns<D>>,
     ticks: T,
     sink: S,
-) -> (S, Result<Report, RunFault>, Option<(Vec<ByTurns<D>>, T)>)
-    requires config { CanBegin config }
+) -> (S, Result<Report, ServeFault>, Option<(Vec<ByTurns<D>>, T)>)
+    requires ranges { CanBegin config }
     requires drivers { vec_len drivers ≡ config.lanes }
     requires failures { S.failures sink < 2 ^ 64 - 1 }
     ensures sink { SinkAnswers (S.taken sink) (S.failures sink) (S.taken result.0) (S.failures result.0) result.1 }
@@ -105,7 +106,7 @@ fn run_servers<
     T: Ticks + Send + Drop,
     S: Sink + Drop,
     G: Gate + Sync,
-    P: Stop + Sync,
+    P: HasStopMark + Sync,
     M: MomentClock + Sync,
     R: Threads + Wait + Clock + RandomSource + Sync,
 >(
@@ -114,8 +115,8 @@ fn run_servers<
     servers: Vec<V>,
     ticks: T,
     sink: S,
-) -> (S, Result<Report, RunFault>, Option<(Vec<V>, T)>)
-    requires config { CanBegin config }
+) -> (S, Result<Report, ServeFault>, Option<(Vec<V>, T)>)
+    requires ranges { CanBegin config }
     requires servers { vec_len servers ≡ config.lanes }
     requires failures { S.failures sink < 2 ^ 64 - 1 }
     ensures sink { SinkAnswers (S.taken sink) (S.failures sink) (S.taken result.0) (S.failures result.0) result.1 }
@@ -132,7 +133,11 @@ fn run_servers<
     ) {
         Ok(exporter) => exporter,
         Err((lines, _)) => {
-            return (lines.end(), Err(RunFault::NoMemory), Some((servers, ticks)));
+            return (
+                lines.end(),
+                Err(ServeFault::NoMemory),
+                Some((servers, ticks)),
+            );
         }
     };
     let (exporter, answer, back) = run_in::<V, T, S, G, P, M, Brand, Brand, R>(
@@ -149,7 +154,7 @@ fn run_in<
     T: Ticks + Send + Drop,
     S: Sink + Drop,
     G: Gate + Sync,
-    P: Stop + Sync,
+    P: HasStopMark + Sync,
     M: MomentClock + Sync,
     C: Room + Send + Sync,
     D: Room + Send + Sync,
@@ -160,7 +165,7 @@ fn run_in<
     servers: Vec<V>,
     ticks: T,
     exporter: Exporter<S>,
-) -> (Exporter<S>, Result<Report, RunFault>, Option<(Vec<V>, T)>)
+) -> (Exporter<S>, Result<Report, ServeFault>, Option<(Vec<V>, T)>)
     requires runs { CanRun config.now C.capacity D.capacity }
     requires servers { vec_len servers ≡ config.now.lanes }
     requires new_exporter { (exporter.batch ≡ []) × (0 < exporter.size) × (list_any (λ ended. ended) exporter.ends ≡ false) × (exporter.sink.is_down ≡ false) }
@@ -171,9 +176,9 @@ fn run_in<
     ensures back { IfSome result.2 (λ back. (back.0.items ≡ servers.items) × (back.1 ≡ ticks)) }
 {
     let Ok(hashing) = TraceHashing::keyed(context.rt) else {
-        return (exporter, Err(RunFault::NoMemory), Some((servers, ticks)));
+        return (exporter, Err(ServeFault::NoMemory), Some((servers, ticks)));
     };
-    let lent = Lent {
+    let lent = ThreadContext {
         rt: context.rt,
         alloc: context.alloc,
         hashing,
@@ -188,24 +193,24 @@ fn run_in<
         }
         Err(back) => {
             let (exporter, servers, ticks) = back;
-            (exporter, Err(RunFault::NoMemory), Some((servers, ticks)))
+            (exporter, Err(ServeFault::NoMemory), Some((servers, ticks)))
         }
     }
 }
 
 /// What a run answers whose threads have ended.
-fn answer_of(counted: &Counted, is_down: bool) -> Result<Report, RunFault>
+fn answer_of(counted: &ThreadCounts, is_down: bool) -> Result<Report, ServeFault>
     ensures sink { TellsSink is_down result }
     ensures counts { TellsCounts counted.now.is_full counted.now.counts.items result }
     ensures begun { has_begun result ≡ true }
 {
     if counted.is_full {
-        return Err(RunFault::BookFull);
+        return Err(ServeFault::CounterOverflow);
     }
     match total(&counted.counts) {
-        Ok(report) if is_down => Err(RunFault::SinkDown(report)),
+        Ok(report) if is_down => Err(ServeFault::SinkDown(report)),
         Ok(report) => Ok(report),
-        Err(_) => Err(RunFault::BookFull),
+        Err(_) => Err(ServeFault::CounterOverflow),
     }
 }
 
@@ -217,18 +222,18 @@ fn run_over<
     T: Ticks + Send + Drop,
     S: Sink + Drop,
     G: Gate + Sync,
-    P: Stop + Sync,
+    P: HasStopMark + Sync,
     M: MomentClock + Sync,
     C: Room + Send + Sync,
     D: Room + Send + Sync,
     R: Threads + Wait + Clock + Sync,
 >(
-    lent: &Lent<'s, G, P, M, R>,
+    lent: &ThreadContext<'s, G, P, M, R>,
     config: &Config,
     servers: Vec<V>,
     ticks: T,
     exporter: Exporter<S>,
-) -> Result<(Exporter<S>, Counted), (Exporter<S>, Vec<V>, T)>
+) -> Result<(Exporter<S>, ThreadCounts), (Exporter<S>, Vec<V>, T)>
     requires runs { CanRun config.now C.capacity D.capacity }
     requires servers { vec_len servers ≡ config.now.lanes }
     requires new_exporter { (exporter.batch ≡ []) × (0 < exporter.size) × (list_any (λ ended. ended) exporter.ends ≡ false) × (exporter.sink.is_down ≡ false) }
@@ -248,7 +253,7 @@ fn run_over<
         team,
         shipments,
         rooms,
-        feeds,
+        acceptors,
     } = made;
     let job = ExporterJob {
         rt: lent.rt,
@@ -261,13 +266,13 @@ fn run_over<
             sink_takes_lines();
             takes_handed_lines();
             asked_seats_may_be_compared();
-            let Rooms {
+            let RunRooms {
                 mut columns,
                 mut ends,
                 counts,
                 rows,
             } = rooms;
-            let mut counted = Counted {
+            let mut counted = ThreadCounts {
                 counts,
                 is_full: false,
             };
@@ -281,7 +286,7 @@ fn run_over<
         Err(back) => {
             let (team, job) = back;
             let Team { first, second, .. } = team;
-            Err((job.exporter, feeds_of(first, feeds), second.ticks))
+            Err((job.exporter, acceptors_of(first, acceptors), second.ticks))
         }
     }
 }

@@ -1,19 +1,20 @@
 //! What the shards' threads are given.
 ghost use Rattle.std.specs.Prelude.{◌≡◌, ◌<◌, ◌≤◌, [], All, true, false, length, map, vec_len, vec_capacity, IfOk};
 ghost use Rattle.lane_queue.specs.Ends.{IsNew};
+ghost use Rattle.config_shards.specs.Shards.{CanBegin, IsNewShard};
 ghost use Rattle.tsc_config.specs.declared.config.Config.{Config};
 ghost use Rattle.pipeline.specs.Made.{NumberedFrom, HasNodes, IsReady};
-ghost use Rattle.pipeline.specs.Promise.{HasSettings, IsNewShard};
+ghost use Rattle.pipeline.specs.Promise.{HasSettings};
 
-use crate::lent::Lent;
+use crate::lent::ThreadContext;
 use crate::shard_job::ShardJob;
+use config_shards::new_shards;
 use lane_queue::{Receiver, Room, Sender};
-use otlp_types::{Item, Shipment, TryClone};
-use shard_core::{Shard, ShardSetup};
+use otlp_types::{Item, Shipment};
+use shard_core::Shard;
 use shared_budget::BudgetSeat;
-use std::alloc::{AllocError, Global};
+use std::alloc::AllocError;
 use std::sync::Wait;
-use trace_hash::TraceHashing;
 use tsc_config::Config;
 
 /// The ends and seats of the shards, each by shard.
@@ -26,13 +27,11 @@ pub struct ShardEnds<'s, C: Room, D: Room, R: Wait> {
 
 /// What the shards' threads are given, in their order: for each a shard, its ends and its seat at the limiter.
 pub fn shard_jobs<'s, C: Room, D: Room, G, P, M, R: Wait>(
-    lent: &Lent<'s, G, P, M, R>,
+    lent: &ThreadContext<'s, G, P, M, R>,
     config: &Config,
     ends: ShardEnds<'s, C, D, R>,
 ) -> Result<Vec<ShardJob<'s, C, D, G, R>>, AllocError>
-    requires waits { 0 < config.now.decision_wait }
-    requires shards { (0 < config.now.shards) × (config.now.shards ≤ 64) }
-    requires traces { config.now.shards ≤ config.now.num_traces }
+    requires ranges { CanBegin config.now }
     requires seats { (vec_len ends.seats ≡ config.now.shards) × All (λ seat. HasNodes seat config.now.policies) ends.seats.items }
     requires receivers { (vec_len ends.receivers ≡ config.now.shards) × All (λ r. All IsNew r.ends) ends.receivers.items }
     requires exports { (vec_len ends.exports ≡ config.now.shards) × All IsNew ends.exports.items }
@@ -47,49 +46,9 @@ pub fn shard_jobs<'s, C: Room, D: Room, G, P, M, R: Wait>(
     Ok(jobs_of(lent, config, shards, ends, jobs))
 }
 
-/// The shards of a configuration, which have taken nothing.
-fn new_shards(
-    alloc: Global,
-    hashing: TraceHashing,
-    config: &Config,
-) -> Result<Vec<Shard>, AllocError>
-    requires waits { 0 < config.now.decision_wait }
-    requires shards { 0 < config.now.shards }
-    requires traces { config.now.shards ≤ config.now.num_traces }
-    ensures count { IfOk result (λ made. vec_len made ≡ config.now.shards) }
-    ensures new { IfOk result (λ made. All (IsNewShard config.now) made.items) }
-{
-    let mut made = Vec::with_capacity(alloc, config.shards)?;
-    for _shard in 0..config.shards {
-        made.push_reserved(new_shard(alloc, hashing, config)?);
-    }
-    Ok(made)
-}
-
-/// A shard with its share of the traces and of the caches, whose senders are the lanes and the ticker.
-fn new_shard(alloc: Global, hashing: TraceHashing, config: &Config) -> Result<Shard, AllocError>
-    requires waits { 0 < config.now.decision_wait }
-    requires shards { 0 < config.now.shards }
-    requires traces { config.now.shards ≤ config.now.num_traces }
-    ensures { IfOk result (IsNewShard config.now) }
-{
-    let policies = config.policies.try_clone(alloc)?;
-    let setup = ShardSetup {
-        hashing,
-        wait: config.decision_wait,
-        root_wait: config.root_wait,
-        maximum_size: config.maximum_trace_size,
-        limit: config.traces_per_shard(),
-        sampled: config.sampled_cache_per_shard(),
-        non_sampled: config.non_sampled_cache_per_shard(),
-        senders: config.lanes as usize + 1,
-    };
-    Shard::new(alloc, policies, setup)
-}
-
 /// What the threads of these shards are given; `jobs` has room for it.
 fn jobs_of<'s, C: Room, D: Room, G, P, M, R: Wait>(
-    lent: &Lent<'s, G, P, M, R>,
+    lent: &ThreadContext<'s, G, P, M, R>,
     config: &Config,
     shards: Vec<Shard>,
     ends: ShardEnds<'s, C, D, R>,

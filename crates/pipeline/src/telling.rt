@@ -1,7 +1,7 @@
 //! A report whose additions are told to a gate.
 ghost use Rattle.std.specs.Prelude.{◌≡◌, replicate};
 
-use drop_ledger::{BookFull, Count, Counter, Report};
+use drop_ledger::{Count, Counter, CounterOverflow, Report};
 use lane_queue::Gate;
 
 /// A report that tells a gate each addition, when it is made.
@@ -33,7 +33,7 @@ impl<'g, G: Gate> Told<'g, G> {
 impl<'g, G: Gate> Counter for Told<'g, G> {
     ghost counted = { λ t. t.report };
 
-    fn add(&mut self, count: Count, n: u64) -> Result<(), BookFull> {
+    fn add(&mut self, count: Count, n: u64) -> Result<(), CounterOverflow> {
         self.report.add(count, n)?;
         self.gate.counted(count.place(), n);
         Ok(())

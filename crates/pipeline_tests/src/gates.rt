@@ -1,5 +1,5 @@
 //! Gates that hold one thread until another has reached a place, and give up after so many turns.
-use lane_queue::{Gate, Place};
+use lane_queue::{Gate, GatePlace};
 use std::sync::atomic::{AtomicBool, Ordering};
 use std::thread;
 
@@ -94,8 +94,8 @@ impl Places {
 pub struct LanesMeet<'p>(pub &'p Places);
 
 impl<'p> Gate for LanesMeet<'p> {
-    fn reach(&self, place: Place) {
-        if let Place::Connected { lane, ordinal } = place {
+    fn reach(&self, place: GatePlace) {
+        if let GatePlace::Connected { lane, ordinal } = place {
             if lane < 2 && ordinal == 0 {
                 self.0.meet(&self.0.first, lane == 0);
             } else if lane < 2 && ordinal == 1 {
@@ -110,18 +110,18 @@ impl<'p> Gate for LanesMeet<'p> {
 pub struct ShardsBeginEarly<'p>(pub &'p Places);
 
 impl<'p> Gate for ShardsBeginEarly<'p> {
-    fn reach(&self, place: Place) {
+    fn reach(&self, place: GatePlace) {
         match place {
-            Place::Taken { shard } => {
+            GatePlace::Taken { shard } => {
                 let (own, _) = self.0.taken.marks(shard == 0);
                 own.store(true, Ordering::SeqCst);
             }
-            Place::Served { lane, ordinal } => {
+            GatePlace::Served { lane, ordinal } => {
                 if lane == 0 && ordinal == 0 {
                     self.0.hold(&self.0.taken.first, &self.0.taken.second);
                 }
             }
-            Place::Connected { .. } => {}
+            GatePlace::Connected { .. } => {}
         }
     }
 }
@@ -131,8 +131,8 @@ impl<'p> Gate for ShardsBeginEarly<'p> {
 pub struct ShardsMeet<'p>(pub &'p Places);
 
 impl<'p> Gate for ShardsMeet<'p> {
-    fn reach(&self, place: Place) {
-        if let Place::Taken { shard } = place {
+    fn reach(&self, place: GatePlace) {
+        if let GatePlace::Taken { shard } = place {
             if shard < 2 {
                 self.0.meet(&self.0.taken, shard == 0);
             }

@@ -1,9 +1,9 @@
 //! Connections, a sink, a stop mark and a clock in memory.
 ghost use Rattle.std.specs.Prelude.{◌≡◌, IfOk, None, Some};
 
-use http_lane::{Clock as MomentClock, Reads, Stop};
+use http_lane::{Clock as MomentClock, HasStopMark, Reads};
 use http_text::Allowed;
-use lane_worker::{Feed, Ticks};
+use lane_worker::{Acceptor, Ticks};
 use span_ids::Moment;
 use span_sink::{Sink, SinkFault};
 use std::alloc::{AllocError, Global};
@@ -52,12 +52,12 @@ impl Read for Held {
 
 /// Gives these connections, the last one first.
 #[derive(Drop)]
-pub struct MemoryFeed {
+pub struct MemoryAcceptor {
     pub alloc: Global,
     pub connections: Vec<Held>,
 }
 
-impl Feed for MemoryFeed {
+impl Acceptor for MemoryAcceptor {
     type Reader = Reads<Held>;
 
     type Writer = Vec<u8>;
@@ -95,7 +95,7 @@ pub struct Mark {
     pub is_set: AtomicBool,
 }
 
-impl Stop for Mark {
+impl HasStopMark for Mark {
     fn is_set(&self) -> bool {
         self.is_set.load(Ordering::SeqCst)
     }

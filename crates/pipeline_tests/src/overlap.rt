@@ -3,11 +3,12 @@ ghost use Rattle.std.specs.Prelude.{◌<◌, IfOk};
 ghost use Rattle.tsc_config.specs.Values.{InRange};
 
 use crate::gates::{LanesMeet, Places, ShardsBeginEarly, ShardsMeet};
-use crate::memory::{Held, Mark, MemoryFeed, MemorySink, NoTicks, Standing};
+use crate::memory::{Held, Mark, MemoryAcceptor, MemorySink, NoTicks, Standing};
+use config_faults::ConfigFault;
 use drop_ledger::Report;
 use lane_queue::{Gate, OpenGate};
 use lane_worker::OneByOne;
-use pipeline::{RunContext, RunFault, run};
+use pipeline::{RunContext, ServeFault, run};
 use std::alloc::{AllocError, Global};
 use std::random::RandomSource;
 use std::sync::Wait;
@@ -15,7 +16,7 @@ use std::sync::atomic::AtomicBool;
 use std::test::Fail;
 use std::thread::Threads;
 use std::time::Clock;
-use tsc_config::{Config, ConfigFault, read};
+use tsc_config::{Config, read};
 
 /// A trace of shard 0 of two, and one of shard 1.
 pub const A: &str = "5b8efff798038103d269b633813fc60c";
@@ -49,14 +50,14 @@ pub fn request(alloc: Global, trace: &str, spans: u32) -> Result<Vec<u8>, Fail>
     Ok(head.into_bytes())
 }
 
-/// A feed of one connection with this request, and of a second one of no bytes if that is asked for.
-fn feed(alloc: Global, bytes: Vec<u8>, second: bool) -> Result<MemoryFeed, AllocError> {
+/// An acceptor of one connection with this request, and of a second one of no bytes if that is asked for.
+fn acceptor(alloc: Global, bytes: Vec<u8>, second: bool) -> Result<MemoryAcceptor, AllocError> {
     let mut connections = Vec::new(alloc);
     if second {
         connections.push(Held::whole(Vec::new(alloc)))?;
     }
     connections.push(Held::whole(bytes))?;
-    Ok(MemoryFeed { alloc, connections })
+    Ok(MemoryAcceptor { alloc, connections })
 }
 
 /// The configuration in a text.
@@ -77,26 +78,26 @@ pub struct Course {
     pub is_broken: bool,
 }
 
-/// What a run came to: its sink, its answer, and the feeds and ticks that came back.
+/// What a run came to: its sink, its answer, and the acceptors and ticks that came back.
 pub type Came = (
     MemorySink,
-    Result<Report, RunFault>,
-    Option<(Vec<OneByOne<MemoryFeed>>, NoTicks)>,
+    Result<Report, ServeFault>,
+    Option<(Vec<OneByOne<MemoryAcceptor>>, NoTicks)>,
 );
 
-/// What a run comes to over feeds, one for each lane of the configuration.
-pub fn run_feeds<G: Gate + Sync, R: Threads + Wait + Clock + RandomSource + Sync>(
+/// What a run comes to over acceptors, one for each lane of the configuration.
+pub fn run_acceptors<G: Gate + Sync, R: Threads + Wait + Clock + RandomSource + Sync>(
     rt: &R,
     alloc: Global,
     config: &str,
-    feeds: Vec<MemoryFeed>,
+    acceptors: Vec<MemoryAcceptor>,
     gate: &G,
     course: Course,
 ) -> Result<Came, Fail> {
     let config = configured(alloc, config)?;
     let mut servers = Vec::new(alloc);
-    for feed in feeds {
-        servers.push(OneByOne { feed })?;
+    for acceptor in acceptors {
+        servers.push(OneByOne { acceptor })?;
     }
     if servers.len() != config.lanes as usize || config.shards > 64 {
         return Err(Fail::from("lanes"));
@@ -120,18 +121,18 @@ fn run_two<G: Gate + Sync, R: Threads + Wait + Clock + RandomSource + Sync>(
     rt: &R,
     alloc: Global,
     config: &str,
-    feeds: [MemoryFeed; 2],
+    acceptors: [MemoryAcceptor; 2],
     gate: &G,
 ) -> Result<Came, Fail> {
     let course = Course {
         is_stopped: false,
         is_broken: false,
     };
-    run_feeds(
+    run_acceptors(
         rt,
         alloc,
         config,
-        Vec::from_array(alloc, feeds)?,
+        Vec::from_array(alloc, acceptors)?,
         gate,
         course,
     )
@@ -140,8 +141,8 @@ fn run_two<G: Gate + Sync, R: Threads + Wait + Clock + RandomSource + Sync>(
 #[test]
 fn hundred_spans_a_lane(rt: HostRuntime) -> Result<(), Fail> {
     let alloc = rt.alloc();
-    let first = feed(alloc, request(alloc, A, 100)?, false)?;
-    let second = feed(alloc, request(alloc, A, 100)?, false)?;
+    let first = acceptor(alloc, request(alloc, A, 100)?, false)?;
+    let second = acceptor(alloc, request(alloc, A, 100)?, false)?;
     let (sink, answer, _) = run_two(&rt, alloc, ONE_SHARD, [first, second], &OpenGate)?;
     let Ok(report) = answer else {
         return Err(Fail::from("a fault"));
@@ -161,8 +162,8 @@ fn two_spans<G: Gate + Sync, R: Threads + Wait + Clock + RandomSource + Sync>(
     gate: &G,
 ) -> Result<[u64; 9], Fail> {
     let [one, other] = traces;
-    let first = feed(alloc, request(alloc, one, 1)?, second)?;
-    let last = feed(alloc, request(alloc, other, 1)?, second)?;
+    let first = acceptor(alloc, request(alloc, one, 1)?, second)?;
+    let last = acceptor(alloc, request(alloc, other, 1)?, second)?;
     let (_, answer, _) = run_two(rt, alloc, config, [first, last], gate)?;
     let Ok(report) = answer else {
         return Err(Fail::from("a fault"));

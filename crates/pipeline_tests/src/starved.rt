@@ -1,10 +1,10 @@
 //! One lane: a reader that fails, a sink that does, a run that is stopped before it begins, and one that may be short
 //! of memory, each of whose allocations `tests/refused_memory/refused.py` refuses in turn.
-use crate::memory::{Held, MemoryFeed};
-use crate::overlap::{A, Came, Course, request, run_feeds};
+use crate::memory::{Held, MemoryAcceptor};
+use crate::overlap::{A, Came, Course, request, run_acceptors};
 use drop_ledger::{Count, Report};
 use lane_queue::OpenGate;
-use pipeline::RunFault;
+use pipeline::ServeFault;
 use span_ids::Reason;
 use std::alloc::Global;
 use std::random::RandomSource;
@@ -34,9 +34,9 @@ fn run_one<R: Threads + Wait + Clock + RandomSource + Sync>(
     connections: Vec<Held>,
     course: Course,
 ) -> Result<Came, Fail> {
-    let mut feeds = Vec::new(alloc);
-    feeds.push(MemoryFeed { alloc, connections })?;
-    run_feeds(rt, alloc, ALL, feeds, &OpenGate, course)
+    let mut acceptors = Vec::new(alloc);
+    acceptors.push(MemoryAcceptor { alloc, connections })?;
+    run_acceptors(rt, alloc, ALL, acceptors, &OpenGate, course)
 }
 
 /// A run whose stop mark isn't set before it begins, and whose sink is whole.
@@ -94,7 +94,7 @@ fn sink_fails_at_its_first_write(rt: HostRuntime) -> Result<(), Fail> {
     let received = report.add(Count::Received, 3);
     let down = report.add(Count::Dropped(Reason::ExporterDown), 3);
     assert!(rt; received.is_ok() && down.is_ok());
-    assert!(rt; answer == Err(RunFault::SinkDown(report)));
+    assert!(rt; answer == Err(ServeFault::SinkDown(report)));
     assert!(rt; sink.taken.is_empty());
     Ok(())
 }
@@ -132,7 +132,7 @@ fn busy_then_done(rt: HostRuntime) -> Result<(), Fail> {
             );
             assert_eq!(rt; spans_in(&sink.taken), handed);
         }
-        Err(RunFault::NoMemory) => assert!(rt; sink.taken.is_empty() && back.is_some()),
+        Err(ServeFault::NoMemory) => assert!(rt; sink.taken.is_empty() && back.is_some()),
         Err(_) => return Err(Fail::from("a fault")),
     }
     Ok(())

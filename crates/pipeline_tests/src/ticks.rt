@@ -1,6 +1,6 @@
 //! When ticks are due.
 use collector_serve::{StopMark, Ticker, WallClock};
-use http_lane::{Clock as Moments, Stop};
+use http_lane::{Clock as Moments, HasStopMark};
 use lane_worker::Ticks;
 use std::alloc::{AllocError, Global};
 use std::sync::Wait;

@@ -21,11 +21,11 @@ use trace_hash::TraceHashing;
 pub fn plain_shard(
     alloc: Global,
     kind: PolicyKind,
-    wait: u64,
+    decision_wait: u64,
     traces: usize,
     senders: usize,
 ) -> Result<(Shard, Budgets), AllocError>
-    requires waits { 0 < wait }
+    requires waits { 0 < decision_wait }
     requires keeps_a_trace { 0 < traces }
     requires has_senders { 0 < senders }
     ensures { IfOk result (λ made. HasTakenNothing made.0 made.1) }
@@ -34,12 +34,12 @@ pub fn plain_shard(
     let limiter = Budgets::new(alloc, &policies)?;
     let setup = ShardSetup {
         hashing: TraceHashing::Fixed,
-        wait,
+        decision_wait,
         root_wait: 0,
-        maximum_size: 0,
-        limit: traces,
-        sampled: 0,
-        non_sampled: 0,
+        maximum_trace_size: 0,
+        num_traces: traces,
+        sampled_cache_size: 0,
+        non_sampled_cache_size: 0,
         senders,
     };
     let shard = Shard::new(alloc, policies, setup)?;

@@ -26,7 +26,8 @@ always = leaf AlwaysSample
 abbrev large : Policy
 large = leaf (SpanCount 2 0)
 
--- an inverted match of an attribute that no span here has, and one that matches where it is asked for by a value that stands there
+-- an inverted match of an attribute that no span here has, and one that matches where it is asked for by a value that
+-- stands there
 abbrev not_dev : Policy
 not_dev = leaf (Attribute (codes "env") (StringAmong (codes "dev" ∷ [])) true)
 

@@ -9,7 +9,7 @@ use Rattle.policy_eval.specs.Given.{answer_given, part_answers_given, left_by, n
 use Rattle.policy_eval.specs.GivenLaws.{left-drops, asks-few}
 use Rattle.otlp_types.specs.declared.arrival.Arrival.{Arrival}
 use Rattle.policy_eval.specs.Meaning.{answer_of, is_end, none_seen, seen_with, joined_seen, verdict_of_seen}
-use Rattle.policy_eval.specs.declared.answer.Seen.{Seen}
+use Rattle.policy_eval.specs.declared.answer.AnswersSeen.{AnswersSeen}
 use Rattle.policy_eval.specs.declared.answer.Answer.{Answer}
 use Rattle.policy_eval.proofs.Verdicts.{Tells, tells-more, tells-all, tells-none, joined-all, ends-is}
 
@@ -27,7 +27,7 @@ module _ (bs : List Bool) (spans : List Arrival) where
   taken-few p before behind a k = let few = asks-few p 0 (drop before bs) spans in let e = k.asked 0 in omega (arith, few, e)
 
   -- the parts `rest` of a policy are still to be asked
-  pub record Part (policy : Policy) (join : Join) (parts : Policies) (before : ℕ) (rest : Policies) (next : ℕ) (seen : Seen) : Type 0 where
+  pub record Part (policy : Policy) (join : Join) (parts : Policies) (before : ℕ) (rest : Policies) (next : ℕ) (seen : AnswersSeen) : Type 0 where
     pub is : policy ≡ joined join parts
     pub few : next + nodes_in rest ≤ 64
     pub tells : Tells seen (part_answers_given join rest (drop next bs) spans) (part_answers_given join parts (drop before bs) spans)
@@ -46,7 +46,7 @@ module _ (bs : List Bool) (spans : List Arrival) where
   ends-so join p next behind a b k h = sym (ends-is join (answer_given p (drop next bs) spans)) ∙ sym (ap (is_end join) k.answer) ∙ h
 
   -- the answers seen with that of one more part
-  told : (policy : Policy) (join : Join) (parts : Policies) (before : ℕ) (p : Policy) (rest : Policies) (next behind : ℕ) (seen : Seen) (a : Answer) (b : Bool) → Part policy join parts before (one_more p rest) next seen → Taken p next behind a → is_end join a ≡ b →
+  told : (policy : Policy) (join : Join) (parts : Policies) (before : ℕ) (p : Policy) (rest : Policies) (next behind : ℕ) (seen : AnswersSeen) (a : Answer) (b : Bool) → Part policy join parts before (one_more p rest) next seen → Taken p next behind a → is_end join a ≡ b →
       Tells (seen_with a seen) (cond b [] (part_answers_given join rest (drop behind bs) spans)) (part_answers_given join parts (drop before bs) spans)
   told policy join parts before p rest next behind seen a b w k h =
       let first = answer_given p (drop next bs) spans in
@@ -58,7 +58,7 @@ module _ (bs : List Bool) (spans : List Arrival) where
       let Q = λ (x : Answer). Tells (seen_with x seen) (later b (drop behind bs)) all in
       subst Q (sym k.answer) (subst P (taken-left p next behind a k) (subst O (ends-so join p next behind a b k h) so))
 
-  pub part-more : (policy : Policy) (join : Join) (parts : Policies) (before : ℕ) (p : Policy) (rest : Policies) (next behind : ℕ) (seen : Seen) (a : Answer) → Part policy join parts before (one_more p rest) next seen → Taken p next behind a → is_end join a ≡ false →
+  pub part-more : (policy : Policy) (join : Join) (parts : Policies) (before : ℕ) (p : Policy) (rest : Policies) (next behind : ℕ) (seen : AnswersSeen) (a : Answer) → Part policy join parts before (one_more p rest) next seen → Taken p next behind a → is_end join a ≡ false →
       Part policy join parts before rest behind (seen_with a seen)
   part-more policy join parts before p rest next behind seen a w k h =
       let no = ends-so join p next behind a false k h in
@@ -77,7 +77,7 @@ module _ (bs : List Bool) (spans : List Arrival) where
             (was.0 + nodes p, was.1 ∙ (let q : next + length (nodes_asked_in_turn join (one_more p rest) was.0 (drop next bs) spans) ≡ behind + length more = omega (arith, both, here) in q));
       }
 
-  pub part-stop : (policy : Policy) (join : Join) (parts : Policies) (before : ℕ) (p : Policy) (rest : Policies) (next behind : ℕ) (seen : Seen) (a : Answer) → Part policy join parts before (one_more p rest) next seen → Taken p next behind a → is_end join a ≡ true →
+  pub part-stop : (policy : Policy) (join : Join) (parts : Policies) (before : ℕ) (p : Policy) (rest : Policies) (next behind : ℕ) (seen : AnswersSeen) (a : Answer) → Part policy join parts before (one_more p rest) next seen → Taken p next behind a → is_end join a ≡ true →
       Taken policy before behind (answer_of (joined_seen join (seen_with a seen)))
   part-stop policy join parts before p rest next behind seen a w k h =
       let yes = ends-so join p next behind a true k h in
@@ -91,14 +91,14 @@ module _ (bs : List Bool) (spans : List Arrival) where
             k.asked was.0 ∙ sym (was.1 ∙ ap (λ ms. next + length ms) e);
       }
 
-  pub part-last : (policy : Policy) (join : Join) (parts : Policies) (before next : ℕ) (seen : Seen) → Part policy join parts before no_more next seen → Taken policy before next (answer_of (joined_seen join seen))
+  pub part-last : (policy : Policy) (join : Join) (parts : Policies) (before next : ℕ) (seen : AnswersSeen) → Part policy join parts before no_more next seen → Taken policy before next (answer_of (joined_seen join seen))
   part-last policy join parts before next seen w = record {
     answer = ap answer_of (joined-all join seen (part_answers_given join parts (drop before bs) spans) w.tells ∙ sym (ap (λ q. answer_given q (drop before bs) spans) w.is));
     asked = λ node. let e = (w.asked node).1 in omega (arith, e);
   }
 
   -- the policies `rest` are still to be asked
-  pub record AtTop (all rest : Policies) (next : ℕ) (seen : Seen) : Type 0 where
+  pub record AtTop (all rest : Policies) (next : ℕ) (seen : AnswersSeen) : Type 0 where
     pub few : next + nodes_in rest ≤ 64
     pub tells : Tells seen (answers_given rest (drop next bs) spans) (answers_given all bs spans)
     pub asked : (first : ℕ) × (length (asked_given all bs spans) ≡ next + length (nodes_asked_at_top rest first (drop next bs) spans))
@@ -110,7 +110,7 @@ module _ (bs : List Bool) (spans : List Arrival) where
     asked = (0, omega arith);
   }
 
-  pub at_top-more : (all : Policies) (p : Policy) (rest : Policies) (next behind : ℕ) (seen : Seen) (a : Answer) → AtTop all (one_more p rest) next seen → Taken p next behind a → AtTop all rest behind (seen_with a seen)
+  pub at_top-more : (all : Policies) (p : Policy) (rest : Policies) (next behind : ℕ) (seen : AnswersSeen) (a : Answer) → AtTop all (one_more p rest) next seen → Taken p next behind a → AtTop all rest behind (seen_with a seen)
   at_top-more all p rest next behind seen a w k =
       let left = taken-left p next behind a k in
       let first = answer_given p (drop next bs) spans in
@@ -130,5 +130,5 @@ module _ (bs : List Bool) (spans : List Arrival) where
       }
 
   -- none is left
-  pub at_top-last : (all : Policies) (next : ℕ) (seen : Seen) → AtTop all no_more next seen → (verdict_of_seen seen ≡ verdict_given all bs spans) × (next ≡ length (asked_given all bs spans))
+  pub at_top-last : (all : Policies) (next : ℕ) (seen : AnswersSeen) → AtTop all no_more next seen → (verdict_of_seen seen ≡ verdict_given all bs spans) × (next ≡ length (asked_given all bs spans))
   at_top-last all next seen w = (tells-all seen (answers_given all bs spans) w.tells, let was = w.asked.1 in omega (arith, was))

@@ -89,7 +89,8 @@ not_of_an_inverted_match = refl
 pub drop_inside_an_and : answers (joined_to (joined Drop (one_more (leaf AlwaysSample) no_more)) And) 0 (λ n. true) (in_env dev) ≡ not_sample ∷ []
 drop_inside_an_and = refl
 
--- a `drop` of two policies: of one that samples and one that doesn't nothing is dropped, and the limiter behind isn't asked
+-- a `drop` of two policies: of one that samples and one that doesn't nothing is dropped, and the limiter behind isn't
+-- asked
 abbrev dropped_few : Policies
 dropped_few = one_more (joined Drop (one_more (leaf (SpanCount 2 0)) (one_more (rate_limiting 3) no_more))) always
 
@@ -215,7 +216,8 @@ flags = refl
 
 -- ---- regular expressions
 
--- one that is anchored at the start, one that isn't, where the value has it in the middle, and two of which the second has a match
+-- one that is anchored at the start, one that isn't, where the value has it in the middle, and two of which the second
+-- has a match
 pub expressions_of_values : map (λ (texts : List (List ℕ)). leaf_answer (Attribute (codes "env") (StringMatching texts) false) (in_env (codes "/a/b"))) ((codes "^/b" ∷ []) ∷ (codes "/b" ∷ []) ∷ (codes "^b" ∷ codes "/b$" ∷ []) ∷ []) ≡ not_sample ∷ sample ∷ sample ∷ []
 unfolding matches_on_literals
 expressions_of_values = refl

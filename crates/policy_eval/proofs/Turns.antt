@@ -18,7 +18,7 @@ use Rattle.policy_eval.specs.Given.{answer_given, part_answers_given, left_by, l
 use Rattle.policy_eval.specs.Walks.{AskedEach, HasAmounts, Answers}
 use Rattle.otlp_types.specs.declared.arrival.Arrival.{Arrival}
 use Rattle.policy_eval.specs.Meaning.{answer_of, is_end, none_seen, seen_with, joined_seen, verdict_of_seen, none_first, first_with, decider_of_seen, knows}
-use Rattle.policy_eval.specs.declared.answer.Seen.{Seen}
+use Rattle.policy_eval.specs.declared.answer.AnswersSeen.{AnswersSeen}
 use Rattle.policy_eval.specs.declared.answer.Answer.{Answer}
 use Rattle.policy_eval.specs.declared.decider.Firsts.{Firsts}
 use Rattle.span_ids.specs.declared.outcome.Verdict.{Verdict}
@@ -104,7 +104,8 @@ module _ (S : Type 0) (asks : S → ℕ → ℕ → ℕ → Bool → S → Type 
   answers-rate s t limit node b a e h = (b ∷ [], record { node = node; limit = limit } ∷ [], record { answers = λ later. e; leaves = λ later. refl; asks = λ later. refl }, (t, h, refl), λ amounts k. k)
 
 module _ (S : Type 0) (has : S → ℕ → Bool) (asks : S → ℕ → ℕ → ℕ → Bool → S → Type 0) (s0 : S) (all : List LimiterNode) (second : ℕ) (spans : List Arrival) where
-  -- what was asked of `all` limiter nodes on the way from `s0` to here, where the policies `rest` are still to be asked, from number `next` on
+  -- what was asked of `all` limiter nodes on the way from `s0` to here, where the policies `rest` are still to be
+  -- asked, from number `next` on
   pub record Walked (s : S) (rest : Policies) (next : ℕ) : Type 0 where
     pub known : knows (has s) (limits_in rest next) ≡ true
     pub kept : (m : ℕ) → has s m ≡ has s0 m
@@ -130,7 +131,7 @@ module _ (S : Type 0) (has : S → ℕ → Bool) (asks : S → ℕ → ℕ → �
 
 module _ (S : Type 0) (has : S → ℕ → Bool) (asks : S → ℕ → ℕ → ℕ → Bool → S → Type 0) (s0 : S) (policy : Policy) (join : Join) (parts : Policies) (node second : ℕ) (spans : List Arrival) where
   -- of a policy the parts `rest` are still to be asked, from number `next` on
-  pub record Turn (s : S) (rest : Policies) (next : ℕ) (seen : Seen) : Type 0 where
+  pub record Turn (s : S) (rest : Policies) (next : ℕ) (seen : AnswersSeen) : Type 0 where
     pub is : policy ≡ joined join parts
     pub counted : next + nodes_in rest ≡ node + nodes policy
     pub within : node + nodes policy ≤ 64
@@ -154,7 +155,7 @@ module _ (S : Type 0) (has : S → ℕ → Bool) (asks : S → ℕ → ℕ → �
     asking = λ later. refl;
   }
 
-  module _ (s t : S) (p : Policy) (rest : Policies) (next : ℕ) (seen : Seen) (a : Answer) (w : Turn s (one_more p rest) next seen) (part : Answers asks p next second spans a s t) where
+  module _ (s t : S) (p : Policy) (rest : Policies) (next : ℕ) (seen : AnswersSeen) (a : Answer) (w : Turn s (one_more p rest) next seen) (part : Answers asks p next second spans a s t) where
     -- the answers that the part and all before it were given
     abbrev given : (later : List Bool) → List Bool
     given later = (w.walked.mine ++ part.0) ++ later
@@ -218,7 +219,7 @@ module _ (S : Type 0) (has : S → ℕ → Bool) (asks : S → ℕ → ℕ → �
         )
 
   -- after the last part
-  pub turn-last : (s : S) (next : ℕ) (seen : Seen) → Turn s no_more next seen → Answers asks policy node second spans (answer_of (joined_seen join seen)) s0 s
+  pub turn-last : (s : S) (next : ℕ) (seen : AnswersSeen) → Turn s no_more next seen → Answers asks policy node second spans (answer_of (joined_seen join seen)) s0 s
   turn-last s next seen w = (
     w.walked.mine,
     w.walked.asked,
@@ -235,7 +236,7 @@ module _ (S : Type 0) (has : S → ℕ → Bool) (asks : S → ℕ → ℕ → �
 
 module _ (S : Type 0) (has : S → ℕ → Bool) (asks : S → ℕ → ℕ → ℕ → Bool → S → Type 0) (s0 : S) (all : Policies) (second : ℕ) (spans : List Arrival) where
   -- the policies `rest` are still to be asked, from number `next` on
-  pub record Top (s : S) (rest : Policies) (next : ℕ) (seen : Seen) (place : ℕ) (firsts : Firsts) : Type 0 where
+  pub record Top (s : S) (rest : Policies) (next : ℕ) (seen : AnswersSeen) (place : ℕ) (firsts : Firsts) : Type 0 where
     pub counted : next + nodes_in rest ≡ nodes_in all
     pub within : nodes_in all ≤ 64
     pub walked : Walked S has asks s0 (limits_in all 0) second spans s rest next
@@ -252,7 +253,7 @@ module _ (S : Type 0) (has : S → ℕ → Bool) (asks : S → ℕ → ℕ → �
     asking = λ later. refl;
   }
 
-  pub top-more : (s t : S) (p : Policy) (rest : Policies) (next : ℕ) (seen : Seen) (place : ℕ) (firsts : Firsts) (a : Answer) → Top s (one_more p rest) next seen place firsts → Answers asks p next second spans a s t → ((m : ℕ) → has t m ≡ has s m) → Top t rest (next + nodes p) (seen_with a seen) (place + 1) (first_with a place firsts)
+  pub top-more : (s t : S) (p : Policy) (rest : Policies) (next : ℕ) (seen : AnswersSeen) (place : ℕ) (firsts : Firsts) (a : Answer) → Top s (one_more p rest) next seen place firsts → Answers asks p next second spans a s t → ((m : ℕ) → has t m ≡ has s m) → Top t rest (next + nodes p) (seen_with a seen) (place + 1) (first_with a place firsts)
   top-more s t p rest next seen place firsts a w part keeps =
       let its = part.2 in
       record {
@@ -274,7 +275,7 @@ module _ (S : Type 0) (has : S → ℕ → Bool) (asks : S → ℕ → ℕ → �
       }
 
   -- after the last policy
-  pub top-last : (s : S) (next : ℕ) (seen : Seen) (place : ℕ) (firsts : Firsts) (verdict : Verdict) (decider : Option ℕ) → Top s no_more next seen place firsts → verdict ≡ verdict_of_seen seen → decider ≡ decider_of_seen seen firsts → EvaluatesWithDecider asks all second spans verdict decider s0 s
+  pub top-last : (s : S) (next : ℕ) (seen : AnswersSeen) (place : ℕ) (firsts : Firsts) (verdict : Verdict) (decider : Option ℕ) → Top s no_more next seen place firsts → verdict ≡ verdict_of_seen seen → decider ≡ decider_of_seen seen firsts → EvaluatesWithDecider asks all second spans verdict decider s0 s
   top-last s next seen place firsts verdict decider w e d =
       let full : w.walked.mine ++ [] ≡ w.walked.mine = append-nil w.walked.mine in
       let asked : asked_given all w.walked.mine spans ≡ numbers w.walked.asked = ap (λ bs. nodes_asked_at_top all 0 bs spans) (sym full) ∙ w.asking [] ∙ append-nil (numbers w.walked.asked) in

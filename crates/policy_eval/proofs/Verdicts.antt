@@ -1,5 +1,5 @@
--- The verdict by which answers policies gave, and what is made of them.
--- For the clauses of `evaluate`, `answer`, `verdict_and_askings` and `answer_given`, and the contract of `earliest_start`.
+-- The verdict by which answers policies gave, and what is made of them. For the clauses of `evaluate`, `answer`,
+-- `verdict_and_askings` and `answer_given`, and the contract of `earliest_start`.
 use Rattle.std.proofs.Common.{◌≡◌, ℕ, suc, ◌+◌, ◌<◌, min, max, Bool, true, false, ◌||◌, not, cond, List, [], ◌∷◌, length, drop, get_or, Option, Some, None, refl, sym, ap, ◌∙◌, arith, drop-cons, add-one}
 use Rattle.std.specs.List.{list_all, list_any, position_from}
 use Rattle.std.specs.Option.{option_or}
@@ -7,12 +7,12 @@ use Rattle.policy_tree.specs.declared.policy.Join.{Join}
 use Rattle.policy_tree.specs.declared.policy.Join.TheVariants.{And, Not, Drop, FirstMatch, Share}
 use Rattle.policy_eval.specs.Policies as spec
 use Rattle.policy_eval.specs.Meaning.{answer_of, is_for, is_end, none_seen, seen_with, each_is_for, some_is_for, joined_seen, verdict_of_seen, none_first, first_with, decider_of_seen}
-use Rattle.policy_eval.specs.declared.answer.Seen.{Seen}
+use Rattle.policy_eval.specs.declared.answer.AnswersSeen.{AnswersSeen}
 use Rattle.policy_eval.specs.declared.decider.Firsts.{Firsts}
 use Rattle.otlp_types.specs.declared.arrival.Arrival.{Arrival}
 
 -- which answers were seen, and what the others will answer
-pub record Tells (s : Seen) (rest all : List spec.Answer) : Type 0 where
+pub record Tells (s : AnswersSeen) (rest all : List spec.Answer) : Type 0 where
   pub sample : spec.has_answer spec.sample all ≡ (s.sample || spec.has_answer spec.sample rest)
   pub not_sample : spec.has_answer spec.not_sample all ≡ (s.not_sample || spec.has_answer spec.not_sample rest)
   pub inverted_sample : spec.has_answer spec.inverted_sample all ≡ (s.inverted_sample || spec.has_answer spec.inverted_sample rest)
@@ -27,14 +27,14 @@ or-end : (b : Bool) → (b || false) ≡ b
 or-end true = refl
 or-end false = refl
 
-pub tells-more : (s : Seen) (a : spec.Answer) (rest all : List spec.Answer) → Tells s (a ∷ rest) all → Tells (seen_with (answer_of a) s) rest all
+pub tells-more : (s : AnswersSeen) (a : spec.Answer) (rest all : List spec.Answer) → Tells s (a ∷ rest) all → Tells (seen_with (answer_of a) s) rest all
 tells-more s spec.sample rest all t = record { sample = t.sample ∙ or-yes s.sample (spec.has_answer spec.sample rest); not_sample = t.not_sample; inverted_sample = t.inverted_sample; inverted_not_sample = t.inverted_not_sample; dropped = t.dropped }
 tells-more s spec.not_sample rest all t = record { sample = t.sample; not_sample = t.not_sample ∙ or-yes s.not_sample (spec.has_answer spec.not_sample rest); inverted_sample = t.inverted_sample; inverted_not_sample = t.inverted_not_sample; dropped = t.dropped }
 tells-more s spec.inverted_sample rest all t = record { sample = t.sample; not_sample = t.not_sample; inverted_sample = t.inverted_sample ∙ or-yes s.inverted_sample (spec.has_answer spec.inverted_sample rest); inverted_not_sample = t.inverted_not_sample; dropped = t.dropped }
 tells-more s spec.inverted_not_sample rest all t = record { sample = t.sample; not_sample = t.not_sample; inverted_sample = t.inverted_sample; inverted_not_sample = t.inverted_not_sample ∙ or-yes s.inverted_not_sample (spec.has_answer spec.inverted_not_sample rest); dropped = t.dropped }
 tells-more s spec.dropped rest all t = record { sample = t.sample; not_sample = t.not_sample; inverted_sample = t.inverted_sample; inverted_not_sample = t.inverted_not_sample; dropped = t.dropped ∙ or-yes s.dropped (spec.has_answer spec.dropped rest) }
 
-pub tells-all : (s : Seen) (all : List spec.Answer) → Tells s [] all → verdict_of_seen s ≡ spec.verdict_of_answers all
+pub tells-all : (s : AnswersSeen) (all : List spec.Answer) → Tells s [] all → verdict_of_seen s ≡ spec.verdict_of_answers all
 tells-all s all t = rw (t.sample ∙ or-end s.sample, t.not_sample ∙ or-end s.not_sample, t.inverted_sample ∙ or-end s.inverted_sample, t.inverted_not_sample ∙ or-end s.inverted_not_sample, t.dropped ∙ or-end s.dropped)
 
 -- before the first answer
@@ -67,15 +67,15 @@ places-more f n spec.dropped rest all t = record { sample = t.sample; inverted_s
 pub places-none : (all : List spec.Answer) → Places none_first 0 all all
 places-none all = record { sample = refl; inverted_sample = refl; inverted_not_sample = refl; dropped = refl }
 
-pub places-all : (s : Seen) (f : Firsts) (n : ℕ) (all : List spec.Answer) → Tells s [] all → Places f n [] all → decider_of_seen s f ≡ spec.decider_of_answers all
+pub places-all : (s : AnswersSeen) (f : Firsts) (n : ℕ) (all : List spec.Answer) → Tells s [] all → Places f n [] all → decider_of_seen s f ≡ spec.decider_of_answers all
 places-all s f n all t p = rw (t.sample ∙ or-end s.sample, t.not_sample ∙ or-end s.not_sample, t.inverted_sample ∙ or-end s.inverted_sample, t.inverted_not_sample ∙ or-end s.inverted_not_sample, t.dropped ∙ or-end s.dropped, p.sample ∙ or-nowhere f.sample, p.inverted_sample ∙ or-nowhere f.inverted_sample, p.inverted_not_sample ∙ or-nowhere f.inverted_not_sample, p.dropped ∙ or-nowhere f.dropped)
 
 -- which answers were seen and where first, and what the others will answer
-pub record Told (s : Seen) (f : Firsts) (n : ℕ) (rest all : List spec.Answer) : Type 0 where
+pub record Told (s : AnswersSeen) (f : Firsts) (n : ℕ) (rest all : List spec.Answer) : Type 0 where
   pub seen : Tells s rest all
   pub first : Places f n rest all
 
-pub told-more : (s : Seen) (f : Firsts) (n : ℕ) (a : spec.Answer) (rest all : List spec.Answer) → Told s f n (a ∷ rest) all → Told (seen_with (answer_of a) s) (first_with (answer_of a) n f) (n + 1) rest all
+pub told-more : (s : AnswersSeen) (f : Firsts) (n : ℕ) (a : spec.Answer) (rest all : List spec.Answer) → Told s f n (a ∷ rest) all → Told (seen_with (answer_of a) s) (first_with (answer_of a) n f) (n + 1) rest all
 told-more s f n a rest all t = record { seen = tells-more s a rest all t.seen; first = places-more f n a rest all t.first }
 
 pub told-none : (all : List spec.Answer) → Told none_seen none_first 0 all all
@@ -114,13 +114,13 @@ some-is (spec.not_sample ∷ all) = some-is all
 some-is (spec.inverted_not_sample ∷ all) = some-is all
 some-is (spec.dropped ∷ all) = some-is all
 
-each-told : (s : Seen) (all : List spec.Answer) → Tells s [] all → each_is_for s ≡ list_all spec.samples all
+each-told : (s : AnswersSeen) (all : List spec.Answer) → Tells s [] all → each_is_for s ≡ list_all spec.samples all
 each-told s all t = sym (each-is all ∙ (rw (t.not_sample ∙ or-end s.not_sample, t.inverted_not_sample ∙ or-end s.inverted_not_sample, t.dropped ∙ or-end s.dropped)))
 
-some-told : (s : Seen) (all : List spec.Answer) → Tells s [] all → some_is_for s ≡ list_any spec.samples all
+some-told : (s : AnswersSeen) (all : List spec.Answer) → Tells s [] all → some_is_for s ≡ list_any spec.samples all
 some-told s all t = sym (some-is all ∙ (rw (t.sample ∙ or-end s.sample, t.inverted_sample ∙ or-end s.inverted_sample)))
 
-pub joined-all : (join : Join) (s : Seen) (all : List spec.Answer) → Tells s [] all → joined_seen join s ≡ spec.joined_answer join all
+pub joined-all : (join : Join) (s : AnswersSeen) (all : List spec.Answer) → Tells s [] all → joined_seen join s ≡ spec.joined_answer join all
 joined-all And s all t = ap spec.plain (each-told s all t)
 joined-all Not s all t = ap (λ b. spec.plain (not b)) (each-told s all t)
 joined-all Drop s all t = ap (λ b. cond b spec.dropped spec.not_sample) (each-told s all t)

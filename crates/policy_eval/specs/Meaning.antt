@@ -8,7 +8,7 @@ use Rattle.policy_tree.specs.declared.policy.Join.TheVariants.{And, Not, Drop, F
 use Rattle.policy_tree.specs.declared.limiter_node.LimiterNode.{LimiterNode}
 use Rattle.policy_eval.specs.declared.answer.Answer.{Answer}
 use Rattle.policy_eval.specs.declared.answer.Answer.TheVariants.{Sample, NotSample, InvertedSample, InvertedNotSample, Dropped}
-use Rattle.policy_eval.specs.declared.answer.Seen.{Seen}
+use Rattle.policy_eval.specs.declared.answer.AnswersSeen.{AnswersSeen}
 use Rattle.policy_eval.specs.declared.decider.Firsts.{Firsts}
 use Rattle.span_ids.specs.declared.outcome.Verdict.{Verdict}
 use Rattle.span_ids.specs.declared.outcome.Verdict.TheVariants.{Sampled, NotSampled}
@@ -30,11 +30,11 @@ is_for InvertedNotSample = false
 is_for Dropped = false
 
 -- no answer was given
-abbrev pub none_seen : Seen
+abbrev pub none_seen : AnswersSeen
 none_seen = record { sample = false; not_sample = false; inverted_sample = false; inverted_not_sample = false; dropped = false }
 
 -- which answers were given, with one more
-abbrev pub seen_with : Answer → Seen → Seen
+abbrev pub seen_with : Answer → AnswersSeen → AnswersSeen
 seen_with Sample s = record s { sample = true }
 seen_with NotSample s = record s { not_sample = true }
 seen_with InvertedSample s = record s { inverted_sample = true }
@@ -42,7 +42,7 @@ seen_with InvertedNotSample s = record s { inverted_not_sample = true }
 seen_with Dropped s = record s { dropped = true }
 
 -- the verdict by which answers were given
-abbrev pub verdict_of_seen : Seen → Verdict
+abbrev pub verdict_of_seen : AnswersSeen → Verdict
 verdict_of_seen s =
     if s.dropped then NotSampled
     else if s.inverted_not_sample then NotSampled
@@ -63,7 +63,7 @@ first_with InvertedNotSample place f = record f { inverted_not_sample = option_o
 first_with Dropped place f = record f { dropped = option_or f.dropped (Some place) }
 
 -- the place of the policy that decides, by which answers were given, and where first
-abbrev pub decider_of_seen : Seen → Firsts → Option ℕ
+abbrev pub decider_of_seen : AnswersSeen → Firsts → Option ℕ
 decider_of_seen s f =
     if s.dropped then f.dropped
     else if s.inverted_not_sample then f.inverted_not_sample
@@ -72,14 +72,14 @@ decider_of_seen s f =
     else None
 
 -- each of the answers, and some of them, is for the trace
-abbrev pub each_is_for : Seen → Bool
+abbrev pub each_is_for : AnswersSeen → Bool
 each_is_for s = not (s.not_sample || s.inverted_not_sample || s.dropped)
 
-abbrev pub some_is_for : Seen → Bool
+abbrev pub some_is_for : AnswersSeen → Bool
 some_is_for s = s.sample || s.inverted_sample
 
 -- what is made of policies by which answers they gave
-abbrev pub joined_seen : Join → Seen → spec.Answer
+abbrev pub joined_seen : Join → AnswersSeen → spec.Answer
 joined_seen And s = spec.plain (each_is_for s)
 joined_seen Not s = spec.plain (not (each_is_for s))
 joined_seen Drop s = if each_is_for s then spec.dropped else spec.not_sample

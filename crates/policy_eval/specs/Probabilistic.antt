@@ -4,7 +4,8 @@ use Rattle.std.specs.Prelude.{ℕ, ◌-◌, ◌*◌, ◌/◌, ◌%◌, ◌^◌, 
 use Rattle.otlp_types.specs.declared.arrival.Arrival.{Arrival}
 use Rattle.otlp_types.specs.declared.span.Ids.{Ids}
 
--- ---- the FNV-1a hash of 64 bits (draft-eastlake-fnv): from the offset basis on, each byte is put in by exclusive or, and then the hash is multiplied by the prime
+-- ---- the FNV-1a hash of 64 bits (draft-eastlake-fnv): from the offset basis on, each byte is put in by exclusive or,
+-- and then the hash is multiplied by the prime
 
 abbrev pub hash_byte : (hash byte : ℕ) → ℕ
 hash_byte hash byte = (bit_xor hash byte * 1099511628211) % 2 ^ 64

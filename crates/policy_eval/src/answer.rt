@@ -45,7 +45,7 @@ impl Answer {
     }
 
     /// The answer that is made of policies by the answers that they gave.
-    pub fn joined(join: Join, seen: Seen) -> Answer
+    pub fn joined(join: Join, seen: AnswersSeen) -> Answer
         ensures { result ≡ answer_of (joined_seen join seen) }
     {
         match join {
@@ -83,7 +83,7 @@ impl Answer {
 
 /// Which answers the policies gave.
 #[derive(Clone, Copy)]
-pub struct Seen {
+pub struct AnswersSeen {
     pub sample: bool,
     pub not_sample: bool,
     pub inverted_sample: bool,
@@ -91,12 +91,12 @@ pub struct Seen {
     pub dropped: bool,
 }
 
-impl Seen {
+impl AnswersSeen {
     /// No answer.
-    pub fn none() -> Seen
+    pub fn none() -> AnswersSeen
         ensures { result ≡ none_seen }
     {
-        Seen {
+        AnswersSeen {
             sample: false,
             not_sample: false,
             inverted_sample: false,
@@ -106,7 +106,7 @@ impl Seen {
     }
 
     /// These answers, and one more.
-    pub fn with(self, answer: Answer) -> Seen
+    pub fn with(self, answer: Answer) -> AnswersSeen
         ensures { result ≡ seen_with answer self }
     {
         let mut seen = self;

@@ -8,7 +8,7 @@ ghost use Rattle.policy_eval.specs.Meaning.{answer_of};
 ghost use Rattle.policy_eval.specs.Given.{answer_given, nodes_asked, verdict_given, asked_given};
 ghost use Rattle.policy_eval.specs.Judged.{judged};
 
-use crate::answer::{Answer, Seen};
+use crate::answer::{Answer, AnswersSeen};
 use crate::leaf::leaf_answer;
 use expression::Searches;
 use otlp_types::Arrival;
@@ -63,7 +63,7 @@ fn verdict_and_askings(
     ensures same { searches.new ≡ searches.old }
 {
     let mut asked = 0;
-    let mut seen = Seen::none();
+    let mut seen = AnswersSeen::none();
     for policy in policies.as_slice() {
         let (given, next) = answer_given(policy, spans, answers, asked, searches);
         seen = seen.with(given);
@@ -94,7 +94,7 @@ fn answer_given(
         }
         PolicyKind::Joined { join, policies } => {
             let mut next = asked;
-            let mut seen = Seen::none();
+            let mut seen = AnswersSeen::none();
             for part in policies.as_slice() {
                 let (given, behind) = answer_given(part, spans, answers, next, searches);
                 next = behind;

@@ -2,7 +2,7 @@
 ghost use Rattle.std.specs.Prelude.{◌≡◌};
 ghost use Rattle.policy_eval.specs.Meaning.{none_first, first_with, decider_of_seen};
 
-use crate::answer::{Answer, Seen};
+use crate::answer::{Answer, AnswersSeen};
 
 /// Where the policies gave each answer first on which a verdict may rest, by their places, from 0 on.
 #[derive(Clone, Copy)]
@@ -46,7 +46,7 @@ impl Firsts {
     }
 
     /// The place of the policy that decides, where these answers were given.
-    pub fn decider(self, seen: Seen) -> Option<usize>
+    pub fn decider(self, seen: AnswersSeen) -> Option<usize>
         ensures { result ≡ decider_of_seen seen self }
     {
         if seen.dropped {

@@ -9,7 +9,7 @@ ghost use Rattle.policy_eval.specs.Given.{Evaluates, EvaluatesWithDecider};
 ghost use Rattle.policy_eval.specs.Amounts.{amount_of};
 ghost use Rattle.policy_eval.specs.Walks.{Answers};
 
-use crate::answer::{Answer, Seen};
+use crate::answer::{Answer, AnswersSeen};
 use crate::decider::Firsts;
 use crate::leaf::leaf_answer;
 use expression::Searches;
@@ -59,7 +59,7 @@ pub fn evaluate_with_decider<L: Limiter>(
 {
     let second = now / 1000;
     let mut next = 0;
-    let mut seen = Seen::none();
+    let mut seen = AnswersSeen::none();
     let mut firsts = Firsts::none();
     let all = policies.as_slice();
     for place in 0..all.len() {
@@ -98,7 +98,7 @@ fn answer<L: Limiter>(
         )),
         PolicyKind::Joined { join, policies } => {
             let mut next = node + 1;
-            let mut seen = Seen::none();
+            let mut seen = AnswersSeen::none();
             for part in policies.as_slice() {
                 let given = answer(part, next, spans, second, limiter, searches);
                 seen = seen.with(given);

@@ -27,36 +27,36 @@ policy_fault_number NoMemory = 7
 -- ---- names
 
 -- a policy's name, and whether a list inside it has two policies of the same name
-pub record Named : Type 0 where
+pub record NamedPolicy : Type 0 where
   pub name : List ℕ
   pub doubled : Bool
 
 -- some policy has this name
-abbrev pub has_name : (name : List ℕ) → List Named → Bool
-has_name name policies = list_any (λ (p : Named). bytes_eq p.name name) policies
+abbrev pub has_name : (name : List ℕ) → List NamedPolicy → Bool
+has_name name policies = list_any (λ (p : NamedPolicy). bytes_eq p.name name) policies
 
 -- two of the policies have the same name
-abbrev pub has_same_names : List Named → Bool
+abbrev pub has_same_names : List NamedPolicy → Bool
 has_same_names [] = false
 has_same_names (p ∷ rest) = has_name p.name rest || has_same_names rest
 
 -- two policies of the list, or of a list inside it, have the same name
-abbrev pub is_doubled : List Named → Bool
-is_doubled policies = has_same_names policies || list_any (λ (p : Named). p.doubled) policies
+abbrev pub is_doubled : List NamedPolicy → Bool
+is_doubled policies = has_same_names policies || list_any (λ (p : NamedPolicy). p.doubled) policies
 
 -- a kind's list, if it has one, with what is known of each policy in it
-abbrev pub doubled_step : PolicyKind-F Bool Named → Bool
+abbrev pub doubled_step : PolicyKind-F Bool NamedPolicy → Bool
 doubled_step (PolicyKind-F.Leaf l) = false
 doubled_step (PolicyKind-F.Limiting limit) = false
 doubled_step (PolicyKind-F.Joined join policies) = is_doubled policies
 
 -- a policy, with what is known of its kind
-abbrev pub named_step : Policy-F Bool Named → Named
+abbrev pub named_step : Policy-F Bool NamedPolicy → NamedPolicy
 named_step p = record { name = p.name; doubled = p.kind }
 
 -- a policy's name, and whether a list inside it has two policies of the same name
-abbrev pub named : Policy → Named
-named = fold-Policy Bool Named doubled_step named_step
+abbrev pub named : Policy → NamedPolicy
+named = fold-Policy Bool NamedPolicy doubled_step named_step
 
 -- two policies of one list, at any level, have the same name
 abbrev pub has_doubled_names : List Policy → Bool

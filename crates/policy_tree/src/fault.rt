@@ -2,6 +2,9 @@
 ghost use Rattle.std.specs.Prelude.{◌≡◌};
 ghost use Rattle.policy_tree.specs.Faults.{policy_fault_number};
 
+use std::error::Error;
+use std::fmt;
+
 /// Why a list of policies is refused. Its number, from 1 to 7, orders the faults: the least that holds is answered.
 #[derive(Clone, Copy, Debug, PartialEq, Eq)]
 pub enum PolicyFault {
@@ -21,6 +24,27 @@ pub enum PolicyFault {
     /// 7: memory was refused.
     NoMemory,
 }
+
+impl fmt::Display for PolicyFault {
+    ghost use Rattle.std.specs.Prelude.{Some};
+    ghost use Rattle.policy_tree.specs.FaultTexts.{fault_text};
+
+    ghost output = { λ fault. Some (fault_text fault) };
+
+    fn fmt<W: fmt::Write>(&self, f: &mut fmt::Formatter<W>) -> fmt::Result {
+        match self {
+            PolicyFault::EmptyList => f.write_str("a list of policies is empty"),
+            PolicyFault::TooDeep => f.write_str("policies are nested deeper than 8"),
+            PolicyFault::TooMany => f.write_str("there are more than 64 policies"),
+            PolicyFault::SameName => f.write_str("two policies of one list have the same name"),
+            PolicyFault::CrossedBounds => f.write_str("two bounds leave nothing between them"),
+            PolicyFault::NoValues => f.write_str("a policy has no values"),
+            PolicyFault::NoMemory => f.write_str("no memory"),
+        }
+    }
+}
+
+impl Error for PolicyFault {}
 
 impl PolicyFault {
     /// The number of the fault, from 1 to 7.

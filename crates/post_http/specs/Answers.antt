@@ -5,9 +5,9 @@ use Rattle.http1.specs.declared.conn.Limits.{Limits}
 use Rattle.http1.specs.declared.framing.MethodKind.{MethodKind}
 use Rattle.http1.specs.Client.{new_client, is_interim}
 use Rattle.http1.specs.ClientTrace.{Seen, SeenResponse, Trace}
-use Rattle.post_http.specs.declared.answer.Answer.{Answer}
-use Rattle.post_http.specs.declared.answer.Found.{Found}
-use Rattle.post_http.specs.declared.answer.Found.TheVariants.{Whole, More, Broken}
+use Rattle.post_http.specs.declared.answer.BackendResponse.{BackendResponse}
+use Rattle.post_http.specs.declared.answer.FoundResponse.{FoundResponse}
+use Rattle.post_http.specs.declared.answer.FoundResponse.TheVariants.{Whole, More, Broken}
 use Rattle.post_http.specs.declared.reading.Headed.{Headed}
 use Rattle.post_http.specs.declared.reading.Heads.{Heads}
 use Rattle.post_http.specs.declared.reading.Heads.TheVariants.{Final, More as NoHead, Broken as BadHead}
@@ -22,7 +22,7 @@ abbrev pub LeadsTo : Client → Client → Type 0
 LeadsTo a b = (stream : List ℕ) (seen : Seen) (rest : List ℕ) → Trace b stream seen rest → Trace a stream seen rest
 
 -- a client that reads these bytes sees responses of which the last is this one, which is final (RFC 9110, section 15)
-pub record EndsWith (bytes : List ℕ) (last : SeenResponse) : Type 0 where
+pub record HasLastResponse (bytes : List ℕ) (last : SeenResponse) : Type 0 where
   pub seen : Seen
   pub rest : List ℕ
   pub trace : Trace (new_client limits) bytes seen rest
@@ -31,17 +31,17 @@ pub record EndsWith (bytes : List ℕ) (last : SeenResponse) : Type 0 where
   pub is_final : IsFalse (is_interim last.status)
 
 -- what an answer tells of a response
-pub record Tells (last : SeenResponse) (a : Answer) : Type 0 where
+pub record Tells (last : SeenResponse) (a : BackendResponse) : Type 0 where
   pub status : a.status ≡ last.status
   pub retry_after : a.retry_after ≡ wait_in last.headers
   pub body : a.body.items ≡ last.body.bytes
 
 -- the bytes hold this answer
-abbrev pub IsAnswerIn : (bytes : List ℕ) → Answer → Type 0
-IsAnswerIn bytes a = (last : SeenResponse) × EndsWith bytes last × Tells last a
+abbrev pub IsAnswerIn : (bytes : List ℕ) → BackendResponse → Type 0
+IsAnswerIn bytes a = (last : SeenResponse) × HasLastResponse bytes last × Tells last a
 
 -- what was found in the bytes
-abbrev pub IsFoundIn : (bytes : List ℕ) → Found → Type 0
+abbrev pub IsFoundIn : (bytes : List ℕ) → FoundResponse → Type 0
 IsFoundIn bytes (Whole a) = IsAnswerIn bytes a
 IsFoundIn bytes More = Unit {0}
 IsFoundIn bytes Broken = Unit {0}
@@ -67,7 +67,7 @@ SeesBody start bytes so_far client left = (later : Seen) (rest : List ℕ) → T
 abbrev pub Behind : (client : Client) → (bytes : List ℕ) → (status : ℕ) → (wait : Option ℕ) → (left : List ℕ) → Type 0
 Behind client bytes status wait left =
     (later : Seen) (rest : List ℕ) → later.responses ≡ [] → Trace client left later rest
-    → (last : SeenResponse) × EndsWith bytes last × (last.status ≡ status) × (wait ≡ wait_in last.headers) × (last.body ≡ later.body)
+    → (last : SeenResponse) × HasLastResponse bytes last × (last.status ≡ status) × (wait ≡ wait_in last.headers) × (last.body ≡ later.body)
 
 -- the head of a final answer ends at this byte
 abbrev pub IsHeaded : (bytes : List ℕ) → Headed → Type 0
@@ -80,7 +80,7 @@ HeadsIn bytes NoHead = Unit {0}
 HeadsIn bytes BadHead = Unit {0}
 
 -- what was found behind a head
-abbrev pub BodyIn : Headed → (bytes : List ℕ) → Found → Type 0
+abbrev pub BodyIn : Headed → (bytes : List ℕ) → FoundResponse → Type 0
 BodyIn h bytes (Whole a) =
     (later : Seen) × (rest : List ℕ) × Trace h.client (drop h.at bytes) later rest × (later.responses ≡ [])
     × (a.body.items ≡ later.body.bytes) × (a.status ≡ h.status) × (a.retry_after ≡ h.retry_after)
@@ -96,5 +96,5 @@ methods responses = map (λ (s : SeenResponse). s.method) responses
 -- the same bytes, read to as many responses, hold the same answer
 abbrev pub AnswersAgree : Type 0
 AnswersAgree =
-    (bytes : List ℕ) (x y : SeenResponse) (a : EndsWith bytes x) (b : EndsWith bytes y)
+    (bytes : List ℕ) (x y : SeenResponse) (a : HasLastResponse bytes x) (b : HasLastResponse bytes y)
     → methods a.seen.responses ≡ methods b.seen.responses → x ≡ y

@@ -1,7 +1,7 @@
 -- What a post does with a stream.
 use Rattle.std.specs.Prelude.{◌≡◌, ℕ, ◌<◌, Bool, true, false, List, [], ◌++◌, length, Option, Some, None}
 use Rattle.std.specs.Io.KnownBytes.{Appends, Consumes}
-use Rattle.post_http.specs.declared.answer.Answer.{Answer}
+use Rattle.post_http.specs.declared.answer.BackendResponse.{BackendResponse}
 use Rattle.post_http.specs.declared.answer.Posted.{Posted}
 use Rattle.post_http.specs.declared.answer.Posted.TheVariants.{Answered, Unsent, Unanswered}
 use Rattle.post_http.specs.declared.posting.Piece.{Piece}
@@ -21,7 +21,7 @@ Takes left left_after came came_after Interrupted = Consumes left left_after [] 
 Takes left left_after came came_after Failed = (more : List ℕ) × Consumes left left_after more
 
 -- an answer is what the bytes hold that were read
-abbrev pub Answers : (left left_after : Option (List ℕ)) → Option Answer → Type 0
+abbrev pub Answers : (left left_after : Option (List ℕ)) → Option BackendResponse → Type 0
 Answers left left_after (Some a) = (came : List ℕ) × Consumes left left_after came × IsAnswerIn came a
 Answers left left_after None = Unit {0}
 

@@ -2,7 +2,7 @@
 
 /// A final answer.
 #[derive(Drop)]
-pub struct Answer {
+pub struct BackendResponse {
     /// Its status (RFC 9110, section 15).
     pub status: u16,
     /// For how many seconds it asks to wait, where it says so in digits (RFC 9110, section 10.2.3).
@@ -15,9 +15,9 @@ pub struct Answer {
 
 /// What bytes hold that came behind a request.
 #[derive(Drop)]
-pub enum Found {
+pub enum FoundResponse {
     /// A final answer.
-    Whole(Answer),
+    Whole(BackendResponse),
     /// Less than one.
     More,
     /// No answer, whatever comes.
@@ -28,7 +28,7 @@ pub enum Found {
 #[derive(Drop)]
 pub enum Posted {
     /// It was written whole, and answered.
-    Answered(Answer),
+    Answered(BackendResponse),
     /// No byte of its body was written whole with it: it could not be made, or a write of it failed.
     Unsent,
     /// It was written whole, and no answer came that could be read.

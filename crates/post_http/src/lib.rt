@@ -13,7 +13,7 @@ mod reading;
 mod request;
 mod wait;
 
-pub use answer::{Answer, Found, Posted};
+pub use answer::{BackendResponse, FoundResponse, Posted};
 pub use endpoint::{Endpoint, endpoint_of};
 pub use law::answers_agree;
 pub use posting::{ANSWER_LIMIT, Patience, post};

@@ -2,7 +2,7 @@
 ghost use Rattle.std.specs.Prelude.{◌++◌};
 ghost use Rattle.post_http.specs.Exchanges.{Posts, Puts, Takes, Answers};
 
-use crate::answer::{Answer, Found, Posted};
+use crate::answer::{BackendResponse, FoundResponse, Posted};
 use crate::reading::found;
 use std::alloc::Global;
 use std::io::{ErrorKind, Read, Write};
@@ -78,7 +78,11 @@ fn write_both<W: Write>(writer: &mut W, first: &[u8], second: &[u8]) -> bool
 }
 
 /// Reads until an answer is whole.
-fn answer_on<R: Read, P: Patience>(alloc: Global, reader: &mut R, patience: &P) -> Option<Answer>
+fn answer_on<R: Read, P: Patience>(
+    alloc: Global,
+    reader: &mut R,
+    patience: &P,
+) -> Option<BackendResponse>
     ensures { Answers (R.remaining reader.old) (R.remaining reader.new) result }
 {
     let mut came = Vec::new(alloc);
@@ -91,8 +95,8 @@ fn answer_on<R: Read, P: Patience>(alloc: Global, reader: &mut R, patience: &P) 
             return None;
         }
         match found(alloc, &came, piece == Piece::End) {
-            Ok(Found::Whole(answer)) => return Some(answer),
-            Ok(Found::More) if piece == Piece::More && !patience.is_over() => {}
+            Ok(FoundResponse::Whole(answer)) => return Some(answer),
+            Ok(FoundResponse::More) if piece == Piece::More && !patience.is_over() => {}
             _ => return None,
         }
     }

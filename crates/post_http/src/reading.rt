@@ -3,7 +3,7 @@ ghost use Rattle.std.specs.Prelude.{◌≡◌, ◌≤◌, ◌-◌, IfOk, length,
 ghost use Rattle.http1.specs.Client.{new_client};
 ghost use Rattle.post_http.specs.Answers.{limits, LeadsTo, HeadsIn, IsFoundIn, BodyIn};
 
-use crate::answer::{Answer, Found};
+use crate::answer::{BackendResponse, FoundResponse};
 use crate::request::asked;
 use crate::wait::wait_in;
 use http1::{Client, Event, Progress, WriteError};
@@ -40,18 +40,18 @@ pub enum Heads {
 }
 
 /// What these bytes hold, that came behind a request, where the peer has closed its side or not.
-pub fn found(alloc: Global, bytes: &[u8], is_ended: bool) -> Result<Found, AllocError>
+pub fn found(alloc: Global, bytes: &[u8], is_ended: bool) -> Result<FoundResponse, AllocError>
     ensures { IfOk result (IsFoundIn bytes.now) }
 {
     let client = match asked(alloc) {
         Ok(client) => client,
         Err(WriteError::OutOfMemory) => return Err(AllocError),
-        Err(_) => return Ok(Found::Broken),
+        Err(_) => return Ok(FoundResponse::Broken),
     };
     match heads_in(client, bytes) {
         Heads::Final(headed) => body_in(alloc, headed, bytes, is_ended),
-        Heads::More => Ok(Found::More),
-        Heads::Broken => Ok(Found::Broken),
+        Heads::More => Ok(FoundResponse::More),
+        Heads::Broken => Ok(FoundResponse::Broken),
     }
 }
 
@@ -95,7 +95,12 @@ fn heads_in(client: Client, bytes: &[u8]) -> Heads
 }
 
 /// Reads the body behind a head.
-fn body_in(alloc: Global, headed: Headed, bytes: &[u8], is_ended: bool) -> Result<Found, AllocError>
+fn body_in(
+    alloc: Global,
+    headed: Headed,
+    bytes: &[u8],
+    is_ended: bool,
+) -> Result<FoundResponse, AllocError>
     requires { headed.at ≤ length bytes.now }
     ensures { IfOk result (BodyIn headed bytes.now) }
 {
@@ -112,7 +117,7 @@ fn body_in(alloc: Global, headed: Headed, bytes: &[u8], is_ended: bool) -> Resul
     for _ in 0..=BODY_LIMIT {
         let rest = behind(bytes, at);
         let Ok(Progress { consumed, event }) = client.read(rest, &mut spans) else {
-            return Ok(Found::Broken);
+            return Ok(FoundResponse::Broken);
         };
         match event {
             Event::Data(piece) => {
@@ -121,7 +126,7 @@ fn body_in(alloc: Global, headed: Headed, bytes: &[u8], is_ended: bool) -> Resul
             }
             Event::End(_) => {
                 let keeps = client.is_idle() && consumed == rest.len();
-                return Ok(Found::Whole(Answer {
+                return Ok(FoundResponse::Whole(BackendResponse {
                     status,
                     retry_after,
                     body,
@@ -130,17 +135,17 @@ fn body_in(alloc: Global, headed: Headed, bytes: &[u8], is_ended: bool) -> Resul
             }
             Event::NeedMore => {
                 if is_ended && matches!(client.read_eof(), Ok(Event::End(_))) {
-                    return Ok(Found::Whole(Answer {
+                    return Ok(FoundResponse::Whole(BackendResponse {
                         status,
                         retry_after,
                         body,
                         keeps: false,
                     }));
                 }
-                return Ok(Found::More);
+                return Ok(FoundResponse::More);
             }
-            _ => return Ok(Found::Broken),
+            _ => return Ok(FoundResponse::Broken),
         }
     }
-    Ok(Found::Broken)
+    Ok(FoundResponse::Broken)
 }

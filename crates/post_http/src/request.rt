@@ -15,8 +15,8 @@ const LIMITS: Limits = Limits {
     max_trailers_len: 16_384,
 };
 
-/// The bytes of the head of a request `POST` with a body of so many bytes: its first line, these fields, and the body's length.
-/// `Err`: no head can be made of these parts, or there is no memory.
+/// The bytes of the head of a request `POST` with a body of so many bytes: its first line, these fields, and the body's
+/// length. `Err`: no head can be made of these parts, or there is no memory.
 pub fn head_of(
     alloc: Global,
     path: &[u8],

@@ -3,9 +3,9 @@ ghost use Rattle.std.specs.Prelude.{None};
 
 use crate::rejected::rejected_in;
 use crate::watch::Watch;
-use batch_post::{Backend, Fate, Outcome};
+use batch_post::{AttemptOutcome, Backend, BatchFate};
 use http1::Header;
-use post_http::{Answer, Patience, Posted, head_of, post};
+use post_http::{BackendResponse, Patience, Posted, head_of, post};
 use std::alloc::Global;
 use std::io::ErrorKind;
 use std::net::{Net, TcpStream, ToSocketAddrs};
@@ -18,7 +18,7 @@ const SLICE: u64 = 50;
 
 /// Where a backend is, and how long is waited for it, in milliseconds.
 #[derive(Clone, Copy)]
-pub struct Settings<'t> {
+pub struct BackendSettings<'t> {
     /// Its host and port.
     pub authority: &'t str,
     /// The path of requests.
@@ -36,7 +36,7 @@ pub struct Settings<'t> {
 pub struct SocketBackend<'t, V, R> {
     rt: &'t R,
     alloc: Global,
-    settings: Settings<'t>,
+    settings: BackendSettings<'t>,
     watch: &'t V,
     began: Option<Instant>,
     closing_since: Option<u64>,
@@ -70,7 +70,7 @@ fn elapsed<R: Clock>(rt: &R, began: &Option<Instant>) -> u64 {
 
 impl<'t, V: Watch, R: Net<Stream = TcpStream> + Clock + RandomSource> SocketBackend<'t, V, R> {
     /// A backend to which nothing was sent. The address is looked up and connected to at the first attempt.
-    pub fn new(rt: &'t R, alloc: Global, settings: Settings<'t>, watch: &'t V) -> Self {
+    pub fn new(rt: &'t R, alloc: Global, settings: BackendSettings<'t>, watch: &'t V) -> Self {
         SocketBackend {
             rt,
             alloc,
@@ -112,9 +112,9 @@ impl<'t, V: Watch, R: Net<Stream = TcpStream> + Clock + RandomSource> SocketBack
     }
 
     /// Tries to send a batch, and tells how many of its spans the backend rejected.
-    fn send(&mut self, batch: &[u8]) -> Outcome {
+    fn send(&mut self, batch: &[u8]) -> AttemptOutcome {
         let Some(answer) = self.exchange(batch) else {
-            return Outcome::NoAnswer;
+            return AttemptOutcome::NoAnswer;
         };
         if answer.status == 200 {
             let rejected = rejected_in(self.alloc, &answer.body);
@@ -123,11 +123,11 @@ impl<'t, V: Watch, R: Net<Stream = TcpStream> + Clock + RandomSource> SocketBack
         let asked = answer
             .retry_after
             .map(|seconds| seconds.saturating_mul(1000));
-        Outcome::Answered(answer.status, asked)
+        AttemptOutcome::Answered(answer.status, asked)
     }
 
     /// Posts a batch on a connection, and keeps that where it can be used again.
-    fn exchange(&mut self, batch: &[u8]) -> Option<Answer> {
+    fn exchange(&mut self, batch: &[u8]) -> Option<BackendResponse> {
         let path = self.settings.path.as_bytes();
         let head = head_of(self.alloc, path, self.settings.fields, batch.len()).ok()?;
         let limit = self.limit();
@@ -193,17 +193,17 @@ impl<'t, V: Watch, R: Net<Stream = TcpStream> + Clock + RandomSource> Backend
     for SocketBackend<'t, V, R> {
     ghost log = { λ b. None };
 
-    fn attempt(&mut self, batch: &[u8]) -> Outcome {
+    fn attempt(&mut self, batch: &[u8]) -> AttemptOutcome {
         self.look();
         if self.left() == Some(0) {
-            return Outcome::NoAnswer;
+            return AttemptOutcome::NoAnswer;
         }
         let outcome = self.send(batch);
         self.watch.attempted(outcome);
         outcome
     }
 
-    fn settle(&mut self, batch: &[u8], fate: Fate) {
+    fn settle(&mut self, batch: &[u8], fate: BatchFate) {
         self.watch.settled(batch.len() as u64, fate);
     }
 

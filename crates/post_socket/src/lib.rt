@@ -9,6 +9,6 @@ mod backend;
 mod rejected;
 mod watch;
 
-pub use backend::{Settings, SocketBackend};
+pub use backend::{BackendSettings, SocketBackend};
 pub use rejected::rejected_in;
 pub use watch::Watch;

@@ -1,5 +1,5 @@
 //! Who watches a backend.
-use batch_post::{Fate, Outcome};
+use batch_post::{AttemptOutcome, BatchFate};
 
 /// The collector, as its backend sees it.
 pub trait Watch {
@@ -7,10 +7,10 @@ pub trait Watch {
     fn is_closing(&self) -> bool;
 
     /// An attempt to send a batch ended so.
-    fn attempted(&self, outcome: Outcome);
+    fn attempted(&self, outcome: AttemptOutcome);
 
     /// A batch of so many bytes was delivered or given up.
-    fn settled(&self, bytes: u64, fate: Fate);
+    fn settled(&self, bytes: u64, fate: BatchFate);
 
     /// The backend took a batch but for so many of its spans (OTLP 1.x, "Partial Success").
     fn rejected(&self, spans: u64);

@@ -36,7 +36,8 @@ counts_of_askings = refl
 
 -- ---- a bucket of 10 bytes that gets 3 back with each second
 
--- full at first; what is left; a second later 3 more; a refused asking takes nothing; more than the bucket holds is never granted; after a long time it is full, not more
+-- full at first; what is left; a second later 3 more; a refused asking takes nothing; more than the bucket holds is
+-- never granted; after a long time it is full, not more
 pub askings_of_a_bucket : asks (Bytes 3 10) ((5, 8) ∷ (5, 3) ∷ (6, 6) ∷ (6, 5) ∷ (7, 3) ∷ (4, 1) ∷ (90, 11) ∷ (90, 10) ∷ (90, 1) ∷ []) [] ≡ true ∷ false ∷ false ∷ true ∷ true ∷ false ∷ false ∷ true ∷ false ∷ []
 askings_of_a_bucket = refl
 

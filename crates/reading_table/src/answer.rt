@@ -1,6 +1,6 @@
 //! What a body is read as, by `otlp_json` and by `otlp_reading` alone.
 use otlp_json::encode;
-use otlp_reading::Bad;
+use otlp_reading::DecodeError;
 use otlp_stream::plain_request;
 use otlp_types::Request;
 use std::alloc::{AllocError, Global};
@@ -17,12 +17,12 @@ pub enum Answer {
 }
 
 /// What was read. `Err` where memory was refused.
-fn answer_of(alloc: Global, read: Result<Request, Bad>) -> Result<Answer, AllocError> {
+fn answer_of(alloc: Global, read: Result<Request, DecodeError>) -> Result<Answer, AllocError> {
     match read {
         Ok(request) => Ok(Answer::Request(encode(alloc, &request)?)),
-        Err(Bad::Json) => Ok(Answer::NotJson),
-        Err(Bad::Shape) => Ok(Answer::WrongShape),
-        Err(Bad::NoMemory) => Err(AllocError),
+        Err(DecodeError::Json) => Ok(Answer::NotJson),
+        Err(DecodeError::Shape) => Ok(Answer::WrongShape),
+        Err(DecodeError::NoMemory) => Err(AllocError),
     }
 }
 

@@ -1,13 +1,13 @@
 //! A table of bodies with what each is read as: the canonical text of its request, or a refusal. Each row of
-//! `readings.tsv`, of `doubles.tsv` where doubles are kept, is a body, a tab, and the expected answer. The answers come from another implementation of the
-//! formats (OTLP 1.x, JSON encoding). The gate runs it and compares what it prints.
+//! `readings.tsv`, of `doubles.tsv` where doubles are kept, is a body, a tab, and the expected answer. The answers come
+//! from another implementation of the formats (OTLP 1.x, JSON encoding). The gate runs it and compares what it prints.
 //!
 //! A body for which memory is refused is read again, and the rows after it too, and then the program ends with status
 //! 1. So a run for each allocation that is refused in turn (`tests/refused_memory`) shows that no answer changes.
 //!
 //! `reading_table all` then reads the bodies of standard input both ways, in one pass and with care alone, and
-//! `reading_table shares` does only this and prints more of it. Both contracts say what a body reads as, so this tries what they
-//! stand on: the kit's statements and the compilers. The bodies come from `tests/readings/generate.py`.
+//! `reading_table shares` does only this and prints more of it. Both contracts say what a body reads as, so this tries
+//! what they stand on: the kit's statements and the compilers. The bodies come from `tests/readings/generate.py`.
 #![tactic(auto)]
 
 mod answer;
@@ -15,7 +15,7 @@ mod comparing;
 
 use crate::comparing::compare;
 use otlp_flatten::{flatten, group};
-use otlp_json::{Bad, decode, encode};
+use otlp_json::{DecodeError, decode, encode};
 use otlp_types::Request;
 use std::alloc::{AllocError, Global};
 use std::process::ExitCode;
@@ -32,9 +32,9 @@ fn holds(alloc: Global, keeps_doubles: bool, row: &[u8]) -> Result<bool, AllocEr
             let text = encode(alloc, &request)?;
             Ok(text.as_slice() == expected && keeps_records(alloc, request)?)
         }
-        Err(Bad::Json) => Ok(expected == b"not JSON".as_slice()),
-        Err(Bad::Shape) => Ok(expected == b"wrong shape".as_slice()),
-        Err(Bad::NoMemory) => Err(AllocError),
+        Err(DecodeError::Json) => Ok(expected == b"not JSON".as_slice()),
+        Err(DecodeError::Shape) => Ok(expected == b"wrong shape".as_slice()),
+        Err(DecodeError::NoMemory) => Err(AllocError),
     }
 }
 

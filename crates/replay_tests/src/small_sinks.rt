@@ -2,12 +2,13 @@
 ghost use Rattle.std.specs.Prelude.{◌≡◌, IfOk, Some};
 ghost use Rattle.tsc_config.specs.Values.{InRange};
 
+use config_faults::ConfigFault;
 use drop_ledger::Report;
-use script_session::{RunFault, replay_run};
+use script_session::{ReplayFault, replay_run};
 use span_sink::{Sink, SinkFault};
 use std::alloc::{AllocError, Global};
 use std::test::Fail;
-use tsc_config::{Config, ConfigFault, read};
+use tsc_config::{Config, read};
 use tsc_script::Reads;
 
 /// Traces with an error are kept, ten seconds after their first span.
@@ -92,10 +93,10 @@ fn configured(alloc: Global) -> Result<Config, Fail>
 }
 
 /// Whether a run told that a write failed, and the numbers of its report.
-fn told(answer: &Result<Report, RunFault>) -> (bool, Option<[u64; 9]>) {
+fn told(answer: &Result<Report, ReplayFault>) -> (bool, Option<[u64; 9]>) {
     match answer {
         Ok(report) => (false, Some(report.numbers())),
-        Err(RunFault::SinkDown(report)) => (true, Some(report.numbers())),
+        Err(ReplayFault::SinkDown(report)) => (true, Some(report.numbers())),
         Err(_) => (false, None),
     }
 }

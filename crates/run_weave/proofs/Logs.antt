@@ -33,14 +33,14 @@ use Rattle.lane_seq.specs.Replies.{IsRefusal, OnReceived, IsReplyTo}
 use Rattle.http_lane.specs.Connection.{Submission, SubmitsAll, submissions, events_of}
 use Rattle.http_lane.specs.declared.answer.ServeEnd.{ServeEnd}
 use Rattle.http_lane.specs.Intake.{Intake, Submits, StopsAtFull, Counts, additions_of, intake, first_conn, connected}
-use Rattle.lane_worker.specs.Serving.{Connection, LaneAt, ServedOne, ServesAll, is_book_full}
+use Rattle.lane_worker.specs.Serving.{Connection, LaneAt, ServedOne, ServesAll, is_overflow}
 use Rattle.journal_theory.proofs.ListFacts.{Each, Each-append, Each-weaker, tally-append}
 use Rattle.world_theory.specs.Step.{has_ids, is_of_conn, arrivals}
 use Rattle.world_theory.proofs.Received.{on_conn, count_is}
 use Rattle.span_weave.specs.Threads.{AreNumbered}
 use Rattle.span_weave.proofs.Numbering.{numbers_go_on}
 use Rattle.span_weave.proofs.Tries.{pushes_are_tries, tries_then}
-use Rattle.run_weave.specs.Lanes.{Log, log, Came, Logs, ReceivesOne, ReceivesAll}
+use Rattle.run_weave.specs.Lanes.{LaneLog, log, Came, Logs, ReceivesOne, ReceivesAll}
 use Rattle.run_weave.specs.Workers.{zeros}
 use Rattle.run_weave.specs.Received.{Tallied, lane_gains, Keeps}
 use Rattle.run_weave.proofs.Counted.{any_uncounted, full_as_uncounted}
@@ -171,7 +171,7 @@ or_assoc false b c = refl
 
 module _ (capacity number : ℕ) (first : List (EndState Item)) where
   -- a lane on a connection
-  pub record OnConn (is_full : Bool) (x : Log) : Type 0 where
+  pub record OnConn (is_full : Bool) (x : LaneLog) : Type 0 where
     pub keeps : Keeps capacity number first is_full x.received x.at.lane.ports x.at.counted
     pub lane_is : x.at.lane.number ≡ number
     pub key_is : x.at.conn.key.lane ≡ number
@@ -180,7 +180,7 @@ module _ (capacity number : ℕ) (first : List (EndState Item)) where
     pub below : Each (λ (a : Arrival). a.key.conn.ordinal < x.at.lane.connected) x.received
 
   -- the spans of a request came
-  receives : (is_full : Bool) (old : Log) (moment : ℕ) (records : List Record) (reply : Reply) (is_counted : Bool) (new : Intake (EndState Item)) → OnConn is_full old
+  receives : (is_full : Bool) (old : LaneLog) (moment : ℕ) (records : List Record) (reply : Reply) (is_counted : Bool) (new : Intake (EndState Item)) → OnConn is_full old
       → new.lane ≡ record old.at.lane { ports = new.lane.ports }
       → Receives (TakesItem capacity) (IsRefused capacity) (arrivals_from old.at.conn.key old.at.conn.next moment records) old.at.lane.ports reply new.lane.ports
       → new.conn ≡ record old.at.conn { next = old.at.conn.next + length (arrivals_from old.at.conn.key old.at.conn.next moment records) }
@@ -232,14 +232,14 @@ module _ (capacity number : ℕ) (first : List (EndState Item)) where
       longer = omega (arith, o.next_is, count_is key old.received, count_is key (old.received ++ came), tally-append (is_of_conn key) old.received came, all_own key came (on_their_conn key old.at.conn.next moment records))
 
   -- nothing came of a refused request
-  refuses : (is_full : Bool) (old : Log) (new : Intake (EndState Item)) → OnConn is_full old → new.lane ≡ old.at.lane → new.conn ≡ old.at.conn → new.counted ≡ old.at.counted → OnConn is_full (log new (old.received ++ []))
+  refuses : (is_full : Bool) (old : LaneLog) (new : Intake (EndState Item)) → OnConn is_full old → new.lane ≡ old.at.lane → new.conn ≡ old.at.conn → new.counted ≡ old.at.counted → OnConn is_full (log new (old.received ++ []))
   refuses is_full old new o lane conn counted = subst (OnConn is_full) (sym (ap (λ (at : Intake (EndState Item)). log at (old.received ++ [])) same ∙ ap (λ (z : List Arrival). log old.at z) (append-nil old.received))) o
     where
       same : new ≡ old.at
       same = ap (λ (l : LaneState (EndState Item)). intake l new.conn new.counted) lane ∙ (ap (λ (c : Conn). intake old.at.lane c new.counted) conn ∙ ap (λ (n : List ℕ). intake old.at.lane old.at.conn n) counted)
 
   -- a refused request adds nothing to the counts, so it is counted
-  refused_counted : (is_full : Bool) (old : Log) (s : Submission) (new : Intake (EndState Item)) → additions_of s.reply ≡ [] → OnConn is_full old → new.lane ≡ old.at.lane → new.conn ≡ old.at.conn → Counts s.reply s.is_counted old.at.counted new.counted
+  refused_counted : (is_full : Bool) (old : LaneLog) (s : Submission) (new : Intake (EndState Item)) → additions_of s.reply ≡ [] → OnConn is_full old → new.lane ≡ old.at.lane → new.conn ≡ old.at.conn → Counts s.reply s.is_counted old.at.counted new.counted
       → OnConn (is_full || not s.is_counted) (log new (old.received ++ []))
   refused_counted is_full old s new none o lane conn counts = go s.is_counted counts
     where
@@ -247,7 +247,7 @@ module _ (capacity number : ℕ) (first : List (EndState Item)) where
       go true c = subst (λ b. OnConn b (log new (old.received ++ []))) (sym (or_false is_full)) (refuses is_full old new o lane conn (subst (λ (z : List Addition). new.counted ≡ after_adding z old.at.counted) none c))
       go false c = absurd (subst (λ (z : List Addition). StopsAtFull z old.at.counted new.counted) none c)
 
-  takes : (is_full : Bool) (old : Log) (s : Submission) (new : Intake (EndState Item)) → OnConn is_full old → Submits (TakesItem capacity) (IsRefused capacity) old.at s new
+  takes : (is_full : Bool) (old : LaneLog) (s : Submission) (new : Intake (EndState Item)) → OnConn is_full old → Submits (TakesItem capacity) (IsRefused capacity) old.at s new
       → (came : List Arrival) × Came old.at s s.reply came × OnConn (is_full || not s.is_counted) (log new (old.received ++ came))
   takes is_full old s new o h = go s.reply refl h.received h.refused
     where
@@ -262,7 +262,7 @@ module _ (capacity number : ℕ) (first : List (EndState Item)) where
       go Busy is r same = let kept = same tt in ([], refl, refused_counted is_full old s new (ap additions_of is) o kept.0 kept.1 h.counts)
 
   -- the requests of a connection
-  pub takes_all : (is_full : Bool) (old : Log) (ss : List Submission) (new : Intake (EndState Item)) → OnConn is_full old → SubmitsAll (Submits (TakesItem capacity) (IsRefused capacity)) old.at ss new
+  pub takes_all : (is_full : Bool) (old : LaneLog) (ss : List Submission) (new : Intake (EndState Item)) → OnConn is_full old → SubmitsAll (Submits (TakesItem capacity) (IsRefused capacity)) old.at ss new
       → (received : List Arrival) × SubmitsAll (Logs capacity) old ss (log new received) × OnConn (is_full || any_uncounted ss) (log new received)
   takes_all is_full old [] new o h = (old.received, ap (λ (at : Intake (EndState Item)). log at old.received) h, subst (λ (b : Bool). OnConn b (log new old.received)) (sym (or_false is_full)) (subst (λ (at : Intake (EndState Item)). OnConn is_full (log at old.received)) (sym h) o))
   takes_all is_full old (s ∷ ss) new o h =
@@ -279,7 +279,7 @@ module _ (capacity number : ℕ) (first : List (EndState Item)) where
     pub below : Each (λ (a : Arrival). a.key.conn.ordinal < at.lane.connected) received
 
   serves_one : (c : Connection) (at : LaneAt) (received : List Arrival) (new : LaneAt) (end : ServeEnd) → Between false at received → ServedOne capacity c at new end
-      → (after : List Arrival) × ReceivesOne capacity c at received new after end × Between (is_book_full end) new after
+      → (after : List Arrival) × ReceivesOne capacity c at received new after end × Between (is_overflow end) new after
   serves_one c at received new end b h =
       let served = h.3 in
       let does = served.3 in
@@ -301,16 +301,16 @@ module _ (capacity number : ℕ) (first : List (EndState Item)) where
     pub serves_all : (given : List X) (old : F) (at : LaneAt) (received : List Arrival) (new : F) (last : LaneAt) (is_full : Bool) → Between false at received → ServesAll gives known capacity given old at new last is_full
         → (after : List Arrival) × ReceivesAll gives known capacity given old at received new last after is_full × Between is_full last after
     serves_all [] old at received new last is_full b h = (received, (h.0, h.1, refl, h.2), subst (λ (full : Bool). Between full last received) (sym h.2) (subst (λ (z : LaneAt). Between false z received) (sym h.1) b))
-    serves_all (x ∷ rest) old at received new last is_full b h = go (is_book_full h.2) refl h.5 (λ mid between k. serves_all rest h.0 h.1 mid new last is_full between k)
+    serves_all (x ∷ rest) old at received new last is_full b h = go (is_overflow h.2) refl h.5 (λ mid between k. serves_all rest h.0 h.1 mid new last is_full between k)
       where
-        go : (full : Bool) → is_book_full h.2 ≡ full → MatchBool full ((rest ≡ []) × (new ≡ h.0) × (last ≡ h.1) × (is_full ≡ true)) (ServesAll gives known capacity rest h.0 h.1 new last is_full)
+        go : (full : Bool) → is_overflow h.2 ≡ full → MatchBool full ((rest ≡ []) × (new ≡ h.0) × (last ≡ h.1) × (is_full ≡ true)) (ServesAll gives known capacity rest h.0 h.1 new last is_full)
             → ((mid : List Arrival) → Between false h.1 mid → ServesAll gives known capacity rest h.0 h.1 new last is_full → (after : List Arrival) × ReceivesAll gives known capacity rest h.0 h.1 mid new last after is_full × Between is_full last after)
             → (after : List Arrival) × ReceivesAll gives known capacity (x ∷ rest) old at received new last after is_full × Between is_full last after
         go true is more others_of =
             let one = serves_one (known x) at received h.1 h.2 b h.4 in (
               one.0,
               (h.0, h.1, one.0, h.2, h.3, one.1, subst (λ full. MatchBool full ((rest ≡ []) × (new ≡ h.0) × (last ≡ h.1) × (one.0 ≡ one.0) × (is_full ≡ true)) (ReceivesAll gives known capacity rest h.0 h.1 one.0 new last one.0 is_full)) (sym is) (more.0, more.1, more.2, refl, more.3)),
-              subst (λ (full : Bool). Between full last one.0) (is ∙ sym more.3) (subst (λ (z : LaneAt). Between (is_book_full h.2) z one.0) (sym more.2) one.2),
+              subst (λ (full : Bool). Between full last one.0) (is ∙ sym more.3) (subst (λ (z : LaneAt). Between (is_overflow h.2) z one.0) (sym more.2) one.2),
             )
         go false is more others_of =
             let one = serves_one (known x) at received h.1 h.2 b h.4 in

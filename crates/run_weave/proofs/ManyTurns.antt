@@ -22,7 +22,7 @@ use Rattle.lane_worker.specs.Serving.{LaneAt, lane_at}
 use Rattle.journal_theory.proofs.ListFacts.{Each, Each-weaker, tally-append}
 use Rattle.world_theory.specs.Step.{is_of_conn}
 use Rattle.world_theory.proofs.Received.{on_conn, count_is}
-use Rattle.run_weave.specs.Lanes.{Log, log, Came, Logs}
+use Rattle.run_weave.specs.Lanes.{LaneLog, log, Came, Logs}
 use Rattle.run_weave.specs.Received.{Keeps, ActsLog, IsReceived, serves_by_turns, receives_by_turns}
 use Rattle.run_weave.specs.Workers.{zeros}
 use Rattle.run_weave.proofs.Counted.{any_uncounted}
@@ -118,9 +118,9 @@ to_come_had g k j before after t acts (inr h) = (h.0, inr h.1)
 -- ---- turn by turn
 
 module _ (g : Allowed) (capacity number : ℕ) (first : List (EndState Item)) where
-  others_same : (k j : ℕ) → (k == j) ≡ false → (ss : List Submission) (old new : Log) → old.at.conn.key ≡ key_of number k → SubmitsAll (Logs capacity) old ss new
+  others_same : (k j : ℕ) → (k == j) ≡ false → (ss : List Submission) (old new : LaneLog) → old.at.conn.key ≡ key_of number k → SubmitsAll (Logs capacity) old ss new
       → on_conn (key_of number j) new.received ≡ on_conn (key_of number j) old.received
-  others_same k j ne [] old new e p = ap (λ (l : Log). on_conn (key_of number j) l.received) p
+  others_same k j ne [] old new e p = ap (λ (l : LaneLog). on_conn (key_of number j) l.received) p
   others_same k j ne (s ∷ ss) old new e p =
       let one = p.1 in
       let same_key : p.0.at.conn.key ≡ old.at.conn.key = by_reply s.reply one.0.received (λ r. ap (λ (c : Conn). c.key) (one.0.refused r).1) (λ f. ap (λ (c : Conn). c.key) f.5) in

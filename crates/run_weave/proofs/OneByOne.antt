@@ -24,10 +24,10 @@ no_gains = each_count (λ count. lane_gains [] 0 count ≡ 0) refl refl refl ref
 pub keeps_first : (capacity number : ℕ) (ports : List (EndState Item)) → Keeps capacity number ports false [] ports zeros
 keeps_first capacity number ports = record { refused = 0; numbered = none_numbered number; tries = no_tries capacity (λ (e : EndState Item). e.items) ports; counts = gains_none (lane_gains [] 0) zeros no_gains }
 
-module _ {V F X : Type 0} (feed_of : V → F) (gives : F → Option X → F → Type 0) (known : X → Connection) where
-  pub one_by_one : IsReceived (serves_one_by_one feed_of gives known) (receives_one_by_one feed_of gives known)
+module _ {V F X : Type 0} (acceptor_of : V → F) (gives : F → Option X → F → Type 0) (known : X → Connection) where
+  pub one_by_one : IsReceived (serves_one_by_one acceptor_of gives known) (receives_one_by_one acceptor_of gives known)
   one_by_one keeps_doubles capacity number ports old new last is_full h =
-      let all = serves_all capacity number ports gives known h.0 (feed_of old) (lane_at (record { number = number; connected = 0; ports = ports; keeps_doubles = keeps_doubles }) zeros) [] (feed_of new) last is_full begin h.1 in
+      let all = serves_all capacity number ports gives known h.0 (acceptor_of old) (lane_at (record { number = number; connected = 0; ports = ports; keeps_doubles = keeps_doubles }) zeros) [] (acceptor_of new) last is_full begin h.1 in
       (all.0, (h.0, all.1), all.2.keeps)
     where
       begin : Between capacity number ports false (lane_at (record { number = number; connected = 0; ports = ports; keeps_doubles = keeps_doubles }) zeros) []

@@ -87,14 +87,14 @@ same_shards s number (g ∷ ins) [] did = absurd did
 same_shards s number (g ∷ ins) (o ∷ outs) did = ap suc (same_shards s (number + 1) ins outs did.1)
 
 module _ {F : Type 0} (serves : ℕ → F → LaneAt → F → LaneAt → Bool → Type 0) (keeps_doubles : Bool) (capacity : ℕ) where
-  pub same_columns : (number : ℕ) (feeds : List F) (columns : List (List (EndState Item))) (outs : List LaneOut) → LanesDid serves keeps_doubles capacity number feeds columns outs → length columns ≡ length feeds
+  pub same_columns : (number : ℕ) (acceptors : List F) (columns : List (List (EndState Item))) (outs : List LaneOut) → LanesDid serves keeps_doubles capacity number acceptors columns outs → length columns ≡ length acceptors
   same_columns number [] [] outs did = refl
   same_columns number [] (column ∷ columns) [] did = absurd did
   same_columns number [] (column ∷ columns) (out ∷ outs) did = absurd did
-  same_columns number (f ∷ feeds) [] [] did = absurd did
-  same_columns number (f ∷ feeds) [] (out ∷ outs) did = absurd did
-  same_columns number (f ∷ feeds) (column ∷ columns) [] did = absurd did
-  same_columns number (f ∷ feeds) (column ∷ columns) (out ∷ outs) did = ap suc (same_columns (number + 1) feeds columns outs did.1)
+  same_columns number (f ∷ acceptors) [] [] did = absurd did
+  same_columns number (f ∷ acceptors) [] (out ∷ outs) did = absurd did
+  same_columns number (f ∷ acceptors) (column ∷ columns) [] did = absurd did
+  same_columns number (f ∷ acceptors) (column ∷ columns) (out ∷ outs) did = ap suc (same_columns (number + 1) acceptors columns outs did.1)
 
 -- where no element passes the test, each fails it; where some does, it stands at a place
 pub none_at : {X : Type 0} (test : X → Bool) (xs : List X) → list_any test xs ≡ false → (k : ℕ) (x : X) → slice_get xs k ≡ Some x → test x ≡ false

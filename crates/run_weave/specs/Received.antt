@@ -22,13 +22,13 @@ use Rattle.run_weave.specs.Workers.{zeros}
 
 -- ---- one connection after the other
 
-module _ {V F X : Type 0} (feed_of : V → F) (gives : F → Option X → F → Type 0) (known : X → Connection) where
+module _ {V F X : Type 0} (acceptor_of : V → F) (gives : F → Option X → F → Type 0) (known : X → Connection) where
   abbrev pub serves_one_by_one : (capacity : ℕ) → (old : V) → (before : LaneAt) → (new : V) → (after : LaneAt) → (is_full : Bool) → Type 0
-  serves_one_by_one capacity old before new after is_full = HasServed gives known capacity (feed_of old) before (feed_of new) after is_full
+  serves_one_by_one capacity old before new after is_full = HasServed gives known capacity (acceptor_of old) before (acceptor_of new) after is_full
 
-  -- there are connections that the feed gave, one after the other, of which this was received
+  -- there are connections that the acceptor gave, one after the other, of which this was received
   abbrev pub receives_one_by_one : (capacity : ℕ) → (old : V) → (at : LaneAt) → (before : List Arrival) → (new : V) → (last : LaneAt) → (after : List Arrival) → (is_full : Bool) → Type 0
-  receives_one_by_one capacity old at before new last after is_full = (given : List X) × ReceivesAll gives known capacity given (feed_of old) at before (feed_of new) last after is_full
+  receives_one_by_one capacity old at before new last after is_full = (given : List X) × ReceivesAll gives known capacity given (acceptor_of old) at before (acceptor_of new) last after is_full
 
 -- ---- many connections at once
 

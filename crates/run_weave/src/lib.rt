@@ -13,14 +13,14 @@ ghost use Rattle.run_weave.specs.Ran.{WorkersRan};
 ghost use Rattle.run_weave.specs.Received.{serves_one_by_one, receives_one_by_one, serves_by_turns, receives_by_turns};
 
 use lane_turns::Driver;
-use lane_worker::{ByTurns, Feed, OneByOne, Ticks};
+use lane_worker::{Acceptor, ByTurns, OneByOne, Ticks};
 
 /// What the workers of a run promise, with one history of each of their queues and limiter nodes, is all that the weave
 /// wants of running threads; and the report is the sum of what they counted. Each lane serves the connections of its
-/// feed one after the other.
-pub fn workers_ran<F: Feed, T: Ticks>()
-    ensures { WorkersRan (serves_one_by_one (λ (s : OneByOne F). s.feed) F.gives (λ x. connection (F.Reader.given x.0) (F.Writer.contents x.1)))
-        (receives_one_by_one (λ (s : OneByOne F). s.feed) F.gives (λ x. connection (F.Reader.given x.0) (F.Writer.contents x.1))) T.gives }
+/// acceptor one after the other.
+pub fn workers_ran<F: Acceptor, T: Ticks>()
+    ensures { WorkersRan (serves_one_by_one (λ (s : OneByOne F). s.acceptor) F.gives (λ x. connection (F.Reader.given x.0) (F.Writer.contents x.1)))
+        (receives_one_by_one (λ (s : OneByOne F). s.acceptor) F.gives (λ x. connection (F.Reader.given x.0) (F.Writer.contents x.1))) T.gives }
 {}
 
 /// The same where each lane serves many connections at once, turn by turn.

@@ -22,12 +22,12 @@ use Rattle.lane_seq.proofs.ListPushes.{list_pushes_are_determined}
 use Rattle.journal_theory.specs.Journal.{Settings, Journal, Entry}
 use Rattle.journal_theory.specs.Fate.{output}
 use Rattle.span_sink.specs.LineSinks.{LineSinkState}
-use Rattle.span_exporter.specs.Exports.{Sends, Spoils}
+use Rattle.span_exporter.specs.Exports.{Sends, DropsBatch}
 use Rattle.span_exporter.specs.declared.answer.Flushed.{Flushed}
-use Rattle.span_exporter.specs.declared.answer.Flushed.TheVariants.{Handed, Spoiled, Empty}
-use Rattle.script_run.specs.Requests.{Reading, reads, refuses, IsTakenFor}
-use Rattle.script_run.specs.Sending.{Sent, spans_of, AreBatches, SendsAll}
-use Rattle.script_run.specs.World.{was_sent, Turn, with_entry, Takes, TakesEach, TakesRounds, entry_of}
+use Rattle.span_exporter.specs.declared.answer.Flushed.TheVariants.{Handed, BatchDropped, Empty}
+use Rattle.script_run.specs.Requests.{BodyReading, reads, refuses, IsTakenFor}
+use Rattle.script_run.specs.Sending.{SentBatch, spans_of, AreBatches, SendsAll}
+use Rattle.script_run.specs.World.{was_sent, ShardTurn, with_entry, Takes, TakesEach, TakesRounds, entry_of}
 use Rattle.rate_budget.specs.Grant.{Asking}
 use Rattle.script_run.specs.Calm.{is_for_memory, is_refusal, IsUnmarked}
 use Rattle.script_run.proofs.Writing.{sends_writes}
@@ -54,7 +54,7 @@ no_marks true f h = absurd (cc h)
 no_marks false f h = (refl, h)
 
 -- a shard to which no memory is refused takes its items in one way, and the limiter is asked the same
-takes_same : (s : Settings) (items : List Item) (before a b : Turn) → Takes s before items a → Takes s before items b → IsUnmarked a.journal → IsUnmarked b.journal → a ≡ b
+takes_same : (s : Settings) (items : List Item) (before a b : ShardTurn) → Takes s before items a → Takes s before items b → IsUnmarked a.journal → IsUnmarked b.journal → a ≡ b
 takes_same s [] before a b h g u v = h ∙ sym g
 takes_same s (item ∷ more) before a b h g u v =
     let m = no_marks h.0 h.1 (unmarked_entry s item more before a h u) in
@@ -74,8 +74,8 @@ each_same s (j ∷ js) asked (own ∷ others) [] b p q x y h g u v = absurd h
 each_same s (j ∷ js) asked (own ∷ others) (k ∷ ks) [] p q x y h g u v = absurd g
 each_same s (j ∷ js) asked (own ∷ others) (k ∷ ks) (l ∷ ls) p q x y h g u v =
     let first = takes_same s own (record { journal = j; askings = asked }) (record { journal = k; askings = h.2 }) (record { journal = l; askings = g.2 }) h.3.0 g.3.0 u.0 v.0 in
-    let here : k ≡ l = ap (λ (z : Turn). z.journal) first in
-    let lent : h.2 ≡ g.2 = ap (λ (z : Turn). z.askings) first in
+    let here : k ≡ l = ap (λ (z : ShardTurn). z.journal) first in
+    let lent : h.2 ≡ g.2 = ap (λ (z : ShardTurn). z.askings) first in
     let rest = each_same s js h.2 others ks ls p q h.1 g.1 h.4 (subst (λ (z : List Asking). TakesEach s js z others ls q g.1) (sym lent) g.4) u.1 v.1 in
     let out = parts_same (output s j) (output s j) h.0 g.0 refl (sym h.3.1 ∙ (ap (output s) here ∙ g.3.1)) in (
       ap (λ (z : Journal). z ∷ ks) here ∙ ap (λ (z : List Journal). l ∷ z) rest.0,
@@ -96,24 +96,24 @@ rounds_same s before asked (items ∷ more) a b p q x y h g u v =
 -- ---- batches
 
 -- the batch was handed over whole
-abbrev pub IsHanded : Sent → Type 0
+abbrev pub IsHanded : SentBatch → Type 0
 IsHanded sent = sent.flushed ≡ Handed (length sent.batch)
 
 -- a batch holds something
-size_positive : (size : ℕ) (one : Sent) (more : List Sent) → AreBatches size (one ∷ more) → 0 < size
+size_positive : (size : ℕ) (one : SentBatch) (more : List SentBatch) → AreBatches size (one ∷ more) → 0 < size
 size_positive size one [] h = omega (arith, h.0, h.1)
 size_positive size one (next ∷ more) h = size_positive size next more h.1
 
 -- the first batch has a span
-some_spans : (size : ℕ) (one : Sent) (more : List Sent) → AreBatches size (one ∷ more) → 0 < length one.batch
+some_spans : (size : ℕ) (one : SentBatch) (more : List SentBatch) → AreBatches size (one ∷ more) → 0 < length one.batch
 some_spans size one [] h = h.0
 some_spans size one (next ∷ more) h = omega (arith, h.0, size_positive size one (next ∷ more) h)
 
 -- a batch that was neither given up for want of memory nor failed was handed over
-handed_one : (old mid : LineSinkState) (sent : Sent) → 0 < length sent.batch → Sends old sent.batch sent.flushed mid → mid.is_down ≡ false → is_for_memory sent.flushed ≡ false → IsHanded sent
+handed_one : (old mid : LineSinkState) (sent : SentBatch) → 0 < length sent.batch → Sends old sent.batch sent.flushed mid → mid.is_down ≡ false → is_for_memory sent.flushed ≡ false → IsHanded sent
 handed_one old mid sent some h up calm = go sent.flushed h calm
   where
-    gone : (reason : Reason) (n : ℕ) → Spoils reason old sent.batch mid → is_for_memory (Spoiled n reason) ≡ false → Spoiled n reason ≡ Handed (length sent.batch)
+    gone : (reason : Reason) (n : ℕ) → DropsBatch reason old sent.batch mid → is_for_memory (BatchDropped n reason) ≡ false → BatchDropped n reason ≡ Handed (length sent.batch)
     gone NoMemory n g c = absurd (cc c)
     gone ExporterDown n (inl g) c = absurd (cc (g.2.goes_down, up))
     gone ExporterDown n (inr g) c = let down : mid.is_down ≡ true = ap (λ (z : LineSinkState). z.is_down) g.1 ∙ g.0 in absurd (cc (down, up))
@@ -126,15 +126,15 @@ handed_one old mid sent some h up calm = go sent.flushed h calm
     go : (flushed : Flushed) → Sends old sent.batch flushed mid → is_for_memory flushed ≡ false → flushed ≡ Handed (length sent.batch)
     go Empty g c = absurd (omega (arith, some, ap length g.0))
     go (Handed n) g c = ap (λ (n : ℕ). Handed n) g.1
-    go (Spoiled n reason) g c = gone reason n g.2 c
+    go (BatchDropped n reason) g c = gone reason n g.2 c
 
 -- the batches after the first
-more_batches : (size : ℕ) (one : Sent) (more : List Sent) → AreBatches size (one ∷ more) → AreBatches size more
+more_batches : (size : ℕ) (one : SentBatch) (more : List SentBatch) → AreBatches size (one ∷ more) → AreBatches size more
 more_batches size one [] h = tt
 more_batches size one (next ∷ more) h = h.1
 
 -- a calm run hands all its batches over
-pub all_handed : (size : ℕ) (old new : LineSinkState) (batches : List Sent) → AreBatches size batches → SendsAll old batches new → new.is_down ≡ false
+pub all_handed : (size : ℕ) (old new : LineSinkState) (batches : List SentBatch) → AreBatches size batches → SendsAll old batches new → new.is_down ≡ false
     → AllByRecursion (λ event. is_refusal event ≡ false) (map was_sent batches) → AllByRecursion IsHanded batches
 all_handed size old new [] are h up calm = tt
 all_handed size old new (one ∷ more) are h up calm = (
@@ -143,27 +143,27 @@ all_handed size old new (one ∷ more) are h up calm = (
 )
 
 -- batches of the same spans that were handed over are the same
-handed_same : (x y : Sent) → x.batch ≡ y.batch → IsHanded x → IsHanded y → x ≡ y
+handed_same : (x y : SentBatch) → x.batch ≡ y.batch → IsHanded x → IsHanded y → x ≡ y
 handed_same x y e h g =
     let flushed : x.flushed ≡ y.flushed = h ∙ (ap (λ (z : List Arrival). Handed (length z)) e ∙ sym g) in
     λ i. record { batch = e i; flushed = flushed i }
 
 -- spans are cut into batches in one way
-pub batches_same : (size : ℕ) (xs ys : List Sent) → AreBatches size xs → AreBatches size ys → spans_of xs ≡ spans_of ys → AllByRecursion IsHanded xs → AllByRecursion IsHanded ys → xs ≡ ys
+pub batches_same : (size : ℕ) (xs ys : List SentBatch) → AreBatches size xs → AreBatches size ys → spans_of xs ≡ spans_of ys → AllByRecursion IsHanded xs → AllByRecursion IsHanded ys → xs ≡ ys
 batches_same size [] [] h g e u v = refl
 batches_same size [] (y ∷ ys) h g e u v = absurd (omega (arith, ap length e, length-append y.batch (spans_of ys), some_spans size y ys g))
 batches_same size (x ∷ xs) [] h g e u v = absurd (omega (arith, ap length e, length-append x.batch (spans_of xs), some_spans size x xs h))
 batches_same size (x ∷ []) (y ∷ []) h g e u v =
     let same : x.batch ≡ y.batch = sym (append-nil x.batch) ∙ (e ∙ append-nil y.batch) in
-    ap (λ (z : Sent). z ∷ []) (handed_same x y same u.0 v.0)
+    ap (λ (z : SentBatch). z ∷ []) (handed_same x y same u.0 v.0)
 batches_same size (x ∷ []) (y ∷ next ∷ ys) h g e u v =
     absurd (omega (arith, h.1, g.0, some_spans size next ys g.1, ap length e, length-append x.batch [], length-append y.batch (next.batch ++ spans_of ys), length-append next.batch (spans_of ys)))
 batches_same size (x ∷ next ∷ xs) (y ∷ []) h g e u v =
     absurd (omega (arith, g.1, h.0, some_spans size next xs h.1, ap length e, length-append y.batch [], length-append x.batch (next.batch ++ spans_of xs), length-append next.batch (spans_of xs)))
 batches_same size (x ∷ next ∷ xs) (y ∷ other ∷ ys) h g e u v =
     let p = parts_same x.batch y.batch (spans_of (next ∷ xs)) (spans_of (other ∷ ys)) (h.0 ∙ sym g.0) e in
-    ap (λ (z : Sent). z ∷ next ∷ xs) (handed_same x y p.0 u.0 v.0)
-    ∙ ap (λ (z : List Sent). y ∷ z) (batches_same size (next ∷ xs) (other ∷ ys) h.1 g.1 p.1 u.1 v.1)
+    ap (λ (z : SentBatch). z ∷ next ∷ xs) (handed_same x y p.0 u.0 v.0)
+    ∙ ap (λ (z : List SentBatch). y ∷ z) (batches_same size (next ∷ xs) (other ∷ ys) h.1 g.1 p.1 u.1 v.1)
 
 -- ---- replies
 
@@ -210,7 +210,7 @@ value_same : (body : List ℕ) (d e : Data) → IsJson body d → IsJson body e 
 value_same body d e h g = let both : Some d ≡ Some e = sym h.1 ∙ g.1 in cc
 
 -- a body is taken for one thing, but for a refusal as busy
-pub reading_same : (keeps : Bool) (body : List ℕ) (p q : Reading) → IsTakenFor keeps body p → IsTakenFor keeps body q → (p ≡ refuses Busy → ⊥) → (q ≡ refuses Busy → ⊥) → p ≡ q
+pub reading_same : (keeps : Bool) (body : List ℕ) (p q : BodyReading) → IsTakenFor keeps body p → IsTakenFor keeps body q → (p ≡ refuses Busy → ⊥) → (q ≡ refuses Busy → ⊥) → p ≡ q
 reading_same keeps body (reads a) (reads b) h g m n =
     let both : Some a ≡ Some b = sym h.2 ∙ (ap (request_of keeps) (value_same body h.0 g.0 h.1 g.1) ∙ g.2) in
     let same : a ≡ b = cc in ap (λ (z : Request). reads z) same

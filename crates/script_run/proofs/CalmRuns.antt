@@ -13,14 +13,14 @@ use Rattle.lane_seq.specs.declared.reply.Reply.TheVariants.{Busy}
 use Rattle.journal_theory.specs.Journal.{Settings}
 use Rattle.span_sink.specs.LineSinks.{LineSinkState, up_state, TakesWhole, FailsInside}
 use Rattle.span_exporter.specs.Batches.{records_in, LineIsUnique}
-use Rattle.span_exporter.specs.Exports.{Sends, Spoils, WritesLine}
+use Rattle.span_exporter.specs.Exports.{Sends, DropsBatch, WritesLine}
 use Rattle.span_exporter.specs.declared.answer.Flushed.{Flushed}
-use Rattle.span_exporter.specs.declared.answer.Flushed.TheVariants.{Handed, Spoiled, Empty}
+use Rattle.span_exporter.specs.declared.answer.Flushed.TheVariants.{Handed, BatchDropped, Empty}
 use Rattle.tsc_script.specs.Instructions.{Instruction, receive, tick, close}
 use Rattle.script_run.specs.Connections.{connection_of}
-use Rattle.script_run.specs.Requests.{Reading, reads, refuses, arrivals_of, reply_line}
+use Rattle.script_run.specs.Requests.{BodyReading, reads, refuses, arrivals_of, reply_line}
 use Rattle.script_run.specs.Counts.{number_reported}
-use Rattle.script_run.specs.World.{World, Sizes, Event, replied, was_sent, RunsToQuiet, RepliesAndRuns, Answers, Receives, Plays, PlaysAll, new_world, after_reply, after_receiving, empty_queues}
+use Rattle.script_run.specs.World.{ScriptWorld, Sizes, OutputEvent, replied, was_sent, RunsToQuiet, RepliesAndRuns, Answers, Receives, Plays, PlaysAll, new_world, after_reply, after_receiving, empty_queues}
 use Rattle.script_run.specs.Writing.{Writes, WritesAll}
 use Rattle.script_run.specs.Calm.{is_refusal, Calm}
 use Rattle.script_run.specs.Laws.{CalmScriptsAgree, CalmRunsAgree}
@@ -31,41 +31,41 @@ use Rattle.script_run.proofs.Agreeing.{rounds_same, all_handed, batches_same, pu
 -- ---- worlds that are the same but for the sink
 
 -- the second world is the first but for its sink
-abbrev pub IsSame : (a b : World) → Type 0
+abbrev pub IsSame : (a b : ScriptWorld) → Type 0
 IsSame a b = b ≡ record a { sink = b.sink }
 
 module _ (s : Settings) (sizes : Sizes) where
   -- runs from such worlds lead to such worlds
-  runs_same : (old a b : World) (sink : LineSinkState) (rounds : List (List (List Item))) → RunsToQuiet s sizes old rounds a → RunsToQuiet s sizes (record old { sink = sink }) rounds b → Calm a → Calm b → IsSame a b
+  runs_same : (old a b : ScriptWorld) (sink : LineSinkState) (rounds : List (List (List Item))) → RunsToQuiet s sizes old rounds a → RunsToQuiet s sizes (record old { sink = sink }) rounds b → Calm a → Calm b → IsSame a b
   runs_same old a b sink rounds h g c d =
       let took = rounds_same s old.journals old.askings rounds a.journals b.journals a.askings b.askings h.released g.released h.takes g.takes c.journals d.journals in
-      let own : AllByRecursion (λ event. is_refusal event ≡ false) (old.events ++ map was_sent h.batches) = subst (AllByRecursion (λ event. is_refusal event ≡ false)) (ap (λ (z : World). z.events) h.becomes) c.events in
-      let other : AllByRecursion (λ event. is_refusal event ≡ false) (old.events ++ map was_sent g.batches) = subst (AllByRecursion (λ event. is_refusal event ≡ false)) (ap (λ (z : World). z.events) g.becomes) d.events in
+      let own : AllByRecursion (λ event. is_refusal event ≡ false) (old.events ++ map was_sent h.batches) = subst (AllByRecursion (λ event. is_refusal event ≡ false)) (ap (λ (z : ScriptWorld). z.events) h.becomes) c.events in
+      let other : AllByRecursion (λ event. is_refusal event ≡ false) (old.events ++ map was_sent g.batches) = subst (AllByRecursion (λ event. is_refusal event ≡ false)) (ap (λ (z : ScriptWorld). z.events) g.becomes) d.events in
       let batches : h.batches ≡ g.batches = batches_same sizes.batch h.batches g.batches h.sends.are_batches g.sends.are_batches (h.sends.are_all ∙ (took.1 ∙ sym g.sends.are_all))
       (all_handed sizes.batch old.sink a.sink h.batches h.sends.are_batches h.sends.sends c.up (all_right (λ event. is_refusal event ≡ false) old.events (map was_sent h.batches) own))
       (all_handed sizes.batch sink b.sink g.batches g.sends.are_batches g.sends.sends d.up (all_right (λ event. is_refusal event ≡ false) old.events (map was_sent g.batches) other)) in
-      let first : record old { journals = a.journals; askings = a.askings; events = old.events ++ map was_sent h.batches; sink = b.sink } ≡ record a { sink = b.sink } = ap (λ (z : World). let w : World = record z { sink = b.sink } in w) (sym h.becomes) in
+      let first : record old { journals = a.journals; askings = a.askings; events = old.events ++ map was_sent h.batches; sink = b.sink } ≡ record a { sink = b.sink } = ap (λ (z : ScriptWorld). let w : ScriptWorld = record z { sink = b.sink } in w) (sym h.becomes) in
       g.becomes ∙ ((λ i. record old { journals = sym took.0 i; askings = sym took.2 i; events = old.events ++ map was_sent (sym batches i); sink = b.sink }) ∙ first)
 
   -- so do a reply and a run
-  replies_same : (old a b : World) (sink : LineSinkState) (reply : Reply) (rounds : List (List (List Item))) → RepliesAndRuns s sizes old reply rounds a → RepliesAndRuns s sizes (record old { sink = sink }) reply rounds b → Calm a → Calm b → IsSame a b
+  replies_same : (old a b : ScriptWorld) (sink : LineSinkState) (reply : Reply) (rounds : List (List (List Item))) → RepliesAndRuns s sizes old reply rounds a → RepliesAndRuns s sizes (record old { sink = sink }) reply rounds b → Calm a → Calm b → IsSame a b
   replies_same old a b sink reply rounds h g c d = runs_same (after_reply reply h.0 old) a b g.0 rounds h.2 g.2 c d
 
   -- a calm run has no busy reply
-  not_busy : (old a : World) (rounds : List (List (List Item))) → RepliesAndRuns s sizes old Busy rounds a → Calm a → ⊥
+  not_busy : (old a : ScriptWorld) (rounds : List (List (List Item))) → RepliesAndRuns s sizes old Busy rounds a → Calm a → ⊥
   not_busy old a rounds h c = let calm : is_refusal (replied Busy) ≡ false = calm_reply s sizes old a Busy rounds h c in cc calm
 
   -- a calm run took no body for a refusal as busy
-  busy_answer : (old a : World) (number moment : ℕ) (reading : Reading) → Answers s sizes old number moment reading a → Calm a → reading ≡ refuses Busy → ⊥
-  busy_answer old a number moment reading h c e = not_busy _ a [] (subst (λ (z : Reading). Answers s sizes old number moment z a) e h) c
+  busy_answer : (old a : ScriptWorld) (number moment : ℕ) (reading : BodyReading) → Answers s sizes old number moment reading a → Calm a → reading ≡ refuses Busy → ⊥
+  busy_answer old a number moment reading h c e = not_busy _ a [] (subst (λ (z : BodyReading). Answers s sizes old number moment z a) e h) c
 
   -- so do the answers to one reading
-  answers_same : (old a b : World) (sink : LineSinkState) (number moment : ℕ) (reading : Reading) → Answers s sizes old number moment reading a → Answers s sizes (record old { sink = sink }) number moment reading b → Calm a → Calm b → IsSame a b
+  answers_same : (old a b : ScriptWorld) (sink : LineSinkState) (number moment : ℕ) (reading : BodyReading) → Answers s sizes old number moment reading a → Answers s sizes (record old { sink = sink }) number moment reading b → Calm a → Calm b → IsSame a b
   answers_same old a b sink number moment (refuses reply) h g c d = replies_same _ a b sink reply [] h g c d
   answers_same old a b sink number moment (reads request) h g c d =
       let spans = arrivals_of (connection_of number old.contacts) moment request in
       let same = pushes_same spans (empty_queues sizes.queue (length old.journals)) h.0 g.0 h.1 g.1 h.2 g.2 in
-      let after : ℕ → World = λ full. after_receiving number spans full old in
+      let after : ℕ → ScriptWorld = λ full. after_receiving number spans full old in
       let rounds : List (QueueState Item) → List (List (List Item)) = λ queues. map (λ (q : QueueState Item). q.items) queues ∷ [] in
       let one : RepliesAndRuns s sizes (after g.2.refused) h.0 (rounds h.1) a = subst (λ (n : ℕ). RepliesAndRuns s sizes (after n) h.0 (rounds h.1) a) same.numbers h.3 in
       let two : RepliesAndRuns s sizes (after g.2.refused) g.0 (rounds h.1) a = subst (λ (z : Reply). RepliesAndRuns s sizes (after g.2.refused) z (rounds h.1) a) same.replies one in
@@ -73,26 +73,26 @@ module _ (s : Settings) (sizes : Sizes) where
       replies_same (after g.2.refused) a b sink g.0 (rounds g.1) three g.3 c d
 
   -- so do requests
-  receives_same : (old a b : World) (sink : LineSinkState) (number moment : ℕ) (body : List ℕ) → Receives s sizes old number moment body a → Receives s sizes (record old { sink = sink }) number moment body b → Calm a → Calm b → IsSame a b
+  receives_same : (old a b : ScriptWorld) (sink : LineSinkState) (number moment : ℕ) (body : List ℕ) → Receives s sizes old number moment body a → Receives s sizes (record old { sink = sink }) number moment body b → Calm a → Calm b → IsSame a b
   receives_same old a b sink number moment body (inl h) g c d = absurd (not_busy old a [] h.1 c)
   receives_same old a b sink number moment body (inr h) (inl g) c d = absurd (not_busy (record old { sink = sink }) b [] g.1 d)
   receives_same old a b sink number moment body (inr h) (inr g) c d =
       let same : h.0 ≡ g.0 = reading_same sizes.keeps_doubles body h.0 g.0 h.1 g.1 (busy_answer old a number moment h.0 h.2 c) (busy_answer (record old { sink = sink }) b number moment g.0 g.2 d) in
-      answers_same old a b sink number moment g.0 (subst (λ (z : Reading). Answers s sizes old number moment z a) same h.2) g.2 c d
+      answers_same old a b sink number moment g.0 (subst (λ (z : BodyReading). Answers s sizes old number moment z a) same h.2) g.2 c d
 
   -- so does an instruction
-  plays_same : (old a b : World) (sink : LineSinkState) (instruction : Instruction) → Plays s sizes old instruction a → Plays s sizes (record old { sink = sink }) instruction b → Calm a → Calm b → IsSame a b
+  plays_same : (old a b : ScriptWorld) (sink : LineSinkState) (instruction : Instruction) → Plays s sizes old instruction a → Plays s sizes (record old { sink = sink }) instruction b → Calm a → Calm b → IsSame a b
   plays_same old a b sink (receive number moment body) h g c d = receives_same old a b sink number moment body h.2 g.2 c d
   plays_same old a b sink (tick moment) h g c d = runs_same old a b sink _ h.2 g.2 c d
   plays_same old a b sink close h g c d = runs_same (record old { closed = true }) a b sink _ h.1 g.1 c d
 
   -- so do instructions
-  plays_all_same : (played : List Instruction) (old other a b : World) → IsSame old other → PlaysAll s sizes old played a → PlaysAll s sizes other played b → Calm a → Calm b → IsSame a b
+  plays_all_same : (played : List Instruction) (old other a b : ScriptWorld) → IsSame old other → PlaysAll s sizes old played a → PlaysAll s sizes other played b → Calm a → Calm b → IsSame a b
   plays_all_same [] old other a b e h g c d =
-      let at : b ≡ record old { sink = b.sink } = g ∙ (e ∙ ap (λ (z : World). let w : World = record old { sink = z.sink } in w) (sym g)) in
-      at ∙ ap (λ (z : World). let w : World = record z { sink = b.sink } in w) (sym h)
+      let at : b ≡ record old { sink = b.sink } = g ∙ (e ∙ ap (λ (z : ScriptWorld). let w : ScriptWorld = record old { sink = z.sink } in w) (sym g)) in
+      at ∙ ap (λ (z : ScriptWorld). let w : ScriptWorld = record z { sink = b.sink } in w) (sym h)
   plays_all_same (instruction ∷ more) old other a b e h g c d =
-      let one : Plays s sizes (record old { sink = other.sink }) instruction g.0 = subst (λ (z : World). Plays s sizes z instruction g.0) e g.1 in
+      let one : Plays s sizes (record old { sink = other.sink }) instruction g.0 = subst (λ (z : ScriptWorld). Plays s sizes z instruction g.0) e g.1 in
       let same = plays_same old h.0 g.0 other.sink instruction h.1 one (calm_before s sizes more h.0 a h.2 c) (calm_before s sizes more g.0 b g.2 d) in
       plays_all_same more h.0 g.0 a b same h.2 g.2 c d
 
@@ -138,29 +138,29 @@ module _ (unique : LineIsUnique) (bytes : List ℕ) (old : LineSinkState) (known
   whole_line new e line (inr (inr h)) = absurd (no_change new e h.0 h.1)
 
   -- a batch that was given up leaves the same
-  spoils_same : (reason : Reason) (batch : List Arrival) → Spoils reason old batch a → Spoils reason old batch b → IsKnown a b
-  spoils_same NoMemory batch h g = both_stay h.1 g.1
-  spoils_same ExporterDown batch (inl h) g = absurd (no_failure a up h.0 h.2)
-  spoils_same ExporterDown batch (inr h) g = absurd (no_change a up h.0 h.1)
-  spoils_same InvalidId batch h g = absurd h
-  spoils_same QueueFull batch h g = absurd h
-  spoils_same Evicted batch h g = absurd h
-  spoils_same NotSampled batch h g = absurd h
-  spoils_same LateNotSampled batch h g = absurd h
+  drops_batch_same : (reason : Reason) (batch : List Arrival) → DropsBatch reason old batch a → DropsBatch reason old batch b → IsKnown a b
+  drops_batch_same NoMemory batch h g = both_stay h.1 g.1
+  drops_batch_same ExporterDown batch (inl h) g = absurd (no_failure a up h.0 h.2)
+  drops_batch_same ExporterDown batch (inr h) g = absurd (no_change a up h.0 h.1)
+  drops_batch_same InvalidId batch h g = absurd h
+  drops_batch_same QueueFull batch h g = absurd h
+  drops_batch_same Evicted batch h g = absurd h
+  drops_batch_same NotSampled batch h g = absurd h
+  drops_batch_same LateNotSampled batch h g = absurd h
 
   -- a batch that was sent leaves the same
   sends_same : (batch : List Arrival) (flushed : Flushed) → Sends old batch flushed a → Sends old batch flushed b → IsKnown a b
   sends_same batch Empty h g = both_stay h.1 g.1
   sends_same batch (Handed n) h g = both_took g.2.0 (subst (λ (line : List ℕ). TakesWhole old line a) (unique (records_in batch) h.2.0 g.2.0 h.2.1 g.2.1) h.2.2) g.2.2
-  sends_same batch (Spoiled n reason) h g = spoils_same reason batch h.2 g.2
+  sends_same batch (BatchDropped n reason) h g = drops_batch_same reason batch h.2 g.2
 
   -- one event leaves the same of a sink that is up
-  writes_same : (event : Event) → Writes old event a → Writes old event b → IsKnown a b
+  writes_same : (event : OutputEvent) → Writes old event a → Writes old event b → IsKnown a b
   writes_same (replied reply) h g = both_took (reply_line reply) (whole_line a up (reply_line reply) h) (whole_line b other_up (reply_line reply) g)
   writes_same (was_sent sent) h g = sends_same sent.batch sent.flushed h g
 
 -- so do several
-all_writes_same : LineIsUnique → (events : List Event) (bytes : List ℕ) (old a b : LineSinkState) → old.taken ≡ Some bytes → a.is_down ≡ false → b.is_down ≡ false → WritesAll old events a → WritesAll old events b → a ≡ b
+all_writes_same : LineIsUnique → (events : List OutputEvent) (bytes : List ℕ) (old a b : LineSinkState) → old.taken ≡ Some bytes → a.is_down ≡ false → b.is_down ≡ false → WritesAll old events a → WritesAll old events b → a ≡ b
 all_writes_same unique [] bytes old a b known up other_up h g = h ∙ sym g
 all_writes_same unique (event ∷ more) bytes old a b known up other_up h g =
     let one = writes_same unique bytes old known h.0 g.0 (up_before_all more h.0 a up h.2) (up_before_all more g.0 b other_up g.2) event h.1 g.1 in
@@ -171,19 +171,19 @@ pub calm_runs_agree : LineIsUnique → CalmRunsAgree
 calm_runs_agree unique s sizes lanes shards first played a b h g c d =
     let new = new_world lanes shards first in
     let same : IsSame a b = plays_all_same s sizes played new new a b refl h g c d in
-    let events : b.events ≡ a.events = ap (λ (z : World). z.events) same in
+    let events : b.events ≡ a.events = ap (λ (z : ScriptWorld). z.events) same in
     let was_up : first.is_down ≡ false = (calm_before s sizes played new a h c).up in
     record {
-      contacts = ap (λ (z : World). z.contacts) (sym same);
-      received = ap (λ (z : World). z.received) (sym same);
-      full = ap (λ (z : World). z.full) (sym same);
-      journals = ap (λ (z : World). z.journals) (sym same);
-      askings = ap (λ (z : World). z.askings) (sym same);
+      contacts = ap (λ (z : ScriptWorld). z.contacts) (sym same);
+      received = ap (λ (z : ScriptWorld). z.received) (sym same);
+      full = ap (λ (z : ScriptWorld). z.full) (sym same);
+      journals = ap (λ (z : ScriptWorld). z.journals) (sym same);
+      askings = ap (λ (z : ScriptWorld). z.askings) (sym same);
       events = sym events;
-      closed = ap (λ (z : World). z.closed) (sym same);
-      counts = λ count. ap (λ (z : World). number_reported s z count) (sym same);
+      closed = ap (λ (z : ScriptWorld). z.closed) (sym same);
+      counts = λ count. ap (λ (z : ScriptWorld). number_reported s z count) (sym same);
       sink = λ bytes known. all_writes_same unique a.events bytes first a.sink b.sink known c.up d.up (has_written s sizes first played lanes shards a was_up h).0
-          (subst (λ (z : List Event). WritesAll first z b.sink) events (has_written s sizes first played lanes shards b was_up g).0);
+          (subst (λ (z : List OutputEvent). WritesAll first z b.sink) events (has_written s sizes first played lanes shards b was_up g).0);
     }
 
 -- a script's bytes say one list of instructions

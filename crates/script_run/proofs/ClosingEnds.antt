@@ -6,11 +6,11 @@ use Rattle.std.proofs.lemmas.Bool.{and_parts}
 use Rattle.otlp_types.specs.declared.arrival.Arrival.{Arrival}
 use Rattle.otlp_types.specs.declared.arrival.Item.TheVariants.{End}
 use Rattle.journal_theory.specs.Journal.{Settings, Entry, Journal, due_now, is_end_of, has_ended, have_ended}
-use Rattle.world_theory.specs.World.{Config, Lane, World as Core}
+use Rattle.world_theory.specs.World.{CoreConfig, CoreLane, World as Core}
 use Rattle.world_theory.specs.Step.{sender_is_done}
 use Rattle.world_theory.specs.Places.{buffered_spans}
 use Rattle.world_theory.proofs.Finishing.{nothing_buffered}
-use Rattle.script_run.specs.World.{World, Sizes, Turn, entry_of, with_entry, TakesEach, TakesRounds, to_each, ends_from}
+use Rattle.script_run.specs.World.{ScriptWorld, Sizes, ShardTurn, entry_of, with_entry, TakesEach, TakesRounds, to_each, ends_from}
 use Rattle.script_run.specs.Limiting.{with_answers}
 use Rattle.rate_budget.specs.Grant.{Asking}
 use Rattle.script_run.proofs.Answering.{answers_fit}
@@ -51,7 +51,7 @@ ended_more e past (suc n) h = let p = and_parts (has_ended past n) (have_ended p
     both a true false f g = absurd (cc g)
 
 -- the End of the next sender is taken
-next_ended : (s : Settings) (sender : ℕ) (refused lost : Bool) (past : Turn) → Ended s sender past.journal → Ended s (suc sender) (with_entry s past (entry_of (End sender) refused lost)).journal
+next_ended : (s : Settings) (sender : ℕ) (refused lost : Bool) (past : ShardTurn) → Ended s sender past.journal → Ended s (suc sender) (with_entry s past (entry_of (End sender) refused lost)).journal
 next_ended s sender refused lost past h = record {
   before = all;
   later = λ other l. ap (λ b. b || has_ended past.journal other) (ne_eqb sender other (λ q. omega (arith, l, q))) ∙ h.later other (omega (arith, l));
@@ -70,8 +70,8 @@ takes_ends : (s : Settings) (sender : ℕ) (pasts : List Journal) (asked : List 
     → AllByRecursion (Ended s sender) pasts → AllByRecursion (Ended s (sender + 1)) nexts
 takes_ends s sender [] asked [] [] asked_now released h o = tt
 takes_ends s sender (past ∷ pasts) asked (one ∷ each) (next ∷ nexts) asked_now released h o =
-    let before : Turn = record { journal = past; askings = asked } in (
-      subst (λ (z : Turn). Ended s (sender + 1) z.journal) (sym h.3.0.3)
+    let before : ShardTurn = record { journal = past; askings = asked } in (
+      subst (λ (z : ShardTurn). Ended s (sender + 1) z.journal) (sym h.3.0.3)
           (subst (λ n. Ended s n (with_entry s before (entry_of (End sender) h.3.0.0 h.3.0.1)).journal) (sym (add-one sender)) (next_ended s sender h.3.0.0 h.3.0.1 before o.0)),
       takes_ends s sender pasts h.2 each nexts asked_now h.1 h.4 o.1,
     )
@@ -83,12 +83,12 @@ takes_ends s sender (past ∷ pasts) asked (one ∷ each) [] asked_now released 
 -- ---- who may end
 
 -- there is a lane with this number, which has nothing to route; or the number is past the lanes
-data LaneAt (w : World) (number : ℕ) (found : Option Lane) (lanes : ℕ) : Type 0 where
-  is_lane : (l : Lane) → found ≡ Some l → l.unrouted ≡ [] → l.ended ≡ w.closed → LaneAt w number found lanes
+data LaneAt (w : ScriptWorld) (number : ℕ) (found : Option CoreLane) (lanes : ℕ) : Type 0 where
+  is_lane : (l : CoreLane) → found ≡ Some l → l.unrouted ≡ [] → l.ended ≡ w.closed → LaneAt w number found lanes
   is_past : found ≡ None → lanes ≤ number → LaneAt w number found lanes
 
 -- what stands at a number among the lanes
-lane_at : (w : World) (lane lanes number : ℕ) → LaneAt w number (slice_get (lanes_from w lane lanes) number) lanes
+lane_at : (w : ScriptWorld) (lane lanes number : ℕ) → LaneAt w number (slice_get (lanes_from w lane lanes) number) lanes
 lane_at w lane zero number = is_past refl (omega arith)
 lane_at w lane (suc lanes) zero = is_lane _ refl refl refl
 lane_at w lane (suc lanes) (suc number) = go (lane_at w (lane + 1) lanes number)
@@ -98,19 +98,19 @@ lane_at w lane (suc lanes) (suc number) = go (lane_at w (lane + 1) lanes number)
     go (is_past f n) = is_past f (omega (arith, n))
 
 -- a lane of a closed script may send its End to a shard whose queue is empty, and so may the ticker
-sender_done : (c : Config) (k : Core) (w : World) (lanes sender : ℕ) → w.closed ≡ true → k.lanes ≡ lanes_from w 0 lanes → sender < lanes + 1 → IsDone c k sender
-sender_done c k w lanes sender closed l n shards exported counted place J = subst (λ (z : Option Lane). sender_is_done world place (quiet_shard (own c k) [] J) sender z ≡ true)
-    (sym (ap (λ (z : List Lane). slice_get z sender) l)) (go (slice_get (lanes_from w 0 lanes) sender) (lane_at w 0 lanes sender))
+sender_done : (c : CoreConfig) (k : Core) (w : ScriptWorld) (lanes sender : ℕ) → w.closed ≡ true → k.lanes ≡ lanes_from w 0 lanes → sender < lanes + 1 → IsDone c k sender
+sender_done c k w lanes sender closed l n shards exported counted place J = subst (λ (z : Option CoreLane). sender_is_done world place (quiet_shard (own c k) [] J) sender z ≡ true)
+    (sym (ap (λ (z : List CoreLane). slice_get z sender) l)) (go (slice_get (lanes_from w 0 lanes) sender) (lane_at w 0 lanes sender))
   where
     world : Core
     world = with_shards c k shards exported counted
 
-    go : (found : Option Lane) → LaneAt w sender found lanes → sender_is_done world place (quiet_shard (own c k) [] J) sender found ≡ true
+    go : (found : Option CoreLane) → LaneAt w sender found lanes → sender_is_done world place (quiet_shard (own c k) [] J) sender found ≡ true
     go found (is_lane x f u e) = rw (f, u, e ∙ closed) refl
-    go found (is_past f p) = rw f (eq-eqb sender (length k.lanes) (omega (arith, n, p, ap (λ (z : List Lane). length z) l, length_lanes w 0 lanes)))
+    go found (is_past f p) = rw f (eq-eqb sender (length k.lanes) (omega (arith, n, p, ap (λ (z : List CoreLane). length z) l, length_lanes w 0 lanes)))
 
 -- each shard may take the End of the next sender
-may_take_ends : (c : Config) (k : Core) (s : Settings) (sender : ℕ) (pasts : List Journal) (asked : List Asking) (each nexts : List Journal) (asked_now : List Asking) (released : List Arrival) → IsDone c k sender
+may_take_ends : (c : CoreConfig) (k : Core) (s : Settings) (sender : ℕ) (pasts : List Journal) (asked : List Asking) (each nexts : List Journal) (asked_now : List Asking) (released : List Arrival) → IsDone c k sender
     → TakesEach s pasts asked (to_each (End sender) each) nexts asked_now released → AllByRecursion (Ended s sender) pasts → AllTakable c k (no_queues pasts) pasts (to_each (End sender) each)
 may_take_ends c k s sender [] asked [] nexts asked_now released d h o = tt
 may_take_ends c k s sender (past ∷ pasts) asked (one ∷ each) (next ∷ nexts) asked_now released d h o = (ended sender refl refl (o.0.later sender (omega arith)) d, may_take_ends c k s sender pasts h.2 each nexts asked_now h.1 d h.4 o.1)
@@ -121,7 +121,7 @@ may_take_ends c k s sender (past ∷ pasts) asked (one ∷ each) [] asked_now re
 -- ---- the rounds
 
 -- from a world where all Ends from this sender's on are still to be taken, steps lead to one where all were
-pub takes_all_ends : (s : Settings) (sizes : Sizes) (w : World) (senders sender : ℕ) (pasts : List Journal) (asked : List Asking) (each nexts : List Journal) (asked_now : List Asking) (before released : List Arrival) (k : Core)
+pub takes_all_ends : (s : Settings) (sizes : Sizes) (w : ScriptWorld) (senders sender : ℕ) (pasts : List Journal) (asked : List Asking) (each nexts : List Journal) (asked_now : List Asking) (before released : List Arrival) (k : Core)
     → w.closed ≡ true → sender + senders ≡ s.senders → Shipped s w (no_queues pasts) pasts before k → AllByRecursion (Ended s sender) pasts → TakesRounds s pasts asked (ends_from sender senders each) nexts asked_now released
     → (after : Core) × Leads (core_config s sizes) k after × Shipped s w (no_queues nexts) nexts (before ++ released) after × AllByRecursion (Ended s s.senders) nexts
 takes_all_ends s sizes w zero sender pasts asked each nexts asked_now before released k closed n h o t =

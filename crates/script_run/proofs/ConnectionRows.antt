@@ -1,5 +1,5 @@
--- The connections, moments, queues and Ends of some scripts, computed on the definitions.
--- No clause needs them: they show what the words of `Connections` and `World` say, which code and contracts follow.
+-- The connections, moments, queues and Ends of some scripts, computed on the definitions. No clause needs them: they
+-- show what the words of `Connections` and `World` say, which code and contracts follow.
 use Rattle.std.proofs.Common.{◌≡◌, ℕ, ◌+◌, true, List, [], ◌∷◌, ◌++◌, map, length, refl}
 use Rattle.lane_seq.specs.declared.preparing.Conn.{Conn}
 use Rattle.lane_seq.specs.Numbers.{arrivals_from}
@@ -9,7 +9,7 @@ use Rattle.otlp_types.specs.declared.arrival.Arrival.{Arrival}
 use Rattle.otlp_types.specs.declared.arrival.Item.TheVariants.{End, Tick}
 use Rattle.script_run.specs.Connections.{Contacts, lane_of, connection_of, with_connection, with_received}
 use Rattle.script_run.specs.Requests.{refuses, arrivals_of}
-use Rattle.script_run.specs.World.{World, Sizes, Plays, Receives, Answers, RepliesAndRuns, RunsToQuiet, after_receiving, empty_queues, ends_from}
+use Rattle.script_run.specs.World.{ScriptWorld, Sizes, Plays, Receives, Answers, RepliesAndRuns, RunsToQuiet, after_receiving, empty_queues, ends_from}
 use Rattle.journal_theory.specs.Journal.{Settings}
 use Rattle.world_theory.proofs.Samples.{plain}
 use Rattle.tsc_script.specs.Instructions.{receive, tick, close}
@@ -76,22 +76,23 @@ arrivals_at_77 : (request : Request) → arrivals_of (conn 1 0 5) 77 request ≡
 arrivals_at_77 request = refl
 
 -- a line `recv 4 77 ..` is read on connection 4 at that moment, and `tick 77` tells each shard that moment
-read_at_77 : (s : Settings) (sizes : Sizes) (old new : World) (body : List ℕ) → Plays s sizes old (receive 4 77 body) new → Receives s sizes old 4 77 body new
+read_at_77 : (s : Settings) (sizes : Sizes) (old new : ScriptWorld) (body : List ℕ) → Plays s sizes old (receive 4 77 body) new → Receives s sizes old 4 77 body new
 read_at_77 s sizes old new body h = h.2
 
-told_77 : (s : Settings) (sizes : Sizes) (old new : World) → Plays s sizes old (tick 77) new → RunsToQuiet s sizes old (map (λ j. Tick 77 ∷ []) old.journals ∷ []) new
+told_77 : (s : Settings) (sizes : Sizes) (old new : ScriptWorld) → Plays s sizes old (tick 77) new → RunsToQuiet s sizes old (map (λ j. Tick 77 ∷ []) old.journals ∷ []) new
 told_77 s sizes old new h = h.2
 
--- a request that is refused for its shape is one of its connection, which is there from then on; so is one that is read, which gives it two spans, one of them to a full queue
-refused_connects : (s : Settings) (sizes : Sizes) (old new : World) → Answers s sizes old 4 77 (refuses (BadData Shape)) new
+-- a request that is refused for its shape is one of its connection, which is there from then on; so is one that is
+-- read, which gives it two spans, one of them to a full queue
+refused_connects : (s : Settings) (sizes : Sizes) (old new : ScriptWorld) → Answers s sizes old 4 77 (refuses (BadData Shape)) new
     → RepliesAndRuns s sizes (record old { contacts = with_connection 4 old.contacts }) (BadData Shape) [] new
 refused_connects s sizes old new h = h
 
-read_connects : (old : World) → after_receiving 4 (arrivals_from (conn 1 0 5).key 5 77 (plain 1 ∷ plain 2 ∷ [])) 1 old
+read_connects : (old : ScriptWorld) → after_receiving 4 (arrivals_from (conn 1 0 5).key 5 77 (plain 1 ∷ plain 2 ∷ [])) 1 old
     ≡ record old { contacts = with_received 4 2 old.contacts; received = old.received ++ arrivals_from (conn 1 0 5).key 5 77 (plain 1 ∷ plain 2 ∷ []); full = old.full + 1 }
 read_connects old = refl
 
 -- a close tells each shard the Ends of all lanes, then the ticker's: one more than there are lanes
-close_ends_all : (s : Settings) (sizes : Sizes) (old new : World) → Plays s sizes old close new
+close_ends_all : (s : Settings) (sizes : Sizes) (old new : ScriptWorld) → Plays s sizes old close new
     → RunsToQuiet s sizes (record old { closed = true }) (ends_from 0 (length old.contacts.connected + 1) old.journals) new
 close_ends_all s sizes old new h = h.1

@@ -7,20 +7,20 @@ use Rattle.span_ids.specs.declared.keys.ConnKey.{ConnKey}
 use Rattle.journal_theory.specs.Journal.{Settings, Journal}
 use Rattle.journal_theory.proofs.ListFacts.{tally}
 use Rattle.lane_seq.specs.Numbers.{arrival_of, arrivals_from}
-use Rattle.world_theory.specs.World.{Config, Lane, Shard, World as Core}
+use Rattle.world_theory.specs.World.{CoreConfig, CoreLane, CoreShard, World as Core}
 use Rattle.world_theory.specs.Step.{Step, step, run_from, arrivals, is_of_conn}
-use Rattle.script_run.specs.World.{World, Sizes}
+use Rattle.script_run.specs.World.{ScriptWorld, Sizes}
 use Rattle.script_run.specs.CoreRun.{core_config, is_of_lane}
 use Rattle.script_run.proofs.Stands.{quiet_shard, shards_with, routed_lane, lanes_from, Reaches}
 
 -- ---- steps
 
 -- a step, and then others
-pub runs_on : (c : Config) (k mid after : Core) (first : Step) (rest : List Step) → step c k first ≡ Some mid → run_from c mid rest ≡ Some after → run_from c k (first ∷ rest) ≡ Some after
+pub runs_on : (c : CoreConfig) (k mid after : Core) (first : Step) (rest : List Step) → step c k first ≡ Some mid → run_from c mid rest ≡ Some after → run_from c k (first ∷ rest) ≡ Some after
 runs_on c k mid after first rest e f = ap (option_and_then (λ (next : Core). run_from c next rest)) e ∙ f
 
 -- steps, and then others
-pub runs_then : (c : Config) (k : Core) (xs ys : List Step) (mid after : Core) → run_from c k xs ≡ Some mid → run_from c mid ys ≡ Some after → run_from c k (xs ++ ys) ≡ Some after
+pub runs_then : (c : CoreConfig) (k : Core) (xs ys : List Step) (mid after : Core) → run_from c k xs ≡ Some mid → run_from c mid ys ≡ Some after → run_from c k (xs ++ ys) ≡ Some after
 runs_then c k [] ys mid after e f = let same : k ≡ mid = cc in subst (λ (z : Core). run_from c z ys ≡ Some after) (sym same) f
 runs_then c k (x ∷ xs) ys mid after e f = go (step c k x) e (λ n g. runs_then c n xs ys mid after g f)
   where
@@ -30,7 +30,7 @@ runs_then c k (x ∷ xs) ys mid after e f = go (step c k x) e (λ n g. runs_then
     go (Some n) g h = h n g
 
 -- what is reached from where steps led is reached
-pub reaches_then : (s : Settings) (sizes : Sizes) (k mid : Core) (steps : List Step) (new : World) (queues : List (List Arrival)) → run_from (core_config s sizes) k steps ≡ Some mid
+pub reaches_then : (s : Settings) (sizes : Sizes) (k mid : Core) (steps : List Step) (new : ScriptWorld) (queues : List (List Arrival)) → run_from (core_config s sizes) k steps ≡ Some mid
     → Reaches s sizes mid new queues → Reaches s sizes k new queues
 reaches_then s sizes k mid steps new queues e r = (steps ++ r.0, r.1, runs_then (core_config s sizes) k steps r.0 mid r.1 e r.2, r.3)
 
@@ -81,29 +81,29 @@ tally_on_lane conn (a ∷ rest) = go (a.key.conn.lane == conn.lane) refl (tally_
 -- ---- lanes
 
 -- the lane at a place
-pub lane_at : (w : World) (first many i lane : ℕ) → i < many → lane ≡ first + i → slice_get (lanes_from w first many) i ≡ Some (routed_lane w lane)
+pub lane_at : (w : ScriptWorld) (first many i lane : ℕ) → i < many → lane ≡ first + i → slice_get (lanes_from w first many) i ≡ Some (routed_lane w lane)
 lane_at w first zero i lane h e = absurd (omega arith)
 lane_at w first (suc many) zero lane h e = let same : first ≡ lane = omega (arith, e) in ap (λ (n : ℕ). Some (routed_lane w n)) same
 lane_at w first (suc many) (suc i) lane h e = lane_at w (first + 1) many i lane (omega (arith, h)) (omega (arith, e))
 
 -- worlds whose lanes from one on are the same
-pub lanes_same : (w v : World) (first many : ℕ) → ((lane : ℕ) → first ≤ lane → routed_lane w lane ≡ routed_lane v lane) → lanes_from w first many ≡ lanes_from v first many
+pub lanes_same : (w v : ScriptWorld) (first many : ℕ) → ((lane : ℕ) → first ≤ lane → routed_lane w lane ≡ routed_lane v lane) → lanes_from w first many ≡ lanes_from v first many
 lanes_same w v first zero f = refl
 lanes_same w v first (suc many) f =
-    ap (λ (z : Lane). z ∷ lanes_from w (first + 1) many) (f first (omega arith))
-    ∙ ap (λ (z : List Lane). routed_lane v first ∷ z) (lanes_same w v (first + 1) many (λ lane h. f lane (omega (arith, h))))
+    ap (λ (z : CoreLane). z ∷ lanes_from w (first + 1) many) (f first (omega arith))
+    ∙ ap (λ (z : List CoreLane). routed_lane v first ∷ z) (lanes_same w v (first + 1) many (λ lane h. f lane (omega (arith, h))))
 
 -- worlds whose lanes differ in one
-pub lanes_set : (w v : World) (first many i lane : ℕ) → lane ≡ first + i → ((other : ℕ) → (other ≡ lane → ⊥) → routed_lane w other ≡ routed_lane v other)
+pub lanes_set : (w v : ScriptWorld) (first many i lane : ℕ) → lane ≡ first + i → ((other : ℕ) → (other ≡ lane → ⊥) → routed_lane w other ≡ routed_lane v other)
     → slice_set (lanes_from w first many) i (routed_lane v lane) ≡ lanes_from v first many
 lanes_set w v first zero i lane e f = refl
 lanes_set w v first (suc many) zero lane e f =
     let same : lane ≡ first = omega (arith, e) in
     ap (λ (n : ℕ). routed_lane v n ∷ lanes_from w (first + 1) many) same
-    ∙ ap (λ (z : List Lane). routed_lane v first ∷ z) (lanes_same w v (first + 1) many (λ other h. f other (λ q. absurd (omega (arith, q, h, e)))))
+    ∙ ap (λ (z : List CoreLane). routed_lane v first ∷ z) (lanes_same w v (first + 1) many (λ other h. f other (λ q. absurd (omega (arith, q, h, e)))))
 lanes_set w v first (suc many) (suc i) lane e f =
-    ap (λ (z : Lane). z ∷ slice_set (lanes_from w (first + 1) many) i (routed_lane v lane)) (f first (λ q. absurd (omega (arith, q, e))))
-    ∙ ap (λ (z : List Lane). routed_lane v first ∷ z) (lanes_set w v (first + 1) many i lane (omega (arith, e)) f)
+    ap (λ (z : CoreLane). z ∷ slice_set (lanes_from w (first + 1) many) i (routed_lane v lane)) (f first (λ q. absurd (omega (arith, q, e))))
+    ∙ ap (λ (z : List CoreLane). routed_lane v first ∷ z) (lanes_set w v (first + 1) many i lane (omega (arith, e)) f)
 
 -- ---- shards
 
@@ -122,7 +122,7 @@ shard_at s (x ∷ queues) (past ∷ pasts) zero queue e g =
     record { past = past; reads = ap (λ (z : List Arrival). Some (quiet_shard s z past)) same; puts = λ other. refl }
 shard_at s (x ∷ queues) (past ∷ pasts) (suc i) queue e g =
     let r = shard_at s queues pasts i queue (omega (arith, e)) g in
-    record { past = r.past; reads = r.reads; puts = λ other. ap (λ (z : List Shard). quiet_shard s x past ∷ z) (r.puts other) }
+    record { past = r.past; reads = r.reads; puts = λ other. ap (λ (z : List CoreShard). quiet_shard s x past ∷ z) (r.puts other) }
 
 -- there is a shard for each journal
 pub many_shards : (s : Settings) (queues : List (List Arrival)) (pasts : List Journal) → length queues ≡ length pasts → length (shards_with s queues pasts) ≡ length pasts

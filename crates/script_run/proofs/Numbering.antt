@@ -13,7 +13,7 @@ use Rattle.lane_seq.specs.Numbers.{arrival_of, arrivals_from}
 use Rattle.journal_theory.proofs.ListFacts.{Each, Each-append, Each-weaker, tally, tally-append, length-slice_set}
 use Rattle.world_theory.specs.Step.{is_of_conn}
 use Rattle.script_run.specs.Connections.{Contacts, with_spans, lane_of, conn_where, connection_of, connected_where, with_connection, with_received}
-use Rattle.script_run.specs.World.{World}
+use Rattle.script_run.specs.World.{ScriptWorld}
 
 -- ---- entries by their numbers
 
@@ -124,7 +124,8 @@ none_came connected conn n (a ∷ rest) h =
 
 -- ---- what is known
 
--- there is a lane; the connections differ and are their lanes' own, the next number of each is how many spans came on it, and spans came on such connections alone
+-- there is a lane; the connections differ and are their lanes' own, the next number of each is how many spans came on
+-- it, and spans came on such connections alone
 pub record Knows (c : Contacts) (received : List Arrival) : Type 0 where
   pub lanes : 0 < length c.connected
   pub had : (number : ℕ) (conn : Conn) → lookup (nat_eq number) c.connections ≡ Some conn → IsHad c.connected conn.key
@@ -133,7 +134,7 @@ pub record Knows (c : Contacts) (received : List Arrival) : Type 0 where
   pub came : Each (λ (a : Arrival). IsHad c.connected a.key.conn) received
 
 -- the same, of a world
-abbrev pub KnowsConnections : World → Type 0
+abbrev pub KnowsConnections : ScriptWorld → Type 0
 KnowsConnections w = Knows w.contacts w.received
 
 -- it is known before the first line

@@ -15,11 +15,11 @@ use Rattle.span_sink.specs.LineSinks.{LineSinkState}
 use Rattle.drop_ledger.specs.declared.count.Count.{Count}
 use Rattle.drop_ledger.specs.declared.count.Count.TheVariants.{Handed, Dropped}
 use Rattle.drop_ledger.proofs.EachCount.{each_count}
-use Rattle.world_theory.specs.World.{Config, Lane, Shard, World as Core, settings}
+use Rattle.world_theory.specs.World.{CoreConfig, CoreLane, CoreShard, World as Core, settings}
 use Rattle.world_theory.specs.Places.{HeldKey, handed, counted_under, held_at, held_by_lanes, held_by_shards, held, is_waiting, buffered_spans, IsClosed}
 use Rattle.world_theory.specs.Headline.{handed_spans}
-use Rattle.script_run.specs.Sending.{Sent, spans_of, SendsInBatches}
-use Rattle.script_run.specs.World.{World, Sizes, was_sent, TakesEach}
+use Rattle.script_run.specs.Sending.{SentBatch, spans_of, SendsInBatches}
+use Rattle.script_run.specs.World.{ScriptWorld, Sizes, was_sent, TakesEach}
 use Rattle.script_run.specs.Counts.{counted_at_lanes, counted_at, dropped_by_journal, number_reported}
 use Rattle.script_run.specs.Writing.{handed_in}
 use Rattle.script_run.specs.CoreRun.{core_config}
@@ -32,16 +32,16 @@ use Rattle.script_run.proofs.SendingBatches.{batches_fit, handed_append, spans_a
 -- ---- what only some fields of the world decide
 
 -- what the lanes count is by what was received, and by how many spans found their queue full
-pub lanes_count : (v w : World) → v.received ≡ w.received → v.full ≡ w.full → (count : Count) → counted_at_lanes v count ≡ counted_at_lanes w count
+pub lanes_count : (v w : ScriptWorld) → v.received ≡ w.received → v.full ≡ w.full → (count : Count) → counted_at_lanes v count ≡ counted_at_lanes w count
 lanes_count v w r f = each_count (λ count. counted_at_lanes v count ≡ counted_at_lanes w count) (ap (λ (z : List Arrival). length z) r) refl (ap (λ (z : List Arrival). length (filter is_invalid z)) r) f refl refl refl refl refl
 
 -- the lanes are by what was received, and by whether the script is closed
-pub lanes_same : (v w : World) → v.received ≡ w.received → v.closed ≡ w.closed → (lane lanes : ℕ) → lanes_from v lane lanes ≡ lanes_from w lane lanes
+pub lanes_same : (v w : ScriptWorld) → v.received ≡ w.received → v.closed ≡ w.closed → (lane lanes : ℕ) → lanes_from v lane lanes ≡ lanes_from w lane lanes
 lanes_same v w r c lane zero = refl
 lanes_same v w r c lane (suc lanes) = cc (lanes_same v w r c (lane + 1) lanes, r, c)
 
 -- so many lanes
-pub length_lanes : (w : World) (lane lanes : ℕ) → length (lanes_from w lane lanes) ≡ lanes
+pub length_lanes : (w : ScriptWorld) (lane lanes : ℕ) → length (lanes_from w lane lanes) ≡ lanes
 length_lanes w lane zero = refl
 length_lanes w lane (suc lanes) = ap suc (length_lanes w (lane + 1) lanes)
 
@@ -52,12 +52,12 @@ abbrev pub Finished : Settings → Journal → Type 0
 Finished s past = (have_ended past s.senders ≡ true) × (buffered_spans s past (length (due_now s past)) ≡ [])
 
 -- the lanes hold nothing that is still to be routed
-none_routed : (w : World) (number lane lanes : ℕ) → held_by_lanes number (lanes_from w lane lanes) ≡ []
+none_routed : (w : ScriptWorld) (number lane lanes : ℕ) → held_by_lanes number (lanes_from w lane lanes) ≡ []
 none_routed w number lane zero = refl
 none_routed w number lane (suc lanes) = none_routed w (number + 1) (lane + 1) lanes
 
 -- the lanes of a closed script have ended
-all_lanes_ended : (w : World) → w.closed ≡ true → (lane lanes : ℕ) → list_all (λ (l : Lane). l.ended) (lanes_from w lane lanes) ≡ true
+all_lanes_ended : (w : ScriptWorld) → w.closed ≡ true → (lane lanes : ℕ) → list_all (λ (l : CoreLane). l.ended) (lanes_from w lane lanes) ≡ true
 all_lanes_ended w e lane zero = refl
 all_lanes_ended w e lane (suc lanes) = rw e (all_lanes_ended w e (lane + 1) lanes)
 
@@ -67,16 +67,16 @@ none_held s number [] h = refl
 none_held s number (past ∷ pasts) h = rw (h.0.1) (none_held s (number + 1) pasts h.1)
 
 -- shards that have finished have taken all Ends
-all_ends_taken : (s : Settings) (pasts : List Journal) → AllByRecursion (Finished s) pasts → list_all (λ (sh : Shard). have_ended sh.journal s.senders) (shards_with s (no_queues pasts) pasts) ≡ true
+all_ends_taken : (s : Settings) (pasts : List Journal) → AllByRecursion (Finished s) pasts → list_all (λ (sh : CoreShard). have_ended sh.journal s.senders) (shards_with s (no_queues pasts) pasts) ≡ true
 all_ends_taken s [] h = refl
 all_ends_taken s (past ∷ pasts) h = rw (h.0.0) (all_ends_taken s pasts h.1)
 
 -- the core is closed where the lanes have ended, the shards have finished, and nothing is left to send
-is_closed : (c : Config) (s : Settings) (w : World) (k : Core) (pasts : List Journal) (lanes : ℕ) → settings c k ≡ s → w.closed ≡ true → k.lanes ≡ lanes_from w 0 lanes
+is_closed : (c : CoreConfig) (s : Settings) (w : ScriptWorld) (k : Core) (pasts : List Journal) (lanes : ℕ) → settings c k ≡ s → w.closed ≡ true → k.lanes ≡ lanes_from w 0 lanes
     → k.shards ≡ shards_with s (no_queues pasts) pasts → k.exported ≡ [] → k.batch ≡ [] → AllByRecursion (Finished s) pasts → IsClosed c k
 is_closed c s w k pasts lanes same e l sh x b h = record {
   lanes_ended = rw l (all_lanes_ended w e 0 lanes);
-  ends_taken = ap (λ (z : Settings). list_all (λ (sh : Shard). have_ended sh.journal z.senders) k.shards) same ∙ (ap (list_all (λ (sh : Shard). have_ended sh.journal s.senders)) sh ∙ all_ends_taken s pasts h);
+  ends_taken = ap (λ (z : Settings). list_all (λ (sh : CoreShard). have_ended sh.journal z.senders) k.shards) same ∙ (ap (list_all (λ (sh : CoreShard). have_ended sh.journal s.senders)) sh ∙ all_ends_taken s pasts h);
   nothing_waits = ap (filter (λ (h : HeldKey). is_waiting h.place)) all_held ∙ (none_waits_handed k.handed (map (λ (n : DroppedSpan). record { place = counted_under n.reason; key = n.key }) k.counted) ∙ none_waits_counted k.counted);
 }
   where
@@ -92,7 +92,7 @@ is_closed c s w k pasts lanes same e l sh x b h = record {
 -- ---- the core before the batches
 
 -- the core where the shards, quiet but for these queues, have taken these journals and shipped what they released
-pub record Shipped (s : Settings) (w : World) (queues : List (List Arrival)) (pasts : List Journal) (released : List Arrival) (k : Core) : Type 0 where
+pub record Shipped (s : Settings) (w : ScriptWorld) (queues : List (List Arrival)) (pasts : List Journal) (released : List Arrival) (k : Core) : Type 0 where
   pub lanes : k.lanes ≡ lanes_from w 0 (length w.contacts.connected)
   pub senders : s.senders ≡ length w.contacts.connected + 1
   pub shards : k.shards ≡ shards_with s queues pasts
@@ -104,21 +104,21 @@ pub record Shipped (s : Settings) (w : World) (queues : List (List Arrival)) (pa
   pub handed_over : length (handed_spans k) ≡ number_reported s w Handed
 
 -- so it is before anything is taken
-pub shipped_nothing : (s : Settings) (sizes : Sizes) (w : World) (queues : List (List Arrival)) (k : Core) → Stands s sizes w queues k → Shipped s w queues w.journals [] k
+pub shipped_nothing : (s : Settings) (sizes : Sizes) (w : ScriptWorld) (queues : List (List Arrival)) (k : Core) → Stands s sizes w queues k → Shipped s w queues w.journals [] k
 shipped_nothing s sizes w queues k h = record { lanes = h.lanes; senders = h.senders; shards = h.shards; exported = h.exported; batch = h.batch; handed = h.handed; down = h.down; dropped = h.dropped; handed_over = h.handed_over }
 
 -- the settings of each shard are the script's
-pub settings_are : (s : Settings) (sizes : Sizes) (w : World) (k : Core) → k.lanes ≡ lanes_from w 0 (length w.contacts.connected) → s.senders ≡ length w.contacts.connected + 1
+pub settings_are : (s : Settings) (sizes : Sizes) (w : ScriptWorld) (k : Core) → k.lanes ≡ lanes_from w 0 (length w.contacts.connected) → s.senders ≡ length w.contacts.connected + 1
     → settings (core_config s sizes) k ≡ s
-settings_are s sizes w k l n = ap (λ (z : ℕ). record s { senders = z }) (ap (λ (z : ℕ). z + 1) (ap (λ (z : List Lane). length z) l ∙ length_lanes w 0 (length w.contacts.connected)) ∙ sym n)
+settings_are s sizes w k l n = ap (λ (z : ℕ). record s { senders = z }) (ap (λ (z : ℕ). z + 1) (ap (λ (z : List CoreLane). length z) l ∙ length_lanes w 0 (length w.contacts.connected)) ∙ sym n)
 
 -- a round: each shard in its turn takes its items
-pub ships_round : (s : Settings) (sizes : Sizes) (w : World) (k : Core) (queues : List (List Arrival)) (pasts : List Journal) (asked : List Asking) (nexts : List Journal) (asked_now : List Asking) (items : List (List Item)) (before released : List Arrival)
+pub ships_round : (s : Settings) (sizes : Sizes) (w : ScriptWorld) (k : Core) (queues : List (List Arrival)) (pasts : List Journal) (asked : List Asking) (nexts : List Journal) (asked_now : List Asking) (items : List (List Item)) (before released : List Arrival)
     → Shipped s w queues pasts before k → AllTakable (core_config s sizes) k queues pasts items → TakesEach s pasts asked items nexts asked_now released
     → (after : Core) × Leads (core_config s sizes) k after × Shipped s w (no_queues nexts) nexts (before ++ released) after
 ships_round s sizes w k queues pasts asked nexts asked_now items before released h t e = (after, leads_then c k _ after (leads_same c k _ begins) round.leads, ships)
   where
-    c : Config
+    c : CoreConfig
     c = core_config s sizes
 
     same : own c k ≡ s
@@ -131,7 +131,7 @@ ships_round s sizes w k queues pasts asked nexts asked_now items before released
     after = with_shards c k (shards_with (own c k) (no_queues nexts) nexts) (before ++ released) round.counted
 
     begins : k ≡ with_shards c k (shards_with (own c k) queues pasts) before k.counted
-    begins = ap (λ (z : List Shard). with_shards c k z k.exported k.counted) (h.shards ∙ ap (λ (z : Settings). shards_with z queues pasts) (sym same))
+    begins = ap (λ (z : List CoreShard). with_shards c k z k.exported k.counted) (h.shards ∙ ap (λ (z : Settings). shards_with z queues pasts) (sym same))
         ∙ ap (λ (z : List Arrival). with_shards c k (shards_with (own c k) queues pasts) z k.counted) h.exported
 
     counts : (reason : Reason) → length (under reason round.counted) + sum_by (dropped_by_journal s reason) pasts ≡ length (under reason k.counted) + sum_by (dropped_by_journal s reason) nexts
@@ -156,12 +156,12 @@ same_queues [] = refl
 same_queues (past ∷ pasts) = ap suc (same_queues pasts)
 
 -- the batches are sent
-pub sends_released : (s : Settings) (sizes : Sizes) (w : World) (pasts : List Journal) (asked : List Asking) (released : List Arrival) (k : Core) (batches : List Sent) (sink : LineSinkState) → 0 < sizes.batch
+pub sends_released : (s : Settings) (sizes : Sizes) (w : ScriptWorld) (pasts : List Journal) (asked : List Asking) (released : List Arrival) (k : Core) (batches : List SentBatch) (sink : LineSinkState) → 0 < sizes.batch
     → Shipped s w (no_queues pasts) pasts released k → (w.closed ≡ false → AllByRecursion HasNoEnd pasts) → (w.closed ≡ true → AllByRecursion (Finished s) pasts) → SendsInBatches sizes.batch w.sink released batches sink
     → Reaches s sizes k (record w { journals = pasts; askings = asked; events = w.events ++ map was_sent batches; sink = sink }) (no_queues pasts)
 sends_released s sizes w pasts asked released k batches sink holds h runs finished b = (run.0, after, run.1, stands)
   where
-    c : Config
+    c : CoreConfig
     c = core_config s sizes
 
     all : SentAll c k batches w.sink sink k.handed k.counted
@@ -170,7 +170,7 @@ sends_released s sizes w pasts asked released k batches sink holds h runs finish
     after : Core
     after = sending c k [] [] (k.handed ++ handed_in (map was_sent batches)) all.counted sink.is_down
 
-    new : World
+    new : ScriptWorld
     new = record w { journals = pasts; askings = asked; events = w.events ++ map was_sent batches; sink = sink }
 
     begins : k ≡ sending c k (spans_of batches) [] k.handed k.counted w.sink.is_down
@@ -200,5 +200,5 @@ sends_released s sizes w pasts asked released k batches sink holds h runs finish
     }
 
 -- what a run to quiet reaches is reached after further steps before it
-pub reaches_after : (s : Settings) (sizes : Sizes) (k mid : Core) (new : World) (queues : List (List Arrival)) → Leads (core_config s sizes) k mid → Reaches s sizes mid new queues → Reaches s sizes k new queues
+pub reaches_after : (s : Settings) (sizes : Sizes) (k mid : Core) (new : ScriptWorld) (queues : List (List Arrival)) → Leads (core_config s sizes) k mid → Reaches s sizes mid new queues → Reaches s sizes k new queues
 reaches_after s sizes k mid new queues h r = let run = leads_then (core_config s sizes) k mid r.1 h (r.0, r.2) in (run.0, r.1, run.1, r.3)

@@ -20,7 +20,7 @@ use Rattle.lane_seq.specs.Pushes.{Receives as IsPushed}
 use Rattle.journal_theory.specs.Journal.{Settings, Journal}
 use Rattle.journal_theory.specs.Fate.{DroppedSpan, counts, is_same_reason}
 use Rattle.journal_theory.proofs.ListFacts.{tally}
-use Rattle.world_theory.specs.World.{Lane, World as Core}
+use Rattle.world_theory.specs.World.{CoreLane, World as Core}
 use Rattle.world_theory.specs.Step.{receive, step, arrivals, is_of_conn, has_ids}
 use Rattle.world_theory.proofs.Arriving.{receives}
 use Rattle.world_theory.proofs.Received.{count_is}
@@ -28,7 +28,7 @@ use Rattle.world_theory.proofs.Released.{get_set}
 use Rattle.drop_ledger.specs.declared.count.Count.TheVariants.{Dropped}
 use Rattle.script_run.specs.Connections.{Contacts, connection_of, with_received}
 use Rattle.script_run.specs.Requests.{arrivals_of}
-use Rattle.script_run.specs.World.{World, Sizes, empty_queues, after_receiving}
+use Rattle.script_run.specs.World.{ScriptWorld, Sizes, empty_queues, after_receiving}
 use Rattle.script_run.specs.Counts.{counted_at_lanes}
 use Rattle.script_run.specs.CoreRun.{core_config, is_of_lane}
 use Rattle.script_run.proofs.Stands.{routed_lane, lanes_from, no_queues, Stands, Reaches}
@@ -39,7 +39,7 @@ use Rattle.script_run.proofs.Routing.{held_in, as_items, Pushed, pushes}
 -- ---- a connection that is there
 
 -- how the core stands doesn't depend on the connections, but on how many lanes there are
-pub with_contacts : (s : Settings) (sizes : Sizes) (w : World) (contacts : Contacts) (queues : List (List Arrival)) (k : Core) → length contacts.connected ≡ length w.contacts.connected
+pub with_contacts : (s : Settings) (sizes : Sizes) (w : ScriptWorld) (contacts : Contacts) (queues : List (List Arrival)) (k : Core) → length contacts.connected ≡ length w.contacts.connected
     → Stands s sizes w queues k → Stands s sizes (record w { contacts = contacts }) queues k
 with_contacts s sizes w contacts queues k e st = record {
   lanes = st.lanes ∙ ap (λ (n : ℕ). lanes_from w 0 n) (sym e);
@@ -80,7 +80,7 @@ pub invalid_same : (spans : List Arrival) → filter (λ a. not (has_ids a)) spa
 invalid_same spans = filter_same (λ (a : Arrival). not (has_ids a)) is_invalid (λ a. without_ids a.rec.span.ids) spans
 
 -- what the lanes count of further spans
-lanes_count : (old new : World) (spans : List Arrival) (refused : ℕ) → new.received ≡ old.received ++ spans → new.full ≡ old.full + refused → (reason : Reason)
+lanes_count : (old new : ScriptWorld) (spans : List Arrival) (refused : ℕ) → new.received ≡ old.received ++ spans → new.full ≡ old.full + refused → (reason : Reason)
     → counted_at_lanes new (Dropped reason) ≡ counted_at_lanes old (Dropped reason) + (cond {A = ℕ} (is_same_reason InvalidId reason) (length (filter is_invalid spans)) 0 + cond {A = ℕ} (is_same_reason QueueFull reason) refused 0)
 lanes_count old new spans refused e f InvalidId =
     let parts : length (filter is_invalid new.received) ≡ length (filter is_invalid old.received) + length (filter is_invalid spans)
@@ -96,12 +96,12 @@ lanes_count old new spans refused e f ExporterDown = refl
 -- ---- the request
 
 -- the queues hold what was pushed, and the core stands with them
-pub record ReachesQueues (s : Settings) (sizes : Sizes) (k : Core) (new : World) (pushed : List (QueueState Item)) : Type 0 where
+pub record ReachesQueues (s : Settings) (sizes : Sizes) (k : Core) (new : ScriptWorld) (pushed : List (QueueState Item)) : Type 0 where
   pub queues : List (List Arrival)
   pub holds : held_in pushed ≡ as_items queues
   pub reaches : Reaches s sizes k new queues
 
-module _ (s : Settings) (sizes : Sizes) (old : World) (k : Core) (st : Stands s sizes old (no_queues old.journals) k) (is_open : old.closed ≡ false)
+module _ (s : Settings) (sizes : Sizes) (old : ScriptWorld) (k : Core) (st : Stands s sizes old (no_queues old.journals) k) (is_open : old.closed ≡ false)
     (key : ConnKey) (next moment : ℕ) (records : List Record) (within : key.lane < length old.contacts.connected) (number : next ≡ tally (is_of_conn key) old.received)
     (contacts : Contacts) (lanes_stay : length contacts.connected ≡ length old.contacts.connected) where
   -- the spans of the request
@@ -109,15 +109,15 @@ module _ (s : Settings) (sizes : Sizes) (old : World) (k : Core) (st : Stands s 
   spans = arrivals_from key next moment records
 
   -- the world once they were received, and so many found their queue full
-  abbrev after : (refused : ℕ) → World
+  abbrev after : (refused : ℕ) → ScriptWorld
   after refused = record old { contacts = contacts; received = old.received ++ spans; full = old.full + refused }
 
   -- the lane before the request
-  abbrev lane : Lane
+  abbrev lane : CoreLane
   lane = routed_lane old key.lane
 
   -- the lane once it received them
-  abbrev grown : Lane
+  abbrev grown : CoreLane
   grown = record { received = filter (is_of_lane key.lane) (old.received ++ spans); unrouted = filter has_ids spans; ended = old.closed }
 
   -- what is counted then
@@ -130,7 +130,7 @@ module _ (s : Settings) (sizes : Sizes) (old : World) (k : Core) (st : Stands s 
 
   -- the core has that lane
   reads : slice_get k.lanes key.lane ≡ Some lane
-  reads = ap (λ (z : List Lane). slice_get z key.lane) st.lanes ∙ lane_at old 0 (length old.contacts.connected) key.lane key.lane within (omega arith)
+  reads = ap (λ (z : List CoreLane). slice_get z key.lane) st.lanes ∙ lane_at old 0 (length old.contacts.connected) key.lane key.lane within (omega arith)
 
   -- the spans of the step are the request's
   step_spans : arrivals key (count_by (is_of_conn key) lane.received) moment records ≡ spans
@@ -144,7 +144,7 @@ module _ (s : Settings) (sizes : Sizes) (old : World) (k : Core) (st : Stands s 
       let part : filter (is_of_lane key.lane) (old.received ++ spans) ≡ lane.received ++ spans
       = filter-append (is_of_lane key.lane) old.received spans ∙ ap (λ (z : List Arrival). lane.received ++ z) (filter_own key next moment records) in
       (λ i. record { received = part i; unrouted = filter has_ids spans; ended = old.closed })
-      ∙ ap (λ (z : List Arrival). let l : Lane = record { received = lane.received ++ z; unrouted = filter has_ids z; ended = old.closed } in l) (sym step_spans)
+      ∙ ap (λ (z : List Arrival). let l : CoreLane = record { received = lane.received ++ z; unrouted = filter has_ids z; ended = old.closed } in l) (sym step_spans)
 
   -- the spans of the step without valid ids are counted
   counts_them : counted ≡ k.counted ++ counts InvalidId (filter (λ a. not (has_ids a)) (arrivals key (count_by (is_of_conn key) lane.received) moment records))
@@ -159,10 +159,10 @@ module _ (s : Settings) (sizes : Sizes) (old : World) (k : Core) (st : Stands s 
   lanes_after : (refused : ℕ) → slice_set (slice_set k.lanes key.lane grown) key.lane (record grown { unrouted = [] }) ≡ lanes_from (after refused) 0 (length contacts.connected)
   lanes_after refused =
       let other : (lane : ℕ) → (lane ≡ key.lane → ⊥) → routed_lane old lane ≡ routed_lane (after refused) lane
-      = λ lane n. ap (λ (z : List Arrival). let l : Lane = record { received = z; unrouted = []; ended = old.closed } in l)
+      = λ lane n. ap (λ (z : List Arrival). let l : CoreLane = record { received = z; unrouted = []; ended = old.closed } in l)
       (sym (filter-append (is_of_lane lane) old.received spans ∙ (ap (λ (z : List Arrival). filter (is_of_lane lane) old.received ++ z) (filter_other lane key n next moment records) ∙ append-nil (filter (is_of_lane lane) old.received)))) in
       set-set k.lanes key.lane grown (record grown { unrouted = [] })
-      ∙ (ap (λ (z : List Lane). slice_set z key.lane (routed_lane (after refused) key.lane)) st.lanes
+      ∙ (ap (λ (z : List CoreLane). slice_set z key.lane (routed_lane (after refused) key.lane)) st.lanes
       ∙ (lanes_set old (after refused) 0 (length old.contacts.connected) key.lane key.lane (omega arith) other
       ∙ ap (λ (n : ℕ). lanes_from (after refused) 0 n) (sym lanes_stay)))
 
@@ -200,7 +200,7 @@ module _ (s : Settings) (sizes : Sizes) (old : World) (k : Core) (st : Stands s 
       }
 
 -- a request's spans go to the queues of their shards
-pub receives_spans : (s : Settings) (sizes : Sizes) (old : World) (k : Core) (number moment : ℕ) (request : Request) (reply : Reply) (queues : List (QueueState Item))
+pub receives_spans : (s : Settings) (sizes : Sizes) (old : ScriptWorld) (k : Core) (number moment : ℕ) (request : Request) (reply : Reply) (queues : List (QueueState Item))
     → Stands s sizes old (no_queues old.journals) k → old.closed ≡ false → KnowsConnections old
     → (pushed : IsPushed TakesLast IsFull (arrivals_of (connection_of number old.contacts) moment request) (empty_queues sizes.queue (length old.journals)) reply queues)
     → ReachesQueues s sizes k (after_receiving number (arrivals_of (connection_of number old.contacts) moment request) pushed.refused old) queues

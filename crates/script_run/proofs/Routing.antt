@@ -15,7 +15,7 @@ use Rattle.lane_seq.specs.Pushes.{PushesOne, PushesAll}
 use Rattle.journal_theory.specs.Journal.{Settings, Journal}
 use Rattle.journal_theory.specs.Fate.{DroppedSpan, counts, under, is_same_reason}
 use Rattle.journal_theory.proofs.ListFacts.{length-slice_set}
-use Rattle.world_theory.specs.World.{Config, Lane, Shard, World as Core, goes_to, ids_go_to}
+use Rattle.world_theory.specs.World.{CoreConfig, CoreLane, CoreShard, World as Core, goes_to, ids_go_to}
 use Rattle.world_theory.specs.Step.{Step, route, refuse, step, run_from, has_ids, take_first}
 use Rattle.world_theory.proofs.Released.{get_set}
 use Rattle.world_theory.proofs.Routing.{put_back}
@@ -30,9 +30,9 @@ held_in queues = map (λ (q : QueueState Item). q.items) queues
 abbrev pub as_items : List (List Arrival) → List (List Item)
 as_items queues = map (map Span) queues
 
-module _ (c : Config) (s : Settings) (lane : ℕ) (pasts : List Journal) where
+module _ (c : CoreConfig) (s : Settings) (lane : ℕ) (pasts : List Journal) where
   -- Steps route the lane's unrouted spans to these queues, or refuse them: so many were refused.
-  pub record Pushed (k : Core) (l : Lane) (refused : ℕ) (new : List (QueueState Item)) : Type 0 where
+  pub record Pushed (k : Core) (l : CoreLane) (refused : ℕ) (new : List (QueueState Item)) : Type 0 where
     pub steps : List Step
     pub after : Core
     pub counted : List DroppedSpan
@@ -44,12 +44,12 @@ module _ (c : Config) (s : Settings) (lane : ℕ) (pasts : List Journal) where
     pub holds : held_in new ≡ as_items queues
 
   -- nothing is left to push
-  nothing_left : (k : Core) (l : Lane) (refused : ℕ) (old new : List (QueueState Item)) (queues : List (List Arrival)) → refused ≡ 0 → new ≡ old → held_in old ≡ as_items queues → length queues ≡ length pasts
+  nothing_left : (k : Core) (l : CoreLane) (refused : ℕ) (old new : List (QueueState Item)) (queues : List (List Arrival)) → refused ≡ 0 → new ≡ old → held_in old ≡ as_items queues → length queues ≡ length pasts
       → k.shards ≡ shards_with s queues pasts → slice_get k.lanes lane ≡ Some l → l.unrouted ≡ [] → Pushed k l refused new
   nothing_left k l refused old new queues none is holds same shards g u =
-      let routed : Lane = record l { unrouted = [] } in
+      let routed : CoreLane = record l { unrouted = [] } in
       let as_routed : l ≡ routed = λ i. record l { unrouted = u i } in
-      let lanes : k.lanes ≡ slice_set k.lanes lane routed = sym (put_back k.lanes lane routed (g ∙ ap (λ (z : Lane). Some z) as_routed)) in
+      let lanes : k.lanes ≡ slice_set k.lanes lane routed = sym (put_back k.lanes lane routed (g ∙ ap (λ (z : CoreLane). Some z) as_routed)) in
       let all : k.counted ≡ k.counted ++ [] = sym (append-nil k.counted) in
       record {
         steps = [];
@@ -64,7 +64,7 @@ module _ (c : Config) (s : Settings) (lane : ℕ) (pasts : List Journal) where
       }
 
   -- a step that took the first unrouted span, and then the others
-  then_pushed : (k : Core) (l : Lane) (unrouted : List Arrival) (first : Step) (shards : List Shard) (counted more : List DroppedSpan) (m n refused : ℕ) (new : List (QueueState Item))
+  then_pushed : (k : Core) (l : CoreLane) (unrouted : List Arrival) (first : Step) (shards : List CoreShard) (counted more : List DroppedSpan) (m n refused : ℕ) (new : List (QueueState Item))
       → step c k first ≡ Some (record k { lanes = slice_set k.lanes lane (record l { unrouted = unrouted }); shards = shards; counted = counted }) → counted ≡ k.counted ++ more
       → ((reason : Reason) → length (under reason more) ≡ cond {A = ℕ} (is_same_reason QueueFull reason) m 0) → refused ≡ m + n
       → Pushed (record k { lanes = slice_set k.lanes lane (record l { unrouted = unrouted }); shards = shards; counted = counted }) (record l { unrouted = unrouted }) n new → Pushed k l refused new
@@ -93,18 +93,18 @@ module _ (c : Config) (s : Settings) (lane : ℕ) (pasts : List Journal) where
       ap (take_first (goes_to shards shard)) u
       ∙ ap (λ (b : Bool). cond {A = Option (Arrival × List Arrival)} b (Some (a, rest)) (option_map (λ (r : Arrival × List Arrival). (r.0, a ∷ r.1)) (take_first (goes_to shards shard) rest))) passes
 
-  module _ (k : Core) (l : Lane) (a : Arrival) (rest : List Arrival) (ids : Ids) (q : a.rec.span.ids ≡ Some ids) (queues : List (List Arrival)) (shard : ℕ)
+  module _ (k : Core) (l : CoreLane) (a : Arrival) (rest : List Arrival) (ids : Ids) (q : a.rec.span.ids ≡ Some ids) (queues : List (List Arrival)) (shard : ℕ)
       (same : length queues ≡ length pasts) (shards : k.shards ≡ shards_with s queues pasts) (at : shard_of ids.trace (length queues) ≡ shard)
       (g : slice_get k.lanes lane ≡ Some l) (u : l.unrouted ≡ a ∷ rest) (queue : List Arrival) (h : slice_get queues shard ≡ Some queue) where
     -- the lane without its first unrouted span
-    abbrev less : Lane
+    abbrev less : CoreLane
     less = record l { unrouted = rest }
 
     of_shard : ShardAt s queues pasts shard queue
     of_shard = shard_at s queues pasts shard queue same h
 
     reads : slice_get k.shards shard ≡ Some (quiet_shard s queue of_shard.past)
-    reads = ap (λ (z : List Shard). slice_get z shard) shards ∙ of_shard.reads
+    reads = ap (λ (z : List CoreShard). slice_get z shard) shards ∙ of_shard.reads
 
     many : length k.shards ≡ length queues
     many = ap length shards ∙ (many_shards s queues pasts same ∙ sym same)
@@ -116,7 +116,7 @@ module _ (c : Config) (s : Settings) (lane : ℕ) (pasts : List Journal) where
     routes : step c k (route lane shard) ≡ Some (record k { lanes = slice_set k.lanes lane less; shards = shards_with s (slice_set queues shard (queue ++ a ∷ [])) pasts })
     routes =
         let puts : slice_set k.shards shard (quiet_shard s (queue ++ a ∷ []) of_shard.past) ≡ shards_with s (slice_set queues shard (queue ++ a ∷ [])) pasts
-        = ap (λ (z : List Shard). slice_set z shard (quiet_shard s (queue ++ a ∷ []) of_shard.past)) shards ∙ of_shard.puts (queue ++ a ∷ []) in
+        = ap (λ (z : List CoreShard). slice_set z shard (quiet_shard s (queue ++ a ∷ []) of_shard.past)) shards ∙ of_shard.puts (queue ++ a ∷ []) in
         rw (← puts, g, reads, taken) refl
 
     -- the span finds its queue full
@@ -124,7 +124,7 @@ module _ (c : Config) (s : Settings) (lane : ℕ) (pasts : List Journal) where
     refuses = rw (g, reads, taken) refl
 
   -- the unrouted spans are pushed one after the other
-  pub pushes : (spans : List Arrival) (old new : List (QueueState Item)) (refused : ℕ) (queues : List (List Arrival)) (k : Core) (l : Lane) → PushesAll TakesLast IsFull spans old refused new
+  pub pushes : (spans : List Arrival) (old new : List (QueueState Item)) (refused : ℕ) (queues : List (List Arrival)) (k : Core) (l : CoreLane) → PushesAll TakesLast IsFull spans old refused new
       → held_in old ≡ as_items queues → length queues ≡ length pasts → k.shards ≡ shards_with s queues pasts → slice_get k.lanes lane ≡ Some l → l.unrouted ≡ filter has_ids spans → Pushed k l refused new
   pushes [] old new refused queues k l p holds same shards g u = nothing_left k l refused old new queues p.0 p.1 holds same shards g u
   pushes (a ∷ rest) old new refused queues k l p holds same shards g u = go a.rec.span.ids refl p.4 (λ queues k l. pushes rest p.2 new p.1 queues k l p.5)
@@ -137,7 +137,7 @@ module _ (c : Config) (s : Settings) (lane : ℕ) (pasts : List Journal) where
 
       -- the others can be pushed from any state of the core that stands so
       Others : Type 0
-      Others = (queues : List (List Arrival)) (k : Core) (l : Lane) → held_in p.2 ≡ as_items queues → length queues ≡ length pasts → k.shards ≡ shards_with s queues pasts → slice_get k.lanes lane ≡ Some l → l.unrouted ≡ filter has_ids rest → Pushed k l p.1 new
+      Others = (queues : List (List Arrival)) (k : Core) (l : CoreLane) → held_in p.2 ≡ as_items queues → length queues ≡ length pasts → k.shards ≡ shards_with s queues pasts → slice_get k.lanes lane ≡ Some l → l.unrouted ≡ filter has_ids rest → Pushed k l p.1 new
 
       go : (o : Option Ids) → a.rec.span.ids ≡ o → PushesOne TakesLast IsFull o (Span a) old p.0 p.2 → Others → Pushed k l refused new
       go None e one others =
@@ -154,7 +154,7 @@ module _ (c : Config) (s : Settings) (lane : ℕ) (pasts : List Journal) where
           ∙ (ap (λ (z : List (List Item)). slice_set z shard (before.items ++ Span a ∷ [])) holds
           ∙ (ap (λ (z : List Item). slice_set (as_items queues) shard z) with_span ∙ sym (map-set (map Span) queues shard (m.0 ++ a ∷ []))))) in
           let many : length longer ≡ length pasts = length-slice_set queues shard (m.0 ++ a ∷ []) ∙ same in
-          let less : Lane = record l { unrouted = filter has_ids rest } in
+          let less : CoreLane = record l { unrouted = filter has_ids rest } in
           let next : Core = record k { lanes = slice_set k.lanes lane less; shards = shards_with s longer pasts } in
           let first = routes k l a (filter has_ids rest) ids e queues shard same shards (ap (shard_of ids.trace) long) g (left (Some ids) e) m.0 m.1 in
           let pushed = others longer next less held many refl (get_set k.lanes lane l less g) refl in
@@ -164,7 +164,7 @@ module _ (c : Config) (s : Settings) (lane : ℕ) (pasts : List Journal) where
           let shard = shard_of ids.trace (length old) in
           let m = mapped_from (map Span) queues shard before.items (ap (λ (z : List (List Item)). slice_get z shard) (sym holds) ∙ mapped_at (λ (z : QueueState Item). z.items) old shard before at) in
           let unchanged : p.2 ≡ old = put ∙ (ap (slice_set old shard) is ∙ put_back old shard before at) in
-          let less : Lane = record l { unrouted = filter has_ids rest } in
+          let less : CoreLane = record l { unrouted = filter has_ids rest } in
           let counted : List DroppedSpan = k.counted ++ counts QueueFull (a ∷ []) in
           let next : Core = record k { lanes = slice_set k.lanes lane less; counted = counted } in
           let first = refuses k l a (filter has_ids rest) ids e queues shard same shards (ap (shard_of ids.trace) long) g (left (Some ids) e) m.0 m.1 in

@@ -6,8 +6,8 @@ use Rattle.otlp_types.specs.declared.arrival.Arrival.{Arrival}
 use Rattle.otlp_types.specs.declared.arrival.Item.{Item}
 use Rattle.otlp_types.specs.declared.arrival.Item.TheVariants.{Span, Tick}
 use Rattle.journal_theory.specs.Journal.{Settings, Journal, is_end_of, has_ended}
-use Rattle.world_theory.specs.World.{Config, World as Core, ticker}
-use Rattle.script_run.specs.World.{Turn, entry_of, with_entry, Takes, TakesEach, to_each}
+use Rattle.world_theory.specs.World.{CoreConfig, World as Core, ticker}
+use Rattle.script_run.specs.World.{ShardTurn, entry_of, with_entry, Takes, TakesEach, to_each}
 use Rattle.rate_budget.specs.Grant.{Asking}
 use Rattle.script_run.proofs.Stands.{no_queues, HasNoEnd}
 use Rattle.script_run.proofs.TakingRounds.{queued, ticked, AllTakable}
@@ -15,14 +15,14 @@ use Rattle.script_run.proofs.TakingRounds.{queued, ticked, AllTakable}
 -- ---- what may be taken
 
 -- each shard may take its queue
-pub may_take_queues : (c : Config) (k : Core) (queues : List (List Arrival)) (pasts : List Journal) → length queues ≡ length pasts → AllTakable c k queues pasts (map (map Span) queues)
+pub may_take_queues : (c : CoreConfig) (k : Core) (queues : List (List Arrival)) (pasts : List Journal) → length queues ≡ length pasts → AllTakable c k queues pasts (map (map Span) queues)
 may_take_queues c k [] [] e = tt
 may_take_queues c k [] (past ∷ pasts) e = absurd (cc e)
 may_take_queues c k (queue ∷ queues) [] e = absurd (cc e)
 may_take_queues c k (queue ∷ queues) (past ∷ pasts) e = (queued refl, may_take_queues c k queues pasts (cc e))
 
 -- each shard may take a tick, where no sender has ended
-pub may_take_ticks : (c : Config) (k : Core) (moment : ℕ) (pasts : List Journal) → AllByRecursion HasNoEnd pasts → AllTakable c k (no_queues pasts) pasts (to_each (Tick moment) pasts)
+pub may_take_ticks : (c : CoreConfig) (k : Core) (moment : ℕ) (pasts : List Journal) → AllByRecursion HasNoEnd pasts → AllTakable c k (no_queues pasts) pasts (to_each (Tick moment) pasts)
 may_take_ticks c k moment [] h = tt
 may_take_ticks c k moment (past ∷ pasts) h = (ticked moment refl refl (h.0 (ticker k)), may_take_ticks c k moment pasts h.1)
 
@@ -33,8 +33,8 @@ abbrev pub IsNoEnd : Item → Type 0
 IsNoEnd item = (sender : ℕ) → is_end_of sender item ≡ false
 
 -- a shard that takes no End has none in its journal
-takes_no_end : (s : Settings) (items : List Item) (past next : Turn) → AllByRecursion IsNoEnd items → Takes s past items next → HasNoEnd past.journal → HasNoEnd next.journal
-takes_no_end s [] past next n h o = subst (λ (z : Turn). HasNoEnd z.journal) (sym h) o
+takes_no_end : (s : Settings) (items : List Item) (past next : ShardTurn) → AllByRecursion IsNoEnd items → Takes s past items next → HasNoEnd past.journal → HasNoEnd next.journal
+takes_no_end s [] past next n h o = subst (λ (z : ShardTurn). HasNoEnd z.journal) (sym h) o
 takes_no_end s (item ∷ items) past next n h o = takes_no_end s items (with_entry s past (entry_of item h.0 h.1)) next n.1 h.3 (λ sender. neither (is_end_of sender item) (has_ended past.journal sender) (n.0 sender) (o sender))
   where
     neither : (a b : Bool) → a ≡ false → b ≡ false → (a || b) ≡ false

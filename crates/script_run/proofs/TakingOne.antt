@@ -8,7 +8,7 @@ use Rattle.journal_theory.specs.Journal.{Settings, Entry, Journal, Opening, due_
 use Rattle.policy_eval.specs.Given.{are_answered}
 use Rattle.journal_theory.specs.Fate.{Effect, no_effect, ◌then◌, DroppedSpan, effect, effect_of_taking, effect_of_decision, effect_of_decisions}
 use Rattle.journal_theory.specs.Marked.{marks_apply_to_ids}
-use Rattle.world_theory.specs.World.{Config, Shard, World as Core, settings, ticker, has_due}
+use Rattle.world_theory.specs.World.{CoreConfig, CoreShard, World as Core, settings, ticker, has_due}
 use Rattle.world_theory.specs.Step.{Step, step, take as take_step, tick, end, decide, ship, take_on, tick_on, end_on, decide_on, ship_on, sender_is_done, after_decision}
 use Rattle.world_theory.proofs.DecidingInTurn.{mid_get, decides_all}
 use Rattle.script_run.specs.World.{entry_of}
@@ -68,22 +68,22 @@ effect_more s e J = then_assoc (effect s J) (effect_of_taking s e J) (effect_of_
 
 -- ---- one shard of many
 
-module _ (c : Config) (k : Core) where
+module _ (c : CoreConfig) (k : Core) where
   -- the settings of each shard
   abbrev pub own : Settings
   own = settings c k
 
   -- the core where the shards, what they shipped and what is counted are these
-  abbrev pub with_shards : List Shard → (exported : List Arrival) → (counted : List DroppedSpan) → Core
+  abbrev pub with_shards : List CoreShard → (exported : List Arrival) → (counted : List DroppedSpan) → Core
   with_shards shards exported counted = record k { shards = shards; exported = exported; counted = counted }
 
   -- a shard by its parts
-  abbrev shard : (queue : List Arrival) → Journal → (dealt : ℕ) → (unshipped : List Arrival) → Shard
+  abbrev shard : (queue : List Arrival) → Journal → (dealt : ℕ) → (unshipped : List Arrival) → CoreShard
   shard queue J dealt unshipped = record { queue = queue; journal = J; dealt = dealt; unshipped = unshipped }
 
-  module _ (front rest : List Shard) where
+  module _ (front rest : List CoreShard) where
     -- the core with this shard among the others
-    abbrev pub among : Shard → (exported : List Arrival) → (counted : List DroppedSpan) → Core
+    abbrev pub among : CoreShard → (exported : List Arrival) → (counted : List DroppedSpan) → Core
     among sh exported counted = with_shards (front ++ sh ∷ rest) exported counted
 
     -- the oldest episode that is due is decided by these answers
@@ -92,9 +92,9 @@ module _ (c : Config) (k : Core) where
         Leads c (among (shard q (given_to e given ∷ J) n u) X C) (among (shard q (given_to e (given ++ answers ∷ []) ∷ J) (n + 1) (u ++ (effect_of_decision d).released)) X (C ++ (effect_of_decision d).counted)))
     decides_one q u X e J given n C o answers due fits = leads_one c _ _ (decide (length front) answers) (ap (option_and_then (decide_on c w (length front) answers)) (mid_get front sh rest)
         ∙ (ap (option_map (after_decision w (length front) sh answers)) (next_effect own e J given n o answers due fits)
-        ∙ ap (λ (z : List Shard). Some (with_shards z X (C ++ did.counted))) (mid_set front sh (shard q (given_to e (given ++ answers ∷ []) ∷ J) (n + 1) (u ++ did.released)) rest)))
+        ∙ ap (λ (z : List CoreShard). Some (with_shards z X (C ++ did.counted))) (mid_set front sh (shard q (given_to e (given ++ answers ∷ []) ∷ J) (n + 1) (u ++ did.released)) rest)))
       where
-        sh : Shard
+        sh : CoreShard
         sh = shard q (given_to e given ∷ J) n u
 
         w : Core
@@ -112,9 +112,9 @@ module _ (c : Config) (k : Core) where
         w : Core
         w = among (shard q J n (a ∷ u)) X C
 
-        one : option_and_then (λ (sh : Shard). ship_on w (length front) sh sh.unshipped) (slice_get (front ++ shard q J n (a ∷ u) ∷ rest) (length front)) ≡ Some (among (shard q J n u) (X ++ a ∷ []) C)
-        one = ap (option_and_then (λ (sh : Shard). ship_on w (length front) sh sh.unshipped)) (mid_get front (shard q J n (a ∷ u)) rest)
-            ∙ ap (λ (z : List Shard). Some (with_shards z (X ++ a ∷ []) C)) (mid_set front (shard q J n (a ∷ u)) (shard q J n u) rest)
+        one : option_and_then (λ (sh : CoreShard). ship_on w (length front) sh sh.unshipped) (slice_get (front ++ shard q J n (a ∷ u) ∷ rest) (length front)) ≡ Some (among (shard q J n u) (X ++ a ∷ []) C)
+        one = ap (option_and_then (λ (sh : CoreShard). ship_on w (length front) sh sh.unshipped)) (mid_get front (shard q J n (a ∷ u)) rest)
+            ∙ ap (λ (z : List CoreShard). Some (with_shards z (X ++ a ∷ []) C)) (mid_set front (shard q J n (a ∷ u)) (shard q J n u) rest)
 
     -- once an entry was taken, all that is due is decided and all that was released is shipped
     settles : (q X : List Arrival) (J : Journal) (e : Entry) (C : List DroppedSpan) → AreGiven own e J
@@ -141,22 +141,22 @@ module _ (c : Config) (k : Core) where
         → Leads c (among (quiet_shard own before J) X C) (among (quiet_shard own after (e ∷ J)) (X ++ (gain own e J).released) (C ++ (gain own e J).counted))
 
     -- a step by which a quiet shard takes an entry leads to a quiet shard
-    takes_by : (s : Step) (before after : List Arrival) (J : Journal) (e : Entry) (on : List Arrival → List DroppedSpan → Shard → Option Core) → AreGiven own e J
+    takes_by : (s : Step) (before after : List Arrival) (J : Journal) (e : Entry) (on : List Arrival → List DroppedSpan → CoreShard → Option Core) → AreGiven own e J
         → ((X : List Arrival) (C : List DroppedSpan) → step c (among (quiet_shard own before J) X C) s ≡ option_and_then (on X C) (slice_get (front ++ quiet_shard own before J ∷ rest) (length front)))
         → ((X : List Arrival) (C : List DroppedSpan) → on X C (quiet_shard own before J)
         ≡ Some (with_shards (slice_set (front ++ quiet_shard own before J ∷ rest) (length front) (shard after (given_to e [] ∷ J) 0 (effect_of_taking own e J).released)) X (C ++ (effect_of_taking own e J).counted)))
         → TakesQuietly before after J e
     takes_by s before after J e on fits steps takes X C = leads_then c _ _ _ (leads_one c _ _ s one) (settles after X J e C fits)
       where
-        old : Shard
+        old : CoreShard
         old = quiet_shard own before J
 
-        new : Shard
+        new : CoreShard
         new = shard after (given_to e [] ∷ J) 0 (effect_of_taking own e J).released
 
         one : step c (among old X C) s ≡ Some (among new X (C ++ (effect_of_taking own e J).counted))
         one = steps X C ∙ (ap (option_and_then (on X C)) (mid_get front old rest) ∙ (takes X C
-            ∙ ap (λ (z : List Shard). Some (with_shards z X (C ++ (effect_of_taking own e J).counted))) (mid_set front old new rest)))
+            ∙ ap (λ (z : List CoreShard). Some (with_shards z X (C ++ (effect_of_taking own e J).counted))) (mid_set front old new rest)))
 
     -- a quiet shard takes the first span of its queue
     pub takes_span : (a : Arrival) (q : List Arrival) (J : Journal) (refused lost : Bool) (given : List (List Bool)) → marks_apply_to_ids own J refused lost a.rec.span.ids ≡ true

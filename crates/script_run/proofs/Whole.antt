@@ -11,14 +11,14 @@ use Rattle.span_ids.specs.declared.outcome.Reason.TheVariants.{InvalidId, QueueF
 use Rattle.journal_theory.specs.Journal.{Settings, Journal, due_now}
 use Rattle.journal_theory.proofs.ListFacts.{Each, tally, length_filter}
 use Rattle.span_exporter.specs.declared.answer.Flushed.{Flushed}
-use Rattle.span_exporter.specs.declared.answer.Flushed.TheVariants.{Handed as WasHanded, Spoiled, Empty}
+use Rattle.span_exporter.specs.declared.answer.Flushed.TheVariants.{Handed as WasHanded, BatchDropped, Empty}
 use Rattle.span_sink.specs.LineSinks.{LineSinkState}
-use Rattle.world_theory.specs.World.{Config, Lane, Shard, World as Core, KeepsATrace, new_lane, new_shard, new_world as new_core, settings, has_due}
+use Rattle.world_theory.specs.World.{CoreConfig, CoreLane, CoreShard, World as Core, KeepsATrace, new_lane, new_shard, new_world as new_core, settings, has_due}
 use Rattle.world_theory.specs.Step.{Step, run, is_empty}
 use Rattle.world_theory.proofs.Parts.{headline}
 use Rattle.drop_ledger.specs.declared.count.Count.{Count}
 use Rattle.drop_ledger.specs.declared.count.Count.TheVariants.{Received, Handed, Dropped}
-use Rattle.script_run.specs.World.{World, Sizes, Event, replied, was_sent, new_world}
+use Rattle.script_run.specs.World.{ScriptWorld, Sizes, OutputEvent, replied, was_sent, new_world}
 use Rattle.script_run.specs.Counts.{counted_at, counted_for, dropped_by_journal, number_reported}
 use Rattle.script_run.specs.CoreRun.{core_config, count_in, is_of_lane, is_quiet, WaitsInBuffers, IsRunOfCore}
 use Rattle.script_run.specs.Laws.{CanPlay, EachIsARunOfCore}
@@ -30,16 +30,16 @@ use Rattle.script_run.proofs.Playing.{ShardsAndExporter, plays_all}
 -- ---- before the first line
 
 -- the lanes of a new core
-new_lanes : (w : World) (first many : ℕ) → w.received ≡ [] → w.closed ≡ false → replicate many new_lane ≡ lanes_from w first many
+new_lanes : (w : ScriptWorld) (first many : ℕ) → w.received ≡ [] → w.closed ≡ false → replicate many new_lane ≡ lanes_from w first many
 new_lanes w first zero e f = refl
 new_lanes w first (suc many) e f =
     let one : new_lane ≡ routed_lane w first = λ i. record { received = sym (ap (filter (is_of_lane first)) e) i; unrouted = []; ended = sym f i } in
-    ap (λ (z : Lane). z ∷ replicate many new_lane) one ∙ ap (λ (z : List Lane). routed_lane w first ∷ z) (new_lanes w (first + 1) many e f)
+    ap (λ (z : CoreLane). z ∷ replicate many new_lane) one ∙ ap (λ (z : List CoreLane). routed_lane w first ∷ z) (new_lanes w (first + 1) many e f)
 
 -- the shards of a new core
 new_shards : (s : Settings) (many : ℕ) → replicate many new_shard ≡ shards_with s (no_queues (replicate many [])) (replicate many [])
 new_shards s zero = refl
-new_shards s (suc many) = ap (λ (z : List Shard). new_shard ∷ z) (new_shards s many)
+new_shards s (suc many) = ap (λ (z : List CoreShard). new_shard ∷ z) (new_shards s many)
 
 -- journals without an entry count nothing
 nothing_dropped : (s : Settings) (reason : Reason) (many : ℕ) → sum_by (dropped_by_journal s reason) (replicate many []) ≡ 0
@@ -85,11 +85,11 @@ stands_new s sizes lanes shards first can up =
 -- ---- what the lanes received
 
 -- a lane has its part of what was received
-lane_received : (w : World) (first many i : ℕ) (l : Lane) (lane : ℕ) → lane ≡ first + i → slice_get (lanes_from w first many) i ≡ Some l → l.received ≡ filter (is_of_lane lane) w.received
+lane_received : (w : ScriptWorld) (first many i : ℕ) (l : CoreLane) (lane : ℕ) → lane ≡ first + i → slice_get (lanes_from w first many) i ≡ Some l → l.received ≡ filter (is_of_lane lane) w.received
 lane_received w first zero i l lane e g = absurd (cc g)
 lane_received w first (suc many) zero l lane e g =
     let same : routed_lane w first ≡ l = cc g in
-    let at : first ≡ lane = omega (arith, e) in sym (ap (λ (z : Lane). z.received) same) ∙ ap (λ (n : ℕ). filter (is_of_lane n) w.received) at
+    let at : first ≡ lane = omega (arith, e) in sym (ap (λ (z : CoreLane). z.received) same) ∙ ap (λ (n : ℕ). filter (is_of_lane n) w.received) at
 lane_received w first (suc many) (suc i) l lane e g = lane_received w (first + 1) many i l lane (omega (arith, e)) g
 
 -- how many of these came on so many lanes from this one on
@@ -98,9 +98,9 @@ came first zero spans = 0
 came first (suc many) spans = tally (is_of_lane first) spans + came (first + 1) many spans
 
 -- the lanes received so many spans
-lanes_came : (w : World) (first many : ℕ) → length (flat_map (λ (l : Lane). l.received) (lanes_from w first many)) ≡ came first many w.received
+lanes_came : (w : ScriptWorld) (first many : ℕ) → length (flat_map (λ (l : CoreLane). l.received) (lanes_from w first many)) ≡ came first many w.received
 lanes_came w first zero = refl
-lanes_came w first (suc many) = omega (arith, length-append (filter (is_of_lane first) w.received) (flat_map (λ (l : Lane). l.received) (lanes_from w (first + 1) many)), length_filter (is_of_lane first) w.received, lanes_came w (first + 1) many)
+lanes_came w first (suc many) = omega (arith, length-append (filter (is_of_lane first) w.received) (flat_map (λ (l : CoreLane). l.received) (lanes_from w (first + 1) many)), length_filter (is_of_lane first) w.received, lanes_came w (first + 1) many)
 
 -- no span came where there is none
 none_came : (first many : ℕ) → came first many [] ≡ 0
@@ -137,28 +137,28 @@ all_came connected (a ∷ rest) h = omega (arith, came_within 0 (length connecte
 -- events count no span as received
 none_for : (flushed : Flushed) → counted_for Received flushed ≡ 0
 none_for (WasHanded spans) = refl
-none_for (Spoiled spans why) = refl
+none_for (BatchDropped spans why) = refl
 none_for Empty = refl
 
 -- no event counts a span as received
-none_at : (event : Event) → counted_at Received event ≡ 0
+none_at : (event : OutputEvent) → counted_at Received event ≡ 0
 none_at (replied reply) = refl
 none_at (was_sent sent) = none_for sent.flushed
 
 -- nor do several
-no_events_count : (events : List Event) → sum_by (counted_at Received) events ≡ 0
+no_events_count : (events : List OutputEvent) → sum_by (counted_at Received) events ≡ 0
 no_events_count [] = refl
 no_events_count (event ∷ more) = omega (arith, sum_by-cons (counted_at Received) event more, none_at event, no_events_count more)
 
 -- ---- what waits
 
 -- no lane has a span to route
-all_routed : (w : World) (first many : ℕ) → list_all (λ (l : Lane). is_empty l.unrouted) (lanes_from w first many) ≡ true
+all_routed : (w : ScriptWorld) (first many : ℕ) → list_all (λ (l : CoreLane). is_empty l.unrouted) (lanes_from w first many) ≡ true
 all_routed w first zero = refl
 all_routed w first (suc many) = all_routed w (first + 1) many
 
 -- there are so many lanes
-many_lanes : (w : World) (first many : ℕ) → length (lanes_from w first many) ≡ many
+many_lanes : (w : ScriptWorld) (first many : ℕ) → length (lanes_from w first many) ≡ many
 many_lanes w first zero = refl
 many_lanes w first (suc many) = omega (arith, many_lanes w (first + 1) many)
 
@@ -172,28 +172,28 @@ all_quiet s [] = refl
 all_quiet s (past ∷ pasts) = ap (λ (b : Bool). (true && not b && true) && list_all (is_quiet s) (shards_with s (no_queues pasts) pasts)) (none_due s past) ∙ all_quiet s pasts
 
 -- the shards have their journals
-own_journals : (s : Settings) (pasts : List Journal) → map (λ (sh : Shard). sh.journal) (shards_with s (no_queues pasts) pasts) ≡ pasts
+own_journals : (s : Settings) (pasts : List Journal) → map (λ (sh : CoreShard). sh.journal) (shards_with s (no_queues pasts) pasts) ≡ pasts
 own_journals s [] = refl
 own_journals s (past ∷ pasts) = ap (λ (z : List Journal). past ∷ z) (own_journals s pasts)
 
 -- ---- a run of the core
 
-module _ (s : Settings) (sizes : Sizes) (w : World) (k : Core) (st : Stands s sizes w (no_queues w.journals) k) (known : KnowsConnections w) where
+module _ (s : Settings) (sizes : Sizes) (w : ScriptWorld) (k : Core) (st : Stands s sizes w (no_queues w.journals) k) (known : KnowsConnections w) where
   -- the core's configuration
-  abbrev c : Config
+  abbrev c : CoreConfig
   c = core_config s sizes
 
   -- the core's settings are the script's
   same_settings : settings c k ≡ s
   same_settings =
-      let senders : length k.lanes + 1 ≡ s.senders = ap (λ (z : List Lane). length z + 1) st.lanes ∙ (ap (λ (n : ℕ). n + 1) (many_lanes w 0 (length w.contacts.connected)) ∙ sym st.senders) in
+      let senders : length k.lanes + 1 ≡ s.senders = ap (λ (z : List CoreLane). length z + 1) st.lanes ∙ (ap (λ (n : ℕ). n + 1) (many_lanes w 0 (length w.contacts.connected)) ∙ sym st.senders) in
       λ i. record s { senders = senders i }
 
   -- the core's counts are the script's
   counts : (count : Count) → count_in k count ≡ number_reported s w count
   counts Received =
-      let all : length (flat_map (λ (l : Lane). l.received) k.lanes) ≡ length w.received
-      = ap (λ (z : List Lane). length (flat_map (λ (l : Lane). l.received) z)) st.lanes ∙ (lanes_came w 0 (length w.contacts.connected) ∙ all_came w.contacts.connected w.received known.came) in
+      let all : length (flat_map (λ (l : CoreLane). l.received) k.lanes) ≡ length w.received
+      = ap (λ (z : List CoreLane). length (flat_map (λ (l : CoreLane). l.received) z)) st.lanes ∙ (lanes_came w 0 (length w.contacts.connected) ∙ all_came w.contacts.connected w.received known.came) in
       omega (arith, all, no_events_count w.events)
   counts Handed = st.handed_over
   counts (Dropped reason) = st.dropped reason
@@ -201,7 +201,7 @@ module _ (s : Settings) (sizes : Sizes) (w : World) (k : Core) (st : Stands s si
   -- all that waits is in the buffers
   waits : WaitsInBuffers c k
   waits = record {
-    routed = ap (list_all (λ (l : Lane). is_empty l.unrouted)) st.lanes ∙ all_routed w 0 (length w.contacts.connected);
+    routed = ap (list_all (λ (l : CoreLane). is_empty l.unrouted)) st.lanes ∙ all_routed w 0 (length w.contacts.connected);
     taken = ap (λ (z : Settings). list_all (is_quiet z) k.shards) same_settings ∙ (ap (list_all (is_quiet s)) st.shards ∙ all_quiet s w.journals);
     pulled = st.exported;
     sent = st.batch;
@@ -214,8 +214,8 @@ module _ (s : Settings) (sizes : Sizes) (w : World) (k : Core) (st : Stands s si
     core = k;
     runs = e;
     holds = headline c lanes shards steps k keeps e;
-    received = λ lane l g. lane_received w 0 (length w.contacts.connected) lane l lane (omega arith) (ap (λ (z : List Lane). slice_get z lane) (sym st.lanes) ∙ g);
-    journals = ap (map (λ (sh : Shard). sh.journal)) st.shards ∙ own_journals s w.journals;
+    received = λ lane l g. lane_received w 0 (length w.contacts.connected) lane l lane (omega arith) (ap (λ (z : List CoreLane). slice_get z lane) (sym st.lanes) ∙ g);
+    journals = ap (map (λ (sh : CoreShard). sh.journal)) st.shards ∙ own_journals s w.journals;
     handed = st.handed;
     down = st.down;
     counts = counts;

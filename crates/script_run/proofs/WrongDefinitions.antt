@@ -1,5 +1,5 @@
--- Wrong definitions of what a script means, each with a run that breaks a law.
--- No clause needs them: they show what the laws of `Laws` say. Where a request is read, its body is any that is taken for it.
+-- Wrong definitions of what a script means, each with a run that breaks a law. No clause needs them: they show what the
+-- laws of `Laws` say. Where a request is read, its body is any that is taken for it.
 use Rattle.std.proofs.Common.{inl, inr, ◌≡◌, ℕ, suc, ◌+◌, Bool, true, false, List, [], ◌∷◌, ◌++◌, length, map, flat_map, Some, refl, sym, ap, subst, ◌∙◌, arith, append-nil}
 use Rattle.std.specs.Prelude.{if◌then◌else◌, IsTrue}
 use Rattle.std.specs.List.{list_all, AllByRecursion}
@@ -16,8 +16,8 @@ use Rattle.journal_theory.specs.Journal.{Settings, Journal, Entry, notes, have_e
 use Rattle.span_sink.specs.LineSinks.{LineSinkState}
 use Rattle.span_exporter.specs.Exports.{WritesLine}
 use Rattle.span_exporter.specs.declared.answer.Flushed.{Flushed}
-use Rattle.span_exporter.specs.declared.answer.Flushed.TheVariants.{Handed as WasHanded, Spoiled, Empty}
-use Rattle.world_theory.specs.World.{Lane, Shard, World as Core, new_world as new_core, settings}
+use Rattle.span_exporter.specs.declared.answer.Flushed.TheVariants.{Handed as WasHanded, BatchDropped, Empty}
+use Rattle.world_theory.specs.World.{CoreLane, CoreShard, World as Core, new_world as new_core, settings}
 use Rattle.world_theory.specs.Step.{Step, run}
 use Rattle.world_theory.specs.Headline.{handed_spans}
 use Rattle.world_theory.proofs.Samples.{always, plain, key}
@@ -27,7 +27,7 @@ use Rattle.world_theory.proofs.AllAnswered.{answered_new}
 use Rattle.tsc_script.specs.Instructions.{Instruction, receive, tick}
 use Rattle.script_run.specs.Connections.{Contacts, connection_of, with_connection, with_received}
 use Rattle.script_run.specs.Requests.{reads, refuses, IsTakenFor, arrivals_of, reply_line}
-use Rattle.script_run.specs.World.{World, Event, replied, was_sent, Sizes, new_world, Plays, PlaysAll, TakesRounds, RunsToQuiet, empty_queues, entry_of, ends_from}
+use Rattle.script_run.specs.World.{ScriptWorld, OutputEvent, replied, was_sent, Sizes, new_world, Plays, PlaysAll, TakesRounds, RunsToQuiet, empty_queues, entry_of, ends_from}
 use Rattle.script_run.specs.Counts.{number_reported}
 use Rattle.script_run.specs.Calm.{is_for_memory, IsUnmarked, Calm}
 use Rattle.script_run.specs.Writing.{handed_in}
@@ -37,7 +37,7 @@ use Rattle.script_run.specs.Laws.{Agrees, CalmRunsAgree}
 -- ---- one lane and one shard
 
 abbrev pub own : Settings
-own = record { policies = always; wait = 10; root_wait = 0; maximum_size = 0; limit = Some 1; sampled_size = 1; non_sampled_size = 1; senders = 2 }
+own = record { policies = always; decision_wait = 10; root_wait = 0; maximum_trace_size = 0; num_traces = Some 1; sampled_cache_size = 1; non_sampled_cache_size = 1; senders = 2 }
 
 -- batches of one span, queues of this capacity, and doubles that are discarded
 abbrev pub with_queue : ℕ → Sizes
@@ -46,7 +46,7 @@ with_queue capacity = record { batch = 1; queue = capacity; keeps_doubles = fals
 abbrev first_sink : LineSinkState
 first_sink = record { taken = Some []; failures = 0; is_down = false }
 
-abbrev pub start : World
+abbrev pub start : ScriptWorld
 start = new_world 1 1 first_sink
 
 abbrev busy_line : List ℕ
@@ -64,43 +64,43 @@ pub writes : (taken line : List ℕ) → WritesLine (up_with taken) line (up_wit
 writes taken line = inl (record { was_up = refl; stays_up = refl; no_failure = refl; bytes = refl })
 
 -- what the shard takes releases nothing
-pub silent : (sizes : Sizes) (old : World) (journals : List Journal) (rounds : List (List (List Item))) → TakesRounds own old.journals old.askings rounds journals old.askings []
+pub silent : (sizes : Sizes) (old : ScriptWorld) (journals : List Journal) (rounds : List (List (List Item))) → TakesRounds own old.journals old.askings rounds journals old.askings []
     → RunsToQuiet own sizes old rounds (record old { journals = journals })
 silent sizes old journals rounds takes = record {
   released = [];
   takes = takes;
   batches = [];
   sends = record { are_batches = tt; are_all = refl; sends = refl };
-  becomes = ap (λ (events : List Event). record old { journals = journals; events = events }) (sym (append-nil old.events));
+  becomes = ap (λ (events : List OutputEvent). record old { journals = journals; events = events }) (sym (append-nil old.events));
 }
 
 -- it takes nothing
-stays : (w : World) → RunsToQuiet own (with_queue 1) w [] w
+stays : (w : ScriptWorld) → RunsToQuiet own (with_queue 1) w [] w
 stays w = silent (with_queue 1) w w.journals [] (refl, refl, refl)
 
 -- ---- a script in which a request was refused as busy is calm, too
 
-abbrev is_refusal_but_busy : Event → Bool
+abbrev is_refusal_but_busy : OutputEvent → Bool
 is_refusal_but_busy (replied reply) = false
 is_refusal_but_busy (was_sent sent) = is_for_memory sent.flushed
 
-record CalmThoughBusy (w : World) : Type 0 where
+record CalmThoughBusy (w : ScriptWorld) : Type 0 where
   events : AllByRecursion (λ event. is_refusal_but_busy event ≡ false) w.events
   journals : AllByRecursion IsUnmarked w.journals
   up : w.sink.is_down ≡ false
 
 -- two runs of one script do the same where both are calm by this
-abbrev RunsAgreeWhere : (World → Type 0) → Type 0
-RunsAgreeWhere IsCalm = (s : Settings) (sizes : Sizes) (lanes shards : ℕ) (first : LineSinkState) (played : List Instruction) (a b : World)
+abbrev RunsAgreeWhere : (ScriptWorld → Type 0) → Type 0
+RunsAgreeWhere IsCalm = (s : Settings) (sizes : Sizes) (lanes shards : ℕ) (first : LineSinkState) (played : List Instruction) (a b : ScriptWorld)
     → PlaysAll s sizes (new_world lanes shards first) played a → PlaysAll s sizes (new_world lanes shards first) played b → IsCalm a → IsCalm b → Agrees s first a b
 
 right_calm : CalmRunsAgree → RunsAgreeWhere Calm
 right_calm h = h
 
-abbrev busy_unconnected : World
+abbrev busy_unconnected : ScriptWorld
 busy_unconnected = record start { events = replied Busy ∷ []; sink = busy_written }
 
-abbrev busy_connected : World
+abbrev busy_connected : ScriptWorld
 busy_connected = record busy_unconnected { contacts = with_connection 0 start.contacts }
 
 -- the first is busy before there was a connection, and the second behind one
@@ -123,7 +123,7 @@ abbrev FailedTwice : (first last : LineSinkState) → Type 0
 FailedTwice first last = last.failures ≡ first.failures + (if last.is_down then 2 else 0)
 
 -- the sink fails at the first byte of the first reply
-abbrev failed : World
+abbrev failed : ScriptWorld
 failed = record start { events = replied Busy ∷ []; sink = record { taken = Some []; failures = 1; is_down = true } }
 
 failed_written : WritesLine first_sink busy_line failed.sink
@@ -139,10 +139,10 @@ fails_twice law = let z : 1 ≡ 2 = law in absurd (omega (arith, z))
 
 abbrev given_up_too : Flushed → List Arrival → List (List Arrival) → List (List Arrival)
 given_up_too (WasHanded spans) batch rest = batch ∷ rest
-given_up_too (Spoiled spans reason) batch rest = batch ∷ rest
+given_up_too (BatchDropped spans reason) batch rest = batch ∷ rest
 given_up_too Empty batch rest = rest
 
-abbrev handed_or_given_up : List Event → List (List Arrival)
+abbrev handed_or_given_up : List OutputEvent → List (List Arrival)
 handed_or_given_up [] = []
 handed_or_given_up (replied reply ∷ more) = handed_or_given_up more
 handed_or_given_up (was_sent sent ∷ more) = given_up_too sent.flushed sent.batch (handed_or_given_up more)
@@ -164,7 +164,7 @@ abbrev pub done_line : List ℕ
 done_line = reply_line (Done 1)
 
 -- the span waits; then a tick releases it, and its batch is given up for want of memory
-abbrev waiting_world : World
+abbrev waiting_world : ScriptWorld
 waiting_world = record start {
   contacts = with_received 0 1 start.contacts;
   received = span ∷ [];
@@ -176,10 +176,10 @@ waiting_world = record start {
 abbrev ticked : Entry
 ticked = record { item = Tick 11; refused = false; lost = false; answers = [] ∷ [] }
 
-abbrev spoiled : World
-spoiled = record waiting_world {
+abbrev batch_dropped : ScriptWorld
+batch_dropped = record waiting_world {
   journals = (ticked ∷ entry_of (Span span) false false ∷ []) ∷ [];
-  events = replied (Done 1) ∷ was_sent (record { batch = span ∷ []; flushed = Spoiled 1 NoMemory }) ∷ [];
+  events = replied (Done 1) ∷ was_sent (record { batch = span ∷ []; flushed = BatchDropped 1 NoMemory }) ∷ [];
 }
 
 -- the span is pushed to the shard's queue
@@ -200,20 +200,20 @@ waiting_played body taken = (refl, refl, inr (reads of_one_span, taken, (Done 1,
     takes : TakesRounds own start.journals [] (((Span span ∷ []) ∷ []) ∷ []) waiting_world.journals [] []
     takes = (waiting_world.journals, [], [], [], ([], [], [], ((false, false, refl, refl), refl), (refl, refl), refl), (refl, refl, refl), refl)
 
-spoiled_played : (body : List ℕ) → IsTakenFor false body (reads of_one_span) → PlaysAll own (with_queue 1) start (receive 0 0 body ∷ tick 11 ∷ []) spoiled
+dropped_played : (body : List ℕ) → IsTakenFor false body (reads of_one_span) → PlaysAll own (with_queue 1) start (receive 0 0 body ∷ tick 11 ∷ []) batch_dropped
 unfolding notes
-spoiled_played body taken = (
+dropped_played body taken = (
   waiting_world,
   waiting_played body taken,
   (
-    spoiled,
+    batch_dropped,
     (
       refl,
       refl,
       record {
         released = span ∷ [];
-        takes = (spoiled.journals, [], span ∷ [], [], (span ∷ [], [], [], ((false, false, refl, refl), refl), (refl, refl), refl), (refl, refl, refl), refl);
-        batches = record { batch = span ∷ []; flushed = Spoiled 1 NoMemory } ∷ [];
+        takes = (batch_dropped.journals, [], span ∷ [], [], (span ∷ [], [], [], ((false, false, refl, refl), refl), (refl, refl), refl), (refl, refl, refl), refl);
+        batches = record { batch = span ∷ []; flushed = BatchDropped 1 NoMemory } ∷ [];
         sends = record { are_batches = (omega arith, omega arith); are_all = refl; sends = (waiting_world.sink, (omega arith, refl, (refl, refl)), refl) };
         becomes = refl;
       },
@@ -222,7 +222,7 @@ spoiled_played body taken = (
   ),
 )
 
-given_up_batch_as_handed : IsRunBy number_reported handed_or_given_up own (with_queue 1) 1 1 spoiled → ⊥
+given_up_batch_as_handed : IsRunBy number_reported handed_or_given_up own (with_queue 1) 1 1 batch_dropped → ⊥
 unfolding notes
 given_up_batch_as_handed law =
     let one : length (handed_spans law.core) ≡ 1 = ap (λ (batches : List (List Arrival)). length (flat_map (λ batch. batch) batches)) law.handed in
@@ -232,22 +232,22 @@ given_up_batch_as_handed law =
 -- ---- the first lane and the shard of a run
 
 -- lanes that received something
-pub record FirstLane (lanes : List Lane) : Type 0 where
-  pub first : Lane
-  pub others : List Lane
+pub record FirstLane (lanes : List CoreLane) : Type 0 where
+  pub first : CoreLane
+  pub others : List CoreLane
   pub are : lanes ≡ first ∷ others
 
-pub some_lane : (lanes : List Lane) (n : ℕ) → length (flat_map (λ (l : Lane). l.received) lanes) ≡ suc n → FirstLane lanes
+pub some_lane : (lanes : List CoreLane) (n : ℕ) → length (flat_map (λ (l : CoreLane). l.received) lanes) ≡ suc n → FirstLane lanes
 some_lane [] n e = let z : 0 ≡ suc n = e in absurd (omega (arith, z))
 some_lane (l ∷ ls) n e = record { first = l; others = ls; are = refl }
 
 -- the one shard, whose journal is this
-pub record OneShard (shards : List Shard) (past : Journal) : Type 0 where
-  pub one : Shard
+pub record OneShard (shards : List CoreShard) (past : Journal) : Type 0 where
+  pub one : CoreShard
   pub are : shards ≡ one ∷ []
   pub journal : one.journal ≡ past
 
-pub one_shard : (shards : List Shard) (past : Journal) → map (λ (sh : Shard). sh.journal) shards ≡ past ∷ [] → OneShard shards past
+pub one_shard : (shards : List CoreShard) (past : Journal) → map (λ (sh : CoreShard). sh.journal) shards ≡ past ∷ [] → OneShard shards past
 one_shard [] past e = absurd (cc e)
 one_shard (sh ∷ []) past e = record { one = sh; are = refl; journal = cc e }
 one_shard (sh ∷ next ∷ more) past e = absurd (cc e)
@@ -260,7 +260,7 @@ own_settings steps sizes core e =
 
 -- ---- the ticker's End is left out at a close
 
-abbrev never_ended : World
+abbrev never_ended : ScriptWorld
 never_ended = record start { journals = (entry_of (End 0) false false ∷ []) ∷ []; closed = true }
 
 never_ended_played : RunsToQuiet own (with_queue 1) (record start { closed = true }) (ends_from 0 (length start.contacts.connected) start.journals) never_ended
@@ -271,8 +271,8 @@ never_ended_played = silent (with_queue 1) (record start { closed = true }) neve
 ticker_never_ends : IsRunBy number_reported handed_in own (with_queue 1) 1 1 never_ended → ⊥
 ticker_never_ends law =
     let is = one_shard law.core.shards (entry_of (End 0) false false ∷ []) law.journals in
-    let ended : IsTrue (list_all (λ (sh : Shard). have_ended sh.journal (settings (core_config own (with_queue 1)) law.core).senders) law.core.shards) = (law.closed refl).ends_taken in
-    let of_one = subst (λ (shards : List Shard). IsTrue (list_all (λ (sh : Shard). have_ended sh.journal (settings (core_config own (with_queue 1)) law.core).senders) shards)) is.are ended in
-    let of_two = subst (λ (s : Settings). IsTrue (list_all (λ (sh : Shard). have_ended sh.journal s.senders) (is.one ∷ []))) (own_settings law.steps (with_queue 1) law.core law.runs) of_one in
+    let ended : IsTrue (list_all (λ (sh : CoreShard). have_ended sh.journal (settings (core_config own (with_queue 1)) law.core).senders) law.core.shards) = (law.closed refl).ends_taken in
+    let of_one = subst (λ (shards : List CoreShard). IsTrue (list_all (λ (sh : CoreShard). have_ended sh.journal (settings (core_config own (with_queue 1)) law.core).senders) shards)) is.are ended in
+    let of_two = subst (λ (s : Settings). IsTrue (list_all (λ (sh : CoreShard). have_ended sh.journal s.senders) (is.one ∷ []))) (own_settings law.steps (with_queue 1) law.core law.runs) of_one in
     let q : false ≡ true = subst (λ (past : Journal). IsTrue (list_all (λ (past : Journal). have_ended past 2) (past ∷ []))) is.journal of_two in
     cc q

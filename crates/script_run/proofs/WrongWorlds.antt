@@ -1,5 +1,5 @@
--- More wrong definitions of what a script means, each with a run that breaks the law that each script is a run of the core.
--- No clause needs them, as with those of `WrongDefinitions`.
+-- More wrong definitions of what a script means, each with a run that breaks the law that each script is a run of the
+-- core. No clause needs them, as with those of `WrongDefinitions`.
 use Rattle.std.proofs.Common.{inr, ◌≡◌, ℕ, ◌+◌, ◌&&◌, ◌||◌, Bool, true, false, not, cond, List, [], ◌∷◌, ◌++◌, length, map, filter, flat_map, slice_get, Some, refl, ap, sym, subst, ◌∙◌, arith}
 use Rattle.std.specs.Prelude.{IsTrue}
 use Rattle.std.specs.List.{list_all, list_any, sum_by}
@@ -17,15 +17,15 @@ use Rattle.lane_seq.specs.declared.reply.Reply.{Reply}
 use Rattle.lane_seq.specs.declared.reply.Reply.TheVariants.{Done, Partial}
 use Rattle.journal_theory.specs.Journal.{Settings, Journal, notes}
 use Rattle.journal_theory.specs.Fate.{DroppedSpan, Fate, waits, fate, is_same_reason, under}
-use Rattle.world_theory.specs.World.{Lane, Shard, settings, has_due, same_key}
+use Rattle.world_theory.specs.World.{CoreLane, CoreShard, settings, has_due, same_key}
 use Rattle.world_theory.specs.Step.{is_empty}
 use Rattle.world_theory.specs.Places.{HeldKey, unrouted, queued, buffered, unshipped, exported, in_batch, handed, counted_under, held_at, buffered_spans, held_by_lanes, held_by_shards, held}
-use Rattle.world_theory.specs.Headline.{Taken, fate_of, is_where, is_received}
+use Rattle.world_theory.specs.Headline.{TakenSpan, fate_of, is_where, is_received}
 use Rattle.world_theory.proofs.Samples.{ids_of, key}
 use Rattle.tsc_script.specs.Instructions.{receive, close}
 use Rattle.script_run.specs.Connections.{connection_of, with_received}
 use Rattle.script_run.specs.Requests.{reads, IsTakenFor, arrivals_of, reply_line}
-use Rattle.script_run.specs.World.{World, replied, Plays, PlaysAll, Receives, RepliesAndRuns, TakesRounds, empty_queues, entry_of}
+use Rattle.script_run.specs.World.{ScriptWorld, replied, Plays, PlaysAll, Receives, RepliesAndRuns, TakesRounds, empty_queues, entry_of}
 use Rattle.script_run.specs.Counts.{counted_at_lanes, counted_at_shards, counted_at, number_reported}
 use Rattle.script_run.specs.Writing.{handed_in}
 use Rattle.script_run.specs.CoreRun.{core_config, is_quiet, IsRunBy}
@@ -41,10 +41,10 @@ abbrev full_line : List ℕ
 full_line = reply_line full_reply
 
 -- the request was received, and the connection goes on with the number that it had
-abbrev received_again : World → World
+abbrev received_again : ScriptWorld → ScriptWorld
 received_again old = record old { contacts = with_received 0 0 old.contacts; received = old.received ++ arrivals_of (connection_of 0 old.contacts) 0 of_one_span; full = old.full + 1 }
 
-abbrev used_once : World
+abbrev used_once : ScriptWorld
 used_once = record start {
   contacts = with_received 0 0 start.contacts;
   received = span ∷ [];
@@ -53,7 +53,7 @@ used_once = record start {
   sink = record { taken = Some full_line; failures = 0; is_down = false };
 }
 
-abbrev used_again : World
+abbrev used_again : ScriptWorld
 used_again = record used_once {
   received = span ∷ span ∷ [];
   full = 2;
@@ -76,20 +76,20 @@ used_again_played = (used_again.sink, writes full_line full_line, silent (with_q
 numbers_used_again : IsRunBy number_reported handed_in own (with_queue 0) 1 1 used_again → ⊥
 numbers_used_again law =
     let at = some_lane law.core.lanes 1 (law.counts Received) in
-    let there : slice_get law.core.lanes 0 ≡ Some at.first = ap (λ (lanes : List Lane). slice_get lanes 0) at.are in
+    let there : slice_get law.core.lanes 0 ≡ Some at.first = ap (λ (lanes : List CoreLane). slice_get lanes 0) at.are in
     let k = law.holds.one_place.numbered 0 at.first (span ∷ []) [] span there (law.received 0 at.first there) in
     let z : 0 ≡ 1 = k.1 in absurd (omega (arith, z))
 
 -- ---- spans that find their queue full are counted nowhere
 
-abbrev not_full : World → Count → ℕ
+abbrev not_full : ScriptWorld → Count → ℕ
 not_full w (Dropped QueueFull) = 0
 not_full w count = counted_at_lanes w count
 
-abbrev number_but_full : Settings → World → Count → ℕ
+abbrev number_but_full : Settings → ScriptWorld → Count → ℕ
 number_but_full s w count = not_full w count + (counted_at_shards s w.journals count + sum_by (counted_at count) w.events)
 
-abbrev full_world : World
+abbrev full_world : ScriptWorld
 full_world = record used_once { contacts = with_received 0 1 start.contacts }
 
 full_played : (body : List ℕ) → IsTakenFor false body (reads of_one_span) → PlaysAll own (with_queue 0) start (receive 0 0 body ∷ []) full_world
@@ -109,15 +109,15 @@ none_counted (d ∷ rest) h = absurd (go (is_same_reason d.reason d.reason) (sam
     go false e f = cc e
 
 -- lanes and a shard in which nothing waits hold nothing, but for a buffer
-none_unrouted : (n : ℕ) (lanes : List Lane) → list_all (λ (l : Lane). is_empty l.unrouted) lanes ≡ true → held_by_lanes n lanes ≡ []
+none_unrouted : (n : ℕ) (lanes : List CoreLane) → list_all (λ (l : CoreLane). is_empty l.unrouted) lanes ≡ true → held_by_lanes n lanes ≡ []
 none_unrouted n [] e = refl
 none_unrouted n (l ∷ ls) e = go l.unrouted e (none_unrouted (n + 1) ls)
   where
-    go : (spans : List Arrival) → (is_empty spans && list_all (λ (l : Lane). is_empty l.unrouted) ls) ≡ true → (list_all (λ (l : Lane). is_empty l.unrouted) ls ≡ true → held_by_lanes (n + 1) ls ≡ []) → held_at (unrouted n) spans ++ held_by_lanes (n + 1) ls ≡ []
+    go : (spans : List Arrival) → (is_empty spans && list_all (λ (l : CoreLane). is_empty l.unrouted) ls) ≡ true → (list_all (λ (l : CoreLane). is_empty l.unrouted) ls ≡ true → held_by_lanes (n + 1) ls ≡ []) → held_at (unrouted n) spans ++ held_by_lanes (n + 1) ls ≡ []
     go [] f more = more f
     go (a ∷ spans) f more = absurd (cc f)
 
-none_inside : (sh : Shard) → sh.journal ≡ [] → list_all (is_quiet own) (sh ∷ []) ≡ true → held_by_shards own 0 (sh ∷ []) ≡ []
+none_inside : (sh : CoreShard) → sh.journal ≡ [] → list_all (is_quiet own) (sh ∷ []) ≡ true → held_by_shards own 0 (sh ∷ []) ≡ []
 none_inside sh e f = go sh.queue (not (has_due own sh)) sh.unshipped f (held_at (buffered 0) (buffered_spans own sh.journal sh.dealt)) (ap (λ (past : Journal). held_at (buffered 0) (buffered_spans own past sh.dealt)) e)
   where
     go : (queue : List Arrival) (b : Bool) (out : List Arrival) → ((is_empty queue && b && is_empty out) && true) ≡ true → (inside : List HeldKey) → inside ≡ [] → (held_at (queued 0) queue ++ inside ++ held_at (unshipped 0) out) ++ [] ≡ []
@@ -133,8 +133,8 @@ full_queue_uncounted law =
     let k = law.core in
     let same = own_settings law.steps (with_queue 0) k law.runs in
     let shard = one_shard k.shards [] law.journals in
-    let quiet = subst (λ (s : Settings). list_all (is_quiet s) (shard.one ∷ []) ≡ true) same (subst (λ (shards : List Shard). list_all (is_quiet (settings c k)) shards ≡ true) shard.are law.between.taken) in
-    let inside : held_by_shards (settings c k) 0 k.shards ≡ [] = ap (λ (shards : List Shard). held_by_shards (settings c k) 0 shards) shard.are ∙ ap (λ (s : Settings). held_by_shards s 0 (shard.one ∷ [])) same ∙ none_inside shard.one shard.journal quiet in
+    let quiet = subst (λ (s : Settings). list_all (is_quiet s) (shard.one ∷ []) ≡ true) same (subst (λ (shards : List CoreShard). list_all (is_quiet (settings c k)) shards ≡ true) shard.are law.between.taken) in
+    let inside : held_by_shards (settings c k) 0 k.shards ≡ [] = ap (λ (shards : List CoreShard). held_by_shards (settings c k) 0 shards) shard.are ∙ ap (λ (s : Settings). held_by_shards s 0 (shard.one ∷ [])) same ∙ none_inside shard.one shard.journal quiet in
     let counted : k.counted ≡ [] = none_counted k.counted (λ r. law.counts (Dropped r) ∙ none r) in
     let all : held c k ≡ [] = ap (λ (keys : List HeldKey). keys ++ held_by_shards (settings c k) 0 k.shards ++ held_at exported k.exported ++ held_at in_batch k.batch ++ flat_map (held_at handed) k.handed ++ map place_of k.counted) (none_unrouted 0 k.lanes law.between.routed)
     ∙ ap (λ (keys : List HeldKey). keys ++ held_at exported k.exported ++ held_at in_batch k.batch ++ flat_map (held_at handed) k.handed ++ map place_of k.counted) inside
@@ -143,9 +143,9 @@ full_queue_uncounted law =
     ∙ ap (λ (batches : List (List Arrival)). flat_map (held_at handed) batches ++ map place_of k.counted) law.handed
     ∙ ap (map place_of) counted in
     let at = some_lane k.lanes 0 (law.counts Received) in
-    let there : slice_get k.lanes 0 ≡ Some at.first = ap (λ (lanes : List Lane). slice_get lanes 0) at.are in
-    let was : is_received k (key 0) ≡ true = ap (λ (lanes : List Lane). list_any (λ (l : Lane). list_any (λ (a : Arrival). same_key a.key (key 0)) l.received) lanes) at.are
-    ∙ ap (λ (spans : List Arrival). list_any (λ (a : Arrival). same_key a.key (key 0)) spans || list_any (λ (l : Lane). list_any (λ (a : Arrival). same_key a.key (key 0)) l.received) at.others) (law.received 0 at.first there) in
+    let there : slice_get k.lanes 0 ≡ Some at.first = ap (λ (lanes : List CoreLane). slice_get lanes 0) at.are in
+    let was : is_received k (key 0) ≡ true = ap (λ (lanes : List CoreLane). list_any (λ (l : CoreLane). list_any (λ (a : Arrival). same_key a.key (key 0)) l.received) lanes) at.are
+    ∙ ap (λ (spans : List Arrival). list_any (λ (a : Arrival). same_key a.key (key 0)) spans || list_any (λ (l : CoreLane). list_any (λ (a : Arrival). same_key a.key (key 0)) l.received) at.others) (law.received 0 at.first there) in
     let placed = law.holds.one_place.received (key 0) was in
     let z : 0 ≡ 1 = sym (ap (λ (keys : List HeldKey). length (map (λ (h : HeldKey). h.place) (filter (λ (h : HeldKey). same_key h.key (key 0)) keys))) all) ∙ placed in
     absurd (omega (arith, z))
@@ -167,7 +167,7 @@ full_queue_uncounted law =
 abbrev ends : Journal
 ends = entry_of (End 1) false false ∷ entry_of (End 0) false false ∷ []
 
-abbrev closed_world : World
+abbrev closed_world : ScriptWorld
 closed_world = record start { journals = ends ∷ []; closed = true }
 
 close_played : Plays own (with_queue 1) start close closed_world
@@ -186,7 +186,7 @@ close_played = (
 )
 
 -- a request is read where nothing asks whether the script was closed
-abbrev late_world : World
+abbrev late_world : ScriptWorld
 late_world = record closed_world {
   contacts = with_received 0 1 start.contacts;
   received = span ∷ [];
@@ -212,7 +212,7 @@ played_after_a_close law =
     let k = law.core in
     let past : Journal = entry_of (Span span) false false ∷ ends in
     let shard = one_shard k.shards past law.journals in
-    let taken : Taken k = record { shard = 0; of = shard.one; in_world = ap (λ (shards : List Shard). slice_get shards 0) shard.are; arrival = span; ids = ids_of 1; valid = refl; refused = false; lost = false; answers = []; later = []; before = ends; split = shard.journal } in
+    let taken : TakenSpan k = record { shard = 0; of = shard.one; in_world = ap (λ (shards : List CoreShard). slice_get shards 0) shard.are; arrival = span; ids = ids_of 1; valid = refl; refused = false; lost = false; answers = []; later = []; before = ends; split = shard.journal } in
     let fits = law.holds.fits taken in
     let waiting : fate_of c k taken ≡ waits = ap (λ (s : Settings). fate_by s shard.one.journal) (own_settings law.steps (with_queue 1) k law.runs) ∙ ap (fate_by own) shard.journal in
     buffered_waits fits.0 (has_due (settings c k) shard.one)

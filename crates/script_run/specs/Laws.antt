@@ -6,7 +6,7 @@ use Rattle.world_theory.specs.World.{KeepsATrace}
 use Rattle.tsc_script.specs.Instructions.{Instruction}
 use Rattle.tsc_script.specs.Script.{instructions_of}
 use Rattle.tsc_script.specs.Progress.{StopsAt}
-use Rattle.script_run.specs.World.{World, Sizes, new_world, PlaysAll}
+use Rattle.script_run.specs.World.{ScriptWorld, Sizes, new_world, PlaysAll}
 use Rattle.script_run.specs.Writing.{WritesAll, FailedOnce}
 use Rattle.script_run.specs.CoreRun.{core_config, IsRunOfCore}
 use Rattle.script_run.specs.Calm.{Calm}
@@ -22,8 +22,8 @@ pub record CanPlay (s : Settings) (sizes : Sizes) (lanes : ℕ) : Type 0 where
   pub keeps : KeepsATrace (core_config s sizes)
 
 -- this holds of each world to which a script leads, where its sink was up at first
-abbrev pub OfEachScript : (Settings → Sizes → (lanes shards : ℕ) → (first : LineSinkState) → World → Type 0) → Type 0
-OfEachScript P = (s : Settings) (sizes : Sizes) (lanes shards : ℕ) (first : LineSinkState) (played : List Instruction) (after : World)
+abbrev pub OfEachScript : (Settings → Sizes → (lanes shards : ℕ) → (first : LineSinkState) → ScriptWorld → Type 0) → Type 0
+OfEachScript P = (s : Settings) (sizes : Sizes) (lanes shards : ℕ) (first : LineSinkState) (played : List Instruction) (after : ScriptWorld)
     → CanPlay s sizes lanes → first.is_down ≡ false → PlaysAll s sizes (new_world lanes shards first) played after → P s sizes lanes shards first after
 
 -- each script that is played is a run of the core
@@ -37,7 +37,7 @@ EachWritesItsEvents = OfEachScript (λ s sizes lanes shards first after. WritesA
 -- two runs did the same: they received the same spans on the same connections, their shards took the same, their
 -- limiter was asked the same, their events and their counts are the same; where the bytes of the sink are known at
 -- first, they are the same at last
-pub record Agrees (s : Settings) (first : LineSinkState) (a b : World) : Type 0 where
+pub record Agrees (s : Settings) (first : LineSinkState) (a b : ScriptWorld) : Type 0 where
   pub contacts : a.contacts ≡ b.contacts
   pub received : a.received ≡ b.received
   pub full : a.full ≡ b.full
@@ -50,18 +50,18 @@ pub record Agrees (s : Settings) (first : LineSinkState) (a b : World) : Type 0 
 
 -- two runs of one script do the same, where in neither memory was refused or a write failed
 abbrev pub CalmRunsAgree : Type 0
-CalmRunsAgree = (s : Settings) (sizes : Sizes) (lanes shards : ℕ) (first : LineSinkState) (played : List Instruction) (a b : World)
+CalmRunsAgree = (s : Settings) (sizes : Sizes) (lanes shards : ℕ) (first : LineSinkState) (played : List Instruction) (a b : ScriptWorld)
     → PlaysAll s sizes (new_world lanes shards first) played a → PlaysAll s sizes (new_world lanes shards first) played b → Calm a → Calm b → Agrees s first a b
 
 -- so two runs of one script's bytes do the same
 abbrev pub CalmScriptsAgree : Type 0
-CalmScriptsAgree = (s : Settings) (sizes : Sizes) (lanes shards : ℕ) (first : LineSinkState) (script : List ℕ) (m n : List Instruction) (a b : World)
+CalmScriptsAgree = (s : Settings) (sizes : Sizes) (lanes shards : ℕ) (first : LineSinkState) (script : List ℕ) (m n : List Instruction) (a b : ScriptWorld)
     → instructions_of script ≡ Ok m → instructions_of script ≡ Ok n → PlaysAll s sizes (new_world lanes shards first) m a → PlaysAll s sizes (new_world lanes shards first) n b
     → Calm a → Calm b → Agrees s first a b
 
 -- and so do two runs over one script's bytes that stopped at the same line, as at the first that is refused
 abbrev pub CalmStopsAgree : Type 0
-CalmStopsAgree = (s : Settings) (sizes : Sizes) (lanes shards : ℕ) (first : LineSinkState) (script : List ℕ) (left right : Option (List ℕ)) (number : ℕ) (a b : World)
+CalmStopsAgree = (s : Settings) (sizes : Sizes) (lanes shards : ℕ) (first : LineSinkState) (script : List ℕ) (left right : Option (List ℕ)) (number : ℕ) (a b : ScriptWorld)
     → StopsAt (λ m. PlaysAll s sizes (new_world lanes shards first) m a) (Some script) left number
     → StopsAt (λ m. PlaysAll s sizes (new_world lanes shards first) m b) (Some script) right number
     → Calm a → Calm b → Agrees s first a b

@@ -14,13 +14,13 @@ use Rattle.lane_seq.specs.Numbers.{arrivals_from}
 use Rattle.lane_seq.specs.Replies.{status_of, body_of}
 
 -- what a body is taken for: a request, or a refusal with its reply
-pub data Reading : Type 0 where
-  reads : Request → Reading
-  refuses : Reply → Reading
+pub data BodyReading : Type 0 where
+  reads : Request → BodyReading
+  refuses : Reply → BodyReading
 
 -- where doubles are kept or discarded: a body is refused as no JSON or of the wrong shape only where it is; for want of
 -- memory, or of numbers, any body may be refused as busy
-abbrev pub IsTakenFor : (keeps_doubles : Bool) → List ℕ → Reading → Type 0
+abbrev pub IsTakenFor : (keeps_doubles : Bool) → List ℕ → BodyReading → Type 0
 IsTakenFor keeps_doubles body (reads request) = (d : Data) × IsJson body d × (request_of keeps_doubles d ≡ Some request)
 IsTakenFor keeps_doubles body (refuses (BadData Json)) = (d : Data) → IsJson body d → ⊥
 IsTakenFor keeps_doubles body (refuses (BadData Shape)) = (d : Data) × IsJson body d × (request_of keeps_doubles d ≡ None)

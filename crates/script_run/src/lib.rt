@@ -1,8 +1,8 @@
 //! What a script means, and that each script that is played is a run of the core.
 //!
-//! The definitions are in `specs/`, to be read in this order: `Connections`, `Requests`, `Sending`, `Limiting`, `World`
-//! (what an instruction does), `Counts`, `Writing`, `CoreRun`, `Calm`, `Laws`. The functions of this crate do nothing:
-//! the contract of each is a law of all scripts.
+//! The definitions are in `specs/`, to be read in this order: `Connections`, `Requests`, `Sending`, `Limiting`,
+//! `World` (what an instruction does), `Counts`, `Writing`, `CoreRun`, `Calm`, `Laws`. The functions of this
+//! crate do nothing: the contract of each is a law of all scripts.
 #![tactic(auto)]
 
 ghost use Rattle.script_run.specs.Laws.{CalmRunsAgree, CalmScriptsAgree, CalmStopsAgree, EachIsARunOfCore, EachWritesItsEvents};

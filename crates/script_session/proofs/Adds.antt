@@ -9,8 +9,8 @@ use Rattle.journal_theory.specs.Fate.{is_same_reason}
 use Rattle.drop_ledger.specs.Places.{place_of}
 use Rattle.drop_ledger.specs.declared.count.Count.{Count}
 use Rattle.drop_ledger.specs.declared.count.Count.TheVariants.{Received, Handed, Dropped}
-use Rattle.script_run.specs.Sending.{Sent}
-use Rattle.script_run.specs.World.{World}
+use Rattle.script_run.specs.Sending.{SentBatch}
+use Rattle.script_run.specs.World.{ScriptWorld}
 use Rattle.script_run.specs.Counts.{number_reported, Reports, counted_for}
 use Rattle.script_session.specs.Adding.{Adds, at_reasons, counted_in}
 
@@ -61,7 +61,7 @@ Adds-same (Some r) None f g e p = let P = λ (n : ℕ). 2 ^ 64 ≤ slice_index r
 Adds-same (Some r) (Some n) f g e p = (p.0, λ k. ((p.1 k).0 ∙ ap (λ x. slice_index r (place_of k) + x) (sym (e k)), (p.1 k).1))
 
 -- a report that tells a world's numbers, and what these grow by is added
-pub Reports-grow : (s : Settings) (w v : World) (a b : Option (List ℕ)) (f : Count → ℕ) → ((k : Count) → number_reported s v k ≡ number_reported s w k + f k) → Reports s w a → Adds a f b → Reports s v b
+pub Reports-grow : (s : Settings) (w v : ScriptWorld) (a b : Option (List ℕ)) (f : Count → ℕ) → ((k : Count) → number_reported s v k ≡ number_reported s w k + f k) → Reports s w a → Adds a f b → Reports s v b
 Reports-grow s w v None b f e p q = let P = λ (x : Option (List ℕ)). Reports s v x in
     subst P (sym q) (p.0, passes-too _ (number_reported s w p.0) (number_reported s v p.0) (f p.0) p.1 (e p.0))
 Reports-grow s w v (Some r) None f e p q = let P = λ (n : ℕ). 2 ^ 64 ≤ n in (q.0, subst P (ap (λ n. n + f q.0) (p.1 q.0).0 ∙ sym (e q.0)) q.1)
@@ -75,11 +75,11 @@ Reports-grow s w v (Some r) (Some n) f e p q = (
 
 -- ---- what is counted for batches and reasons
 
-pub counted-append : (xs ys : List Sent) (k : Count) → counted_in (xs ++ ys) k ≡ counted_in xs k + counted_in ys k
-counted-append xs ys k = sum_by-append (λ (sent : Sent). counted_for k sent.flushed) xs ys
+pub counted-append : (xs ys : List SentBatch) (k : Count) → counted_in (xs ++ ys) k ≡ counted_in xs k + counted_in ys k
+counted-append xs ys k = sum_by-append (λ (sent : SentBatch). counted_for k sent.flushed) xs ys
 
-pub counted-one : (one : Sent) (k : Count) → counted_in (one ∷ []) k ≡ counted_for k one.flushed
-counted-one one k = sum_by-cons (λ (sent : Sent). counted_for k sent.flushed) one [] ∙ omega arith
+pub counted-one : (one : SentBatch) (k : Count) → counted_in (one ∷ []) k ≡ counted_for k one.flushed
+counted-one one k = sum_by-cons (λ (sent : SentBatch). counted_for k sent.flushed) one [] ∙ omega arith
 
 pub none-dropped : (k : Count) → at_reasons (λ reason. 0) k ≡ 0
 none-dropped Received = refl

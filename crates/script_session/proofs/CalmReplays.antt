@@ -10,10 +10,10 @@ use Rattle.span_sink.specs.LineSinks.{LineSinkState, up_state}
 use Rattle.tsc_script.specs.Instructions.{Instruction}
 use Rattle.tsc_script.specs.Script.{instructions_of}
 use Rattle.tsc_script.specs.Progress.{Ends, StopsAt}
-use Rattle.script_run.specs.World.{World, new_world, PlaysAll}
+use Rattle.script_run.specs.World.{ScriptWorld, new_world, PlaysAll}
 use Rattle.script_run.specs.Calm.{Calm}
 use Rattle.script_run.specs.Laws.{CalmScriptsAgree, CalmStopsAgree}
-use Rattle.script_session.specs.Replay.{Run, first_state}
+use Rattle.script_session.specs.Replay.{ReplayRun, first_state}
 use Rattle.script_session.specs.CalmReplays.{with_end, EndsCalmly, PlayedCalmly, RefusesCalmly, LeavesTheSame, CalmReplaysAgree}
 
 -- a script that was read to its end says what was played
@@ -47,18 +47,18 @@ same_numbers xs ys e f h = same_list xs ys (e ∙ sym f) (λ k l. at k (omega (a
     at (suc (suc (suc (suc (suc (suc (suc (suc (suc k))))))))) l = absurd (omega (arith, l))
 
 -- the world to which a run stopped, and its sink
-record Stopped (run : Run) (script : List ℕ) (line : ℕ) : Type 0 where
-  world : World
+record Stopped (run : ReplayRun) (script : List ℕ) (line : ℕ) : Type 0 where
+  world : ScriptWorld
   at : StopsAt (λ played. PlaysAll run.settings run.sizes (new_world run.lanes run.shards (first_state run)) played world) (Some script) run.unread_after.left line
   calm : Calm world
   sink : world.sink ≡ up_state run.taken_after run.failures_after
 
-stopped : (run : Run) (script : List ℕ) (line : ℕ) → StopsAt (PlayedCalmly run) (Some script) run.unread_after.left line → Stopped run script line
+stopped : (run : ReplayRun) (script : List ℕ) (line : ℕ) → StopsAt (PlayedCalmly run) (Some script) run.unread_after.left line → Stopped run script line
 stopped run script line (inl h) = record { world = h.3.1.after; at = inl (h.0, h.1, h.2, h.3.1.plays); calm = h.3.2; sink = h.3.1.sink }
 stopped run script line (inr h) = record { world = h.3.1.after; at = inr (h.0, h.1, h.2, h.3.1.plays); calm = h.3.2; sink = h.3.1.sink }
 
 -- the same sink in the end
-leaves_same : (run other : Run) (a b : LineSinkState) → a ≡ up_state run.taken_after run.failures_after → b ≡ up_state other.taken_after other.failures_after → a ≡ b → LeavesTheSame run other
+leaves_same : (run other : ReplayRun) (a b : LineSinkState) → a ≡ up_state run.taken_after run.failures_after → b ≡ up_state other.taken_after other.failures_after → a ≡ b → LeavesTheSame run other
 leaves_same run other a b e f g = let h = sym e ∙ g ∙ f in (ap (λ (s : LineSinkState). s.taken) h, ap (λ (s : LineSinkState). s.failures) h)
 
 pub replays_agree : CalmScriptsAgree → CalmStopsAgree → CalmReplaysAgree

@@ -19,21 +19,22 @@ use Rattle.shard_core.specs.declared.answer.Decided.TheVariants.{Release, Nothin
 use Rattle.journal_theory.proofs.Answering.{due-same}
 use Rattle.span_ids.specs.declared.outcome.Reason.{Reason}
 use Rattle.script_run.specs.Limiting.{answers_to, asked_more, answers_in_turn, asked_in_turn, with_answers, askings_after}
-use Rattle.script_run.specs.World.{Turn}
+use Rattle.script_run.specs.World.{ShardTurn}
 use Rattle.script_session.specs.Pulling.{Export, Counts, PullsAll, DecidesAll}
 use Rattle.script_session.proofs.Adds.{none-dropped, plus-none, plus-two}
 use Rattle.script_session.proofs.Pulls.{PullsAll-none, PullsAll-append}
 
 -- the journal with the entry, where the first decisions at it were given these answers
-abbrev pub given_to : Entry → Turn → (answers : List (List Bool)) → Journal
+abbrev pub given_to : Entry → ShardTurn → (answers : List (List Bool)) → Journal
 given_to e past answers = record e { answers = answers } ∷ past.journal
 
 -- what is due at the entry, behind so many
-abbrev pub due_behind : Settings → Entry → Turn → (dealt : ℕ) → List Opening
+abbrev pub due_behind : Settings → Entry → ShardTurn → (dealt : ℕ) → List Opening
 due_behind s e past dealt = drop dealt (due_now s (e ∷ past.journal))
 
--- some of what is due was decided: the answers so far, and those that are still to be given, are all that the limiter gives
-pub record DecidesSome (s : Settings) (e : Entry) (past : Turn) (before : Export) (new : Held) (last : Counts) (after : Export) : Type 0 where
+-- some of what is due was decided: the answers so far, and those that are still to be given, are all that the limiter
+-- gives
+pub record DecidesSome (s : Settings) (e : Entry) (past : ShardTurn) (before : Export) (new : Held) (last : Counts) (after : Export) : Type 0 where
   pub dealt : ℕ
   pub given : List (List Bool)
   pub asked : List Asking
@@ -48,7 +49,7 @@ pub record DecidesSome (s : Settings) (e : Entry) (past : Turn) (before : Export
   pub pulls : PullsAll before released dropped after
 
 -- none was decided yet
-pub DecidesSome-none : (s : Settings) (e : Entry) (past : Turn) (h : Held) (limiter : Counts) (export : Export) → e.answers ≡ [] → StandsFor h (e ∷ past.journal) 0 → limiter ≡ limiter_counts s.policies past.askings
+pub DecidesSome-none : (s : Settings) (e : Entry) (past : ShardTurn) (h : Held) (limiter : Counts) (export : Export) → e.answers ≡ [] → StandsFor h (e ∷ past.journal) 0 → limiter ≡ limiter_counts s.policies past.askings
     → DecidesSome s e past export h limiter export
 DecidesSome-none s e past h limiter export none stands is = record {
   dealt = 0;
@@ -75,7 +76,7 @@ drop-next (suc k) [] x rest e = absurd (cc e)
 drop-next (suc k) (y ∷ xs) x rest e = drop-next k xs x rest e
 
 -- a decision that was asked for
-answered-journal : (answer : Decided) (e : Entry) (past : Turn) (given : List (List Bool)) (answers : List Bool) → (answer ≡ Nothing → ⊥) → journal_after answer (given_to e past given) answers ≡ given_to e past (given ++ answers ∷ [])
+answered-journal : (answer : Decided) (e : Entry) (past : ShardTurn) (given : List (List Bool)) (answers : List Bool) → (answer ≡ Nothing → ⊥) → journal_after answer (given_to e past given) answers ≡ given_to e past (given ++ answers ∷ [])
 answered-journal Nothing e past given answers some = absurd (some refl)
 answered-journal (Release v) e past given answers some = refl
 answered-journal (Dropped n) e past given answers some = refl
@@ -107,17 +108,17 @@ answers-by : (s : Settings) (past : Journal) (asked : List Asking) (o : Opening)
     Asked AsksBudgets (clock past / 1000) (amount_at policies spans) (asked_given policies answers spans) answers before after → Answers s past asked o answers after
 answers-by s past asked o answers before after is h =
     let spans = spans_since past o in
-    let both = answers-for s.policies asked (clock past / 1000) spans answers before after is (is_too_big s.maximum_size spans) h in
+    let both = answers-for s.policies asked (clock past / 1000) spans answers before after is (is_too_big s.maximum_trace_size spans) h in
     record { answers_are = both.0; limiter_is = both.1 }
 
 -- the next of the decisions that are due was made: the limiter was asked at it
-record Next (s : Settings) (e : Entry) (past : Turn) (dealt : ℕ) (answers : List Bool) (lent last : Counts) : Type 0 where
+record Next (s : Settings) (e : Entry) (past : ShardTurn) (dealt : ℕ) (answers : List Bool) (lent last : Counts) : Type 0 where
   opening : Opening
   later : List Opening
   due : due_behind s e past dealt ≡ opening ∷ later
   asked : Asked AsksBudgets (clock (e ∷ past.journal) / 1000) (amount_at (policies_for s (spans_since (e ∷ past.journal) opening)) (spans_since (e ∷ past.journal) opening)) (asked_given (policies_for s (spans_since (e ∷ past.journal) opening)) answers (spans_since (e ∷ past.journal) opening)) answers lent last
 
-next-of : (s : Settings) (e : Entry) (past : Turn) (given : List (List Bool)) (dealt : ℕ) (mid new : Held) (lent last : Counts) (answer : Decided) (answers : List Bool) → (answer ≡ Nothing → ⊥) → settings mid ≡ s
+next-of : (s : Settings) (e : Entry) (past : ShardTurn) (given : List (List Bool)) (dealt : ℕ) (mid new : Held) (lent last : Counts) (answer : Decided) (answers : List Bool) → (answer ≡ Nothing → ⊥) → settings mid ≡ s
     → (os : List Opening) → due_behind s e past dealt ≡ os → DecidesFirst AsksBudgets mid new answer lent last answers (given_to e past given) os → Next s e past dealt answers lent last
 next-of s e past given dealt mid new lent last answer answers some same [] due d = absurd (some d.0)
 next-of s e past given dealt mid new lent last answer answers some same (o ∷ later) due d =
@@ -126,11 +127,11 @@ next-of s e past given dealt mid new lent last answer answers some same (o ∷ l
     record { opening = o; later = later; due = due; asked = subst P same d.2 }
 
 -- what is due doesn't turn on the answers so far
-due-is : (s : Settings) (e : Entry) (past : Turn) (given : List (List Bool)) (dealt : ℕ) (mid : Held) → settings mid ≡ s → drop dealt (due_now (settings mid) (given_to e past given)) ≡ due_behind s e past dealt
+due-is : (s : Settings) (e : Entry) (past : ShardTurn) (given : List (List Bool)) (dealt : ℕ) (mid : Held) → settings mid ≡ s → drop dealt (due_now (settings mid) (given_to e past given)) ≡ due_behind s e past dealt
 due-is s e past given dealt mid same = ap (drop dealt) (due-same (settings mid) e past.journal given ∙ ap (λ (x : Settings). due_now x (e ∷ past.journal)) same)
 
 -- one more was decided
-pub DecidesSome-push : (s : Settings) (e : Entry) (past : Turn) (mid new : Held) (lent last : Counts) (before between after : Export) (answer : Decided) → (answer ≡ Nothing → ⊥) → settings mid ≡ s
+pub DecidesSome-push : (s : Settings) (e : Entry) (past : ShardTurn) (mid new : Held) (lent last : Counts) (before between after : Export) (answer : Decided) → (answer ≡ Nothing → ⊥) → settings mid ≡ s
     → DecidesSome s e past before mid lent between → Decides AsksBudgets mid new answer lent last → PullsAll between (released_in answer) (λ reason. dropped_in reason answer) after → DecidesSome s e past before new last after
 DecidesSome-push s e past mid new lent last before between after answer some same so_far d pulls =
     let k = so_far.dealt in
@@ -186,7 +187,7 @@ none-left mid new lent last answers now [] d = refl
 none-left mid new lent last answers now (o ∷ later) d = absurd d.0
 
 -- all was decided
-pub DecidesSome-end : (s : Settings) (e : Entry) (past : Turn) (mid new : Held) (lent last : Counts) (before after : Export) → settings mid ≡ s → DecidesSome s e past before mid lent after
+pub DecidesSome-end : (s : Settings) (e : Entry) (past : ShardTurn) (mid new : Held) (lent last : Counts) (before after : Export) → settings mid ≡ s → DecidesSome s e past before mid lent after
     → Decides AsksBudgets mid new Nothing lent last → (new ≡ mid) × (last ≡ lent)
     → ((j : Journal) (dealt : ℕ) → StandsFor mid j dealt → effect_dealt (settings mid) j dealt ≡ effect (settings mid) j) → DecidesAll s e past before new last after
 DecidesSome-end s e past mid new lent last before after same so_far d unchanged all =

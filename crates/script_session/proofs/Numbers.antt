@@ -18,8 +18,8 @@ use Rattle.journal_theory.specs.Journal.{Settings, Journal}
 use Rattle.span_sink.specs.LineSinks.{LineSinkState}
 use Rattle.drop_ledger.specs.declared.count.Count.{Count}
 use Rattle.drop_ledger.specs.declared.count.Count.TheVariants.{Received, Handed, Dropped}
-use Rattle.script_run.specs.Sending.{Sent}
-use Rattle.script_run.specs.World.{World, replied, was_sent, new_world, after_reply, after_receiving}
+use Rattle.script_run.specs.Sending.{SentBatch}
+use Rattle.script_run.specs.World.{ScriptWorld, replied, was_sent, new_world, after_reply, after_receiving}
 use Rattle.script_run.specs.Counts.{counted_at_lanes, dropped_by_journal, counted_at_shards, counted_for, counted_at, number_reported, Reports}
 use Rattle.script_session.specs.Adding.{at_reasons, counted_in}
 use Rattle.script_session.specs.Submitting.{received_by, is_received}
@@ -27,11 +27,11 @@ use Rattle.script_session.specs.Pulling.{dropped_by_all}
 
 -- ---- batches and journals
 
-sent-counts : (batches : List Sent) (k : Count) → sum_by (counted_at k) (map was_sent batches) ≡ counted_in batches k
+sent-counts : (batches : List SentBatch) (k : Count) → sum_by (counted_at k) (map was_sent batches) ≡ counted_in batches k
 sent-counts [] k = refl
 sent-counts (one ∷ more) k =
     sum_by-cons (counted_at k) (was_sent one) (map was_sent more) ∙ ap (λ n. counted_for k one.flushed + n) (sent-counts more k)
-    ∙ sym (sum_by-cons (λ (sent : Sent). counted_for k sent.flushed) one more)
+    ∙ sym (sum_by-cons (λ (sent : SentBatch). counted_for k sent.flushed) one more)
 
 shards-grow : (s : Settings) (pasts nows : List Journal) (dropped : Reason → ℕ) → ((reason : Reason) → dropped_by_all s reason nows ≡ dropped_by_all s reason pasts + dropped reason)
     → (k : Count) → counted_at_shards s nows k ≡ counted_at_shards s pasts k + at_reasons dropped k
@@ -43,7 +43,7 @@ grow : (l t d b u v w : ℕ) → u ≡ t + d → v ≡ w + b → l + (u + v) ≡
 grow l t d b u v w p q = omega arith
 
 -- the shards took journals further, and batches were sent
-pub number-quiet : (s : Settings) (w : World) (nows : List Journal) (asked : List Asking) (batches : List Sent) (sink : LineSinkState) (dropped : Reason → ℕ)
+pub number-quiet : (s : Settings) (w : ScriptWorld) (nows : List Journal) (asked : List Asking) (batches : List SentBatch) (sink : LineSinkState) (dropped : Reason → ℕ)
     → ((reason : Reason) → dropped_by_all s reason nows ≡ dropped_by_all s reason w.journals + dropped reason)
     → (k : Count) → number_reported s (record w { journals = nows; askings = asked; events = w.events ++ map was_sent batches; sink = sink }) k ≡ number_reported s w k + (at_reasons dropped k + counted_in batches k)
 number-quiet s w nows asked batches sink dropped e k =
@@ -52,7 +52,7 @@ number-quiet s w nows asked batches sink dropped e k =
     (shards-grow s w.journals nows dropped e k) (sum_by-append (counted_at k) w.events (map was_sent batches) ∙ ap (λ n. sum_by (counted_at k) w.events + n) (sent-counts batches k))
 
 -- a reply was written, for which nothing is counted
-pub number-replied : (s : Settings) (w : World) (reply : Reply) (sink : LineSinkState) (k : Count) → number_reported s (after_reply reply sink w) k ≡ number_reported s w k
+pub number-replied : (s : Settings) (w : ScriptWorld) (reply : Reply) (sink : LineSinkState) (k : Count) → number_reported s (after_reply reply sink w) k ≡ number_reported s w k
 number-replied s w reply sink k =
     ap (λ n. counted_at_lanes w k + (counted_at_shards s w.journals k + n)) (sum_by-append (counted_at k) w.events (replied reply ∷ []) ∙ same (sum_by-cons (counted_at k) (replied reply) []))
   where
@@ -61,10 +61,10 @@ number-replied s w reply sink k =
 
 -- ---- a request
 
-invalid-append : (w : World) (arrivals : List Arrival) → length (filter is_invalid (w.received ++ arrivals)) ≡ length (filter is_invalid w.received) + length (filter is_invalid arrivals)
+invalid-append : (w : ScriptWorld) (arrivals : List Arrival) → length (filter is_invalid (w.received ++ arrivals)) ≡ length (filter is_invalid w.received) + length (filter is_invalid arrivals)
 invalid-append w arrivals = ap length (filter-append is_invalid w.received arrivals) ∙ length-append (filter is_invalid w.received) (filter is_invalid arrivals)
 
-none_invalid : (w : World) (arrivals : List Arrival) (full : ℕ) → length (filter is_invalid arrivals) + full ≡ 0
+none_invalid : (w : ScriptWorld) (arrivals : List Arrival) (full : ℕ) → length (filter is_invalid arrivals) + full ≡ 0
     → length (filter is_invalid (w.received ++ arrivals)) ≡ length (filter is_invalid w.received) + 0
 none_invalid w arrivals full e = invalid-append w arrivals ∙ ap (λ m. length (filter is_invalid w.received) + m) (left _ full e)
   where
@@ -74,7 +74,7 @@ none_invalid w arrivals full e = invalid-append w arrivals ∙ ap (λ m. length 
 none_full : (n full invalid : ℕ) → invalid + full ≡ 0 → n + full ≡ n + 0
 none_full n full invalid e = omega arith
 
-lanes-grow : (w : World) (number : ℕ) (arrivals : List Arrival) (full : ℕ) (reply : Reply) → IsReplyTo (length arrivals) (length (filter is_invalid arrivals)) full reply
+lanes-grow : (w : ScriptWorld) (number : ℕ) (arrivals : List Arrival) (full : ℕ) (reply : Reply) → IsReplyTo (length arrivals) (length (filter is_invalid arrivals)) full reply
     → (k : Count) → counted_at_lanes (after_receiving number arrivals full w) k ≡ counted_at_lanes w k + received_by reply k
 lanes-grow w number arrivals full (Done n) is Received = length-append w.received arrivals ∙ ap (λ m. length w.received + m) (sym is.0)
 lanes-grow w number arrivals full (Done n) is (Dropped InvalidId) = none_invalid w arrivals full is.1
@@ -88,7 +88,7 @@ lanes-grow w number arrivals full (BadData cause) is k = absurd is
 lanes-grow w number arrivals full Busy is k = absurd is
 
 -- the spans of a request were received
-pub number-received : (s : Settings) (w : World) (number : ℕ) (arrivals : List Arrival) (full : ℕ) (reply : Reply) → IsReplyTo (length arrivals) (length (filter is_invalid arrivals)) full reply
+pub number-received : (s : Settings) (w : ScriptWorld) (number : ℕ) (arrivals : List Arrival) (full : ℕ) (reply : Reply) → IsReplyTo (length arrivals) (length (filter is_invalid arrivals)) full reply
     → (k : Count) → number_reported s (after_receiving number arrivals full w) k ≡ number_reported s w k + received_by reply k
 number-received s w number arrivals full reply is k =
     ap (λ n. n + (counted_at_shards s w.journals k + sum_by (counted_at k) w.events)) (lanes-grow w number arrivals full reply is k)

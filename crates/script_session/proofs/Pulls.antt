@@ -8,7 +8,7 @@ use Rattle.otlp_types.specs.declared.arrival.Arrival.{Arrival}
 use Rattle.otlp_types.specs.declared.arrival.Shipment.TheVariants.{Span}
 use Rattle.span_sink.specs.LineSinks.{LineSinkState}
 use Rattle.span_exporter.specs.declared.answer.Flushed.{Flushed}
-use Rattle.span_exporter.specs.declared.answer.Flushed.TheVariants.{Handed, Spoiled, Empty}
+use Rattle.span_exporter.specs.declared.answer.Flushed.TheVariants.{Handed, BatchDropped, Empty}
 use Rattle.span_exporter.specs.declared.answer.Pulled.{Pulled}
 use Rattle.span_exporter.specs.declared.answer.Pulled.TheVariants.{Added, AddedFull}
 use Rattle.span_exporter.specs.Exports.{ExporterState, with_shipment, answer_to, Sends}
@@ -16,18 +16,18 @@ use Rattle.span_ids.specs.declared.outcome.Reason.{Reason}
 use Rattle.journal_theory.specs.Fate.{is_same_reason}
 use Rattle.drop_ledger.specs.declared.count.Count.{Count}
 use Rattle.drop_ledger.specs.declared.count.Count.TheVariants.{Received, Handed as HandedOver, Dropped}
-use Rattle.script_run.specs.Sending.{Sent, spans_of, AreBatches, SendsAll, SendsInBatches}
+use Rattle.script_run.specs.Sending.{SentBatch, spans_of, AreBatches, SendsAll, SendsInBatches}
 use Rattle.script_run.specs.Counts.{counted_for}
 use Rattle.script_session.specs.Adding.{Adds, at_count, at_reasons, counted_in}
 use Rattle.script_session.specs.Pulling.{PullsAll, GoesOn, Export}
 use Rattle.script_session.proofs.Adds.{Adds-none, Adds-then, Adds-same, counted-append, counted-one, none-dropped, dropped-more}
 
-pub SendsAll-append : (old mid new : LineSinkState) (xs ys : List Sent) → SendsAll old xs mid → SendsAll mid ys new → SendsAll old (xs ++ ys) new
+pub SendsAll-append : (old mid new : LineSinkState) (xs ys : List SentBatch) → SendsAll old xs mid → SendsAll mid ys new → SendsAll old (xs ++ ys) new
 SendsAll-append old mid new [] ys p q = let P = λ (s : LineSinkState). SendsAll s ys new in subst P p q
 SendsAll-append old mid new (x ∷ xs) ys p q = (p.0, p.1, SendsAll-append p.0 mid new xs ys p.2 q)
 
-spans_of-append : (xs ys : List Sent) → spans_of (xs ++ ys) ≡ spans_of xs ++ spans_of ys
-spans_of-append xs ys = flat_map-append (λ (one : Sent). one.batch) xs ys
+spans_of-append : (xs ys : List SentBatch) → spans_of (xs ++ ys) ≡ spans_of xs ++ spans_of ys
+spans_of-append xs ys = flat_map-append (λ (one : SentBatch). one.batch) xs ys
 
 all_append : {A : Type 0} (P : A → Type 0) (xs ys : List A) → AllByRecursion P xs → AllByRecursion P ys → AllByRecursion P (xs ++ ys)
 all_append P [] ys a b = b
@@ -58,8 +58,8 @@ regroup f g p q a h e d = omega arith
 pub PullsAll-append : (a b c : Export) (xs ys : List Arrival) (f g : Reason → ℕ) → PullsAll a xs f b → PullsAll b ys g c → PullsAll a (xs ++ ys) (λ reason. f reason + g reason) c
 PullsAll-append a b c xs ys f g p q = record {
   batches = p.batches ++ q.batches;
-  full = all_append (λ (sent : Sent). length sent.batch ≡ a.0.size) p.batches q.batches p.full
-      (let P = λ (n : ℕ). AllByRecursion (λ (sent : Sent). length sent.batch ≡ n) q.batches in subst P p.size q.full);
+  full = all_append (λ (sent : SentBatch). length sent.batch ≡ a.0.size) p.batches q.batches p.full
+      (let P = λ (n : ℕ). AllByRecursion (λ (sent : SentBatch). length sent.batch ≡ n) q.batches in subst P p.size q.full);
   are_all = ap (λ zs. zs ++ c.0.batch) (spans_of-append p.batches q.batches) ∙ append_assoc (spans_of p.batches) (spans_of q.batches) c.0.batch
       ∙ ap (λ zs. spans_of p.batches ++ zs) q.are_all ∙ sym (append_assoc (spans_of p.batches) b.0.batch ys)
       ∙ ap (λ zs. zs ++ ys) p.are_all ∙ append_assoc a.0.batch xs ys;
@@ -86,7 +86,7 @@ not_full p n m e other same = other (e ∙ chosen (n == m) (grind (arith, nat_te
     chosen false t = cc
 
 -- what was sent is counted, and no span was dropped
-adds-sent : (r n : Option (List ℕ)) (one : Sent) → Adds r (λ count. counted_for count one.flushed) n → Adds r (λ count. at_reasons (λ reason. 0) count + counted_in (one ∷ []) count) n
+adds-sent : (r n : Option (List ℕ)) (one : SentBatch) → Adds r (λ count. counted_for count one.flushed) n → Adds r (λ count. at_reasons (λ reason. 0) count + counted_in (one ∷ []) count) n
 adds-sent r n one adds = Adds-same r n _ _ (λ k. alone _ _ _ (none-dropped k) (counted-one one k)) adds
   where
     alone : (z a f : ℕ) → z ≡ 0 → a ≡ f → z + a ≡ f
@@ -101,7 +101,7 @@ pulled-full old mid new r n a room is full emptied size ends sent =
     let full' : length mid.batch ≡ mid.size = is_full (length mid.batch) mid.size full in
     let size_is = ap (λ (e : ExporterState). e.size) is in
     let sink_is = ap (λ (e : ExporterState). e.sink) is in
-    let one : Sent = record { batch = mid.batch; flushed = sent.0 } in
+    let one : SentBatch = record { batch = mid.batch; flushed = sent.0 } in
     let P = λ (s : LineSinkState). SendsAll s (one ∷ []) new.sink in
     record {
       batches = one ∷ [];
@@ -153,12 +153,12 @@ pulled-dropped old new why spans same adds = record {
 
 -- ---- the last batch of a line
 
-batches_full : (size : ℕ) → 0 < size → (bs : List Sent) → AllByRecursion (λ (sent : Sent). length sent.batch ≡ size) bs → AreBatches size bs
+batches_full : (size : ℕ) → 0 < size → (bs : List SentBatch) → AllByRecursion (λ (sent : SentBatch). length sent.batch ≡ size) bs → AreBatches size bs
 batches_full size some [] all = tt
 batches_full size some (b ∷ []) all = let e = all.0 in (omega arith, omega arith)
 batches_full size some (b ∷ c ∷ bs) all = (all.0, batches_full size some (c ∷ bs) all.1)
 
-batches_push : (size : ℕ) (last : Sent) → 0 < length last.batch → length last.batch ≤ size → (bs : List Sent) → AllByRecursion (λ (sent : Sent). length sent.batch ≡ size) bs
+batches_push : (size : ℕ) (last : SentBatch) → 0 < length last.batch → length last.batch ≤ size → (bs : List SentBatch) → AllByRecursion (λ (sent : SentBatch). length sent.batch ≡ size) bs
     → AreBatches size (bs ++ last ∷ [])
 batches_push size last some within [] all = (some, within)
 batches_push size last some within (b ∷ []) all = (all.0, (some, within))
@@ -173,16 +173,16 @@ none_sent old new Empty s = (s.1, none_counted)
     none_counted HandedOver = refl
     none_counted (Dropped reason) = refl
 none_sent old new (Handed n) s = let some : 0 < n = s.0 in let none : n ≡ 0 = s.1 in absurd (omega arith)
-none_sent old new (Spoiled n reason) s = let some : 0 < n = s.0 in let none : n ≡ 0 = s.1 in absurd (omega arith)
+none_sent old new (BatchDropped n reason) s = let some : 0 < n = s.0 in let none : n ≡ 0 = s.1 in absurd (omega arith)
 
 -- spans went in batches, for which this is counted
 pub record Went (size : ℕ) (old : LineSinkState) (spans : List Arrival) (counted : Count → ℕ) (new : LineSinkState) : Type 0 where
-  pub batches : List Sent
+  pub batches : List SentBatch
   pub sends : SendsInBatches size old spans batches new
   pub counts : (k : Count) → counted_in batches k ≡ counted k
 
-sends_rest : (size : ℕ) → 0 < size → (old mid new : LineSinkState) (bs : List Sent) (rest spans : List Arrival) (flushed : Flushed)
-    → AllByRecursion (λ (sent : Sent). length sent.batch ≡ size) bs → spans_of bs ++ rest ≡ spans → SendsAll old bs mid → length rest < size
+sends_rest : (size : ℕ) → 0 < size → (old mid new : LineSinkState) (bs : List SentBatch) (rest spans : List Arrival) (flushed : Flushed)
+    → AllByRecursion (λ (sent : SentBatch). length sent.batch ≡ size) bs → spans_of bs ++ rest ≡ spans → SendsAll old bs mid → length rest < size
     → Sends mid rest flushed new → Went size old spans (λ k. counted_in bs k + counted_for k flushed) new
 sends_rest size some old mid new bs [] spans flushed all are sends room sent = record {
   batches = bs;
@@ -194,7 +194,7 @@ sends_rest size some old mid new bs [] spans flushed all are sends room sent = r
   counts = λ k. let z = (none_sent mid new flushed sent).1 k in omega (arith, z);
 }
 sends_rest size some old mid new bs (a ∷ rest) spans flushed all are sends room sent =
-    let last : Sent = record { batch = a ∷ rest; flushed = flushed } in
+    let last : SentBatch = record { batch = a ∷ rest; flushed = flushed } in
     record {
       batches = bs ++ last ∷ [];
       sends = record {

@@ -15,7 +15,7 @@ use Rattle.span_exporter.specs.Exports.{Sends}
 use Rattle.tsc_script.specs.Instructions.{Instruction}
 use Rattle.script_run.specs.Connections.{Contacts}
 use Rattle.script_run.specs.Sending.{SendsInBatches}
-use Rattle.script_run.specs.World.{World, Sizes, was_sent, RunsToQuiet, Plays, PlaysAll, empty_queues}
+use Rattle.script_run.specs.World.{ScriptWorld, Sizes, was_sent, RunsToQuiet, Plays, PlaysAll, empty_queues}
 use Rattle.script_run.specs.Counts.{number_reported, counted_for, Reports}
 use Rattle.script_session.specs.Adding.{Adds, at_reasons, counted_in}
 use Rattle.script_session.specs.Pulling.{Export, Counts, HaveReleased, HaveSettings, AreQuiet, AreOpen, ends_of, has_all_nodes, has_none_due, ends_in, EachTakes, RoundsTaken, AreOf}
@@ -61,18 +61,18 @@ regroup : (all n d c b f : ℕ) → all ≡ n + (d + c) → c ≡ b + f → all 
 regroup all n d c b f p q = omega arith
 
 -- rounds were taken and the rest of the batch was sent
-pub quiets : (s : Settings) (sizes : Sizes) (w : World) (contacts : Contacts) (old new : List Held) (first last : Counts) (before between final : Export) (closed : Bool) (rounds : List (List (List Item)))
+pub quiets : (s : Settings) (sizes : Sizes) (w : ScriptWorld) (contacts : Contacts) (old new : List Held) (first last : Counts) (before between final : Export) (closed : Bool) (rounds : List (List (List Item)))
     → AreOf s w contacts old first before closed → before.0.size ≡ sizes.batch → length before.0.batch ≡ 0
     → RoundsTaken old first before rounds new last between → HaveSettings s new
     → length between.0.batch < between.0.size
     → ((flushed : Flushed) × Sends between.0.sink between.0.batch flushed final.0.sink × Adds between.1 (λ count. counted_for count flushed) final.1)
-    → (after : World) × RunsToQuiet s sizes w rounds after × AreOf s after contacts new last final closed
+    → (after : ScriptWorld) × RunsToQuiet s sizes w rounds after × AreOf s after contacts new last final closed
 quiets s sizes w contacts old new first last before between final closed rounds are size_is empty takes alike room sent =
     let t = takes.takes s w.journals w.askings are.settings_are are.released_all are.limiter_is in
     let went = sent-in_batches before between final.0.sink t.released t.dropped sent.0 empty t.pulls room sent.1 in
     let P = λ (k : LineSinkState). SendsInBatches sizes.batch k t.released went.batches final.0.sink in
     let Q = λ (n : ℕ). SendsInBatches n before.0.sink t.released went.batches final.0.sink in
-    let after : World = record w { journals = t.nows; askings = t.asked_now; events = w.events ++ map was_sent went.batches; sink = final.0.sink } in (
+    let after : ScriptWorld = record w { journals = t.nows; askings = t.asked_now; events = w.events ++ map was_sent went.batches; sink = final.0.sink } in (
       after,
       record { released = t.released; takes = t.takes; batches = went.batches; sends = subst P are.sink_is (subst Q size_is went.sends); becomes = refl },
       record {
@@ -90,7 +90,7 @@ quiets s sizes w contacts old new first last before between final closed rounds 
     )
 
 -- nothing but the mark changes at a close
-pub closes : (s : Settings) (w : World) (contacts : Contacts) (shards : List Held) (limiter : Counts) (output : Export) (closed : Bool) → AreOf s w contacts shards limiter output closed
+pub closes : (s : Settings) (w : ScriptWorld) (contacts : Contacts) (shards : List Held) (limiter : Counts) (output : Export) (closed : Bool) → AreOf s w contacts shards limiter output closed
     → AreOf s (record w { closed = true }) contacts shards limiter output true
 closes s w contacts shards limiter output closed are = record {
   contacts_are = are.contacts_are;
@@ -106,9 +106,9 @@ closes s w contacts shards limiter output closed are = record {
     reported None p = p
     reported (Some numbers) p = p
 
-pub PlaysAll-push : (s : Settings) (sizes : Sizes) (w mid after : World) (done : List Instruction) (x : Instruction) → PlaysAll s sizes w done mid → Plays s sizes mid x after
+pub PlaysAll-push : (s : Settings) (sizes : Sizes) (w mid after : ScriptWorld) (done : List Instruction) (x : Instruction) → PlaysAll s sizes w done mid → Plays s sizes mid x after
     → PlaysAll s sizes w (done ++ x ∷ []) after
-PlaysAll-push s sizes w mid after [] x p q = let P = λ (v : World). Plays s sizes v x after in (after, subst P p q, refl)
+PlaysAll-push s sizes w mid after [] x p q = let P = λ (v : ScriptWorld). Plays s sizes v x after in (after, subst P p q, refl)
 PlaysAll-push s sizes w mid after (y ∷ ys) x p q = (p.0, p.1, PlaysAll-push s sizes p.0 mid after ys x p.2 q)
 
 -- ---- between two lines

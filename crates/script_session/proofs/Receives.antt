@@ -17,7 +17,7 @@ use Rattle.span_exporter.specs.Exports.{ExporterState, Sends, WritesLine}
 use Rattle.drop_ledger.specs.declared.count.Count.{Count}
 use Rattle.script_run.specs.Connections.{Contacts, connection_of, with_connection, with_received}
 use Rattle.script_run.specs.Requests.{IsTakenFor, reply_line, reads, refuses, arrivals_of}
-use Rattle.script_run.specs.World.{World, Sizes, RunsToQuiet, RepliesAndRuns, Receives, after_reply, empty_queues}
+use Rattle.script_run.specs.World.{ScriptWorld, Sizes, RunsToQuiet, RepliesAndRuns, Receives, after_reply, empty_queues}
 use Rattle.script_run.specs.Counts.{number_reported, counted_for}
 use Rattle.script_session.specs.Adding.{Adds}
 use Rattle.script_session.specs.Submitting.{Submits, is_received, received_by}
@@ -26,13 +26,14 @@ use Rattle.script_session.proofs.Adds.{Reports-grow}
 use Rattle.script_session.proofs.Numbers.{number-received, number-replied, refusal-counts}
 use Rattle.script_session.proofs.Quiet.{quiets}
 
--- The world just before the reply: what the reply tells is counted. The reply and these rounds from there on are what the request does.
-pub record Answered (s : Settings) (sizes : Sizes) (w : World) (number moment : ℕ) (body : List ℕ) (reply : Reply) (rounds : List (List (List Item))) (later : Contacts) : Type 0 where
-  pub mid : World
+-- The world just before the reply: what the reply tells is counted. The reply and these rounds from there on are what
+-- the request does.
+pub record Answered (s : Settings) (sizes : Sizes) (w : ScriptWorld) (number moment : ℕ) (body : List ℕ) (reply : Reply) (rounds : List (List (List Item))) (later : Contacts) : Type 0 where
+  pub mid : ScriptWorld
   pub contacts : later ≡ mid.contacts
   pub same : (mid.journals ≡ w.journals) × (mid.askings ≡ w.askings) × (mid.closed ≡ w.closed)
   pub numbers : (k : Count) → number_reported s mid k ≡ number_reported s w k + received_by reply k
-  pub leads : (sink : LineSinkState) (end : World) → WritesLine w.sink (reply_line reply) sink → RunsToQuiet s sizes (after_reply reply sink mid) rounds end → Receives s sizes w number moment body end
+  pub leads : (sink : LineSinkState) (end : ScriptWorld) → WritesLine w.sink (reply_line reply) sink → RunsToQuiet s sizes (after_reply reply sink mid) rounds end → Receives s sizes w number moment body end
 
 was-read : (spans invalid full : ℕ) (r : Reply) → IsReplyTo spans invalid full r → is_received r ≡ true
 was-read spans invalid full (Done n) t = refl
@@ -46,21 +47,21 @@ not-read keeps body (Partial n i f) t = absurd t
 not-read keeps body (BadData cause) t = refl
 not-read keeps body Busy t = refl
 
-module _ (s : Settings) (sizes : Sizes) (w : World) (number moment : ℕ) (body : List ℕ) (later : Contacts) (after : List (QueueState Item)) (reply : Reply) (rounds : List (List (List Item)))
+module _ (s : Settings) (sizes : Sizes) (w : ScriptWorld) (number moment : ℕ) (body : List ℕ) (later : Contacts) (after : List (QueueState Item)) (reply : Reply) (rounds : List (List (List Item)))
     (on_read : is_received reply ≡ true → rounds ≡ items_in after ∷ []) (on_refused : is_received reply ≡ false → rounds ≡ []) where
-  none-counted : (v : World) → is_received reply ≡ false → ((k : Count) → number_reported s v k ≡ number_reported s w k) → (k : Count) → number_reported s v k ≡ number_reported s w k + received_by reply k
+  none-counted : (v : ScriptWorld) → is_received reply ≡ false → ((k : Count) → number_reported s v k ≡ number_reported s w k) → (k : Count) → number_reported s v k ≡ number_reported s w k + received_by reply k
   none-counted v refuses_it same k = same k ∙ plus (number_reported s w k) (received_by reply k) (refusal-counts reply refuses_it k)
     where
       plus : (n m : ℕ) → m ≡ 0 → n ≡ n + m
       plus n m e = omega arith
 
   -- from the world that has these connections, spans and refusals on
-  from : (contacts : Contacts) (received : List Arrival) (full : ℕ) → (let mid : World = record w { contacts = contacts; received = received; full = full } in
+  from : (contacts : Contacts) (received : List Arrival) (full : ℕ) → (let mid : ScriptWorld = record w { contacts = contacts; received = received; full = full } in
       later ≡ contacts → ((k : Count) → number_reported s mid k ≡ number_reported s w k + received_by reply k) → (played : List (List (List Item))) → rounds ≡ played
-      → ((sink : LineSinkState) (end : World) → WritesLine w.sink (reply_line reply) sink → RunsToQuiet s sizes (after_reply reply sink mid) played end → Receives s sizes w number moment body end)
+      → ((sink : LineSinkState) (end : ScriptWorld) → WritesLine w.sink (reply_line reply) sink → RunsToQuiet s sizes (after_reply reply sink mid) played end → Receives s sizes w number moment body end)
       → Answered s sizes w number moment body reply rounds later)
   from contacts received full is numbers played same leads =
-      let mid : World = record w { contacts = contacts; received = received; full = full } in
+      let mid : ScriptWorld = record w { contacts = contacts; received = received; full = full } in
       record {
         mid = mid;
         contacts = is;
@@ -87,7 +88,7 @@ module _ (s : Settings) (sizes : Sizes) (w : World) (number moment : ℕ) (body 
       (on_read (was-read _ _ d.2.refused reply d.2.replied)) (λ sink end line runs. inr (reads d.0, d.1, (reply, after, d.2, (sink, line, runs))))
 
 -- a request was read or refused, what the reply tells was counted, and the shards took what was received
-pub receives : (s : Settings) (sizes : Sizes) (w : World) (number moment : ℕ) (body : List ℕ) (known later : Contacts) (before after : List (QueueState Item)) (reply : Reply) (old new : List Held) (start last : Counts)
+pub receives : (s : Settings) (sizes : Sizes) (w : ScriptWorld) (number moment : ℕ) (body : List ℕ) (known later : Contacts) (before after : List (QueueState Item)) (reply : Reply) (old new : List Held) (start last : Counts)
     (first counted noted between final : Export) (closed : Bool) (rounds : List (List (List Item)))
     → AreOf s w known old start first closed → before ≡ empty_queues sizes.queue (length w.journals) → Submits sizes.keeps_doubles known number moment body before reply after later
     → (is_received reply ≡ true → rounds ≡ items_in after ∷ []) → (is_received reply ≡ false → rounds ≡ [])
@@ -96,7 +97,7 @@ pub receives : (s : Settings) (sizes : Sizes) (w : World) (number moment : ℕ) 
     → RoundsTaken old start noted rounds new last between → HaveSettings s new
     → length between.0.batch < between.0.size
     → ((flushed : Flushed) × Sends between.0.sink between.0.batch flushed final.0.sink × Adds between.1 (λ count. counted_for count flushed) final.1)
-    → (end : World) × Receives s sizes w number moment body end × AreOf s end later new last final closed
+    → (end : ScriptWorld) × Receives s sizes w number moment body end × AreOf s end later new last final closed
 receives s sizes w number moment body known later before after reply old new start last first counted noted between final closed rounds are before_is submits on_read on_refused same adds line told batch_is size_is size empty takes alike room sent =
     let S = λ (k : Contacts). Submits sizes.keeps_doubles k number moment body before reply after later in
     let E = λ (q : List (QueueState Item)). Submits sizes.keeps_doubles w.contacts number moment body q reply after later in

@@ -10,17 +10,17 @@ use Rattle.shard_core.specs.Held.{Held, settings}
 use Rattle.shard_core.specs.Taking.{entry, is_refusal, is_loss, released_by, dropped_by}
 use Rattle.journal_theory.specs.Marked.{marks_apply}
 use Rattle.shard_core.specs.declared.answer.Taken.{Taken}
-use Rattle.script_run.specs.World.{Turn, entry_of, with_entry, Takes}
+use Rattle.script_run.specs.World.{ShardTurn, entry_of, with_entry, Takes}
 use Rattle.script_run.specs.Counts.{dropped_by_journal}
 use Rattle.script_session.specs.Pulling.{Export, Counts, PullsAll, HasTaken, TakesAndPulls, TakesItems, DecidesAll}
 use Rattle.script_session.proofs.Adds.{none-dropped, plus-none, plus-two}
 use Rattle.script_session.proofs.Pulls.{PullsAll-none, PullsAll-append}
 
-pub Takes-append : (s : Settings) (a b c : Turn) (xs ys : List Item) → Takes s a xs b → Takes s b ys c → Takes s a (xs ++ ys) c
-Takes-append s a b c [] ys p q = let P = λ (t : Turn). Takes s t ys c in subst P p q
+pub Takes-append : (s : Settings) (a b c : ShardTurn) (xs ys : List Item) → Takes s a xs b → Takes s b ys c → Takes s a (xs ++ ys) c
+Takes-append s a b c [] ys p q = let P = λ (t : ShardTurn). Takes s t ys c in subst P p q
 Takes-append s a b c (x ∷ xs) ys p q = (p.0, p.1, p.2, Takes-append s (with_entry s a (entry_of x p.0 p.1)) b c xs ys p.3 q)
 
-pub TakesAndPulls-none : (s : Settings) (past : Turn) (e : Export) → TakesAndPulls s past [] e past e
+pub TakesAndPulls-none : (s : Settings) (past : ShardTurn) (e : Export) → TakesAndPulls s past [] e past e
 TakesAndPulls-none s past e = record {
   released = [];
   dropped = λ reason. 0;
@@ -29,7 +29,7 @@ TakesAndPulls-none s past e = record {
   pulls = PullsAll-none e _ none-dropped;
 }
 
-pub TakesAndPulls-append : (s : Settings) (a b c : Turn) (xs ys : List Item) (d e f : Export) → TakesAndPulls s a xs d b e → TakesAndPulls s b ys e c f
+pub TakesAndPulls-append : (s : Settings) (a b c : ShardTurn) (xs ys : List Item) (d e f : Export) → TakesAndPulls s a xs d b e → TakesAndPulls s b ys e c f
     → TakesAndPulls s a (xs ++ ys) d c f
 TakesAndPulls-append s a b c xs ys d e f p q = record {
   released = p.released ++ q.released;
@@ -51,14 +51,14 @@ all-dropped s past dealt reason e = ap (λ (f : Effect). length (under reason f.
 plus-steps : (n m k l p x y : ℕ) → m ≡ n → m ≡ k + y → k ≡ l + x → l ≡ p → n ≡ p + (x + y)
 plus-steps n m k l p x y a b c d = omega arith
 
-pub takes-one : (old mid new : Held) (first last : Counts) (past : Turn) (item : Item) (taken : Taken) (before between after : Export)
+pub takes-one : (old mid new : Held) (first last : Counts) (past : ShardTurn) (item : Item) (taken : Taken) (before between after : Export)
     → marks_apply (settings old) (entry item taken) past.journal ≡ true → settings mid ≡ settings old → settings new ≡ settings mid
     → (has : HasTaken old first past)
     → released_dealt (settings old) (entry item taken ∷ past.journal) 0 ≡ released_dealt (settings old) past.journal has.released_all.dealt ++ released_by taken
     → ((reason : Reason) → dropped_dealt (settings old) (entry item taken ∷ past.journal) 0 reason ≡ dropped_dealt (settings old) past.journal has.released_all.dealt reason + dropped_by reason taken)
     → PullsAll before (released_by taken) (λ reason. dropped_by reason taken) between
     → DecidesAll (settings old) (entry item taken) past between new last after
-    → (now : Turn) × HasTaken new last now × TakesAndPulls (settings old) past (item ∷ []) before now after
+    → (now : ShardTurn) × HasTaken new last now × TakesAndPulls (settings old) past (item ∷ []) before now after
 takes-one old mid new first last past item taken before between after marks to_mid to_new has releases drops pulls decides =
     let s = settings old in
     let all = has.released_all in

@@ -13,7 +13,7 @@ use Rattle.journal_theory.specs.Journal.{Settings, Journal}
 use Rattle.shard_core.specs.Held.{Held, settings, has_due}
 use Rattle.shard_core.specs.Taking.{ends_after}
 use Rattle.span_ids.specs.declared.outcome.Reason.{Reason}
-use Rattle.script_run.specs.World.{Turn, TakesFor, TakesEach, TakesRounds, to_each, ends_from}
+use Rattle.script_run.specs.World.{ShardTurn, TakesFor, TakesEach, TakesRounds, to_each, ends_from}
 use Rattle.script_run.specs.Counts.{dropped_by_journal}
 use Rattle.script_session.specs.Pulling.{Export, Counts, TakesItems, HaveSettings, AreQuiet, HaveReleased, dropped_by_all, Taking, EachTakes, RoundsTaken, is_queued}
 use Rattle.script_session.proofs.Adds.{none-dropped, plus-none, plus-two}
@@ -69,7 +69,7 @@ EachTakes-cons old new olds news start lent last own others before between after
         → Taking (TakesEach s pasts asked (own ∷ others)) s pasts before (new ∷ news) last after
     by_pasts s [] asked alike has is = absurd has
     by_pasts s (p ∷ ps) asked alike has is =
-        let past : Turn = record { journal = p; askings = asked } in
+        let past : ShardTurn = record { journal = p; askings = asked } in
         let L = λ (x : Settings). start ≡ limiter_counts x.policies asked in
         let first = t.takes past (record { released_all = has.0; limiter_is = subst L (sym alike.0) is }) in
         let now = first.0 in

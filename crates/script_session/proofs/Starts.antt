@@ -1,27 +1,21 @@
--- One more shard before the first line.
--- For the contract of `new_shards`.
-use Rattle.std.proofs.Common.{ℕ, zero, suc, ◌+◌, List, [], ◌∷◌, ◌++◌, replicate, sym, ap, subst, ◌∙◌, add-one, length-append}
-use Rattle.std.specs.List.{AllByRecursion}
+-- The shards before the first line.
+-- For the contract of `parts_of`.
+use Rattle.std.proofs.Common.{◌≡◌, ℕ, List, [], ◌∷◌, length, All, refl, subst}
+use Rattle.std.proofs.lemmas.List.Elements.{All-head, All-tail}
+use Rattle.config_shards.specs.Shards.{IsNewShard}
 use Rattle.tsc_config.specs.declared.config.Config.{Config}
 use Rattle.shard_core.specs.Held.{Held}
-use Rattle.script_session.specs.Pulling.{HasReleasedAll, HaveReleased}
 use Rattle.script_session.specs.Starting.{IsNew, AreNew}
 
-all-more : {X : Type 0} (P : X → Type 0) (xs : List X) (x : X) → AllByRecursion P xs → P x → AllByRecursion P (xs ++ x ∷ [])
-all-more P [] x all p = (p, tt)
-all-more P (y ∷ ys) x all p = (all.0, all-more P ys x all.1 p)
+new_is : (config : Config) (h : Held) → IsNewShard config h → IsNew config h
+new_is config h n = (n.3, (n.5, n.1), record { dealt = 0; stands = n.0; all_dealt = refl })
 
-released-more : (made : List Held) (n : ℕ) (h : Held) → HaveReleased made (replicate n []) → HasReleasedAll h [] → HaveReleased (made ++ h ∷ []) (replicate (suc n) [])
-released-more [] zero h has one = (one, tt)
-released-more [] (suc n) h has one = absurd has
-released-more (x ∷ xs) zero h has one = absurd has
-released-more (x ∷ xs) (suc n) h has one = (has.0, released-more xs n h has.1 one)
+new_are : (config : Config) (made : List Held) → All (IsNewShard config) made → AreNew config (length made) made
+new_are config [] all = (refl, tt, tt, tt)
+new_are config (h ∷ rest) all =
+    let one = new_is config h (All-head (IsNewShard config) h rest all) in
+    let more = new_are config rest (All-tail (IsNewShard config) h rest all) in
+    (refl, (one.0, more.1), (one.1, more.2), (one.2, more.3))
 
-pub one-new : (config : Config) (n : ℕ) (made : List Held) (h : Held) → AreNew config n made → IsNew config h → AreNew config (n + 1) (made ++ h ∷ [])
-one-new config n made h are is =
-    let P = λ (k : ℕ). HaveReleased (made ++ h ∷ []) (replicate k []) in (
-      length-append made (h ∷ []) ∙ ap (λ k. k + 1) are.0,
-      all-more _ made h are.1 is.0,
-      all-more _ made h are.2 is.1,
-      subst P (sym (add-one n)) (released-more made n h are.3 is.2),
-    )
+pub all_new : (config : Config) (shards : ℕ) (made : List Held) → length made ≡ shards → All (IsNewShard config) made → AreNew config shards made
+all_new config shards made e all = subst (λ (n : ℕ). AreNew config n made) e (new_are config made all)

@@ -6,7 +6,7 @@ use Rattle.journal_theory.specs.Fate.{is_same_reason}
 use Rattle.drop_ledger.specs.Places.{place_of}
 use Rattle.drop_ledger.specs.declared.count.Count.{Count}
 use Rattle.drop_ledger.specs.declared.count.Count.TheVariants.{Received, Handed, Dropped}
-use Rattle.script_run.specs.Sending.{Sent}
+use Rattle.script_run.specs.Sending.{SentBatch}
 use Rattle.script_run.specs.Counts.{counted_for}
 
 -- so many spans were added to each count, and what was below 2^64 is so still; from the first number on that passed
@@ -31,5 +31,5 @@ at_reasons dropped Handed = 0
 at_reasons dropped (Dropped reason) = dropped reason
 
 -- what is counted for these batches
-abbrev pub counted_in : List Sent → Count → ℕ
-counted_in batches count = sum_by (λ (sent : Sent). counted_for count sent.flushed) batches
+abbrev pub counted_in : List SentBatch → Count → ℕ
+counted_in batches count = sum_by (λ (sent : SentBatch). counted_for count sent.flushed) batches

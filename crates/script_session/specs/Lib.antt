@@ -9,3 +9,4 @@ pub mod Signals
 pub mod Submitting
 pub mod Starting
 pub mod Playing
+pub mod FaultTexts

@@ -2,7 +2,7 @@
 use Rattle.std.specs.Prelude.{◌≡◌}
 use Rattle.journal_theory.specs.Journal.{Settings}
 use Rattle.tsc_script.specs.Instructions.{Instruction, is_close}
-use Rattle.script_run.specs.World.{World, Sizes, Plays}
+use Rattle.script_run.specs.World.{ScriptWorld, Sizes, Plays}
 use Rattle.span_sink.specs.declared.sink.Sink.{Ghosts}
 use Rattle.script_session.specs.Pulling.{AreOf, GoesOn}
 use Rattle.script_session.specs.declared.session.Session.{Session}
@@ -13,12 +13,12 @@ module _ {S : Type 0} {sink : Ghosts S} where
   sizes_of session = record { batch = session.output.0.size; queue = session.queue_capacity; keeps_doubles = session.keeps_doubles }
 
   -- the session's parts are those of a world
-  abbrev pub IsOf : Settings → World → Session S sink → Type 0
+  abbrev pub IsOf : Settings → ScriptWorld → Session S sink → Type 0
   IsOf s w session = AreOf s w session.connections session.shards.items session.limiter session.output session.closed
 
   -- the instruction leads from each world that the session was to one that it is
   abbrev pub PlaysOne : (old : Session S sink) → Instruction → (new : Session S sink) → Type 0
-  PlaysOne old instruction new = (s : Settings) (w : World) → IsOf s w old → (after : World) × Plays s (sizes_of old) w instruction after × IsOf s after new
+  PlaysOne old instruction new = (s : Settings) (w : ScriptWorld) → IsOf s w old → (after : ScriptWorld) × Plays s (sizes_of old) w instruction after × IsOf s after new
 
   -- its sizes stay, that it keeps doubles or not, and that its sink is down; it is closed where the instruction closes
   -- it

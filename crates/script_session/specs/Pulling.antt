@@ -16,8 +16,8 @@ use Rattle.journal_theory.specs.Journal.{Entry, Settings, Journal}
 use Rattle.journal_theory.specs.Fate.{effect, effect_dealt, released_dealt, dropped_dealt}
 use Rattle.shard_core.specs.Held.{Held, StandsFor, settings, has_due}
 use Rattle.span_exporter.specs.Exports.{ExporterState}
-use Rattle.script_run.specs.Sending.{Sent, spans_of, SendsAll}
-use Rattle.script_run.specs.World.{World, Turn, with_entry, TakesFor, TakesEach, TakesRounds}
+use Rattle.script_run.specs.Sending.{SentBatch, spans_of, SendsAll}
+use Rattle.script_run.specs.World.{ScriptWorld, ShardTurn, with_entry, TakesFor, TakesEach, TakesRounds}
 use Rattle.script_run.specs.Counts.{dropped_by_journal, Reports}
 use Rattle.script_run.specs.Connections.{Contacts}
 use Rattle.script_session.specs.Adding.{Adds, at_reasons, counted_in}
@@ -33,8 +33,8 @@ GoesOn old new = (new.0.size ≡ old.0.size) × (old.0.sink.is_down ≡ true →
 -- The spans went into the batch in turn, which was sent each time that it was full. These numbers of spans were
 -- dropped, which is counted, and what became of the batches.
 pub record PullsAll (old : Export) (spans : List Arrival) (dropped : Reason → ℕ) (new : Export) : Type 0 where
-  pub batches : List Sent
-  pub full : AllByRecursion (λ (sent : Sent). length sent.batch ≡ old.0.size) batches
+  pub batches : List SentBatch
+  pub full : AllByRecursion (λ (sent : SentBatch). length sent.batch ≡ old.0.size) batches
   pub are_all : spans_of batches ++ new.0.batch ≡ old.0.batch ++ spans
   pub sends : SendsAll old.0.sink batches new.0.sink
   pub adds : Adds old.1 (λ count. at_reasons dropped count + counted_in batches count) new.1
@@ -57,7 +57,7 @@ has_nodes_of limiter h = knows (has_node limiter) (limiters (meaning h.policies)
 
 -- the shard took these items and asked the limiter; what that released went into the batch, and what it dropped was
 -- counted
-pub record TakesAndPulls (s : Settings) (past : Turn) (items : List Item) (old : Export) (after : Turn) (new : Export) : Type 0 where
+pub record TakesAndPulls (s : Settings) (past : ShardTurn) (items : List Item) (old : Export) (after : ShardTurn) (new : Export) : Type 0 where
   pub released : List Arrival
   pub dropped : Reason → ℕ
   pub takes : TakesFor s past items after released
@@ -65,19 +65,19 @@ pub record TakesAndPulls (s : Settings) (past : Turn) (items : List Item) (old :
   pub pulls : PullsAll old released dropped new
 
 -- the shard has released and counted all that was due at the journal, and the limiter has just these askings
-pub record HasTaken (held : Held) (limiter : Counts) (turn : Turn) : Type 0 where
+pub record HasTaken (held : Held) (limiter : Counts) (turn : ShardTurn) : Type 0 where
   pub released_all : HasReleasedAll held turn.journal
   pub limiter_is : limiter ≡ limiter_counts (settings held).policies turn.askings
 
 -- a shard that has released all took these items and decided all that was due by the limiter; what that released went
 -- into the batch, and it has released all again
 pub record TakesItems (old : Held) (first : Counts) (before : Export) (items : List Item) (new : Held) (last : Counts) (after : Export) : Type 0 where
-  pub takes : (past : Turn) → HasTaken old first past
-      → (now : Turn) × HasTaken new last now × TakesAndPulls (settings old) past items before now after
+  pub takes : (past : ShardTurn) → HasTaken old first past
+      → (now : ShardTurn) × HasTaken new last now × TakesAndPulls (settings old) past items before now after
 
 -- all that was due at the entry was decided by the limiter; what that released went into the batch, and what it dropped
 -- was counted
-pub record DecidesAll (s : Settings) (e : Entry) (past : Turn) (before : Export) (new : Held) (last : Counts) (after : Export) : Type 0 where
+pub record DecidesAll (s : Settings) (e : Entry) (past : ShardTurn) (before : Export) (new : Held) (last : Counts) (after : Export) : Type 0 where
   pub dealt : ℕ
   pub stands : StandsFor new (with_entry s past e).journal dealt
   pub all_dealt : effect_dealt s (with_entry s past e).journal dealt ≡ effect s (with_entry s past e).journal
@@ -184,7 +184,7 @@ HoldsQueued queue = list_all is_queued queue.items ≡ true
 
 -- the connections, the shards, the limiter, the exporter with the report, and whether all is closed are those of a
 -- world, and the shards have these settings
-pub record AreOf (s : Settings) (w : World) (contacts : Contacts) (shards : List Held) (limiter : Counts) (output : Export) (closed : Bool) : Type 0 where
+pub record AreOf (s : Settings) (w : ScriptWorld) (contacts : Contacts) (shards : List Held) (limiter : Counts) (output : Export) (closed : Bool) : Type 0 where
   pub contacts_are : contacts ≡ w.contacts
   pub settings_are : HaveSettings s shards
   pub released_all : HaveReleased shards w.journals

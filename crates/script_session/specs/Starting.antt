@@ -3,7 +3,7 @@ use Rattle.std.specs.Prelude.{◌≡◌, ℕ, false, List, [], length, replicate
 use Rattle.tsc_config.specs.declared.config.Config.{Config}
 use Rattle.shard_core.specs.Held.{Held, settings}
 use Rattle.script_session.specs.Pulling.{HaveSettings, IsQuiet, AreQuiet, HasReleasedAll, HaveReleased, ends_of}
-use Rattle.script_session.specs.Replay.{settings_by}
+use Rattle.config_shards.specs.Shards.{settings_by}
 
 -- a shard of this configuration that has taken nothing
 abbrev pub IsNew : Config → Held → Type 0

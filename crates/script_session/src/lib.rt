@@ -20,6 +20,6 @@ mod session;
 mod signal;
 mod taking;
 
-pub use fault::RunFault;
+pub use fault::ReplayFault;
 pub use laws::calm_replays_agree;
 pub use replay::replay_run;

@@ -135,7 +135,7 @@ fn send<S: Sink>(exporter: &mut Exporter<S>, report: &mut Option<Report>)
 {
     match exporter.flush() {
         Flushed::Handed(spans) => count(report, Count::Handed, spans),
-        Flushed::Spoiled(spans, reason) => count(report, Count::Dropped(reason), spans),
+        Flushed::BatchDropped(spans, reason) => count(report, Count::Dropped(reason), spans),
         Flushed::Empty => {}
     }
 }

@@ -2,23 +2,25 @@
 ghost use Rattle.std.specs.Prelude.{◌≡◌, ◌-◌, ◌^◌, ◌<◌, ◌≤◌, [], false, Some, IfOk, replicate, vec_capacity};
 ghost use Rattle.policy_tree.specs.Meaning.{meaning};
 ghost use Rattle.rate_budget.specs.Budget.{limiter_counts};
+ghost use Rattle.config_shards.specs.Shards.{CanReplay, settings_by};
 ghost use Rattle.tsc_config.specs.declared.config.Config.{Config};
 ghost use Rattle.script_session.specs.declared.replying.TheConstants.{MAX_REPLY_LINE};
 ghost use Rattle.script_run.specs.World.{empty_queues};
 ghost use Rattle.script_run.specs.Laws.{CanPlay};
-ghost use Rattle.script_session.specs.Starting.{IsNew, AreNew};
-ghost use Rattle.script_session.specs.Replay.{RunEnds, settings_by};
+ghost use Rattle.script_session.specs.Starting.{AreNew};
+ghost use Rattle.script_session.specs.Replay.{RunEnds};
 
 use crate::connections::Connections;
-use crate::fault::RunFault;
+use crate::fault::ReplayFault;
 use crate::output::Output;
 use crate::replying::MAX_REPLY_LINE;
 use crate::session::Session;
+use config_shards::new_shards;
 use drop_ledger::Report;
 use lane_queue::ListPort;
-use otlp_types::{Item, TryClone};
+use otlp_types::Item;
 use rate_budget::Budgets;
-use shard_core::{Shard, ShardSetup};
+use shard_core::Shard;
 use span_exporter::Exporter;
 use span_sink::{LineSink, Sink};
 use std::alloc::{AllocError, Global};
@@ -36,13 +38,8 @@ pub fn replay_run<R: Source, S: Sink>(
     config: Config,
     reader: &mut R,
     sink: S,
-) -> (S, Result<Report, RunFault>)
-    requires waits { 0 < config.decision_wait }
-    requires lanes { 0 < config.lanes }
-    requires shards { 0 < config.shards }
-    requires traces { config.shards ≤ config.num_traces }
-    requires queue { 0 < config.queue_capacity }
-    requires batch { 0 < config.send_batch_size }
+) -> (S, Result<Report, ReplayFault>)
+    requires ranges { CanReplay config }
     requires failures { S.failures sink < 2 ^ 64 - 1 }
     ensures { RunEnds (record {
       settings = settings_by config;
@@ -59,13 +56,13 @@ pub fn replay_run<R: Source, S: Sink>(
 {
     let lines = LineSink::new(sink);
     let Ok(parts) = parts_of(alloc, &config) else {
-        return (lines.end(), Err(RunFault::NoMemory));
+        return (lines.end(), Err(ReplayFault::NoMemory));
     };
     let exporter = match Exporter::new(alloc, config.send_batch_size, 1, lines) {
         Ok(exporter) => exporter,
-        Err((lines, _)) => return (lines.end(), Err(RunFault::NoMemory)),
+        Err((lines, _)) => return (lines.end(), Err(ReplayFault::NoMemory)),
     };
-    let Parts {
+    let RunParts {
         connections,
         queues,
         shards,
@@ -93,7 +90,7 @@ fn release(_config: Config) {}
 
 /// What a run needs at its start, beside the exporter.
 #[derive(Drop)]
-struct Parts {
+struct RunParts {
     connections: Connections,
     queues: Vec<ListPort<Item>>,
     shards: Vec<Shard>,
@@ -101,13 +98,9 @@ struct Parts {
     text: Vec<u8>,
 }
 
-/// The parts of a run that has seen no line.
-fn parts_of(alloc: Global, config: &Config) -> Result<Parts, AllocError>
-    requires waits { 0 < config.now.decision_wait }
-    requires lanes { 0 < config.now.lanes }
-    requires shards { 0 < config.now.shards }
-    requires traces { config.now.shards ≤ config.now.num_traces }
-    requires queue { 0 < config.now.queue_capacity }
+/// The parts of a run that has seen no line. Trace ids are hashed by a fixed function: they stand in the script.
+fn parts_of(alloc: Global, config: &Config) -> Result<RunParts, AllocError>
+    requires ranges { CanReplay config.now }
     ensures connections { IfOk result (λ parts. parts.connections ≡ record { connections = []; connected = replicate config.now.lanes 0 }) }
     ensures queues { IfOk result (λ parts. parts.queues.items ≡ empty_queues config.now.queue_capacity config.now.shards) }
     ensures shards { IfOk result (λ parts. AreNew config.now config.now.shards parts.shards.items) }
@@ -118,10 +111,11 @@ fn parts_of(alloc: Global, config: &Config) -> Result<Parts, AllocError>
     let connections = Connections::new(alloc, config.lanes)?;
     let queues = new_queues(alloc, config.queue_capacity, config.shards)?;
     let limiter = Budgets::new(alloc, &config.policies)?;
-    Ok(Parts {
+    let shards = new_shards(alloc, TraceHashing::Fixed, config)?;
+    Ok(RunParts {
         connections,
         queues,
-        shards: new_shards(alloc, config, config.shards)?,
+        shards,
         limiter,
         text,
     })
@@ -142,49 +136,12 @@ fn new_queues(
     Ok(queues)
 }
 
-fn new_shards(alloc: Global, config: &Config, shards: usize) -> Result<Vec<Shard>, AllocError>
-    requires waits { 0 < config.now.decision_wait }
-    requires lanes { 0 < config.now.lanes }
-    requires shards { 0 < config.now.shards }
-    requires traces { config.now.shards ≤ config.now.num_traces }
-    ensures { IfOk result (λ made. AreNew config.now shards made.items) }
-{
-    let mut made = Vec::with_capacity(alloc, shards)?;
-    for _shard in 0..shards {
-        made.push(new_shard(alloc, config)?)?;
-    }
-    Ok(made)
-}
-
-/// A shard with its share of the traces and of the caches. Its senders are the lanes and the ticker. Trace ids are
-/// hashed by a fixed function: they stand in the script.
-fn new_shard(alloc: Global, config: &Config) -> Result<Shard, AllocError>
-    requires waits { 0 < config.now.decision_wait }
-    requires lanes { 0 < config.now.lanes }
-    requires shards { 0 < config.now.shards }
-    requires traces { config.now.shards ≤ config.now.num_traces }
-    ensures { IfOk result (λ shard. IsNew config.now shard) }
-{
-    let policies = config.policies.try_clone(alloc)?;
-    let setup = ShardSetup {
-        hashing: TraceHashing::Fixed,
-        wait: config.decision_wait,
-        root_wait: config.root_wait,
-        maximum_size: config.maximum_trace_size,
-        limit: config.traces_per_shard(),
-        sampled: config.sampled_cache_per_shard(),
-        non_sampled: config.non_sampled_cache_per_shard(),
-        senders: config.lanes as usize + 1,
-    };
-    Shard::new(alloc, policies, setup)
-}
-
 /// Plays a script on a session that has seen no line.
 fn run_session<R: Source, S: Sink>(
     alloc: Global,
     reader: &mut R,
     session: Session<S>,
-) -> (S, Result<Report, RunFault>)
+) -> (S, Result<Report, ReplayFault>)
     requires open { session.closed ≡ false }
     requires up { session.output.0.sink.is_down ≡ false }
     requires nothing_counted { session.output.1 ≡ Some (replicate 9 0) }

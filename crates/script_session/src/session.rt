@@ -5,13 +5,13 @@ ghost use Rattle.tsc_script.specs.Instructions.{instruction_of_command, receive,
 ghost use Rattle.span_exporter.specs.Exports.{WritesLine};
 ghost use Rattle.script_session.specs.declared.replying.TheConstants.{MAX_REPLY_LINE};
 ghost use Rattle.script_run.specs.Requests.{reply_line};
-ghost use Rattle.script_run.specs.World.{World, PlaysAll, empty_queues};
+ghost use Rattle.script_run.specs.World.{ScriptWorld, PlaysAll, empty_queues};
 ghost use Rattle.script_session.specs.Pulling.{AreOf, GoesOn, has_all_nodes, has_none_due, ends_in, ends_of};
 ghost use Rattle.script_session.specs.Answers.{AnswersStop};
 
 use crate::connections::Connections;
 use crate::ending::end_all;
-use crate::fault::RunFault;
+use crate::fault::ReplayFault;
 use crate::output::Output;
 use crate::receiving::{count_received, is_received, submit};
 use crate::replying::{MAX_REPLY_LINE, write_reply_line};
@@ -27,7 +27,7 @@ use span_ids::Moment;
 use span_sink::Sink;
 use std::alloc::Global;
 use std::mem;
-use tsc_script::{Command, Machine, Stop};
+use tsc_script::{Machine, ScriptCommand, ScriptStop};
 
 /// The connections, the shards and the exporter, between two lines of a script: the queues are empty, all that was due
 /// is decided, and all that was released has gone to the sink.
@@ -63,7 +63,7 @@ impl<S: Sink> Session<S> {
     ghost use Rattle.script_session.specs.Playing.{PlaysOne, Leaves};
 
     /// Gives the sink back, with the report or what kept the script from its end.
-    pub fn end(self, played: Result<(), Stop>) -> (S, Result<Report, RunFault>)
+    pub fn end(self, played: Result<(), ScriptStop>) -> (S, Result<Report, ReplayFault>)
         ensures taken { S.taken result.0 ≡ self.output.0.sink.taken }
         ensures failures { S.failures result.0 ≡ self.output.0.sink.failures }
         ensures answer { AnswersStop played self.output.1 result.1 }
@@ -147,20 +147,20 @@ impl<S: Sink> Session<S> {
     }
 
     /// Does what a command says.
-    fn obey(&mut self, command: Command<'_>)
+    fn obey(&mut self, command: ScriptCommand<'_>)
         requires open { self.old.closed ≡ false }
         requires up { self.old.output.0.sink.is_down ≡ true → instruction_of_command command ≡ close }
         ensures plays { PlaysOne self.old (instruction_of_command command.entry) self.new }
         ensures leaves { Leaves self.old (instruction_of_command command.entry) self.new }
     {
         match command {
-            Command::Receive {
+            ScriptCommand::Receive {
                 connection,
                 moment,
                 json,
             } => self.receive(connection, moment, json),
-            Command::Tick { moment } => self.tick(moment),
-            Command::Close => self.close(),
+            ScriptCommand::Tick { moment } => self.tick(moment),
+            ScriptCommand::Close => self.close(),
         }
     }
 }
@@ -168,15 +168,15 @@ impl<S: Sink> Session<S> {
 impl<S: Sink> Machine for Session<S> {
     ghost leads = { λ start instructions now. (now.output.0.size ≡ start.output.0.size) × (now.queue_capacity ≡ start.queue_capacity)
         × (now.keeps_doubles ≡ start.keeps_doubles)
-        × ((s : Settings) (w : World) → AreOf s w start.connections start.shards.items start.limiter start.output start.closed
-        → (after : World) × PlaysAll s (record { batch = start.output.0.size; queue = start.queue_capacity; keeps_doubles = start.keeps_doubles }) w instructions after
+        × ((s : Settings) (w : ScriptWorld) → AreOf s w start.connections start.shards.items start.limiter start.output start.closed
+        → (after : ScriptWorld) × PlaysAll s (record { batch = start.output.0.size; queue = start.queue_capacity; keeps_doubles = start.keeps_doubles }) w instructions after
         × AreOf s after now.connections now.shards.items now.limiter now.output now.closed) };
 
     ghost is_up = { λ now. not now.output.0.sink.is_down };
 
     ghost is_closed = { λ now. now.closed };
 
-    fn play(&mut self, command: Command<'_>) -> bool {
+    fn play(&mut self, command: ScriptCommand<'_>) -> bool {
         self.obey(command);
         !self.output.is_down()
     }
@@ -196,15 +196,15 @@ fn hand_reply<S: Sink>(text: &mut Vec<u8>, output: &mut Output<S>, reply: &Reply
 }
 
 /// The answer of a run: a refused line goes before a count that would have passed 2^64-1, and this before a sink fault.
-fn answer_of(played: Result<(), Stop>, report: Option<Report>) -> Result<Report, RunFault>
+fn answer_of(played: Result<(), ScriptStop>, report: Option<Report>) -> Result<Report, ReplayFault>
     ensures { AnswersStop played report result }
 {
     match (played, report) {
-        (Err(Stop::NoMemory), _) => Err(RunFault::NoMemory),
-        (Err(Stop::Refused(line)), _) => Err(RunFault::Refused(line)),
-        (Err(Stop::Fault(line)), _) => Err(RunFault::Fault(line)),
-        (_, None) => Err(RunFault::BookFull),
+        (Err(ScriptStop::NoMemory), _) => Err(ReplayFault::NoMemory),
+        (Err(ScriptStop::Refused(line)), _) => Err(ReplayFault::Refused(line)),
+        (Err(ScriptStop::Fault(line)), _) => Err(ReplayFault::Fault(line)),
+        (_, None) => Err(ReplayFault::CounterOverflow),
         (Ok(()), Some(report)) => Ok(report),
-        (Err(Stop::Down), Some(report)) => Err(RunFault::SinkDown(report)),
+        (Err(ScriptStop::Down), Some(report)) => Err(ReplayFault::SinkDown(report)),
     }
 }

@@ -5,7 +5,7 @@ ghost use Rattle.rate_budget.specs.Budget.{limiter_counts, has_node};
 ghost use Rattle.journal_theory.specs.Journal.{Entry, Settings, has_ids};
 ghost use Rattle.shard_core.specs.Held.{StandsFor, has_due, is_finished, settings};
 ghost use Rattle.shard_core.specs.Taking.{ends_after, released_by, released_in, dropped_by, dropped_in};
-ghost use Rattle.script_run.specs.World.{Turn, to_each};
+ghost use Rattle.script_run.specs.World.{ShardTurn, to_each};
 ghost use Rattle.script_session.specs.Signals.{item_of};
 ghost use Rattle.script_session.specs.Pulling.{PullsAll, GoesOn, TakesItems, DecidesAll, has_nodes_of, has_all_nodes, AreOpen, AreQuiet, HaveSettings, EachTakes, RoundsTaken, StayBefore, rounds_of, is_queued, emptied, items_in, HoldsQueued};
 
@@ -67,7 +67,7 @@ fn pull_taken<S: Sink>(output: &mut Output<S>, taken: Taken)
 /// Decides all that is due by the limiter, and puts what that releases into the batch.
 fn decide_all<S: Sink>(shard: &mut Shard, limiter: &mut Budgets, output: &mut Output<S>)
     requires nodes { has_nodes_of limiter.old shard.old ≡ true }
-    ensures decides { (e : Entry) (past : Turn) → e.answers ≡ [] → StandsFor shard.old (e ∷ past.journal) 0 → limiter.old ≡ limiter_counts (settings shard.old).policies past.askings
+    ensures decides { (e : Entry) (past : ShardTurn) → e.answers ≡ [] → StandsFor shard.old (e ∷ past.journal) 0 → limiter.old ≡ limiter_counts (settings shard.old).policies past.askings
         → DecidesAll (settings shard.old) e past output.old shard.new limiter.new output.new }
     ensures nodes { (node : ℕ) → has_node limiter.new node ≡ has_node limiter.old node }
     ensures nothing_due { has_due shard.new ≡ false }

@@ -73,7 +73,7 @@ module _ (p : List Policy) (w root_wait maximum : ℕ) (b : Buffer) (c : CacheLi
 
   -- the relation, by the marks and the state
   by_state : (answer : Taken) (new : Held) (refused lost : Bool) (state : State) → is_refusal answer ≡ refused → is_loss answer ≡ lost → state_in st t ≡ state →
-      new ≡ record old { standing = after_span_of s b.limit refused lost t a st } → answer ≡ answer_held s b.limit refused lost a st state → marks_held s b.limit refused lost st state ≡ true → TakesSpanOf old a t answer new
+      new ≡ record old { standing = after_span_of s b.num_traces refused lost t a st } → answer ≡ answer_held s b.num_traces refused lost a st state → marks_held s b.num_traces refused lost st state ≡ true → TakesSpanOf old a t answer new
   by_state answer new refused lost state r l e n q m = rw (r, l, e) (n, q, m)
 
   state_known : (e : Episode) → episode_of t b.episodes ≡ Some e → state_in st t ≡ Some e.verdict
@@ -82,8 +82,8 @@ module _ (p : List Policy) (w root_wait maximum : ℕ) (b : Buffer) (c : CacheLi
   state_unknown : episode_of t b.episodes ≡ None → state_in st t ≡ option_map (λ (v : Verdict). Some v) (asked t c)
   state_unknown h = ap (state_by st t) h ∙ state_asked t c
 
-  after_by : (lost : Bool) (o : Option Episode) → episode_of t b.episodes ≡ o → after_span_of s b.limit false lost t a st ≡ after_episode s b.limit lost t a st o
-  after_by lost o h = ap (after_episode s b.limit lost t a st) h
+  after_by : (lost : Bool) (o : Option Episode) → episode_of t b.episodes ≡ o → after_span_of s b.num_traces false lost t a st ≡ after_episode s b.num_traces lost t a st o
+  after_by lost o h = ap (after_episode s b.num_traces lost t a st) h
 
   pub appended : state_of (episode_of t b.episodes) ≡ Some Undecided → (d : Buffer) → d ≡ record b { episodes = append_first t st.clock a b.episodes } → TakesSpanOf old a t (Kept None None) (new_of d c)
   appended h d e =
@@ -103,15 +103,15 @@ module _ (p : List Policy) (w root_wait maximum : ℕ) (b : Buffer) (c : CacheLi
       (ap (λ (z : Standing). record old { standing = z }) (sym (after_by false (Some x.0) x.1 ∙ ap (after_known t a st) x.2))) q refl
 
   -- a shard with other lists
-  abbrev sized : Buffer → CacheLists → (limit sampled_size non_sampled_size : ℕ) → Held
-  sized d e limit sampled_size non_sampled_size = record { policies = p; wait = w; root_wait = root_wait; maximum_size = maximum; limit = limit; sampled_size = sampled_size; non_sampled_size = non_sampled_size; standing = record (with_caches e st) { episodes = d.episodes } }
+  abbrev sized : Buffer → CacheLists → (num_traces sampled_cache_size non_sampled_cache_size : ℕ) → Held
+  sized d e num_traces sampled_cache_size non_sampled_cache_size = record { policies = p; decision_wait = w; root_wait = root_wait; maximum_trace_size = maximum; num_traces = num_traces; sampled_cache_size = sampled_cache_size; non_sampled_cache_size = non_sampled_cache_size; standing = record (with_caches e st) { episodes = d.episodes } }
 
   at_sizes : (d : Buffer) (e : CacheLists) (m n i j g h : ℕ) → m ≡ n → i ≡ j → g ≡ h → sized d e m i g ≡ sized d e n j h
   at_sizes d e m n i j g h u x y = rw (u, x, y) refl
 
   -- where the limit and the sizes are as before
-  resized : (d : Buffer) (e : CacheLists) → d.limit ≡ b.limit → e.sampled.size ≡ c.sampled.size → e.not_sampled.size ≡ c.not_sampled.size → new_of d e ≡ record old { standing = record (with_caches e st) { episodes = d.episodes } }
-  resized d e l x y = at_sizes d e d.limit b.limit e.sampled.size c.sampled.size e.not_sampled.size c.not_sampled.size l x y
+  resized : (d : Buffer) (e : CacheLists) → d.num_traces ≡ b.num_traces → e.sampled.size ≡ c.sampled.size → e.not_sampled.size ≡ c.not_sampled.size → new_of d e ≡ record old { standing = record (with_caches e st) { episodes = d.episodes } }
+  resized d e l x y = at_sizes d e d.num_traces b.num_traces e.sampled.size c.sampled.size e.not_sampled.size c.not_sampled.size l x y
 
   pub late_cached : (v : Verdict) (answer : Taken) → state_of (episode_of t b.episodes) ≡ None → asked t c ≡ Some v → (e : CacheLists) → e ≡ after_asking t c → answer ≡ answer_to_late a v → TakesSpanOf old a t answer (new_of b e)
   late_cached v answer h g e q r =
@@ -119,7 +119,7 @@ module _ (p : List Policy) (w root_wait maximum : ℕ) (b : Buffer) (c : CacheLi
       let z = sizes_asked t c in
       by_state answer (new_of b e) false false (Some (Some v)) (ap is_refusal r ∙ late_refusal a v) (ap is_loss r ∙ late_loss a v) (state_unknown n ∙ ap (option_map (λ (v : Verdict). Some v)) g)
       (resized b e refl (ap (λ (l : CacheLists). l.sampled.size) q ∙ z.0) (ap (λ (l : CacheLists). l.not_sampled.size) q ∙ z.1)
-      ∙ ap (λ (z : Standing). record old { standing = z }) (ap (λ (l : CacheLists). with_caches l st) q ∙ sym (after_by false None n ∙ ap (after_unknown s b.limit false t a st) g))) r refl
+      ∙ ap (λ (z : Standing). record old { standing = z }) (ap (λ (l : CacheLists). with_caches l st) q ∙ sym (after_by false None n ∙ ap (after_unknown s b.num_traces false t a st) g))) r refl
 
   pub refused_opening : (answer : Taken) → answer ≡ Dropped NoMemory → state_of (episode_of t b.episodes) ≡ None → asked t c ≡ None → (d : Buffer) (e : CacheLists) → d ≡ b → e ≡ c → TakesSpanOf old a t answer (new_of d e)
   refused_opening answer r h g d e q z =
@@ -221,10 +221,10 @@ module _ (p : List Policy) (w root_wait maximum : ℕ) (b : Buffer) (c : CacheLi
       let P = λ (y : Taken). TakesSpanOf old a t y (new_of d e) in
       let lost = is_loss (Kept left r) in
       subst P (sym x) (by_state (Kept left r) (new_of d e) false lost None refl refl (state_unknown n ∙ ap (option_map (λ (v : Verdict). Some v)) g)
-      (resized d e (ap (λ (y : Buffer). y.limit) z) done.size done.other_size
+      (resized d e (ap (λ (y : Buffer). y.num_traces) z) done.size done.other_size
       ∙ ap (λ (y : CacheLists). record old { standing = record (with_caches y st) { episodes = d.episodes } }) (done.caches ∙ ap (λ (y : Option Evicted). after_leaving lost y c) l)
       ∙ ap (λ (y : Buffer). record old { standing = record (with_caches (after_leaving lost (leaves b) c) st) { episodes = y.episodes } }) z
-      ∙ ap (λ (y : Standing). record old { standing = y }) (sym (after_by lost None n ∙ ap (after_unknown s b.limit lost t a st) g)))
+      ∙ ap (λ (y : Standing). record old { standing = y }) (sym (after_by lost None n ∙ ap (after_unknown s b.num_traces lost t a st) g)))
       (ap (Kept left) done.answer ∙ ap (λ (y : Option Evicted). Kept y (put_answer s lost y)) l)
       (ap (λ (y : Option Evicted). not lost || cache_is_on s (verdict_leaving y)) (sym l) ∙ done.mark))
 

@@ -19,7 +19,7 @@ use Rattle.journal_theory.proofs.Notes.{HasRoom}
 use Rattle.journal_theory.proofs.Sound.{makes_room, sound_notes}
 use Rattle.shard_core.proofs.Stands.{room_of}
 
-module _ (s : Settings) (room : HasRoom s.limit) where
+module _ (s : Settings) (room : HasRoom s.num_traces) where
   -- where no answer is given nothing is decided
   none-given : (past : Journal) (os : List Opening) → decisions_in_turn s past os [] ≡ []
   none-given past [] = refl
@@ -64,7 +64,7 @@ module _ (s : Settings) (room : HasRoom s.limit) where
       let noted = notes s before in
       let n = length before in
       let m = after_finding s t lost n c noted opens in
-      let made = makes_room s.limit room noted.openings in
+      let made = makes_room s.num_traces room noted.openings in
       let new : Opening = record { at = n; trace = t; moment = c } in
       let inside : is_in_buffer s m n ≡ true = ap (list_any (λ (o : Opening). o.at == n)) (made.with_next new) ∙ ap (λ b. b || list_any (λ (o : Opening). o.at == n) made.kept) (eq-eqb n n refl) in
       let undecided : decided_as m n ≡ None = ap (option_map (λ (d : Decision). d.verdict)) (find_none (λ (d : Decision). d.opening.at == n) noted.decisions
@@ -81,9 +81,9 @@ module _ (s : Settings) (room : HasRoom s.limit) where
       = notes-span a false lost before ∙ ap (λ (o : Option Ids). after_span s o e before (notes s before)) i in
       ap (λ (n : Notes). fate_of_finding s n (length before) f) here ∙ told a ids.trace lost before (clock (e ∷ before)) f refl
 
-tells-ids : (h : Held) (a : Arrival) (ids : Option Ids) (past : Journal) (answer : Taken) → 0 < h.limit → a.rec.span.ids ≡ ids → answer ≡ answer_to_ids (settings h) (is_refusal answer) (is_loss answer) past a ids → TellsFateOf (settings h) past a answer ids
+tells-ids : (h : Held) (a : Arrival) (ids : Option Ids) (past : Journal) (answer : Taken) → 0 < h.num_traces → a.rec.span.ids ≡ ids → answer ≡ answer_to_ids (settings h) (is_refusal answer) (is_loss answer) past a ids → TellsFateOf (settings h) past a answer ids
 tells-ids h a None past answer l i e = tt
 tells-ids h a (Some ids) past answer l i e = told-ids (settings h) (room_of h l) a ids past (is_refusal answer) (is_loss answer) i ∙ ap fate_told (sym e)
 
-pub tells_fate : (h : Held) (a : Arrival) (past : Journal) (answer : Taken) → 0 < h.limit → answer ≡ answer_to (settings h) (entry (Span a) answer) past → TellsFate (settings h) past (Span a) answer
+pub tells_fate : (h : Held) (a : Arrival) (past : Journal) (answer : Taken) → 0 < h.num_traces → answer ≡ answer_to (settings h) (entry (Span a) answer) past → TellsFate (settings h) past (Span a) answer
 tells_fate h a past answer l e = tells-ids h a a.rec.span.ids past answer l refl e

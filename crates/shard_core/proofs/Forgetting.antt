@@ -72,7 +72,7 @@ opened-push c m t a (e ∷ es) h = go (nat_le e.moment c) h (opened-push c m t a
     go false h f = absurd (cc h)
 
 pub opened-open : (c m : ℕ) (t : TraceId) (a : Arrival) (b : Buffer) → opened_by c b.episodes ≡ true → opened_by c (after_opening b (opening_episode t a c m)).episodes ≡ true
-opened-open c m t a b h = go (length b.episodes == b.limit)
+opened-open c m t a b h = go (length b.episodes == b.num_traces)
   where
     go : (x : Bool) → opened_by c (cond x (drop 1 b.episodes) b.episodes ++ opening_episode t a c m ∷ []) ≡ true
     go true = opened-push c m t a (drop 1 b.episodes) (opened-drop c b.episodes h)
@@ -185,7 +185,7 @@ out-decided t (Some v) old new r x p k h = out-put t v old new p.0 x p.2 k h
 
 -- what a shard keeps of its buffer and its caches
 abbrev pub IsKept : (clock : ℕ) → Buffer → CacheLists → Type 0
-IsKept clock b c = (0 < b.limit) × (opened_by clock b.episodes ≡ true) × AreForgotten (traces b.episodes) c
+IsKept clock b c = (0 < b.num_traces) × (opened_by clock b.episodes ≡ true) × AreForgotten (traces b.episodes) c
 
 pub append_keeps : (clock : ℕ) (old new : Buffer) (c : CacheLists) (a : Arrival) (t : TraceId) {E : Type 0} (r : Result (Unit {0}) (Arrival × E)) → AppendedTo old a clock t r new → IsKept clock old c → IsKept clock new c
 append_keeps clock old new c a t (Ok u) e k =
@@ -228,8 +228,8 @@ out-of t (u ∷ ts) old new h f w =
 
 -- the caches after an opening that found no trace of this id
 opening_caches : (b : Buffer) (c d : CacheLists) (left : Option Evicted) (r : Option Remembered) → left ≡ leaves b → Puts left c r d → AreForgotten (traces b.episodes) c → (t : TraceId) → is_held t (traces b.episodes) ≡ false → is_held_in_either t c ≡ false →
-    AreForgotten (cond (length b.episodes == b.limit) (drop 1 (traces b.episodes)) (traces b.episodes)) d × (is_held_in_either t d ≡ false)
-opening_caches b c d left r l q w t h k = go (length b.episodes == b.limit) refl left l q
+    AreForgotten (cond (length b.episodes == b.num_traces) (drop 1 (traces b.episodes)) (traces b.episodes)) d × (is_held_in_either t d ≡ false)
+opening_caches b c d left r l q w t h k = go (length b.episodes == b.num_traces) refl left l q
   where
     as_before : (e : CacheLists) → e ≡ c → AreForgotten (traces b.episodes) e × (is_held_in_either t e ≡ false)
     as_before e z = let P = λ (x : CacheLists). AreForgotten (traces b.episodes) x × (is_held_in_either t x ≡ false) in subst P (sym z) (w, k)
@@ -244,7 +244,7 @@ opening_caches b c d left r l q w t h k = go (length b.episodes == b.limit) refl
         let gone : (y : TraceId) → same_trace y e.trace ≡ false → is_held_in_either y c ≡ false → is_held_in_either y d ≡ false = λ y f g. out-decided x.trace x.verdict c d r y q (ap (same_trace y) is ∙ f) g in
         (out-of e.trace (traces es) c d w.0 gone w.2, gone t apart.0 k)
 
-    go : (full : Bool) → (length b.episodes == b.limit) ≡ full → (left : Option Evicted) → left ≡ leaves b → Puts left c r d → AreForgotten (cond full (drop 1 (traces b.episodes)) (traces b.episodes)) d × (is_held_in_either t d ≡ false)
+    go : (full : Bool) → (length b.episodes == b.num_traces) ≡ full → (left : Option Evicted) → left ≡ leaves b → Puts left c r d → AreForgotten (cond full (drop 1 (traces b.episodes)) (traces b.episodes)) d × (is_held_in_either t d ≡ false)
     go true f left l q = first_left b.episodes w h left (l ∙ ap (λ x. cond x (option_map evicted_as (slice_get b.episodes 0)) None) f) q
     go false f left l q = as_before d (none_put left (l ∙ ap (λ x. cond x (option_map evicted_as (slice_get b.episodes 0)) None) f) q)
       where
@@ -266,7 +266,7 @@ open_keeps clock maximum old new c d a t left r l e q n h k =
     let P = λ (b : Buffer). IsKept clock b d in
     let Q = λ (ts : List TraceId). AreForgotten ts d in
     let out = episode-none t old.episodes n in
-    let full = length old.episodes == old.limit in
+    let full = length old.episodes == old.num_traces in
     let w = opening_caches old c d left r l q k.2 t out h in
     subst P (sym e) (
       k.0,
@@ -277,7 +277,7 @@ open_keeps clock maximum old new c d a t left r l e q n h k =
 
 -- the trace of the episode that leaves is in no cache
 pub leaves_out : (b : Buffer) (c : CacheLists) → AreForgotten (traces b.episodes) c → leaves_forgotten (leaves b) c ≡ true
-leaves_out b c w = go (length b.episodes == b.limit) b.episodes w
+leaves_out b c w = go (length b.episodes == b.num_traces) b.episodes w
   where
     or-yes : (x : Bool) → (x || true) ≡ true
     or-yes true = refl
@@ -288,5 +288,5 @@ leaves_out b c w = go (length b.episodes == b.limit) b.episodes w
     go true [] w = refl
     go true (e ∷ es) w = ap (λ b. is_none e.verdict || not b) w.1 ∙ or-yes (is_none e.verdict)
 
-pub new_keeps : (b : Buffer) (c : CacheLists) (limit : ℕ) → b ≡ (let z : Buffer = record { episodes = []; limit = limit } in z) → 0 < limit → IsKept 0 b c
-new_keeps b c limit e l = let P = λ (z : Buffer). IsKept 0 z c in subst P (sym e) (l, refl, tt)
+pub new_keeps : (b : Buffer) (c : CacheLists) (num_traces : ℕ) → b ≡ (let z : Buffer = record { episodes = []; num_traces = num_traces } in z) → 0 < num_traces → IsKept 0 b c
+new_keeps b c num_traces e l = let P = λ (z : Buffer). IsKept 0 z c in subst P (sym e) (l, refl, tt)

@@ -58,7 +58,7 @@ opened t a c m [] h = refl
 opened t a c m (e ∷ es) h = rw (and_parts (has_spans e) (have_spans es) h).0 (opened t a c m es (and_parts (has_spans e) (have_spans es) h).1)
 
 pub open_spans : (t : TraceId) (a : Arrival) (c m : ℕ) (old new : Buffer) → new ≡ after_opening old (opening_episode t a c m) → have_spans old.episodes ≡ true → have_spans new.episodes ≡ true
-open_spans t a c m old new e h = let P = λ (b : Buffer). have_spans b.episodes ≡ true in subst P (sym e) (go (length old.episodes == old.limit))
+open_spans t a c m old new e h = let P = λ (b : Buffer). have_spans b.episodes ≡ true in subst P (sym e) (go (length old.episodes == old.num_traces))
   where
     go : (b : Bool) → have_spans (cond b (drop 1 old.episodes) old.episodes ++ opening_episode t a c m ∷ []) ≡ true
     go true = opened t a c m (drop 1 old.episodes) (dropped old.episodes h)

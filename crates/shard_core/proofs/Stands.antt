@@ -30,8 +30,8 @@ use Rattle.journal_theory.proofs.StandingParts.{standing_by}
 use Rattle.journal_theory.proofs.Keeping.{keeps_standing, leaves_held}
 use Rattle.journal_theory.proofs.Answering.{all-answered}
 
-pub room_of : (h : Held) → 0 < h.limit → HasRoom (settings h).limit
-room_of h l e = let z : h.limit ≡ 0 = cc e in absurd (omega (arith, l, z))
+pub room_of : (h : Held) → 0 < h.num_traces → HasRoom (settings h).num_traces
+room_of h l e = let z : h.num_traces ≡ 0 = cc e in absurd (omega (arith, l, z))
 
 suc_of : (n : ℕ) → 0 < n → (m : ℕ) × (n ≡ suc m)
 suc_of zero l = absurd (omega (arith, l))
@@ -49,7 +49,7 @@ pub record Ready (h : Held) (past : Journal) (k : ℕ) : Type 0 where
   pub runs : have_ended past (length h.standing.ends) ≡ false
   pub answered : IsAnswered (settings h) past
 
-pub ready : (h : Held) (past : Journal) (k : ℕ) → 0 < h.wait → 0 < h.limit → has_due h ≡ false → is_finished h ≡ false → StandsFor h past k → Ready h past k
+pub ready : (h : Held) (past : Journal) (k : ℕ) → 0 < h.decision_wait → 0 < h.num_traces → has_due h ≡ false → is_finished h ≡ false → StandsFor h past k → Ready h past k
 ready h past k w l d f s =
     let room = room_of h l in
     let left = nothing_left (settings h) room past k h.standing w s.0 s.1 s.2 (find-from_any (is_due_in h) h.standing.episodes d) in
@@ -65,9 +65,9 @@ none_taken_due : (s : Settings) (e : Entry) (past : Journal) → IsAnswered s pa
 none_taken_due s e past g h = (ap (are_each_answered s (e ∷ past) []) h, g)
 
 -- a shard that holds what stands for a journal
-stands_at : (h : Held) → 0 < h.limit → (past : Journal) (k : ℕ) → StoppedInTime (settings h) past → IsAnsweredUpTo (settings h) past k → StandsFor (record h { standing = standing (settings h) past k }) past k
+stands_at : (h : Held) → 0 < h.num_traces → (past : Journal) (k : ℕ) → StoppedInTime (settings h) past → IsAnsweredUpTo (settings h) past k → StandsFor (record h { standing = standing (settings h) past k }) past k
 stands_at h l past k s g =
-    let Q = λ (n : ℕ). settings_of h.policies h.wait h.root_wait h.maximum_size h.limit h.sampled_size h.non_sampled_size n in
+    let Q = λ (n : ℕ). settings_of h.policies h.decision_wait h.root_wait h.maximum_trace_size h.num_traces h.sampled_cache_size h.non_sampled_cache_size n in
     let P = λ (n : ℕ). StoppedInTime (Q n) past × (standing (settings h) past k ≡ standing (Q n) past k) × IsAnsweredUpTo (Q n) past k in
     subst P (sym (length-ends (settings h) (room_of h l) past (length h.standing.ends))) (s, refl, g)
 
@@ -77,7 +77,7 @@ verdict_left : (s : Settings) (past : Journal) (noted : Notes) (r : Option Openi
 verdict_left s past noted None = refl
 verdict_left s past noted (Some o) = refl
 
-module _ (h : Held) (a : Arrival) (ids : Ids) (past : Journal) (k : ℕ) (i : a.rec.span.ids ≡ Some ids) (l : 0 < h.limit) (g : Ready h past k) where
+module _ (h : Held) (a : Arrival) (ids : Ids) (past : Journal) (k : ℕ) (i : a.rec.span.ids ≡ Some ids) (l : 0 < h.num_traces) (g : Ready h past k) where
   abbrev s : Settings
   s = settings h
 
@@ -93,40 +93,40 @@ module _ (h : Held) (a : Arrival) (ids : Ids) (past : Journal) (k : ℕ) (i : a.
   entry_of : (refused lost : Bool) → Entry
   entry_of refused lost = record { item = Span a; refused = refused; lost = lost; answers = [] }
 
-  span_held : (refused lost : Bool) → let e : Entry = record { item = Span a; refused = refused; lost = lost; answers = [] } in after_span_of s h.limit refused lost ids.trace a st ≡ standing s (e ∷ past) 0
+  span_held : (refused lost : Bool) → let e : Entry = record { item = Span a; refused = refused; lost = lost; answers = [] } in after_span_of s h.num_traces refused lost ids.trace a st ≡ standing s (e ∷ past) 0
   span_held refused lost =
       let e : Entry = record { item = Span a; refused = refused; lost = lost; answers = [] } in
-      sym (keeps_standing s h.limit past k e refl l g.dealt (ap is_some i)
-      ∙ ap (λ (x : Standing). after_entry s h.limit refused lost (Span a) x) (sym g.stands)
-      ∙ ap (λ (o : Option Ids). after_span_in s h.limit refused lost a o st) i)
+      sym (keeps_standing s h.num_traces past k e refl l g.dealt (ap is_some i)
+      ∙ ap (λ (x : Standing). after_entry s h.num_traces refused lost (Span a) x) (sym g.stands)
+      ∙ ap (λ (o : Option Ids). after_span_in s h.num_traces refused lost a o st) i)
 
   state_is : state_in st ids.trace ≡ state_found f
   state_is = ap (λ (x : Standing). state_in x ids.trace) g.stands ∙ sym (found_as_held s past k ids.trace (room_of h l) g.dealt)
 
-  leaves_are : leaves (buffer h.limit st) ≡ option_map (evicted_of s past noted) (leaving s.limit noted.openings)
+  leaves_are : leaves (buffer h.num_traces st) ≡ option_map (evicted_of s past noted) (leaving s.num_traces noted.openings)
   leaves_are =
-      let m = suc_of h.limit l in
-      let lim : s.limit ≡ Some (suc m.0) = ap (λ (n : ℕ). Some n) m.1 in
-      ap (λ (x : Standing). leaves (buffer h.limit x)) (g.stands ∙ ap (standing_by s past) (all_dealt s past k g.dealt))
+      let m = suc_of h.num_traces l in
+      let lim : s.num_traces ≡ Some (suc m.0) = ap (λ (n : ℕ). Some n) m.1 in
+      ap (λ (x : Standing). leaves (buffer h.num_traces x)) (g.stands ∙ ap (standing_by s past) (all_dealt s past k g.dealt))
       ∙ ap (λ n. leaves (buffer n (standing_by s past noted))) m.1
       ∙ leaves_held s m.0 lim past a ids i []
 
-  answer_found : (lost : Bool) (x : Finding) → answer_by_state s h.limit lost a st (state_found x) ≡ answer_to_finding s lost past noted a x
+  answer_found : (lost : Bool) (x : Finding) → answer_by_state s h.num_traces lost a st (state_found x) ≡ answer_to_finding s lost past noted a x
   answer_found lost (joins o) = refl
   answer_found lost (meets o v) = refl
   answer_found lost opens = ap (λ (e : Option Evicted). Kept e (put_answer s lost e)) leaves_are
 
-  answer_is : (refused lost : Bool) → answer_held s h.limit refused lost a st (state_in st ids.trace) ≡ answer_to_ids s refused lost past a a.rec.span.ids
+  answer_is : (refused lost : Bool) → answer_held s h.num_traces refused lost a st (state_in st ids.trace) ≡ answer_to_ids s refused lost past a a.rec.span.ids
   answer_is true lost = ap (λ (o : Option Ids). answer_to_ids s true lost past a o) (sym i)
-  answer_is false lost = ap (answer_by_state s h.limit lost a st) state_is ∙ answer_found lost f ∙ ap (λ (o : Option Ids). answer_to_ids s false lost past a o) (sym i)
+  answer_is false lost = ap (answer_by_state s h.num_traces lost a st) state_is ∙ answer_found lost f ∙ ap (λ (o : Option Ids). answer_to_ids s false lost past a o) (sym i)
 
-  marks_found : (refused lost : Bool) (x : Finding) → marks_held s h.limit refused lost st (state_found x) ≡ marks_apply_to s noted refused lost x
+  marks_found : (refused lost : Bool) (x : Finding) → marks_held s h.num_traces refused lost st (state_found x) ≡ marks_apply_to s noted refused lost x
   marks_found refused lost (joins o) = refl
   marks_found refused lost (meets o v) = refl
-  marks_found refused lost opens = ap (λ (v : Option _). (not refused || true) && (not lost || (not refused && cache_is_on s v))) (ap verdict_leaving leaves_are ∙ verdict_left s past noted (leaving s.limit noted.openings))
+  marks_found refused lost opens = ap (λ (v : Option _). (not refused || true) && (not lost || (not refused && cache_is_on s v))) (ap verdict_leaving leaves_are ∙ verdict_left s past noted (leaving s.num_traces noted.openings))
 
-  marks_are : (refused lost : Bool) → marks_held s h.limit refused lost st (state_in st ids.trace) ≡ true → marks_apply_to_ids s past refused lost a.rec.span.ids ≡ true
-  marks_are refused lost e = ap (λ (o : Option Ids). marks_apply_to_ids s past refused lost o) i ∙ sym (marks_found refused lost f) ∙ ap (marks_held s h.limit refused lost st) (sym state_is) ∙ e
+  marks_are : (refused lost : Bool) → marks_held s h.num_traces refused lost st (state_in st ids.trace) ≡ true → marks_apply_to_ids s past refused lost a.rec.span.ids ≡ true
+  marks_are refused lost e = ap (λ (o : Option Ids). marks_apply_to_ids s past refused lost o) i ∙ sym (marks_found refused lost f) ∙ ap (marks_held s h.num_traces refused lost st) (sym state_is) ∙ e
 
   span_stands : (new : Held) (answer : Taken) → TakesSpanOf h a ids.trace answer new → StandsFor new (entry (Span a) answer ∷ past) 0 × (answer ≡ answer_to s (entry (Span a) answer) past) × (marks_apply s (entry (Span a) answer) past ≡ true)
   span_stands new answer t =
@@ -134,27 +134,27 @@ module _ (h : Held) (a : Arrival) (ids : Ids) (past : Journal) (k : ℕ) (i : a.
       let is : new ≡ record h { standing = standing s (entry (Span a) answer ∷ past) 0 } = t.0 ∙ ap (λ (x : Standing). record h { standing = x }) (span_held (is_refusal answer) (is_loss answer)) in
       (subst P (sym is) (stands_at h l (entry (Span a) answer ∷ past) 0 g.runs (none_taken_due s (entry (Span a) answer) past g.answered refl)), t.1 ∙ answer_is (is_refusal answer) (is_loss answer), marks_are (is_refusal answer) (is_loss answer) t.2)
 
-span-ids : (h : Held) (a : Arrival) (ids : Option Ids) (past : Journal) (k : ℕ) → a.rec.span.ids ≡ ids → is_some ids ≡ true → 0 < h.limit → Ready h past k → (new : Held) (answer : Taken) → TakesSpan h a ids answer new →
+span-ids : (h : Held) (a : Arrival) (ids : Option Ids) (past : Journal) (k : ℕ) → a.rec.span.ids ≡ ids → is_some ids ≡ true → 0 < h.num_traces → Ready h past k → (new : Held) (answer : Taken) → TakesSpan h a ids answer new →
     StandsFor new (entry (Span a) answer ∷ past) 0 × (answer ≡ answer_to (settings h) (entry (Span a) answer) past) × (marks_apply (settings h) (entry (Span a) answer) past ≡ true)
 span-ids h a None past k i v l g new answer t = cc
 span-ids h a (Some ids) past k i v l g new answer t = span_stands h a ids past k i l g new answer t
 
-pub takes_span : (h : Held) (a : Arrival) (past : Journal) (k : ℕ) → is_some a.rec.span.ids ≡ true → 0 < h.limit → Ready h past k → (new : Held) (answer : Taken) → TakesSpan h a a.rec.span.ids answer new →
+pub takes_span : (h : Held) (a : Arrival) (past : Journal) (k : ℕ) → is_some a.rec.span.ids ≡ true → 0 < h.num_traces → Ready h past k → (new : Held) (answer : Taken) → TakesSpan h a a.rec.span.ids answer new →
     StandsFor new (entry (Span a) answer ∷ past) 0 × (answer ≡ answer_to (settings h) (entry (Span a) answer) past) × (marks_apply (settings h) (entry (Span a) answer) past ≡ true)
 takes_span h a past k v l g new answer t = span-ids h a a.rec.span.ids past k refl v l g new answer t
 
 -- ---- a tick, and an end
 
-pub takes_tick : (h : Held) (m : ℕ) (past : Journal) (k : ℕ) → 0 < h.limit → Ready h past k → StandsFor (record h { standing = held_after_tick m h.standing }) (entry (Tick m) Ticked ∷ past) 0
+pub takes_tick : (h : Held) (m : ℕ) (past : Journal) (k : ℕ) → 0 < h.num_traces → Ready h past k → StandsFor (record h { standing = held_after_tick m h.standing }) (entry (Tick m) Ticked ∷ past) 0
 takes_tick h m past k l g =
     let x = entry (Tick m) Ticked in
     let P = λ (st : Standing). StandsFor (record h { standing = st }) (x ∷ past) 0 in
-    subst P (keeps_standing (settings h) h.limit past k x refl l g.dealt refl ∙ ap (held_after_tick m) (sym g.stands)) (stands_at h l (x ∷ past) 0 g.runs (none_taken_due (settings h) x past g.answered refl))
+    subst P (keeps_standing (settings h) h.num_traces past k x refl l g.dealt refl ∙ ap (held_after_tick m) (sym g.stands)) (stands_at h l (x ∷ past) 0 g.runs (none_taken_due (settings h) x past g.answered refl))
 
-end_held : (h : Held) (sender : ℕ) (answer : Taken) (past : Journal) (k : ℕ) → 0 < h.limit → Ready h past k → standing (settings h) (entry (End sender) answer ∷ past) 0 ≡ held_after_end sender h.standing
-end_held h sender answer past k l g = keeps_standing (settings h) h.limit past k (entry (End sender) answer) refl l g.dealt refl ∙ ap (held_after_end sender) (sym g.stands)
+end_held : (h : Held) (sender : ℕ) (answer : Taken) (past : Journal) (k : ℕ) → 0 < h.num_traces → Ready h past k → standing (settings h) (entry (End sender) answer ∷ past) 0 ≡ held_after_end sender h.standing
+end_held h sender answer past k l g = keeps_standing (settings h) h.num_traces past k (entry (End sender) answer) refl l g.dealt refl ∙ ap (held_after_end sender) (sym g.stands)
 
-pub takes_end : (h : Held) (sender : ℕ) (answer : Taken) (past : Journal) (k : ℕ) → 0 < h.limit → Ready h past k → StandsFor (record h { standing = held_after_end sender h.standing }) (entry (End sender) answer ∷ past) 0
+pub takes_end : (h : Held) (sender : ℕ) (answer : Taken) (past : Journal) (k : ℕ) → 0 < h.num_traces → Ready h past k → StandsFor (record h { standing = held_after_end sender h.standing }) (entry (End sender) answer ∷ past) 0
 takes_end h sender answer past k l g =
     let x = entry (End sender) answer in
     let P = λ (st : Standing). StandsFor (record h { standing = st }) (x ∷ past) 0 in
@@ -164,7 +164,7 @@ if-same : (b c : Bool) → c ≡ false → (if b then Finished else Ended) ≡ (
 if-same true c e = rw e refl
 if-same false c e = refl
 
-pub end-answer : (h : Held) (sender : ℕ) (answer : Taken) (past : Journal) (k : ℕ) → 0 < h.limit → Ready h past k → (if is_finished (record h { standing = held_after_end sender h.standing }) then Finished else Ended) ≡ answer_to (settings h) (entry (End sender) answer) past
+pub end-answer : (h : Held) (sender : ℕ) (answer : Taken) (past : Journal) (k : ℕ) → 0 < h.num_traces → Ready h past k → (if is_finished (record h { standing = held_after_end sender h.standing }) then Finished else Ended) ≡ answer_to (settings h) (entry (End sender) answer) past
 end-answer h sender answer past k l g =
     let x = entry (End sender) answer in
     let senders = length h.standing.ends in
@@ -186,15 +186,15 @@ none_taken : {X : Type 0} (n : ℕ) → take {A = X} n [] ≡ []
 none_taken zero = refl
 none_taken (suc n) = refl
 
-pub new_stands : (policies : List Policy) (wait root_wait maximum n : ℕ) (b : Buffer) (c : CacheLists) (ended : List Bool) → b.episodes ≡ [] → c.sampled.traces ≡ [] → c.not_sampled.traces ≡ [] → ended ≡ replicate n false →
-    StandsFor (held_of policies wait root_wait maximum b c 0 0 ended) [] 0
-new_stands policies wait root_wait maximum n b c ended e x y f =
+pub new_stands : (policies : List Policy) (decision_wait root_wait maximum n : ℕ) (b : Buffer) (c : CacheLists) (ended : List Bool) → b.episodes ≡ [] → c.sampled.traces ≡ [] → c.not_sampled.traces ≡ [] → ended ≡ replicate n false →
+    StandsFor (held_of policies decision_wait root_wait maximum b c 0 0 ended) [] 0
+new_stands policies decision_wait root_wait maximum n b c ended e x y f =
     let z : ended ≡ ends [] (length ended) = f ∙ sym (no-ends n) ∙ ap (ends []) (sym (ap length f ∙ length-replicate n false)) in
-    let h = held_of policies wait root_wait maximum b c 0 0 ended in
-    (tt, parts b.episodes c.sampled.traces c.not_sampled.traces ended b.limit c.sampled.size c.not_sampled.size e x y z, tt)
+    let h = held_of policies decision_wait root_wait maximum b c 0 0 ended in
+    (tt, parts b.episodes c.sampled.traces c.not_sampled.traces ended b.num_traces c.sampled.size c.not_sampled.size e x y z, tt)
   where
     parts : (es : List Episode) (ss ns : List TraceId) (en : List Bool) (l i j : ℕ) → es ≡ [] → ss ≡ [] → ns ≡ [] → en ≡ ends [] (length en) →
-        (let st : Standing = record { episodes = es; sampled = ss; non_sampled = ns; clock = 0; mark = 0; ends = en } in st) ≡ standing (settings_of policies wait root_wait maximum l i j (length en)) [] 0
+        (let st : Standing = record { episodes = es; sampled = ss; non_sampled = ns; clock = 0; mark = 0; ends = en } in st) ≡ standing (settings_of policies decision_wait root_wait maximum l i j (length en)) [] 0
     parts es ss ns en l i j e x y z =
         let a = none_taken {X = Opening} l in
         let b = none_taken {X = TraceId} i in

@@ -14,34 +14,34 @@ use Rattle.policy_tree.specs.declared.policy.Policy.{Policy}
 -- traces of the buffer, a cache of size 0 is off
 pub record Held : Type 0 where
   pub policies : List Policy
-  pub wait : ℕ
+  pub decision_wait : ℕ
   pub root_wait : ℕ
-  pub maximum_size : ℕ
-  pub limit : ℕ
-  pub sampled_size : ℕ
-  pub non_sampled_size : ℕ
+  pub maximum_trace_size : ℕ
+  pub num_traces : ℕ
+  pub sampled_cache_size : ℕ
+  pub non_sampled_cache_size : ℕ
   pub standing : Standing
 
 -- a shard by its parts
-abbrev pub held_of : List Policy → (wait root_wait maximum_size : ℕ) → Buffer → CacheLists → (clock mark : ℕ) → List Bool → Held
-held_of policies wait root_wait maximum_size b c clock mark ends = record {
+abbrev pub held_of : List Policy → (decision_wait root_wait maximum_trace_size : ℕ) → Buffer → CacheLists → (clock mark : ℕ) → List Bool → Held
+held_of policies decision_wait root_wait maximum_trace_size b c clock mark ends = record {
   policies = policies;
-  wait = wait;
+  decision_wait = decision_wait;
   root_wait = root_wait;
-  maximum_size = maximum_size;
-  limit = b.limit;
-  sampled_size = c.sampled.size;
-  non_sampled_size = c.not_sampled.size;
+  maximum_trace_size = maximum_trace_size;
+  num_traces = b.num_traces;
+  sampled_cache_size = c.sampled.size;
+  non_sampled_cache_size = c.not_sampled.size;
   standing = record { episodes = b.episodes; sampled = c.sampled.traces; non_sampled = c.not_sampled.traces; clock = clock; mark = mark; ends = ends };
 }
 
 -- the settings of a shard
-abbrev pub settings_of : List Policy → (wait root_wait maximum_size limit sampled_size non_sampled_size senders : ℕ) → Settings
-settings_of policies wait root_wait maximum_size limit sampled_size non_sampled_size senders = record { policies = meaning policies; wait = wait; root_wait = root_wait; maximum_size = maximum_size; limit = Some limit; sampled_size = sampled_size; non_sampled_size = non_sampled_size; senders = senders }
+abbrev pub settings_of : List Policy → (decision_wait root_wait maximum_trace_size num_traces sampled_cache_size non_sampled_cache_size senders : ℕ) → Settings
+settings_of policies decision_wait root_wait maximum_trace_size num_traces sampled_cache_size non_sampled_cache_size senders = record { policies = meaning policies; decision_wait = decision_wait; root_wait = root_wait; maximum_trace_size = maximum_trace_size; num_traces = Some num_traces; sampled_cache_size = sampled_cache_size; non_sampled_cache_size = non_sampled_cache_size; senders = senders }
 
 -- the settings that a shard was made with
 abbrev pub settings : Held → Settings
-settings h = settings_of h.policies h.wait h.root_wait h.maximum_size h.limit h.sampled_size h.non_sampled_size (length h.standing.ends)
+settings h = settings_of h.policies h.decision_wait h.root_wait h.maximum_trace_size h.num_traces h.sampled_cache_size h.non_sampled_cache_size (length h.standing.ends)
 
 -- every sender has ended
 abbrev pub is_finished : Held → Bool
@@ -49,7 +49,7 @@ is_finished h = list_all (λ b. b) h.standing.ends
 
 -- an episode of the shard is due
 abbrev pub is_due_in : Held → Episode → Bool
-is_due_in h e = is_due_by (is_finished h) h.standing.mark h.wait h.root_wait e
+is_due_in h e = is_due_by (is_finished h) h.standing.mark h.decision_wait h.root_wait e
 
 -- some episode of the shard is due
 abbrev pub has_due : Held → Bool
@@ -57,7 +57,7 @@ has_due h = list_any (is_due_in h) h.standing.episodes
 
 -- the moment by which, and the wait and the root wait after which an undecided episode is due: at the end each is
 abbrev pub due_by : Held → ℕ × ℕ × ℕ
-due_by h = if is_finished h then (h.standing.clock, 0, 0) else (h.standing.mark, h.wait, h.root_wait)
+due_by h = if is_finished h then (h.standing.clock, 0, 0) else (h.standing.mark, h.decision_wait, h.root_wait)
 
 -- the shard stands for the journal, where of the decisions at its last item the first `dealt` were dealt with, and just
 -- these and all before are answered

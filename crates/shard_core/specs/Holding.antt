@@ -26,14 +26,14 @@ use Rattle.shard_core.specs.declared.answer.Decided.{Decided}
 -- ---- a span
 
 -- the answer to a span, not refused, by how its trace stands
-abbrev pub answer_by_state : Settings → (limit : ℕ) → (lost : Bool) → Arrival → Standing → State → Taken
-answer_by_state s limit lost a st (Some None) = Kept None None
-answer_by_state s limit lost a st (Some (Some v)) = answer_to_late a v
-answer_by_state s limit lost a st None = Kept (leaves (buffer limit st)) (put_answer s lost (leaves (buffer limit st)))
+abbrev pub answer_by_state : Settings → (num_traces : ℕ) → (lost : Bool) → Arrival → Standing → State → Taken
+answer_by_state s num_traces lost a st (Some None) = Kept None None
+answer_by_state s num_traces lost a st (Some (Some v)) = answer_to_late a v
+answer_by_state s num_traces lost a st None = Kept (leaves (buffer num_traces st)) (put_answer s lost (leaves (buffer num_traces st)))
 
 -- the answer to a span
-abbrev pub answer_held : Settings → (limit : ℕ) → (refused lost : Bool) → Arrival → Standing → State → Taken
-answer_held s limit refused lost a st state = if refused then Dropped NoMemory else answer_by_state s limit lost a st state
+abbrev pub answer_held : Settings → (num_traces : ℕ) → (refused lost : Bool) → Arrival → Standing → State → Taken
+answer_held s num_traces refused lost a st state = if refused then Dropped NoMemory else answer_by_state s num_traces lost a st state
 
 -- the verdict of the episode that leaves, if one leaves that is decided
 abbrev pub verdict_leaving : Option Evicted → Option Verdict
@@ -47,13 +47,13 @@ may_refuse (Some None) = true
 may_refuse None = true
 
 -- a put may be lost where the span opens an episode and a decided one leaves whose cache isn't off
-abbrev pub may_lose : Settings → (limit : ℕ) → Standing → State → Bool
-may_lose s limit st (Some v) = false
-may_lose s limit st None = cache_is_on s (verdict_leaving (leaves (buffer limit st)))
+abbrev pub may_lose : Settings → (num_traces : ℕ) → Standing → State → Bool
+may_lose s num_traces st (Some v) = false
+may_lose s num_traces st None = cache_is_on s (verdict_leaving (leaves (buffer num_traces st)))
 
 -- the marks that the answer tells can apply
-abbrev pub marks_held : Settings → (limit : ℕ) → (refused lost : Bool) → Standing → State → Bool
-marks_held s limit refused lost st state = (not refused || may_refuse state) && (not lost || (not refused && may_lose s limit st state))
+abbrev pub marks_held : Settings → (num_traces : ℕ) → (refused lost : Bool) → Standing → State → Bool
+marks_held s num_traces refused lost st state = (not refused || may_refuse state) && (not lost || (not refused && may_lose s num_traces st state))
 
 -- what a shard holds at the clock after a moment
 abbrev pub at_clock : (moment : ℕ) → Standing → Standing
@@ -64,9 +64,9 @@ abbrev pub TakesSpanOf : (old : Held) → Arrival → TraceId → Taken → (new
 TakesSpanOf old a t answer new =
     let s = settings old in
     let st = at_clock a.moment old.standing in
-    (new ≡ record old { standing = after_span_of s old.limit (is_refusal answer) (is_loss answer) t a st })
-    × (answer ≡ answer_held s old.limit (is_refusal answer) (is_loss answer) a st (state_in st t))
-    × (marks_held s old.limit (is_refusal answer) (is_loss answer) st (state_in st t) ≡ true)
+    (new ≡ record old { standing = after_span_of s old.num_traces (is_refusal answer) (is_loss answer) t a st })
+    × (answer ≡ answer_held s old.num_traces (is_refusal answer) (is_loss answer) a st (state_in st t))
+    × (marks_held s old.num_traces (is_refusal answer) (is_loss answer) st (state_in st t) ≡ true)
 
 -- `take` of a span with these ids
 abbrev pub TakesSpan : (old : Held) → Arrival → Option Ids → Taken → (new : Held) → Type 0
@@ -120,7 +120,7 @@ abbrev pub policies_on : Policies → Episode → Policies
 policies_on policies e = if is_too_big e.maximum e.spans then no_more else policies
 
 -- the first episode that is due by this mark is decided by these answers of the limiter
-abbrev pub SettlesFirst : (old : Held) → (mark wait root_wait : ℕ) → (answers : List Bool) → Decided → (new : Held) → Type 0
-SettlesFirst old mark wait root_wait answers answer new = (e : Episode) → find (is_due_at mark wait root_wait) old.standing.episodes ≡ Some e →
+abbrev pub SettlesFirst : (old : Held) → (mark decision_wait root_wait : ℕ) → (answers : List Bool) → Decided → (new : Held) → Type 0
+SettlesFirst old mark decision_wait root_wait answers answer new = (e : Episode) → find (is_due_at mark decision_wait root_wait) old.standing.episodes ≡ Some e →
     let v = verdict_given (policies_on (meaning old.policies) e) answers e.spans in
-    Releases answer e.spans v × (new ≡ record old { standing = record old.standing { episodes = settle_first mark wait root_wait v old.standing.episodes } })
+    Releases answer e.spans v × (new ≡ record old { standing = record old.standing { episodes = settle_first mark decision_wait root_wait v old.standing.episodes } })

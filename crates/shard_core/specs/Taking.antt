@@ -62,7 +62,7 @@ put_answer s lost (Some e) = option_map (λ v. put_in lost (cache_size s v)) e.v
 abbrev pub answer_to_finding : Settings → (lost : Bool) → (before : Journal) → Notes → Arrival → Finding → Taken
 answer_to_finding s lost before noted a (meets o v) = answer_to_late a v
 answer_to_finding s lost before noted a (joins o) = Kept None None
-answer_to_finding s lost before noted a opens = let left = option_map (evicted_of s before noted) (leaving s.limit noted.openings) in Kept left (put_answer s lost left)
+answer_to_finding s lost before noted a opens = let left = option_map (evicted_of s before noted) (leaving s.num_traces noted.openings) in Kept left (put_answer s lost left)
 
 -- the answer to a span with these ids
 abbrev pub answer_to_ids : Settings → (refused lost : Bool) → Journal → Arrival → Option Ids → Taken

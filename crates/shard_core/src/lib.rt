@@ -16,8 +16,10 @@
 #![tactic(auto)]
 
 mod answer;
+mod setup;
 mod shard;
 
 pub use answer::{Decided, Taken};
 pub use journal_theory::laws;
-pub use shard::{Shard, ShardSetup};
+pub use setup::ShardSetup;
+pub use shard::Shard;

@@ -16,6 +16,7 @@ ghost use Rattle.trace_buffer.specs.Buffer.{Appended, Opened, is_new, opened_by,
 ghost use Rattle.shard_core.specs.Holding.{KeepsAs, OpensAs, answer_to_append, leaves_forgotten, policies_on};
 
 use crate::answer::{Decided, Taken, late};
+use crate::setup::ShardSetup;
 use decision_cache::DecisionCache;
 use expression::Searches;
 use otlp_types::{Arrival, Ids, Item};
@@ -26,28 +27,6 @@ use span_ids::{Moment, Reason, Verdict};
 use std::alloc::{AllocError, Global};
 use std::marker::Model;
 use trace_buffer::{Episode, Evicted, State, TraceBuffer};
-use trace_hash::TraceHashing;
-
-/// What a shard is made with, beside its policies.
-#[derive(Clone, Copy)]
-pub struct ShardSetup {
-    /// How the index of traces and the caches hash trace ids.
-    pub hashing: TraceHashing,
-    /// How long a trace waits for its decision, in milliseconds.
-    pub wait: Moment,
-    /// How long a trace waits once its first root was taken, in milliseconds; 0 is off.
-    pub root_wait: Moment,
-    /// The greatest size of a trace that waits, in bytes of its spans; 0 is none. One that grows beyond it is decided at once.
-    pub maximum_size: u64,
-    /// The most traces in the buffer.
-    pub limit: usize,
-    /// The most traces that are remembered as sampled once they left the buffer; 0 is off.
-    pub sampled: usize,
-    /// The same of those that are not sampled.
-    pub non_sampled: usize,
-    /// Senders have the numbers below this one.
-    pub senders: usize,
-}
 
 /// A shard.
 ///
@@ -59,9 +38,9 @@ pub struct Shard {
     policies: Policies,
     /// For the expressions of the policies.
     searches: Searches,
-    wait: Moment,
+    decision_wait: Moment,
     root_wait: Moment,
-    maximum_size: u64,
+    maximum_trace_size: u64,
     buffer: TraceBuffer,
     cache: DecisionCache,
     clock: Moment,
@@ -85,9 +64,9 @@ impl Model for Shard {
 
     ghost coded = { Prim.hlevel (codes, any_value.the_row.coded, kind.the_row.coded) };
 
-    ghost view = { λ s. held_of s.policies s.wait s.root_wait s.maximum_size s.buffer s.cache s.clock s.mark s.ends.items };
+    ghost view = { λ s. held_of s.policies s.decision_wait s.root_wait s.maximum_trace_size s.buffer s.cache s.clock s.mark s.ends.items };
 
-    ghost invariant = { λ s. (0 < s.wait) × (0 < s.buffer.limit) × (have_spans s.buffer.episodes ≡ true) × (opened_by s.clock s.buffer.episodes ≡ true) × AreForgotten (traces s.buffer.episodes) s.cache × (are_known s.searches (expressions_in (meaning s.policies)) ≡ true) };
+    ghost invariant = { λ s. (0 < s.decision_wait) × (0 < s.buffer.num_traces) × (have_spans s.buffer.episodes ≡ true) × (opened_by s.clock s.buffer.episodes ≡ true) × AreForgotten (traces s.buffer.episodes) s.cache × (are_known s.searches (expressions_in (meaning s.policies)) ≡ true) };
 }
 
 impl Shard {
@@ -100,12 +79,12 @@ impl Shard {
 
     /// A shard that has taken nothing. `Err` where memory was refused, or an expression of the policies is none.
     pub fn new(alloc: Global, policies: Policies, setup: ShardSetup) -> Result<Shard, AllocError>
-        requires waits { 0 < setup.wait }
-        requires keeps_a_trace { 0 < setup.limit }
+        requires waits { 0 < setup.decision_wait }
+        requires keeps_a_trace { 0 < setup.num_traces }
         requires has_senders { 0 < setup.senders }
         ensures stands { IfOk result (λ shard. StandsFor shard [] 0) }
         ensures policies { IfOk result (λ shard. shard.policies ≡ policies) }
-        ensures settings { IfOk result (λ shard. settings shard ≡ settings_of policies setup.wait setup.root_wait setup.maximum_size setup.limit setup.sampled setup.non_sampled setup.senders) }
+        ensures settings { IfOk result (λ shard. settings shard ≡ settings_of policies setup.decision_wait setup.root_wait setup.maximum_trace_size setup.num_traces setup.sampled_cache_size setup.non_sampled_cache_size setup.senders) }
         ensures nothing_due { IfOk result (λ shard. has_due shard ≡ false) }
         ensures running { IfOk result (λ shard. is_finished shard ≡ false) }
         ensures ends { IfOk result (λ shard. shard.standing.ends ≡ replicate setup.senders false) }
@@ -115,9 +94,9 @@ impl Shard {
             Ok((buffer, cache, ends)) => Ok(Shard {
                 policies,
                 searches,
-                wait: setup.wait,
+                decision_wait: setup.decision_wait,
                 root_wait: setup.root_wait,
-                maximum_size: setup.maximum_size,
+                maximum_trace_size: setup.maximum_trace_size,
                 buffer,
                 cache,
                 clock: 0,
@@ -132,8 +111,10 @@ impl Shard {
     pub fn has_due(&self) -> bool
         ensures { result ≡ has_due self.now }
     {
-        let (mark, wait, root_wait) = self.due_by();
-        self.buffer.next_due(mark, wait, root_wait).is_some()
+        let (mark, decision_wait, root_wait) = self.due_by();
+        self.buffer
+            .next_due(mark, decision_wait, root_wait)
+            .is_some()
     }
 
     /// The mark by which, and the wait after which a trace is due: once all senders have ended, each is.
@@ -143,7 +124,7 @@ impl Shard {
         if self.finished() {
             (self.clock, 0, 0)
         } else {
-            (self.mark, self.wait, self.root_wait)
+            (self.mark, self.decision_wait, self.root_wait)
         }
     }
 
@@ -164,9 +145,9 @@ impl Shard {
 
     /// Takes an item. A span has valid ids. An `End` taken before, or of no sender, changes nothing.
     ///
-    /// Memory is taken only to keep a span, and to remember the verdict of an episode that leaves. A span that is refused
-    /// changes the clock alone; a verdict that is lost changes nothing else. Where there is said to be no memory, no span is
-    /// kept: each that isn't late is refused.
+    /// Memory is taken only to keep a span, and to remember the verdict of an episode that leaves. A span that is
+    /// refused changes the clock alone; a verdict that is lost changes nothing else. Where there is said to be no
+    /// memory, no span is kept: each that isn't late is refused.
     pub fn take(&mut self, item: Item, has_memory: bool) -> Taken
         requires nothing_due { has_due self.old ≡ false }
         requires running { is_finished self.old ≡ false }
@@ -215,7 +196,7 @@ impl Shard {
                         &mut self.buffer,
                         arrival,
                         self.clock,
-                        self.maximum_size,
+                        self.maximum_trace_size,
                         has_memory,
                     ),
                 ),
@@ -246,18 +227,20 @@ impl Shard {
         }
     }
 
-    /// Looks for the due trace that was opened first. The buffer keeps how far it looked: all decisions at a mark look through it once.
+    /// Looks for the due trace that was opened first. The buffer keeps how far it looked: all decisions at a mark look
+    /// through it once.
     fn search(&mut self)
         ensures { self.new ≡ self.old }
     {
-        let (mark, wait, root_wait) = self.due_by();
-        self.buffer.search(mark, wait, root_wait);
+        let (mark, decision_wait, root_wait) = self.due_by();
+        self.buffer.search(mark, decision_wait, root_wait);
     }
 
-    /// Decides the due trace that was opened first. It takes no memory that can be refused, and waits only where the limiter does.
+    /// Decides the due trace that was opened first. It takes no memory that can be refused, and waits only where the
+    /// limiter does.
     ///
-    /// The limiter is one of the policies' limiter nodes, and is asked just what they ask for the trace's spans. Where no
-    /// trace is due, or the trace is too big, it isn't asked: that isn't sampled, whatever the policies are.
+    /// The limiter is one of the policies' limiter nodes, and is asked just what they ask for the trace's spans. Where
+    /// no trace is due, or the trace is too big, it isn't asked: that isn't sampled, whatever the policies are.
     pub fn decide<L: Limiter>(&mut self, limiter: &mut L) -> Decided
         requires nodes { knows (L.has_node limiter.old) (limiters (meaning self.old.policies)) ≡ true }
         ensures decides { Decides L.asks self.old self.new result limiter.old limiter.new }
@@ -275,7 +258,8 @@ impl Shard {
         self.decide_with_decider(limiter).0
     }
 
-    /// The same, with the place of the policy that decided, from 0 on: none where none did, since none samples, or nothing is due.
+    /// The same, with the place of the policy that decided, from 0 on: none where none did, since none samples, or
+    /// nothing is due.
     pub fn decide_with_decider<L: Limiter>(&mut self, limiter: &mut L) -> (Decided, Option<usize>)
         requires nodes { knows (L.has_node limiter.old) (limiters (meaning self.old.policies)) ≡ true }
         ensures decides { DecidesWithDecider L.asks self.old self.new result.0 result.1 limiter.old limiter.new }
@@ -291,9 +275,9 @@ impl Shard {
         ensures settings { settings self.new ≡ settings self.old }
     {
         self.search();
-        let (mark, wait, root_wait) = self.due_by();
+        let (mark, decision_wait, root_wait) = self.due_by();
         let now = self.clock;
-        let Some(episode) = self.buffer.next_due(mark, wait, root_wait) else {
+        let Some(episode) = self.buffer.next_due(mark, decision_wait, root_wait) else {
             return (Decided::Nothing, None);
         };
         let (verdict, decider) = decide_on(
@@ -303,12 +287,13 @@ impl Shard {
             limiter,
             &mut self.searches,
         );
-        let spans = self.buffer.settle(mark, wait, root_wait, verdict);
+        let spans = self.buffer.settle(mark, decision_wait, root_wait, verdict);
         (decided(verdict, spans), decider)
     }
 }
 
-/// The verdict of the policies on an episode's spans, and the place of the one that decides, if one does: of none where it is too big.
+/// The verdict of the policies on an episode's spans, and the place of the one that decides, if one does: of none where
+/// it is too big.
 fn decide_on<L: Limiter>(
     policies: &Policies,
     episode: &Episode,
@@ -334,14 +319,19 @@ fn nothing_held(
     alloc: Global,
     setup: ShardSetup,
 ) -> Result<(TraceBuffer, DecisionCache, Vec<bool>), AllocError>
-    requires { 0 < setup.limit }
-    ensures buffer { IfOk result (λ held. held.0 ≡ record { episodes = []; limit = setup.limit }) }
-    ensures cache { IfOk result (λ held. held.1 ≡ empty_lists setup.sampled setup.non_sampled) }
+    requires { 0 < setup.num_traces }
+    ensures buffer { IfOk result (λ held. held.0 ≡ record { episodes = []; num_traces = setup.num_traces }) }
+    ensures cache { IfOk result (λ held. held.1 ≡ empty_lists setup.sampled_cache_size setup.non_sampled_cache_size) }
     ensures ends { IfOk result (λ held. held.2.items ≡ replicate setup.senders false) }
 {
     let ends = vec![in alloc; false; setup.senders]?;
-    let cache = DecisionCache::new(alloc, setup.hashing, setup.sampled, setup.non_sampled)?;
-    let buffer = TraceBuffer::new(alloc, setup.hashing, setup.limit)?;
+    let cache = DecisionCache::new(
+        alloc,
+        setup.hashing,
+        setup.sampled_cache_size,
+        setup.non_sampled_cache_size,
+    )?;
+    let buffer = TraceBuffer::new(alloc, setup.hashing, setup.num_traces)?;
     Ok((buffer, cache, ends))
 }
 
@@ -368,17 +358,17 @@ fn open(
     buffer: &mut TraceBuffer,
     first: Arrival,
     clock: Moment,
-    maximum_size: u64,
+    maximum_trace_size: u64,
     has_memory: bool,
 ) -> Result<Option<Evicted>, (Arrival, AllocError)>
     requires ids { IsSome first.rec.span.ids }
     requires unknown { is_new first.rec.span.ids buffer.old.episodes ≡ true }
     requires clock { opened_by clock buffer.old.episodes ≡ true }
-    ensures opened { Opened buffer.old first first.rec.span.ids clock maximum_size result buffer.new }
+    ensures opened { Opened buffer.old first first.rec.span.ids clock maximum_trace_size result buffer.new }
     ensures no_memory { has_memory ≡ false → IsErr result }
 {
     if has_memory {
-        buffer.open(first, clock, maximum_size)
+        buffer.open(first, clock, maximum_trace_size)
     } else {
         Err((first, AllocError))
     }

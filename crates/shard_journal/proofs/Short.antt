@@ -64,7 +64,7 @@ after_finding_short : (s : Settings) (t : TraceId) (lost : Bool) (at now : ℕ) 
 after_finding_short s t lost at now noted (joins o) = refl
 after_finding_short s t lost at now noted (meets o v) = refl
 after_finding_short s t true at now noted opens = refl
-after_finding_short s t false at now noted opens = ap (λ touches. let n : Notes = record { openings = record { at = at; trace = t; moment = now } ∷ noted.openings; decisions = map without_spans noted.decisions; touches = touches ++ noted.touches } in n) (touch_short noted (leaving s.limit noted.openings))
+after_finding_short s t false at now noted opens = ap (λ touches. let n : Notes = record { openings = record { at = at; trace = t; moment = now } ∷ noted.openings; decisions = map without_spans noted.decisions; touches = touches ++ noted.touches } in n) (touch_short noted (leaving s.num_traces noted.openings))
 
 after_span_short : (s : Settings) (ids : Option Ids) (e : Entry) (before : Journal) (noted : Notes) → after_span s ids e before (short_notes noted) ≡ short_notes (after_span s ids e before noted)
 after_span_short s None e before noted = refl
@@ -111,7 +111,7 @@ leaving_short before noted (Some o) = ap (effect_of_leaving_decided Evicted (spa
 effect_of_short : (s : Settings) (before : Journal) (noted : Notes) (a : Arrival) (f : Finding) → effect_of_finding s before (short_notes noted) a f ≡ effect_of_finding s before noted a f
 effect_of_short s before noted a (meets o v) = refl
 effect_of_short s before noted a (joins o) = refl
-effect_of_short s before noted a opens = leaving_short before noted (leaving s.limit noted.openings)
+effect_of_short s before noted a opens = leaving_short before noted (leaving s.num_traces noted.openings)
 
 -- a span does the same
 pub effect_short : (s : Settings) (before : Journal) (noted : Notes) (a : Arrival) (t : TraceId) → effect_of_finding s before (short_notes noted) a (finding s (short_notes noted) t) ≡ effect_of_finding s before noted a (finding s noted t)
@@ -120,7 +120,7 @@ effect_short s before noted a t = ap (effect_of_finding s before (short_notes no
 loss_short : (s : Settings) (noted : Notes) (f : Finding) → loss_applies s (short_notes noted) f ≡ loss_applies s noted f
 loss_short s noted (joins o) = refl
 loss_short s noted (meets o v) = refl
-loss_short s noted opens = ap (λ (f : ℕ → Option Verdict). cache_is_on s (option_and_then (λ (o : Opening). f o.at) (leaving s.limit noted.openings))) (fun_ext (decided_short noted))
+loss_short s noted opens = ap (λ (f : ℕ → Option Verdict). cache_is_on s (option_and_then (λ (o : Opening). f o.at) (leaving s.num_traces noted.openings))) (fun_ext (decided_short noted))
 
 -- the same marks can apply
 pub marks_short : (s : Settings) (noted : Notes) (refused lost : Bool) (t : TraceId) → marks_apply_to s (short_notes noted) refused lost (finding s (short_notes noted) t) ≡ marks_apply_to s noted refused lost (finding s noted t)

@@ -2,11 +2,11 @@
 use Rattle.journal_theory.specs.Journal.{Finding as FindingData, joins, meets, opens}
 use Rattle.shard_journal.specs.declared.asked.Finding.{Finding}
 use Rattle.shard_journal.specs.declared.asked.Finding.TheVariants.{Joins as AsJoins, Meets as AsMeets, Opens as AsOpens}
-use Rattle.shard_journal.specs.declared.finding.Found.{Found}
-use Rattle.shard_journal.specs.declared.finding.Found.TheVariants.{Joins, Meets, Opens}
+use Rattle.shard_journal.specs.declared.finding.FoundTrace.{FoundTrace}
+use Rattle.shard_journal.specs.declared.finding.FoundTrace.TheVariants.{Joins, Meets, Opens}
 
 -- the finding that the program's one stands for
-abbrev pub the_finding : Found → FindingData
+abbrev pub the_finding : FoundTrace → FindingData
 the_finding (Joins o) = joins o
 the_finding (Meets o v) = meets o v
 the_finding Opens = opens

@@ -5,4 +5,4 @@ use Rattle.shard_journal.specs.declared.settings.Settings.{Settings}
 
 -- the settings, with what the policies mean
 abbrev pub settings_of : Settings → SettingsData
-settings_of s = record { policies = meaning s.policies; wait = s.wait; root_wait = s.root_wait; maximum_size = s.maximum_size; limit = s.limit; sampled_size = s.sampled_size; non_sampled_size = s.non_sampled_size; senders = s.senders }
+settings_of s = record { policies = meaning s.policies; decision_wait = s.decision_wait; root_wait = s.root_wait; maximum_trace_size = s.maximum_trace_size; num_traces = s.num_traces; sampled_cache_size = s.sampled_cache_size; non_sampled_cache_size = s.non_sampled_cache_size; senders = s.senders }

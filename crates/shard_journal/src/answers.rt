@@ -1,5 +1,5 @@
 //! What a journal says, for those who hold it.
-ghost use Rattle.std.specs.Prelude.{◌≡◌, ◌∷◌, [], map, reverse, length, IfOk};
+ghost use Rattle.std.specs.Prelude.{◌≡◌, ◌∷◌, [], map, reverse, IfOk};
 ghost use Rattle.journal_theory.specs.Journal.{due_now, leaving, spans_since};
 ghost use Rattle.journal_theory.specs.Fate.{no_effect, counts, effect_of_verdict, effect_of_leaving, effect_of_span, effect_of_finding, effect_of_taking};
 ghost use Rattle.journal_theory.specs.Answered.{effect_answered, effect_answered_at};
@@ -9,7 +9,7 @@ ghost use Rattle.shard_journal.specs.Found.{the_finding};
 
 use crate::due::due_at;
 use crate::entry::{DroppedSpan, Effect, Entry};
-use crate::finding::{Found, cache_size, finding};
+use crate::finding::{FoundTrace, cache_size, finding};
 use crate::moments::clock;
 use crate::noted::{Notes, Opening, leaving};
 use crate::noting::{note_item, notes_of};
@@ -22,7 +22,7 @@ use span_ids::{Reason, Verdict};
 use std::alloc::{AllocError, Global};
 
 /// The episodes that are due at the journal's last item, in order of opening.
-fn due_now(
+pub fn due_now(
     alloc: Global,
     settings: &Settings,
     journal: &[Entry],
@@ -37,27 +37,8 @@ fn due_now(
     due_at(alloc, settings, journal, entry, before, &noted)
 }
 
-/// How many episodes are due at the journal's last item.
-pub fn due_count(alloc: Global, settings: &Settings, journal: &[Entry]) -> Result<usize, AllocError>
-    ensures { IfOk result (λ n. n ≡ length (due_now (settings_of settings.now) (reverse journal.now))) }
-{
-    Ok(due_now(alloc, settings, journal)?.len())
-}
-
-/// The spans of each episode that is due at the journal's last item, in order of opening.
-pub fn due_spans(
-    alloc: Global,
-    settings: &Settings,
-    journal: &[Entry],
-) -> Result<Vec<List<Arrival>>, AllocError>
-    ensures { IfOk result (λ spans. spans.items ≡ map (spans_since (reverse journal.now)) (due_now (settings_of settings.now) (reverse journal.now))) }
-{
-    let due = due_now(alloc, settings, journal)?;
-    spans_of_each(alloc, journal, due.as_slice())
-}
-
 /// The spans of each of these openings' episodes.
-fn spans_of_each(
+pub fn spans_of_each(
     alloc: Global,
     journal: &[Entry],
     openings: &[Opening],
@@ -77,7 +58,7 @@ pub fn marks_apply_to(
     noted: &Notes,
     refused: bool,
     lost: bool,
-    found: Found,
+    found: FoundTrace,
 ) -> bool
     ensures { result ≡ marks_apply_to (settings_of settings.now) noted.now refused lost (the_finding found) }
 {
@@ -86,23 +67,23 @@ pub fn marks_apply_to(
     (!refused || refusal) && (!lost || !refused && loss)
 }
 
-fn refusal_applies(found: &Found) -> bool
+fn refusal_applies(found: &FoundTrace) -> bool
     ensures { result ≡ refusal_applies (the_finding found.now) }
 {
     match found {
-        Found::Joins(_) => true,
-        Found::Meets(_, _) => false,
-        Found::Opens => true,
+        FoundTrace::Joins(_) => true,
+        FoundTrace::Meets(_, _) => false,
+        FoundTrace::Opens => true,
     }
 }
 
-fn loss_applies(settings: &Settings, noted: &Notes, found: &Found) -> bool
+fn loss_applies(settings: &Settings, noted: &Notes, found: &FoundTrace) -> bool
     ensures { result ≡ loss_applies (settings_of settings.now) noted.now (the_finding found.now) }
 {
     match found {
-        Found::Joins(_) => false,
-        Found::Meets(_, _) => false,
-        Found::Opens => match leaving(settings.limit, noted.openings()) {
+        FoundTrace::Joins(_) => false,
+        FoundTrace::Meets(_, _) => false,
+        FoundTrace::Opens => match leaving(settings.num_traces, noted.openings()) {
             None => false,
             Some(opening) => match noted.decided_as(opening.at()) {
                 None => false,
@@ -155,17 +136,17 @@ fn effect_of_finding(
     before: &[Entry],
     noted: &Notes,
     arrival: &Arrival,
-    found: Found,
+    found: FoundTrace,
 ) -> Result<Effect, AllocError>
     ensures { IfOk result (λ effect. effect ≡ effect_of_finding (settings_of settings.now) (reverse before.now) noted.now arrival.now (the_finding found)) }
 {
     match found {
-        Found::Joins(_) => Ok(no_effect(alloc)),
-        Found::Meets(_, verdict) => {
+        FoundTrace::Joins(_) => Ok(no_effect(alloc)),
+        FoundTrace::Meets(_, verdict) => {
             let spans = one_span(alloc, arrival)?;
             effect_of_verdict(alloc, Reason::LateNotSampled, spans, verdict)
         }
-        Found::Opens => effect_of_leaving(alloc, settings, before, noted),
+        FoundTrace::Opens => effect_of_leaving(alloc, settings, before, noted),
     }
 }
 
@@ -176,9 +157,9 @@ fn effect_of_leaving(
     before: &[Entry],
     noted: &Notes,
 ) -> Result<Effect, AllocError>
-    ensures { IfOk result (λ effect. effect ≡ effect_of_leaving (reverse before.now) noted.now (leaving settings.now.limit noted.now.openings)) }
+    ensures { IfOk result (λ effect. effect ≡ effect_of_leaving (reverse before.now) noted.now (leaving settings.now.num_traces noted.now.openings)) }
 {
-    let Some(opening) = leaving(settings.limit, noted.openings()) else {
+    let Some(opening) = leaving(settings.num_traces, noted.openings()) else {
         return Ok(no_effect(alloc));
     };
     match noted.decided_as(opening.at()) {

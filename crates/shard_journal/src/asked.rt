@@ -5,7 +5,7 @@ ghost use Rattle.shard_journal.specs.Settings.{settings_of};
 ghost use Rattle.shard_journal.specs.Found.{kind_of};
 
 use crate::entry::Entry;
-use crate::finding::{Found, finding};
+use crate::finding::{FoundTrace, finding};
 use crate::noting::notes_of;
 use crate::settings::Settings;
 use span_ids::{TraceId, Verdict};
@@ -33,9 +33,9 @@ pub fn finding_of(
 {
     let noted = notes_of(alloc, settings, journal)?;
     match finding(settings, &noted, trace) {
-        Found::Joins(_) => Ok(Finding::Joins),
-        Found::Meets(_, verdict) => Ok(Finding::Meets(verdict)),
-        Found::Opens => Ok(Finding::Opens),
+        FoundTrace::Joins(_) => Ok(Finding::Joins),
+        FoundTrace::Meets(_, verdict) => Ok(Finding::Meets(verdict)),
+        FoundTrace::Opens => Ok(Finding::Opens),
     }
 }
 

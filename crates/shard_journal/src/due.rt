@@ -32,7 +32,7 @@ pub fn due_at(
         Item::Span(_) => oversized(alloc, settings, past, noted),
         Item::Tick(_) => due_at_tick(alloc, settings, past, noted),
         Item::End(_) => {
-            if has_finished(settings, past, before) {
+            if have_ended(past, settings.senders) && !have_ended(before, settings.senders) {
                 undecided(alloc, settings, noted)
             } else {
                 oversized(alloc, settings, past, noted)
@@ -113,20 +113,13 @@ fn is_due(
 ) -> Result<bool, AllocError>
     ensures { IfOk result (λ due. due ≡ is_due (settings_of settings.now) (reverse past.now) opening.now) }
 {
-    if has_waited_enough(settings, past, opening) {
+    let now = clock(past);
+    if has_waited(settings.decision_wait, now, opening.moment())
+        || 0 < settings.root_wait && is_root_past(settings.root_wait, now, past, opening)
+    {
         return Ok(true);
     }
     is_oversized(alloc, settings, past, opening)
-}
-
-/// Whether an episode opened long enough before the last of these items, or root wait is on and some root was taken
-/// long enough before.
-fn has_waited_enough(settings: &Settings, past: &[Entry], opening: &Opening) -> bool
-    ensures { result ≡ (nat_le (opening.now.moment + settings.now.wait) (clock (reverse past.now)) || (nat_lt 0 settings.now.root_wait && is_root_past settings.now.root_wait (clock (reverse past.now)) (reverse past.now) opening.now)) }
-{
-    let now = clock(past);
-    has_waited(settings.wait, now, opening.moment())
-        || 0 < settings.root_wait && is_root_past(settings.root_wait, now, past, opening)
 }
 
 /// Whether the spans of the opening's episode have more bytes than a trace may have.
@@ -139,7 +132,7 @@ fn is_oversized(
     ensures { IfOk result (λ too_big. too_big ≡ is_oversized (settings_of settings.now) (reverse past.now) opening.now) }
 {
     let spans = spans_since(alloc, past, opening)?;
-    Ok(is_too_big(settings.maximum_size, spans.as_slice()))
+    Ok(is_too_big(settings.maximum_trace_size, spans.as_slice()))
 }
 
 /// Whether some root among the spans of the opening's episode was taken at a clock that lies at least `root_wait`
@@ -182,15 +175,8 @@ fn is_root(arrival: &Arrival) -> bool
 }
 
 /// Whether what came at a moment has waited so long at this clock.
-fn has_waited(wait: Moment, clock: Moment, moment: Moment) -> bool
-    ensures { result ≡ nat_le (moment + wait) clock }
+fn has_waited(decision_wait: Moment, clock: Moment, moment: Moment) -> bool
+    ensures { result ≡ nat_le (moment + decision_wait) clock }
 {
-    wait <= clock && moment <= clock - wait
-}
-
-/// Whether the senders' Ends became complete.
-fn has_finished(settings: &Settings, past: &[Entry], before: &[Entry]) -> bool
-    ensures { result ≡ (have_ended (reverse past.now) settings.now.senders && not (have_ended (reverse before.now) settings.now.senders)) }
-{
-    have_ended(past, settings.senders) && !have_ended(before, settings.senders)
+    decision_wait <= clock && moment <= clock - decision_wait
 }

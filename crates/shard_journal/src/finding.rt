@@ -12,7 +12,7 @@ use span_ids::{TraceId, Verdict};
 
 /// What a span finds of its trace.
 #[derive(Clone, Copy)]
-pub enum Found {
+pub enum FoundTrace {
     /// Its trace stands undecided in the buffer: it joins that episode.
     Joins(Opening),
     /// Its trace is remembered, by the verdict of that episode: it is late.
@@ -22,25 +22,25 @@ pub enum Found {
 }
 
 /// What a span of this trace finds.
-pub fn finding(settings: &Settings, noted: &Notes, trace: TraceId) -> Found
+pub fn finding(settings: &Settings, noted: &Notes, trace: TraceId) -> FoundTrace
     ensures { the_finding result ≡ finding (settings_of settings.now) noted.now trace }
 {
     let Some(opening) = noted.latest_episode(trace) else {
-        return Found::Opens;
+        return FoundTrace::Opens;
     };
     match noted.decided_as(opening.at()) {
         None => {
             if is_in_buffer(settings, noted, opening.at()) {
-                Found::Joins(opening)
+                FoundTrace::Joins(opening)
             } else {
-                Found::Opens
+                FoundTrace::Opens
             }
         }
         Some(verdict) => {
             if is_remembered(settings, noted, &opening, verdict) {
-                Found::Meets(opening, verdict)
+                FoundTrace::Meets(opening, verdict)
             } else {
-                Found::Opens
+                FoundTrace::Opens
             }
         }
     }
@@ -50,7 +50,7 @@ pub fn finding(settings: &Settings, noted: &Notes, trace: TraceId) -> Found
 pub fn in_buffer<'a>(settings: &Settings, noted: &'a Notes) -> &'a [Opening]
     ensures { result.now ≡ in_buffer (settings_of settings.now) noted.now }
 {
-    last_of(settings.limit, noted.openings())
+    last_of(settings.num_traces, noted.openings())
 }
 
 /// Whether the episode that opened at this position is in the buffer.
@@ -65,8 +65,8 @@ pub fn cache_size(settings: &Settings, verdict: Verdict) -> usize
     ensures { result ≡ cache_size (settings_of settings.now) verdict }
 {
     match verdict {
-        Verdict::Sampled => settings.sampled_size,
-        Verdict::NotSampled => settings.non_sampled_size,
+        Verdict::Sampled => settings.sampled_cache_size,
+        Verdict::NotSampled => settings.non_sampled_cache_size,
     }
 }
 

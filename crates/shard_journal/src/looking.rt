@@ -9,7 +9,7 @@ ghost use Rattle.shard_journal.specs.Settings.{settings_of};
 ghost use Rattle.shard_journal.specs.Look.{look_of};
 ghost use Rattle.journal_theory.specs.Answered.{effect_answered_at};
 
-use crate::answers::{due_count, due_spans, marks_apply_to};
+use crate::answers::{due_now, marks_apply_to, spans_of_each};
 use crate::entry::Entry;
 use crate::finding::finding;
 use crate::noted::Notes;
@@ -51,10 +51,14 @@ impl LookBack {
     ) -> Result<LookBack, AllocError>
         ensures { IfOk result (λ look. look ≡ look_of (settings_of settings.now) (reverse journal.now)) }
     {
-        let due = due_count(alloc, settings, journal)?;
-        let spans = due_spans(alloc, settings, journal)?;
+        let due = due_now(alloc, settings, journal)?;
+        let spans = spans_of_each(alloc, journal, due.as_slice())?;
         let noted = notes_of(alloc, settings, journal)?;
-        Ok(LookBack { due, spans, noted })
+        Ok(LookBack {
+            due: due.len(),
+            spans,
+            noted,
+        })
     }
 
     /// How many episodes are due at the journal's last item.

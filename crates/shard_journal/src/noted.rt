@@ -85,18 +85,6 @@ impl Decision {
     {
         Decision { opening, verdict }
     }
-
-    fn is_at(&self, at: usize) -> bool
-        ensures { result ≡ (self.now.opening.at == at) }
-    {
-        self.opening.at() == at
-    }
-
-    fn verdict(&self) -> Verdict
-        ensures { result ≡ self.now.verdict }
-    {
-        self.verdict
-    }
 }
 
 /// A touch of an episode's verdict.
@@ -126,12 +114,6 @@ impl Touch {
             trace: opening.trace(),
             verdict,
         }
-    }
-
-    fn is_at(&self, at: usize) -> bool
-        ensures { result ≡ (self.now.episode == at) }
-    {
-        self.episode == at
     }
 
     fn is_of(&self, trace: TraceId) -> bool
@@ -205,8 +187,8 @@ impl Notes {
     {
         self.decisions
             .iter()
-            .find(|decision| decision.is_at(at))
-            .map(|decision| decision.verdict())
+            .find(|decision| decision.opening.at == at)
+            .map(|decision| decision.verdict)
     }
 
     /// The trace's latest opening.
@@ -247,13 +229,13 @@ fn latest_of(trace: TraceId, openings: &[Opening]) -> Option<&Opening>
     openings.iter().find(|opening| opening.is_of(trace))
 }
 
-/// The last `limit` of some openings, or all.
-pub fn last_of(limit: Option<usize>, openings: &[Opening]) -> &[Opening]
-    ensures { result.now ≡ last_of limit openings.now }
+/// The last `num_traces` of some openings, or all.
+pub fn last_of(num_traces: Option<usize>, openings: &[Opening]) -> &[Opening]
+    ensures { result.now ≡ last_of num_traces openings.now }
 {
-    match limit {
+    match num_traces {
         None => openings,
-        Some(limit) => &openings[..limit.min(openings.len())],
+        Some(num_traces) => &openings[..num_traces.min(openings.len())],
     }
 }
 
@@ -265,12 +247,12 @@ pub fn has_opening_at(openings: &[Opening], at: usize) -> bool
 }
 
 /// The opening of the episode that the next opening puts out of a full buffer.
-pub fn leaving(limit: Option<usize>, openings: &[Opening]) -> Option<Opening>
-    ensures { result ≡ leaving limit openings.now }
+pub fn leaving(num_traces: Option<usize>, openings: &[Opening]) -> Option<Opening>
+    ensures { result ≡ leaving num_traces openings.now }
 {
-    match limit {
+    match num_traces {
         None => None,
-        Some(limit) => openings.get(limit.saturating_sub(1)).copied(),
+        Some(num_traces) => openings.get(num_traces.saturating_sub(1)).copied(),
     }
 }
 
@@ -278,7 +260,7 @@ pub fn leaving(limit: Option<usize>, openings: &[Opening]) -> Option<Opening>
 pub fn has_touch_at(touches: &[Touch], at: usize) -> bool
     ensures { result ≡ list_any (λ u. u.episode == at) touches.now }
 {
-    touches.iter().any(|touch| touch.is_at(at))
+    touches.iter().any(|touch| touch.episode == at)
 }
 
 /// The touches since the trace's own last one.

@@ -7,7 +7,7 @@ ghost use Rattle.shard_journal.specs.Short.{short_notes};
 use crate::deciding::decide_each;
 use crate::due::due_at;
 use crate::entry::Entry;
-use crate::finding::{Found, finding, is_in_buffer};
+use crate::finding::{FoundTrace, finding, is_in_buffer};
 use crate::moments::clock;
 use crate::noted::{Notes, Opening, Touch, leaving};
 use crate::settings::Settings;
@@ -92,15 +92,15 @@ fn note_span(
     ensures { OnOk result (noted.new ≡ after_finding (settings_of settings.now) trace lost at clock noted.old (finding (settings_of settings.now) noted.old trace)) }
 {
     match finding(settings, noted, trace) {
-        Found::Joins(_) => Ok(()),
-        Found::Meets(opening, verdict) => {
+        FoundTrace::Joins(_) => Ok(()),
+        FoundTrace::Meets(opening, verdict) => {
             if is_in_buffer(settings, noted, opening.at()) {
                 Ok(())
             } else {
                 noted.touch(Touch::new(&opening, verdict))
             }
         }
-        Found::Opens => note_opening(settings, Opening::new(at, trace, clock), lost, noted),
+        FoundTrace::Opens => note_opening(settings, Opening::new(at, trace, clock), lost, noted),
     }
 }
 
@@ -127,9 +127,9 @@ fn note_opening(
 
 /// The touch where a decided episode leaves by the next opening.
 fn touch_of_leaving(settings: &Settings, noted: &Notes) -> Option<Touch>
-    ensures { option_to_list result ≡ touch_of_leaving noted.now (leaving settings.now.limit noted.now.openings) }
+    ensures { option_to_list result ≡ touch_of_leaving noted.now (leaving settings.now.num_traces noted.now.openings) }
 {
-    let opening = leaving(settings.limit, noted.openings())?;
+    let opening = leaving(settings.num_traces, noted.openings())?;
     let verdict = noted.decided_as(opening.at())?;
     Some(Touch::new(&opening, verdict))
 }

@@ -7,17 +7,17 @@ use span_ids::Moment;
 pub struct Settings {
     pub policies: Policies,
     /// How long a trace waits for its decision, in milliseconds.
-    pub wait: Moment,
+    pub decision_wait: Moment,
     /// How long after its first root a trace is due, where that is sooner, in milliseconds: 0 is off.
     pub root_wait: Moment,
     /// The greatest size of a trace, in bytes: 0 is none.
-    pub maximum_size: u64,
-    /// On the number of traces in the buffer: `None` is no limit.
-    pub limit: Option<usize>,
+    pub maximum_trace_size: u64,
+    /// The most traces in the buffer: `None` is no limit.
+    pub num_traces: Option<usize>,
     /// For how many traces decided as sampled the cache has room: 0 is off.
-    pub sampled_size: usize,
+    pub sampled_cache_size: usize,
     /// For how many traces decided as not sampled the cache has room: 0 is off.
-    pub non_sampled_size: usize,
+    pub non_sampled_cache_size: usize,
     /// The senders have the numbers below.
     pub senders: usize,
 }

@@ -28,7 +28,7 @@ pub fn judge_spans(
     ensures verdict { result ≡ judged (policies_for (settings_of settings.now) spans.now) answers.now spans.now }
     ensures same { searches.new ≡ searches.old }
 {
-    if !is_too_big(settings.maximum_size, spans) {
+    if !is_too_big(settings.maximum_trace_size, spans) {
         judge(&settings.policies, spans, answers, searches)
     } else if answers.is_empty() {
         Some(Verdict::NotSampled)
@@ -48,7 +48,7 @@ pub fn verdict_on(
     ensures verdict { result ≡ verdict_given (policies_for (settings_of settings.now) spans.now) answers.now spans.now }
     ensures same { searches.new ≡ searches.old }
 {
-    if is_too_big(settings.maximum_size, spans) {
+    if is_too_big(settings.maximum_trace_size, spans) {
         Verdict::NotSampled
     } else {
         verdict_given(&settings.policies, spans, answers, searches)

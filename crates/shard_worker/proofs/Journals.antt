@@ -20,7 +20,7 @@ use Rattle.shard_core.specs.Held.{Held, settings, StandsFor, is_finished}
 use Rattle.journal_theory.specs.Standing.{Standing, ends}
 use Rattle.journal_theory.specs.Marked.{MarksApply, marks_apply}
 use Rattle.shard_worker.specs.Asking.{AskedBy}
-use Rattle.shard_worker.specs.Work.{shipments, items, HaveIds, with_ids, journal_of, counted_in, Works}
+use Rattle.shard_worker.specs.Work.{shipments, items, HaveIds, with_ids, journal_of, counted_in, ShardWorks}
 use Rattle.shard_worker.specs.Turns.{counted_dealt, HasDone, TakesItem}
 
 filter-append : {X : Type 0} (p : X → Bool) (xs ys : List X) → filter p (xs ++ ys) ≡ filter p xs ++ filter p ys
@@ -115,7 +115,7 @@ all_ended past (suc n) = list_all-append (λ b. b) (ends past n) (has_ended past
 -- the last End was taken
 pub works : {L : Type 0} (asks : L → ℕ → ℕ → ℕ → Bool → L → Type 0) (first : L) (number : ℕ) (s : Settings) (shard : Held) (receiver : ReceiverState Item) (items_shipped : List Shipment) (sender : EndState Shipment) (before tally : TallyState) (limiter : L) (popped : List (ℕ × Entry))
     → settings shard ≡ s → is_finished shard ≡ true → sender.items ≡ items_shipped ++ End number ∷ [] → Kept asks first s receiver.ends before shard items_shipped tally limiter popped
-    → Works asks number s shard receiver sender before tally first limiter popped
+    → ShardWorks asks number s shard receiver sender before tally first limiter popped
 works asks first number s shard receiver items_shipped sender before tally limiter popped is finished shipped kept =
     let J = journal_of popped in
     let done = kept.2 in
@@ -140,8 +140,8 @@ works asks first number s shard receiver items_shipped sender before tally limit
 -- the same of the values that were given back
 pub works_ended : {L : Type 0} (asks : L → ℕ → ℕ → ℕ → Bool → L → Type 0) (first : L) (number turns_number : ℕ) (s : Settings) (shard shard' : Held) (receiver receiver' : ReceiverState Item) (sender sender' : EndState Shipment) (before tally tally' : TallyState) (limiter limiter' : L) (popped : List (ℕ × Entry))
     → settings shard ≡ s → is_finished shard ≡ true → turns_number ≡ number → sender' ≡ with_item sender (End turns_number) → shard' ≡ shard → limiter' ≡ limiter → receiver' ≡ receiver → tally' ≡ tally
-    → Kept asks first s receiver.ends before shard sender.items tally limiter popped → Works asks number s shard' receiver' sender' before tally' first limiter' popped
+    → Kept asks first s receiver.ends before shard sender.items tally limiter popped → ShardWorks asks number s shard' receiver' sender' before tally' first limiter' popped
 works_ended {L} asks first number turns_number s shard shard' receiver receiver' sender sender' before tally tally' limiter limiter' popped is finished numbers shipped same_shard same_limiter same_receiver same_tally kept =
-    let P : Held → ReceiverState Item → TallyState → L → Type 0 = λ h r t l. Works asks number s h r sender' before t first l popped in
+    let P : Held → ReceiverState Item → TallyState → L → Type 0 = λ h r t l. ShardWorks asks number s h r sender' before t first l popped in
     let here = works asks first number s shard receiver sender.items sender' before tally limiter popped is finished (ap (λ (e : EndState Shipment). e.items) shipped ∙ ap (λ n. sender.items ++ End n ∷ []) numbers) kept in
     subst (λ h. P h receiver' tally' limiter') (sym same_shard) (subst (λ r. P shard r tally' limiter') (sym same_receiver) (subst (λ t. P shard receiver t limiter') (sym same_tally) (subst (λ l. P shard receiver tally l) (sym same_limiter) here)))

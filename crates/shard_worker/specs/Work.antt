@@ -45,7 +45,7 @@ counted_in s past (Dropped reason) = length (under reason (effect s past).counte
 -- A shard of these settings that had taken nothing popped these items, each marked as the shard took it and with the
 -- limiter's answers to the decisions at it, and ended with this shard, receiver and sender; the limiter went from one
 -- state to the other.
-pub record Works {L : Type 0} (asks : L → ℕ → ℕ → ℕ → Bool → L → Type 0) (number : ℕ) (s : Settings) (shard : Held) (receiver : ReceiverState Item) (sender : EndState Shipment) (before after : TallyState) (first last : L) (popped : List (ℕ × Entry)) : Type 0 where
+pub record ShardWorks {L : Type 0} (asks : L → ℕ → ℕ → ℕ → Bool → L → Type 0) (number : ℕ) (s : Settings) (shard : Held) (receiver : ReceiverState Item) (sender : EndState Shipment) (before after : TallyState) (first last : L) (popped : List (ℕ × Entry)) : Type 0 where
   -- they are what was popped of each sender's queue, in order
   pub of_queues : IsMergeOf receiver.ends (items popped)
   -- where no popped span is without valid ids, the journal has all that was popped; one without is in no journal, so it

@@ -8,7 +8,7 @@ use Rattle.policy_tree.specs.declared.limit.Limit.{Limit}
 use Rattle.policy_tree.specs.declared.limit.Limit.TheVariants.{Spans, Bytes}
 use Rattle.rate_budget.specs.Grant.{latest_second, granted_in, missing_in, grants}
 use Rattle.shared_budget.specs.declared.known.Asked.{Asked}
-use Rattle.shared_budget.specs.declared.known.Part.{Part}
+use Rattle.shared_budget.specs.declared.known.HistoryPart.{HistoryPart}
 use Rattle.shared_budget.specs.declared.known.View.{View}
 use Rattle.shared_budget.specs.History.{askings, IsLegal, AreOfSeats, HasPart}
 use Rattle.shared_budget.specs.Rule.{own, seated, without_next, next_seat, with_parts, OneHistory}
@@ -24,7 +24,7 @@ new-push table node limit seats from at (x ∷ stands) s h is e = (h.0, new-push
 
 -- ---- together again
 
-all_back : (P : Part → Type 0) (xs ys : List Part) → All P (xs ++ ys) → All P ys
+all_back : (P : HistoryPart → Type 0) (xs ys : List HistoryPart) → All P (xs ++ ys) → All P ys
 all_back P [] ys h = h
 all_back P (x ∷ xs) ys h = all_back P xs ys (All-tail P x (xs ++ ys) h)
 

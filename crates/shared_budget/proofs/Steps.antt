@@ -12,10 +12,10 @@ use Rattle.policy_tree.specs.declared.limit.Limit.{Limit}
 use Rattle.policy_tree.specs.declared.limit.Limit.TheVariants.{Spans, Bytes}
 use Rattle.rate_budget.specs.Grant.{grants}
 use Rattle.shared_budget.specs.declared.known.Asked.{Asked}
-use Rattle.shared_budget.specs.declared.known.Part.{Part}
+use Rattle.shared_budget.specs.declared.known.HistoryPart.{HistoryPart}
 use Rattle.shared_budget.specs.declared.known.View.{View}
 use Rattle.shared_budget.specs.History.{askings, IsLegal, of_seat, AreOfSeats, HasPart}
-use Rattle.shared_budget.specs.Rule.{words_of, next_words, answer, own, Knows, Kept, newcomer, spent, seated, IsSeat, without_next, next_seat, with_parts, asked, Asks, Looks, Loads, Exchanges, Compares}
+use Rattle.shared_budget.specs.Rule.{words_of, next_words, answer, own, Knows, KeepsRule, newcomer, spent, seated, IsSeat, without_next, next_seat, with_parts, asked, Asks, Looks, Loads, Exchanges, Compares}
 use Rattle.shared_budget.proofs.Histories.{legal_after, words_after}
 
 -- ---- lists of views
@@ -45,7 +45,7 @@ Live owner n l s log port v = v.live ≡ true → Knows owner n l s log port v
 abbrev NotFresh : ℕ → View → Type 0
 NotFresh port v = v.fresh ≢ true
 
-no_fresh : (x : List ℕ) (views : List View) (owner : ℕ → ℕ) (n : ℕ) (l : Limit) (s : ℕ) (log : List Asked) → IsLegal n l log → AreOfSeats s log → x ≡ words_of l log → Every NotFresh views → Every (Live owner n l s log) views → Kept x views
+no_fresh : (x : List ℕ) (views : List View) (owner : ℕ → ℕ) (n : ℕ) (l : Limit) (s : ℕ) (log : List Asked) → IsLegal n l log → AreOfSeats s log → x ≡ words_of l log → Every NotFresh views → Every (Live owner n l s log) views → KeepsRule x views
 no_fresh x views owner n l s log legal within is none knows = record {
   owner = owner;
   n = n;
@@ -60,11 +60,11 @@ no_fresh x views owner n l s log legal within is none knows = record {
 }
 
 -- beside a live pass none is fresh
-stale : (x : List ℕ) (views : List View) (port : ℕ) (v : View) → v.live ≡ true → Kept x views → get_elem? views port ≡ some v → (j : ℕ) (u : View) → get_elem? views j ≡ some u → u.fresh ≢ true
+stale : (x : List ℕ) (views : List View) (port : ℕ) (v : View) → v.live ≡ true → KeepsRule x views → get_elem? views port ≡ some v → (j : ℕ) (u : View) → get_elem? views j ≡ some u → u.fresh ≢ true
 stale x views port v live h at j u e f = true≢false (sym live ∙ ((h.fresh j u e f).1 port v at).0)
 
 -- nor where that pass becomes another one
-stale_but : (x : List ℕ) (views : List View) (port : ℕ) (v w : View) → v.live ≡ true → Kept x views → get_elem? views port ≡ some v → w.fresh ≢ true → Every NotFresh (set views port w)
+stale_but : (x : List ℕ) (views : List View) (port : ℕ) (v w : View) → v.live ≡ true → KeepsRule x views → get_elem? views port ≡ some v → w.fresh ≢ true → Every NotFresh (set views port w)
 stale_but x views port v w live h at not = every_set NotFresh views port w not (λ j u other e. stale x views port v live h at j u e)
 
 -- ---- looking
@@ -76,7 +76,7 @@ seen_all v log = record v { seen = log }
 looks_knows : (owner : ℕ → ℕ) (n : ℕ) (l : Limit) (s : ℕ) (log : List Asked) (port : ℕ) (v : View) → Knows owner n l s log port v → Knows owner n l s log port (seen_all v log)
 looks_knows owner n l s log port v k = record { of = k.of; below = k.below; owns = k.owns; part = (([], refl), k.part.1); taken = k.taken; rest = k.rest }
 
-pub looks : (x : List ℕ) (views : List View) (port : ℕ) (v : View) → v.live ≡ true → Kept x views → get_elem? views port ≡ some v → (w : View) × Kept x (set views port w) × Looks v w
+pub looks : (x : List ℕ) (views : List View) (port : ℕ) (v : View) → v.live ≡ true → KeepsRule x views → get_elem? views port ≡ some v → (w : View) × KeepsRule x (set views port w) × Looks v w
 looks x views port v live h at =
     let k = h.knows port v at live in
     let w : View = seen_all v h.log in (
@@ -89,7 +89,7 @@ looks x views port v live h at =
 -- ---- asking
 
 -- another seat's part stays its part
-part_stays : (e : Asked) (log : List Asked) (p : Part) → e.seat ≢ p.seat → HasPart log p → HasPart (e ∷ log) p
+part_stays : (e : Asked) (log : List Asked) (p : HistoryPart) → e.seat ≢ p.seat → HasPart log p → HasPart (e ∷ log) p
 part_stays e log p apart h = ((e ∷ h.0.0, ap (λ (l : List Asked). e ∷ l) h.0.1), ap (λ b. cond b (e ∷ of_seat p.seat log) (of_seat p.seat log)) (ne_eqb e.seat p.seat apart) ∙ h.1)
 
 others_know : (owner : ℕ → ℕ) (n : ℕ) (l : Limit) (s : ℕ) (log : List Asked) (port : ℕ) (e : Asked) → owner e.seat ≡ port → (j : ℕ) (u : View) → j ≢ port → Knows owner n l s log j u → Knows owner n l s (e ∷ log) j u
@@ -98,7 +98,7 @@ others_know owner n l s log port e mine j u other k = record {
   below = k.below;
   owns = k.owns;
   part = part_stays e log (own u) (apart u.seat k.owns) k.part;
-  taken = All-weaker (λ (p : Part). (owner p.seat ≡ j) × HasPart log p) (λ (p : Part). (owner p.seat ≡ j) × HasPart (e ∷ log) p) (λ p h. (h.0, part_stays e log p (apart p.seat h.0) h.1)) u.others k.taken;
+  taken = All-weaker (λ (p : HistoryPart). (owner p.seat ≡ j) × HasPart log p) (λ (p : HistoryPart). (owner p.seat ≡ j) × HasPart (e ∷ log) p) (λ p h. (h.0, part_stays e log p (apart p.seat h.0) h.1)) u.others k.taken;
   rest = λ i low high. let r = k.rest i low high in (r.0, ap (λ b. cond b (e ∷ of_seat i log) (of_seat i log)) (ne_eqb e.seat i (apart i r.0)) ∙ r.1);
 } where
   apart : (i : ℕ) → owner i ≡ j → e.seat ≢ i
@@ -113,14 +113,14 @@ asks_knows owner n l s log port v second amount g seat k =
       below = k.below;
       owns = k.owns;
       part = (([], refl), ap (λ b. cond b (e ∷ of_seat v.seat log) (of_seat v.seat log)) (eq-eqb v.seat v.seat refl) ∙ ap (λ (own : List Asked). e ∷ own) k.part.1);
-      taken = subst (λ (ps : List Part). All (λ (p : Part). (owner p.seat ≡ port) × HasPart (e ∷ log) p) ps) (sym seat.1) (All-nil (λ (p : Part). (owner p.seat ≡ port) × HasPart (e ∷ log) p));
+      taken = subst (λ (ps : List HistoryPart). All (λ (p : HistoryPart). (owner p.seat ≡ port) × HasPart (e ∷ log) p) ps) (sym seat.1) (All-nil (λ (p : HistoryPart). (owner p.seat ≡ port) × HasPart (e ∷ log) p));
       rest = λ i low high. let r = k.rest i low high in let under : i < v.seat = high in let apart : v.seat ≢ i = (λ same. omega arith) in
           (r.0, ap (λ b. cond b (e ∷ of_seat i log) (of_seat i log)) (ne_eqb v.seat i apart) ∙ r.1);
     }
 
 -- a step that adds an asking to the history
-pub asks : (second amount : ℕ) (x : List ℕ) (views : List View) (port : ℕ) (v : View) → IsSeat v → Kept x views → get_elem? views port ≡ some v
-    → (w : View) × Kept (next_words second amount v x) (set views port w) × Asks second amount v (answer second amount v x) w
+pub asks : (second amount : ℕ) (x : List ℕ) (views : List View) (port : ℕ) (v : View) → IsSeat v → KeepsRule x views → get_elem? views port ≡ some v
+    → (w : View) × KeepsRule (next_words second amount v x) (set views port w) × Asks second amount v (answer second amount v x) w
 asks second amount x views port v seat h at =
     let k = h.knows port v at seat.0 in
     let e : Asked = asked v second amount (answer second amount v x) in
@@ -142,24 +142,24 @@ asks second amount x views port v seat h at =
 
 -- ---- loads and exchanges
 
-loads_at : (second amount port : ℕ) (v : View) (x : List ℕ) (views : List View) → IsSeat v → Kept x views → get_elem? views port ≡ some v → (b : Bool) → pointwise nat_eq (next_words second amount v x) x ≡ b
-    → (w : View) × Kept x (set views port w) × MatchBool b (Asks second amount v (answer second amount v x) w) (Looks v w)
+loads_at : (second amount port : ℕ) (v : View) (x : List ℕ) (views : List View) → IsSeat v → KeepsRule x views → get_elem? views port ≡ some v → (b : Bool) → pointwise nat_eq (next_words second amount v x) x ≡ b
+    → (w : View) × KeepsRule x (set views port w) × MatchBool b (Asks second amount v (answer second amount v x) w) (Looks v w)
 loads_at second amount port v x views seat h at true e =
     let a = asks second amount x views port v seat h at in
-    (a.0, subst (λ y. Kept y (set views port a.0)) ((bytes_decides (next_words second amount v x) x).0 e) a.1, a.2)
+    (a.0, subst (λ y. KeepsRule y (set views port a.0)) ((bytes_decides (next_words second amount v x) x).0 e) a.1, a.2)
 loads_at second amount port v x views seat h at false e = looks x views port v seat.0 h at
 
-pub loads : (second amount port : ℕ) (v : View) → IsSeat v → Turns Kept port v (λ x. x) (Loads second amount)
+pub loads : (second amount port : ℕ) (v : View) → IsSeat v → Turns KeepsRule port v (λ x. x) (Loads second amount)
 loads second amount port v seat x views h at = loads_at second amount port v x views seat h at (pointwise nat_eq (next_words second amount v x) x) refl
 
-exchanges_at : (second amount port : ℕ) (v : View) (seen new x : List ℕ) (views : List View) → IsSeat v → new ≡ next_words second amount v seen → new ≢ seen → Kept x views → get_elem? views port ≡ some v
-    → (b : Bool) → pointwise nat_eq x seen ≡ b → (w : View) × Kept (cond b new x) (set views port w) × Exchanges second amount v x (cond b new x) w
+exchanges_at : (second amount port : ℕ) (v : View) (seen new x : List ℕ) (views : List View) → IsSeat v → new ≡ next_words second amount v seen → new ≢ seen → KeepsRule x views → get_elem? views port ≡ some v
+    → (b : Bool) → pointwise nat_eq x seen ≡ b → (w : View) × KeepsRule (cond b new x) (set views port w) × Exchanges second amount v x (cond b new x) w
 exchanges_at second amount port v seen new x views seat is changes h at true e =
     let found : x ≡ seen = (bytes_decides x seen).0 e in
     let a = asks second amount x views port v seat h at in
     let now : next_words second amount v x ≡ new = ap (next_words second amount v) found ∙ sym is in
     let apart : pointwise nat_eq new x ≡ false = differs (pointwise nat_eq new x) refl in
-    (a.0, subst (λ y. Kept y (set views port a.0)) now a.1, subst (λ b. MatchBool b (Looks v a.0) (Asks second amount v (answer second amount v x) a.0)) (sym apart) a.2) where
+    (a.0, subst (λ y. KeepsRule y (set views port a.0)) now a.1, subst (λ b. MatchBool b (Looks v a.0) (Asks second amount v (answer second amount v x) a.0)) (sym apart) a.2) where
       differs : (b : Bool) → pointwise nat_eq new x ≡ b → pointwise nat_eq new x ≡ false
       differs true t = absurd (changes ((bytes_decides new x).0 t ∙ (bytes_decides x seen).0 e))
       differs false t = t
@@ -167,11 +167,11 @@ exchanges_at second amount port v seen new x views seat is changes h at false e 
     let l = looks x views port v seat.0 h at in
     (l.0, l.1, subst (λ b. MatchBool b (Looks v l.0) (Asks second amount v (answer second amount v x) l.0)) (sym ((bytes_decides x x).1 refl)) l.2)
 
-pub exchanges : (second amount port : ℕ) (v : View) (seen new : List ℕ) → IsSeat v → new ≡ next_words second amount v seen → new ≢ seen → Turns Kept port v (λ x. if pointwise nat_eq x seen then new else x) (Exchanges second amount)
+pub exchanges : (second amount port : ℕ) (v : View) (seen new : List ℕ) → IsSeat v → new ≡ next_words second amount v seen → new ≢ seen → Turns KeepsRule port v (λ x. if pointwise nat_eq x seen then new else x) (Exchanges second amount)
 exchanges second amount port v seen new seat is changes x views h at = exchanges_at second amount port v seen new x views seat is changes h at (pointwise nat_eq x seen) refl
 
 -- the history has every part
-pub compares : (port : ℕ) (v : View) → v.live ≡ true → Turns Kept port v (λ x. x) Compares
+pub compares : (port : ℕ) (v : View) → v.live ≡ true → Turns KeepsRule port v (λ x. x) Compares
 compares port v live x views h at =
     let k = h.knows port v at live in (
       v,
@@ -185,7 +185,7 @@ compares port v live x views h at =
             subst (λ (y : ℕ × Limit). IsLegal y.0 y.1 h.log) (λ i. (sym k.of.of_node i, sym k.of.of_limit i)) h.legal,
             subst (λ m. AreOfSeats m h.log) (sym k.of.of_seats) h.within,
             k.part,
-            All-weaker (λ (p : Part). (h.owner p.seat ≡ port) × HasPart h.log p) (HasPart h.log) (λ p t. t.1) v.others k.taken,
+            All-weaker (λ (p : HistoryPart). (h.owner p.seat ≡ port) × HasPart h.log p) (HasPart h.log) (λ p t. t.1) v.others k.taken,
           ),
         ),
       ),
@@ -200,7 +200,7 @@ words_none (Bytes r a) (Bytes t b) = refl
 
 -- ---- opening, giving, leaving and uniting
 
-pub begins : Kept (0 ∷ 0 ∷ []) (newcomer ∷ [])
+pub begins : KeepsRule (0 ∷ 0 ∷ []) (newcomer ∷ [])
 begins = record {
   owner = λ k. 0;
   n = 0;
@@ -229,14 +229,14 @@ length_set (x ∷ xs) (suc i) a = ap suc (length_set xs i a)
 not_live : (v : View) → v.live ≡ false → v.live ≢ true
 not_live v e t = true≢false (sym t ∙ e)
 
-pub opens : (node : ℕ) (limit : Limit) (last port : ℕ) (v : View) → v ≡ newcomer → Forks Kept port v (seated node limit (last + 1) last 0 []) spent
+pub opens : (node : ℕ) (limit : Limit) (last port : ℕ) (v : View) → v ≡ newcomer → Forks KeepsRule port v (seated node limit (last + 1) last 0 []) spent
 opens node limit last port v is x views h at =
     let f = h.fresh port v at (ap (λ (y : View). y.fresh) is) in
     let seats : ℕ = last + 1 in
     let l : View = seated node limit seats last 0 [] in
     let vs : List View = set views port l in
     let K : ℕ → View → Type 0 = Live (λ k. port) node limit seats [] in
-    let mine : Knows (λ k. port) node limit seats [] port l = record { of = record { of_node = refl; of_limit = refl; of_seats = refl }; below = omega arith; owns = refl; part = (([], refl), refl); taken = All-nil (λ (p : Part). (port ≡ port) × HasPart [] p); rest = λ k low high. (refl, refl) } in
+    let mine : Knows (λ k. port) node limit seats [] port l = record { of = record { of_node = refl; of_limit = refl; of_seats = refl }; below = omega arith; owns = refl; part = (([], refl), refl); taken = All-nil (λ (p : HistoryPart). (port ≡ port) × HasPart [] p); rest = λ k low high. (refl, refl) } in
     no_fresh x (vs ++ spent ∷ []) (λ k. port) node limit seats [] tt tt (h.is ∙ ap (words_of h.l) f.0 ∙ words_none h.l limit) none
     (every_end K vs spent (λ live. absurd (true≢false (sym live))) (λ j u lt e. every_set K views port l (λ _. mine) (λ i t other e' live. absurd (not_live t (f.1 i t e').0 live)) j u e)) where
       none : Every NotFresh (set views port (seated node limit (last + 1) last 0 []) ++ spent ∷ [])
@@ -264,7 +264,7 @@ known_as owner owner' n l s log j j' u to k = record {
   below = k.below;
   owns = to u.seat k.owns;
   part = k.part;
-  taken = All-weaker (λ (p : Part). (owner p.seat ≡ j) × HasPart log p) (λ (p : Part). (owner' p.seat ≡ j') × HasPart log p) (λ p h. (to p.seat h.0, h.1)) u.others k.taken;
+  taken = All-weaker (λ (p : HistoryPart). (owner p.seat ≡ j) × HasPart log p) (λ (p : HistoryPart). (owner' p.seat ≡ j') × HasPart log p) (λ p h. (to p.seat h.0, h.1)) u.others k.taken;
   rest = λ i low high. let r = k.rest i low high in (to i r.0, r.1);
 }
 
@@ -275,7 +275,7 @@ gives_left owner n l s log port new v seat lt k = record {
   below = k.below;
   owns = stays v.seat (λ same. omega arith) k.owns;
   part = k.part;
-  taken = subst (λ (ps : List Part). All (λ (p : Part). (given_to owner v.next new p.seat ≡ port) × HasPart log p) ps) (sym seat.1) (All-nil (λ (p : Part). (given_to owner v.next new p.seat ≡ port) × HasPart log p));
+  taken = subst (λ (ps : List HistoryPart). All (λ (p : HistoryPart). (given_to owner v.next new p.seat ≡ port) × HasPart log p) ps) (sym seat.1) (All-nil (λ (p : HistoryPart). (given_to owner v.next new p.seat ≡ port) × HasPart log p));
   rest = λ i low high. let above : v.next + 1 ≤ i = low in let r = k.rest i (omega arith) high in (stays i (λ same. omega arith) r.0, r.1);
 } where
   stays : (i : ℕ) → i ≢ v.next → owner i ≡ port → given_to owner v.next new i ≡ port
@@ -290,11 +290,11 @@ gives_right owner n l s log port new v lt k =
       below = omega arith;
       owns = ap (λ b. cond b new (owner v.next)) (eq-eqb v.next v.next refl);
       part = (k.part.0, r.1);
-      taken = All-nil (λ (p : Part). (given_to owner v.next new p.seat ≡ new) × HasPart log p);
+      taken = All-nil (λ (p : HistoryPart). (given_to owner v.next new p.seat ≡ new) × HasPart log p);
       rest = λ i low above. absurd (let a : v.next ≤ i = low in let b : i < v.next = above in omega arith);
     }
 
-pub gives : (port : ℕ) (v : View) → IsSeat v → v.next < v.seat → Forks Kept port v (without_next v) (next_seat v)
+pub gives : (port : ℕ) (v : View) → IsSeat v → v.next < v.seat → Forks KeepsRule port v (without_next v) (next_seat v)
 gives port v seat lt x views h at =
     let l : View = without_next v in
     let vs : List View = set views port l in
@@ -310,7 +310,7 @@ gives port v seat lt x views h at =
     (every_end K vs (next_seat v) (λ _. gives_right h.owner h.n h.l h.s h.log port new v lt k)
     (λ j u _ e. every_set K views port l (λ _. gives_left h.owner h.n h.l h.s h.log port new v seat lt k) others j u e))
 
-pub leaves : (port : ℕ) (v : View) → v.live ≡ true → Forks Kept port v spent v
+pub leaves : (port : ℕ) (v : View) → v.live ≡ true → Forks KeepsRule port v spent v
 leaves port v live x views h at =
     let vs : List View = set views port spent in
     let new : ℕ = length vs in
@@ -327,7 +327,7 @@ unites owner n l s log port other v w apart k m =
     let owner' = moved_to owner other port in
     let a = known_as owner owner' n l s log port port v (λ i is. unmoved owner other port i port apart is) k in
     let b = known_as owner owner' n l s log other port w (λ i is. moved owner other port i is) m in
-    let P : Part → Type 0 = λ p. (owner' p.seat ≡ port) × HasPart log p in
+    let P : HistoryPart → Type 0 = λ p. (owner' p.seat ≡ port) × HasPart log p in
     record {
       of = a.of;
       below = a.below;
@@ -337,7 +337,7 @@ unites owner n l s log port other v w apart k m =
       rest = a.rest;
     }
 
-pub merges : (port : ℕ) (v : View) (other : ℕ) (w : View) → v.live ≡ true → w.live ≡ true → Merges Kept port v other w (with_parts v w) spent
+pub merges : (port : ℕ) (v : View) (other : ℕ) (w : View) → v.live ≡ true → w.live ≡ true → Merges KeepsRule port v other w (with_parts v w) spent
 merges port v other w live live' x views h at two at' =
     let both : View = with_parts v w in
     let vs : List View = set views port both in

@@ -8,7 +8,7 @@ use Rattle.policy_tree.specs.declared.limit.Limit.{Limit}
 use Rattle.rate_budget.specs.Budget.{grants_of}
 use Rattle.shared_budget.specs.declared.known.Asked.{Asked}
 use Rattle.shared_budget.specs.declared.known.View.{View}
-use Rattle.shared_budget.specs.Rule.{count_with, count_at, words_with, next_words, answer, Kept, IsSeat, asked, Asks, Looks, Loads, Exchanges}
+use Rattle.shared_budget.specs.Rule.{count_with, count_at, words_with, next_words, answer, KeepsRule, IsSeat, asked, Asks, Looks, Loads, Exchanges}
 use Rattle.shared_budget.proofs.Histories.{refused}
 use Rattle.shared_budget.proofs.Steps.{exchanges}
 
@@ -34,7 +34,7 @@ looks_asks second amount v w granted u a b =
 pub looks_seat : (v w : View) → IsSeat v → Looks v w → IsSeat w
 looks_seat v w seat l = subst IsSeat (sym l.1) seat
 
-pub exchanges_by : (s n s' n' port : ℕ) (v : View) (seen new : List ℕ) → Same2 s n s' n' → IsSeat v → new ≡ next_words s n v seen → new ≢ seen → Turns Kept port v (λ x. if pointwise nat_eq x seen then new else x) (Exchanges s' n')
+pub exchanges_by : (s n s' n' port : ℕ) (v : View) (seen new : List ℕ) → Same2 s n s' n' → IsSeat v → new ≡ next_words s n v seen → new ≢ seen → Turns KeepsRule port v (λ x. if pointwise nat_eq x seen then new else x) (Exchanges s' n')
 exchanges_by s n s' n' port v seen new q seat is changes = exchanges s' n' port v seen new seat (is ∙ (λ i. next_words (q.0 i) (q.1 i) v seen)) changes
 
 pub told_refused : (s n s' n' : ℕ) (v w : View) (x : List ℕ) → Same2 s n s' n' → 0 < n → next_words s n v x ≡ x → Loads s' n' v x x w → Asks s n v false w
@@ -93,7 +93,7 @@ seen_by node limit s n s' n' v0 v w x new h l q is changes told =
     let m = same_node v0 v node limit h l in
     looks_looks v0 v w l (told_looks s n s' n' v w x q (λ e. changes (next_by node limit s n v x new m is ∙ e)) told)
 
-pub exchange_by : (node : ℕ) (limit : Limit) (s n s' n' port : ℕ) (v0 w : View) (seen new : List ℕ) → At node limit v0 → IsSeat v0 → Looks v0 w → Same2 s n s' n' → new ≡ words_with s n (count_with node limit seen) → new ≢ seen → Turns Kept port w (λ x. if pointwise nat_eq x seen then new else x) (Exchanges s' n')
+pub exchange_by : (node : ℕ) (limit : Limit) (s n s' n' port : ℕ) (v0 w : View) (seen new : List ℕ) → At node limit v0 → IsSeat v0 → Looks v0 w → Same2 s n s' n' → new ≡ words_with s n (count_with node limit seen) → new ≢ seen → Turns KeepsRule port w (λ x. if pointwise nat_eq x seen then new else x) (Exchanges s' n')
 exchange_by node limit s n s' n' port v0 w seen new h seat l q is changes = exchanges_by s n s' n' port w seen new q (looks_seat v0 w seat l) (next_by node limit s n w seen new (same_node v0 w node limit h l) is) changes
 
 pub won_by : (node : ℕ) (limit : Limit) (s n s' n' : ℕ) (v0 w u : View) (x seen new : List ℕ) (granted : Bool) → At node limit v0 → Looks v0 w → Same2 s n s' n' → pointwise nat_eq x seen ≡ true → new ≢ seen → granted ≡ grants_of s n (count_with node limit seen) → Exchanges s' n' w x new u → Asks s n v0 granted u

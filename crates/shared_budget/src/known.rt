@@ -17,7 +17,7 @@ pub struct Asked {
 }
 
 /// A seat's part of a history. The latest asking is first.
-pub struct Part {
+pub struct HistoryPart {
     /// The number of the seat at its node, from 0.
     pub seat: u64,
     /// The history that the seat has seen.
@@ -47,5 +47,5 @@ pub struct View {
     /// The askings that the seat made itself, the latest first.
     pub mine: LinkedList<Asked>,
     /// The parts of the seats that it took in.
-    pub others: LinkedList<Part>,
+    pub others: LinkedList<HistoryPart>,
 }

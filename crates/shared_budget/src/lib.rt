@@ -21,5 +21,5 @@ mod node_seat;
 
 pub use budget::SharedBudget;
 pub use budget_seat::BudgetSeat;
-pub use known::{Asked, Part, View};
+pub use known::{Asked, HistoryPart, View};
 pub use law::{asked_seats_may_be_compared, new_seats_have_nodes, stays_within};

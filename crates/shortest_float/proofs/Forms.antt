@@ -1,5 +1,5 @@
--- A decimal's text is a plain numeral of that worth in each of its four layouts: its digits among zeros, parted by a point.
--- For the clause `number` of `text_of`.
+-- A decimal's text is a plain numeral of that worth in each of its four layouts: its digits among zeros, parted by a
+-- point. For the clause `number` of `text_of`.
 use Rattle.std.proofs.Common.{◌≡◌, ℕ, suc, ◌+◌, ◌-◌, ◌*◌, ◌^◌, ◌<◌, ◌≤◌, ◌⊎◌, Bool, true, false, cond, nat_lt, List, [], ◌∷◌, ◌++◌, length, get_or, take, drop, inl, inr, refl, sym, ap, ◌∙◌, subst, arith, true≢false, append-nil, append_assoc, length-append, length-take, length-drop, take-append-drop, lt-ltb, le-ltb, pow-add}
 use Rattle.std.proofs.lemmas.Bool.{cases_lt, ltb-true, ltb-false}
 use Rattle.std.proofs.lemmas.Fmt.{decimal_is_IsNumeral, decimal_nonempty}

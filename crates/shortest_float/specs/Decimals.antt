@@ -1,5 +1,6 @@
--- The decimals next to a float, and the shortest of those that read as it (IEEE 754-2019, section 5.12.2).
--- `power` stands for 10 ^ (power - 342), which may be below 1: as a fraction, 10 ^ (power - 342) over 10 ^ (342 - power) in natural numbers.
+-- The decimals next to a float, and the shortest of those that read as it (IEEE 754-2019, section 5.12.2). `power`
+-- stands for 10 ^ (power - 342), which may be below 1: as a fraction, 10 ^ (power - 342) over 10 ^ (342 - power) in
+-- natural numbers.
 use Rattle.std.specs.Prelude.{ℕ, zero, suc, ◌+◌, ◌-◌, ◌*◌, ◌/◌, ◌%◌, ◌^◌, ◌==◌, ◌||◌, Bool, true, false, to_bits, if◌then◌else◌}
 use Rattle.std.specs.Float.{Float, binary64, nan, inf, fin}
 use Rattle.std.specs.Float.Ieee.{round, up, down}

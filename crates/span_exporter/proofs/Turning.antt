@@ -10,30 +10,30 @@ use Rattle.span_exporter.specs.declared.answer.Flushed.{Flushed}
 use Rattle.span_exporter.specs.Exports.{ExporterState, with_shipment}
 use Rattle.span_exporter.specs.Calls.{pulled, flushed}
 use Rattle.span_exporter.specs.Work.{shipments_in}
-use Rattle.span_exporter.specs.Turns.{Turn, idle, took, calls_in, given_in, FlushesWhenDue, PopsLead}
+use Rattle.span_exporter.specs.Turns.{ExporterTurn, idle, took, calls_in, given_in, FlushesWhenDue, PopsLead}
 use Rattle.span_exporter.specs.Sending.{Sent}
 use Rattle.span_exporter.proofs.OneMore.{sent_nothing}
 use Rattle.span_exporter.proofs.Popping.{EndsTold, told_flush, told_taking}
 
 -- how far the loop is
 pub record Turned {I : Type 0} (gives : I → Option (ℕ × Shipment) → I → Type 0) (start : ExporterState) (before : TallyState) (first : I) (now : ExporterState) (tally : TallyState) (inbox : I) : Type 0 where
-  pub turns : List Turn
+  pub turns : List ExporterTurn
   pub sent : Sent start before now tally (calls_in turns)
   pub told : EndsTold now.ends (shipments_in (calls_in turns))
   pub due : AllByRecursion FlushesWhenDue turns
   pub pops : PopsLead gives first turns inbox
 
-calls_in-append : (turns more : List Turn) → calls_in (turns ++ more) ≡ calls_in turns ++ calls_in more
+calls_in-append : (turns more : List ExporterTurn) → calls_in (turns ++ more) ≡ calls_in turns ++ calls_in more
 calls_in-append [] more = refl
 calls_in-append (idle answer ∷ turns) more = ap (λ l. (0, flushed answer) ∷ l) (calls_in-append turns more)
 calls_in-append (took shard shipment answer None ∷ turns) more = ap (λ l. (shard, pulled shipment answer) ∷ l) (calls_in-append turns more)
 calls_in-append (took shard shipment answer (Some flush) ∷ turns) more = ap (λ l. (shard, pulled shipment answer) ∷ (0, flushed flush) ∷ l) (calls_in-append turns more)
 
-due_more : (turns : List Turn) (turn : Turn) → AllByRecursion FlushesWhenDue turns → FlushesWhenDue turn → AllByRecursion FlushesWhenDue (turns ++ turn ∷ [])
+due_more : (turns : List ExporterTurn) (turn : ExporterTurn) → AllByRecursion FlushesWhenDue turns → FlushesWhenDue turn → AllByRecursion FlushesWhenDue (turns ++ turn ∷ [])
 due_more [] turn all here = (here, tt)
 due_more (x ∷ turns) turn all here = (all.0, due_more turns turn all.1 here)
 
-pops_more : {I : Type 0} (gives : I → Option (ℕ × Shipment) → I → Type 0) (old mid new : I) (turns : List Turn) (turn : Turn) → PopsLead gives old turns mid → gives mid (given_in turn) new → PopsLead gives old (turns ++ turn ∷ []) new
+pops_more : {I : Type 0} (gives : I → Option (ℕ × Shipment) → I → Type 0) (old mid new : I) (turns : List ExporterTurn) (turn : ExporterTurn) → PopsLead gives old turns mid → gives mid (given_in turn) new → PopsLead gives old (turns ++ turn ∷ []) new
 pops_more gives old mid new [] turn all one = (new, subst (λ s. gives s (given_in turn) new) all one, refl)
 pops_more gives old mid new (x ∷ turns) turn all one = (all.0, all.1, pops_more gives all.0 mid new turns turn all.2 one)
 

@@ -8,14 +8,14 @@ use Rattle.span_exporter.specs.declared.answer.Pulled.TheVariants.{Added, AddedF
 use Rattle.span_exporter.specs.declared.answer.Flushed.{Flushed}
 use Rattle.span_exporter.specs.Calls.{ExporterCall, pulled, flushed}
 
-pub data Turn : Type 0 where
+pub data ExporterTurn : Type 0 where
   -- the pop gave nothing, and the batch was flushed
-  idle : Flushed → Turn
+  idle : Flushed → ExporterTurn
   -- the pop gave this shipment of this shard, which was pulled with this answer; and the batch was flushed, or not
-  took : (shard : ℕ) → Shipment → Pulled → Option Flushed → Turn
+  took : (shard : ℕ) → Shipment → Pulled → Option Flushed → ExporterTurn
 
 -- what was called in these turns, in order
-abbrev pub calls_in : List Turn → List (ℕ × ExporterCall)
+abbrev pub calls_in : List ExporterTurn → List (ℕ × ExporterCall)
 calls_in [] = []
 calls_in (idle answer ∷ turns) = (0, flushed answer) ∷ calls_in turns
 calls_in (took shard shipment answer None ∷ turns) = (shard, pulled shipment answer) ∷ calls_in turns
@@ -29,25 +29,25 @@ is_due_behind Ended = false
 is_due_behind Finished = true
 
 -- a shipment's turn flushes just where that is due
-abbrev pub FlushesWhenDue : Turn → Type 0
+abbrev pub FlushesWhenDue : ExporterTurn → Type 0
 FlushesWhenDue (idle answer) = Unit {0}
 FlushesWhenDue (took shard shipment answer None) = is_due_behind answer ≡ false
 FlushesWhenDue (took shard shipment answer (Some flush)) = is_due_behind answer ≡ true
 
 -- what the turn's pop gave, with the number of the shard
-abbrev pub given_in : Turn → Option (ℕ × Shipment)
+abbrev pub given_in : ExporterTurn → Option (ℕ × Shipment)
 given_in (idle answer) = None
 given_in (took shard shipment answer flush) = Some (shard, shipment)
 
 -- what the pops of these turns did, one after the other, where `gives` is what one pop does
-abbrev pub PopsLead : {I : Type 0} → (gives : I → Option (ℕ × Shipment) → I → Type 0) → (old : I) → List Turn → (new : I) → Type 0
+abbrev pub PopsLead : {I : Type 0} → (gives : I → Option (ℕ × Shipment) → I → Type 0) → (old : I) → List ExporterTurn → (new : I) → Type 0
 PopsLead gives old [] new = new ≡ old
 PopsLead {I} gives old (turn ∷ turns) new = (between : I) × gives old (given_in turn) between × PopsLead gives between turns new
 
 -- The calls were made in turns: the batch was flushed where a pop gave nothing, and behind a shipment that filled it or
 -- was the last End, and nowhere else.
 pub record InTurns {I : Type 0} (gives : I → Option (ℕ × Shipment) → I → Type 0) (old new : I) (calls : List (ℕ × ExporterCall)) : Type 0 where
-  pub turns : List Turn
+  pub turns : List ExporterTurn
   pub makes : calls ≡ calls_in turns
   pub due : AllByRecursion FlushesWhenDue turns
   pub pops : PopsLead gives old turns new

@@ -9,7 +9,7 @@ use Rattle.drop_ledger.specs.Places.{place_of, TallyState, Tallies}
 use Rattle.lane_queue.specs.Ends.{ReceiverState}
 use Rattle.lane_queue.specs.Merges.{IsMergeOf}
 use Rattle.span_exporter.specs.declared.answer.Flushed.{Flushed}
-use Rattle.span_exporter.specs.declared.answer.Flushed.TheVariants.{Handed, Spoiled, Empty}
+use Rattle.span_exporter.specs.declared.answer.Flushed.TheVariants.{Handed, BatchDropped, Empty}
 use Rattle.span_exporter.specs.Exports.{ExporterState}
 use Rattle.span_exporter.specs.Calls.{ExporterCall, pulled, flushed, noted, CallsLead, spans_pulled, FlushedBatch, batches_flushed, AnswersFor}
 
@@ -42,7 +42,7 @@ has_ended shipments shard = list_any (λ (x : ℕ × Shipment). is_shipped_end s
 -- how many of the spans of a batch, of which a flush answered so, are counted under a count
 abbrev pub counted_by : Flushed → (spans : ℕ) → Count → ℕ
 counted_by (Handed n) spans count = if place_of HandedOver == place_of count then spans else 0
-counted_by (Spoiled n reason) spans count = if place_of (Dropped reason) == place_of count then spans else 0
+counted_by (BatchDropped n reason) spans count = if place_of (Dropped reason) == place_of count then spans else 0
 counted_by Empty spans count = 0
 
 -- how many spans of flushed batches are counted under a count
@@ -51,7 +51,7 @@ counted_in batches count = sum_by (λ (b : FlushedBatch). counted_by b.answer (l
 
 -- An exporter with an empty batch, of whose shards none had ended, was called so, and ended with this exporter and
 -- receiver.
-pub record Works (old new : ExporterState) (receiver : ReceiverState Shipment) (before after : TallyState) (calls : List (ℕ × ExporterCall)) : Type 0 where
+pub record ExporterWorks (old new : ExporterState) (receiver : ReceiverState Shipment) (before after : TallyState) (calls : List (ℕ × ExporterCall)) : Type 0 where
   -- what the calls did
   pub leads : CallsLead old (calls_of calls) new
   pub no_notes : AllByRecursion (λ (x : ℕ × ExporterCall). NotesNothing x.1) calls
@@ -68,4 +68,4 @@ pub record Works (old new : ExporterState) (receiver : ReceiverState Shipment) (
 
 -- The same wherever the shipments were popped.
 abbrev pub WorksWherever : (old new : ExporterState) → (before after : TallyState) → (calls : List (ℕ × ExporterCall)) → Type 0
-WorksWherever old new before after calls = (receiver : ReceiverState Shipment) → IsMergeOf receiver.ends (shipments_in calls) → Works old new receiver before after calls
+WorksWherever old new before after calls = (receiver : ReceiverState Shipment) → IsMergeOf receiver.ends (shipments_in calls) → ExporterWorks old new receiver before after calls

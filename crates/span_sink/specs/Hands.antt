@@ -33,7 +33,8 @@ is_down_answer (Ok done) = false
 is_down_answer (Err Failed) = false
 is_down_answer (Err Down) = true
 
--- at one of the calls a write failed, after this part of its line was taken, which isn't the whole; every later call was answered Down
+-- at one of the calls a write failed, after this part of its line was taken, which isn't the whole; every later call
+-- was answered Down
 pub record StopsWithin (part : List ℕ) (calls : List Handing) : Type 0 where
   pub before : List Handing
   pub line : List ℕ
@@ -44,7 +45,8 @@ pub record StopsWithin (part : List ℕ) (calls : List Handing) : Type 0 where
   pub cut_short : 0 < length missing
   pub nothing_follows : list_all (λ call. is_down_answer call.answer) after ≡ true
 
--- the sink took the lines whose call answered Ok, joined, and then a part of one line if a write failed, else nothing more
+-- the sink took the lines whose call answered Ok, joined, and then a part of one line if a write failed, else nothing
+-- more
 pub record TookLines (old : LineSinkState) (calls : List Handing) (new : LineSinkState) : Type 0 where
   pub part : List ℕ
   pub bytes : Appends old.taken new.taken (concat (handed_lines calls) ++ part)

@@ -1,3 +1,4 @@
 pub mod Hands
 pub mod LineSinks
 pub mod Sinks
+pub mod FaultTexts

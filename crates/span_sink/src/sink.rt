@@ -2,6 +2,9 @@
 ghost use Rattle.std.specs.Prelude.{◌≡◌, ℕ, ◌+◌, ◌-◌, ◌^◌, ◌<◌, ◌≤◌, Option, List, length, take, IfOk, OnOk, OnErr};
 ghost use Rattle.std.specs.Io.KnownBytes.{Appends, Keeps};
 
+use std::error::Error;
+use std::fmt;
+
 /// Why bytes or a line were not taken.
 #[derive(Clone, Copy, Debug, PartialEq, Eq, Drop)]
 pub enum SinkFault {
@@ -10,6 +13,22 @@ pub enum SinkFault {
     /// A write failed in an earlier call, and nothing was written in this one.
     Down,
 }
+
+impl fmt::Display for SinkFault {
+    ghost use Rattle.std.specs.Prelude.{Some};
+    ghost use Rattle.span_sink.specs.FaultTexts.{fault_text};
+
+    ghost output = { λ fault. Some (fault_text fault) };
+
+    fn fmt<W: fmt::Write>(&self, f: &mut fmt::Formatter<W>) -> fmt::Result {
+        match self {
+            SinkFault::Failed => f.write_str("a write failed"),
+            SinkFault::Down => f.write_str("a write failed earlier"),
+        }
+    }
+}
+
+impl Error for SinkFault {}
 
 /// What takes bytes, in pieces of its own choice, and counts the writes that failed.
 pub trait Sink {

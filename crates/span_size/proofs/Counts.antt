@@ -1,9 +1,9 @@
 -- Tokens that are counted one after the other.
--- For the clauses of `Counter` and of what is counted.
+-- For the clauses of `ByteCounter` and of what is counted.
 use Rattle.std.proofs.Common.{◌≡◌, ℕ, ◌+◌, Bool, true, false, ◌&&◌, cond, length, List, [], ◌∷◌, ◌++◌, refl, sym, ap, ◌∙◌, length-append, append_assoc, subst, arith}
 use Rattle.json.specs.Token.{Token}
 use Rattle.json.specs.Print.{token_text, begins, ends, separator, print_from}
-use Rattle.span_size.specs.declared.counter.Counter.{Counter}
+use Rattle.span_size.specs.declared.counter.ByteCounter.{ByteCounter}
 use Rattle.span_size.specs.Counting.{capped, ends_after, Adds, IsOf}
 
 -- the bytes of these tokens
@@ -27,11 +27,11 @@ ends-append b [] ys = refl
 ends-append b (x ∷ xs) ys = ends-append (ends x) xs ys
 
 -- nothing was counted
-pub nothing : (a : Counter) → Adds a a []
+pub nothing : (a : ByteCounter) → Adds a a []
 nothing a = record { bytes = λ n h. h ∙ ap capped (omega (arith, printed-nil a.after_value)); place = refl }
 
 -- these, and then those
-pub then : {a b c : Counter} {xs ys : List Token} → Adds a b xs → Adds b c ys → Adds a c (xs ++ ys)
+pub then : {a b c : ByteCounter} {xs ys : List Token} → Adds a b xs → Adds b c ys → Adds a c (xs ++ ys)
 then {a} {b} {c} {xs} {ys} p q =
     let split = printed-append a.after_value xs ys in
     let place = ap (λ (b : Bool). printed b ys) p.place in
@@ -41,7 +41,7 @@ then {a} {b} {c} {xs} {ys} p q =
     }
 
 -- these in two parts, and then those
-pub then-both : {a b c : Counter} (xs ys zs : List Token) → Adds a b (xs ++ ys) → Adds b c zs → Adds a c (xs ++ (ys ++ zs))
+pub then-both : {a b c : ByteCounter} (xs ys zs : List Token) → Adds a b (xs ++ ys) → Adds b c zs → Adds a c (xs ++ (ys ++ zs))
 then-both {a} {b} {c} xs ys zs p q = subst (λ (ts : List Token). Adds a c ts) (append_assoc xs ys zs) (then p q)
 
 -- one token: its text, and the comma before it
@@ -53,7 +53,7 @@ printed-one b t = let e = printed-cons b t [] in let none = printed-nil (ends t)
     length-separator false = refl
 
 -- a token is counted with its comma
-pub token-added : (a b : Counter) (t : Token) (bytes : ℕ) (begins_value ends_value : Bool) → IsOf t bytes begins_value ends_value
+pub token-added : (a b : ByteCounter) (t : Token) (bytes : ℕ) (begins_value ends_value : Bool) → IsOf t bytes begins_value ends_value
     → b.bytes ≡ capped (capped (a.bytes + cond (a.after_value && begins_value) 1 0) + bytes) → b.after_value ≡ ends_value → Adds a b (t ∷ [])
 token-added a b t bytes begins_value ends_value is sum place =
     let one = printed-one a.after_value t in

@@ -8,22 +8,22 @@ use crate::escaped::escaped_len;
 
 /// A text so far: its bytes, and whether a comma comes before the next value.
 #[derive(Drop)]
-pub struct Counter {
+pub struct ByteCounter {
     /// How many bytes were counted, up to 2^64 - 1.
     pub bytes: u64,
     /// Whether a value has just ended.
     pub after_value: bool,
 }
 
-impl Counter {
+impl ByteCounter {
     ghost use Rattle.span_size.specs.Counting.{Adds, IsOf};
 
     /// The count of nothing.
-    pub fn new() -> Counter
+    pub fn new() -> ByteCounter
         ensures bytes { result.bytes ≡ 0 }
         ensures place { result.after_value ≡ false }
     {
-        Counter {
+        ByteCounter {
             bytes: 0,
             after_value: false,
         }

@@ -9,25 +9,25 @@ ghost use Rattle.otlp_json.specs.Tokens.{value_tokens};
 ghost use Rattle.otlp_json.specs.Writing.{text_field, u32_field, u64_field, enum_field, message_field, list_field, fields as fields_of, double_data, value_fields, pair_fields};
 ghost use Rattle.span_size.specs.Counting.{Adds, AddsField, AddsObject};
 
-use crate::counter::Counter;
+use crate::counter::ByteCounter;
 use otlp_json::{double_name, is_set};
 use otlp_types::{AnyValue, Double, KeyValue, List, Text};
 
 /// What is written as a JSON object.
-pub trait Counted {
+pub trait HasSize {
     /// The members of its object.
     ghost fields: { Self → Members };
 
     /// Counts the object.
-    fn count(&self, out: &mut Counter)
+    fn count(&self, out: &mut ByteCounter)
         ensures { AddsObject out.old out.new (fields self.now) };
 }
 
-impl Counted for KeyValue {
+impl HasSize for KeyValue {
     ghost fields = { pair_fields };
 
     #[cycle(count)]
-    fn count(&self, out: &mut Counter) {
+    fn count(&self, out: &mut ByteCounter) {
         out.begin_nested();
         text(out, "key", &self.key);
         count_set_value(out, &self.value);
@@ -35,11 +35,11 @@ impl Counted for KeyValue {
     }
 }
 
-impl Counted for AnyValue {
+impl HasSize for AnyValue {
     ghost fields = { value_fields };
 
     #[cycle(count)]
-    fn count(&self, out: &mut Counter) {
+    fn count(&self, out: &mut ByteCounter) {
         match self {
             AnyValue::Empty => object_of_none(out),
             AnyValue::Str(text) => object_of_text(out, "stringValue", text),
@@ -54,7 +54,7 @@ impl Counted for AnyValue {
 }
 
 /// A text, unless it is empty.
-pub fn text(out: &mut Counter, name: &str, text: &Text)
+pub fn text(out: &mut ByteCounter, name: &str, text: &Text)
     ensures { AddsField out.old out.new name.now (text_field text.now) }
 {
     let text = text.as_str();
@@ -66,7 +66,7 @@ pub fn text(out: &mut Counter, name: &str, text: &Text)
 }
 
 /// A whole number as a JSON number, unless it is 0.
-fn whole(out: &mut Counter, name: &str, n: i64)
+fn whole(out: &mut ByteCounter, name: &str, n: i64)
     ensures { AddsField out.old out.new name.now (enum_field n) }
 {
     if n == 0 {
@@ -77,21 +77,21 @@ fn whole(out: &mut Counter, name: &str, n: i64)
 }
 
 /// A number of 32 bits as a JSON number, unless it is 0.
-pub fn u32(out: &mut Counter, name: &str, n: u32)
+pub fn u32(out: &mut ByteCounter, name: &str, n: u32)
     ensures { AddsField out.old out.new name.now (u32_field n) }
 {
     whole(out, name, i64::from(n));
 }
 
 /// The number of an enumeration as a JSON number, unless it is 0.
-pub fn enumeration(out: &mut Counter, name: &str, n: i32)
+pub fn enumeration(out: &mut ByteCounter, name: &str, n: i32)
     ensures { AddsField out.old out.new name.now (enum_field n) }
 {
     whole(out, name, i64::from(n));
 }
 
 /// A number of 64 bits as decimal text, unless it is 0.
-pub fn u64(out: &mut Counter, name: &str, n: u64)
+pub fn u64(out: &mut ByteCounter, name: &str, n: u64)
     ensures { AddsField out.old out.new name.now (u64_field n) }
 {
     if n == 0 {
@@ -102,7 +102,7 @@ pub fn u64(out: &mut Counter, name: &str, n: u64)
 }
 
 /// A list of messages, unless it is empty.
-pub fn list<T: Counted>(out: &mut Counter, name: &str, items: &[T])
+pub fn list<T: HasSize>(out: &mut ByteCounter, name: &str, items: &[T])
     ensures { AddsField out.old out.new name.now (list_field (map T.fields items.now)) }
 {
     if items.is_empty() {
@@ -117,7 +117,7 @@ pub fn list<T: Counted>(out: &mut Counter, name: &str, items: &[T])
 }
 
 /// The object of a value that is a list: its one member holds the items under `values`.
-fn object_of_list<T: Counted>(out: &mut Counter, key: &str, items: &List<T>)
+fn object_of_list<T: HasSize>(out: &mut ByteCounter, key: &str, items: &List<T>)
     ensures { AddsObject out.old out.new (fields_of
         ((key.now, Some (object (fields_of ((codes "values", list_field (map T.fields items.now)) ∷ [])))) ∷ [])) }
 {
@@ -130,7 +130,7 @@ fn object_of_list<T: Counted>(out: &mut Counter, key: &str, items: &List<T>)
 }
 
 /// The object of the value that is not set.
-fn object_of_none(out: &mut Counter)
+fn object_of_none(out: &mut ByteCounter)
     ensures { AddsObject out.old out.new no_members }
 {
     out.begin_nested();
@@ -138,7 +138,7 @@ fn object_of_none(out: &mut Counter)
 }
 
 /// An object with this text alone, also where it is empty.
-fn object_of_text(out: &mut Counter, name: &str, text: &Text)
+fn object_of_text(out: &mut ByteCounter, name: &str, text: &Text)
     ensures { AddsObject out.old out.new (fields_of ((name.now, Some (string text.now)) ∷ [])) }
 {
     out.begin_nested();
@@ -148,7 +148,7 @@ fn object_of_text(out: &mut Counter, name: &str, text: &Text)
 }
 
 /// The object of a truth value.
-fn object_of_bool(out: &mut Counter, b: bool)
+fn object_of_bool(out: &mut ByteCounter, b: bool)
     ensures { AddsObject out.old out.new (fields_of ((codes "boolValue", Some (boolean b)) ∷ [])) }
 {
     out.begin_nested();
@@ -158,7 +158,7 @@ fn object_of_bool(out: &mut Counter, b: bool)
 }
 
 /// The object of an integer, as text, behind a reference, so that it is known to be within its type's range.
-fn object_of_integer(out: &mut Counter, n: &i64)
+fn object_of_integer(out: &mut ByteCounter, n: &i64)
     ensures { AddsObject out.old out.new
         (fields_of ((codes "intValue", Some (string (signed_decimal n.now))) ∷ [])) }
 {
@@ -169,7 +169,7 @@ fn object_of_integer(out: &mut Counter, n: &i64)
 }
 
 /// The object of a double.
-fn object_of_double(out: &mut Counter, x: &Double)
+fn object_of_double(out: &mut ByteCounter, x: &Double)
     ensures { AddsObject out.old out.new
         (fields_of ((codes "doubleValue", Some (double_data x.now)) ∷ [])) }
 {
@@ -180,7 +180,7 @@ fn object_of_double(out: &mut Counter, x: &Double)
 }
 
 /// A double: a number, or a name in place of one.
-fn double(out: &mut Counter, x: &Double)
+fn double(out: &mut ByteCounter, x: &Double)
     ensures { Adds out.old out.new (value_tokens (double_data x.now)) }
 {
     let value = x.get();
@@ -192,7 +192,7 @@ fn double(out: &mut Counter, x: &Double)
 }
 
 /// A finite double, as a number.
-fn number(out: &mut Counter, x: &Double)
+fn number(out: &mut ByteCounter, x: &Double)
     requires { float_is_finite x.now ≡ true }
     ensures { Adds out.old out.new (json_number (double_text x.now) ∷ []) }
 {
@@ -202,7 +202,7 @@ fn number(out: &mut Counter, x: &Double)
 
 /// The field `value` of a pair, where one is set.
 #[cycle(count)]
-fn count_set_value(out: &mut Counter, value: &AnyValue)
+fn count_set_value(out: &mut ByteCounter, value: &AnyValue)
     ensures { AddsField out.old out.new (codes "value") (message_field (value_fields value.now)) }
 {
     if !is_set(value) {

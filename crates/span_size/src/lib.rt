@@ -17,8 +17,8 @@ mod escaped;
 mod laws;
 mod span;
 
-use counter::Counter;
-use counting::Counted;
+use counter::ByteCounter;
+use counting::HasSize;
 pub use laws::{sizes_add, spans_have_size};
 use otlp_types::{Arrival, Span};
 
@@ -26,7 +26,7 @@ use otlp_types::{Arrival, Span};
 pub fn span_size(span: &Span) -> u64
     ensures { result ≡ min (length (span_text span.now)) (2 ^ 64 - 1) }
 {
-    let mut counter = Counter::new();
+    let mut counter = ByteCounter::new();
     span.count(&mut counter);
     counter.bytes
 }

@@ -4,13 +4,13 @@ ghost use Rattle.otlp_json.specs.Tokens.{field_tokens, span_counts, span_head, s
 ghost use Rattle.otlp_json.specs.Writing.{attributes_field, u32_field, trace_field, span_field, parent_field, status_fields, event_fields, link_fields, span_fields, message_field};
 ghost use Rattle.span_size.specs.Counting.{Adds, AddsField};
 
-use crate::counter::Counter;
+use crate::counter::ByteCounter;
 use crate::counting;
-use crate::counting::{Counted, list};
+use crate::counting::{HasSize, list};
 use otlp_types::{Event, Ids, KeyValue, Link, List, Span, Status};
 
 /// The field `parentSpanId`, which a root has not.
-fn parent_span_id(out: &mut Counter, ids: &Option<Ids>)
+fn parent_span_id(out: &mut ByteCounter, ids: &Option<Ids>)
     ensures { AddsField out.old out.new (codes "parentSpanId") (parent_field ids.now) }
 {
     if let Some(ids) = ids {
@@ -21,7 +21,7 @@ fn parent_span_id(out: &mut Counter, ids: &Option<Ids>)
 }
 
 /// The field `spanId`.
-fn span_id(out: &mut Counter, ids: &Option<Ids>)
+fn span_id(out: &mut ByteCounter, ids: &Option<Ids>)
     ensures { AddsField out.old out.new (codes "spanId") (span_field ids.now) }
 {
     if let Some(ids) = ids {
@@ -30,7 +30,7 @@ fn span_id(out: &mut Counter, ids: &Option<Ids>)
 }
 
 /// The field `traceId`.
-fn trace_id(out: &mut Counter, ids: &Option<Ids>)
+fn trace_id(out: &mut ByteCounter, ids: &Option<Ids>)
     ensures { AddsField out.old out.new (codes "traceId") (trace_field ids.now) }
 {
     if let Some(ids) = ids {
@@ -38,10 +38,10 @@ fn trace_id(out: &mut Counter, ids: &Option<Ids>)
     }
 }
 
-impl Counted for Status {
+impl HasSize for Status {
     ghost fields = { status_fields };
 
-    fn count(&self, out: &mut Counter) {
+    fn count(&self, out: &mut ByteCounter) {
         out.begin_nested();
         counting::enumeration(out, "code", self.code);
         counting::text(out, "message", &self.message);
@@ -50,7 +50,7 @@ impl Counted for Status {
 }
 
 /// The field `status`, unless all its fields are left out.
-fn status_of(out: &mut Counter, status: &Status)
+fn status_of(out: &mut ByteCounter, status: &Status)
     ensures { AddsField out.old out.new (codes "status") (message_field (status_fields status.now)) }
 {
     if status.code == 0 && status.message.as_str().is_empty() {
@@ -61,7 +61,7 @@ fn status_of(out: &mut Counter, status: &Status)
 }
 
 /// The attributes, and how many were dropped.
-fn attributes(out: &mut Counter, attributes: &List<KeyValue>, dropped: u32)
+fn attributes(out: &mut ByteCounter, attributes: &List<KeyValue>, dropped: u32)
     ensures { Adds out.old out.new (field_tokens (codes "attributes") (attributes_field attributes.now)
         ++ field_tokens (codes "droppedAttributesCount") (u32_field dropped)) }
 {
@@ -69,10 +69,10 @@ fn attributes(out: &mut Counter, attributes: &List<KeyValue>, dropped: u32)
     counting::u32(out, "droppedAttributesCount", dropped);
 }
 
-impl Counted for Event {
+impl HasSize for Event {
     ghost fields = { event_fields };
 
-    fn count(&self, out: &mut Counter) {
+    fn count(&self, out: &mut ByteCounter) {
         out.begin_nested();
         attributes(out, &self.attributes, self.dropped_attributes_count);
         counting::text(out, "name", &self.name);
@@ -81,10 +81,10 @@ impl Counted for Event {
     }
 }
 
-impl Counted for Link {
+impl HasSize for Link {
     ghost fields = { link_fields };
 
-    fn count(&self, out: &mut Counter) {
+    fn count(&self, out: &mut ByteCounter) {
         out.begin_nested();
         attributes(out, &self.attributes, self.dropped_attributes_count);
         counting::u32(out, "flags", self.flags);
@@ -95,10 +95,10 @@ impl Counted for Link {
     }
 }
 
-impl Counted for Span {
+impl HasSize for Span {
     ghost fields = { span_fields };
 
-    fn count(&self, out: &mut Counter) {
+    fn count(&self, out: &mut ByteCounter) {
         out.begin_nested();
         count_counts(out, self);
         count_head(out, self);
@@ -108,7 +108,7 @@ impl Counted for Span {
 }
 
 /// The attributes and the counts.
-fn count_counts(out: &mut Counter, span: &Span)
+fn count_counts(out: &mut ByteCounter, span: &Span)
     ensures { Adds out.old out.new (span_counts span.now) }
 {
     attributes(out, &span.attributes, span.dropped_attributes_count);
@@ -117,7 +117,7 @@ fn count_counts(out: &mut Counter, span: &Span)
 }
 
 /// The fields from `endTimeUnixNano` to `kind`.
-fn count_head(out: &mut Counter, span: &Span)
+fn count_head(out: &mut ByteCounter, span: &Span)
     ensures { Adds out.old out.new (span_head span.now) }
 {
     counting::u64(out, "endTimeUnixNano", span.end_time_unix_nano);
@@ -127,7 +127,7 @@ fn count_head(out: &mut Counter, span: &Span)
 }
 
 /// The fields from `links` on, in order of their names.
-fn count_tail(out: &mut Counter, span: &Span)
+fn count_tail(out: &mut ByteCounter, span: &Span)
     ensures { Adds out.old out.new (span_tail span.now) }
 {
     list(out, "links", span.links.as_slice());

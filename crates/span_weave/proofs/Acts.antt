@@ -8,19 +8,19 @@ use Rattle.span_ids.specs.declared.outcome.Reason.{Reason}
 use Rattle.span_ids.specs.declared.outcome.Reason.TheVariants.{InvalidId, QueueFull, NoMemory, Evicted, NotSampled, LateNotSampled, ExporterDown}
 use Rattle.journal_theory.specs.Fate.{DroppedSpan, counts}
 use Rattle.span_sink.specs.LineSinks.{LineSinkState}
-use Rattle.span_exporter.specs.Exports.{ExporterState, with_shipment, Sends, Spoils}
+use Rattle.span_exporter.specs.Exports.{ExporterState, with_shipment, Sends, DropsBatch}
 use Rattle.span_exporter.specs.Calls.{ExporterCall, pulled, flushed, noted, CallsLead}
 use Rattle.span_exporter.specs.declared.answer.Flushed.{Flushed}
-use Rattle.span_exporter.specs.declared.answer.Flushed.TheVariants.{Handed, Spoiled, Empty}
-use Rattle.world_theory.specs.World.{Config}
+use Rattle.span_exporter.specs.declared.answer.Flushed.TheVariants.{Handed, BatchDropped, Empty}
+use Rattle.world_theory.specs.World.{CoreConfig}
 use Rattle.world_theory.specs.Step.{is_empty}
-use Rattle.span_weave.specs.Threads.{Act, pulled as pulled_of, handed_over, failed, spoiled, pulls, Export, after_act, after_acts}
+use Rattle.span_weave.specs.Threads.{ExporterAct, pulled as pulled_of, handed_over, failed, batch_dropped, pulls, ExporterMade, after_act, after_acts}
 use Rattle.span_weave.specs.Popped.{spans_popped}
 use Rattle.span_exporter.specs.Work.{NotesNothing, calls_of, shipments_in}
 use Rattle.span_weave.specs.Calls.{handed_by, counted_by, handed_in, counted_in, CallsAreActs}
 
 -- what an exporter holds, where these were handed over and counted
-abbrev with_past : ExporterState → List (List Arrival) → List DroppedSpan → Export
+abbrev with_past : ExporterState → List (List Arrival) → List DroppedSpan → ExporterMade
 with_past e H K = record { batch = e.batch; handed = H; counted = K; down = e.sink.is_down }
 
 -- what holds something is not empty
@@ -34,85 +34,85 @@ unless_either true b x e f = absurd (cc e)
 unless_either false true x e f = absurd (cc f)
 unless_either false false x e f = refl
 
-module _ (c : Config) where
+module _ (c : CoreConfig) where
   -- acts after other acts
-  acts_then : (first : List Act) (rest : List Act) (x mid end : Export) → after_acts c x first ≡ Some mid → after_acts c mid rest ≡ Some end → after_acts c x (first ++ rest) ≡ Some end
-  acts_then [] rest x mid end e f = let same : x ≡ mid = cc e in subst (λ (z : Export). after_acts c z rest ≡ Some end) (sym same) f
+  acts_then : (first : List ExporterAct) (rest : List ExporterAct) (x mid end : ExporterMade) → after_acts c x first ≡ Some mid → after_acts c mid rest ≡ Some end → after_acts c x (first ++ rest) ≡ Some end
+  acts_then [] rest x mid end e f = let same : x ≡ mid = cc e in subst (λ (z : ExporterMade). after_acts c z rest ≡ Some end) (sym same) f
   acts_then (act ∷ first) rest x mid end e f = go (after_act c x act) e (λ y h. acts_then first rest y mid end h f)
     where
-      go : (o : Option Export) → option_and_then (λ next. after_acts c next first) o ≡ Some mid → ((y : Export) → after_acts c y first ≡ Some mid → after_acts c y (first ++ rest) ≡ Some end)
+      go : (o : Option ExporterMade) → option_and_then (λ next. after_acts c next first) o ≡ Some mid → ((y : ExporterMade) → after_acts c y first ≡ Some mid → after_acts c y (first ++ rest) ≡ Some end)
           → option_and_then (λ next. after_acts c next (first ++ rest)) o ≡ Some end
       go None h k = absurd (cc h)
       go (Some y) h k = k y h
 
-  pulls_then : (first rest : List Act) → pulls first ≡ [] → pulls (first ++ rest) ≡ pulls rest
+  pulls_then : (first rest : List ExporterAct) → pulls first ≡ [] → pulls (first ++ rest) ≡ pulls rest
   pulls_then [] rest e = refl
   pulls_then (pulled_of k a ∷ first) rest e = absurd (cc e)
   pulls_then (handed_over ∷ first) rest e = pulls_then first rest e
   pulls_then (failed ∷ first) rest e = pulls_then first rest e
-  pulls_then (spoiled why ∷ first) rest e = pulls_then first rest e
+  pulls_then (batch_dropped why ∷ first) rest e = pulls_then first rest e
 
   -- the acts of a flush
   record FlushActs (old : ExporterState) (answer : Flushed) (sink : LineSinkState) (H : List (List Arrival)) (K : List DroppedSpan) : Type 0 where
-    pub acts : List Act
+    pub acts : List ExporterAct
     pub none : pulls acts ≡ []
     pub leads : after_acts c (with_past old H K) acts ≡ Some (with_past (record old { batch = []; sink = sink }) (H ++ handed_by answer old.batch) (K ++ counted_by answer old.batch))
 
-  one_act : (x y : Export) (act : Act) → after_act c x act ≡ Some y → after_acts c x (act ∷ []) ≡ Some y
-  one_act x y act e = ap (option_and_then (λ (z : Export). Some z)) e
+  one_act : (x y : ExporterMade) (act : ExporterAct) → after_act c x act ≡ Some y → after_acts c x (act ∷ []) ≡ Some y
+  one_act x y act e = ap (option_and_then (λ (z : ExporterMade). Some z)) e
 
-  flush_spoiled : (old : ExporterState) (n : ℕ) (why : Reason) (sink : LineSinkState) (H : List (List Arrival)) (K : List DroppedSpan) → 0 < n → n ≡ length old.batch → Spoils why old.sink old.batch sink → FlushActs old (Spoiled n why) sink H K
-  flush_spoiled old n NoMemory sink H K some e h = record {
-    acts = spoiled NoMemory ∷ [];
+  flush_batch_dropped : (old : ExporterState) (n : ℕ) (why : Reason) (sink : LineSinkState) (H : List (List Arrival)) (K : List DroppedSpan) → 0 < n → n ≡ length old.batch → DropsBatch why old.sink old.batch sink → FlushActs old (BatchDropped n why) sink H K
+  flush_batch_dropped old n NoMemory sink H K some e h = record {
+    acts = batch_dropped NoMemory ∷ [];
     none = refl;
-    leads = one_act (with_past old H K) _ (spoiled NoMemory) (unless_either (is_empty old.batch) false (record { batch = []; handed = H; counted = K ++ counts NoMemory old.batch; down = old.sink.is_down }) (not_empty old.batch (omega (arith, some, e))) refl)
-        ∙ ap (λ (z : Export). Some z) (ends NoMemory (ap (λ (z : LineSinkState). z.is_down) (sym h.1)));
+    leads = one_act (with_past old H K) _ (batch_dropped NoMemory) (unless_either (is_empty old.batch) false (record { batch = []; handed = H; counted = K ++ counts NoMemory old.batch; down = old.sink.is_down }) (not_empty old.batch (omega (arith, some, e))) refl)
+        ∙ ap (λ (z : ExporterMade). Some z) (ends NoMemory (ap (λ (z : LineSinkState). z.is_down) (sym h.1)));
   }
     where
-      ends : (why : Reason) → old.sink.is_down ≡ sink.is_down → (let x : Export = record { batch = []; handed = H; counted = K ++ counts why old.batch; down = old.sink.is_down } in x) ≡ record { batch = []; handed = H ++ []; counted = K ++ counts why old.batch; down = sink.is_down }
-      ends why d = ap (λ b. let x : Export = record { batch = []; handed = H; counted = K ++ counts why old.batch; down = b } in x) d ∙ ap (λ (z : List (List Arrival)). let x : Export = record { batch = []; handed = z; counted = K ++ counts why old.batch; down = sink.is_down } in x) (sym (append-nil H))
-  flush_spoiled old n ExporterDown sink H K some e (inl h) = record {
-    acts = failed ∷ spoiled ExporterDown ∷ [];
+      ends : (why : Reason) → old.sink.is_down ≡ sink.is_down → (let x : ExporterMade = record { batch = []; handed = H; counted = K ++ counts why old.batch; down = old.sink.is_down } in x) ≡ record { batch = []; handed = H ++ []; counted = K ++ counts why old.batch; down = sink.is_down }
+      ends why d = ap (λ b. let x : ExporterMade = record { batch = []; handed = H; counted = K ++ counts why old.batch; down = b } in x) d ∙ ap (λ (z : List (List Arrival)). let x : ExporterMade = record { batch = []; handed = z; counted = K ++ counts why old.batch; down = sink.is_down } in x) (sym (append-nil H))
+  flush_batch_dropped old n ExporterDown sink H K some e (inl h) = record {
+    acts = failed ∷ batch_dropped ExporterDown ∷ [];
     none = refl;
-    leads = ap (λ b. option_and_then (λ (z : Export). after_acts c z (spoiled ExporterDown ∷ [])) (cond b None (Some (record (with_past old H K) { down = true })))) h.2.was_up
-        ∙ one_act (record (with_past old H K) { down = true }) _ (spoiled ExporterDown) (unless_either (is_empty old.batch) false (record { batch = []; handed = H; counted = K ++ counts ExporterDown old.batch; down = true }) (not_empty old.batch (omega (arith, some, e))) refl)
-        ∙ ap (λ b. Some (let x : Export = record { batch = []; handed = H; counted = K ++ counts ExporterDown old.batch; down = b } in x)) (sym h.2.goes_down)
-        ∙ ap (λ (z : List (List Arrival)). Some (let x : Export = record { batch = []; handed = z; counted = K ++ counts ExporterDown old.batch; down = sink.is_down } in x)) (sym (append-nil H));
+    leads = ap (λ b. option_and_then (λ (z : ExporterMade). after_acts c z (batch_dropped ExporterDown ∷ [])) (cond b None (Some (record (with_past old H K) { down = true })))) h.2.was_up
+        ∙ one_act (record (with_past old H K) { down = true }) _ (batch_dropped ExporterDown) (unless_either (is_empty old.batch) false (record { batch = []; handed = H; counted = K ++ counts ExporterDown old.batch; down = true }) (not_empty old.batch (omega (arith, some, e))) refl)
+        ∙ ap (λ b. Some (let x : ExporterMade = record { batch = []; handed = H; counted = K ++ counts ExporterDown old.batch; down = b } in x)) (sym h.2.goes_down)
+        ∙ ap (λ (z : List (List Arrival)). Some (let x : ExporterMade = record { batch = []; handed = z; counted = K ++ counts ExporterDown old.batch; down = sink.is_down } in x)) (sym (append-nil H));
   }
-  flush_spoiled old n ExporterDown sink H K some e (inr h) = record {
-    acts = spoiled ExporterDown ∷ [];
+  flush_batch_dropped old n ExporterDown sink H K some e (inr h) = record {
+    acts = batch_dropped ExporterDown ∷ [];
     none = refl;
-    leads = one_act (with_past old H K) _ (spoiled ExporterDown) (unless_either (is_empty old.batch) (not old.sink.is_down) (record { batch = []; handed = H; counted = K ++ counts ExporterDown old.batch; down = old.sink.is_down }) (not_empty old.batch (omega (arith, some, e))) (ap (λ b. not b) h.0))
-        ∙ ap (λ (s : LineSinkState). Some (let x : Export = record { batch = []; handed = H; counted = K ++ counts ExporterDown old.batch; down = s.is_down } in x)) (sym h.1)
-        ∙ ap (λ (z : List (List Arrival)). Some (let x : Export = record { batch = []; handed = z; counted = K ++ counts ExporterDown old.batch; down = sink.is_down } in x)) (sym (append-nil H));
+    leads = one_act (with_past old H K) _ (batch_dropped ExporterDown) (unless_either (is_empty old.batch) (not old.sink.is_down) (record { batch = []; handed = H; counted = K ++ counts ExporterDown old.batch; down = old.sink.is_down }) (not_empty old.batch (omega (arith, some, e))) (ap (λ b. not b) h.0))
+        ∙ ap (λ (s : LineSinkState). Some (let x : ExporterMade = record { batch = []; handed = H; counted = K ++ counts ExporterDown old.batch; down = s.is_down } in x)) (sym h.1)
+        ∙ ap (λ (z : List (List Arrival)). Some (let x : ExporterMade = record { batch = []; handed = z; counted = K ++ counts ExporterDown old.batch; down = sink.is_down } in x)) (sym (append-nil H));
   }
-  flush_spoiled old n InvalidId sink H K some e h = absurd h
-  flush_spoiled old n QueueFull sink H K some e h = absurd h
-  flush_spoiled old n Evicted sink H K some e h = absurd h
-  flush_spoiled old n NotSampled sink H K some e h = absurd h
-  flush_spoiled old n LateNotSampled sink H K some e h = absurd h
+  flush_batch_dropped old n InvalidId sink H K some e h = absurd h
+  flush_batch_dropped old n QueueFull sink H K some e h = absurd h
+  flush_batch_dropped old n Evicted sink H K some e h = absurd h
+  flush_batch_dropped old n NotSampled sink H K some e h = absurd h
+  flush_batch_dropped old n LateNotSampled sink H K some e h = absurd h
 
   flush_acts : (old : ExporterState) (answer : Flushed) (sink : LineSinkState) (H : List (List Arrival)) (K : List DroppedSpan) → Sends old.sink old.batch answer sink → FlushActs old answer sink H K
   flush_acts old Empty sink H K h = record {
     acts = [];
     none = refl;
-    leads = ap (λ (z : List Arrival). Some (let x : Export = record { batch = z; handed = H; counted = K; down = old.sink.is_down } in x)) h.0
-        ∙ ap (λ (s : LineSinkState). Some (let x : Export = record { batch = []; handed = H; counted = K; down = s.is_down } in x)) (sym h.1)
-        ∙ ap (λ (z : List (List Arrival)). Some (let x : Export = record { batch = []; handed = z; counted = K; down = sink.is_down } in x)) (sym (append-nil H))
-        ∙ ap (λ (z : List DroppedSpan). Some (let x : Export = record { batch = []; handed = H ++ []; counted = z; down = sink.is_down } in x)) (sym (append-nil K));
+    leads = ap (λ (z : List Arrival). Some (let x : ExporterMade = record { batch = z; handed = H; counted = K; down = old.sink.is_down } in x)) h.0
+        ∙ ap (λ (s : LineSinkState). Some (let x : ExporterMade = record { batch = []; handed = H; counted = K; down = s.is_down } in x)) (sym h.1)
+        ∙ ap (λ (z : List (List Arrival)). Some (let x : ExporterMade = record { batch = []; handed = z; counted = K; down = sink.is_down } in x)) (sym (append-nil H))
+        ∙ ap (λ (z : List DroppedSpan). Some (let x : ExporterMade = record { batch = []; handed = H ++ []; counted = z; down = sink.is_down } in x)) (sym (append-nil K));
   }
   flush_acts old (Handed n) sink H K h = record {
     acts = handed_over ∷ [];
     none = refl;
     leads = one_act (with_past old H K) _ handed_over (unless_either (is_empty old.batch) old.sink.is_down (record { batch = []; handed = H ++ old.batch ∷ []; counted = K; down = old.sink.is_down }) (not_empty old.batch (omega (arith, h.0, h.1))) h.2.2.was_up)
-        ∙ ap (λ b. Some (let x : Export = record { batch = []; handed = H ++ old.batch ∷ []; counted = K; down = b } in x)) (h.2.2.was_up ∙ sym h.2.2.stays_up)
-        ∙ ap (λ (z : List DroppedSpan). Some (let x : Export = record { batch = []; handed = H ++ old.batch ∷ []; counted = z; down = sink.is_down } in x)) (sym (append-nil K));
+        ∙ ap (λ b. Some (let x : ExporterMade = record { batch = []; handed = H ++ old.batch ∷ []; counted = K; down = b } in x)) (h.2.2.was_up ∙ sym h.2.2.stays_up)
+        ∙ ap (λ (z : List DroppedSpan). Some (let x : ExporterMade = record { batch = []; handed = H ++ old.batch ∷ []; counted = z; down = sink.is_down } in x)) (sym (append-nil K));
   }
-  flush_acts old (Spoiled n why) sink H K h = flush_spoiled old n why sink H K h.0 h.1 h.2
+  flush_acts old (BatchDropped n why) sink H K h = flush_batch_dropped old n why sink H K h.0 h.1 h.2
 
   -- acts that did what the calls did, after others
   record ActsAfter (old : ExporterState) (calls : List (ℕ × ExporterCall)) (new : ExporterState) (H : List (List Arrival)) (K : List DroppedSpan) : Type 0 where
-    pub acts : List Act
+    pub acts : List ExporterAct
     pub leads : after_acts c (with_past old H K) acts ≡ Some (with_past new (H ++ handed_in old.batch calls) (K ++ counted_in old.batch calls))
     pub pulls_are : pulls acts ≡ spans_popped (shipments_in calls)
 
@@ -130,7 +130,7 @@ module _ (c : Config) where
       let room : nat_lt (length old.batch) c.batch_size ≡ true = lt-ltb (length old.batch) c.batch_size (omega (arith, h.1.0, size)) in
       record {
         acts = pulled_of k a ∷ r.acts;
-        leads = ap (λ b. option_and_then (λ (z : Export). after_acts c z r.acts) (cond b (Some (with_past (with_shipment (Span a) old) H K)) None)) room ∙ r.leads;
+        leads = ap (λ b. option_and_then (λ (z : ExporterMade). after_acts c z r.acts) (cond b (Some (with_past (with_shipment (Span a) old) H K)) None)) room ∙ r.leads;
         pulls_are = ap (λ (z : List (ℕ × Arrival)). (k, a) ∷ z) r.pulls_are;
       }
   acts_of ((k, pulled (End s) answer) ∷ calls) old new H K size quiet h =

@@ -1,5 +1,5 @@
--- The steps by which a shard takes one item that it popped: the refused tries before it, its route, its taking, and the decisions on all that is due.
--- For the contract of `weave`.
+-- The steps by which a shard takes one item that it popped: the refused tries before it, its route, its taking, and the
+-- decisions on all that is due. For the contract of `weave`.
 use Rattle.std.proofs.Common.{◌≡◌, ◌≢◌, ℕ, ◌+◌, ◌<◌, ◌==◌, ◌&&◌, Bool, true, false, cond, List, [], ◌∷◌, ◌++◌, length, map, filter, slice_get, Some, sym, refl, ap, ◌∙◌, subst, append_assoc, append-nil, length-append, arith}
 use Rattle.std.proofs.lemmas.Bool.{and_parts}
 use Rattle.journal_theory.proofs.Counted.{under_append, under_counts}
@@ -11,7 +11,7 @@ use Rattle.span_ids.specs.declared.outcome.Reason.TheVariants.{QueueFull}
 use Rattle.journal_theory.specs.Journal.{Settings, Entry, Journal, Opening, due_now, decision, decisions_in_turn, decisions_now, are_each_answered, has_ended}
 use Rattle.journal_theory.specs.Fate.{DroppedSpan, Effect, counts, effect, effect_of_decision, effect_of_decisions}
 use Rattle.journal_theory.specs.Marked.{marks_apply_to_ids}
-use Rattle.world_theory.specs.World.{Config, Shard, World, goes_to}
+use Rattle.world_theory.specs.World.{CoreConfig, CoreShard, World, goes_to}
 use Rattle.world_theory.specs.Step.{route, refuse, take as take_step, tick, end, decide}
 use Rattle.world_theory.proofs.DecidingInTurn.{decides_all}
 use Rattle.span_weave.specs.Threads.{Try, pushed, full, span_of, was_pushed, pushed_in, refused_in}
@@ -20,17 +20,17 @@ use Rattle.span_weave.proofs.Counting.{number, if_same, if_same_plus, if_same_no
 use Rattle.span_weave.proofs.Runs.{Leads, LeadsBy, leads_same, leads_one, leads_then, by_one, by_quiet, by_then, then_quiet}
 use Rattle.span_weave.proofs.Worlds.{Model, entry_of, given_to, AreGiven, own, stood, dealing, did, fresh, state, refuse_step, route_step, take_one, tick_one, end_lane, end_ticker, decide_one}
 
-module _ (c : Config) (lanes shards : ℕ) (received : ℕ → List Arrival) (m : Model) (s : ℕ) (below : s < shards) where
+module _ (c : CoreConfig) (lanes shards : ℕ) (received : ℕ → List Arrival) (m : Model) (s : ℕ) (below : s < shards) where
   -- the settings of the shard
   abbrev pub S : Settings
   S = own c lanes shards received
 
   -- the world where these are still to be routed, the shard is this one, and these are counted
-  abbrev pub W : (unrouted : ℕ → List Arrival) → Shard → (counted : List DroppedSpan) → World
+  abbrev pub W : (unrouted : ℕ → List Arrival) → CoreShard → (counted : List DroppedSpan) → World
   W u sh C = state c lanes shards received m s below u sh C
 
   -- the shard with an empty queue, where all that was due is decided
-  abbrev pub still : Journal → Shard
+  abbrev pub still : Journal → CoreShard
   still J = stood c lanes shards received [] J
 
   -- the span goes to this shard
@@ -82,7 +82,8 @@ module _ (c : Config) (lanes shards : ℕ) (received : ℕ → List Arrival) (m 
 
   -- ---- one item
 
-  -- The shard took one entry of a sender, which made these tries: this is left of the lane's spans for the shard, and so many of them were refused before.
+  -- The shard took one entry of a sender, which made these tries: this is left of the lane's spans for the shard, and
+  -- so many of them were refused before.
   pub record Served (u : ℕ → List Arrival) (C : List DroppedSpan) (J : Journal) (l : ℕ) (e : Entry) (left : List Arrival) (refused : ℕ) (made : List Bool) : Type 0 where
     pub unrouted : ℕ → List Arrival
     pub counted : List DroppedSpan
@@ -184,7 +185,8 @@ module _ (c : Config) (lanes shards : ℕ) (received : ℕ → List Arrival) (m 
 
   -- ---- the tries before an item
 
-  -- The shard took one entry of a lane: of the lane's tries the first were refused, or put in this entry's span, and these are left.
+  -- The shard took one entry of a lane: of the lane's tries the first were refused, or put in this entry's span, and
+  -- these are left.
   pub record Tried (u : ℕ → List Arrival) (C : List DroppedSpan) (J : Journal) (l : ℕ) (e : Entry) (tries : List Try) (later : List Arrival) : Type 0 where
     pub rest : List Try
     pub many : ℕ

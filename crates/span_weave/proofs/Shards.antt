@@ -10,7 +10,7 @@ use Rattle.span_ids.specs.declared.outcome.Reason.{Reason}
 use Rattle.span_ids.specs.declared.outcome.Reason.TheVariants.{QueueFull}
 use Rattle.journal_theory.specs.Journal.{Settings, Entry, Journal, due_now, has_ended, have_ended}
 use Rattle.journal_theory.specs.Fate.{DroppedSpan, effect}
-use Rattle.world_theory.specs.World.{Config}
+use Rattle.world_theory.specs.World.{CoreConfig}
 use Rattle.world_theory.specs.Places.{buffered_spans}
 use Rattle.span_weave.specs.Threads.{Try, span_of, was_pushed, pushed_in, refused_in, items_of}
 use Rattle.span_weave.specs.Woven.{sum_below}
@@ -23,7 +23,7 @@ use Rattle.span_weave.proofs.Serving.{S, W, still, goes, only, Served, serve_tri
 use Rattle.world_theory.proofs.Finishing.{nothing_buffered}
 use Rattle.span_weave.proofs.Journals.{journal_after, MarksApplyAfter, AnsweredAfter, not_all, all_ended, end_here, IsNoEndOfOthers, end_of_one, LaneOwes, TickerOwes, items_here, lane_owes_there, ticker_owes_there, no_marks, marks_of_item, plain_entry}
 
-module _ (c : Config) (lanes shards : ℕ) (received : ℕ → List Arrival) (m : Model) (s : ℕ) (below : s < shards) where
+module _ (c : CoreConfig) (lanes shards : ℕ) (received : ℕ → List Arrival) (m : Model) (s : ℕ) (below : s < shards) where
   -- the settings of the shard
   abbrev O : Settings
   O = S c lanes shards received m s below
@@ -52,7 +52,8 @@ module _ (c : Config) (lanes shards : ℕ) (received : ℕ → List Arrival) (m 
     pub lanes_owe : (l : ℕ) → l < lanes → LaneOwes J l (tries l) (items_of l popped)
     pub ticker_owes : TickerOwes J lanes ticks (items_of lanes popped)
 
-  -- The shard took what it popped: all of the lanes' spans for it are routed or refused, and nothing waits in its buffer.
+  -- The shard took what it popped: all of the lanes' spans for it are routed or refused, and nothing waits in its
+  -- buffer.
   pub record WovenShard (u : ℕ → List Arrival) (C : List DroppedSpan) (J : Journal) (tries : ℕ → List Try) (popped : List (ℕ × Entry)) : Type 0 where
     pub unrouted : ℕ → List Arrival
     pub counted : List DroppedSpan
@@ -66,7 +67,8 @@ module _ (c : Config) (lanes shards : ℕ) (received : ℕ → List Arrival) (m 
 
   -- ---- the first item
 
-  -- The first item was served: what was left of its sender, and how the sender stands then. Where nothing else is to be popped of the sender, the item was its End.
+  -- The first item was served: what was left of its sender, and how the sender stands then. Where nothing else is to be
+  -- popped of the sender, the item was its End.
   record Head (u : ℕ → List Arrival) (C : List DroppedSpan) (J : Journal) (tries : ℕ → List Try) (ticks : List ℕ) (x : ℕ × Entry) (rest : List (ℕ × Entry)) : Type 0 where
     pub tries_left : ℕ → List Try
     pub ticks_left : List ℕ

@@ -8,11 +8,11 @@ use Rattle.span_ids.specs.declared.outcome.Reason.{Reason}
 use Rattle.span_ids.specs.declared.outcome.Reason.TheVariants.{InvalidId, QueueFull, NoMemory, Evicted, NotSampled, LateNotSampled, ExporterDown}
 use Rattle.journal_theory.specs.Journal.{Settings, Journal, IsAnswered, have_ended}
 use Rattle.journal_theory.specs.Fate.{effect, output}
-use Rattle.world_theory.specs.World.{Config, Lane, Shard, World, new_world, goes_to, ids_go_to}
+use Rattle.world_theory.specs.World.{CoreConfig, CoreLane, CoreShard, World, new_world, goes_to, ids_go_to}
 use Rattle.world_theory.specs.Step.{has_ids}
 use Rattle.world_theory.specs.Places.{IsClosed}
 use Rattle.journal_theory.specs.Marked.{MarksApply}
-use Rattle.span_weave.specs.Threads.{Threads, was_pushed, refused_in, items_of, journal_of, Export, new_export, Meets}
+use Rattle.span_weave.specs.Threads.{Threads, was_pushed, refused_in, items_of, journal_of, ExporterMade, new_export, Meets}
 use Rattle.span_weave.specs.Woven.{sum_below, counted_by_lane, counted_by_shard, counted_in_all, Woven, Weave}
 use Rattle.span_weave.proofs.Lists.{get_tab}
 use Rattle.span_weave.proofs.Sums.{sum_same, sum_plus, sum_swap}
@@ -69,7 +69,7 @@ sum_if : (r reason : Reason) (n : ℕ) (f : ℕ → ℕ) → sum_below n (λ k. 
 sum_if r reason zero f = sym (if_same_none r reason)
 sum_if r reason (suc n) f = omega (arith, sum_if r reason n f, if_same_plus r reason (f n) (sum_below n f))
 
-module _ (c : Config) (lanes shards : ℕ) (t : Threads) (end : Export) (some : 0 < shards) (h : Meets c lanes shards t end) where
+module _ (c : CoreConfig) (lanes shards : ℕ) (t : Threads) (end : ExporterMade) (some : 0 < shards) (h : Meets c lanes shards t end) where
   abbrev O : Settings
   O = own c lanes shards t.received
 
@@ -106,7 +106,7 @@ module _ (c : Config) (lanes shards : ℕ) (t : Threads) (end : Export) (some : 
 
   exported : Exported c lanes shards t.received shards_took.unrouted shards_took.shards_now new_export shards_took.counted end
   exported = export_acts c lanes shards t.received shards_took.unrouted t.acts shards_took.shards_now new_export shards_took.counted end h.of_shards
-      (λ s below. ap (λ (z : Shard). z.unshipped) (shards_took.here s below) ∙ (ap (output O) (same_journal s) ∙ sym (h.shipped s below))) h.exports
+      (λ s below. ap (λ (z : CoreShard). z.unshipped) (shards_took.here s below) ∙ (ap (output O) (same_journal s) ∙ sym (h.shipped s below))) h.exports
 
   -- ---- the world after them
 
@@ -131,7 +131,7 @@ module _ (c : Config) (lanes shards : ℕ) (t : Threads) (end : Export) (some : 
       (λ l i. nothing_left shards some (shards_took.unrouted l)
       (shards_took.others l lacks_ids (λ s below x e. ap (λ b. not b) (goes_with_ids shards s x e)) ∙ none_lacking (t.received l)) (λ s below. shards_took.routed s below l i))
       (λ s below. subst (Finished O) (sym (shard_is s below)) (record { queue = refl; buffered = shards_took.finished s below; unshipped = refl }))
-      (λ s below. ap (λ (z : Shard). have_ended z.journal (lanes + 1)) (shard_is s below) ∙ shards_took.ended s below)
+      (λ s below. ap (λ (z : CoreShard). have_ended z.journal (lanes + 1)) (shard_is s below) ∙ shards_took.ended s below)
       refl h.flushed
 
   counted : (reason : Reason) → number reason after.counted ≡ counted_in_all c lanes shards t end reason
@@ -165,9 +165,9 @@ module _ (c : Config) (lanes shards : ℕ) (t : Threads) (end : Export) (some : 
     after = after;
     runs = leads.1;
     closed = closed;
-    received = λ l i. ap (option_map (λ (x : Lane). x.received)) (get_tab (lane_of c lanes shards t.received last.unrouted) 0 lanes l l i (omega arith));
+    received = λ l i. ap (option_map (λ (x : CoreLane). x.received)) (get_tab (lane_of c lanes shards t.received last.unrouted) 0 lanes l l i (omega arith));
     tried = λ l s i below. leads.2 l s i ∙ ap (λ b. cond b (map was_pushed (t.tries l s)) []) (lt-ltb s shards below);
-    journals = λ s below. ap (option_map (λ (x : Shard). x.journal)) (get_tab exported.shards_now 0 shards s s below (omega arith) ∙ ap (λ (x : Shard). Some x) (shard_is s below)) ∙ ap (λ (z : Journal). Some z) (same_journal s);
+    journals = λ s below. ap (option_map (λ (x : CoreShard). x.journal)) (get_tab exported.shards_now 0 shards s s below (omega arith) ∙ ap (λ (x : CoreShard). Some x) (shard_is s below)) ∙ ap (λ (z : Journal). Some z) (same_journal s);
     handed = refl;
     down = refl;
     counted = counted;

@@ -1,5 +1,6 @@
--- Two lanes, one of which has two connections, and two shards: a refused try, a span without valid ids, an eviction, a late span and a sink that fails. The threads keep all promises, and their run is computed.
--- For the contract of `weave`: its premises can be met, and its run does what the threads did.
+-- Two lanes, one of which has two connections, and two shards: a refused try, a span without valid ids, an eviction, a
+-- late span and a sink that fails. The threads keep all promises, and their run is computed. For the contract of
+-- `weave`: its premises can be met, and its run does what the threads did.
 use Rattle.std.proofs.Common.{◌≡◌, ℕ, zero, suc, ◌<◌, true, false, List, [], ◌∷◌, ◌++◌, length, map, filter, Some, refl, arith}
 use Rattle.otlp_types.specs.declared.arrival.Arrival.{Arrival}
 use Rattle.otlp_types.specs.declared.arrival.Record.{Record}
@@ -10,17 +11,17 @@ use Rattle.lane_queue.specs.Merges.{of}
 use Rattle.journal_theory.specs.Journal.{IsAnswered, Entry, notes}
 use Rattle.journal_theory.specs.Fate.{output, under}
 use Rattle.journal_theory.specs.Marked.{MarksApply}
-use Rattle.world_theory.specs.World.{Config, World, settings_for, goes_to}
-use Rattle.world_theory.specs.Step.{Step, receive, route, refuse, take, tick, close, end as end_step, decide, ship, pull, hand, fail, spoil, run}
+use Rattle.world_theory.specs.World.{CoreConfig, World, settings_for, goes_to}
+use Rattle.world_theory.specs.Step.{Step, receive, route, refuse, take, tick, close, end as end_step, decide, ship, pull, hand, fail, drop_batch, run}
 use Rattle.world_theory.proofs.Samples.{errors, configured, error, plain, invalid}
 use Rattle.world_theory.proofs.WrongTables.{reached}
-use Rattle.span_weave.specs.Threads.{Try, Threads, pushed, full, span_of, was_pushed, pushed_in, Act, pulled, handed_over, failed, spoiled, pulls, items_of, journal_of, Export, AreNumbered, Meets}
+use Rattle.span_weave.specs.Threads.{Try, Threads, pushed, full, span_of, was_pushed, pushed_in, ExporterAct, pulled, handed_over, failed, batch_dropped, pulls, items_of, journal_of, ExporterMade, AreNumbered, Meets}
 use Rattle.span_weave.specs.Woven.{counted_in_all, tries_in, Woven}
 use Rattle.span_weave.proofs.Worlds.{entry_of}
 use Rattle.span_weave.proofs.Numbering.{numbered_from}
 
 -- traces with an error are kept, a shard has room for one trace, batches of one span
-abbrev config : Config
+abbrev config : CoreConfig
 config = configured errors (Some 1) 1 1
 
 -- a span of a lane's connection
@@ -76,13 +77,13 @@ abbrev popped : (shard : ℕ) → List (ℕ × Entry)
 popped zero = from 0 leaves ∷ ended 1 ∷ from 0 stays ∷ ticked ∷ ended 0 ∷ ended 2 ∷ []
 popped (suc shard) = from 1 decided_first ∷ ticked ∷ from 1 late ∷ from 0 decided_last ∷ ended 0 ∷ ended 2 ∷ ended_last 1 ∷ []
 
-abbrev acts : List Act
-acts = pulled 1 decided_first ∷ handed_over ∷ pulled 0 stays ∷ handed_over ∷ pulled 1 late ∷ failed ∷ spoiled ExporterDown ∷ pulled 1 decided_last ∷ spoiled ExporterDown ∷ []
+abbrev acts : List ExporterAct
+acts = pulled 1 decided_first ∷ handed_over ∷ pulled 0 stays ∷ handed_over ∷ pulled 1 late ∷ failed ∷ batch_dropped ExporterDown ∷ pulled 1 decided_last ∷ batch_dropped ExporterDown ∷ []
 
 abbrev did : Threads
 did = record { received = received; tries = tries; ticks = λ shard. 10 ∷ []; popped = popped; acts = acts }
 
-abbrev end : Export
+abbrev end : ExporterMade
 end = record {
   batch = [];
   handed = (decided_first ∷ []) ∷ (stays ∷ []) ∷ [];
@@ -124,7 +125,7 @@ steps = receive 0 0 0 (leaves.rec ∷ []) ∷ receive 0 1 0 (lacks_ids.rec ∷ [
     ∷ receive 1 0 0 (decided_first.rec ∷ []) ∷ receive 1 0 11 (late.rec ∷ []) ∷ close 1
     ∷ route 0 0 ∷ take 0 false false ∷ end_step 0 1 ∷ route 0 0 ∷ take 0 false false ∷ tick 0 10 ∷ decide 0 [] ∷ refuse 0 0 ∷ end_step 0 0 ∷ end_step 0 2
     ∷ route 1 1 ∷ take 1 false false ∷ tick 1 10 ∷ decide 1 [] ∷ route 1 1 ∷ take 1 false false ∷ route 0 1 ∷ take 1 false false ∷ end_step 1 0 ∷ end_step 1 2 ∷ end_step 1 1 ∷ decide 1 []
-    ∷ ship 1 ∷ pull ∷ hand ∷ ship 0 ∷ pull ∷ hand ∷ ship 1 ∷ pull ∷ fail ∷ spoil ExporterDown ∷ ship 1 ∷ pull ∷ spoil ExporterDown ∷ []
+    ∷ ship 1 ∷ pull ∷ hand ∷ ship 0 ∷ pull ∷ hand ∷ ship 1 ∷ pull ∷ fail ∷ drop_batch ExporterDown ∷ ship 1 ∷ pull ∷ drop_batch ExporterDown ∷ []
 
 -- and the world after them
 abbrev after : World
@@ -156,7 +157,8 @@ is_woven = record {
     counts LateNotSampled = refl
     counts ExporterDown = refl
 
--- of seven spans two were handed over; one lacked valid ids, one found a queue full, one was evicted, and two were given up behind the sink's failure
+-- of seven spans two were handed over; one lacked valid ids, one found a queue full, one was evicted, and two were
+-- given up behind the sink's failure
 pub counted_under_each : map (λ (r : Reason). counted_in_all config 2 2 did end r) (InvalidId ∷ QueueFull ∷ NoMemory ∷ Evicted ∷ NotSampled ∷ LateNotSampled ∷ ExporterDown ∷ []) ≡ 1 ∷ 1 ∷ 0 ∷ 1 ∷ 0 ∷ 0 ∷ 2 ∷ []
 unfolding notes
 counted_under_each = refl

@@ -14,15 +14,15 @@ use Rattle.lane_queue.specs.Merges.{of}
 use Rattle.journal_theory.specs.Journal.{IsAnswered, Settings, Entry, Journal, notes, remembered}
 use Rattle.journal_theory.specs.Fate.{DroppedSpan, Fate, waits, fate, output}
 use Rattle.journal_theory.specs.Marked.{MarksApply}
-use Rattle.world_theory.specs.World.{Config, Lane, Shard, World, new_world, settings_for, settings, has_due, goes_to, same_key}
+use Rattle.world_theory.specs.World.{CoreConfig, CoreLane, CoreShard, World, new_world, settings_for, settings, has_due, goes_to, same_key}
 use Rattle.world_theory.specs.Places.{Place, HeldKey, unrouted, queued, buffered, unshipped, exported, in_batch, handed, counted_under, is_waiting, held_at, buffered_spans, held_by_lanes, held_by_shards, held}
-use Rattle.world_theory.specs.Headline.{Taken, fate_of, is_where, ComesFirst, HoldsOf}
+use Rattle.world_theory.specs.Headline.{TakenSpan, fate_of, is_where, ComesFirst, HoldsOf}
 use Rattle.world_theory.proofs.Parts as SpanWorldParts
 use Rattle.world_theory.proofs.Samples.{always, configured, plain, ids_of}
 use Rattle.world_theory.proofs.Balance.{same_settings}
 use Rattle.world_theory.proofs.OnePlace.{run_keeps}
 use Rattle.world_theory.proofs.AllAnswered.{answered_new}
-use Rattle.span_weave.specs.Threads.{Try, Threads, pushed, span_of, pushed_in, Act, pulled, handed_over, pulls, items_of, journal_of, Export, new_export, after_acts, AreNumbered}
+use Rattle.span_weave.specs.Threads.{Try, Threads, pushed, span_of, pushed_in, ExporterAct, pulled, handed_over, pulls, items_of, journal_of, ExporterMade, new_export, after_acts, AreNumbered}
 use Rattle.span_weave.specs.Woven.{counted_in_all, Woven}
 use Rattle.span_weave.proofs.Worlds.{entry_of}
 use Rattle.span_weave.proofs.Counting.{none_counted}
@@ -57,7 +57,7 @@ abbrev pub Unless : (broken p : Promise) → Type 0 → Type 0
 Unless broken p T = unless_same (is_same broken p) T
 
 -- all of `Meets` but this promise
-pub record MeetsBut (broken : Promise) (c : Config) (lanes shards : ℕ) (t : Threads) (end : Export) : Type 0 where
+pub record MeetsBut (broken : Promise) (c : CoreConfig) (lanes shards : ℕ) (t : Threads) (end : ExporterMade) : Type 0 where
   pub numbered : (lane : ℕ) → lane < lanes → AreNumbered lane (t.received lane)
   pub tried : Unless broken tries_in_order ((lane shard : ℕ) → lane < lanes → shard < shards → map span_of (t.tries lane shard) ≡ filter (goes_to shards shard) (t.received lane))
   pub of_lane : Unless broken popped_in_order ((lane shard : ℕ) → lane < lanes → shard < shards → items_of lane (t.popped shard) ≡ map (λ a. Span a) (pushed_in (t.tries lane shard)) ++ End lane ∷ [])
@@ -72,16 +72,16 @@ pub record MeetsBut (broken : Promise) (c : Config) (lanes shards : ℕ) (t : Th
 
 -- ---- what holds of a woven run
 
-abbrev config : Config
+abbrev config : CoreConfig
 config = configured always (Some 1) 1 1
 
 abbrev own : Settings
 own = settings_for config 2
 
-holds : (t : Threads) (end : Export) (w : Woven config 1 1 t end) → HoldsOf config w.after
+holds : (t : Threads) (end : ExporterMade) (w : Woven config 1 1 t end) → HoldsOf config w.after
 holds t end w = SpanWorldParts.headline config 1 1 w.steps w.after (λ e. cc e) w.runs
 
-own_settings : (t : Threads) (end : Export) (w : Woven config 1 1 t end) → settings config w.after ≡ own
+own_settings : (t : Threads) (end : ExporterMade) (w : Woven config 1 1 t end) → settings config w.after ≡ own
 own_settings t end w = (run_keeps config (λ (x : World). settings config x ≡ own) (λ e. cc e) (λ x next stepped e. same_settings config x next stepped ∙ e) w.steps (new_world 1 1) w.after refl (answered_new own 1 1) w.runs).0
 
 -- spans of one connection and trace were handed over in received order
@@ -90,14 +90,14 @@ HandedInOrder batches = AllPairs ComesFirst (flat_map (λ batch. batch) batches)
 
 -- its one shard, whose journal is this
 pub record OneShard (w : World) (J : Journal) : Type 0 where
-  pub shard : Shard
+  pub shard : CoreShard
   pub there : slice_get w.shards 0 ≡ Some shard
   pub journal : shard.journal ≡ J
 
-pub one_shard : (w : World) (J : Journal) → option_map (λ (sh : Shard). sh.journal) (slice_get w.shards 0) ≡ Some J → OneShard w J
+pub one_shard : (w : World) (J : Journal) → option_map (λ (sh : CoreShard). sh.journal) (slice_get w.shards 0) ≡ Some J → OneShard w J
 one_shard w J e = go (slice_get w.shards 0) refl e
   where
-    go : (o : Option Shard) → slice_get w.shards 0 ≡ o → option_map (λ (sh : Shard). sh.journal) o ≡ Some J → OneShard w J
+    go : (o : Option CoreShard) → slice_get w.shards 0 ≡ o → option_map (λ (sh : CoreShard). sh.journal) o ≡ Some J → OneShard w J
     go None there h = absurd (cc h)
     go (Some sh) there h = record { shard = sh; there = there; journal = cc h }
 
@@ -110,10 +110,10 @@ abbrev second : Arrival
 second = record { key = record { conn = record { lane = 0; ordinal = 0 }; number = 1 }; moment = 1; rec = plain 1 }
 
 -- one lane and one shard
-abbrev pub did : (received : List Arrival) → (tries : List Try) → (ticks : List ℕ) → (popped : List (ℕ × Entry)) → List Act → Threads
+abbrev pub did : (received : List Arrival) → (tries : List Try) → (ticks : List ℕ) → (popped : List (ℕ × Entry)) → List ExporterAct → Threads
 did received tries ticks popped acts = record { received = λ lane. received; tries = λ lane shard. tries; ticks = λ shard. ticks; popped = λ shard. popped; acts = acts }
 
-abbrev pub made : List (List Arrival) → Export
+abbrev pub made : List (List Arrival) → ExporterMade
 made batches = record { batch = []; handed = batches; counted = []; down = false }
 
 -- the ends of the lane and of the ticker
@@ -136,7 +136,7 @@ unless_more true S T f h = h
 unless_more false S T f h = f h
 
 -- what one lane, one shard, the ticker and the exporter did meets all promises but one
-pub meets_but : (broken : Promise) (c : Config) (t : Threads) (end : Export) → AreNumbered 0 (t.received 0)
+pub meets_but : (broken : Promise) (c : CoreConfig) (t : Threads) (end : ExporterMade) → AreNumbered 0 (t.received 0)
     → Unless broken tries_in_order (map span_of (t.tries 0 0) ≡ filter (goes_to 1 0) (t.received 0))
     → Unless broken popped_in_order (items_of 0 (t.popped 0) ≡ map (λ a. Span a) (pushed_in (t.tries 0 0)) ++ End 0 ∷ [])
     → items_of 1 (t.popped 0) ≡ map (λ m. Tick m) (t.ticks 0) ++ End 1 ∷ []
@@ -191,7 +191,7 @@ backwards t w =
     absurd (omega (arith, q))
 
 -- what they handed over
-abbrev turned : Export
+abbrev turned : ExporterMade
 turned = made ((second ∷ []) ∷ (first ∷ []) ∷ [])
 
 -- by these tries, and by these items that the shard popped, the second span went to the exporter first
@@ -230,7 +230,7 @@ unfolding notes
 ended_early_meets = meets_but popped_in_order config ended_early (made []) one_numbered refl tt refl (omega arith, (omega arith, (omega arith, tt))) (refl, (refl, (refl, tt))) (refl, (refl, (refl, tt))) refl tt refl refl
 
 -- the span that was taken behind the End
-abbrev behind_end : (w : World) → OneShard w (journal_of ended_early 0) → Taken w
+abbrev behind_end : (w : World) → OneShard w (journal_of ended_early 0) → TakenSpan w
 behind_end w one = record { shard = 0; of = one.shard; in_world = one.there; arrival = first; ids = ids_of 1; valid = refl; refused = false; lost = false; answers = []; later = []; before = entry_of (End 1) false false [] ∷ entry_of (End 0) false false [] ∷ []; split = one.journal }
 
 -- the fate of that span by a journal
@@ -266,7 +266,7 @@ marked_late_meets = meets_but marks_that_apply config marked_late (made ((first 
 abbrev before_late : Journal
 before_late = entry_of (Tick 11) false false ([] ∷ []) ∷ entry_of (Span first) false false [] ∷ []
 
-abbrev late_one : (w : World) → OneShard w (journal_of marked_late 0) → Taken w
+abbrev late_one : (w : World) → OneShard w (journal_of marked_late 0) → TakenSpan w
 late_one w one = record { shard = 0; of = one.shard; in_world = one.there; arrival = second; ids = ids_of 1; valid = refl; refused = true; lost = false; answers = []; later = entry_of (End 1) false false [] ∷ entry_of (End 0) false false [] ∷ []; before = before_late; split = one.journal }
 
 pub marked_late_is_no_run : Woven config 1 1 marked_late (made ((first ∷ []) ∷ [])) → ⊥
@@ -283,7 +283,7 @@ marked_late_is_no_run w =
 abbrev left_in_batch : Threads
 left_in_batch = did (first ∷ []) (pushed first ∷ []) (11 ∷ []) (taken first ∷ ticked ∷ ends) (pulled 0 first ∷ [])
 
-abbrev with_batch : Export
+abbrev with_batch : ExporterMade
 with_batch = record { batch = first ∷ []; handed = []; counted = []; down = false }
 
 left_in_batch_meets : MeetsBut batch_is_empty config 1 1 left_in_batch with_batch
@@ -305,11 +305,11 @@ held_waits place is (a ∷ spans) =
     ap (λ b. let h : HeldKey = record { place = place; key = a.key } in cond b (h ∷ filter waits_there (held_at place spans)) (filter waits_there (held_at place spans))) is
     ∙ ap (λ (z : List HeldKey). let h : HeldKey = record { place = place; key = a.key } in h ∷ z) (held_waits place is spans)
 
-lanes_wait : (n : ℕ) (lanes : List Lane) → AllWait (held_by_lanes n lanes)
+lanes_wait : (n : ℕ) (lanes : List CoreLane) → AllWait (held_by_lanes n lanes)
 lanes_wait n [] = refl
 lanes_wait n (l ∷ lanes) = both_wait (held_at (unrouted n) l.unrouted) (held_by_lanes (n + 1) lanes) (held_waits (unrouted n) refl l.unrouted) (lanes_wait (n + 1) lanes)
 
-shards_wait : (s : Settings) (n : ℕ) (shards : List Shard) → AllWait (held_by_shards s n shards)
+shards_wait : (s : Settings) (n : ℕ) (shards : List CoreShard) → AllWait (held_by_shards s n shards)
 shards_wait s n [] = refl
 shards_wait s n (sh ∷ shards) =
     let inside = held_at (buffered n) (buffered_spans s sh.journal sh.dealt) in
@@ -340,7 +340,7 @@ world_waits w none nothing =
     (subst AllWait (sym over_none) refl))
     (subst AllWait (sym counted_none) refl)
 
-first_received : (lanes : List Lane) → option_map (λ (l : Lane). l.received) (slice_get lanes 0) ≡ Some (first ∷ []) → list_any (λ (l : Lane). list_any (λ a. same_key a.key first.key) l.received) lanes ≡ true
+first_received : (lanes : List CoreLane) → option_map (λ (l : CoreLane). l.received) (slice_get lanes 0) ≡ Some (first ∷ []) → list_any (λ (l : CoreLane). list_any (λ a. same_key a.key first.key) l.received) lanes ≡ true
 first_received [] e = absurd (cc e)
 first_received (l ∷ lanes) e = let q : l.received ≡ first ∷ [] = cc e in rw q refl
 

@@ -10,7 +10,7 @@ use Rattle.journal_theory.specs.Journal.{Entry, Journal, IsAnswered}
 use Rattle.journal_theory.specs.Fate.{DroppedSpan, counts, output}
 use Rattle.journal_theory.specs.Marked.{MarksApply}
 use Rattle.lane_queue.specs.Merges.{of}
-use Rattle.world_theory.specs.World.{Config, goes_to, settings_for}
+use Rattle.world_theory.specs.World.{CoreConfig, goes_to, settings_for}
 use Rattle.world_theory.specs.Step.{is_of_conn, is_empty}
 
 -- ---- what each thread did
@@ -43,23 +43,23 @@ refused_in (pushed a ∷ tries) = refused_in tries
 refused_in (full a ∷ tries) = a ∷ refused_in tries
 
 -- what the exporter did
-pub data Act : Type 0 where
+pub data ExporterAct : Type 0 where
   -- this shard's span went to the open batch
-  pulled : (shard : ℕ) → Arrival → Act
+  pulled : (shard : ℕ) → Arrival → ExporterAct
   -- the open batch was handed over
-  handed_over : Act
+  handed_over : ExporterAct
   -- the sink failed
-  failed : Act
+  failed : ExporterAct
   -- the open batch was given up
-  spoiled : Reason → Act
+  batch_dropped : Reason → ExporterAct
 
 -- what the exporter pulled, each span with its shard
-abbrev pub pulls : List Act → List (ℕ × Arrival)
+abbrev pub pulls : List ExporterAct → List (ℕ × Arrival)
 pulls [] = []
 pulls (pulled shard a ∷ acts) = (shard, a) ∷ pulls acts
 pulls (handed_over ∷ acts) = pulls acts
 pulls (failed ∷ acts) = pulls acts
-pulls (spoiled reason ∷ acts) = pulls acts
+pulls (batch_dropped reason ∷ acts) = pulls acts
 
 -- All that the threads did.
 pub record Threads : Type 0 where
@@ -73,7 +73,7 @@ pub record Threads : Type 0 where
   -- with the limiter's answers to the decisions at it
   pub popped : (shard : ℕ) → List (ℕ × Entry)
   -- what the exporter did, in order
-  pub acts : List Act
+  pub acts : List ExporterAct
 
 -- the items that a shard popped of one sender, in order
 abbrev pub items_of : (sender : ℕ) → List (ℕ × Entry) → List Item
@@ -87,32 +87,32 @@ journal_of t shard = reverse (map (λ (x : ℕ × Entry). x.1) (t.popped shard))
 
 -- what the exporter's acts made: the open batch, the batches that were handed over, what was counted, and whether the
 -- sink is down
-pub record Export : Type 0 where
+pub record ExporterMade : Type 0 where
   pub batch : List Arrival
   pub handed : List (List Arrival)
   pub counted : List DroppedSpan
   pub down : Bool
 
 -- before the first act
-abbrev pub new_export : Export
+abbrev pub new_export : ExporterMade
 new_export = record { batch = []; handed = []; counted = []; down = false }
 
 -- a batch may be given up for want of memory, or because the sink is down
-abbrev pub may_spoil : (down : Bool) → Reason → Bool
-may_spoil down NoMemory = true
-may_spoil down ExporterDown = down
-may_spoil down _ = false
+abbrev pub may_drop_batch : (down : Bool) → Reason → Bool
+may_drop_batch down NoMemory = true
+may_drop_batch down ExporterDown = down
+may_drop_batch down _ = false
 
 -- after one act: a full batch takes no span, an empty one is neither handed over nor given up, and nothing is handed
 -- over where the sink is down
-abbrev pub after_act : Config → Export → Act → Option Export
+abbrev pub after_act : CoreConfig → ExporterMade → ExporterAct → Option ExporterMade
 after_act c x (pulled shard a) = if nat_lt (length x.batch) c.batch_size then Some (record x { batch = x.batch ++ a ∷ [] }) else None
 after_act c x handed_over = if is_empty x.batch || x.down then None else Some (record x { handed = x.handed ++ x.batch ∷ []; batch = [] })
 after_act c x failed = if x.down then None else Some (record x { down = true })
-after_act c x (spoiled reason) = if is_empty x.batch || not (may_spoil x.down reason) then None else Some (record x { counted = x.counted ++ counts reason x.batch; batch = [] })
+after_act c x (batch_dropped reason) = if is_empty x.batch || not (may_drop_batch x.down reason) then None else Some (record x { counted = x.counted ++ counts reason x.batch; batch = [] })
 
 -- after these acts
-abbrev pub after_acts : Config → Export → List Act → Option Export
+abbrev pub after_acts : CoreConfig → ExporterMade → List ExporterAct → Option ExporterMade
 after_acts c x [] = Some x
 after_acts c x (act ∷ rest) = option_and_then (λ next. after_acts c next rest) (after_act c x act)
 
@@ -125,7 +125,7 @@ AreNumbered lane received = (before later : List Arrival) (a : Arrival) → rece
 
 -- What the threads promise, where the exporter's acts made `end`. A shard's senders are the lanes by their numbers and
 -- then the ticker, whose number is how many lanes there are.
-pub record Meets (c : Config) (lanes shards : ℕ) (t : Threads) (end : Export) : Type 0 where
+pub record Meets (c : CoreConfig) (lanes shards : ℕ) (t : Threads) (end : ExporterMade) : Type 0 where
   -- each lane numbers what it receives by its connections
   pub numbered : (lane : ℕ) → lane < lanes → AreNumbered lane (t.received lane)
   -- a lane tries each span that it received for a shard once, in order

@@ -9,12 +9,12 @@ use Rattle.journal_theory.specs.Fate.{DroppedSpan, Effect, effect_of_taking}
 use Rattle.journal_theory.specs.Answered.{effect_answered, effect_answered_at}
 use Rattle.std.specs.Option.{option_and_then}
 use Rattle.journal_theory.specs.Marked.{marks_apply_to_ids}
-use Rattle.world_theory.specs.World.{Config, Shard, World, settings, ticker, has_due}
+use Rattle.world_theory.specs.World.{CoreConfig, CoreShard, World, settings, ticker, has_due}
 use Rattle.world_theory.specs.Step.{Step, take_on, take, tick, end, decide, ship, step, after_taking, after_decision, sender_is_done}
 use Rattle.span_world.specs.Answers.{next_of, may_take, entry_of_first, next_decision, is_span, queue_after, KeepsItem, KeepsEntry, StepsTo}
 use Rattle.span_world.specs.Core.{config_of, Core}
-use Rattle.span_world.specs.declared.step.Refusal.{Refusal}
-use Rattle.span_world.specs.declared.step.Refusal.TheVariants.{NotEnabled, NoMemory}
+use Rattle.span_world.specs.declared.step.StepRefusal.{StepRefusal}
+use Rattle.span_world.specs.declared.step.StepRefusal.TheVariants.{NotEnabled, NoMemory}
 
 past_end : {X : Type 0} (xs : List X) (i : ℕ) → length xs ≤ i → slice_get xs i ≡ None
 past_end [] i l = refl
@@ -32,7 +32,7 @@ if_map : {X Y : Type 0} (f : X → Y) (x : X) (b : Bool) → cond b (Some (f x))
 if_map f x true = refl
 if_map f x false = refl
 
-module _ (c : Config) (w : World) (shard : ℕ) (sh : Shard) (g : slice_get w.shards shard ≡ Some sh) where
+module _ (c : CoreConfig) (w : World) (shard : ℕ) (sh : CoreShard) (g : slice_get w.shards shard ≡ Some sh) where
   take_is : (refused lost : Bool) (q : List Arrival) → take_on c w shard refused lost sh q ≡ option_map (λ (e : Entry). after_taking c w shard sh e (drop 1 q)) (entry_of_first (settings c w) sh refused lost q)
   take_is refused lost [] = refl
   take_is refused lost (a ∷ rest) = if_map (λ (e : Entry). after_taking c w shard sh e rest) (record { item = Span a; refused = refused; lost = lost; answers = [] }) (not (has_due (settings c w) sh) && marks_apply_to_ids (settings c w) sh.journal refused lost a.rec.span.ids)
@@ -80,37 +80,37 @@ module _ (c : Config) (w : World) (shard : ℕ) (sh : Shard) (g : slice_get w.sh
     decides did e = decide_is ∙ ap (option_map (after_decision w shard sh answers)) e
 
 -- the first of the unshipped goes to the exporter
-pub ships : (c : Config) (w : World) (shard : ℕ) (sh : Shard) → slice_get w.shards shard ≡ Some sh → (a : Arrival) (new : Shard) → sh.unshipped ≡ a ∷ new.unshipped → new ≡ record sh { unshipped = new.unshipped }
+pub ships : (c : CoreConfig) (w : World) (shard : ℕ) (sh : CoreShard) → slice_get w.shards shard ≡ Some sh → (a : Arrival) (new : CoreShard) → sh.unshipped ≡ a ∷ new.unshipped → new ≡ record sh { unshipped = new.unshipped }
     → step c w (ship shard) ≡ Some (record w { shards = slice_set w.shards shard new; exported = w.exported ++ a ∷ [] })
-ships c w shard sh g a new e f = rw (g, e) (ap (λ (x : Shard). Some (record w { shards = slice_set w.shards shard x; exported = w.exported ++ a ∷ [] })) (sym f))
+ships c w shard sh g a new e f = rw (g, e) (ap (λ (x : CoreShard). Some (record w { shards = slice_set w.shards shard x; exported = w.exported ++ a ∷ [] })) (sym f))
 
 -- the world where this is in place of a shard, and this is counted
-pub kept_is : (c : Config) (w : World) (shard : ℕ) (sh : Shard) (e : Entry) (queue : List Arrival) (s : Settings) (new : Shard) (counted : List DroppedSpan) → s ≡ settings c w
+pub kept_is : (c : CoreConfig) (w : World) (shard : ℕ) (sh : CoreShard) (e : Entry) (queue : List Arrival) (s : Settings) (new : CoreShard) (counted : List DroppedSpan) → s ≡ settings c w
     → new ≡ record { queue = queue; journal = e ∷ sh.journal; dealt = 0; unshipped = sh.unshipped ++ (effect_of_taking s e sh.journal).released }
     → counted ≡ w.counted ++ (effect_of_taking s e sh.journal).counted
     → record w { shards = slice_set w.shards shard new; counted = counted } ≡ after_taking c w shard sh e queue
 kept_is c w shard sh e queue s new counted is f h = rw (f, h, is) refl
 
 -- the world where this is in place of a shard that decided by these answers, and this is counted
-pub decided_is : (w : World) (shard : ℕ) (sh : Shard) (answers : List Bool) (did : Effect) (new : Shard) (counted : List DroppedSpan)
+pub decided_is : (w : World) (shard : ℕ) (sh : CoreShard) (answers : List Bool) (did : Effect) (new : CoreShard) (counted : List DroppedSpan)
     → new ≡ record sh { journal = answered sh.journal answers; dealt = sh.dealt + 1; unshipped = sh.unshipped ++ did.released }
     → counted ≡ w.counted ++ did.counted
     → record w { shards = slice_set w.shards shard new; counted = counted } ≡ after_decision w shard sh answers did
 decided_is w shard sh answers did new counted f h = rw (f, h) refl
 
 -- a step that found no memory, where it is enabled and all is as before
-pub refused_step : (before after : Core) (s : Step) (r : Result (Unit {0}) Refusal) → IsErr r × IsErrAnd r (λ (e : Refusal). e ≡ NoMemory) → after ≡ before → is_some (next_of before s) ≡ true → StepsTo before s r after
+pub refused_step : (before after : Core) (s : Step) (r : Result (Unit {0}) StepRefusal) → IsErr r × IsErrAnd r (λ (e : StepRefusal). e ≡ NoMemory) → after ≡ before → is_some (next_of before s) ≡ true → StepsTo before s r after
 refused_step before after s (Ok u) h a e = absurd h.1
 refused_step before after s (Err NotEnabled) h a e = absurd (cc h.1)
 refused_step before after s (Err NoMemory) h a e = (a, e)
 
 -- an entry for which memory was refused, where all is as before
-pub refused_entry : (before after : Core) (shard : ℕ) (e : Entry) (r : Result (Unit {0}) Refusal) → IsErr r × IsErrAnd r (λ (e : Refusal). e ≡ NoMemory) → after ≡ before → KeepsEntry before shard e r after
+pub refused_entry : (before after : Core) (shard : ℕ) (e : Entry) (r : Result (Unit {0}) StepRefusal) → IsErr r × IsErrAnd r (λ (e : StepRefusal). e ≡ NoMemory) → after ≡ before → KeepsEntry before shard e r after
 refused_entry before after shard e (Ok u) h a = absurd h.1
 refused_entry before after shard e (Err r) h a = (a, h.1)
 
 -- the entry of the first queued span is one of a span
-first_is_span : (s : Settings) (sh : Shard) (refused lost : Bool) (q : List Arrival) (e : Entry) → entry_of_first s sh refused lost q ≡ Some e → is_span e.item ≡ true
+first_is_span : (s : Settings) (sh : CoreShard) (refused lost : Bool) (q : List Arrival) (e : Entry) → entry_of_first s sh refused lost q ≡ Some e → is_span e.item ≡ true
 first_is_span s sh refused lost [] e f = absurd (cc f)
 first_is_span s sh refused lost (a ∷ rest) e f = go (not (has_due s sh) && marks_apply_to_ids s sh.journal refused lost a.rec.span.ids) f
   where
@@ -121,24 +121,24 @@ first_is_span s sh refused lost (a ∷ rest) e f = go (not (has_due s sh) && mar
     go true f = let same : first ≡ e = cc f in ap (λ (z : Entry). is_span z.item) (sym same)
     go false f = absurd (cc f)
 
-module _ (before : Core) (shard : ℕ) (sh : Shard) (g : slice_get before.world.shards shard ≡ Some sh) where
+module _ (before : Core) (shard : ℕ) (sh : CoreShard) (g : slice_get before.world.shards shard ≡ Some sh) where
   -- an entry that the shard may take, and what the step says
   keeps : (s : Step) (e : Entry) → next_of before s ≡ Some (after_taking (config_of before.config) before.world shard sh e (queue_after e.item sh.queue))
-      → (r : Result (Unit {0}) Refusal) (after : Core) → KeepsEntry before shard e r after → StepsTo before s r after
+      → (r : Result (Unit {0}) StepRefusal) (after : Core) → KeepsEntry before shard e r after → StepsTo before s r after
   keeps s e f (Ok u) after h = (h.0, f ∙ ap (λ (z : World). Some z) (sym (h.1 sh g)))
   keeps s e f (Err NotEnabled) after h = absurd (cc h.1)
   keeps s e f (Err NoMemory) after h = (h.0, ap is_some f)
 
   pub take_steps : (refused lost : Bool) (e : Entry) → entry_of_first (settings (config_of before.config) before.world) sh refused lost sh.queue ≡ Some e
-      → (r : Result (Unit {0}) Refusal) (after : Core) → KeepsEntry before shard e r after → StepsTo before (take shard refused lost) r after
+      → (r : Result (Unit {0}) StepRefusal) (after : Core) → KeepsEntry before shard e r after → StepsTo before (take shard refused lost) r after
   take_steps refused lost e f = keeps (take shard refused lost) e
       (takes (config_of before.config) before.world shard sh g refused lost e f
       ∙ ap (λ (b : Bool). Some (after_taking (config_of before.config) before.world shard sh e (cond b (drop 1 sh.queue) sh.queue))) (sym (first_is_span (settings (config_of before.config) before.world) sh refused lost sh.queue e f)))
 
   pub tick_steps : (moment : ℕ) → may_take (settings (config_of before.config) before.world) sh (ticker before.world) ≡ true
-      → (r : Result (Unit {0}) Refusal) (after : Core) → KeepsItem before shard (Tick moment) r after → StepsTo before (tick shard moment) r after
+      → (r : Result (Unit {0}) StepRefusal) (after : Core) → KeepsItem before shard (Tick moment) r after → StepsTo before (tick shard moment) r after
   tick_steps moment e = keeps (tick shard moment) (record { item = Tick moment; refused = false; lost = false; answers = [] }) (ticks (config_of before.config) before.world shard sh g moment e)
 
   pub end_steps : (sender : ℕ) → may_take (settings (config_of before.config) before.world) sh sender ≡ true → sender_is_done before.world shard sh sender (slice_get before.world.lanes sender) ≡ true
-      → (r : Result (Unit {0}) Refusal) (after : Core) → KeepsItem before shard (End sender) r after → StepsTo before (end shard sender) r after
+      → (r : Result (Unit {0}) StepRefusal) (after : Core) → KeepsItem before shard (End sender) r after → StepsTo before (end shard sender) r after
   end_steps sender e f = keeps (end shard sender) (record { item = End sender; refused = false; lost = false; answers = [] }) (ends (config_of before.config) before.world shard sh g sender e f)

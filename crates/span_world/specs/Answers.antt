@@ -7,13 +7,13 @@ use Rattle.journal_theory.specs.Marked.{marks_apply_to_ids}
 use Rattle.otlp_types.specs.declared.arrival.Arrival.{Arrival}
 use Rattle.otlp_types.specs.declared.arrival.Item.{Item}
 use Rattle.otlp_types.specs.declared.arrival.Item.TheVariants.{Span, Tick as TickItem, End as EndItem}
-use Rattle.world_theory.specs.World.{Config, Lane, Shard, World, has_due, goes_to}
-use Rattle.world_theory.specs.Step.{Step, receive, route, refuse, take as take_step, tick, close, end, decide, ship, pull, hand, fail, spoil, step, run, after_taking}
+use Rattle.world_theory.specs.World.{CoreConfig, CoreLane, CoreShard, World, has_due, goes_to}
+use Rattle.world_theory.specs.Step.{Step, receive, route, refuse, take as take_step, tick, close, end, decide, ship, pull, hand, fail, drop_batch, step, run, after_taking}
 use Rattle.span_world.specs.Core.{config_of, Core}
 use Rattle.span_world.specs.declared.step.Step.{Step as Asked}
-use Rattle.span_world.specs.declared.step.Step.TheVariants.{Receive, Route, Refuse, Take, Tick, Close, End, Decide, Ship, Pull, Hand, Fail, Spoil}
-use Rattle.span_world.specs.declared.step.Refusal.{Refusal}
-use Rattle.span_world.specs.declared.step.Refusal.TheVariants.{NotEnabled, NoMemory}
+use Rattle.span_world.specs.declared.step.Step.TheVariants.{Receive, Route, Refuse, Take, Tick, Close, End, Decide, Ship, Pull, Hand, Fail, DropBatch}
+use Rattle.span_world.specs.declared.step.StepRefusal.{StepRefusal}
+use Rattle.span_world.specs.declared.step.StepRefusal.TheVariants.{NotEnabled, NoMemory}
 
 -- the step that the program's step stands for
 abbrev pub the_step : Asked → Step
@@ -29,41 +29,41 @@ the_step (Ship shard) = ship shard
 the_step Pull = pull
 the_step Hand = hand
 the_step Fail = fail
-the_step (Spoil reason) = spoil reason
+the_step (DropBatch reason) = drop_batch reason
 
 -- what a step gives in a world, by its configuration
 abbrev pub next_of : Core → Step → Option World
 next_of before s = step (config_of before.config) before.world s
 
 -- The step was made; or it isn't enabled, or it is and memory was refused, and nothing changed.
-abbrev pub StepsTo : Core → Step → Result (Unit {0}) Refusal → Core → Type 0
+abbrev pub StepsTo : Core → Step → Result (Unit {0}) StepRefusal → Core → Type 0
 StepsTo before s (Ok u) after = (after.config ≡ before.config) × (next_of before s ≡ Some after.world)
 StepsTo before s (Err NotEnabled) after = (after ≡ before) × (next_of before s ≡ None)
 StepsTo before s (Err NoMemory) after = (after ≡ before) × (is_some (next_of before s) ≡ true)
 
 -- these steps run from the new world
-abbrev pub Runs : Config → (lanes shards : ℕ) → List Step → Type 0
+abbrev pub Runs : CoreConfig → (lanes shards : ℕ) → List Step → Type 0
 Runs c lanes shards steps = is_some (run c lanes shards steps) ≡ true
 
 -- the steps before place `n` run, and the one at `n` isn't enabled then; or it runs too and memory was refused there,
 -- at 0 also to the new world
-abbrev pub StopsAt : Config → (lanes shards : ℕ) → List Step → ℕ → Refusal → Type 0
+abbrev pub StopsAt : CoreConfig → (lanes shards : ℕ) → List Step → ℕ → StepRefusal → Type 0
 StopsAt c lanes shards steps n NotEnabled = (n < length steps) × Runs c lanes shards (take n steps) × (run c lanes shards (take (n + 1) steps) ≡ None)
 StopsAt c lanes shards steps n NoMemory = (0 < n → (n < length steps) × Runs c lanes shards (take (n + 1) steps)) × Runs c lanes shards (take n steps)
 
 -- ---- what a shard may take
 
 -- nothing is due, and the sender's End was not taken
-abbrev pub may_take : Settings → Shard → (sender : ℕ) → Bool
+abbrev pub may_take : Settings → CoreShard → (sender : ℕ) → Bool
 may_take s sh sender = not (has_due s sh) && not (has_ended sh.journal sender)
 
 -- the entry of the first of these queued spans, where nothing is due and the marks can apply
-abbrev pub entry_of_first : Settings → Shard → (refused lost : Bool) → List Arrival → Option Entry
+abbrev pub entry_of_first : Settings → CoreShard → (refused lost : Bool) → List Arrival → Option Entry
 entry_of_first s sh refused lost [] = None
 entry_of_first s sh refused lost (a ∷ rest) = if not (has_due s sh) && marks_apply_to_ids s sh.journal refused lost a.rec.span.ids then Some (record { item = Span a; refused = refused; lost = lost; answers = [] }) else None
 
 -- what the shard's next decision does by these answers, where something is due and there is one answer for each asking
-abbrev pub next_decision : Settings → Shard → (answers : List Bool) → Option Effect
+abbrev pub next_decision : Settings → CoreShard → (answers : List Bool) → Option Effect
 next_decision s sh answers = effect_answered_at s sh.journal sh.dealt answers
 
 -- the item is a span
@@ -77,17 +77,17 @@ abbrev pub queue_after : Item → (queue : List Arrival) → List Arrival
 queue_after item queue = if is_span item then drop 1 queue else queue
 
 -- the entry goes to the shard's journal, and its span leaves the queue; or memory was refused, and nothing changed
-abbrev pub KeepsEntry : Core → (shard : ℕ) → Entry → Result (Unit {0}) Refusal → Core → Type 0
+abbrev pub KeepsEntry : Core → (shard : ℕ) → Entry → Result (Unit {0}) StepRefusal → Core → Type 0
 KeepsEntry before shard e (Ok u) after = (after.config ≡ before.config)
-    × ((sh : Shard) → slice_get before.world.shards shard ≡ Some sh → after.world ≡ after_taking (config_of before.config) before.world shard sh e (queue_after e.item sh.queue))
+    × ((sh : CoreShard) → slice_get before.world.shards shard ≡ Some sh → after.world ≡ after_taking (config_of before.config) before.world shard sh e (queue_after e.item sh.queue))
 KeepsEntry before shard e (Err r) after = (after ≡ before) × (r ≡ NoMemory)
 
 -- the item goes to the shard's journal, unmarked; or memory was refused, and nothing changed
-abbrev pub KeepsItem : Core → (shard : ℕ) → Item → Result (Unit {0}) Refusal → Core → Type 0
+abbrev pub KeepsItem : Core → (shard : ℕ) → Item → Result (Unit {0}) StepRefusal → Core → Type 0
 KeepsItem before shard item r after = KeepsEntry before shard (record { item = item; refused = false; lost = false; answers = [] }) r after
 
 -- ---- what is routed
 
 -- the place, among the lane's unrouted spans, of the first for the shard
 abbrev pub next_place : World → (lane shard : ℕ) → Option ℕ
-next_place w lane shard = option_and_then (λ (l : Lane). option_and_then (λ (sh : Shard). position (goes_to (length w.shards) shard) l.unrouted) (slice_get w.shards shard)) (slice_get w.lanes lane)
+next_place w lane shard = option_and_then (λ (l : CoreLane). option_and_then (λ (sh : CoreShard). position (goes_to (length w.shards) shard) l.unrouted) (slice_get w.shards shard)) (slice_get w.lanes lane)

@@ -1,11 +1,11 @@
 //! The steps of the exporter.
 ghost use Rattle.std.specs.Prelude.{◌≡◌, IfOk};
 ghost use Rattle.journal_theory.specs.Fate.{counts};
-ghost use Rattle.world_theory.specs.Step.{ship, pull, hand, fail, spoil};
+ghost use Rattle.world_theory.specs.Step.{ship, pull, hand, fail, drop_batch};
 ghost use Rattle.span_world.specs.Answers.{StepsTo};
 
 use crate::lane::dropped;
-use crate::step::Refusal;
+use crate::step::StepRefusal;
 use crate::world::World;
 use otlp_types::{Arrival, List};
 use shard_journal::DroppedSpan;
@@ -15,11 +15,11 @@ use std::mem;
 
 impl World {
     /// The shard's first unshipped span goes to the exporter.
-    pub(crate) fn ship(&mut self, shard: usize) -> Result<(), Refusal>
+    pub(crate) fn ship(&mut self, shard: usize) -> Result<(), StepRefusal>
         ensures { StepsTo self.old (ship shard) result self.new }
     {
         if shard >= self.shards.len() || !self.shards[shard].has_unshipped() {
-            return Err(Refusal::NotEnabled);
+            return Err(StepRefusal::NotEnabled);
         }
         self.exported.try_reserve(1)?;
         self.exported.push_back_reserved(self.shards[shard].ship());
@@ -27,11 +27,11 @@ impl World {
     }
 
     /// The exporter's first span goes to the open batch, which has room for it.
-    pub(crate) fn pull(&mut self) -> Result<(), Refusal>
+    pub(crate) fn pull(&mut self) -> Result<(), StepRefusal>
         ensures { StepsTo self.old pull result self.new }
     {
         if self.exported.is_empty() || self.batch.len() >= self.batch_size {
-            return Err(Refusal::NotEnabled);
+            return Err(StepRefusal::NotEnabled);
         }
         self.batch.try_reserve(1)?;
         if let Some(span) = self.exported.pop_front() {
@@ -41,11 +41,11 @@ impl World {
     }
 
     /// The open batch is handed over.
-    pub(crate) fn hand(&mut self) -> Result<(), Refusal>
+    pub(crate) fn hand(&mut self) -> Result<(), StepRefusal>
         ensures { StepsTo self.old hand result self.new }
     {
         if self.batch.is_empty() || self.down {
-            return Err(Refusal::NotEnabled);
+            return Err(StepRefusal::NotEnabled);
         }
         self.handed.try_reserve(1)?;
         let batch = mem::replace(&mut self.batch, Vec::new(self.alloc));
@@ -54,19 +54,19 @@ impl World {
     }
 
     /// The sink fails, and stays down.
-    pub(crate) fn fail(&mut self) -> Result<(), Refusal>
+    pub(crate) fn fail(&mut self) -> Result<(), StepRefusal>
         ensures { StepsTo self.old fail result self.new }
     {
         if self.down {
-            return Err(Refusal::NotEnabled);
+            return Err(StepRefusal::NotEnabled);
         }
         self.down = true;
         Ok(())
     }
 
     /// The open batch is given up, for want of memory or because the sink is down.
-    pub(crate) fn spoil(&mut self, reason: Reason) -> Result<(), Refusal>
-        ensures { StepsTo self.old (spoil reason) result self.new }
+    pub(crate) fn drop_batch(&mut self, reason: Reason) -> Result<(), StepRefusal>
+        ensures { StepsTo self.old (drop_batch reason) result self.new }
     {
         let applies = match reason {
             Reason::NoMemory => true,
@@ -74,7 +74,7 @@ impl World {
             _ => false,
         };
         if self.batch.is_empty() || !applies {
-            return Err(Refusal::NotEnabled);
+            return Err(StepRefusal::NotEnabled);
         }
         let mut keys = drops(self.alloc, reason, &self.batch)?;
         self.counted.append(&mut keys)?;

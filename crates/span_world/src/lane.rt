@@ -6,7 +6,7 @@ ghost use Rattle.otlp_types.specs.contracts.value.AnyValue as any_value;
 ghost use Rattle.journal_theory.specs.Fate.{counts};
 ghost use Rattle.span_ids.specs.declared.outcome.Reason.TheVariants.{InvalidId};
 ghost use Rattle.span_ids.specs.Route.{shard_of};
-ghost use Rattle.world_theory.specs.World.{Lane as LaneData, new_lane, goes_to};
+ghost use Rattle.world_theory.specs.World.{CoreLane as LaneData, new_lane, goes_to};
 ghost use Rattle.world_theory.specs.Step.{is_of_conn, arrivals, has_ids};
 
 use otlp_types::{Arrival, Record, TryClone};
@@ -17,13 +17,13 @@ use std::marker::Model;
 
 /// A lane: what it has received, what of that is still to be routed, and whether it receives no more.
 #[derive(Drop)]
-pub struct Lane {
+pub struct CoreLane {
     received: Vec<Arrival>,
     unrouted: Vec<Arrival>,
     ended: bool,
 }
 
-impl Model for Lane {
+impl Model for CoreLane {
     ghost Value = { LaneData };
 
     ghost coded = { Prim.hlevel (codes, any_value.the_row.coded) };
@@ -39,12 +39,12 @@ struct Received {
     dropped: Vec<DroppedSpan>,
 }
 
-impl Lane {
+impl CoreLane {
     /// A lane that has received nothing.
-    pub fn new(alloc: Global) -> Lane
+    pub fn new(alloc: Global) -> CoreLane
         ensures { result ≡ new_lane }
     {
-        Lane {
+        CoreLane {
             received: Vec::new(alloc),
             unrouted: Vec::new(alloc),
             ended: false,

@@ -1,9 +1,9 @@
 //! The core of the collector as a program: a world of lanes, shards and the exporter as plain lists, and its steps.
 //!
-//! What the core is, and what holds of every run of it, says `world_theory` (`World`, `Step`, `Places`, `Headline` of its
-//! `specs/`). Its module `laws` is shown here too: it has the headline, part by part, and each of its functions does
-//! nothing, and its contract is what holds of every run, for every configuration that keeps a trace, every number of
-//! lanes and shards and every list of steps.
+//! What the core is, and what holds of every run of it, says `world_theory` (`World`, `Step`, `Places`, `Headline` of
+//! its `specs/`). Its module `laws` is shown here too: it has the headline, part by part, and each of its functions
+//! does nothing, and its contract is what holds of every run, for every configuration that keeps a trace, every number
+//! of lanes and shards and every list of steps.
 //!
 //! [`World`] keeps the lists of the definition, makes a step exactly where it is enabled, and looks back over a shard's
 //! journal for what the shard does. `specs/Core` and `specs/Answers`, to be read in this order, say what it answers.
@@ -21,7 +21,7 @@ mod step;
 mod taking;
 mod world;
 
-pub use config::Config;
-pub use step::{Refusal, Step};
+pub use config::CoreConfig;
+pub use step::{Step, StepRefusal};
 pub use world::World;
 pub use world_theory::laws;

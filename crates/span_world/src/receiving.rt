@@ -4,40 +4,40 @@ ghost use Rattle.world_theory.specs.Step.{receive, route, refuse, close};
 ghost use Rattle.span_world.specs.Answers.{StepsTo, next_place};
 
 use crate::lane::dropped;
-use crate::step::Refusal;
+use crate::step::StepRefusal;
 use crate::world::World;
 use otlp_types::Record;
 use span_ids::{ConnKey, Moment, Reason};
 
 impl World {
     /// The lane receives no more.
-    pub(crate) fn close(&mut self, lane: usize) -> Result<(), Refusal>
+    pub(crate) fn close(&mut self, lane: usize) -> Result<(), StepRefusal>
         ensures { StepsTo self.old (close lane) result self.new }
     {
         if lane >= self.lanes.len() || self.lanes[lane].has_ended() {
-            return Err(Refusal::NotEnabled);
+            return Err(StepRefusal::NotEnabled);
         }
         self.lanes[lane].end();
         Ok(())
     }
 
     /// The lane's first unrouted span for the shard goes to the end of the shard's queue.
-    pub(crate) fn route(&mut self, lane: usize, shard: usize) -> Result<(), Refusal>
+    pub(crate) fn route(&mut self, lane: usize, shard: usize) -> Result<(), StepRefusal>
         ensures { StepsTo self.old (route lane shard) result self.new }
     {
         let Some(place) = self.next_for(lane, shard) else {
-            return Err(Refusal::NotEnabled);
+            return Err(StepRefusal::NotEnabled);
         };
         self.shards[shard].queue_from(&mut self.lanes[lane], place)?;
         Ok(())
     }
 
     /// The same span finds the shard's queue full, and is counted.
-    pub(crate) fn refuse(&mut self, lane: usize, shard: usize) -> Result<(), Refusal>
+    pub(crate) fn refuse(&mut self, lane: usize, shard: usize) -> Result<(), StepRefusal>
         ensures { StepsTo self.old (refuse lane shard) result self.new }
     {
         let Some(place) = self.next_for(lane, shard) else {
-            return Err(Refusal::NotEnabled);
+            return Err(StepRefusal::NotEnabled);
         };
         self.counted.try_reserve(1)?;
         let span = self.lanes[lane].take_out(place);
@@ -63,12 +63,12 @@ impl World {
         ordinal: u64,
         moment: Moment,
         records: Vec<Record>,
-    ) -> Result<(), Refusal>
+    ) -> Result<(), StepRefusal>
         ensures { StepsTo self.old (receive lane ordinal moment records.items) result self.new }
     {
         let place = lane as usize;
         if place >= self.lanes.len() || self.lanes[place].has_ended() {
-            return Err(Refusal::NotEnabled);
+            return Err(StepRefusal::NotEnabled);
         }
         let conn = ConnKey { lane, ordinal };
         self.lanes[place].receive(self.alloc, conn, moment, records, &mut self.counted)?;

@@ -3,18 +3,18 @@ ghost use Rattle.std.specs.Prelude.{◌≡◌, Some, map, IfOk, IfErr};
 ghost use Rattle.world_theory.specs.World.{KeepsATrace};
 ghost use Rattle.world_theory.specs.Step.{run};
 ghost use Rattle.world_theory.specs.Headline.{HoldsOf};
-ghost use Rattle.span_world.specs.Core.{config_of};
+ghost use Rattle.span_world.specs.Core.{config_of, with_senders};
 ghost use Rattle.span_world.specs.Answers.{the_step, StepsTo, StopsAt};
 
-use crate::config::Config;
-use crate::step::{Refusal, Step};
+use crate::config::CoreConfig;
+use crate::step::{Step, StepRefusal};
 use crate::world::World;
 use std::alloc::Global;
 
 impl World {
     /// Makes a step where it is enabled. `Err` where it isn't, or where memory was refused: the world is then as
     /// before.
-    pub fn step(&mut self, step: Step) -> Result<(), Refusal>
+    pub fn step(&mut self, step: Step) -> Result<(), StepRefusal>
         ensures { StepsTo self.old (the_step step) result self.new }
     {
         match step {
@@ -39,7 +39,7 @@ impl World {
             Step::Pull => self.pull(),
             Step::Hand => self.hand(),
             Step::Fail => self.fail(),
-            Step::Spoil { reason } => self.spoil(reason),
+            Step::DropBatch { reason } => self.drop_batch(reason),
         }
     }
 
@@ -50,17 +50,17 @@ impl World {
         alloc: Global,
         lanes: u16,
         shards: usize,
-        config: Config,
+        config: CoreConfig,
         steps: Vec<Step>,
-    ) -> Result<World, (usize, Refusal)>
+    ) -> Result<World, (usize, StepRefusal)>
         requires { KeepsATrace (config_of config) }
         ensures run { IfOk result (λ w. run (config_of config) lanes shards (map the_step steps.items) ≡ Some w.world) }
         ensures holds { IfOk result (λ w. HoldsOf (config_of config) w.world) }
-        ensures config { IfOk result (λ w. w.config ≡ config) }
+        ensures config { IfOk result (λ w. w.config ≡ with_senders lanes config) }
         ensures stops { IfErr result (λ e. StopsAt (config_of config) lanes shards (map the_step steps.items) e.0 e.1) }
     {
         let Ok(mut world) = World::new(alloc, lanes, shards, config) else {
-            return Err((0, Refusal::NoMemory));
+            return Err((0, StepRefusal::NoMemory));
         };
         let mut place = 0;
         for step in steps {

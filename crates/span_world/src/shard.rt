@@ -13,7 +13,7 @@ ghost use Rattle.world_theory.specs.World.{new_shard};
 ghost use Rattle.world_theory.specs.Step.{is_empty};
 ghost use Rattle.span_world.specs.Answers.{may_take, entry_of_first, next_decision, is_span, queue_after};
 
-use crate::lane::Lane;
+use crate::lane::CoreLane;
 use expression::Searches;
 use otlp_types::{Arrival, Item, List, TryClone};
 use shard_journal::{
@@ -26,16 +26,16 @@ use std::marker::Model;
 /// A shard: its queue, its journal with the oldest entry first, how many of the decisions at the journal's last item
 /// were dealt with, and what it released and has not shipped.
 #[derive(Drop)]
-pub struct Shard {
+pub struct CoreShard {
     queue: VecDeque<Arrival>,
     journal: Vec<Entry>,
     dealt: usize,
     unshipped: Vec<Arrival>,
 }
 
-impl Model for Shard {
+impl Model for CoreShard {
     ghost use Rattle.std.specs.Prelude.{reverse};
-    ghost use Rattle.world_theory.specs.World.{Shard as ShardData};
+    ghost use Rattle.world_theory.specs.World.{CoreShard as ShardData};
     ghost use Rattle.std.specs.Coded.{codes};
     ghost use Rattle.otlp_types.specs.contracts.value.AnyValue as any_value;
 
@@ -46,12 +46,12 @@ impl Model for Shard {
     ghost view = { λ s. record { queue = s.queue.items; journal = reverse s.journal.items; dealt = s.dealt; unshipped = s.unshipped.items } };
 }
 
-impl Shard {
+impl CoreShard {
     /// A shard that has taken nothing.
-    pub fn new(alloc: Global) -> Shard
+    pub fn new(alloc: Global) -> CoreShard
         ensures { result ≡ new_shard }
     {
-        Shard {
+        CoreShard {
             queue: VecDeque::new(alloc),
             journal: Vec::new(alloc),
             dealt: 0,
@@ -61,7 +61,7 @@ impl Shard {
 
     /// The span at this place of the lane's unrouted ones goes to the end of the queue. Where memory is refused nothing
     /// changes.
-    pub fn queue_from(&mut self, lane: &mut Lane, place: usize) -> Result<(), AllocError>
+    pub fn queue_from(&mut self, lane: &mut CoreLane, place: usize) -> Result<(), AllocError>
         requires { place < length lane.old.unrouted }
         ensures lane { OnOk result (lane.new ≡ record lane.old { unrouted = remove lane.old.unrouted place }) }
         ensures queue { OnOk result ((a : Arrival) → self.new ≡ record self.old { queue = self.old.queue ++ slice_index_or lane.old.unrouted place a ∷ [] }) }

@@ -61,27 +61,27 @@ pub enum Step {
     /// The sink fails, and stays down.
     Fail,
     /// The open batch is given up.
-    Spoil {
+    DropBatch {
         reason: Reason,
     },
 }
 
 /// Why a step was not made. The world is as before.
 #[derive(Clone, Copy, Debug, PartialEq, Eq)]
-pub enum Refusal {
+pub enum StepRefusal {
     /// The step isn't enabled.
     NotEnabled,
     /// Memory was refused.
     NoMemory,
 }
 
-impl From<AllocError> for Refusal {
+impl From<AllocError> for StepRefusal {
     ghost use Rattle.std.specs.Prelude.{◌≡◌};
-    ghost use Rattle.span_world.specs.declared.step.Refusal.TheVariants.{NoMemory};
+    ghost use Rattle.span_world.specs.declared.step.StepRefusal.TheVariants.{NoMemory};
 
     ghost from_gives = { λ _ e. e ≡ NoMemory };
 
-    fn from(_error: AllocError) -> Refusal {
-        Refusal::NoMemory
+    fn from(_error: AllocError) -> StepRefusal {
+        StepRefusal::NoMemory
     }
 }

@@ -3,11 +3,11 @@ ghost use Rattle.std.specs.Prelude.{◌≡◌, ◌≢◌, ◌∷◌, [], replica
 ghost use Rattle.world_theory.specs.World.{new_world, new_lane, new_shard, KeepsATrace};
 ghost use Rattle.shard_journal.specs.Settings.{settings_of};
 ghost use Rattle.shard_journal.specs.Look.{look_of};
-ghost use Rattle.span_world.specs.Core.{config_of};
+ghost use Rattle.span_world.specs.Core.{config_of, with_senders};
 
-use crate::config::Config;
-use crate::lane::Lane;
-use crate::shard::Shard;
+use crate::config::CoreConfig;
+use crate::lane::CoreLane;
+use crate::shard::CoreShard;
 use expression::Searches;
 use otlp_types::{Arrival, List};
 use policy_eval::searches_for;
@@ -25,8 +25,8 @@ pub struct World {
     /// For the expressions of the policies, so that whether a decision is enabled takes no memory that can be refused.
     pub(crate) searches: Searches,
     pub(crate) batch_size: usize,
-    pub(crate) lanes: Vec<Lane>,
-    pub(crate) shards: Vec<Shard>,
+    pub(crate) lanes: Vec<CoreLane>,
+    pub(crate) shards: Vec<CoreShard>,
     /// What looking back over each shard's journal found, so that whether a step is enabled takes no memory that can be
     /// refused.
     pub(crate) looks: Vec<LookBack>,
@@ -53,7 +53,7 @@ impl Model for World {
     ghost coded = { Prim.hlevel (codes, any_value.the_row.coded, kind.the_row.coded) };
 
     ghost view = { λ w. record {
-      config = record { policies = w.settings.policies; wait = w.settings.wait; root_wait = w.settings.root_wait; maximum_size = w.settings.maximum_size; limit = w.settings.limit; sampled_size = w.settings.sampled_size; non_sampled_size = w.settings.non_sampled_size; batch_size = w.batch_size };
+      config = record { shard = w.settings; batch_size = w.batch_size };
       world = record { lanes = w.lanes.items; shards = w.shards.items; exported = w.exported.items; batch = w.batch.items; handed = w.handed.items; counted = w.counted.items; down = w.down };
     } };
 
@@ -67,29 +67,22 @@ impl World {
         alloc: Global,
         lanes: u16,
         shards: usize,
-        config: Config,
+        config: CoreConfig,
     ) -> Result<World, AllocError>
         requires { KeepsATrace (config_of config) }
-        ensures config { IfOk result (λ w. w.config ≡ config) }
+        ensures config { IfOk result (λ w. w.config ≡ with_senders lanes config) }
         ensures world { IfOk result (λ w. w.world ≡ new_world lanes shards) }
     {
-        let settings = Settings {
-            policies: config.policies,
-            wait: config.wait,
-            root_wait: config.root_wait,
-            maximum_size: config.maximum_size,
-            limit: config.limit,
-            sampled_size: config.sampled_size,
-            non_sampled_size: config.non_sampled_size,
-            senders: lanes as usize + 1,
-        };
+        let CoreConfig { shard, batch_size } = config;
+        let mut settings = shard;
+        settings.senders = lanes as usize + 1;
         let searches = searches_for(alloc, &settings.policies)?;
         let (shards, looks) = new_shards(alloc, &settings, shards)?;
         Ok(World {
             alloc,
             settings,
             searches,
-            batch_size: config.batch_size,
+            batch_size,
             lanes: new_lanes(alloc, lanes as usize)?,
             shards,
             looks,
@@ -138,12 +131,12 @@ impl World {
 }
 
 /// So many lanes that have received nothing.
-fn new_lanes(alloc: Global, number: usize) -> Result<Vec<Lane>, AllocError>
+fn new_lanes(alloc: Global, number: usize) -> Result<Vec<CoreLane>, AllocError>
     ensures { IfOk result (λ lanes. lanes.items ≡ replicate number new_lane) }
 {
     let mut lanes = Vec::with_capacity(alloc, number)?;
     for _i in 0..number {
-        lanes.push(Lane::new(alloc))?;
+        lanes.push(CoreLane::new(alloc))?;
     }
     Ok(lanes)
 }
@@ -153,7 +146,7 @@ fn new_shards(
     alloc: Global,
     settings: &Settings,
     number: usize,
-) -> Result<(Vec<Shard>, Vec<LookBack>), AllocError>
+) -> Result<(Vec<CoreShard>, Vec<LookBack>), AllocError>
     ensures shards { IfOk result (λ made. made.0.items ≡ replicate number new_shard) }
     ensures looks { IfOk result (λ made. made.1.items ≡ replicate number (look_of (settings_of settings.now) [])) }
 {
@@ -161,7 +154,7 @@ fn new_shards(
     let mut looks = Vec::with_capacity(alloc, number)?;
     for _i in 0..number {
         looks.push(LookBack::new(alloc, settings, &[])?)?;
-        shards.push(Shard::new(alloc))?;
+        shards.push(CoreShard::new(alloc))?;
     }
     Ok((shards, looks))
 }

@@ -12,7 +12,7 @@ use Rattle.otlp_types.specs.declared.arrival.Arrival.{Arrival}
 use Rattle.span_ids.specs.declared.outcome.Verdict.{Verdict}
 use Rattle.trace_buffer.specs.Buffer.{Episode, settled, with_span_if, is_due_at, is_root_due, is_too_big, root_before, are_of_root}
 use Rattle.trace_buffer.specs.Ring.{IsSearched, kept_at}
-use Rattle.trace_buffer.specs.declared.search.Search.{Search}
+use Rattle.trace_buffer.specs.declared.search.DueSearch.{DueSearch}
 
 -- before the first that passes none does
 pub none-before-place : {X : Type 0} (p : X → Bool) (xs : List X) (i : ℕ) → position p xs ≡ Some i → AllWithin (λ x. p x ≡ false) xs 0 i
@@ -26,21 +26,21 @@ none-at-all p xs h k d low l = (elim (nat_lt (position_or_len p xs) (length xs))
 ]) refl h
 
 -- one goes in last
-pub searched-push : (s : Search) (es : List Episode) (e : Episode) → IsSearched s es → IsSearched s (es ++ e ∷ [])
+pub searched-push : (s : DueSearch) (es : List Episode) (e : Episode) → IsSearched s es → IsSearched s (es ++ e ∷ [])
 searched-push s es e h = (
   (let l = h.0 in omega (arith, l, length_push es e)),
   λ k d low l. subst (λ (x : Episode). is_due_at s.mark s.wait s.root_wait x ≡ false) (sym (get_or_append_left es (e ∷ []) d k (let m = h.0 in omega (arith, l, m)))) (h.1 k d low l),
 )
 
 -- the first leaves
-pub searched-drop : (s : Search) (e : Episode) (es : List Episode) → IsSearched s (e ∷ es) → IsSearched (record s { end = s.end - 1 }) es
+pub searched-drop : (s : DueSearch) (e : Episode) (es : List Episode) → IsSearched s (e ∷ es) → IsSearched (record s { end = s.end - 1 }) es
 searched-drop s e es h = (
   (let l = h.0 in omega (arith, l)),
   λ k d low l. h.1 (suc k) d (omega arith) (omega (arith, l)),
 )
 
 -- one is decided
-pub searched-settled : (s : Search) (es : List Episode) (i : ℕ) (x : Episode) (v : Verdict) → IsSearched s es → slice_get es i ≡ Some x → IsSearched s (slice_set es i (settled v x))
+pub searched-settled : (s : DueSearch) (es : List Episode) (i : ℕ) (x : Episode) (v : Verdict) → IsSearched s es → slice_get es i ≡ Some x → IsSearched s (slice_set es i (settled v x))
 searched-settled s es i x v h g = (
   (let l = h.0 in let long = length-set es i (settled v x) in omega (arith, l, long)),
   AllWithin-set (λ e. is_due_at s.mark s.wait s.root_wait e ≡ false) es 0 s.end i (settled v x) (slice_get_within es i x g) refl h.1,
@@ -76,7 +76,7 @@ not-due-appended mark wait root_wait clock true a e l small h =
     (sym (root-as-before mark wait root_wait clock e.first_root a l)) small h
 
 -- one changes, and isn't due where it wasn't
-searched-changed : (s : Search) (es : List Episode) (i : ℕ) (x y : Episode) → IsSearched s es → slice_get es i ≡ Some x → (is_due_at s.mark s.wait s.root_wait x ≡ false → is_due_at s.mark s.wait s.root_wait y ≡ false) → IsSearched s (slice_set es i y)
+searched-changed : (s : DueSearch) (es : List Episode) (i : ℕ) (x y : Episode) → IsSearched s es → slice_get es i ≡ Some x → (is_due_at s.mark s.wait s.root_wait x ≡ false → is_due_at s.mark s.wait s.root_wait y ≡ false) → IsSearched s (slice_set es i y)
 searched-changed s es i x y h g same = (
   (let l = h.0 in let long = length-set es i y in omega (arith, l, long)),
   (elim (nat_lt i s.end) as (λ b. nat_lt i s.end ≡ b → AllWithin (λ e. is_due_at s.mark s.wait s.root_wait e ≡ false) (slice_set es i y) 0 s.end) [
@@ -93,7 +93,7 @@ searched-changed s es i x y h g same = (
     get-set-before (e ∷ es) (suc i) y (suc k) d l = get-set-before es i y k d (omega (arith, l))
 
 -- a span goes to an episode, or none does
-pub searched-appended : (s : Search) (b big : Bool) (clock : ℕ) (a : Arrival) (es : List Episode) (i : ℕ) (x : Episode) → IsSearched s es → slice_get es i ≡ Some x → big ≡ is_too_big (with_span_if b clock a x).maximum (with_span_if b clock a x).spans → IsSearched (kept_at clock big s) (slice_set es i (with_span_if b clock a x))
+pub searched-appended : (s : DueSearch) (b big : Bool) (clock : ℕ) (a : Arrival) (es : List Episode) (i : ℕ) (x : Episode) → IsSearched s es → slice_get es i ≡ Some x → big ≡ is_too_big (with_span_if b clock a x).maximum (with_span_if b clock a x).spans → IsSearched (kept_at clock big s) (slice_set es i (with_span_if b clock a x))
 searched-appended s b true clock a es i x h g e = (omega arith, λ k d low l. absurd (omega (arith, l)))
 searched-appended s b false clock a es i x h g e = (elim (nat_lt clock s.mark) as (λ t. nat_lt clock s.mark ≡ t → IsSearched (cond t (record s { end = 0 }) s) (slice_set es i (with_span_if b clock a x))) [
   | true ↦ λ t. (omega arith, λ k d low l. absurd (omega (arith, l)))

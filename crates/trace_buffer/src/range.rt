@@ -2,8 +2,8 @@
 ghost use Rattle.std.specs.Prelude.{◌≡◌};
 ghost use Rattle.trace_buffer.specs.Range.{with_place, with_if, without_first, without_place};
 
-/// The episodes that wait and are too big lie at these places: from `start` on, and before `end`. Where `start` isn't before
-/// `end` there is none.
+/// The episodes that wait and are too big lie at these places: from `start` on, and before `end`. Where `start` isn't
+/// before `end` there is none.
 #[derive(Clone, Copy)]
 pub(crate) struct Range {
     pub(crate) start: usize,

@@ -4,10 +4,10 @@ use Rattle.std.proofs.Common.{◌≡◌, ℕ, ◌⊎◌, inl, inr, Some, Result,
 use Rattle.toml.specs.Data.{Members, no_members}
 use Rattle.toml.specs.Errors.{IsBlank}
 use Rattle.toml.specs.Parse.{parse_document, lines}
-use Rattle.tsc_config.specs.Faults.{table_fault, keys_fault, twice_fault}
+use Rattle.config_faults.specs.Faults.{table_fault, keys_fault, twice_fault}
 use Rattle.tsc_config.specs.declared.config.Config.{Config}
-use Rattle.tsc_config.specs.declared.fault.ConfigFault.{ConfigFault}
-use Rattle.tsc_config.specs.declared.fault.ConfigFault.TheVariants.{MissingKey, NoMemory, ExpressionTooBig}
+use Rattle.config_faults.specs.declared.fault.ConfigFault.{ConfigFault}
+use Rattle.config_faults.specs.declared.fault.ConfigFault.TheVariants.{MissingKey, NoMemory, ExpressionTooBig}
 
 -- its table is empty
 blank_document : (text : List ℕ) → IsBlank text → parse_document text ≡ Some no_members

@@ -6,26 +6,27 @@ use Rattle.toml.specs.Data.{Data, string, integer, float, boolean, array, table,
 use Rattle.tsc_config.proofs.FaultSets.{least_is_one}
 use Rattle.policy_tree.specs.declared.policy.Join.{Join}
 use Rattle.policy_tree.specs.declared.policy.Join.TheVariants as join_is
-use Rattle.tsc_config.specs.Composites.{is_ordered}
-use Rattle.tsc_config.specs.Percentages.{percentage_of}
-use Rattle.tsc_config.specs.Exports.{export_settings, is_endpoint}
-use Rattle.tsc_config.specs.Headers.{may_be_sent}
-use Rattle.tsc_config.specs.Keys.{ChoiceRow, choice_row, has_unknown_key, type_name, type_at, type_of, code_of, join_type, join_name, sub_key, join_at}
-use Rattle.tsc_config.specs.Faults.{config_fault_number, least, optional, required, unknown_fault, integer_fault, whole_fault, truth_fault, text_fault, choice_fault, type_fault, code_fault, percentage_fault, named_fault, items_fault, array_fault, item_fault, wanted_fault, each_setting_fault}
-use Rattle.tsc_config.specs.Faults as spec
+use Rattle.config_faults.specs.Composites.{is_ordered}
+use Rattle.config_faults.specs.Percentages.{percentage_of}
+use Rattle.config_faults.specs.Tables.{ChoiceRow, choice_row, top_settings, cache_settings, export_settings}
+use Rattle.config_faults.specs.Exports.{is_endpoint}
+use Rattle.config_faults.specs.Headers.{may_be_sent}
+use Rattle.config_faults.specs.PolicyTypes.{type_name, settings as spec_settings}
+use Rattle.config_faults.specs.Keys.{has_unknown_key, type_at, type_of, code_of, join_type, join_name, sub_key, join_at}
+use Rattle.config_faults.specs.Faults.{config_fault_number, least, optional, required, unknown_fault, integer_fault, whole_fault, truth_fault, text_fault, choice_fault, type_fault, code_fault, percentage_fault, named_fault, items_fault, array_fault, item_fault, wanted_fault, each_setting_fault}
+use Rattle.config_faults.specs.Faults as spec
 use Rattle.std.specs.Option.{is_some}
-use Rattle.tsc_config.specs.PolicySettings.{Setting, settings as spec_settings}
-use Rattle.tsc_config.specs.declared.policy_settings.ItemKind.{ItemKind}
-use Rattle.tsc_config.specs.declared.policy_settings.ItemKind.TheVariants as item_is
-use Rattle.tsc_config.specs.declared.policy_settings.ValueKind.{ValueKind}
-use Rattle.tsc_config.specs.declared.policy_settings.ValueKind.TheVariants as value_is
-use Rattle.tsc_config.specs.declared.fault.ConfigFault.{ConfigFault}
-use Rattle.tsc_config.specs.declared.fault.ConfigFault.TheVariants.{UnknownKey, MissingKey, WrongType, OutOfRange, ExpressionTooBig}
-use Rattle.tsc_config.specs.declared.kinds.ChoiceKey.TheVariants as choice_is
-use Rattle.tsc_config.specs.declared.kinds.PolicyType.{PolicyType}
-use Rattle.tsc_config.specs.declared.kinds.PolicyType.TheVariants as type_is
-use Rattle.tsc_config.specs.declared.kinds.TableKind.{TableKind}
-use Rattle.tsc_config.specs.declared.kinds.TableKind.TheVariants as table_is
+use Rattle.config_faults.specs.Setting.{Setting}
+use Rattle.config_faults.specs.declared.settings.ItemKind.{ItemKind}
+use Rattle.config_faults.specs.declared.settings.ItemKind.TheVariants as item_is
+use Rattle.config_faults.specs.declared.settings.ValueKind.{ValueKind}
+use Rattle.config_faults.specs.declared.settings.ValueKind.TheVariants as value_is
+use Rattle.config_faults.specs.declared.fault.ConfigFault.{ConfigFault}
+use Rattle.config_faults.specs.declared.fault.ConfigFault.TheVariants.{UnknownKey, MissingKey, WrongType, OutOfRange, ExpressionTooBig}
+use Rattle.config_faults.specs.declared.policy_types.PolicyType.{PolicyType}
+use Rattle.config_faults.specs.declared.policy_types.PolicyType.TheVariants as type_is
+use Rattle.config_faults.specs.declared.keys.TableKind.{TableKind}
+use Rattle.config_faults.specs.declared.keys.TableKind.TheVariants as table_is
 
 abbrev pub IsSmall : Option ConfigFault → Type 0
 IsSmall found = (fault : ConfigFault) → found ≡ Some fault → config_fault_number fault < 6
@@ -164,9 +165,9 @@ each : (rows : List Setting) (members : Members) → IsSmall (each_setting_fault
 each [] members = none
 each (s ∷ rest) members = both _ _ (key s.is_required s.value (get_member s.name members)) (each rest members)
 
-settings : (kind : PolicyType) (value : Data) → IsSmall (spec.settings_fault kind value)
-settings kind (table members) = both _ _ (unknown (table_is.Settings kind) members) (each (spec_settings kind) members)
-settings kind _ = wrong
+tables : (kind : TableKind) (rows : List Setting) (value : Data) → IsSmall (spec.table_of_fault kind rows value)
+tables kind rows (table members) = both _ _ (unknown kind members) (each rows members)
+tables kind rows _ = wrong
 
 settings_at : (kind : PolicyType) (members : Members) (nested : Option ConfigFault) → IsSmall nested → IsSmall (spec.settings_at_fault kind members nested)
 settings_at type_is.AlwaysSample _ nested n = none
@@ -175,7 +176,7 @@ settings_at type_is.And _ nested n = n
 settings_at type_is.Not _ nested n = n
 settings_at type_is.Drop _ nested n = n
 settings_at type_is.Composite _ nested n = n
-settings_at kind members nested n = requiredly (spec.settings_fault kind) (settings kind) (get_member (type_name kind) members)
+settings_at kind members nested n = requiredly (spec.settings_fault kind) (tables (table_is.Settings kind) (spec_settings kind)) (get_member (type_name kind) members)
 
 typed : (found : Option PolicyType) (members : Members) (nested : Option ConfigFault) → IsSmall nested → IsSmall (spec.typed_fault_where found members nested)
 typed None _ nested n = none
@@ -220,47 +221,14 @@ mutual
   sub_value join_is.FirstMatch (array items) = policy_items items
   sub_value _ _ = wrong
 
-sizes : (greatest : ℤ) (at : Option Data) (least_number : ℤ) → IsSmall (optional (integer_fault least_number greatest) at)
-sizes greatest at least_number = optionally (integer_fault least_number greatest) (integers least_number greatest) at
-
-caches : (value : Data) → IsSmall (spec.cache_fault value)
-caches (table members) =
-    both _ _ (unknown table_is.DecisionCache members)
-    (both _ _ (sizes (pos 1000000) (get_member (codes "sampled_cache_size") members) (pos 0)) (sizes (pos 1000000) (get_member (codes "non_sampled_cache_size") members) (pos 0)))
-caches _ = wrong
-
-exports : (value : Data) → IsSmall (spec.export_fault value)
-exports (table members) = both _ _ (unknown table_is.Export members) (each export_settings members)
-exports _ = wrong
-
 pub table_small : (members : Members) → IsSmall (spec.table_fault members)
 unfolding spec.table_fault spec.keys_fault
 table_small members =
     both _ _ (both _ _ (unknown table_is.Config members) (twice members))
-    (both _ _ (both _ _ (sizes (pos 3600000) (get_member (codes "decision_wait_ms") members) (pos 1))
-    (both _ _ (sizes (pos 3600000) (get_member (codes "root_wait_ms") members) (pos 0))
-    (both _ _ (sizes (pos 3600000) (get_member (codes "decision_wait_after_root_received_ms") members) (pos 0))
-    (both _ _ (sizes (pos 1000000) (get_member (codes "num_traces") members) (pos 1))
-    (both _ _ (sizes (pos 64) (get_member (codes "lanes") members) (pos 1))
-    (both _ _ (sizes (pos 64) (get_member (codes "shards") members) (pos 1))
-    (sizes (pos 60000) (get_member (codes "tick_ms") members) (pos 1))))))))
-    (both _ _ (both _ _ (sizes (pos 65536) (get_member (codes "queue_capacity") members) (pos 1))
-    (both _ _ (sizes (pos 65536) (get_member (codes "export_capacity") members) (pos 1))
-    (both _ _ (sizes (pos 8192) (get_member (codes "send_batch_size") members) (pos 1))
-    (both _ _ (sizes (pos 65536) (get_member (codes "max_connections") members) (pos 1))
-    (both _ _ (sizes (pos 1048576) (get_member (codes "memory_limit_mib") members) (pos 0))
-    (sizes (pos 1073741824) (get_member (codes "maximum_trace_size_bytes") members) (pos 0)))))))
-    (both _ _ (optionally text_fault texts (get_member (codes "listen") members))
-    (both _ _ (optionally truth_fault truths (get_member (codes "accept_gzip") members))
-    (both _ _ (optionally truth_fault truths (get_member (codes "sample_on_first_match") members))
-    (both _ _ (both _ _ (optionally (choice_fault (choice_row choice_is.QueueFull)) (choices (choice_row choice_is.QueueFull)) (get_member (codes "queue_full") members))
-    (both _ _ (optionally (choice_fault (choice_row choice_is.OutputFault)) (choices (choice_row choice_is.OutputFault)) (get_member (codes "output_fault") members))
-    (both _ _ (optionally (choice_fault (choice_row choice_is.DoubleValues)) (choices (choice_row choice_is.DoubleValues)) (get_member (codes "double_values") members))
-    (both _ _ (optionally truth_fault truths (get_member (codes "close_at_end_of_input") members))
-    (optionally text_fault texts (get_member (codes "admin") members))))))
-    (both _ _ (optionally spec.cache_fault caches (get_member (codes "decision_cache") members))
-    (both _ _ (optionally spec.export_fault exports (get_member (codes "export") members))
-    (requiredly spec.policies_fault policies (get_member (codes "policies") members))))))))))
+    (both _ _ (each top_settings members)
+    (both _ _ (optionally spec.cache_fault (tables table_is.DecisionCache cache_settings) (get_member (codes "decision_cache") members))
+    (both _ _ (optionally spec.export_fault (tables table_is.Export export_settings) (get_member (codes "export") members))
+    (requiredly spec.policies_fault policies (get_member (codes "policies") members)))))
 
 -- so it isn't that an expression is too big
 pub table_not_big : (members : Members) (fault : ConfigFault) → spec.table_fault members ≡ Some fault → fault ≡ ExpressionTooBig → ⊥

@@ -6,19 +6,21 @@ use Rattle.std.specs.Str.{bytes_eq}
 use Rattle.toml.specs.Data.{Data, array, table, Items, no_items, item, Members, no_members, member, get_member}
 use Rattle.policy_tree.specs.declared.policy.Join.{Join}
 use Rattle.policy_tree.specs.declared.policy.Join.TheVariants as join_is
-use Rattle.tsc_config.specs.Exports.{export_settings}
-use Rattle.tsc_config.specs.Keys.{type_name, type_at, join_type, join_name, sub_key, join_at}
-use Rattle.tsc_config.specs.Faults.{config_fault_number, least, optional, required, unknown_fault, integer_fault, text_fault, truth_fault, type_fault, items_fault, array_fault, item_fault, wanted_fault, each_setting_fault, order_fault, twice_fault}
-use Rattle.tsc_config.specs.Faults as spec
-use Rattle.tsc_config.specs.FaultSets.{IsLeastOf, OptionalHas, RequiredHas, SomeItemHas, ArrayHas, ValueHas, KeyHas, SomeSettingHas, RowsHave, SettingsHave, SettingsAtHave, TypedHas, PolicyTableHas, PoliciesHave, SomePolicyHas, PolicyHas, PartsHave, PartsSettingsHave, SubPoliciesHave, SubValueHas, CacheHas, ExportHas, NumbersHave, SizesHave, ChoicesHave, HasFault}
-use Rattle.tsc_config.specs.PolicySettings.{Setting, settings}
-use Rattle.tsc_config.specs.declared.policy_settings.ValueKind.{ValueKind}
-use Rattle.tsc_config.specs.declared.policy_settings.ValueKind.TheVariants as value_is
-use Rattle.tsc_config.specs.declared.fault.ConfigFault.{ConfigFault}
-use Rattle.tsc_config.specs.declared.kinds.PolicyType.{PolicyType}
-use Rattle.tsc_config.specs.declared.kinds.PolicyType.TheVariants as type_is
-use Rattle.tsc_config.specs.declared.kinds.TableKind.TheVariants as table_is
-use Rattle.tsc_config.specs.declared.fault.ConfigFault.TheVariants.{MissingKey, WrongType}
+use Rattle.config_faults.specs.Tables.{top_settings, cache_settings, export_settings}
+use Rattle.config_faults.specs.PolicyTypes.{type_name, settings}
+use Rattle.config_faults.specs.Keys.{type_at, join_type, join_name, sub_key, join_at}
+use Rattle.config_faults.specs.Faults.{config_fault_number, least, optional, required, unknown_fault, text_fault, type_fault, items_fault, array_fault, item_fault, wanted_fault, each_setting_fault, order_fault, twice_fault}
+use Rattle.config_faults.specs.Faults as spec
+use Rattle.tsc_config.specs.FaultSets.{IsLeastOf, OptionalHas, RequiredHas, SomeItemHas, ArrayHas, ValueHas, KeyHas, SomeSettingHas, TableHas, RowsHave, SettingsHave, SettingsAtHave, TypedHas, PolicyTableHas, PoliciesHave, SomePolicyHas, PolicyHas, PartsHave, PartsSettingsHave, SubPoliciesHave, SubValueHas, CacheHas, ExportHas, HasFault}
+use Rattle.config_faults.specs.Setting.{Setting}
+use Rattle.config_faults.specs.declared.settings.ValueKind.{ValueKind}
+use Rattle.config_faults.specs.declared.settings.ValueKind.TheVariants as value_is
+use Rattle.config_faults.specs.declared.fault.ConfigFault.{ConfigFault}
+use Rattle.config_faults.specs.declared.policy_types.PolicyType.{PolicyType}
+use Rattle.config_faults.specs.declared.policy_types.PolicyType.TheVariants as type_is
+use Rattle.config_faults.specs.declared.keys.TableKind.{TableKind}
+use Rattle.config_faults.specs.declared.keys.TableKind.TheVariants as table_is
+use Rattle.config_faults.specs.declared.fault.ConfigFault.TheVariants.{MissingKey, WrongType}
 
 -- one of the two
 pub least_is_one : (a b : Option ConfigFault) (fault : ConfigFault) → least a b ≡ Some fault → (a ≡ Some fault) ⊎ (b ≡ Some fault)
@@ -129,9 +131,9 @@ each_least [] members = none
 each_least (s ∷ rest) members =
     both (KeyHas s.is_required s.value (get_member s.name members)) (SomeSettingHas rest members) _ _ (key_least s.is_required s.value (get_member s.name members)) (each_least rest members)
 
-settings_least : (kind : PolicyType) (value : Data) → IsLeastOf (SettingsHave kind value) (spec.settings_fault kind value)
-settings_least kind (table members) = both (λ fault. unknown_fault (table_is.Settings kind) members ≡ Some fault) (RowsHave kind members) _ _ (row _) (each_least (settings kind) members)
-settings_least kind _ = alone WrongType
+table_of_least : (kind : TableKind) (rows : List Setting) (value : Data) → IsLeastOf (TableHas kind rows value) (spec.table_of_fault kind rows value)
+table_of_least kind rows (table members) = both (λ fault. unknown_fault kind members ≡ Some fault) (SomeSettingHas rows members) _ _ (row _) (each_least rows members)
+table_of_least kind rows _ = alone WrongType
 
 settings_at_least : (kind : PolicyType) (members : Members) (Nested : ConfigFault → Type 0) (nested : Option ConfigFault) → IsLeastOf Nested nested → IsLeastOf (SettingsAtHave kind members Nested) (spec.settings_at_fault kind members nested)
 settings_at_least type_is.AlwaysSample members Nested nested n = none
@@ -140,7 +142,7 @@ settings_at_least type_is.And members Nested nested n = n
 settings_at_least type_is.Not members Nested nested n = n
 settings_at_least type_is.Drop members Nested nested n = n
 settings_at_least type_is.Composite members Nested nested n = n
-settings_at_least kind members Nested nested n = required_least (SettingsHave kind) (spec.settings_fault kind) (settings_least kind) (get_member (type_name kind) members)
+settings_at_least kind members Nested nested n = required_least (SettingsHave kind) (spec.settings_fault kind) (table_of_least (table_is.Settings kind) (settings kind)) (get_member (type_name kind) members)
 
 typed_least : (found : Option PolicyType) (members : Members) (Nested : ConfigFault → Type 0) (nested : Option ConfigFault) → IsLeastOf Nested nested → IsLeastOf (TypedHas found members Nested) (spec.typed_fault_where found members nested)
 typed_least None members Nested nested n = none
@@ -195,59 +197,16 @@ mutual
   sub_value_least join_is.FirstMatch (array items) = policy_items_least items
   sub_value_least _ _ = alone WrongType
 
-cache_least : (value : Data) → IsLeastOf (CacheHas value) (spec.cache_fault value)
-cache_least (table members) =
-    let keys : Option ConfigFault = unknown_fault table_is.DecisionCache members in
-    let sampled : Option ConfigFault = optional (integer_fault (pos 0) (pos 1000000)) (get_member (codes "sampled_cache_size") members) in
-    let non_sampled : Option ConfigFault = optional (integer_fault (pos 0) (pos 1000000)) (get_member (codes "non_sampled_cache_size") members) in
-    both (λ fault. keys ≡ Some fault) (λ fault. (sampled ≡ Some fault) ⊎ (non_sampled ≡ Some fault)) _ _ (row keys) (rows sampled non_sampled)
-cache_least _ = alone WrongType
-
-three_rows : (a b c : Option ConfigFault) → IsLeastOf (λ fault. (a ≡ Some fault) ⊎ ((b ≡ Some fault) ⊎ (c ≡ Some fault))) (least a (least b c))
-three_rows a b c = both (λ fault. a ≡ Some fault) (λ fault. (b ≡ Some fault) ⊎ (c ≡ Some fault)) _ _ (row a) (rows b c)
-
-four_rows : (a b c d : Option ConfigFault)
-    → IsLeastOf (λ fault. (a ≡ Some fault) ⊎ ((b ≡ Some fault) ⊎ ((c ≡ Some fault) ⊎ (d ≡ Some fault)))) (least a (least b (least c d)))
-four_rows a b c d =
-    both (λ fault. a ≡ Some fault) (λ fault. (b ≡ Some fault) ⊎ ((c ≡ Some fault) ⊎ (d ≡ Some fault))) _ _ (row a) (three_rows b c d)
-
-five_rows : (a b c d e : Option ConfigFault)
-    → IsLeastOf (λ fault. (a ≡ Some fault) ⊎ ((b ≡ Some fault) ⊎ ((c ≡ Some fault) ⊎ ((d ≡ Some fault) ⊎ (e ≡ Some fault))))) (least a (least b (least c (least d e))))
-five_rows a b c d e =
-    both (λ fault. a ≡ Some fault) (λ fault. (b ≡ Some fault) ⊎ ((c ≡ Some fault) ⊎ ((d ≡ Some fault) ⊎ (e ≡ Some fault)))) _ _ (row a)
-    (both (λ fault. b ≡ Some fault) (λ fault. (c ≡ Some fault) ⊎ ((d ≡ Some fault) ⊎ (e ≡ Some fault))) _ _ (row b) (three_rows c d e))
-
-six_rows : (a b c d e f : Option ConfigFault)
-    → IsLeastOf (λ fault. (a ≡ Some fault) ⊎ ((b ≡ Some fault) ⊎ ((c ≡ Some fault) ⊎ ((d ≡ Some fault) ⊎ ((e ≡ Some fault) ⊎ (f ≡ Some fault)))))) (least a (least b (least c (least d (least e f)))))
-six_rows a b c d e f =
-    both (λ fault. a ≡ Some fault) (λ fault. (b ≡ Some fault) ⊎ ((c ≡ Some fault) ⊎ ((d ≡ Some fault) ⊎ ((e ≡ Some fault) ⊎ (f ≡ Some fault))))) _ _ (row a) (five_rows b c d e f)
-
-seven_rows : (a b c d e f g : Option ConfigFault)
-    → IsLeastOf (λ fault. (a ≡ Some fault) ⊎ ((b ≡ Some fault) ⊎ ((c ≡ Some fault) ⊎ ((d ≡ Some fault) ⊎ ((e ≡ Some fault) ⊎ ((f ≡ Some fault) ⊎ (g ≡ Some fault)))))))
-    (least a (least b (least c (least d (least e (least f g))))))
-seven_rows a b c d e f g =
-    both (λ fault. a ≡ Some fault) (λ fault. (b ≡ Some fault) ⊎ ((c ≡ Some fault) ⊎ ((d ≡ Some fault) ⊎ ((e ≡ Some fault) ⊎ ((f ≡ Some fault) ⊎ (g ≡ Some fault)))))) _ _ (row a) (six_rows b c d e f g)
-
-export_least : (value : Data) → IsLeastOf (ExportHas value) (spec.export_fault value)
-export_least (table members) = both (λ fault. unknown_fault table_is.Export members ≡ Some fault) (SomeSettingHas export_settings members) _ _ (row _) (each_least export_settings members)
-export_least _ = alone WrongType
-
 pub table_least : (members : Members) → IsLeastOf (HasFault members) (spec.table_fault members)
 unfolding spec.table_fault spec.keys_fault
 table_least members =
-    let keys : Option ConfigFault = unknown_fault table_is.Config members in
-    let twice : Option ConfigFault = twice_fault members in
-    let listen : Option ConfigFault = optional text_fault (get_member (codes "listen") members) in
-    let gzip : Option ConfigFault = optional truth_fault (get_member (codes "accept_gzip") members) in
-    let first : Option ConfigFault = optional truth_fault (get_member (codes "sample_on_first_match") members) in
-    let cache : IsLeastOf (OptionalHas CacheHas (get_member (codes "decision_cache") members)) (optional spec.cache_fault (get_member (codes "decision_cache") members)) = optional_least CacheHas spec.cache_fault cache_least (get_member (codes "decision_cache") members) in
-    let policies : IsLeastOf (RequiredHas PoliciesHave (get_member (codes "policies") members)) (required spec.policies_fault (get_member (codes "policies") members)) = required_least PoliciesHave spec.policies_fault policies_least (get_member (codes "policies") members) in
-    both (λ fault. (keys ≡ Some fault) ⊎ (twice ≡ Some fault)) _ _ _ (rows keys twice)
-    (both (NumbersHave members) _ _ _ (seven_rows _ _ _ _ _ _ _)
-    (both (SizesHave members) _ _ _ (six_rows _ _ _ _ _ _)
-    (both (λ fault. listen ≡ Some fault) _ _ _ (row listen)
-    (both (λ fault. gzip ≡ Some fault) _ _ _ (row gzip)
-    (both (λ fault. first ≡ Some fault) _ _ _ (row first)
-    (both (ChoicesHave members) _ _ _ (five_rows _ _ _ _ _)
+    let cache : IsLeastOf (OptionalHas CacheHas (get_member (codes "decision_cache") members)) (optional spec.cache_fault (get_member (codes "decision_cache") members)) =
+    optional_least CacheHas spec.cache_fault (table_of_least table_is.DecisionCache cache_settings) (get_member (codes "decision_cache") members) in
+    let export : IsLeastOf (OptionalHas ExportHas (get_member (codes "export") members)) (optional spec.export_fault (get_member (codes "export") members)) =
+    optional_least ExportHas spec.export_fault (table_of_least table_is.Export export_settings) (get_member (codes "export") members) in
+    let policies : IsLeastOf (RequiredHas PoliciesHave (get_member (codes "policies") members)) (required spec.policies_fault (get_member (codes "policies") members)) =
+    required_least PoliciesHave spec.policies_fault policies_least (get_member (codes "policies") members) in
+    both (λ fault. (unknown_fault table_is.Config members ≡ Some fault) ⊎ (twice_fault members ≡ Some fault)) _ _ _ (rows _ _)
+    (both (SomeSettingHas top_settings members) _ _ _ (each_least top_settings members)
     (both (OptionalHas CacheHas (get_member (codes "decision_cache") members)) _ _ _ cache
-    (both (OptionalHas ExportHas (get_member (codes "export") members)) (RequiredHas PoliciesHave (get_member (codes "policies") members)) _ _ (optional_least ExportHas spec.export_fault export_least (get_member (codes "export") members)) policies))))))))
+    (both (OptionalHas ExportHas (get_member (codes "export") members)) (RequiredHas PoliciesHave (get_member (codes "policies") members)) _ _ export policies)))

@@ -1,14 +1,10 @@
-mod Least
 mod Blank
-mod FaultSets
+pub mod FaultSets
 mod Bounds
-mod SomeIsNone
-mod Whole
-mod FaultLists
-mod Told
-mod FaultRows
+pub mod SomeIsNone
+pub mod Whole
 mod Rows
-mod Settings
+pub mod Settings
 mod SettingKeys
 mod PolicyKeys
 pub mod Shares

@@ -18,19 +18,20 @@ use Rattle.policy_tree.specs.declared.policy.PolicyKind.TheViews.{out-PolicyKind
 use Rattle.policy_tree.specs.declared.policy.Wanted.{Wanted}
 use Rattle.tsc_config.proofs.SettingKeys.{type_is_named, text_keys, natural_keys, two_naturals, whole_keys, truth_keys, required_truth, salt_keys, percentage_keys, texts_keys, codes_keys, wanted_keys, bucket_keys}
 use Rattle.tsc_config.proofs.Shares.{turned, unshared_are}
-use Rattle.tsc_config.proofs.Settings.{neither, truth, table_parts, read_as}
+use Rattle.tsc_config.proofs.Settings.{neither, switched, table_parts, read_as}
 use Rattle.policy_tree.specs.declared.policy.Join.{Join}
 use Rattle.policy_tree.specs.declared.policy.Join.TheVariants as join_is
-use Rattle.tsc_config.specs.Keys.{type_name, type_named, type_found, type_at, join_type, join_name, sub_key, join_of, join_at}
-use Rattle.tsc_config.specs.Composites.{is_ordered}
-use Rattle.tsc_config.specs.Faults.{optional, required, order_fault, allocation_fault, unknown_fault, natural_fault, text_fault, named_fault, array_fault, type_fault, percentage_fault, truth_fault, whole_fault, code_fault, rows_fault, settings_fault, settings_at_fault, typed_fault_where, policy_table_fault, policy_fault, policy_items_fault, policies_fault, typed_fault, parts_fault, parts_settings_fault, sub_policies_fault, sub_value_fault, table_fault, least}
+use Rattle.config_faults.specs.PolicyTypes.{type_name}
+use Rattle.config_faults.specs.Keys.{type_named, type_found, type_at, join_type, join_name, sub_key, join_of, join_at}
+use Rattle.config_faults.specs.Composites.{is_ordered}
+use Rattle.config_faults.specs.Faults.{optional, required, order_fault, allocation_fault, unknown_fault, natural_fault, text_fault, named_fault, array_fault, type_fault, percentage_fault, truth_fault, whole_fault, code_fault, rows_fault, settings_fault, settings_at_fault, typed_fault_where, policy_table_fault, policy_fault, policy_items_fault, policies_fault, typed_fault, parts_fault, parts_settings_fault, sub_policies_fault, sub_value_fault, table_fault, least}
 use Rattle.tsc_config.specs.Values.{found_before, natural_of, items_at, composite_of, truth_of, attribute, leaf_in, kind_in, always, kind_by, kind_typed, policy_of, item_policies, policies_of, parts_policies, parts_settings, sub_policies, sub_value, policy_value, config_of}
 use Rattle.tsc_config.specs.PolicyKeys.{IsText, IsComposite, unshared, count_items, IsTyped, IsWanted, IsLeaf, IsLayer, IsKind, IsPolicy, ArePartsAt, items_of, part_items, settings_items, nested_items, value_at, parts_in, parts_of, parts_at, policy_at, HasPolicies, HasMatched, ReadsPolicies}
-use Rattle.tsc_config.specs.declared.fault.ConfigFault.{ConfigFault}
-use Rattle.tsc_config.specs.declared.fault.ConfigFault.TheVariants.{MissingKey, OutOfRange}
-use Rattle.tsc_config.specs.declared.kinds.PolicyType.{PolicyType}
-use Rattle.tsc_config.specs.declared.kinds.PolicyType.TheVariants as type_is
-use Rattle.tsc_config.specs.declared.kinds.TableKind.TheVariants as table_is
+use Rattle.config_faults.specs.declared.fault.ConfigFault.{ConfigFault}
+use Rattle.config_faults.specs.declared.fault.ConfigFault.TheVariants.{MissingKey, OutOfRange}
+use Rattle.config_faults.specs.declared.policy_types.PolicyType.{PolicyType}
+use Rattle.config_faults.specs.declared.policy_types.PolicyType.TheVariants as type_is
+use Rattle.config_faults.specs.declared.keys.TableKind.TheVariants as table_is
 
 -- ---- the settings of each type
 
@@ -421,7 +422,7 @@ sound (Some _) e = cc
 
 whole : (members : Members) → table_fault members ≡ None → HasPolicies members (policies_of (get_member (codes "policies") members))
 whole members e =
-    let p = sound (get_member (codes "policies") members) (table_parts members e).4 in
+    let p = sound (get_member (codes "policies") members) (table_parts members e).3 in
     let items : Items = items_of (get_member (codes "policies") members) in record {
       as_many = ap length p.1 ∙ as_many items p.0;
       each = λ place deeper policy h.
@@ -433,7 +434,7 @@ whole members e =
 matched_whole : (members : Members) → table_fault members ≡ None → HasMatched members (config_of members).policies
 matched_whole members e = record {
   is_first = truth_of (get_member (codes "sample_on_first_match") members);
-  at_key = truth (codes "sample_on_first_match") members (get_member (codes "sample_on_first_match") members) refl (table_parts members e).8;
+  at_key = switched members (codes "sample_on_first_match") refl (table_parts members e).0;
   given = policies_of (get_member (codes "policies") members);
   has = whole members e;
   are = refl;

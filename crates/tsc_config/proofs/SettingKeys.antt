@@ -7,16 +7,17 @@ use Rattle.std.specs.Option.{unwrap_or}
 use Rattle.std.specs.Str.{bytes_eq}
 use Rattle.toml.specs.Data.{Data, as_str, string, integer, float, boolean, array, Items, no_items, item, Members, get_member}
 use lib.Ieee.{eq}
-use Rattle.tsc_config.specs.Percentages.{nearest_count, over_ten_thousand, ten_thousandths}
+use Rattle.config_faults.specs.Percentages.{nearest_count, over_ten_thousand, ten_thousandths}
 use Rattle.tsc_config.proofs.Settings.{neither, natural, numbered}
-use Rattle.tsc_config.specs.Keys.{type_name, all_types, type_among, type_named, code_named, code_of}
-use Rattle.tsc_config.specs.Faults.{optional, required, natural_fault, text_fault, named_fault, items_fault, array_fault, code_fault, percentage_fault, truth_fault, whole_fault, least}
+use Rattle.config_faults.specs.PolicyTypes.{type_name, all_types}
+use Rattle.config_faults.specs.Keys.{type_among, type_named, code_named, code_of}
+use Rattle.config_faults.specs.Faults.{optional, required, natural_fault, text_fault, named_fault, items_fault, array_fault, code_fault, percentage_fault, truth_fault, whole_fault, least}
 use Rattle.tsc_config.specs.Values.{found_before, natural_of, codes_of, item_codes, texts_of, item_texts, text_of, truth_of, whole_of, texts_wanted, salt_by, percentage_at, number_or}
 use Rattle.tsc_config.specs.PolicyKeys.{AreTexts, IsWanted, IsCode, AreCodes, IsSaltAt, IsPercentage, IsNatural, IsNaturalOrZero}
 use Rattle.tsc_config.specs.Settings.{IsNumberAt}
-use Rattle.tsc_config.specs.declared.fault.ConfigFault.{ConfigFault}
-use Rattle.tsc_config.specs.declared.fault.ConfigFault.TheVariants.{OutOfRange}
-use Rattle.tsc_config.specs.declared.kinds.PolicyType.{PolicyType}
+use Rattle.config_faults.specs.declared.fault.ConfigFault.{ConfigFault}
+use Rattle.config_faults.specs.declared.fault.ConfigFault.TheVariants.{OutOfRange}
+use Rattle.config_faults.specs.declared.policy_types.PolicyType.{PolicyType}
 
 -- ---- what a text names
 

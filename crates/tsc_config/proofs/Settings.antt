@@ -1,6 +1,6 @@
 -- Each setting is what stands at its key, or the key's default.
 -- For `settings_are_of_their_keys`.
-use Rattle.std.proofs.Common.{◌≡◌, [], ℕ, ◌<◌, ◌≤◌, pos, negsuc, zero, suc, Bool, true, false, ◌⊎◌, inl, inr, refl, sym, arith, codes, List, Option, None, Some, Ok, Err, subst, if◌then◌else◌, nat_lt, int_le, ◌&&◌, ◌||◌}
+use Rattle.std.proofs.Common.{◌≡◌, [], ◌∷◌, ℕ, ◌≤◌, pos, negsuc, Bool, true, false, ◌⊎◌, inl, inr, refl, sym, ◌∙◌, arith, codes, List, Option, None, Some, Ok, Err, subst, if◌then◌else◌, nat_lt, nat_le, int_le, ◌&&◌, ◌||◌}
 use Rattle.std.proofs.lemmas.Bool.Decides.{nat_tests}
 use Rattle.std.proofs.lemmas.Slice.Eq.{bytes_eq-Decides}
 use Rattle.std.specs.Option.{is_some}
@@ -9,18 +9,23 @@ use Rattle.toml.specs.Data.{Data, string, integer, boolean, table, Members, get_
 use Rattle.toml.specs.Parse.{parse_document}
 use Rattle.policy_tree.specs.Faults.{fault_of_policies}
 use Rattle.policy_tree.specs.declared.fault.PolicyFault.{PolicyFault}
-use Rattle.tsc_config.specs.Faults.{config_fault_number, least, optional, required, unknown_fault, integer_fault, text_fault, truth_fault, choice_fault, choices_fault, cache_fault, endpoint_fault, field_fault, fields_fault, headers_fault, export_fault, each_setting_fault, numbers_fault, sizes_fault, policies_fault, table_fault, keys_fault, twice_fault}
-use Rattle.tsc_config.specs.Keys.{ChoiceRow, choice_row}
-use Rattle.tsc_config.specs.declared.kinds.ChoiceKey.TheVariants as choice_is
+use Rattle.config_faults.specs.Faults.{config_fault_number, least, optional, required, unknown_fault, integer_fault, text_fault, truth_fault, choice_fault, cache_fault, endpoint_fault, field_fault, fields_fault, headers_fault, export_fault, setting_fault, each_setting_fault, policies_fault, table_fault, keys_fault, twice_fault}
+use Rattle.config_faults.specs.Setting.{Setting}
+use Rattle.config_faults.specs.Tables.{NumberRow, number_row, ChoiceRow, choice_row, number_setting, root_setting, choice_setting, switch, top_settings, cache_settings, export_settings}
+use Rattle.config_faults.specs.declared.tables.ChoiceKey.{ChoiceKey}
+use Rattle.config_faults.specs.declared.tables.ChoiceKey.TheVariants as choice_is
+use Rattle.config_faults.specs.declared.tables.NumberKey.{NumberKey}
+use Rattle.config_faults.specs.declared.tables.NumberKey.TheVariants as number_is
 use Rattle.tsc_config.specs.Reading.{expressions_among, some_is_none, reading, reading_of, reading_unless, reading_where}
-use Rattle.tsc_config.specs.Exports.{export_settings, is_endpoint}
-use Rattle.tsc_config.specs.Headers.{may_be_sent, value_of, fields_in, headers_of, AreFields}
-use Rattle.tsc_config.specs.Settings.{IsNumberAtEither, IsTextAt, IsTruthAt, IsChoiceAt, IsCacheSize, AreHeadersAt, HasExport, IsExportAt, HasSettings, ReadsSettings}
-use Rattle.tsc_config.specs.Values.{config_of, positive_of, natural_of, first_found, cache_size, address_of, truth_of, is_other, text_of, number_or, export_in, export_of}
+use Rattle.config_faults.specs.Exports.{is_endpoint}
+use Rattle.tsc_config.specs.HeaderFields.{value_of, fields_in, headers_of, AreFields}
+use Rattle.config_faults.specs.Headers.{may_be_sent}
+use Rattle.tsc_config.specs.Settings.{IsNumberAtEither, IsTextAt, IsTruthAt, IsChoiceAt, AreHeadersAt, HasExport, IsExportAt, HasSettings, ReadsSettings}
+use Rattle.tsc_config.specs.Values.{config_of, bounded_of, number_by, natural_of, first_found, cache_size, address_of, truth_of, is_other, text_of, number_or, export_in, export_of}
 use Rattle.tsc_config.specs.declared.config.Config.{Config}
-use Rattle.tsc_config.specs.declared.fault.ConfigFault.{ConfigFault}
-use Rattle.tsc_config.specs.declared.fault.ConfigFault.TheVariants.{OutOfRange, TooFewTraces, UnknownKey, NotAnExpression}
-use Rattle.tsc_config.specs.declared.kinds.TableKind.TheVariants as table_is
+use Rattle.config_faults.specs.declared.fault.ConfigFault.{ConfigFault}
+use Rattle.config_faults.specs.declared.fault.ConfigFault.TheVariants.{OutOfRange, TooFewTraces, UnknownKey, NotAnExpression}
+use Rattle.config_faults.specs.declared.keys.TableKind.TheVariants as table_is
 
 -- no fault among two
 pub neither : (a b : Option ConfigFault) → least a b ≡ None → (a ≡ None) × (b ≡ None)
@@ -41,21 +46,41 @@ allowed : (r : Bool) → (if r then None else Some OutOfRange) ≡ None → r �
 allowed true e = refl
 allowed false e = cc
 
-positive : (default greatest : ℕ) (at : Option Data) → optional (integer_fault (pos 1) (pos greatest)) at ≡ None
-    → NumberOf at default 1 greatest (positive_of default greatest at)
-positive default greatest None e = inl (refl, refl)
-positive default greatest (Some (integer (pos zero))) e = cc
-positive default greatest (Some (integer (pos (suc n)))) e = of (nat_lt n greatest) refl
+-- the number of a row
+bounded : (row : NumberRow) (at : Option Data) → optional (integer_fault (pos row.lowest) (pos row.greatest)) at ≡ None → NumberOf at row.default row.lowest row.greatest (bounded_of row at)
+bounded row None e = inl (refl, refl)
+bounded row (Some (integer (pos n))) e = of (nat_le row.lowest n && nat_le n row.greatest) refl
   where
-    within : n < greatest
-    within = grind (arith, nat_tests, allowed (int_le (pos 1) (pos (suc n)) && int_le (pos (suc n)) (pos greatest)) e)
+    within : int_le (pos row.lowest) (pos n) && int_le (pos n) (pos row.greatest) ≡ true
+    within = allowed (int_le (pos row.lowest) (pos n) && int_le (pos n) (pos row.greatest)) e
 
-    of : (r : Bool) → nat_lt n greatest ≡ r → NumberOf (Some (integer (pos (suc n)))) default 1 greatest (if r then suc n else default)
-    of true t = inr (refl, omega arith, omega (arith, within))
-    of false t = absurd (grind (arith, nat_tests, within))
-positive default greatest (Some (integer (negsuc n))) e = cc
-positive default greatest (Some (string text)) e = cc
-positive default greatest (Some _) e = cc
+    of : (r : Bool) → nat_le row.lowest n && nat_le n row.greatest ≡ r → NumberOf (Some (integer (pos n))) row.default row.lowest row.greatest (if r then n else row.default)
+    of true t = inr (refl, grind (arith, nat_tests, t), grind (arith, nat_tests, t))
+    of false t = let wrong : false ≡ true = sym t ∙ within in cc
+bounded row (Some (integer (negsuc n))) e = cc
+bounded row (Some _) e = cc
+
+-- the first of these settings that has a name
+abbrev pub setting_named : (name : List ℕ) → List Setting → Option Setting
+setting_named name [] = None
+setting_named name (s ∷ rest) = if bytes_eq name s.name then Some s else setting_named name rest
+
+-- where none of these settings has a fault, the one of a name has none
+free : (rows : List Setting) (members : Members) (name : List ℕ) (s : Setting) → setting_named name rows ≡ Some s → each_setting_fault rows members ≡ None → setting_fault s members ≡ None
+free [] members name s e f = cc
+free (first ∷ rest) members name s e f =
+    let parts = neither (setting_fault first members) (each_setting_fault rest members) f in
+    of (bytes_eq name first.name) e parts.0 (λ g. free rest members name s g parts.1)
+  where
+    of : (r : Bool) → (if r then Some first else setting_named name rest) ≡ Some s → setting_fault first members ≡ None
+        → (setting_named name rest ≡ Some s → setting_fault s members ≡ None) → setting_fault s members ≡ None
+    of true g here later = let same : first ≡ s = cc in rw (← same) here
+    of false g here later = later g
+
+-- the number at the key of a row of some table
+number_in : (rows : List Setting) (members : Members) (key : NumberKey) → setting_named (number_row key).name rows ≡ Some (number_setting key) → each_setting_fault rows members ≡ None
+    → NumberOf (get_member (number_row key).name members) (number_row key).default (number_row key).lowest (number_row key).greatest (number_by (number_row key) members)
+number_in rows members key found f = bounded (number_row key) (get_member (number_row key).name members) (free rows members (number_row key).name (number_setting key) found f)
 
 pub natural : (greatest : ℕ) (at : Option Data) → optional (integer_fault (pos 0) (pos greatest)) at ≡ None
     → NumberOf at 0 0 greatest (natural_of at)
@@ -75,11 +100,11 @@ not_twice members e = e
 -- of a number with two names one stands there at most
 natural_at_either : (members : Members) (key other : List ℕ) (at at_other : Option Data) → get_member key members ≡ at → get_member other members ≡ at_other
     → optional (integer_fault (pos 0) (pos 3600000)) at ≡ None → optional (integer_fault (pos 0) (pos 3600000)) at_other ≡ None
-    → (if is_some at && is_some at_other then Some UnknownKey else None) ≡ None → IsNumberAtEither members key other 0 0 3600000 (natural_of (first_found at at_other))
+    → (if is_some at && is_some at_other then Some UnknownKey else None) ≡ None → IsNumberAtEither members key other 0 0 3600000 (bounded_of (number_row number_is.RootWait) (first_found at at_other))
 natural_at_either members key other None at_other a b f g t =
-    let P : Option Data → Type 0 = λ o. NumberOf o 0 0 3600000 (natural_of at_other) in inr (a, subst P (sym b) (natural 3600000 at_other g))
+    let P : Option Data → Type 0 = λ o. NumberOf o 0 0 3600000 (bounded_of (number_row number_is.RootWait) at_other) in inr (a, subst P (sym b) (bounded (number_row number_is.RootWait) at_other g))
 natural_at_either members key other (Some value) None a b f g t =
-    let P : Option Data → Type 0 = λ o. NumberOf o 0 0 3600000 (natural_of (Some value)) in inl (b, subst P (sym a) (natural 3600000 (Some value) f))
+    let P : Option Data → Type 0 = λ o. NumberOf o 0 0 3600000 (bounded_of (number_row number_is.RootWait) (Some value)) in inl (b, subst P (sym a) (bounded (number_row number_is.RootWait) (Some value) f))
 natural_at_either members key other (Some value) (Some another) a b f g t = absurd (cc t)
 
 text : (key default : List ℕ) (given : Members) (at : Option Data) → get_member key given ≡ at → optional text_fault at ≡ None
@@ -111,18 +136,15 @@ choice row given (Some (string bytes)) e f = of (bytes_eq bytes row.other) refl
         inr (inl (rw (← same) e, refl))
 choice row given (Some _) e f = cc
 
--- both sizes of the table of caches
-cache : (given : Members) (at : Option Data) → get_member (codes "decision_cache") given ≡ at → optional cache_fault at ≡ None
-    → IsCacheSize given (codes "sampled_cache_size") (cache_size (codes "sampled_cache_size") at)
-    × IsCacheSize given (codes "non_sampled_cache_size") (cache_size (codes "non_sampled_cache_size") at)
-cache given None e f = (inl (e, refl), inl (e, refl))
-cache given (Some (table sizes)) e f =
-    let u = (neither (unknown_fault table_is.DecisionCache sizes) _ f).1 in
-    let n = neither (optional (integer_fault (pos 0) (pos 1000000)) (get_member (codes "sampled_cache_size") sizes)) _ u in (
-      inr (sizes, e, natural 1000000 (get_member (codes "sampled_cache_size") sizes) n.0),
-      inr (sizes, e, natural 1000000 (get_member (codes "non_sampled_cache_size") sizes) n.1),
-    )
-cache given (Some _) e f = cc
+-- a size of the table of caches
+cache : (given : Members) (key : NumberKey) (at : Option Data) → get_member (codes "decision_cache") given ≡ at → optional cache_fault at ≡ None
+    → setting_named (number_row key).name cache_settings ≡ Some (number_setting key)
+    → ((get_member (codes "decision_cache") given ≡ None) × (cache_size (number_row key) at ≡ (number_row key).default))
+    ⊎ ((sizes : Members) × (get_member (codes "decision_cache") given ≡ Some (table sizes))
+    × NumberOf (get_member (number_row key).name sizes) (number_row key).default (number_row key).lowest (number_row key).greatest (cache_size (number_row key) at))
+cache given key None e f found = inl (e, refl)
+cache given key (Some (table sizes)) e f found = inr (sizes, e, number_in cache_settings sizes key found (neither (unknown_fault table_is.DecisionCache sizes) _ f).1)
+cache given key (Some _) e f found = cc
 
 pub numbered : (default lowest greatest : ℕ) (at : Option Data) → optional (integer_fault (pos lowest) (pos greatest)) at ≡ None → NumberOf at default lowest greatest (number_or default at)
 numbered default lowest greatest None e = inl (refl, refl)
@@ -164,26 +186,17 @@ header_fields given (Some _) e f = cc
 -- the table of `export`
 has_export : (given : Members) → each_setting_fault export_settings given ≡ None → HasExport given (export_in given)
 has_export given e =
-    let address = neither (required endpoint_fault (get_member (codes "endpoint") given)) _ e in
-    let timeout = neither (optional (integer_fault (pos 1) (pos 600000)) (get_member (codes "timeout_ms") given)) _ address.1 in
-    let initial = neither (optional (integer_fault (pos 1) (pos 3600000)) (get_member (codes "retry_initial_ms") given)) _ timeout.1 in
-    let longest = neither (optional (integer_fault (pos 1) (pos 3600000)) (get_member (codes "retry_max_ms") given)) _ initial.1 in
-    let patience = neither (optional (integer_fault (pos 0) (pos 86400000)) (get_member (codes "retry_for_ms") given)) _ longest.1 in
-    let close = neither (optional (integer_fault (pos 0) (pos 3600000)) (get_member (codes "close_wait_ms") given)) _ patience.1 in
-    let batches = neither (optional (integer_fault (pos 1) (pos 65536)) (get_member (codes "queue_batches") given)) _ close.1 in
-    let lines = neither (optional truth_fault (get_member (codes "lines") given)) _ batches.1 in
-    let headers = neither (optional headers_fault (get_member (codes "headers") given)) None lines.1 in
-    let found = endpoint (get_member (codes "endpoint") given) address.0 in record {
+    let found = endpoint (get_member (codes "endpoint") given) (free export_settings given (codes "endpoint") _ refl e) in record {
       endpoint = found.0;
       form = found.1;
-      timeout = numbered 10000 1 600000 (get_member (codes "timeout_ms") given) timeout.0;
-      retry_initial = numbered 500 1 3600000 (get_member (codes "retry_initial_ms") given) initial.0;
-      retry_max = numbered 30000 1 3600000 (get_member (codes "retry_max_ms") given) longest.0;
-      retry_for = numbered 300000 0 86400000 (get_member (codes "retry_for_ms") given) patience.0;
-      close_wait = numbered 10000 0 3600000 (get_member (codes "close_wait_ms") given) close.0;
-      queue_batches = numbered 256 1 65536 (get_member (codes "queue_batches") given) batches.0;
-      lines = truth (codes "lines") given (get_member (codes "lines") given) refl lines.0;
-      headers = header_fields given (get_member (codes "headers") given) refl headers.0;
+      timeout = number_in export_settings given number_is.Timeout refl e;
+      retry_initial = number_in export_settings given number_is.RetryInitial refl e;
+      retry_max = number_in export_settings given number_is.RetryMax refl e;
+      retry_for = number_in export_settings given number_is.RetryFor refl e;
+      close_wait = number_in export_settings given number_is.CloseWait refl e;
+      queue_batches = number_in export_settings given number_is.QueueBatches refl e;
+      lines = truth (codes "lines") given (get_member (codes "lines") given) refl (free export_settings given (codes "lines") (switch (codes "lines")) refl e);
+      headers = header_fields given (get_member (codes "headers") given) refl (free export_settings given (codes "headers") _ refl e);
     }
 
 exports : (given : Members) (at : Option Data) → get_member (codes "export") given ≡ at → optional export_fault at ≡ None → IsExportAt given (export_of at)
@@ -192,66 +205,55 @@ exports given (Some (table settings)) e f = inr (settings, e, has_export setting
 exports given (Some _) e f = cc
 
 -- each part of a table without a fault has none
-pub table_parts : (members : Members) → table_fault members ≡ None → (numbers_fault members ≡ None) × (sizes_fault members ≡ None) × (optional text_fault (get_member (codes "listen") members) ≡ None)
-    × (optional cache_fault (get_member (codes "decision_cache") members) ≡ None) × (required policies_fault (get_member (codes "policies") members) ≡ None)
-    × (optional truth_fault (get_member (codes "accept_gzip") members) ≡ None) × (choices_fault members ≡ None) × (twice_fault members ≡ None)
-    × (optional truth_fault (get_member (codes "sample_on_first_match") members) ≡ None) × (optional export_fault (get_member (codes "export") members) ≡ None)
+pub table_parts : (members : Members) → table_fault members ≡ None → (each_setting_fault top_settings members ≡ None)
+    × (optional cache_fault (get_member (codes "decision_cache") members) ≡ None) × (optional export_fault (get_member (codes "export") members) ≡ None)
+    × (required policies_fault (get_member (codes "policies") members) ≡ None) × (twice_fault members ≡ None)
 unfolding table_fault keys_fault
 table_parts members e =
-    let t = neither (least (unknown_fault table_is.Config members) (twice_fault members)) _ e in
-    let n = neither (numbers_fault members) _ t.1 in
-    let s = neither (sizes_fault members) _ n.1 in
-    let l = neither (optional text_fault (get_member (codes "listen") members)) _ s.1 in
-    let g = neither (optional truth_fault (get_member (codes "accept_gzip") members)) _ l.1 in
-    let m = neither (optional truth_fault (get_member (codes "sample_on_first_match") members)) _ g.1 in
-    let h = neither (choices_fault members) _ m.1 in
-    let c = neither (optional cache_fault (get_member (codes "decision_cache") members)) _ h.1 in
+    let k = neither (least (unknown_fault table_is.Config members) (twice_fault members)) _ e in
+    let r = neither (each_setting_fault top_settings members) _ k.1 in
+    let c = neither (optional cache_fault (get_member (codes "decision_cache") members)) _ r.1 in
     let x = neither (optional export_fault (get_member (codes "export") members)) _ c.1 in
-    (n.0, s.0, l.0, c.0, x.1, g.0, h.0, (neither (unknown_fault table_is.Config members) (twice_fault members) t.0).1, m.0, x.0)
+    (r.0, c.0, x.0, x.1, (neither (unknown_fault table_is.Config members) (twice_fault members) k.0).1)
 
--- each row of the table's numbers has no fault
+-- the truth value at a key that is false by default
+pub switched : (members : Members) (name : List ℕ) → setting_named name top_settings ≡ Some (switch name) → each_setting_fault top_settings members ≡ None → IsTruthAt members name (truth_of (get_member name members))
+switched members name found f = truth name members (get_member name members) refl (free top_settings members name (switch name) found f)
+
+-- the choice of a key
+chosen : (members : Members) (key : ChoiceKey) → setting_named (choice_row key).name top_settings ≡ Some (choice_setting key) → each_setting_fault top_settings members ≡ None
+    → IsChoiceAt members (choice_row key).name (choice_row key).default (choice_row key).other (is_other (choice_row key) (get_member (choice_row key).name members))
+chosen members key found f = choice (choice_row key) members (get_member (choice_row key).name members) refl (free top_settings members (choice_row key).name (choice_setting key) found f)
+
+-- each setting of a table without a fault
 whole : (members : Members) → table_fault members ≡ None → HasSettings members (config_of members)
 whole members e =
     let t = table_parts members e in
-    let wait = neither (optional (integer_fault (pos 1) (pos 3600000)) (get_member (codes "decision_wait_ms") members)) _ t.0 in
-    let root = neither (optional (integer_fault (pos 0) (pos 3600000)) (get_member (codes "root_wait_ms") members)) _ wait.1 in
-    let received = neither (optional (integer_fault (pos 0) (pos 3600000)) (get_member (codes "decision_wait_after_root_received_ms") members)) _ root.1 in
-    let traces = neither (optional (integer_fault (pos 1) (pos 1000000)) (get_member (codes "num_traces") members)) _ received.1 in
-    let lanes = neither (optional (integer_fault (pos 1) (pos 64)) (get_member (codes "lanes") members)) _ traces.1 in
-    let shards = neither (optional (integer_fault (pos 1) (pos 64)) (get_member (codes "shards") members)) _ lanes.1 in
-    let queue = neither (optional (integer_fault (pos 1) (pos 65536)) (get_member (codes "queue_capacity") members)) _ t.1 in
-    let export = neither (optional (integer_fault (pos 1) (pos 65536)) (get_member (codes "export_capacity") members)) _ queue.1 in
-    let batch = neither (optional (integer_fault (pos 1) (pos 8192)) (get_member (codes "send_batch_size") members)) _ export.1 in
-    let connections = neither (optional (integer_fault (pos 1) (pos 65536)) (get_member (codes "max_connections") members)) _ batch.1 in
-    let memory = neither (optional (integer_fault (pos 0) (pos 1048576)) (get_member (codes "memory_limit_mib") members)) _ connections.1 in
-    let queue_full = neither (optional (choice_fault (choice_row choice_is.QueueFull)) (get_member (codes "queue_full") members)) _ t.6 in
-    let output = neither (optional (choice_fault (choice_row choice_is.OutputFault)) (get_member (codes "output_fault") members)) _ queue_full.1 in
-    let doubles = neither (optional (choice_fault (choice_row choice_is.DoubleValues)) (get_member (codes "double_values") members)) _ output.1 in
-    let close = neither (optional truth_fault (get_member (codes "close_at_end_of_input") members)) _ doubles.1 in
-    let caches = cache members (get_member (codes "decision_cache") members) refl t.3 in record {
-      decision_wait = positive 30000 3600000 (get_member (codes "decision_wait_ms") members) wait.0;
+    let f = t.0 in record {
+      decision_wait = number_in top_settings members number_is.DecisionWait refl f;
       root_wait = natural_at_either members (codes "root_wait_ms") (codes "decision_wait_after_root_received_ms") (get_member (codes "root_wait_ms") members)
-          (get_member (codes "decision_wait_after_root_received_ms") members) refl refl root.0 received.0 (not_twice members t.7);
-      num_traces = positive 50000 1000000 (get_member (codes "num_traces") members) traces.0;
-      sampled_cache_size = caches.0;
-      non_sampled_cache_size = caches.1;
-      lanes = positive 1 64 (get_member (codes "lanes") members) lanes.0;
-      shards = positive 1 64 (get_member (codes "shards") members) shards.0;
-      queue_capacity = positive 1024 65536 (get_member (codes "queue_capacity") members) queue.0;
-      export_capacity = positive 1024 65536 (get_member (codes "export_capacity") members) export.0;
-      send_batch_size = positive 512 8192 (get_member (codes "send_batch_size") members) batch.0;
-      max_connections = positive 1024 65536 (get_member (codes "max_connections") members) connections.0;
-      memory_limit_mib = natural 1048576 (get_member (codes "memory_limit_mib") members) memory.0;
-      maximum_trace_size = natural 1073741824 (get_member (codes "maximum_trace_size_bytes") members) memory.1;
-      tick = positive 1000 60000 (get_member (codes "tick_ms") members) shards.1;
-      listen = text (codes "listen") (codes "127.0.0.1:4318") members (get_member (codes "listen") members) refl t.2;
-      admin = text (codes "admin") [] members (get_member (codes "admin") members) refl close.1;
-      accept_gzip = truth (codes "accept_gzip") members (get_member (codes "accept_gzip") members) refl t.5;
-      waits_for_room = choice (choice_row choice_is.QueueFull) members (get_member (codes "queue_full") members) refl queue_full.0;
-      stops_at_output_fault = choice (choice_row choice_is.OutputFault) members (get_member (codes "output_fault") members) refl output.0;
-      keeps_doubles = choice (choice_row choice_is.DoubleValues) members (get_member (codes "double_values") members) refl doubles.0;
-      export = exports members (get_member (codes "export") members) refl t.9;
-      close_at_end_of_input = truth (codes "close_at_end_of_input") members (get_member (codes "close_at_end_of_input") members) refl close.0;
+          (get_member (codes "decision_wait_after_root_received_ms") members) refl refl (free top_settings members (codes "root_wait_ms") (root_setting number_is.RootWait) refl f)
+          (free top_settings members (codes "decision_wait_after_root_received_ms") (root_setting number_is.RootReceived) refl f) (not_twice members t.4);
+      num_traces = number_in top_settings members number_is.NumTraces refl f;
+      sampled_cache_size = cache members number_is.SampledCacheSize (get_member (codes "decision_cache") members) refl t.1 refl;
+      non_sampled_cache_size = cache members number_is.NonSampledCacheSize (get_member (codes "decision_cache") members) refl t.1 refl;
+      lanes = number_in top_settings members number_is.Lanes refl f;
+      shards = number_in top_settings members number_is.Shards refl f;
+      queue_capacity = number_in top_settings members number_is.QueueCapacity refl f;
+      export_capacity = number_in top_settings members number_is.ExportCapacity refl f;
+      send_batch_size = number_in top_settings members number_is.SendBatchSize refl f;
+      max_connections = number_in top_settings members number_is.MaxConnections refl f;
+      memory_limit_mib = number_in top_settings members number_is.MemoryLimit refl f;
+      maximum_trace_size = number_in top_settings members number_is.MaximumTraceSize refl f;
+      tick = number_in top_settings members number_is.Tick refl f;
+      listen = text (codes "listen") (codes "127.0.0.1:4318") members (get_member (codes "listen") members) refl (free top_settings members (codes "listen") _ refl f);
+      accept_gzip = switched members (codes "accept_gzip") refl f;
+      waits_for_room = chosen members choice_is.QueueFull refl f;
+      stops_at_output_fault = chosen members choice_is.OutputFault refl f;
+      keeps_doubles = chosen members choice_is.DoubleValues refl f;
+      close_at_end_of_input = switched members (codes "close_at_end_of_input") refl f;
+      admin = text (codes "admin") [] members (get_member (codes "admin") members) refl (free top_settings members (codes "admin") _ refl f);
+      export = exports members (get_member (codes "export") members) refl t.2;
     }
 
 -- what is read as a configuration is the table's, which has no fault

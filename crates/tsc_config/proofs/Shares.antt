@@ -1,13 +1,10 @@
--- The share of a total, and the order of the parts of a composite.
--- For the contracts of `percentage`, `is_order` and `policies_are_of_their_keys`.
-use Rattle.std.proofs.Common.{Bool, true, false, ◌≡◌, ℕ, zero, suc, ◌*◌, ◌/◌, ◌≤◌, ◌==◌, List, [], ◌∷◌, map, drop, length, arith, refl, sym, ap, ◌∙◌}
+-- The share of a total, and the parts of a composite.
+-- For the contracts of `percentage` and `policies_are_of_their_keys`.
+use Rattle.std.proofs.Common.{Bool, true, false, ◌≡◌, ℕ, ◌*◌, ◌/◌, ◌≤◌, List, [], ◌∷◌, map, arith, refl, sym, ap, ◌∙◌}
 use Rattle.std.proofs.Math.Nat.{div-le_of_le-mul, mul-le-mul_left}
-use Rattle.std.proofs.lemmas.Bool.Decides.{nat_tests}
 use Rattle.std.proofs.lemmas.Slice.Eq.{bytes_eq-Decides}
 use Rattle.std.specs.Str.{bytes_eq}
-use Rattle.toml.specs.Data.{Items, no_items}
-use Rattle.toml.specs.View.{items_view}
-use Rattle.toml.specs.declared.value.Value.{Value}
+use Rattle.toml.specs.Data.{Items}
 use Rattle.policy_tree.specs.declared.policy.Policy.{Policy}
 use Rattle.policy_tree.specs.declared.policy.PolicyKind.{PolicyKind}
 use Rattle.policy_tree.specs.declared.policy.PolicyKind.TheOpen.{PolicyKind-F}
@@ -15,23 +12,12 @@ use Rattle.policy_tree.specs.declared.policy.PolicyKind.TheVariants as kind_is
 use Rattle.policy_tree.specs.declared.policy.PolicyKind.TheVariants.{rolls-Joined}
 use Rattle.policy_tree.specs.declared.policy.PolicyKind.TheViews.{out-PolicyKind, out-roll-PolicyKind}
 use Rattle.policy_tree.specs.declared.policy.Join.TheVariants as join_is
-use Rattle.tsc_config.specs.Composites.{is_order}
 use Rattle.tsc_config.specs.Values.{share_limit, percent_among, limiter_beside, within_share}
 use Rattle.tsc_config.specs.PolicyKeys.{first_in, unshared}
 
 -- a percentage of a number is within it
 pub within_total : (total percent : ℕ) → percent ≤ 100 → total * percent / 100 ≤ total
 within_total total percent h = let m : total * percent ≤ total * 100 = mul-le-mul_left total h in div-le_of_le-mul 100 (omega (arith, m))
-
--- where no part is left, no text may be
-pub none_left : (order : List Value) (index : ℕ) → index ≤ length order → is_order (items_view (drop index order)) no_items ≡ (index == length order)
-none_left [] zero h = refl
-none_left [] (suc index) h = absurd (omega (arith, h))
-none_left (text ∷ order) zero h = let no : (zero == length (text ∷ order)) ≡ false = grind (arith, nat_tests) in sym no
-none_left (text ∷ order) (suc index) h = none_left order index (omega (arith, h)) ∙ one_more index (length order)
-  where
-    one_more : (m n : ℕ) → (m == n) ≡ (suc m == suc n)
-    one_more m n = grind (arith, nat_tests)
 
 -- the parts within their shares are those that were given
 pub unshared_are : (total count : ℕ) (allocations : Items) (parts : List Policy) → unshared (map (within_share total count allocations) parts) ≡ parts

@@ -1,5 +1,5 @@
 -- A text among some is no expression just where the test of them says so.
--- For the contracts of `answers_least_fault` and `lists_each_fault`.
+-- For the contracts of `answers_least_fault` here and of `lists_each_fault` in `config_findings`.
 use Rattle.std.proofs.Common.{◌≡◌, ℕ, zero, suc, Bool, true, false, ◌⊎◌, inl, inr, refl, not, ◌||◌, arith, List, [], ◌∷◌}
 use Rattle.expression.specs.Expressions.{is_expression}
 use Rattle.tsc_config.specs.FaultSets.{SomeIsNone}

@@ -7,7 +7,7 @@ use Rattle.toml.specs.Data.{Members}
 use Rattle.toml.specs.Parse.{parse_document}
 use Rattle.policy_tree.specs.Faults.{fault_of_policies}
 use Rattle.policy_tree.specs.declared.fault.PolicyFault.{PolicyFault}
-use Rattle.tsc_config.specs.Faults.{config_fault_number, table_fault}
+use Rattle.config_faults.specs.Faults.{config_fault_number, table_fault}
 use Rattle.tsc_config.specs.FaultSets.{IsLeastOf, HasFault, SomeIsNone, DocumentHas, TextHas}
 use Rattle.tsc_config.specs.Reading.{expressions_among, some_is_none, reading, reading_of, reading_unless, reading_with, reading_where}
 use Rattle.tsc_config.specs.Values.{config_of}
@@ -15,8 +15,8 @@ use Rattle.tsc_config.proofs.FaultSets.{alone, table_least}
 use Rattle.tsc_config.proofs.Bounds.{IsSmall, table_small}
 use Rattle.tsc_config.proofs.SomeIsNone.{some_is, is_some}
 use Rattle.tsc_config.specs.declared.config.Config.{Config}
-use Rattle.tsc_config.specs.declared.fault.ConfigFault.{ConfigFault}
-use Rattle.tsc_config.specs.declared.fault.ConfigFault.TheVariants.{NotToml, TooFewTraces, Policy, NotAnExpression}
+use Rattle.config_faults.specs.declared.fault.ConfigFault.{ConfigFault}
+use Rattle.config_faults.specs.declared.fault.ConfigFault.TheVariants.{NotToml, TooFewTraces, Policy, NotAnExpression}
 
 -- the faults of a configuration beside those of its table
 abbrev Beside : (few : Type 0) → Option PolicyFault → (texts : List (List ℕ)) → ConfigFault → Type 0

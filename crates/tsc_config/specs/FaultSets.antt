@@ -1,5 +1,5 @@
 -- The faults of a configuration as a set: each row may have one, and the least of all is answered.
-use Rattle.std.specs.Prelude.{◌≡◌, ◌≢◌, ℕ, ◌<◌, ◌≤◌, ℤ, pos, Bool, true, false, List, [], ◌∷◌, ◌⊎◌, codes, Option, None, Some, Result, Ok, Err}
+use Rattle.std.specs.Prelude.{◌≡◌, ◌≢◌, ℕ, ◌<◌, ◌≤◌, Bool, true, false, List, [], ◌∷◌, ◌⊎◌, codes, Option, None, Some, Result, Ok, Err}
 use Rattle.std.specs.List.{Contains}
 use Rattle.std.specs.Str.{bytes_eq}
 use Rattle.toml.specs.Data.{Data, array, table, Items, no_items, item, Members, no_members, member, get_member}
@@ -9,20 +9,22 @@ use Rattle.policy_tree.specs.Faults.{fault_of_policies}
 use Rattle.policy_tree.specs.declared.fault.PolicyFault.{PolicyFault}
 use Rattle.policy_tree.specs.declared.policy.Join.{Join}
 use Rattle.policy_tree.specs.declared.policy.Join.TheVariants as join_is
-use Rattle.tsc_config.specs.Exports.{export_settings}
-use Rattle.tsc_config.specs.Keys.{type_name, type_at, join_type, join_name, sub_key, join_at}
-use Rattle.tsc_config.specs.Faults.{config_fault_number, optional, required, unknown_fault, integer_fault, text_fault, truth_fault, choice_fault, type_fault, item_fault, wanted_fault, order_fault, twice_fault}
-use Rattle.tsc_config.specs.PolicySettings.{Setting, settings}
-use Rattle.tsc_config.specs.declared.policy_settings.ValueKind.{ValueKind}
-use Rattle.tsc_config.specs.declared.policy_settings.ValueKind.TheVariants as value_is
+use Rattle.config_faults.specs.Tables.{top_settings, cache_settings, export_settings}
+use Rattle.config_faults.specs.PolicyTypes.{type_name, settings}
+use Rattle.config_faults.specs.Keys.{type_at, join_type, join_name, sub_key, join_at}
+use Rattle.config_faults.specs.Faults.{config_fault_number, required, unknown_fault, text_fault, type_fault, item_fault, wanted_fault, order_fault, twice_fault}
+use Rattle.config_faults.specs.Setting.{Setting}
+use Rattle.config_faults.specs.declared.settings.ValueKind.{ValueKind}
+use Rattle.config_faults.specs.declared.settings.ValueKind.TheVariants as value_is
 use Rattle.tsc_config.specs.Reading.{expressions_among}
 use Rattle.tsc_config.specs.Values.{config_of}
 use Rattle.tsc_config.specs.declared.config.Config.{Config}
-use Rattle.tsc_config.specs.declared.fault.ConfigFault.{ConfigFault}
-use Rattle.tsc_config.specs.declared.fault.ConfigFault.TheVariants.{NotToml, MissingKey, WrongType, TooFewTraces, Policy, NotAnExpression}
-use Rattle.tsc_config.specs.declared.kinds.PolicyType.{PolicyType}
-use Rattle.tsc_config.specs.declared.kinds.PolicyType.TheVariants as type_is
-use Rattle.tsc_config.specs.declared.kinds.TableKind.TheVariants as table_is
+use Rattle.config_faults.specs.declared.fault.ConfigFault.{ConfigFault}
+use Rattle.config_faults.specs.declared.fault.ConfigFault.TheVariants.{NotToml, MissingKey, WrongType, TooFewTraces, Policy, NotAnExpression}
+use Rattle.config_faults.specs.declared.policy_types.PolicyType.{PolicyType}
+use Rattle.config_faults.specs.declared.policy_types.PolicyType.TheVariants as type_is
+use Rattle.config_faults.specs.declared.keys.TableKind.{TableKind}
+use Rattle.config_faults.specs.declared.keys.TableKind.TheVariants as table_is
 
 -- the answer is a fault of the set, with no lesser one; and None only of a set with no fault
 abbrev pub IsLeastOf : (Has : ConfigFault → Type 0) → (answer : Option ConfigFault) → Type 0
@@ -70,10 +72,14 @@ SomeSettingHas (s ∷ rest) given fault = KeyHas s.is_required s.value (get_memb
 abbrev pub RowsHave : PolicyType → Members → ConfigFault → Type 0
 RowsHave kind members fault = SomeSettingHas (settings kind) members fault
 
+-- a table of this kind with these settings has this fault
+abbrev pub TableHas : TableKind → List Setting → Data → ConfigFault → Type 0
+TableHas kind rows (table members) fault = (unknown_fault kind members ≡ Some fault) ⊎ SomeSettingHas rows members fault
+TableHas kind rows _ fault = fault ≡ WrongType
+
 -- the settings of a policy of this type have this fault
 abbrev pub SettingsHave : PolicyType → Data → ConfigFault → Type 0
-SettingsHave kind (table members) fault = (unknown_fault (table_is.Settings kind) members ≡ Some fault) ⊎ RowsHave kind members fault
-SettingsHave kind _ fault = fault ≡ WrongType
+SettingsHave kind value fault = TableHas (table_is.Settings kind) (settings kind) value fault
 
 -- the settings of a policy table of this type have this fault, where those of a type that is made of others have the
 -- nested ones
@@ -143,68 +149,20 @@ abbrev mutual
 
 -- the table of the caches of decisions has this fault
 abbrev pub CacheHas : Data → ConfigFault → Type 0
-CacheHas (table members) fault =
-    (unknown_fault table_is.DecisionCache members ≡ Some fault)
-    ⊎ ((optional (integer_fault (pos 0) (pos 1000000)) (get_member (codes "sampled_cache_size") members) ≡ Some fault)
-    ⊎ (optional (integer_fault (pos 0) (pos 1000000)) (get_member (codes "non_sampled_cache_size") members) ≡ Some fault))
-CacheHas _ fault = fault ≡ WrongType
+CacheHas value fault = TableHas table_is.DecisionCache cache_settings value fault
 
 -- the table of `export` has this fault
 abbrev pub ExportHas : Data → ConfigFault → Type 0
-ExportHas (table members) fault = (unknown_fault table_is.Export members ≡ Some fault) ⊎ SomeSettingHas export_settings members fault
-ExportHas _ fault = fault ≡ WrongType
-
--- the number at this key isn't one from 1 to the greatest
-abbrev pub NumberHas : Members → (key : List ℕ) → (greatest : ℤ) → ConfigFault → Type 0
-NumberHas members key greatest fault = optional (integer_fault (pos 1) greatest) (get_member key members) ≡ Some fault
-
--- some row of the numbers has this fault
-abbrev pub NumbersHave : Members → ConfigFault → Type 0
-NumbersHave members fault =
-    NumberHas members (codes "decision_wait_ms") (pos 3600000) fault
-    ⊎ ((optional (integer_fault (pos 0) (pos 3600000)) (get_member (codes "root_wait_ms") members) ≡ Some fault)
-    ⊎ ((optional (integer_fault (pos 0) (pos 3600000)) (get_member (codes "decision_wait_after_root_received_ms") members) ≡ Some fault)
-    ⊎ (NumberHas members (codes "num_traces") (pos 1000000) fault
-    ⊎ (NumberHas members (codes "lanes") (pos 64) fault
-    ⊎ (NumberHas members (codes "shards") (pos 64) fault
-    ⊎ NumberHas members (codes "tick_ms") (pos 60000) fault)))))
-
--- some row of the sizes has this fault
-abbrev pub SizesHave : Members → ConfigFault → Type 0
-SizesHave members fault =
-    NumberHas members (codes "queue_capacity") (pos 65536) fault
-    ⊎ (NumberHas members (codes "export_capacity") (pos 65536) fault
-    ⊎ (NumberHas members (codes "send_batch_size") (pos 8192) fault
-    ⊎ (NumberHas members (codes "max_connections") (pos 65536) fault
-    ⊎ ((optional (integer_fault (pos 0) (pos 1048576)) (get_member (codes "memory_limit_mib") members) ≡ Some fault)
-    ⊎ (optional (integer_fault (pos 0) (pos 1073741824)) (get_member (codes "maximum_trace_size_bytes") members) ≡ Some fault)))))
-
--- what stands at this key is none of these two texts
-abbrev pub ChoiceHas : Members → (key default other : List ℕ) → ConfigFault → Type 0
-ChoiceHas members key default other fault = optional (choice_fault (record { name = key; default = default; other = other })) (get_member key members) ≡ Some fault
-
--- some row of the choices has this fault
-abbrev pub ChoicesHave : Members → ConfigFault → Type 0
-ChoicesHave members fault =
-    ChoiceHas members (codes "queue_full") (codes "partial") (codes "retry") fault
-    ⊎ (ChoiceHas members (codes "output_fault") (codes "discard") (codes "stop") fault
-    ⊎ (ChoiceHas members (codes "double_values") (codes "discard") (codes "keep") fault
-    ⊎ ((optional truth_fault (get_member (codes "close_at_end_of_input") members) ≡ Some fault)
-    ⊎ (optional text_fault (get_member (codes "admin") members) ≡ Some fault))))
+ExportHas value fault = TableHas table_is.Export export_settings value fault
 
 -- the table of a configuration has this fault
 abbrev pub HasFault : Members → ConfigFault → Type 0
 HasFault members fault =
     ((unknown_fault table_is.Config members ≡ Some fault) ⊎ (twice_fault members ≡ Some fault))
-    ⊎ (NumbersHave members fault
-    ⊎ (SizesHave members fault
-    ⊎ ((optional text_fault (get_member (codes "listen") members) ≡ Some fault)
-    ⊎ ((optional truth_fault (get_member (codes "accept_gzip") members) ≡ Some fault)
-    ⊎ ((optional truth_fault (get_member (codes "sample_on_first_match") members) ≡ Some fault)
-    ⊎ (ChoicesHave members fault
+    ⊎ (SomeSettingHas top_settings members fault
     ⊎ (OptionalHas CacheHas (get_member (codes "decision_cache") members) fault
     ⊎ (OptionalHas ExportHas (get_member (codes "export") members) fault
-    ⊎ RequiredHas PoliciesHave (get_member (codes "policies") members) fault))))))))
+    ⊎ RequiredHas PoliciesHave (get_member (codes "policies") members) fault)))
 
 -- some text that is wanted to be a regular expression is none
 abbrev pub SomeIsNone : List (List ℕ) → Type 0
@@ -224,7 +182,8 @@ DocumentHas (Some members) fault =
 abbrev pub TextHas : List ℕ → ConfigFault → Type 0
 TextHas text fault = DocumentHas (parse_document text) fault
 
--- `ExpressionTooBig` is in no set, since how much an expression takes isn't told by the text: it is answered only where what the text is read as is a configuration, and its policies have an expression
+-- `ExpressionTooBig` is in no set, since how much an expression takes isn't told by the text: it is answered only where
+-- what the text is read as is a configuration, and its policies have an expression
 abbrev pub MayBeTooBig : Result Config ConfigFault → Type 0
 MayBeTooBig (Ok config) = expressions_among config.policies ≢ []
 MayBeTooBig (Err fault) = ⊥

@@ -15,11 +15,11 @@ use Rattle.policy_tree.specs.declared.policy.Wanted.{Wanted}
 use Rattle.policy_tree.specs.declared.policy.Wanted.TheVariants.{StringAmong, StringMatching, NumberWithin, Boolean}
 use Rattle.policy_tree.specs.declared.policy.Join.{Join}
 use Rattle.policy_tree.specs.declared.policy.Join.TheVariants as join_is
-use Rattle.tsc_config.specs.Keys.{join_name, sub_key, join_at}
-use Rattle.tsc_config.specs.Percentages.{over_ten_thousand}
+use Rattle.config_faults.specs.Keys.{join_name, sub_key, join_at}
+use Rattle.config_faults.specs.Percentages.{over_ten_thousand}
 use Rattle.tsc_config.specs.Reading.{reading}
 use Rattle.tsc_config.specs.Settings.{IsNumberAt}
-use Rattle.tsc_config.specs.Composites.{is_ordered}
+use Rattle.config_faults.specs.Composites.{is_ordered}
 use Rattle.tsc_config.specs.Values.{matched, items_at, within_share}
 use Rattle.tsc_config.specs.declared.config.Config.{Config}
 
@@ -174,7 +174,8 @@ pub record IsPolicy (members : Members) (policy : Policy) : Type 0 where
   pub name : IsText members (codes "name") policy.name
   pub kind : IsKind members policy.kind
 
--- ---- all policies, each by its place: the number of its item in `policies`, or further that of an item in the policies that the one before is made of
+-- ---- all policies, each by its place: the number of its item in `policies`, or further that of an item in the policies
+-- that the one before is made of
 
 -- the items of an array
 abbrev pub items_of : Option Data → Items

@@ -3,8 +3,8 @@ use Rattle.std.specs.Prelude.{[], ◌≡◌, ℕ, ◌≤◌, pos, Bool, true, fa
 use Rattle.toml.specs.Data.{string, integer, boolean, table, Members, get_member}
 use Rattle.toml.specs.Parse.{parse_document}
 use Rattle.tsc_config.specs.Reading.{reading}
-use Rattle.tsc_config.specs.Exports.{is_endpoint}
-use Rattle.tsc_config.specs.Headers.{AreFields}
+use Rattle.config_faults.specs.Exports.{is_endpoint}
+use Rattle.tsc_config.specs.HeaderFields.{AreFields}
 use Rattle.tsc_config.specs.declared.config.Config.{Config}
 use Rattle.tsc_config.specs.declared.exports.Export.{Export}
 use Rattle.tsc_config.specs.declared.headers.HeaderField.{HeaderField}

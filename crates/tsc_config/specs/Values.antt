@@ -1,5 +1,5 @@
 -- What the table of a configuration gives. Of a table with a fault this says nothing that counts.
-use Rattle.std.specs.Prelude.{suc, ℕ, ℤ, pos, negsuc, Bool, true, false, List, [], ◌∷◌, codes, Option, Some, None, option_and_then, if◌then◌else◌, nat_lt, nat_le, ◌&&◌, ◌*◌, ◌/◌, max, min, map, length, ◌<◌, ◌≤◌}
+use Rattle.std.specs.Prelude.{ℕ, ℤ, pos, negsuc, Bool, true, false, List, [], ◌∷◌, codes, Option, Some, None, option_and_then, if◌then◌else◌, nat_le, ◌&&◌, ◌*◌, ◌/◌, max, min, map, length, ◌<◌, ◌≤◌}
 use Rattle.std.specs.Option.{unwrap_or}
 use Rattle.std.specs.Str.{bytes_eq}
 use Rattle.toml.specs.Data.{Data, as_str, as_array, string, integer, boolean, array, table, Items, no_items, item, Members, no_members, member, get_member}
@@ -14,30 +14,32 @@ use Rattle.policy_tree.specs.declared.policy.Leaf.{Leaf}
 use Rattle.policy_tree.specs.declared.policy.Leaf.TheVariants as leaf_is
 use Rattle.policy_tree.specs.declared.policy.Wanted.{Wanted}
 use Rattle.policy_tree.specs.declared.policy.Wanted.TheVariants.{StringAmong, StringMatching, NumberWithin, Boolean}
-use Rattle.tsc_config.specs.Composites.{is_text}
-use Rattle.tsc_config.specs.Headers.{headers_of}
-use Rattle.tsc_config.specs.Percentages.{percentage_of}
-use Rattle.tsc_config.specs.Keys.{NumberRow, number_row, ChoiceRow, choice_row, type_name, type_at, code_of, join_name, sub_key, join_at}
-use Rattle.tsc_config.specs.declared.kinds.ChoiceKey.TheVariants as choice_is
-use Rattle.tsc_config.specs.declared.kinds.NumberKey.TheVariants as number_is
-use Rattle.tsc_config.specs.declared.kinds.PolicyType.{PolicyType}
-use Rattle.tsc_config.specs.declared.kinds.PolicyType.TheVariants as type_is
+use Rattle.config_faults.specs.Composites.{is_text}
+use Rattle.tsc_config.specs.HeaderFields.{headers_of}
+use Rattle.config_faults.specs.Percentages.{percentage_of}
+use Rattle.config_faults.specs.Tables.{NumberRow, number_row, ChoiceRow, choice_row}
+use Rattle.config_faults.specs.PolicyTypes.{type_name}
+use Rattle.config_faults.specs.Keys.{type_at, code_of, join_name, sub_key, join_at}
+use Rattle.config_faults.specs.declared.tables.ChoiceKey.TheVariants as choice_is
+use Rattle.config_faults.specs.declared.tables.NumberKey.TheVariants as number_is
+use Rattle.config_faults.specs.declared.policy_types.PolicyType.{PolicyType}
+use Rattle.config_faults.specs.declared.policy_types.PolicyType.TheVariants as type_is
 use Rattle.tsc_config.specs.declared.config.Config.{Config}
 use Rattle.tsc_config.specs.declared.exports.Export.{Export}
 
--- a number from 1 to the greatest; any other value counts as absent
-abbrev pub positive_value : (default greatest : ℕ) → Data → ℕ
-positive_value default greatest (integer (pos (suc number))) = if nat_lt number greatest then suc number else default
-positive_value default greatest _ = default
+-- the number of a value, within the bounds of this row; any other value counts as absent
+abbrev pub bounded_value : NumberRow → Data → ℕ
+bounded_value row (integer (pos number)) = if nat_le row.lowest number && nat_le number row.greatest then number else row.default
+bounded_value row _ = row.default
 
--- the number at a key, from 1 to the greatest
-abbrev pub positive_of : (default greatest : ℕ) → Option Data → ℕ
-positive_of default greatest None = default
-positive_of default greatest (Some value) = positive_value default greatest value
+-- the number of what stands at a key of this row
+abbrev pub bounded_of : NumberRow → Option Data → ℕ
+bounded_of row None = row.default
+bounded_of row (Some value) = bounded_value row value
 
--- the number at a key of this row
-abbrev pub positive_by : NumberRow → Members → ℕ
-positive_by row members = positive_of row.default row.greatest (get_member row.name members)
+-- the number of a table at the key of this row
+abbrev pub number_by : NumberRow → Members → ℕ
+number_by row members = bounded_of row (get_member row.name members)
 
 -- a number that is at least 0
 abbrev pub natural_value : Data → ℕ
@@ -54,15 +56,19 @@ abbrev pub first_found : Option Data → Option Data → Option Data
 first_found None second = second
 first_found (Some value) second = Some value
 
--- the size at a key of a table of sizes
-abbrev pub size_in : (key : List ℕ) → Data → ℕ
-size_in key (table members) = natural_of (get_member key members)
-size_in key _ = 0
+-- the wait from a trace's root on, at whichever of its two names it stands
+abbrev pub root_wait_of : Members → ℕ
+root_wait_of members = bounded_of (number_row number_is.RootWait) (first_found (get_member (number_row number_is.RootWait).name members) (get_member (number_row number_is.RootReceived).name members))
 
--- the size at a key of the table of sizes at a key
-abbrev pub cache_size : (key : List ℕ) → Option Data → ℕ
-cache_size key None = 0
-cache_size key (Some value) = size_in key value
+-- the number of this row in a table of sizes
+abbrev pub size_in : NumberRow → Data → ℕ
+size_in row (table sizes) = number_by row sizes
+size_in row _ = row.default
+
+-- the same in the table at a key
+abbrev pub cache_size : NumberRow → Option Data → ℕ
+cache_size row None = row.default
+cache_size row (Some value) = size_in row value
 
 -- the bytes of a text
 abbrev pub text_value : Data → List ℕ
@@ -349,12 +355,12 @@ InRange config = record {
 abbrev pub export_in : Members → Export
 export_in members = record {
   endpoint = text_of (get_member (codes "endpoint") members);
-  timeout = number_or 10000 (get_member (codes "timeout_ms") members);
-  retry_initial = number_or 500 (get_member (codes "retry_initial_ms") members);
-  retry_max = number_or 30000 (get_member (codes "retry_max_ms") members);
-  retry_for = number_or 300000 (get_member (codes "retry_for_ms") members);
-  close_wait = number_or 10000 (get_member (codes "close_wait_ms") members);
-  queue_batches = number_or 256 (get_member (codes "queue_batches") members);
+  timeout = number_by (number_row number_is.Timeout) members;
+  retry_initial = number_by (number_row number_is.RetryInitial) members;
+  retry_max = number_by (number_row number_is.RetryMax) members;
+  retry_for = number_by (number_row number_is.RetryFor) members;
+  close_wait = number_by (number_row number_is.CloseWait) members;
+  queue_batches = number_by (number_row number_is.QueueBatches) members;
   lines = truth_of (get_member (codes "lines") members);
   headers = headers_of (get_member (codes "headers") members);
 }
@@ -371,21 +377,21 @@ export_of (Some value) = export_value value
 -- the configuration of a table
 abbrev pub config_of : Members → Config
 config_of members = record {
-  decision_wait = positive_by (number_row number_is.DecisionWait) members;
-  root_wait = natural_of (first_found (get_member (number_row number_is.RootWait).name members) (get_member (number_row number_is.RootReceived).name members));
-  num_traces = positive_by (number_row number_is.NumTraces) members;
-  sampled_cache_size = cache_size (codes "sampled_cache_size") (get_member (codes "decision_cache") members);
-  non_sampled_cache_size = cache_size (codes "non_sampled_cache_size") (get_member (codes "decision_cache") members);
+  decision_wait = number_by (number_row number_is.DecisionWait) members;
+  root_wait = root_wait_of members;
+  num_traces = number_by (number_row number_is.NumTraces) members;
+  sampled_cache_size = cache_size (number_row number_is.SampledCacheSize) (get_member (codes "decision_cache") members);
+  non_sampled_cache_size = cache_size (number_row number_is.NonSampledCacheSize) (get_member (codes "decision_cache") members);
   policies = policies_given members;
-  lanes = positive_by (number_row number_is.Lanes) members;
-  shards = positive_by (number_row number_is.Shards) members;
-  queue_capacity = positive_by (number_row number_is.QueueCapacity) members;
-  export_capacity = positive_by (number_row number_is.ExportCapacity) members;
-  send_batch_size = positive_by (number_row number_is.SendBatchSize) members;
-  max_connections = positive_by (number_row number_is.MaxConnections) members;
-  memory_limit_mib = natural_of (get_member (number_row number_is.MemoryLimit).name members);
-  maximum_trace_size = natural_of (get_member (number_row number_is.MaximumTraceSize).name members);
-  tick = positive_by (number_row number_is.Tick) members;
+  lanes = number_by (number_row number_is.Lanes) members;
+  shards = number_by (number_row number_is.Shards) members;
+  queue_capacity = number_by (number_row number_is.QueueCapacity) members;
+  export_capacity = number_by (number_row number_is.ExportCapacity) members;
+  send_batch_size = number_by (number_row number_is.SendBatchSize) members;
+  max_connections = number_by (number_row number_is.MaxConnections) members;
+  memory_limit_mib = number_by (number_row number_is.MemoryLimit) members;
+  maximum_trace_size = number_by (number_row number_is.MaximumTraceSize) members;
+  tick = number_by (number_row number_is.Tick) members;
   listen = address_of (codes "127.0.0.1:4318") (get_member (codes "listen") members);
   admin = address_of [] (get_member (codes "admin") members);
   accept_gzip = truth_of (get_member (codes "accept_gzip") members);

@@ -1,71 +1,15 @@
-//! The parts of a composite: their order, and the share of each.
+//! The shares of the parts of a composite.
 ghost use Rattle.std.specs.Prelude.{◌≡◌, ◌≤◌, ◌*◌, ◌/◌, IfOk, IfSome, codes};
 ghost use Rattle.toml.specs.Data.{get_member};
 ghost use Rattle.toml.specs.View.{view, table_view, items_view};
-ghost use Rattle.tsc_config.specs.Composites as names;
-ghost use Rattle.tsc_config.specs.Faults as faults;
 ghost use Rattle.tsc_config.specs.Values as spec;
 
-use crate::fault::ConfigFault;
-use crate::keys::member;
 use crate::settings_values::{items_at, natural_at};
+use config_faults::{is_text_at, member};
 use otlp_types::{List, Text, TryClone};
 use policy_tree::{Join, Limit, Policy, PolicyKind};
 use std::alloc::{AllocError, Global};
 use toml::{Table, Value};
-
-/// The fault that a composite's order doesn't name its parts as they stand there.
-pub fn order_fault(join: Join, settings: &Table) -> Option<ConfigFault>
-    ensures { result ≡ faults.order_fault join (table_view settings.now) }
-{
-    match join {
-        Join::FirstMatch if !is_ordered(settings) => Some(ConfigFault::OutOfRange),
-        _ => None,
-    }
-}
-
-fn is_ordered(settings: &Table) -> bool
-    ensures { result ≡ names.is_ordered (get_member (codes "policy_order") (table_view settings.now)) (get_member (codes "composite_sub_policy") (table_view settings.now)) }
-{
-    let parts = member(settings, "composite_sub_policy");
-    match (member(settings, "policy_order"), parts) {
-        (Some(Value::Array(order)), Some(Value::Array(parts))) => {
-            is_order(order.as_slice(), parts.as_slice())
-        }
-        _ => true,
-    }
-}
-
-fn is_order(order: &[Value], parts: &[Value]) -> bool
-    ensures { result ≡ names.is_order (items_view order.now) (items_view parts.now) }
-{
-    let mut index = 0;
-    for part in parts {
-        match order.get(index) {
-            Some(text) if is_name(text, part) => index += 1,
-            _ => return false,
-        }
-    }
-    index == order.len()
-}
-
-fn is_name(text: &Value, part: &Value) -> bool
-    ensures { result ≡ names.is_name (view text.now) (view part.now) }
-{
-    match (text, part) {
-        (Value::String(text), Value::Table(table)) => is_text_at(text.as_str(), table, "name"),
-        _ => false,
-    }
-}
-
-fn is_text_at(text: &str, table: &Table, key: &str) -> bool
-    ensures { result ≡ names.is_text text.now (get_member key.now (table_view table.now)) }
-{
-    match member(table, key) {
-        Some(Value::String(found)) => text == found.as_str(),
-        _ => false,
-    }
-}
 
 /// The parts of a composite, each within its share, by the value at the key of its settings.
 pub fn composite_of(

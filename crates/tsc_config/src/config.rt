@@ -1,23 +1,19 @@
 //! A configuration, and how a text is read as one.
 ghost use Rattle.std.specs.Prelude.{◌≡◌, ◌≢◌, ◌<◌, ◌≤◌, ◌/◌, ◌⊎◌, Some, Ok, Err, IfOk, IfErr};
+ghost use Rattle.config_faults.specs.Faults.{table_fault};
+ghost use Rattle.config_faults.specs.declared.fault.ConfigFault.{ConfigFault};
+ghost use Rattle.config_faults.specs.declared.fault.ConfigFault.TheVariants.{NoMemory, ExpressionTooBig};
 ghost use Rattle.toml.specs.Errors.{IsBlank};
 ghost use Rattle.toml.specs.View.{table_view};
 ghost use Rattle.tsc_config.specs.FaultSets.{MayBeTooBig};
-ghost use Rattle.tsc_config.specs.Faults.{table_fault};
 ghost use Rattle.tsc_config.specs.Reading.{reading, reading_of_table};
 ghost use Rattle.tsc_config.specs.Values.{InRange, config_of};
-ghost use Rattle.tsc_config.specs.declared.fault.ConfigFault.{ConfigFault};
-ghost use Rattle.tsc_config.specs.declared.fault.ConfigFault.TheVariants.{NoMemory, ExpressionTooBig};
 
 use crate::exports::{Export, export_at};
 use crate::expressions::check_expressions;
-use crate::fault::ConfigFault;
-use crate::fault_walk::table_fault;
-use crate::kinds::{ChoiceKey, NumberKey};
-use crate::settings_values::{natural_at, truth_at};
-use crate::values::{
-    addresses_at, cache_size_at, is_other_at, policies_at, positive_by, root_wait_at,
-};
+use crate::settings_values::{number_at, truth_at};
+use crate::values::{addresses_at, cache_size_at, is_other_at, policies_at, root_wait_at};
+use config_faults::{ChoiceKey, ConfigFault, NumberKey, table_fault};
 use otlp_types::Text;
 use policy_tree::Policies;
 use span_ids::Moment;
@@ -30,8 +26,8 @@ pub struct Config {
     /// How long the spans of a trace are gathered before it is decided, in milliseconds, from 1 to 3600000
     /// (tailsamplingprocessor README, `decision_wait`).
     pub decision_wait: Moment,
-    /// How long after its first span without a parent a trace is decided, where that is sooner, in milliseconds, from 0 to
-    /// 3600000, where 0 is off (this project's option `root_wait_ms`, or tailsamplingprocessor README,
+    /// How long after its first span without a parent a trace is decided, where that is sooner, in milliseconds, from 0
+    /// to 3600000, where 0 is off (this project's option `root_wait_ms`, or tailsamplingprocessor README,
     /// `decision_wait_after_root_received`).
     pub root_wait: Moment,
     /// How many traces are kept in memory at most, from 1 to 1000000 (tailsamplingprocessor README, `num_traces`).
@@ -58,8 +54,8 @@ pub struct Config {
     /// How many connections are open at once at most, over all lanes, from 1 to 65536 (this project's option
     /// `max_connections`).
     pub max_connections: usize,
-    /// Mebibytes that the process may take before requests are refused, from 0 to 1048576, where 0 is off (this project's option
-    /// `memory_limit_mib`).
+    /// Mebibytes that the process may take before requests are refused, from 0 to 1048576, where 0 is off (this
+    /// project's option `memory_limit_mib`).
     pub memory_limit_mib: u64,
     /// How many bytes the spans of a trace take at most while it waits, from 0 to 1073741824, where 0 is off; one that
     /// grows beyond that is decided at once as not sampled (tailsamplingprocessor README, `maximum_trace_size_bytes`).
@@ -79,8 +75,8 @@ pub struct Config {
     /// Whether a request for whose spans a queue lacks room is to be sent again, in place of being answered how many of
     /// them were discarded (this project's option `queue_full`, `retry`).
     pub waits_for_room: bool,
-    /// Whether the collector stops once its output fails, in place of discarding what comes after (this project's option
-    /// `output_fault`, `stop`).
+    /// Whether the collector stops once its output fails, in place of discarding what comes after (this project's
+    /// option `output_fault`, `stop`).
     pub stops_at_output_fault: bool,
     /// Whether doubles are kept, in place of discarding each attribute that holds one (this project's option
     /// `double_values`, `keep`).
@@ -120,36 +116,28 @@ impl Config {
 }
 
 /// Reads a configuration from a TOML text: `decision_wait_ms`, a whole number from 1 to 3600000, else 30000;
-/// `root_wait_ms`, or by its other name `decision_wait_after_root_received_ms`, from 0 to 3600000, else 0; `num_traces`, from 1 to 1000000, else 50000; `decision_cache`, a table of
-/// `sampled_cache_size` and `non_sampled_cache_size`, each from 0 to 1000000, else 0; `policies`, a required array of policy tables with
-/// `name`, `type` and the settings of that type; `sample_on_first_match`, true or false, else false; `lanes` and `shards`, from 1 to 64, else 1; `queue_capacity` and
-/// `export_capacity`, from 1 to 65536, else 1024; `send_batch_size`, from 1 to 8192, else 512; `max_connections`, from 1 to 65536, else 1024; `memory_limit_mib`, from 0
-/// to 1048576, else 0; `maximum_trace_size_bytes`, from 0 to 1073741824, else 0; `tick_ms`, from 1 to
-/// 60000, else 1000; `listen`, a text, else `127.0.0.1:4318`; `admin`, a text, else nothing; `accept_gzip` and `close_at_end_of_input`, true or false, else false; `queue_full`, `partial` or
-/// `retry`, else `partial`; `output_fault`, `discard` or `stop`, else `discard`; and `double_values`, `discard` or `keep`, else
-/// `discard`; and `export`, a table with a required `endpoint` ([`Export`] has its keys), else nothing is sent. Of a
-/// `string_attribute` policy `values` are regular expressions where `enabled_regex_matching` is true (tailsamplingprocessor
-/// README); its `cache_max_size`, a whole number from 0, has no effect.
+/// `root_wait_ms`, or by its other name `decision_wait_after_root_received_ms`, from 0 to 3600000, else 0;
+/// `num_traces`, from 1 to 1000000, else 50000; `decision_cache`, a table of `sampled_cache_size` and
+/// `non_sampled_cache_size`, each from 0 to 1000000, else 0; `policies`, a required array of policy tables with `name`,
+/// `type` and the settings of that type; `sample_on_first_match`, true or false, else false; `lanes` and `shards`, from
+/// 1 to 64, else 1; `queue_capacity` and `export_capacity`, from 1 to 65536, else 1024; `send_batch_size`, from 1 to
+/// 8192, else 512; `max_connections`, from 1 to 65536, else 1024; `memory_limit_mib`, from 0 to 1048576, else 0;
+/// `maximum_trace_size_bytes`, from 0 to 1073741824, else 0; `tick_ms`, from 1 to 60000, else 1000; `listen`, a text,
+/// else `127.0.0.1:4318`; `admin`, a text, else nothing; `accept_gzip` and `close_at_end_of_input`, true or false, else
+/// false; `queue_full`, `partial` or `retry`, else `partial`; `output_fault`, `discard` or `stop`, else `discard`; and
+/// `double_values`, `discard` or `keep`, else `discard`; and `export`, a table with a required `endpoint` ([`Export`]
+/// has its keys), else nothing is sent. Of a `string_attribute` policy `values` are regular expressions where
+/// `enabled_regex_matching` is true (tailsamplingprocessor README); its `cache_max_size`, a whole number from 0, has no
+/// effect.
 ///
-/// `Err` is the fault of least number that the text has ([`crate::laws::answers_least_fault`]), `NoMemory` where memory was
-/// refused, or `ExpressionTooBig` for a text that has no other fault. For a text of blanks and comments alone these two are
-/// never so: it is answered that `policies` is missing.
+/// `Err` is the fault of least number that the text has ([`crate::laws::answers_least_fault`]), `NoMemory` where memory
+/// was refused, or `ExpressionTooBig` for a text that has no other fault. For a text of blanks and comments alone these
+/// two are never so: it is answered that `policies` is missing.
 pub fn read(alloc: Global, text: &str) -> Result<Config, ConfigFault>
     ensures config { IfOk result (λ config. reading text.now ≡ Ok config) }
     ensures fault { IfErr result (λ fault. fault ≢ NoMemory → fault ≢ ExpressionTooBig → reading text.now ≡ Err fault) }
     ensures too_big { IfErr result (λ fault. fault ≡ ExpressionTooBig → MayBeTooBig (reading text.now)) }
-    ensures waits { IfOk result (λ config. 0 < config.decision_wait) }
-    ensures keeps { IfOk result (λ config. 0 < config.num_traces) }
-    ensures some_lane { IfOk result (λ config. 0 < config.lanes) }
-    ensures few_lanes { IfOk result (λ config. config.lanes ≤ 64) }
-    ensures some_shard { IfOk result (λ config. 0 < config.shards) }
-    ensures few_shards { IfOk result (λ config. config.shards ≤ 64) }
-    ensures each_keeps { IfOk result (λ config. config.shards ≤ config.num_traces) }
-    ensures queue { IfOk result (λ config. 0 < config.queue_capacity) }
-    ensures export { IfOk result (λ config. 0 < config.export_capacity) }
-    ensures batch { IfOk result (λ config. 0 < config.send_batch_size) }
-    ensures connections { IfOk result (λ config. 0 < config.max_connections) }
-    ensures ticks { IfOk result (λ config. 0 < config.tick) }
+    ensures ranges { IfOk result InRange }
     ensures memory { IfErr result (λ fault. (fault ≡ NoMemory) ⊎ (fault ≡ ExpressionTooBig) → ¬ IsBlank text.now) }
 {
     match toml::table_from_str(alloc, text) {
@@ -169,7 +157,7 @@ fn config_of(alloc: Global, table: &Table) -> Result<Config, ConfigFault>
     if let Some(fault) = table_fault(table) {
         return Err(fault);
     }
-    if positive_by(table, NumberKey::NumTraces) < positive_by(table, NumberKey::Shards) {
+    if number_at(table, NumberKey::NumTraces) < number_at(table, NumberKey::Shards) {
         return Err(ConfigFault::TooFewTraces);
     }
     let Ok(list) = policies_at(alloc, table) else {
@@ -193,21 +181,21 @@ fn given_by(alloc: Global, table: &Table, policies: Policies) -> Result<Config, 
 {
     let (listen, admin) = addresses_at(alloc, table)?;
     Ok(Config {
-        decision_wait: positive_by(table, NumberKey::DecisionWait),
+        decision_wait: number_at(table, NumberKey::DecisionWait),
         root_wait: root_wait_at(table),
-        num_traces: positive_by(table, NumberKey::NumTraces) as usize,
-        sampled_cache_size: cache_size_at(table, "sampled_cache_size"),
-        non_sampled_cache_size: cache_size_at(table, "non_sampled_cache_size"),
+        num_traces: number_at(table, NumberKey::NumTraces) as usize,
+        sampled_cache_size: cache_size_at(table, NumberKey::SampledCacheSize),
+        non_sampled_cache_size: cache_size_at(table, NumberKey::NonSampledCacheSize),
         policies,
-        lanes: positive_by(table, NumberKey::Lanes) as u16,
-        shards: positive_by(table, NumberKey::Shards) as usize,
-        queue_capacity: positive_by(table, NumberKey::QueueCapacity) as usize,
-        export_capacity: positive_by(table, NumberKey::ExportCapacity) as usize,
-        send_batch_size: positive_by(table, NumberKey::SendBatchSize) as usize,
-        max_connections: positive_by(table, NumberKey::MaxConnections) as usize,
-        memory_limit_mib: natural_at(table, NumberKey::MemoryLimit.row().0),
-        maximum_trace_size: natural_at(table, NumberKey::MaximumTraceSize.row().0),
-        tick: positive_by(table, NumberKey::Tick),
+        lanes: number_at(table, NumberKey::Lanes) as u16,
+        shards: number_at(table, NumberKey::Shards) as usize,
+        queue_capacity: number_at(table, NumberKey::QueueCapacity) as usize,
+        export_capacity: number_at(table, NumberKey::ExportCapacity) as usize,
+        send_batch_size: number_at(table, NumberKey::SendBatchSize) as usize,
+        max_connections: number_at(table, NumberKey::MaxConnections) as usize,
+        memory_limit_mib: number_at(table, NumberKey::MemoryLimit),
+        maximum_trace_size: number_at(table, NumberKey::MaximumTraceSize),
+        tick: number_at(table, NumberKey::Tick),
         listen,
         admin,
         accept_gzip: truth_at(table, "accept_gzip"),

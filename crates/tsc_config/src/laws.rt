@@ -1,8 +1,6 @@
 //! What holds of every text. The functions do nothing: their contracts are the laws.
-ghost use Rattle.std.specs.Prelude.{◌≡◌, ◌↔◌, ℕ, List, [], IsOk};
-ghost use Rattle.std.specs.List.{Contains};
+ghost use Rattle.std.specs.Prelude.{ℕ, List};
 ghost use Rattle.std.specs.Result.{result_err};
-ghost use Rattle.tsc_config.specs.FaultLists.{ListsAll, text_faults};
 ghost use Rattle.tsc_config.specs.FaultSets.{IsLeastOf, TextHas};
 ghost use Rattle.tsc_config.specs.PolicyKeys.{ReadsPolicies};
 ghost use Rattle.tsc_config.specs.Reading.{reading};
@@ -12,14 +10,6 @@ ghost use Rattle.tsc_config.specs.Settings.{ReadsSettings};
 /// configuration only where the text has no fault.
 pub fn answers_least_fault()
     ensures { (text : List ℕ) → IsLeastOf (TextHas text) (result_err (reading text)) }
-{}
-
-/// The list of the faults of a text has each fault that the text has, and no other. So it is empty exactly where the
-/// text is read as a configuration, and else that is refused for the least of the list.
-pub fn lists_each_fault()
-    ensures each { (text : List ℕ) → ListsAll (TextHas text) (text_faults text) }
-    ensures least { (text : List ℕ) → IsLeastOf (Contains (text_faults text)) (result_err (reading text)) }
-    ensures none { (text : List ℕ) → (text_faults text ≡ []) ↔ IsOk (reading text) }
 {}
 
 /// Each setting of a configuration that a text is read as is what stands at its key, which is within the key's bounds,

@@ -1,12 +1,11 @@
 //! What the settings of a policy give.
-ghost use Rattle.std.specs.Prelude.{◌≡◌, IfOk, codes};
+ghost use Rattle.std.specs.Prelude.{◌≡◌, ◌≤◌, IfOk, codes};
 ghost use Rattle.toml.specs.Data.{get_member};
 ghost use Rattle.toml.specs.View.{view, table_view, items_view};
+ghost use Rattle.config_faults.specs.Tables.{number_row};
 ghost use Rattle.tsc_config.specs.Values as spec;
 
-use crate::keys::{code_of, member};
-use crate::kinds::PolicyType;
-use crate::percentages::percentage_of;
+use config_faults::{NumberKey, PolicyType, code_of, member, percentage_of};
 use otlp_types::{List, Text};
 use policy_tree::{Leaf, Limit, PolicyKind, Wanted};
 use std::alloc::{AllocError, Global};
@@ -220,8 +219,23 @@ fn item_texts(alloc: Global, items: &[Value]) -> Result<List<Text>, AllocError>
     Ok(list)
 }
 
+/// The number at a key of a whole number, which is within its bounds, or its default.
+pub fn number_at(table: &Table, key: NumberKey) -> u64
+    requires lowest { (number_row key).lowest ≤ (number_row key).default }
+    requires greatest { (number_row key).default ≤ (number_row key).greatest }
+    ensures number { result ≡ spec.number_by (number_row key) (table_view table.now) }
+    ensures lowest { (number_row key).lowest ≤ result }
+    ensures greatest { result ≤ (number_row key).greatest }
+{
+    let (name, default, lowest, greatest) = key.row();
+    match member(table, name) {
+        Some(Value::Integer(number)) if lowest <= *number && *number <= greatest => *number as u64,
+        _ => default as u64,
+    }
+}
+
 /// The number at a key, or its default.
-pub fn number_or(settings: &Table, key: &str, default: u64) -> u64
+fn number_or(settings: &Table, key: &str, default: u64) -> u64
     ensures { result ≡ spec.number_or default (get_member key.now (table_view settings.now)) }
 {
     match member(settings, key) {

@@ -1,47 +1,31 @@
 //! What a table without a fault gives.
-ghost use Rattle.std.specs.Prelude.{◌≡◌, ◌<◌, ◌≤◌, IfOk, codes, []};
+ghost use Rattle.std.specs.Prelude.{◌≡◌, ◌≤◌, IfOk, codes, []};
 ghost use Rattle.policy_tree.specs.declared.policy.Join.TheVariants as join_is;
 ghost use Rattle.toml.specs.Data.{get_member, table as table_data};
 ghost use Rattle.toml.specs.View.{view, table_view, array_view};
-ghost use Rattle.tsc_config.specs.Keys.{choice_row, number_row, type_name};
+ghost use Rattle.config_faults.specs.PolicyTypes.{type_name};
+ghost use Rattle.config_faults.specs.Tables.{choice_row, number_row};
 ghost use Rattle.tsc_config.specs.Values as spec;
-ghost use Rattle.tsc_config.specs.declared.kinds.NumberKey.TheVariants as number_is;
 
 use crate::composites::composite_of;
-use crate::joins::{join_at, join_type, sub_key};
-use crate::keys::{member, type_at};
-use crate::kinds::{ChoiceKey, NumberKey, PolicyType};
-use crate::settings_values::{kind_in, natural_at, text_at, text_of, truth_at};
+use crate::settings_values::{kind_in, number_at, text_at, text_of, truth_at};
+use config_faults::{
+    ChoiceKey, NumberKey, PolicyType, join_at, join_type, member, sub_key, type_at,
+};
 use otlp_types::{List, Text};
 use policy_tree::{Join, Leaf, Policy, PolicyKind};
 use std::alloc::{AllocError, Global};
 use toml::value::Array;
 use toml::{Table, Value};
 
-/// The number at a key whose numbers begin with 1.
-pub fn positive_by(table: &Table, key: NumberKey) -> u64
-    requires positive { 0 < (number_row key).default }
-    requires within { (number_row key).default ≤ (number_row key).greatest }
-    ensures number { result ≡ spec.positive_by (number_row key) (table_view table.now) }
-    ensures positive { 0 < result }
-    ensures within { result ≤ (number_row key).greatest }
-{
-    let (name, default, _, greatest) = key.row();
-    match member(table, name) {
-        Some(Value::Integer(number)) if 1 <= *number && *number <= greatest => *number as u64,
-        _ => default,
-    }
-}
-
-/// The wait from a trace's root on, at whichever of its two names it stands, and 0 where there is none.
+/// The wait from a trace's root on, at whichever of its two names it stands, or its default.
 pub fn root_wait_at(table: &Table) -> u64
-    ensures { result ≡ spec.natural_of (spec.first_found (get_member (number_row number_is.RootWait).name (table_view table.now)) (get_member (number_row number_is.RootReceived).name (table_view table.now))) }
+    ensures { result ≡ spec.root_wait_of (table_view table.now) }
 {
-    let (name, ..) = NumberKey::RootWait.row();
-    let (other_name, ..) = NumberKey::RootReceived.row();
-    match member(table, name) {
-        Some(_) => natural_at(table, name),
-        None => natural_at(table, other_name),
+    if member(table, NumberKey::RootWait.row().0).is_some() {
+        number_at(table, NumberKey::RootWait)
+    } else {
+        number_at(table, NumberKey::RootReceived)
     }
 }
 
@@ -76,22 +60,26 @@ pub fn is_other_at(table: &Table, key: ChoiceKey) -> bool
     }
 }
 
-/// The size of a cache of decisions, by its key in the table of the caches.
-pub fn cache_size_at(table: &Table, key: &str) -> usize
-    ensures { result ≡ spec.cache_size key.now (get_member (codes "decision_cache") (table_view table.now)) }
+/// The size of a cache of decisions, by its key in the table of the caches, or its default.
+pub fn cache_size_at(table: &Table, key: NumberKey) -> usize
+    requires lowest { (number_row key).lowest ≤ (number_row key).default }
+    requires greatest { (number_row key).default ≤ (number_row key).greatest }
+    ensures { result ≡ spec.cache_size (number_row key) (get_member (codes "decision_cache") (table_view table.now)) }
 {
     match member(table, "decision_cache") {
         Some(value) => size_in(value, key),
-        None => 0,
+        None => key.row().1 as usize,
     }
 }
 
-fn size_in(value: &Value, key: &str) -> usize
-    ensures { result ≡ spec.size_in key.now (view value.now) }
+fn size_in(value: &Value, key: NumberKey) -> usize
+    requires lowest { (number_row key).lowest ≤ (number_row key).default }
+    requires greatest { (number_row key).default ≤ (number_row key).greatest }
+    ensures { result ≡ spec.size_in (number_row key) (view value.now) }
 {
     match value {
-        Value::Table(sizes) => natural_at(sizes, key) as usize,
-        _ => 0,
+        Value::Table(sizes) => number_at(sizes, key) as usize,
+        _ => key.row().1 as usize,
     }
 }
 

@@ -1,8 +1,8 @@
 -- A weaker word for what was played.
 -- For proofs of `script_session`.
 use Rattle.std.proofs.Common.{ℕ, ◌++◌, ◌∷◌, [], List, Option, inl, inr}
-use Rattle.tsc_script.specs.declared.stop.Stop.{Stop}
-use Rattle.tsc_script.specs.declared.stop.Stop.TheVariants.{NoMemory, Refused, Fault, Down}
+use Rattle.tsc_script.specs.declared.stop.ScriptStop.{ScriptStop}
+use Rattle.tsc_script.specs.declared.stop.ScriptStop.TheVariants.{NoMemory, Refused, Fault, Down}
 use Rattle.tsc_script.specs.Instructions.{Instruction, close}
 use Rattle.tsc_script.specs.Progress.{StopsAt, StopsAfter}
 
@@ -12,7 +12,7 @@ stops_at P Q a b n f (inl h) = inl (h.0, h.1, h.2, f h.0 h.3)
 stops_at P Q a b n f (inr h) = inr (h.0, h.1, h.2, f (h.0 ++ close ∷ []) h.3)
 
 -- what follows of what was played follows at a stop
-pub StopsAfter-weaker : (P Q F G : List Instruction → Type 0) (a b : Option (List ℕ)) (stop : Stop)
+pub StopsAfter-weaker : (P Q F G : List Instruction → Type 0) (a b : Option (List ℕ)) (stop : ScriptStop)
     → ((done : List Instruction) → P done → Q done) → ((done : List Instruction) → F done → G done)
     → StopsAfter P F a b stop → StopsAfter Q G a b stop
 StopsAfter-weaker P Q F G a b NoMemory f g h = f [] h

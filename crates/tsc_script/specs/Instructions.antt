@@ -6,8 +6,8 @@ use Rattle.std.specs.List.{list_all}
 use Rattle.std.specs.Str.Parse.{digits_value}
 use Rattle.std.specs.Option.{option_map, option_and_then}
 use Rattle.tsc_script.specs.declared.limits.TheConstants.{MAX_LINE_BYTES}
-use Rattle.tsc_script.specs.declared.command.Command.{Command}
-use Rattle.tsc_script.specs.declared.command.Command.TheVariants.{Receive, Tick, Close}
+use Rattle.tsc_script.specs.declared.command.ScriptCommand.{ScriptCommand}
+use Rattle.tsc_script.specs.declared.command.ScriptCommand.TheVariants.{Receive, Tick, Close}
 
 -- what the program is told: a request on a connection at a moment, a moment, or the end
 pub data Instruction : Type 0 where
@@ -22,7 +22,7 @@ is_close (tick moment) = false
 is_close close = true
 
 -- what a command says
-abbrev pub instruction_of_command : Command → Instruction
+abbrev pub instruction_of_command : ScriptCommand → Instruction
 instruction_of_command (Receive connection moment json) = receive connection moment json.now
 instruction_of_command (Tick moment) = tick moment
 instruction_of_command Close = close

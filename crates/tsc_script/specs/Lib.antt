@@ -9,3 +9,4 @@ pub mod Reads
 pub mod Causes
 pub mod ToRead
 pub mod Progress
+pub mod FaultTexts

@@ -2,8 +2,8 @@
 -- known.
 use Rattle.std.specs.Prelude.{◌≡◌, ◌≢◌, ℕ, ◌+◌, ◌⊎◌, List, [], ◌∷◌, ◌++◌, length, Option, Ok, Err}
 use Rattle.std.specs.Io.KnownBytes.{Consumes, IsAtEnd}
-use Rattle.tsc_script.specs.declared.stop.Stop.{Stop}
-use Rattle.tsc_script.specs.declared.stop.Stop.TheVariants.{NoMemory, Refused, Fault, Down}
+use Rattle.tsc_script.specs.declared.stop.ScriptStop.{ScriptStop}
+use Rattle.tsc_script.specs.declared.stop.ScriptStop.TheVariants.{NoMemory, Refused, Fault, Down}
 use Rattle.tsc_script.specs.Lines.{lines_of}
 use Rattle.tsc_script.specs.Instructions.{Instruction, close}
 use Rattle.tsc_script.specs.Script.{with_all_first, instructions_from, instructions_of}
@@ -46,7 +46,7 @@ GoesDown Played Fell before after =
     × ((Begins before after done × Fell done) ⊎ (Closes before after done ⊎ Ends before after (done ++ close ∷ [])))
 
 -- what was played, for each reason to stop
-abbrev pub StopsAfter : (List Instruction → Type 0) → (List Instruction → Type 0) → Option (List ℕ) → Option (List ℕ) → Stop → Type 0
+abbrev pub StopsAfter : (List Instruction → Type 0) → (List Instruction → Type 0) → Option (List ℕ) → Option (List ℕ) → ScriptStop → Type 0
 StopsAfter Played Fell before after NoMemory = Played []
 StopsAfter Played Fell before after (Refused number) = StopsAt Played before after number
 StopsAfter Played Fell before after (Fault number) = StopsAt Played before after number

@@ -3,8 +3,8 @@ ghost use Rattle.std.specs.Prelude.{◌≡◌, ◌≢◌, ◌-◌, ◌<◌, ◌�
 ghost use Rattle.std.specs.Io.KnownBytes.{IsAtEnd};
 ghost use Rattle.tsc_script.specs.declared.limits.TheConstants.{MAX_READS};
 ghost use Rattle.tsc_script.specs.declared.buffer.TheConstants.{CHUNK};
-ghost use Rattle.tsc_script.specs.Reads.{Turn, bytes_given, FitsChunk, Gives};
-ghost use Rattle.tsc_script.specs.ToRead.{BufferState, Counts, Finds, Refills};
+ghost use Rattle.tsc_script.specs.Reads.{SourceTurn, bytes_given, FitsChunk, Gives};
+ghost use Rattle.tsc_script.specs.ToRead.{BufferState, CountsReads, Finds, Refills};
 
 use crate::limits::MAX_READS;
 use crate::reads::{ReadTurn, Source};
@@ -27,14 +27,14 @@ pub(crate) enum Refill {
 
 /// The bytes that were read and not yet used.
 #[derive(Drop)]
-pub(crate) struct Buffer<A: Allocator> {
+pub(crate) struct ReadBuffer<A: Allocator> {
     chunk: Vec<u8, A>,
     at: usize,
     filled: usize,
     reads: u64,
 }
 
-impl<A: Allocator> Model for Buffer<A> {
+impl<A: Allocator> Model for ReadBuffer<A> {
     ghost Value = { BufferState };
 
     ghost view = { λ b. record { bytes = take (b.filled - b.at) (drop b.at b.chunk.items); reads = b.reads } };
@@ -43,13 +43,13 @@ impl<A: Allocator> Model for Buffer<A> {
         × (0 < vec_len b.chunk) × (vec_len b.chunk ≤ CHUNK) × (b.reads ≤ MAX_READS) };
 }
 
-impl<A: Allocator> Buffer<A> {
+impl<A: Allocator> ReadBuffer<A> {
     /// An empty buffer with room for one read.
     pub(crate) fn new(alloc: A) -> Result<Self, AllocError>
         ensures { IfOk result (λ b. b ≡ record { bytes = []; reads = 0 }) }
     {
         let chunk = vec![in alloc; 0; CHUNK]?;
-        Ok(Buffer {
+        Ok(ReadBuffer {
             chunk,
             at: 0,
             filled: 0,
@@ -78,8 +78,8 @@ impl<A: Allocator> Buffer<A> {
     /// Reads more bytes into the empty buffer.
     pub(crate) fn refill<R: Source>(&mut self, reader: &mut R) -> Refill
         requires { self.old.bytes ≡ [] }
-        ensures turns { (turns : List Turn) × Gives (R.given reader.old) (R.given reader.new) turns
-            × Counts self.old.reads self.new.reads turns × (self.new.bytes ≡ bytes_given turns)
+        ensures turns { (turns : List SourceTurn) × Gives (R.given reader.old) (R.given reader.new) turns
+            × CountsReads self.old.reads self.new.reads turns × (self.new.bytes ≡ bytes_given turns)
             × Refills result self.new.reads turns }
         ensures more { result ≡ Refill.More → self.old.reads < self.new.reads }
         ensures end { result ≡ Refill.End → IsAtEnd (R.given reader.new).left }
@@ -104,8 +104,8 @@ fn read_some<R: Source>(reader: &mut R, chunk: &mut [u8], reads: &mut u64) -> Op
     requires room { 0 < length chunk.old }
     requires short { length chunk.old ≤ CHUNK }
     requires reads { reads.old ≤ MAX_READS }
-    ensures turns { (turns : List Turn) × Gives (R.given reader.old) (R.given reader.new) turns
-        × Counts reads.old reads.new turns × Finds result chunk.new reads.new turns }
+    ensures turns { (turns : List SourceTurn) × Gives (R.given reader.old) (R.given reader.new) turns
+        × CountsReads reads.old reads.new turns × Finds result chunk.new reads.new turns }
     ensures fits { IfSome result (λ turn. FitsChunk turn (length chunk.new)) }
     ensures end { IfSome result (λ turn. turn ≡ ReadTurn.Ended → IsAtEnd (R.given reader.new).left) }
     ensures tried_again { IfSome result (λ turn. turn ≢ ReadTurn.Interrupted) }

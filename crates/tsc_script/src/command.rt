@@ -2,7 +2,7 @@
 
 /// An instruction of a script, as it is read from a line.
 #[derive(Clone, Copy, PartialEq, Eq, Drop)]
-pub enum Command<'a> {
+pub enum ScriptCommand<'a> {
     /// A request came on a connection at a moment.
     Receive {
         /// The number of the connection.

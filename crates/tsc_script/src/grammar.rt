@@ -7,23 +7,23 @@ ghost use Rattle.std.specs.Char.{is_ascii_digit};
 ghost use Rattle.std.specs.List.{list_all};
 ghost use Rattle.std.specs.Str.Parse.{digits_value};
 
-use crate::command::Command;
+use crate::command::ScriptCommand;
 
 /// Reads a line, where it is one of the three forms.
 #[tactic(auto, unfolding(crate::specs::Instructions::instruction_of))]
-pub(crate) fn parse(line: &[u8]) -> Option<Command<'_>>
+pub(crate) fn parse(line: &[u8]) -> Option<ScriptCommand<'_>>
     requires { length line.now ≤ MAX_LINE_BYTES }
     ensures { option_map instruction_of_command result ≡ instruction_of line.now }
 {
     if line == b"close".as_slice() {
-        Some(Command::Close)
+        Some(ScriptCommand::Close)
     } else {
         parse_words(line)
     }
 }
 
 /// Reads a line of several words.
-fn parse_words(line: &[u8]) -> Option<Command<'_>>
+fn parse_words(line: &[u8]) -> Option<ScriptCommand<'_>>
     ensures { option_map instruction_of_command result ≡ words_of line.now }
 {
     let (word, rest) = split_word(line)?;
@@ -37,22 +37,22 @@ fn parse_words(line: &[u8]) -> Option<Command<'_>>
 }
 
 /// Reads a moment.
-fn parse_tick(text: &[u8]) -> Option<Command<'_>>
+fn parse_tick(text: &[u8]) -> Option<ScriptCommand<'_>>
     ensures { option_map instruction_of_command result ≡ tick_of text.now }
 {
     let moment = number(text)?;
-    Some(Command::Tick { moment })
+    Some(ScriptCommand::Tick { moment })
 }
 
 /// Reads a connection, a moment, and the rest of the line.
-fn parse_receive(text: &[u8]) -> Option<Command<'_>>
+fn parse_receive(text: &[u8]) -> Option<ScriptCommand<'_>>
     ensures { option_map instruction_of_command result ≡ receive_of text.now }
 {
     let (connection, rest) = split_word(text)?;
     let (moment, json) = split_word(rest)?;
     let connection = number(connection)?;
     let moment = number(moment)?;
-    Some(Command::Receive {
+    Some(ScriptCommand::Receive {
         connection,
         moment,
         json,

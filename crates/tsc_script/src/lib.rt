@@ -5,9 +5,10 @@
 //! fit a u64, and JSON is the rest of the line, spaces included. Another line, an empty one, one above 4,194,368
 //! bytes without its line feed, and any line after `close` is refused. The input's end without `close` acts as one.
 //!
-//! A read is tried again after an interruption alone, while fewer than 2^32 were made; any other error ends the script at
-//! that line. Each answer but `Down` has its cause in what the reads gave (`specs/Causes`). A body that always answers
-//! `NoMemory` meets `play_script`'s contract; each run of `tests/run.sh` that is done shows that it isn't answered there.
+//! A read is tried again after an interruption alone, while fewer than 2^32 were made; any other error ends the script
+//! at that line. Each answer but `Down` has its cause in what the reads gave (`specs/Causes`). A body that always
+//! answers `NoMemory` meets `play_script`'s contract; each run of `tests/run.sh` that is done shows that it isn't
+//! answered there.
 //!
 //! ```
 //! match play_script(alloc, &mut reader, &mut machine) {
@@ -28,9 +29,9 @@ mod play;
 mod reads;
 mod stop;
 
-pub use command::Command;
+pub use command::ScriptCommand;
 pub use laws::lines_are_their_words;
 pub use machine::Machine;
 pub use play::play_script;
 pub use reads::{ReadTurn, Reads, Source};
-pub use stop::Stop;
+pub use stop::ScriptStop;

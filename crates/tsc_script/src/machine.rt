@@ -2,7 +2,7 @@
 ghost use Rattle.std.specs.Prelude.{◌≡◌, ◌++◌, ◌∷◌, Bool, true, false, List, []};
 ghost use Rattle.tsc_script.specs.Instructions.{Instruction, instruction_of_command, close, is_close};
 
-use crate::command::Command;
+use crate::command::ScriptCommand;
 
 /// What a script drives.
 pub trait Machine {
@@ -16,7 +16,7 @@ pub trait Machine {
     ghost is_closed: { Self → Bool };
 
     /// Plays an instruction, and answers whether it takes further ones. Where it doesn't, a `close` ends it.
-    fn play(&mut self, command: Command<'_>) -> bool
+    fn play(&mut self, command: ScriptCommand<'_>) -> bool
         requires open { is_closed self.old ≡ false }
 
         // Once it takes no further instruction, only a close may follow.

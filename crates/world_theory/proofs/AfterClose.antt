@@ -9,8 +9,8 @@ use Rattle.otlp_types.specs.declared.span.Ids.{Ids}
 use Rattle.otlp_types.specs.declared.arrival.Arrival.{Arrival}
 use Rattle.otlp_types.specs.declared.arrival.Item.{Item}
 use Rattle.otlp_types.specs.declared.arrival.Item.TheVariants.{Span, Tick, End}
-use Rattle.world_theory.specs.World.{Config, Lane, Shard, World, settings, ticker, has_due, goes_to}
-use Rattle.world_theory.specs.Step.{Step, receive, route, refuse, take as take_step, tick, close, end, decide, ship, pull, hand, fail, spoil, next_for, take_on, sender_is_done, ship_on, pull_from, spoil_applies, is_empty, step}
+use Rattle.world_theory.specs.World.{CoreConfig, CoreLane, CoreShard, World, settings, ticker, has_due, goes_to}
+use Rattle.world_theory.specs.Step.{Step, receive, route, refuse, take as take_step, tick, close, end, decide, ship, pull, hand, fail, drop_batch, next_for, take_on, sender_is_done, ship_on, pull_from, drop_batch_applies, is_empty, step}
 use Rattle.world_theory.specs.Places.{Place, HeldKey, unrouted, queued, buffered, unshipped, exported, in_batch, handed, is_waiting, held_at, buffered_spans, held_by_lanes, held_by_shard, held_by_shards, held, IsClosed}
 use Rattle.journal_theory.proofs.Notes.{HasRoom, own_spans, spans_more, Sound, Meeting, it_joins, it_meets, it_opens, meeting}
 use Rattle.world_theory.specs.Headline.{NothingAfterClose, OfEachRun}
@@ -33,7 +33,7 @@ grows : (item : Item) (refused lost : Bool) (given : List (List Bool)) (J : Jour
 grows item refused lost given J os l h = Each-both (λ (o : Opening). o.at < length J) (HasSpan J) (HasSpan (record { item = item; refused = refused; lost = lost; answers = given } ∷ J)) os
     (λ o x y. omega (arith, ap length (spans_more J o item refused lost given (omega arith)), length-append (spans_since J o) (own_spans o.trace refused item))) l h
 
-module _ (s : Settings) (room : HasRoom s.limit) (J : Journal) (h : Each (HasSpan J) (notes s J).openings) where
+module _ (s : Settings) (room : HasRoom s.num_traces) (J : Journal) (h : Each (HasSpan J) (notes s J).openings) where
   sound : Sound s J (notes s J)
   sound = sound_notes s room J
 
@@ -68,12 +68,12 @@ module _ (s : Settings) (room : HasRoom s.limit) (J : Journal) (h : Each (HasSpa
       go None e = old_grow (Span a) refused lost given
       go (Some ids) e = marked ids e refused
 
-pub have_spans : (s : Settings) → HasRoom s.limit → (J : Journal) → Each (HasSpan J) (notes s J).openings
+pub have_spans : (s : Settings) → HasRoom s.num_traces → (J : Journal) → Each (HasSpan J) (notes s J).openings
 unfolding notes
 have_spans s room [] = tt
 have_spans s room (e ∷ J) = item_grow s room J (have_spans s room J) e.item e.refused e.lost e.answers
 
-decided_spans : (s : Settings) → HasRoom s.limit → (J : Journal) (dealt : ℕ) (d : Decision) → slice_get (decisions_now s J) dealt ≡ Some d → 0 < length d.spans
+decided_spans : (s : Settings) → HasRoom s.num_traces → (J : Journal) (dealt : ℕ) (d : Decision) → slice_get (decisions_now s J) dealt ≡ Some d → 0 < length d.spans
 decided_spans s room [] dealt d is = absurd (cc is)
 decided_spans s room (e ∷ J) dealt d is = omega (arith, ap length turn.spans, Each-split (HasSpan (e ∷ J)) d.opening (due_at s e J e.item noted) turn.within all)
   where
@@ -107,17 +107,17 @@ empty_at place (a ∷ spans) w h = absurd (go (is_waiting place) w h.0)
     go : (b : Bool) → b ≡ true → b ≡ false → ⊥
     go b p q = cc (p, q)
 
-lane_empty : (n : ℕ) (lanes : List Lane) (i : ℕ) (l : Lane) → slice_get lanes i ≡ Some l → Each Still (held_by_lanes n lanes) → l.unrouted ≡ []
+lane_empty : (n : ℕ) (lanes : List CoreLane) (i : ℕ) (l : CoreLane) → slice_get lanes i ≡ Some l → Each Still (held_by_lanes n lanes) → l.unrouted ≡ []
 lane_empty n [] i l e h = absurd (cc e)
-lane_empty n (x ∷ rest) zero l e h = let k : x ≡ l = cc e in subst (λ (l : Lane). l.unrouted ≡ []) k (empty_at (unrouted n) x.unrouted refl (Each-left Still (held_at (unrouted n) x.unrouted) (held_by_lanes (n + 1) rest) h))
+lane_empty n (x ∷ rest) zero l e h = let k : x ≡ l = cc e in subst (λ (l : CoreLane). l.unrouted ≡ []) k (empty_at (unrouted n) x.unrouted refl (Each-left Still (held_at (unrouted n) x.unrouted) (held_by_lanes (n + 1) rest) h))
 lane_empty n (x ∷ rest) (suc i) l e h = lane_empty (n + 1) rest i l e (Each-right Still (held_at (unrouted n) x.unrouted) (held_by_lanes (n + 1) rest) h)
 
-record Idle (s : Settings) (sh : Shard) : Type 0 where
+record Idle (s : Settings) (sh : CoreShard) : Type 0 where
   queue : sh.queue ≡ []
   buffer : content s sh.journal (notes_dealt s sh.journal sh.dealt) ≡ []
   unsent : sh.unshipped ≡ []
 
-idle : (s : Settings) (n : ℕ) (sh : Shard) → Each Still (held_by_shard s n sh) → Idle s sh
+idle : (s : Settings) (n : ℕ) (sh : CoreShard) → Each Still (held_by_shard s n sh) → Idle s sh
 idle s n sh h =
     let front = held_at (queued n) sh.queue ++ held_at (buffered n) (buffered_spans s sh.journal sh.dealt) in
     let k = Each-left Still (held_at (queued n) sh.queue ++ held_at (buffered n) (buffered_spans s sh.journal sh.dealt)) (held_at (unshipped n) sh.unshipped) h in
@@ -127,7 +127,7 @@ idle s n sh h =
       unsent = empty_at (unshipped n) sh.unshipped refl (Each-right Still (held_at (queued n) sh.queue ++ held_at (buffered n) (buffered_spans s sh.journal sh.dealt)) (held_at (unshipped n) sh.unshipped) h);
     }
 
-shard_idle : (s : Settings) (n : ℕ) (shards : List Shard) (i : ℕ) (sh : Shard) → slice_get shards i ≡ Some sh → Each Still (held_by_shards s n shards) → Idle s sh
+shard_idle : (s : Settings) (n : ℕ) (shards : List CoreShard) (i : ℕ) (sh : CoreShard) → slice_get shards i ≡ Some sh → Each Still (held_by_shards s n shards) → Idle s sh
 shard_idle s n [] i sh e h = absurd (cc e)
 shard_idle s n (x ∷ rest) zero sh e h = let k : x ≡ sh = cc e in subst (Idle s) k (idle s n x (Each-left Still (held_by_shard s n x) (held_by_shards s (n + 1) rest) h))
 shard_idle s n (x ∷ rest) (suc i) sh e h = shard_idle s (n + 1) rest i sh e (Each-right Still (held_by_shard s n x) (held_by_shards s (n + 1) rest) h)
@@ -156,17 +156,17 @@ get_below [] i x e = absurd (cc e)
 get_below (y ∷ xs) zero x e = omega arith
 get_below (y ∷ xs) (suc i) x e = omega (arith, get_below xs i x e)
 
-module _ (c : Config) (room : HasRoom c.limit) (w : World) (given : AllAnswered (settings c w) w.shards) (closed : IsClosed c w) where
+module _ (c : CoreConfig) (room : HasRoom c.shard.num_traces) (w : World) (given : AllAnswered (settings c w) w.shards) (closed : IsClosed c w) where
   still : Each Still (held c w)
   still = none_passes (λ (h : HeldKey). is_waiting h.place) (held c w) closed.nothing_waits
 
   lanes_shards : Each Still (held_by_lanes 0 w.lanes ++ held_by_shards (settings c w) 0 w.shards)
   lanes_shards = Each-left Still _ (held_at exported w.exported) (Each-left Still _ (held_at in_batch w.batch) (Each-left Still _ (flat_map (held_at handed) w.handed) (Each-left Still _ _ still)))
 
-  no_unrouted : (lane : ℕ) (l : Lane) → slice_get w.lanes lane ≡ Some l → l.unrouted ≡ []
+  no_unrouted : (lane : ℕ) (l : CoreLane) → slice_get w.lanes lane ≡ Some l → l.unrouted ≡ []
   no_unrouted lane l g = lane_empty 0 w.lanes lane l g (Each-left Still (held_by_lanes 0 w.lanes) (held_by_shards (settings c w) 0 w.shards) lanes_shards)
 
-  at_shard : (shard : ℕ) (sh : Shard) → slice_get w.shards shard ≡ Some sh → Idle (settings c w) sh
+  at_shard : (shard : ℕ) (sh : CoreShard) → slice_get w.shards shard ≡ Some sh → Idle (settings c w) sh
   at_shard shard sh g = shard_idle (settings c w) 0 w.shards shard sh g (Each-right Still (held_by_lanes 0 w.lanes) (held_by_shards (settings c w) 0 w.shards) lanes_shards)
 
   no_exported : w.exported ≡ []
@@ -175,21 +175,21 @@ module _ (c : Config) (room : HasRoom c.limit) (w : World) (given : AllAnswered 
   no_batch : w.batch ≡ []
   no_batch = empty_at in_batch w.batch refl (Each-right Still (held_by_lanes 0 w.lanes ++ held_by_shards (settings c w) 0 w.shards ++ held_at exported w.exported) (held_at in_batch w.batch) (Each-left Still _ (flat_map (held_at handed) w.handed) (Each-left Still _ _ still)))
 
-  lane_ended : (lane : ℕ) (l : Lane) → slice_get w.lanes lane ≡ Some l → l.ended ≡ true
-  lane_ended lane l g = all_get (λ (l : Lane). l.ended) w.lanes lane l closed.lanes_ended g
+  lane_ended : (lane : ℕ) (l : CoreLane) → slice_get w.lanes lane ≡ Some l → l.ended ≡ true
+  lane_ended lane l g = all_get (λ (l : CoreLane). l.ended) w.lanes lane l closed.lanes_ended g
 
-  sender_ended : (shard : ℕ) (sh : Shard) (sender : ℕ) → slice_get w.shards shard ≡ Some sh → sender < length w.lanes + 1 → has_ended sh.journal sender ≡ true
-  sender_ended shard sh sender g l = ended_below sh.journal (length w.lanes + 1) sender (all_get (λ (sh : Shard). have_ended sh.journal (settings c w).senders) w.shards shard sh closed.ends_taken g) l
+  sender_ended : (shard : ℕ) (sh : CoreShard) (sender : ℕ) → slice_get w.shards shard ≡ Some sh → sender < length w.lanes + 1 → has_ended sh.journal sender ≡ true
+  sender_ended shard sh sender g l = ended_below sh.journal (length w.lanes + 1) sender (all_get (λ (sh : CoreShard). have_ended sh.journal (settings c w).senders) w.shards shard sh closed.ends_taken g) l
 
   both : (b : Bool) → b ≡ true → b ≡ false → ⊥
   both b p q = cc (p, q)
 
-  is_sender : (shard : ℕ) (sh : Shard) (sender : ℕ) (l : Option Lane) → slice_get w.lanes sender ≡ l → sender_is_done w shard sh sender l ≡ true → sender < length w.lanes + 1
+  is_sender : (shard : ℕ) (sh : CoreShard) (sender : ℕ) (l : Option CoreLane) → slice_get w.lanes sender ≡ l → sender_is_done w shard sh sender l ≡ true → sender < length w.lanes + 1
   is_sender shard sh sender None g e = omega (arith, eqb-true sender (length w.lanes) e)
   is_sender shard sh sender (Some l) g e = omega (arith, get_below w.lanes sender l g)
 
   -- no span is left to be routed
-  none_next : (lane shard : ℕ) (l : Lane) → slice_get w.lanes lane ≡ Some l → (n : Arrival × List Arrival) → next_for w l shard ≡ Some n → ⊥
+  none_next : (lane shard : ℕ) (l : CoreLane) → slice_get w.lanes lane ≡ Some l → (n : Arrival × List Arrival) → next_for w l shard ≡ Some n → ⊥
   none_next lane shard l at n is =
       let t = taken (goes_to (length w.shards) shard) l.unrouted n is in
       no_middle t.front t.back n.0 l.unrouted (no_unrouted lane l at) t.was
@@ -250,9 +250,9 @@ module _ (c : Config) (room : HasRoom c.limit) (w : World) (given : AllAnswered 
       let m = some_unless (is_empty w.batch || w.down) _ next e in
       absurd (both (is_empty w.batch) (ap is_empty no_batch) (or_both (is_empty w.batch) w.down m.0).0)
   not_enabled fail next e = let m = some_unless w.down _ next e in (refl, ap (λ (w : World). w.handed) (sym m.1), ap (λ (w : World). w.counted) (sym m.1))
-  not_enabled (spoil reason) next e =
-      let m = some_unless (is_empty w.batch || not (spoil_applies w reason)) _ next e in
-      absurd (both (is_empty w.batch) (ap is_empty no_batch) (or_both (is_empty w.batch) (not (spoil_applies w reason)) m.0).0)
+  not_enabled (drop_batch reason) next e =
+      let m = some_unless (is_empty w.batch || not (drop_batch_applies w reason)) _ next e in
+      absurd (both (is_empty w.batch) (ap is_empty no_batch) (or_both (is_empty w.batch) (not (drop_batch_applies w reason)) m.0).0)
 
 pub nothing_after_close : OfEachRun NothingAfterClose
 nothing_after_close = of_each_answered (λ c w. Unit {0}) NothingAfterClose (λ c room lanes shards. tt) (λ c room w next st h. tt) (λ c room w h given closed s next f. not_enabled c room w given closed s next f)

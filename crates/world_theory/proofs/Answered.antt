@@ -1,5 +1,5 @@
--- A decision's answers, put into a journal: what was decided, handed over and counted so far stays, and one more decision is there to be dealt with.
--- For the laws of the headline, `headline` and each of its parts.
+-- A decision's answers, put into a journal: what was decided, handed over and counted so far stays, and one more
+-- decision is there to be dealt with. For the laws of the headline, `headline` and each of its parts.
 use Rattle.std.proofs.Common.{◌≡◌, ℕ, zero, suc, Bool, true, false, cond, ◌==◌, List, [], ◌∷◌, ◌++◌, length, reverse, take, find, slice_get, Option, Some, None, is_none, option_map, ◌⊎◌, inl, inr, refl, ap, sym, subst, ◌∙◌, ne_eqb, eqb-true, eq-eqb}
 use Rattle.std.specs.List.{list_any}
 use Rattle.std.proofs.lemmas.List.{reverse-append}
@@ -64,7 +64,7 @@ turn-all s past (suc k) (p ∷ os) (g ∷ given) h = ap (λ (ds : List Decision)
 
 -- ---- a journal
 
-module _ (s : Settings) (room : HasRoom s.limit) (e : Entry) (before : Journal) (k : ℕ) (answers : List Bool) (o : Opening) (due : slice_get (due_now s (e ∷ before)) k ≡ Some o) (given : IsAnsweredUpTo s (e ∷ before) k) where
+module _ (s : Settings) (room : HasRoom s.num_traces) (e : Entry) (before : Journal) (k : ℕ) (answers : List Bool) (o : Opening) (due : slice_get (due_now s (e ∷ before)) k ≡ Some o) (given : IsAnsweredUpTo s (e ∷ before) k) where
   abbrev J : Journal
   J = e ∷ before
 
@@ -171,24 +171,24 @@ no_due s zero o e = cc e
 no_due s (suc k) o e = cc e
 
 -- for any journal
-pub next_there : (s : Settings) → HasRoom s.limit → (J : Journal) (k : ℕ) (answers : List Bool) (o : Opening) → slice_get (due_now s J) k ≡ Some o → IsAnsweredUpTo s J k → slice_get (decisions_now s (answered J answers)) k ≡ Some (decision s J o answers)
+pub next_there : (s : Settings) → HasRoom s.num_traces → (J : Journal) (k : ℕ) (answers : List Bool) (o : Opening) → slice_get (due_now s J) k ≡ Some o → IsAnsweredUpTo s J k → slice_get (decisions_now s (answered J answers)) k ≡ Some (decision s J o answers)
 next_there s room [] k answers o e g = absurd (no_due s k o e)
 next_there s room (x ∷ before) k answers o e g = there s room x before k answers o e g
 
-pub notes_dealt_same : (s : Settings) → HasRoom s.limit → (J : Journal) (k : ℕ) (answers : List Bool) (o : Opening) → slice_get (due_now s J) k ≡ Some o → IsAnsweredUpTo s J k → notes_dealt s (answered J answers) k ≡ notes_dealt s J k
+pub notes_dealt_same : (s : Settings) → HasRoom s.num_traces → (J : Journal) (k : ℕ) (answers : List Bool) (o : Opening) → slice_get (due_now s J) k ≡ Some o → IsAnsweredUpTo s J k → notes_dealt s (answered J answers) k ≡ notes_dealt s J k
 notes_dealt_same s room [] k answers o e g = absurd (no_due s k o e)
 notes_dealt_same s room (x ∷ before) k answers o e g = dealt_same s room x before k answers o e g
 
-pub content_same : (s : Settings) → HasRoom s.limit → (J : Journal) (k : ℕ) (answers : List Bool) (o : Opening) → slice_get (due_now s J) k ≡ Some o → IsAnsweredUpTo s J k →
+pub content_same : (s : Settings) → HasRoom s.num_traces → (J : Journal) (k : ℕ) (answers : List Bool) (o : Opening) → slice_get (due_now s J) k ≡ Some o → IsAnsweredUpTo s J k →
     content s (answered J answers) (notes_dealt s (answered J answers) k) ≡ content s J (notes_dealt s J k)
 content_same s room [] k answers o e g = absurd (no_due s k o e)
 content_same s room (x ∷ before) k answers o e g = ap (content s (x ∷ before)) (dealt_same s room x before k answers o e g)
 
-pub effect_dealt_same : (s : Settings) → HasRoom s.limit → (J : Journal) (k : ℕ) (answers : List Bool) (o : Opening) → slice_get (due_now s J) k ≡ Some o → IsAnsweredUpTo s J k → effect_dealt s (answered J answers) k ≡ effect_dealt s J k
+pub effect_dealt_same : (s : Settings) → HasRoom s.num_traces → (J : Journal) (k : ℕ) (answers : List Bool) (o : Opening) → slice_get (due_now s J) k ≡ Some o → IsAnsweredUpTo s J k → effect_dealt s (answered J answers) k ≡ effect_dealt s J k
 effect_dealt_same s room [] k answers o e g = absurd (no_due s k o e)
 effect_dealt_same s room (x ∷ before) k answers o e g = effect_same s room x before k answers o e g
 
-pub fate_answered : (s : Settings) → HasRoom s.limit → (J : Journal) (k : ℕ) (answers : List Bool) (o : Opening) → slice_get (due_now s J) k ≡ Some o → IsAnsweredUpTo s J k → (past : Journal) (refused : Bool) (ids : Ids) (became : Fate) →
+pub fate_answered : (s : Settings) → HasRoom s.num_traces → (J : Journal) (k : ℕ) (answers : List Bool) (o : Opening) → slice_get (due_now s J) k ≡ Some o → IsAnsweredUpTo s J k → (past : Journal) (refused : Bool) (ids : Ids) (became : Fate) →
     (became ≡ is_released) ⊎ ((r : Reason) × (became ≡ is_counted r)) → fate s J past refused ids ≡ became → fate s (answered J answers) past refused ids ≡ became
 fate_answered s room [] k answers o e g past refused ids became which h = absurd (no_due s k o e)
 fate_answered s room (x ∷ before) k answers o e g past refused ids became which h = fate_settled s room x before k answers o e g past refused ids became which h

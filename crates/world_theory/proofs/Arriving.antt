@@ -6,7 +6,7 @@ use Rattle.otlp_types.specs.declared.arrival.Record.{Record}
 use Rattle.span_ids.specs.declared.keys.ConnKey.{ConnKey}
 use Rattle.span_ids.specs.declared.outcome.Reason.TheVariants.{InvalidId}
 use Rattle.journal_theory.specs.Fate.{DroppedSpan, counts}
-use Rattle.world_theory.specs.World.{Config, Lane, World}
+use Rattle.world_theory.specs.World.{CoreConfig, CoreLane, World}
 use Rattle.world_theory.specs.Step.{receive, step, arrivals, is_of_conn, has_ids}
 
 pub arrivals_append : (conn : ConnKey) (first moment : ℕ) (records : List Record) (r : Record)
@@ -18,14 +18,14 @@ arrivals_append conn first moment (x ∷ rest) r =
     let head : Arrival = record { key = record { conn = conn; number = first }; moment = moment; rec = x } in
     ap (λ (z : List Arrival). head ∷ z) (arrivals_append conn (first + 1) moment rest r ∙ ap (λ (n : ℕ). arrivals conn (first + 1) moment rest ++ new n ∷ []) at)
 
-module _ (c : Config) (w : World) (lane ordinal moment : ℕ) (records : List Record) (l : Lane) (g : slice_get w.lanes lane ≡ Some l) (e : l.ended ≡ false) where
+module _ (c : CoreConfig) (w : World) (lane ordinal moment : ℕ) (records : List Record) (l : CoreLane) (g : slice_get w.lanes lane ≡ Some l) (e : l.ended ≡ false) where
   pub can_receive : is_some (step c w (receive lane ordinal moment records)) ≡ true
   can_receive = rw (g, e) refl
 
   abbrev new : List Arrival
   new = let conn : ConnKey = record { lane = lane; ordinal = ordinal } in arrivals conn (count_by (is_of_conn conn) l.received) moment records
 
-  pub receives : (grown : Lane) (counted : List DroppedSpan) → grown ≡ record l { received = l.received ++ new; unrouted = l.unrouted ++ filter has_ids new }
+  pub receives : (grown : CoreLane) (counted : List DroppedSpan) → grown ≡ record l { received = l.received ++ new; unrouted = l.unrouted ++ filter has_ids new }
       → counted ≡ w.counted ++ counts InvalidId (filter (λ a. not (has_ids a)) new)
       → step c w (receive lane ordinal moment records) ≡ Some (record w { lanes = slice_set w.lanes lane grown; counted = counted })
   receives grown counted f h = rw (f, h, g, e) refl

@@ -13,7 +13,7 @@ use Rattle.span_ids.specs.declared.outcome.Verdict.{Verdict}
 use Rattle.span_ids.specs.declared.outcome.Verdict.TheVariants.{Sampled, NotSampled}
 use Rattle.span_ids.specs.declared.outcome.Reason.{Reason}
 use Rattle.span_ids.specs.declared.outcome.Reason.TheVariants.{InvalidId, QueueFull, Evicted, NotSampled as DecidedAgainst}
-use Rattle.world_theory.specs.World.{Config, Lane, Shard, World, settings, settings_for, has_due, same_key}
+use Rattle.world_theory.specs.World.{CoreConfig, CoreLane, CoreShard, World, settings, settings_for, has_due, same_key}
 use Rattle.world_theory.specs.Step.{is_of_conn, arrivals, has_ids}
 use Rattle.journal_theory.specs.Marked.{marks_apply_to_ids}
 use Rattle.world_theory.specs.Places.{HeldKey, unrouted, queued, buffered, unshipped, exported, in_batch, handed, counted_under, held_at, buffered_spans, held_by_lanes, held_by_shard, held_by_shards, held, places}
@@ -22,7 +22,7 @@ use Rattle.journal_theory.proofs.ListFacts.{tally, tally-append, tally-map, tall
 use Rattle.world_theory.proofs.Content.{content, content_is, Taking, kept, late, dropped, took_span as span_taken, stays_by_tick, stays_by_end, all_dealt}
 use Rattle.world_theory.proofs.Dealing.{Dealing, dealt_with}
 use Rattle.world_theory.proofs.Answered.{content_same}
-use Rattle.world_theory.proofs.Steps.{Stepped, received_by, routed, refused_by, took_span, took_tick, closed_by, took_end, answered_by, decided_one, shipped, pulled, handed_over, failed, spoiled}
+use Rattle.world_theory.proofs.Steps.{Stepped, received_by, routed, refused_by, took_span, took_tick, closed_by, took_end, answered_by, decided_one, shipped, pulled, handed_over, failed, batch_dropped}
 
 abbrev pub occ : ArrivalKey → List Arrival → ℕ
 occ k spans = tally (λ (a : Arrival). same_key a.key k) spans
@@ -30,25 +30,25 @@ occ k spans = tally (λ (a : Arrival). same_key a.key k) spans
 abbrev pub occ_counted : ArrivalKey → List DroppedSpan → ℕ
 occ_counted k counted = tally (λ (n : DroppedSpan). same_key n.key k) counted
 
-abbrev pub weigh : ArrivalKey → Settings → Shard → ℕ
+abbrev pub weigh : ArrivalKey → Settings → CoreShard → ℕ
 weigh k s sh = occ k sh.queue + (occ k (content s sh.journal (notes_dealt s sh.journal sh.dealt)) + occ k sh.unshipped)
 
 -- how often the key stands somewhere
 abbrev pub amount : ArrivalKey → Settings → World → ℕ
-amount k s w = total (λ (l : Lane). occ k l.unrouted) w.lanes + (total (weigh k s) w.shards + (occ k w.exported + (occ k w.batch + (occ k (flat_map (λ (b : List Arrival). b) w.handed) + occ_counted k w.counted))))
+amount k s w = total (λ (l : CoreLane). occ k l.unrouted) w.lanes + (total (weigh k s) w.shards + (occ k w.exported + (occ k w.batch + (occ k (flat_map (λ (b : List Arrival). b) w.handed) + occ_counted k w.counted))))
 
 -- how often it was received
 abbrev pub got : ArrivalKey → World → ℕ
-got k w = total (λ (l : Lane). occ k l.received) w.lanes
+got k w = total (λ (l : CoreLane). occ k l.received) w.lanes
 
 -- ---- the places' count is the amount
 
 module _ (k : ArrivalKey) where
-  at_lanes : (n : ℕ) (lanes : List Lane) → tally (λ (h : HeldKey). same_key h.key k) (held_by_lanes n lanes) ≡ total (λ (l : Lane). occ k l.unrouted) lanes
+  at_lanes : (n : ℕ) (lanes : List CoreLane) → tally (λ (h : HeldKey). same_key h.key k) (held_by_lanes n lanes) ≡ total (λ (l : CoreLane). occ k l.unrouted) lanes
   at_lanes n [] = refl
   at_lanes n (l ∷ rest) = omega (arith, tally-append (λ (h : HeldKey). same_key h.key k) (held_at (unrouted n) l.unrouted) (held_by_lanes (n + 1) rest), tally-map (λ (h : HeldKey). same_key h.key k) (λ (a : Arrival). record { place = unrouted n; key = a.key }) l.unrouted, at_lanes (n + 1) rest)
 
-  at_shards : (s : Settings) (n : ℕ) (shards : List Shard) → tally (λ (h : HeldKey). same_key h.key k) (held_by_shards s n shards) ≡ total (weigh k s) shards
+  at_shards : (s : Settings) (n : ℕ) (shards : List CoreShard) → tally (λ (h : HeldKey). same_key h.key k) (held_by_shards s n shards) ≡ total (weigh k s) shards
   at_shards s n [] = refl
   at_shards s n (sh ∷ rest) =
       let p : HeldKey → Bool = λ (h : HeldKey). same_key h.key k in
@@ -64,7 +64,7 @@ module _ (k : ArrivalKey) where
       let e7 = at_shards s (n + 1) rest in
       omega (arith, e1, e2, e3, e4, e5, e6, e7)
 
-  pub held_amount : (c : Config) (w : World) → tally (λ (h : HeldKey). same_key h.key k) (held c w) ≡ amount k (settings c w) w
+  pub held_amount : (c : CoreConfig) (w : World) → tally (λ (h : HeldKey). same_key h.key k) (held c w) ≡ amount k (settings c w) w
   held_amount c w =
       let e1 = at_lanes 0 w.lanes in
       let e2 = at_shards (settings c w) 0 w.shards in
@@ -74,7 +74,7 @@ module _ (k : ArrivalKey) where
       let e6 = tally-map (λ (h : HeldKey). same_key h.key k) (λ (n : DroppedSpan). record { place = counted_under n.reason; key = n.key }) w.counted in
       simp (tally-append) (omega (arith, e1, e2, e3, e4, e5, e6))
 
-  pub length_places : (c : Config) (w : World) → length (places c w k) ≡ amount k (settings c w) w
+  pub length_places : (c : CoreConfig) (w : World) → length (places c w k) ≡ amount k (settings c w) w
   length_places c w = length_mapped (filter (λ (h : HeldKey). same_key h.key k) (held c w)) ∙ length_filter (λ (h : HeldKey). same_key h.key k) (held c w) ∙ held_amount c w
     where
       length_mapped : (hs : List HeldKey) → length (map (λ (h : HeldKey). h.place) hs) ≡ length hs
@@ -109,17 +109,17 @@ module _ (k : ArrivalKey) where
 -- ---- a step
 
 -- an item that is no span keeps what the shard weighs
-module _ (k : ArrivalKey) (c : Config) (room : HasRoom c.limit) (w : World) where
+module _ (k : ArrivalKey) (c : CoreConfig) (room : HasRoom c.shard.num_traces) (w : World) where
   abbrev s : Settings
   s = settings c w
 
-  nothing_due : (sh : Shard) → has_due s sh ≡ false → notes_dealt s sh.journal sh.dealt ≡ notes s sh.journal
+  nothing_due : (sh : CoreShard) → has_due s sh ≡ false → notes_dealt s sh.journal sh.dealt ≡ notes s sh.journal
   nothing_due sh e = all_dealt s sh.journal sh.dealt e
 
-  weighs : (sh : Shard) → has_due s sh ≡ false → weigh k s sh ≡ occ k sh.queue + (occ k (content s sh.journal (notes s sh.journal)) + occ k sh.unshipped)
+  weighs : (sh : CoreShard) → has_due s sh ≡ false → weigh k s sh ≡ occ k sh.queue + (occ k (content s sh.journal (notes s sh.journal)) + occ k sh.unshipped)
   weighs sh e = ap (λ n. occ k sh.queue + (occ k (content s sh.journal n) + occ k sh.unshipped)) (nothing_due sh e)
 
-  queue_is : (sh : Shard) (a : Arrival) (rest : List Arrival) → sh.queue ≡ a ∷ rest → occ k sh.queue ≡ occ k (a ∷ []) + occ k rest
+  queue_is : (sh : CoreShard) (a : Arrival) (rest : List Arrival) → sh.queue ≡ a ∷ rest → occ k sh.queue ≡ occ k (a ∷ []) + occ k rest
   queue_is sh a rest e = ap (occ k) e ∙ omega arith
 
   pub has_valid : (J : Journal) (refused lost : Bool) (ids : Option Ids) → marks_apply_to_ids s J refused lost ids ≡ true → (i : Ids) × (ids ≡ Some i)
@@ -129,21 +129,21 @@ module _ (k : ArrivalKey) (c : Config) (room : HasRoom c.limit) (w : World) wher
   pub balance : (next : World) → Stepped c w next → amount k s next + got k w ≡ amount k s w + got k next
   balance next (received_by lane ordinal moment records l g n e) = rw (← e) (
       let new = arrivals (record { lane = lane; ordinal = ordinal }) (count_by (is_of_conn (record { lane = lane; ordinal = ordinal })) l.received) moment records in
-      let l' : Lane = record { received = l.received ++ new; unrouted = l.unrouted ++ filter has_ids new; ended = l.ended } in
-      let u = total-set (λ (l : Lane). occ k l.unrouted) w.lanes lane l l' g in
-      let r = total-set (λ (l : Lane). occ k l.received) w.lanes lane l l' g in
+      let l' : CoreLane = record { received = l.received ++ new; unrouted = l.unrouted ++ filter has_ids new; ended = l.ended } in
+      let u = total-set (λ (l : CoreLane). occ k l.unrouted) w.lanes lane l l' g in
+      let r = total-set (λ (l : CoreLane). occ k l.received) w.lanes lane l l' g in
       let h = tally-halves (λ (a : Arrival). same_key a.key k) has_ids new in
       omega (arith, u, r, h, occ-append k l.unrouted (filter has_ids new), occ-append k l.received new, counted-append k w.counted (counts InvalidId (filter (λ (a : Arrival). not (has_ids a)) new)), occ_counts k InvalidId (filter (λ (a : Arrival). not (has_ids a)) new)))
   balance next (routed lane shard l sh a rest g m t e) = rw (← e) (
-      let u = total-set (λ (l : Lane). occ k l.unrouted) w.lanes lane l (record l { unrouted = rest }) g in
-      let r = total-set (λ (l : Lane). occ k l.received) w.lanes lane l (record l { unrouted = rest }) g in
+      let u = total-set (λ (l : CoreLane). occ k l.unrouted) w.lanes lane l (record l { unrouted = rest }) g in
+      let r = total-set (λ (l : CoreLane). occ k l.received) w.lanes lane l (record l { unrouted = rest }) g in
       let q = total-set (weigh k s) w.shards shard sh (record sh { queue = sh.queue ++ a ∷ [] }) m in
       let x = ap (occ k) t.was ∙ occ-append k t.front (a ∷ t.back) in
       let y = ap (occ k) t.becomes ∙ occ-append k t.front t.back in
       omega (arith, u, r, q, x, y, occ-append k sh.queue (a ∷ [])))
   balance next (refused_by lane shard l a rest g t e) = rw (← e) (
-      let u = total-set (λ (l : Lane). occ k l.unrouted) w.lanes lane l (record l { unrouted = rest }) g in
-      let r = total-set (λ (l : Lane). occ k l.received) w.lanes lane l (record l { unrouted = rest }) g in
+      let u = total-set (λ (l : CoreLane). occ k l.unrouted) w.lanes lane l (record l { unrouted = rest }) g in
+      let r = total-set (λ (l : CoreLane). occ k l.received) w.lanes lane l (record l { unrouted = rest }) g in
       let x = ap (occ k) t.was ∙ occ-append k t.front (a ∷ t.back) in
       let y = ap (occ k) t.becomes ∙ occ-append k t.front t.back in
       omega (arith, u, r, x, y, counted-append k w.counted (counts QueueFull (a ∷ [])), occ_counts k QueueFull (a ∷ [])))
@@ -158,8 +158,8 @@ module _ (k : ArrivalKey) (c : Config) (room : HasRoom c.limit) (w : World) wher
       let t = total-set (weigh k s) w.shards shard sh (record { queue = sh.queue; journal = record { item = Tick moment; refused = false; lost = false; answers = [] } ∷ sh.journal; dealt = 0; unshipped = sh.unshipped ++ [] }) g in
       omega (arith, t, ap (occ k) (stays_by_tick s room sh.journal moment), weighs sh n, occ-append k sh.unshipped [], counted-append k w.counted []))
   balance next (closed_by lane l g n e) = rw (← e) (
-      let u = total-set (λ (l : Lane). occ k l.unrouted) w.lanes lane l (record l { ended = true }) g in
-      let r = total-set (λ (l : Lane). occ k l.received) w.lanes lane l (record l { ended = true }) g in
+      let u = total-set (λ (l : CoreLane). occ k l.unrouted) w.lanes lane l (record l { ended = true }) g in
+      let r = total-set (λ (l : CoreLane). occ k l.received) w.lanes lane l (record l { ended = true }) g in
       omega (arith, u, r))
   balance next (took_end shard sender sh g n m d e) = rw (← e) (
       let t = total-set (weigh k s) w.shards shard sh (record { queue = sh.queue; journal = record { item = End sender; refused = false; lost = false; answers = [] } ∷ sh.journal; dealt = 0; unshipped = sh.unshipped ++ [] }) g in
@@ -184,10 +184,10 @@ module _ (k : ArrivalKey) (c : Config) (room : HasRoom c.limit) (w : World) wher
       let x = ap (occ k) (flat_map-append' (λ (b : List Arrival). b) w.handed (w.batch ∷ [])) in
       omega (arith, x, occ-append k (flat_map (λ (b : List Arrival). b) w.handed) (w.batch ++ []), occ-append k w.batch []))
   balance next (failed d e) = rw (← e) refl
-  balance next (spoiled r b a e) = rw (← e) (omega (arith, counted-append k w.counted (counts r w.batch), occ_counts k r w.batch))
+  balance next (batch_dropped r b a e) = rw (← e) (omega (arith, counted-append k w.counted (counts r w.batch), occ_counts k r w.batch))
 
 -- the settings stay
-pub same_settings : (c : Config) (w next : World) → Stepped c w next → settings c next ≡ settings c w
+pub same_settings : (c : CoreConfig) (w next : World) → Stepped c w next → settings c next ≡ settings c w
 same_settings c w next st = ap (λ n. settings_for c (n + 1)) (same_length next st)
   where
     same_length : (next : World) → Stepped c w next → length next.lanes ≡ length w.lanes
@@ -204,4 +204,4 @@ same_settings c w next st = ap (λ n. settings_for c (n + 1)) (same_length next 
     same_length next (pulled a rest u e) = rw (← e) refl
     same_length next (handed_over b d e) = rw (← e) refl
     same_length next (failed d e) = rw (← e) refl
-    same_length next (spoiled r b a e) = rw (← e) refl
+    same_length next (batch_dropped r b a e) = rw (← e) refl

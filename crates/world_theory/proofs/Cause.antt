@@ -14,8 +14,8 @@ use Rattle.span_ids.specs.declared.outcome.Verdict.{Verdict}
 use Rattle.span_ids.specs.declared.outcome.Verdict.TheVariants.{Sampled, NotSampled}
 use Rattle.span_ids.specs.declared.outcome.Reason.{Reason}
 use Rattle.span_ids.specs.declared.outcome.Reason.TheVariants.{InvalidId, QueueFull, NoMemory, Evicted, LateNotSampled, ExporterDown, NotSampled as DecidedAgainst}
-use Rattle.world_theory.specs.World.{Config, Lane, Shard, World, new_world, new_lane, new_shard, settings, has_due, ids_go_to}
-use Rattle.world_theory.specs.Step.{has_ids, arrivals, is_of_conn, spoil_applies}
+use Rattle.world_theory.specs.World.{CoreConfig, CoreLane, CoreShard, World, new_world, new_lane, new_shard, settings, has_due, ids_go_to}
+use Rattle.world_theory.specs.Step.{has_ids, arrivals, is_of_conn, drop_batch_applies}
 use Rattle.journal_theory.proofs.Notes.{HasRoom, is_open}
 use Rattle.journal_theory.proofs.ListFacts.{Each, Each-append, Each-left, Each-right, Each-weaker, Each-both, Each-filter, Each-passes, Split, Split-more, Split-behind, spill, spill-append}
 use Rattle.journal_theory.proofs.Sound.{makes_room, last_of_nil}
@@ -23,7 +23,7 @@ use Rattle.world_theory.proofs.Content.{content, took_span as span_taken, stays_
 use Rattle.world_theory.proofs.Answered.{content_same}
 use Rattle.journal_theory.specs.Journal.{due_now, answered, IsAnsweredUpTo}
 use Rattle.world_theory.proofs.Dealing.{dealt_with, Split-each}
-use Rattle.world_theory.proofs.Steps.{Stepped, received_by, routed, refused_by, took_span, took_tick, closed_by, took_end, answered_by, decided_one, shipped, pulled, handed_over, failed, spoiled}
+use Rattle.world_theory.proofs.Steps.{Stepped, received_by, routed, refused_by, took_span, took_tick, closed_by, took_end, answered_by, decided_one, shipped, pulled, handed_over, failed, batch_dropped}
 use Rattle.world_theory.proofs.Balance.{same_settings, has_valid}
 use Rattle.world_theory.proofs.Lined.{line_of, line_taken, line_dealt, line, at_each}
 use Rattle.world_theory.proofs.Order.{behind, behind_pulled, behind_handed, replicated}
@@ -32,19 +32,19 @@ use Rattle.world_theory.proofs.Settled.{fate_is_answered, FateIs, fate_settles, 
 
 -- ---- received, and with a fate
 
-pub record IsReceived (lanes : List Lane) (b : Arrival) : Type 0 where
+pub record IsReceived (lanes : List CoreLane) (b : Arrival) : Type 0 where
   pub lane : ℕ
-  pub l : Lane
+  pub l : CoreLane
   pub at : slice_get lanes lane ≡ Some l
   pub within : Split b l.received
 
-pub record HasF (s : Settings) (shards : List Shard) (b : Arrival) (became : Fate) : Type 0 where
+pub record HasF (s : Settings) (shards : List CoreShard) (b : Arrival) (became : Fate) : Type 0 where
   pub shard : ℕ
-  pub sh : Shard
+  pub sh : CoreShard
   pub at : slice_get shards shard ≡ Some sh
   pub fate : FateIs s sh.journal b became
 
-abbrev pub Cause : Settings → List Shard → Bool → Arrival → Reason → Type 0
+abbrev pub Cause : Settings → List CoreShard → Bool → Arrival → Reason → Type 0
 Cause s shards down b InvalidId = b.rec.span.ids ≡ None
 Cause s shards down b QueueFull = IsSome b.rec.span.ids
 Cause s shards down b NoMemory = HasF s shards b (is_counted NoMemory) ⊎ HasF s shards b is_released
@@ -53,30 +53,30 @@ Cause s shards down b DecidedAgainst = HasF s shards b (is_counted DecidedAgains
 Cause s shards down b LateNotSampled = HasF s shards b (is_counted LateNotSampled)
 Cause s shards down b ExporterDown = (down ≡ true) × HasF s shards b is_released
 
-pub record Caused (s : Settings) (lanes : List Lane) (shards : List Shard) (down : Bool) (n : DroppedSpan) : Type 0 where
+pub record Caused (s : Settings) (lanes : List CoreLane) (shards : List CoreShard) (down : Bool) (n : DroppedSpan) : Type 0 where
   pub b : Arrival
   pub same : b.key ≡ n.key
   pub received : IsReceived lanes b
   pub cause : Cause s shards down b n.reason
 
-counts_caused : (s : Settings) (lanes : List Lane) (shards : List Shard) (down : Bool) (r : Reason) (spans : List Arrival) → Each (λ (b : Arrival). IsReceived lanes b × Cause s shards down b r) spans → Each (Caused s lanes shards down) (counts r spans)
+counts_caused : (s : Settings) (lanes : List CoreLane) (shards : List CoreShard) (down : Bool) (r : Reason) (spans : List Arrival) → Each (λ (b : Arrival). IsReceived lanes b × Cause s shards down b r) spans → Each (Caused s lanes shards down) (counts r spans)
 counts_caused s lanes shards down r [] h = tt
 counts_caused s lanes shards down r (b ∷ spans) h = (record { b = b; same = refl; received = h.0.0; cause = h.0.1 }, counts_caused s lanes shards down r spans h.1)
 
-received_set : (lanes : List Lane) (i : ℕ) (l l' : Lane) → slice_get lanes i ≡ Some l → ((b : Arrival) → Split b l.received → Split b l'.received) → (b : Arrival) → IsReceived lanes b → IsReceived (slice_set lanes i l') b
+received_set : (lanes : List CoreLane) (i : ℕ) (l l' : CoreLane) → slice_get lanes i ≡ Some l → ((b : Arrival) → Split b l.received → Split b l'.received) → (b : Arrival) → IsReceived lanes b → IsReceived (slice_set lanes i l') b
 received_set lanes i l l' g f b h = go (cases_eq h.lane i)
   where
     go : (h.lane ≡ i) ⊎ (h.lane ≡ i → ⊥) → IsReceived (slice_set lanes i l') b
     go (inl e) = let q : Some h.l ≡ Some l = sym h.at ∙ ap (slice_get lanes) e ∙ g in let j : h.l ≡ l = cc q in
-        record { lane = i; l = l'; at = get_set lanes i l l' g; within = f b (subst (λ (l : Lane). Split b l.received) j h.within) }
+        record { lane = i; l = l'; at = get_set lanes i l l' g; within = f b (subst (λ (l : CoreLane). Split b l.received) j h.within) }
     go (inr d) = record { lane = h.lane; l = h.l; at = get_set_other lanes i h.lane l' d ∙ h.at; within = h.within }
 
-hasf_set : (s : Settings) (shards : List Shard) (i : ℕ) (sh sh' : Shard) (became : Fate) → slice_get shards i ≡ Some sh → (b : Arrival) → (FateIs s sh.journal b became → FateIs s sh'.journal b became) → HasF s shards b became → HasF s (slice_set shards i sh') b became
+hasf_set : (s : Settings) (shards : List CoreShard) (i : ℕ) (sh sh' : CoreShard) (became : Fate) → slice_get shards i ≡ Some sh → (b : Arrival) → (FateIs s sh.journal b became → FateIs s sh'.journal b became) → HasF s shards b became → HasF s (slice_set shards i sh') b became
 hasf_set s shards i sh sh' became g b f h = go (cases_eq h.shard i)
   where
     go : (h.shard ≡ i) ⊎ (h.shard ≡ i → ⊥) → HasF s (slice_set shards i sh') b became
     go (inl e) = let q : Some h.sh ≡ Some sh = sym h.at ∙ ap (slice_get shards) e ∙ g in let j : h.sh ≡ sh = cc q in
-        record { shard = i; sh = sh'; at = get_set shards i sh sh' g; fate = f (subst (λ (sh : Shard). FateIs s sh.journal b became) j h.fate) }
+        record { shard = i; sh = sh'; at = get_set shards i sh sh' g; fate = f (subst (λ (sh : CoreShard). FateIs s sh.journal b became) j h.fate) }
     go (inr d) = record { shard = h.shard; sh = h.sh; at = get_set_other shards i h.shard sh' d ∙ h.at; fate = h.fate }
 
 -- a journal that keeps what is settled
@@ -84,7 +84,7 @@ record Settles (s : Settings) (J J' : Journal) : Type 0 where
   counted : (a : Arrival) (r : Reason) → FateIs s J a (is_counted r) → FateIs s J' a (is_counted r)
   released : (a : Arrival) → FateIs s J a is_released → FateIs s J' a is_released
 
-cause_set : (s : Settings) (shards : List Shard) (down : Bool) (i : ℕ) (sh sh' : Shard) → slice_get shards i ≡ Some sh → Settles s sh.journal sh'.journal → (b : Arrival) (r : Reason) → Cause s shards down b r → Cause s (slice_set shards i sh') down b r
+cause_set : (s : Settings) (shards : List CoreShard) (down : Bool) (i : ℕ) (sh sh' : CoreShard) → slice_get shards i ≡ Some sh → Settles s sh.journal sh'.journal → (b : Arrival) (r : Reason) → Cause s shards down b r → Cause s (slice_set shards i sh') down b r
 cause_set s shards down i sh sh' g f b InvalidId h = h
 cause_set s shards down i sh sh' g f b QueueFull h = h
 cause_set s shards down i sh sh' g f b NoMemory (inl h) = inl (hasf_set s shards i sh sh' (is_counted NoMemory) g b (f.counted b NoMemory) h)
@@ -94,7 +94,7 @@ cause_set s shards down i sh sh' g f b DecidedAgainst h = hasf_set s shards i sh
 cause_set s shards down i sh sh' g f b LateNotSampled h = hasf_set s shards i sh sh' (is_counted LateNotSampled) g b (f.counted b LateNotSampled) h
 cause_set s shards down i sh sh' g f b ExporterDown h = (h.0, hasf_set s shards i sh sh' is_released g b (f.released b) h.1)
 
-cause_down : (s : Settings) (shards : List Shard) (down : Bool) (b : Arrival) (r : Reason) → Cause s shards down b r → Cause s shards true b r
+cause_down : (s : Settings) (shards : List CoreShard) (down : Bool) (b : Arrival) (r : Reason) → Cause s shards down b r → Cause s shards true b r
 cause_down s shards down b InvalidId h = h
 cause_down s shards down b QueueFull h = h
 cause_down s shards down b NoMemory h = h
@@ -106,25 +106,25 @@ cause_down s shards down b ExporterDown h = (refl, h.1)
 settles_same : (s : Settings) (J : Journal) → Settles s J J
 settles_same s J = record { counted = λ a r h. h; released = λ a h. h }
 
-settles_answered : (s : Settings) → HasRoom s.limit → (J : Journal) (k : ℕ) (answers : List Bool) (o : Opening) → slice_get (due_now s J) k ≡ Some o → IsAnsweredUpTo s J k → Settles s J (answered J answers)
+settles_answered : (s : Settings) → HasRoom s.num_traces → (J : Journal) (k : ℕ) (answers : List Bool) (o : Opening) → slice_get (due_now s J) k ≡ Some o → IsAnsweredUpTo s J k → Settles s J (answered J answers)
 settles_answered s room J k answers o d i = record { counted = λ a r h. fate_is_answered s room J k answers o d i a (is_counted r) (inr (r, refl)) h; released = λ a h. fate_is_answered s room J k answers o d i a is_released (inl refl) h }
 
-settles_more : (s : Settings) → HasRoom s.limit → (J : Journal) (e : Entry) → Settles s J (e ∷ J)
+settles_more : (s : Settings) → HasRoom s.num_traces → (J : Journal) (e : Entry) → Settles s J (e ∷ J)
 settles_more s room J e = record { counted = λ a r h. fate_settles s room J e a r h; released = λ a h. released_keeps s room J e a h }
 
 -- ---- the invariant
 
-pub record Sourced (s : Settings) (lanes : List Lane) (shards : List Shard) (past : List Arrival) (counted : List DroppedSpan) (down : Bool) : Type 0 where
-  pub unrouted : (j : ℕ) (l : Lane) → slice_get lanes j ≡ Some l → Each (IsReceived lanes) l.unrouted
-  pub lines : (i : ℕ) (sh : Shard) → slice_get shards i ≡ Some sh → Each (IsReceived lanes) (line s sh)
+pub record Sourced (s : Settings) (lanes : List CoreLane) (shards : List CoreShard) (past : List Arrival) (counted : List DroppedSpan) (down : Bool) : Type 0 where
+  pub unrouted : (j : ℕ) (l : CoreLane) → slice_get lanes j ≡ Some l → Each (IsReceived lanes) l.unrouted
+  pub lines : (i : ℕ) (sh : CoreShard) → slice_get shards i ≡ Some sh → Each (IsReceived lanes) (line s sh)
   pub gone : Each (IsReceived lanes) past
   pub caused : Each (Caused s lanes shards down) counted
 
-module _ (s : Settings) (lanes : List Lane) (shards : List Shard) (past : List Arrival) (counted : List DroppedSpan) (down : Bool) (h : Sourced s lanes shards past counted down) where
+module _ (s : Settings) (lanes : List CoreLane) (shards : List CoreShard) (past : List Arrival) (counted : List DroppedSpan) (down : Bool) (h : Sourced s lanes shards past counted down) where
   -- a lane's part changes
-  lane_set : (j : ℕ) (l l' : Lane) → slice_get lanes j ≡ Some l → ((b : Arrival) → Split b l.received → Split b l'.received) → Each (IsReceived (slice_set lanes j l')) l'.unrouted → Sourced s (slice_set lanes j l') shards past counted down
+  lane_set : (j : ℕ) (l l' : CoreLane) → slice_get lanes j ≡ Some l → ((b : Arrival) → Split b l.received → Split b l'.received) → Each (IsReceived (slice_set lanes j l')) l'.unrouted → Sourced s (slice_set lanes j l') shards past counted down
   lane_set j l l' g f u = record {
-    unrouted = at_each (λ j (l : Lane). Each (IsReceived (slice_set lanes j' l')) l.unrouted) lanes j l' u (λ i m e. up m.unrouted (h.unrouted i m e));
+    unrouted = at_each (λ j (l : CoreLane). Each (IsReceived (slice_set lanes j' l')) l.unrouted) lanes j l' u (λ i m e. up m.unrouted (h.unrouted i m e));
     lines = λ i sh e. up (line s sh) (h.lines i sh e);
     gone = up past h.gone;
     caused = Each-weaker (Caused s lanes shards down) (Caused s (slice_set lanes j l') shards down) counted (λ n k. record { b = k.b; same = k.same; received = received_set lanes j l l' g f k.b k.received; cause = k.cause }) h.caused;
@@ -137,7 +137,7 @@ module _ (s : Settings) (lanes : List Lane) (shards : List Shard) (past : List A
       up xs k = Each-weaker (IsReceived lanes) (IsReceived (slice_set lanes j l')) xs (λ b p. received_set lanes j l l' g f b p) k
 
   -- a shard's part changes
-  shard_set : (i : ℕ) (sh sh' : Shard) → slice_get shards i ≡ Some sh → Settles s sh.journal sh'.journal → Each (IsReceived lanes) (line s sh') → Sourced s lanes (slice_set shards i sh') past counted down
+  shard_set : (i : ℕ) (sh sh' : CoreShard) → slice_get shards i ≡ Some sh → Settles s sh.journal sh'.journal → Each (IsReceived lanes) (line s sh') → Sourced s lanes (slice_set shards i sh') past counted down
   shard_set i sh sh' g f k = record {
     unrouted = h.unrouted;
     lines = at_each (λ i sh. Each (IsReceived lanes) (line s sh)) shards i sh' k h.lines;
@@ -162,19 +162,19 @@ spill_at P f p x xs k e h =
     let b = Each-right P (spill f p k.back) (cond (p x) (f x) []) (Each-left P (spill f p (x ∷ k.back)) (spill f p k.front) a) in
     subst (λ z. Each P (cond z (f x) [])) e b
 
-module _ (s : Settings) (room : HasRoom s.limit) (lanes : List Lane) (shards : List Shard) (down : Bool) where
+module _ (s : Settings) (room : HasRoom s.num_traces) (lanes : List CoreLane) (shards : List CoreShard) (down : Bool) where
   caused_by_span : (J : Journal) (a : Arrival) (ids : Ids) → a.rec.span.ids ≡ Some ids → (refused lost : Bool) → IsReceived lanes a → Each (IsReceived lanes) (content s J (notes s J))
       → ((b : Arrival) (became : Fate) → FateIs s (record { item = Span a; refused = refused; lost = lost; answers = [] } ∷ J) b became → HasF s shards b became)
       → Each (Caused s lanes shards down) (effect_of_span s J refused a a.rec.span.ids).counted
   caused_by_span J a ids has refused lost r held f = subst (λ (z : Option Ids). Each (Caused s lanes shards down) (effect_of_span s J refused a z).counted) (sym has) (go refused f)
     where
-      by_leaving : (out : Option Opening) → leaving s.limit (notes s J).openings ≡ out → finding s (notes s J) ids.trace ≡ opens → ((b : Arrival) (became : Fate) → FateIs s (record { item = Span a; refused = false; lost = lost; answers = [] } ∷ J) b became → HasF s shards b became)
+      by_leaving : (out : Option Opening) → leaving s.num_traces (notes s J).openings ≡ out → finding s (notes s J) ids.trace ≡ opens → ((b : Arrival) (became : Fate) → FateIs s (record { item = Span a; refused = false; lost = lost; answers = [] } ∷ J) b became → HasF s shards b became)
           → Each (Caused s lanes shards down) (effect_of_leaving J (notes s J) out).counted
       by_leaving None q e f = tt
       by_leaving (Some o) q e f = by_decided (decided_as (notes s J) o.at) refl
         where
           place : Split o (in_buffer s (notes s J))
-          place = let m = makes_room s.limit room (notes s J).openings in record { front = m.kept; back = []; is = m.was ∙ ap (λ z. m.kept ++ option_to_list z) q }
+          place = let m = makes_room s.num_traces room (notes s J).openings in record { front = m.kept; back = []; is = m.was ∙ ap (λ z. m.kept ++ option_to_list z) q }
 
           by_decided : (d : Option Verdict) → decided_as (notes s J) o.at ≡ d → Each (Caused s lanes shards down) (effect_of_leaving_decided Evicted (spans_since J o) d).counted
           by_decided (Some v) d = tt
@@ -191,7 +191,7 @@ module _ (s : Settings) (room : HasRoom s.limit) (lanes : List Lane) (shards : L
           → Each (Caused s lanes shards down) (effect_of_finding s J (notes s J) a x).counted
       by_finding (joins o) e f = tt
       by_finding (meets o v) e f = by_verdict o v e f
-      by_finding opens e f = by_leaving (leaving s.limit (notes s J).openings) refl e f
+      by_finding opens e f = by_leaving (leaving s.num_traces (notes s J).openings) refl e f
 
       go : (refused : Bool) → ((b : Arrival) (became : Fate) → FateIs s (record { item = Span a; refused = refused; lost = lost; answers = [] } ∷ J) b became → HasF s shards b became) → Each (Caused s lanes shards down) (effect_of_span s J refused a (Some ids)).counted
       go true f = counts_caused s lanes shards down NoMemory (a ∷ []) ((r, inl (f a (is_counted NoMemory) (refused_fate s room J a ids has lost))), tt)
@@ -207,7 +207,7 @@ module _ (s : Settings) (room : HasRoom s.limit) (lanes : List Lane) (shards : L
 
 -- ---- a step
 
-abbrev pub SourcedAt : Config → World → Type 0
+abbrev pub SourcedAt : CoreConfig → World → Type 0
 SourcedAt c w = Sourced (settings c w) w.lanes w.shards (behind w) w.counted w.down
 
 goes_has_ids : (n i : ℕ) (ids : Option Ids) → ids_go_to n i ids ≡ true → is_some ids ≡ true
@@ -218,33 +218,33 @@ no_ids : (ids : Option Ids) → not (is_some ids) ≡ true → ids ≡ None
 no_ids None e = refl
 no_ids (Some ids) e = absurd (cc e)
 
-module _ (c : Config) (room : HasRoom c.limit) (w : World) (h : SourcedAt c w) (rel : ReleasingAt c w) where
+module _ (c : CoreConfig) (room : HasRoom c.shard.num_traces) (w : World) (h : SourcedAt c w) (rel : ReleasingAt c w) where
   abbrev s : Settings
   s = settings c w
 
-  now_noted : (sh : Shard) → has_due s sh ≡ false → line s sh ≡ line_of sh.unshipped (content s sh.journal (notes s sh.journal)) sh.queue
+  now_noted : (sh : CoreShard) → has_due s sh ≡ false → line s sh ≡ line_of sh.unshipped (content s sh.journal (notes s sh.journal)) sh.queue
   now_noted sh e = ap (λ z. line_of sh.unshipped (content s sh.journal z) sh.queue) (all_dealt s sh.journal sh.dealt e)
 
-  still : (i : ℕ) (sh : Shard) (after : List Arrival) → slice_get w.shards i ≡ Some sh → has_due s sh ≡ false → after ≡ content s sh.journal (notes s sh.journal) → Each (IsReceived w.lanes) (line_of (sh.unshipped ++ []) after sh.queue)
+  still : (i : ℕ) (sh : CoreShard) (after : List Arrival) → slice_get w.shards i ≡ Some sh → has_due s sh ≡ false → after ≡ content s sh.journal (notes s sh.journal) → Each (IsReceived w.lanes) (line_of (sh.unshipped ++ []) after sh.queue)
   still i sh after g e q = subst (λ z. Each (IsReceived w.lanes) z) (now_noted sh e ∙ ap (λ z. line_of sh.unshipped z sh.queue) (sym q) ∙ ap (λ z. line_of z after sh.queue) (sym (append-nil sh.unshipped))) (h.lines i sh g)
 
   abbrev Next : World → Type 0
   Next next = Sourced s next.lanes next.shards (behind next) next.counted next.down
 
   -- the batch goes under the reason
-  spoil_cause : (r : Reason) → spoil_applies w r ≡ true → (b : Arrival) → HasReleased s w.shards b → Cause s w.shards w.down b r
-  spoil_cause InvalidId e b k = absurd (cc e)
-  spoil_cause QueueFull e b k = absurd (cc e)
-  spoil_cause Evicted e b k = absurd (cc e)
-  spoil_cause DecidedAgainst e b k = absurd (cc e)
-  spoil_cause LateNotSampled e b k = absurd (cc e)
-  spoil_cause NoMemory e b k = let i = k.released in inr (record { shard = k.shard; sh = k.sh; at = k.at; fate = record { ids = i.ids; valid = i.valid; refused = false; lost = i.lost; given = i.given; later = i.later; before = i.before; split = i.split; is = i.holds } })
-  spoil_cause ExporterDown e b k = let i = k.released in (e, record { shard = k.shard; sh = k.sh; at = k.at; fate = record { ids = i.ids; valid = i.valid; refused = false; lost = i.lost; given = i.given; later = i.later; before = i.before; split = i.split; is = i.holds } })
+  drop_batch_cause : (r : Reason) → drop_batch_applies w r ≡ true → (b : Arrival) → HasReleased s w.shards b → Cause s w.shards w.down b r
+  drop_batch_cause InvalidId e b k = absurd (cc e)
+  drop_batch_cause QueueFull e b k = absurd (cc e)
+  drop_batch_cause Evicted e b k = absurd (cc e)
+  drop_batch_cause DecidedAgainst e b k = absurd (cc e)
+  drop_batch_cause LateNotSampled e b k = absurd (cc e)
+  drop_batch_cause NoMemory e b k = let i = k.released in inr (record { shard = k.shard; sh = k.sh; at = k.at; fate = record { ids = i.ids; valid = i.valid; refused = false; lost = i.lost; given = i.given; later = i.later; before = i.before; split = i.split; is = i.holds } })
+  drop_batch_cause ExporterDown e b k = let i = k.released in (e, record { shard = k.shard; sh = k.sh; at = k.at; fate = record { ids = i.ids; valid = i.valid; refused = false; lost = i.lost; given = i.given; later = i.later; before = i.before; split = i.split; is = i.holds } })
 
   sourced : (next : World) → Stepped c w next → Next next
   sourced next (received_by lane ordinal moment records l g p e) = subst Next e (
       let new = arrivals (record { lane = lane; ordinal = ordinal }) (count_by (is_of_conn (record { lane = lane; ordinal = ordinal })) l.received) moment records in
-      let l' : Lane = record { received = l.received ++ new; unrouted = l.unrouted ++ filter has_ids new; ended = l.ended } in
+      let l' : CoreLane = record { received = l.received ++ new; unrouted = l.unrouted ++ filter has_ids new; ended = l.ended } in
       let own : Each (IsReceived (slice_set w.lanes lane l')) new = Each-weaker (λ (b : Arrival). Split b new) (IsReceived (slice_set w.lanes lane l')) new (λ b k. record { lane = lane; l = l'; at = get_set w.lanes lane l l' g; within = Split-behind b l.received new k }) (Split-each new) in
       let grow = λ (b : Arrival) (k : Split b l.received). Split-more b l.received new k in
       let m = lane_set s w.lanes w.shards (behind w) w.counted w.down h lane l l' g grow
@@ -254,8 +254,8 @@ module _ (c : Config) (room : HasRoom c.limit) (w : World) (h : SourcedAt c w) (
       (Each-both (IsReceived (slice_set w.lanes lane l')) (λ (a : Arrival). not (has_ids a) ≡ true) (λ (b : Arrival). IsReceived (slice_set w.lanes lane l') b × Cause s w.shards w.down b InvalidId) (filter (λ (a : Arrival). not (has_ids a)) new)
       (λ b x y. (x, no_ids b.rec.span.ids y)) (Each-filter (IsReceived (slice_set w.lanes lane l')) (λ (a : Arrival). not (has_ids a)) new own) (Each-passes (λ (a : Arrival). not (has_ids a)) new))))
   sourced next (routed lane shard l sh a rest gl gs t e) = subst Next e (
-      let sh' : Shard = record sh { queue = sh.queue ++ a ∷ [] } in
-      let l' : Lane = record l { unrouted = rest } in
+      let sh' : CoreShard = record sh { queue = sh.queue ++ a ∷ [] } in
+      let l' : CoreLane = record l { unrouted = rest } in
       let u = subst (λ z. Each (IsReceived w.lanes) z) t.was (h.unrouted lane l gl) in
       let v = Each-right (IsReceived w.lanes) t.front (a ∷ t.back) u in
       let grown : line s sh ++ a ∷ [] ≡ line s sh' = (simp append_assoc) in
@@ -263,7 +263,7 @@ module _ (c : Config) (room : HasRoom c.limit) (w : World) (h : SourcedAt c w) (
       let left = subst (λ z. Each (IsReceived w.lanes) z) (sym t.becomes) (Each-append (IsReceived w.lanes) t.front t.back (Each-left (IsReceived w.lanes) t.front (a ∷ t.back) u) v.1) in
       lane_set s w.lanes (slice_set w.shards shard sh') (behind w) w.counted w.down m lane l l' gl (λ b k. k) (Each-weaker (IsReceived w.lanes) (IsReceived (slice_set w.lanes lane l')) rest (λ b k. received_set w.lanes lane l l' gl (λ b k. k) b k) left))
   sourced next (refused_by lane shard l a rest gl t e) = subst Next e (
-      let l' : Lane = record l { unrouted = rest } in
+      let l' : CoreLane = record l { unrouted = rest } in
       let u = subst (λ z. Each (IsReceived w.lanes) z) t.was (h.unrouted lane l gl) in
       let v = Each-right (IsReceived w.lanes) t.front (a ∷ t.back) u in
       let left = subst (λ z. Each (IsReceived w.lanes) z) (sym t.becomes) (Each-append (IsReceived w.lanes) t.front t.back (Each-left (IsReceived w.lanes) t.front (a ∷ t.back) u) v.1) in
@@ -274,7 +274,7 @@ module _ (c : Config) (room : HasRoom c.limit) (w : World) (h : SourcedAt c w) (
       let v = has_valid a.key c room w sh.journal refused lost a.rec.span.ids m in
       let entry : Entry = record { item = Span a; refused = refused; lost = lost; answers = [] } in
       let did : Effect = effect_of_span s sh.journal refused a a.rec.span.ids in
-      let sh' : Shard = record { queue = rest; journal = record { item = Span a; refused = refused; lost = lost; answers = [] } ∷ sh.journal; dealt = 0; unshipped = sh.unshipped ++ did.released } in
+      let sh' : CoreShard = record { queue = rest; journal = record { item = Span a; refused = refused; lost = lost; answers = [] } ∷ sh.journal; dealt = 0; unshipped = sh.unshipped ++ did.released } in
       let was = subst (λ z. Each (IsReceived w.lanes) z) (now_noted sh d ∙ ap (λ z. line_of sh.unshipped (content s sh.journal (notes s sh.journal)) z) q) (h.lines shard sh g) in
       let tail = Each-right (IsReceived w.lanes) sh.unshipped (content s sh.journal (notes s sh.journal) ++ a ∷ rest) was in
       let held = Each-left (IsReceived w.lanes) (content s sh.journal (notes s sh.journal)) (a ∷ rest) tail in
@@ -284,22 +284,22 @@ module _ (c : Config) (room : HasRoom c.limit) (w : World) (h : SourcedAt c w) (
       more_counted s w.lanes (slice_set w.shards shard sh') (behind w) w.counted w.down n did.counted
       (caused_by_span s room w.lanes (slice_set w.shards shard sh') w.down sh.journal a v.0 v.1 refused lost first held (λ b became x. record { shard = shard; sh = sh'; at = get_set w.shards shard sh sh' g; fate = x })))
   sourced next (took_tick shard moment sh g d m e) = subst Next e (
-      let sh' : Shard = record { queue = sh.queue; journal = record { item = Tick moment; refused = false; lost = false; answers = [] } ∷ sh.journal; dealt = 0; unshipped = sh.unshipped ++ [] } in
+      let sh' : CoreShard = record { queue = sh.queue; journal = record { item = Tick moment; refused = false; lost = false; answers = [] } ∷ sh.journal; dealt = 0; unshipped = sh.unshipped ++ [] } in
       more_counted s w.lanes (slice_set w.shards shard sh') (behind w) w.counted w.down
       (shard_set s w.lanes w.shards (behind w) w.counted w.down h shard sh sh' g (settles_more s room sh.journal (record { item = Tick moment; refused = false; lost = false; answers = [] })) (still shard sh _ g d (stays_by_tick s room sh.journal moment))) [] tt)
   sourced next (closed_by lane l g p e) = subst Next e (
       lane_set s w.lanes w.shards (behind w) w.counted w.down h lane l (record l { ended = true }) g (λ b k. k) (Each-weaker (IsReceived w.lanes) (IsReceived (slice_set w.lanes lane (record l { ended = true }))) l.unrouted (λ b k. received_set w.lanes lane l (record l { ended = true }) g (λ b k. k) b k) (h.unrouted lane l g)))
   sourced next (took_end shard sender sh g d m p e) = subst Next e (
-      let sh' : Shard = record { queue = sh.queue; journal = record { item = End sender; refused = false; lost = false; answers = [] } ∷ sh.journal; dealt = 0; unshipped = sh.unshipped ++ [] } in
+      let sh' : CoreShard = record { queue = sh.queue; journal = record { item = End sender; refused = false; lost = false; answers = [] } ∷ sh.journal; dealt = 0; unshipped = sh.unshipped ++ [] } in
       more_counted s w.lanes (slice_set w.shards shard sh') (behind w) w.counted w.down
       (shard_set s w.lanes w.shards (behind w) w.counted w.down h shard sh sh' g (settles_more s room sh.journal (record { item = End sender; refused = false; lost = false; answers = [] })) (still shard sh _ g d (stays_by_end s room sh.journal sender))) [] tt)
   sourced next (answered_by shard sh answers o g d i e) = subst Next e (
-      let sh' : Shard = record sh { journal = answered sh.journal answers } in
+      let sh' : CoreShard = record sh { journal = answered sh.journal answers } in
       shard_set s w.lanes w.shards (behind w) w.counted w.down h shard sh sh' g (settles_answered s room sh.journal sh.dealt answers o d i)
       (subst (λ z. Each (IsReceived w.lanes) z) (ap (λ z. line_of sh.unshipped z sh.queue) (sym (content_same s room sh.journal sh.dealt answers o d i))) (h.lines shard sh g)))
   sourced next (decided_one shard sh d g i e) = subst Next e (
       let did = effect_of_decision d in
-      let sh' : Shard = record sh { dealt = sh.dealt + 1; unshipped = sh.unshipped ++ did.released } in
+      let sh' : CoreShard = record sh { dealt = sh.dealt + 1; unshipped = sh.unshipped ++ did.released } in
       let dealing = dealt_with s room sh.journal sh.dealt d i in
       let after = content s sh.journal (notes_dealt s sh.journal (suc sh.dealt)) in
       let held = Each-left (IsReceived w.lanes) (content s sh.journal (notes_dealt s sh.journal sh.dealt)) sh.queue (Each-right (IsReceived w.lanes) sh.unshipped (content s sh.journal (notes_dealt s sh.journal sh.dealt) ++ sh.queue) (h.lines shard sh g)) in
@@ -309,7 +309,7 @@ module _ (c : Config) (room : HasRoom c.limit) (w : World) (h : SourcedAt c w) (
       more_counted s w.lanes (slice_set w.shards shard sh') (behind w) w.counted w.down (shard_set s w.lanes w.shards (behind w) w.counted w.down h shard sh sh' g (settles_same s sh.journal) now) did.counted
       (caused_by_decision s room w.lanes (slice_set w.shards shard sh') w.down sh.journal sh.dealt d i spans (λ b became x. record { shard = shard; sh = sh'; at = get_set w.shards shard sh sh' g; fate = x })))
   sourced next (shipped shard sh a rest g u e) = subst Next e (
-      let sh' : Shard = record sh { unshipped = rest } in
+      let sh' : CoreShard = record sh { unshipped = rest } in
       let was = subst (λ z. Each (IsReceived w.lanes) z) (ap (λ z. line_of z (content s sh.journal (notes_dealt s sh.journal sh.dealt)) sh.queue) u) (h.lines shard sh g) in
       let past = flat_map (λ (b : List Arrival). b) w.handed ++ (w.batch ++ (w.exported ++ a ∷ [])) in
       let q : behind w ++ a ∷ [] ≡ past = (simp append_assoc) in
@@ -318,7 +318,7 @@ module _ (c : Config) (room : HasRoom c.limit) (w : World) (h : SourcedAt c w) (
   sourced next (pulled a rest u e) = subst Next e (new_past s w.lanes w.shards (behind w) w.counted w.down h _ (subst (λ z. Each (IsReceived w.lanes) z) (behind_pulled w a rest u) h.gone))
   sourced next (handed_over b d e) = subst Next e (new_past s w.lanes w.shards (behind w) w.counted w.down h _ (subst (λ z. Each (IsReceived w.lanes) z) (behind_handed w) h.gone))
   sourced next (failed d e) = subst Next e (sink_down s w.lanes w.shards (behind w) w.counted w.down h)
-  sourced next (spoiled r b a e) = subst Next e (
+  sourced next (batch_dropped r b a e) = subst Next e (
       let front = flat_map (λ (b : List Arrival). b) w.handed in
       let tail = Each-right (IsReceived w.lanes) (flat_map (λ (b : List Arrival). b) w.handed) (w.batch ++ w.exported) h.gone in
       let batch = Each-left (IsReceived w.lanes) w.batch w.exported tail in
@@ -326,15 +326,15 @@ module _ (c : Config) (room : HasRoom c.limit) (w : World) (h : SourcedAt c w) (
       more_counted s w.lanes w.shards (flat_map (λ (b : List Arrival). b) w.handed ++ ([] ++ w.exported)) w.counted w.down
       (new_past s w.lanes w.shards (behind w) w.counted w.down h (flat_map (λ (b : List Arrival). b) w.handed ++ ([] ++ w.exported)) (Each-append (IsReceived w.lanes) (flat_map (λ (b : List Arrival). b) w.handed) w.exported (Each-left (IsReceived w.lanes) (flat_map (λ (b : List Arrival). b) w.handed) (w.batch ++ w.exported) h.gone) (Each-right (IsReceived w.lanes) w.batch w.exported tail)))
       (counts r w.batch)
-      (counts_caused s w.lanes w.shards w.down r w.batch (Each-both (IsReceived w.lanes) (HasReleased s w.shards) (λ (b : Arrival). IsReceived w.lanes b × Cause s w.shards w.down b r) w.batch (λ b x y. (x, spoil_cause r a b y)) batch released)))
+      (counts_caused s w.lanes w.shards w.down r w.batch (Each-both (IsReceived w.lanes) (HasReleased s w.shards) (λ (b : Arrival). IsReceived w.lanes b × Cause s w.shards w.down b r) w.batch (λ b x y. (x, drop_batch_cause r a b y)) batch released)))
 
-pub sourced_step : (c : Config) → HasRoom c.limit → (w next : World) → Stepped c w next → SourcedAt c w → ReleasingAt c w → SourcedAt c next
+pub sourced_step : (c : CoreConfig) → HasRoom c.shard.num_traces → (w next : World) → Stepped c w next → SourcedAt c w → ReleasingAt c w → SourcedAt c next
 sourced_step c room w next st h rel = subst (λ (s : Settings). Sourced s next.lanes next.shards (behind next) next.counted next.down) (sym (same_settings c w next st)) (sourced c room w h rel next st)
 
-pub sourced_new : (c : Config) → (lanes shards : ℕ) → SourcedAt c (new_world lanes shards)
+pub sourced_new : (c : CoreConfig) → (lanes shards : ℕ) → SourcedAt c (new_world lanes shards)
 sourced_new c lanes shards = record {
-  unrouted = λ j l e. subst (λ (l : Lane). Each (IsReceived w.lanes) l.unrouted) (replicated lanes j new_lane l e) tt;
-  lines = λ i sh e. subst (λ (sh : Shard). Each (IsReceived w.lanes) (line (settings c w) sh)) (replicated shards i new_shard sh e) (rw (last_of_nil c.limit) tt);
+  unrouted = λ j l e. subst (λ (l : CoreLane). Each (IsReceived w.lanes) l.unrouted) (replicated lanes j new_lane l e) tt;
+  lines = λ i sh e. subst (λ (sh : CoreShard). Each (IsReceived w.lanes) (line (settings c w) sh)) (replicated shards i new_shard sh e) (rw (last_of_nil c.shard.num_traces) tt);
   gone = tt;
   caused = tt;
 }

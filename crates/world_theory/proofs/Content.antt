@@ -36,7 +36,7 @@ pub data Taking (a : Arrival) (t : TraceId) (before after released : List Arriva
   late : after ≡ before → released ≡ a ∷ [] → counted ≡ [] → Each (IsOther t) before → Taking a t before after released counted
   dropped : (r : Reason) → after ≡ before → released ≡ [] → counted ≡ counts r (a ∷ []) → Taking a t before after released counted
 
-module _ (s : Settings) (room : HasRoom s.limit) (J : Journal) (noted : Notes) (h : Sound s J noted) (a : Arrival) (ids : Ids) (has : a.rec.span.ids ≡ Some ids) (lost : Bool) (given : List (List Bool)) where
+module _ (s : Settings) (room : HasRoom s.num_traces) (J : Journal) (noted : Notes) (h : Sound s J noted) (a : Arrival) (ids : Ids) (has : a.rec.span.ids ≡ Some ids) (lost : Bool) (given : List (List Bool)) where
   abbrev entry : Bool → Entry
   entry refused = record { item = Span a; refused = refused; lost = lost; answers = given }
 
@@ -155,16 +155,16 @@ module _ (s : Settings) (room : HasRoom s.limit) (J : Journal) (noted : Notes) (
       (Each-weaker (λ (d : Decision). d.opening.at < length J) (λ (d : Decision). (d.opening.at == length J) ≡ false) noted.decisions (λ d l. ne_eqb d.opening.at (length J) (λ q. omega arith)) h.decided))
 
   took_opens : Each Apart (in_buffer s noted)
-      → Taking a ids.trace (content s J noted) (spill (spans_since (entry false ∷ J)) (is_open noted) (last_of s.limit (opened ∷ noted.openings)))
-      (effect_of_leaving J noted (leaving s.limit noted.openings)).released (effect_of_leaving J noted (leaving s.limit noted.openings)).counted
+      → Taking a ids.trace (content s J noted) (spill (spans_since (entry false ∷ J)) (is_open noted) (last_of s.num_traces (opened ∷ noted.openings)))
+      (effect_of_leaving J noted (leaving s.num_traces noted.openings)).released (effect_of_leaving J noted (leaving s.num_traces noted.openings)).counted
   took_opens f =
-      kept (spill (spans_since J) (is_open noted) out) (spill (spans_since J) (is_open noted) m.kept) [] before after (gone_released (leaving s.limit noted.openings)) (gone_counted (leaving s.limit noted.openings)) tt
+      kept (spill (spans_since J) (is_open noted) out) (spill (spans_since J) (is_open noted) m.kept) [] before after (gone_released (leaving s.num_traces noted.openings)) (gone_counted (leaving s.num_traces noted.openings)) tt
     where
-      m : Makes s.limit noted.openings
-      m = makes_room s.limit room noted.openings
+      m : Makes s.num_traces noted.openings
+      m = makes_room s.num_traces room noted.openings
 
       out : List Opening
-      out = option_to_list (leaving s.limit noted.openings)
+      out = option_to_list (leaving s.num_traces noted.openings)
 
       before : content s J noted ≡ spill (spans_since J) (is_open noted) out ++ (spill (spans_since J) (is_open noted) m.kept ++ [])
       before = ap (spill (spans_since J) (is_open noted)) m.was ∙ spill-append (spans_since J) (is_open noted) m.kept out ∙ ap (λ z. spill (spans_since J) (is_open noted) out ++ z) (sym (append-nil (spill (spans_since J) (is_open noted) m.kept)))
@@ -172,7 +172,7 @@ module _ (s : Settings) (room : HasRoom s.limit) (J : Journal) (noted : Notes) (
       stays : spill (spans_since J) (is_open noted) m.kept ≡ spill (spans_since (entry false ∷ J)) (is_open noted) m.kept
       stays = others_stay m.kept (Each-left (λ (o : Opening). o.at < length J) m.kept out (rw (m.was) at below)) (Each-left Apart m.kept out (rw (m.was) at f))
 
-      after : spill (spans_since (entry false ∷ J)) (is_open noted) (last_of s.limit (opened ∷ noted.openings)) ≡ spill (spans_since J) (is_open noted) m.kept ++ a ∷ []
+      after : spill (spans_since (entry false ∷ J)) (is_open noted) (last_of s.num_traces (opened ∷ noted.openings)) ≡ spill (spans_since J) (is_open noted) m.kept ++ a ∷ []
       after = ap (spill (spans_since (entry false ∷ J)) (is_open noted)) (m.with_next opened)
           ∙ ap (λ z. z ++ cond (is_open noted opened) (spans_since (entry false ∷ J) opened) []) (sym stays)
           ∙ ap (λ b. spill (spans_since J) (is_open noted) m.kept ++ cond b (spans_since (entry false ∷ J) opened) []) new_is_open
@@ -187,7 +187,7 @@ module _ (s : Settings) (room : HasRoom s.limit) (J : Journal) (noted : Notes) (
 
 -- ---- taking a span
 
-pub took_span : (s : Settings) → HasRoom s.limit → (J : Journal) (a : Arrival) (ids : Ids) → a.rec.span.ids ≡ Some ids → (refused lost : Bool)
+pub took_span : (s : Settings) → HasRoom s.num_traces → (J : Journal) (a : Arrival) (ids : Ids) → a.rec.span.ids ≡ Some ids → (refused lost : Bool)
     → Taking a ids.trace (content s J (notes s J)) (content s (record { item = Span a; refused = refused; lost = lost; answers = [] } ∷ J) (after_span s a.rec.span.ids (record { item = Span a; refused = refused; lost = lost; answers = [] }) J (notes s J)))
     (effect_of_span s J refused a a.rec.span.ids).released (effect_of_span s J refused a a.rec.span.ids).counted
 took_span s room J a ids has refused lost = subst (λ (z : Option Ids). Taking a ids.trace (content s J (notes s J)) (content s (record { item = Span a; refused = refused; lost = lost; answers = [] } ∷ J) (after_span s z (record { item = Span a; refused = refused; lost = lost; answers = [] }) J (notes s J)))
@@ -199,7 +199,7 @@ took_span s room J a ids has refused lost = subst (λ (z : Option Ids). Taking a
     go false = took s room J (notes s J) (sound_notes s room J) a ids has lost [] (meeting s J (notes s J) ids.trace (sound_notes s room J))
 
 -- another item leaves the contents as they were
-pub stays_by_other : (s : Settings) → HasRoom s.limit → (J : Journal) (item : Item) (refused lost : Bool) → ((refused : Bool) (t : TraceId) → own_spans t refused item ≡ [])
+pub stays_by_other : (s : Settings) → HasRoom s.num_traces → (J : Journal) (item : Item) (refused lost : Bool) → ((refused : Bool) (t : TraceId) → own_spans t refused item ≡ [])
     → content s (record { item = item; refused = refused; lost = lost; answers = [] } ∷ J) (notes s J) ≡ content s J (notes s J)
 stays_by_other s room J item refused lost f = spill-same (spans_since (record { item = item; refused = refused; lost = lost; answers = [] } ∷ J)) (spans_since J) (is_open (notes s J)) (is_open (notes s J)) (in_buffer s (notes s J))
     (Each-weaker (λ (o : Opening). o.at < length J) (λ (o : Opening). cond (is_open (notes s J) o) (spans_since (record { item = item; refused = refused; lost = lost; answers = [] } ∷ J) o) [] ≡ cond (is_open (notes s J) o) (spans_since J o) []) (in_buffer s (notes s J))
@@ -207,10 +207,10 @@ stays_by_other s room J item refused lost f = spill-same (spans_since (record { 
     ∙ ap (λ z. spans_since J o ++ z) (f refused o.trace) ∙ append-nil (spans_since J o)))
     (Each-buffer (λ (o : Opening). o.at < length J) s (notes s J) (sound_notes s room J).below))
 
-pub stays_by_tick : (s : Settings) → HasRoom s.limit → (J : Journal) (m : ℕ) → content s (record { item = Tick m; refused = false; lost = false; answers = [] } ∷ J) (notes s J) ≡ content s J (notes s J)
+pub stays_by_tick : (s : Settings) → HasRoom s.num_traces → (J : Journal) (m : ℕ) → content s (record { item = Tick m; refused = false; lost = false; answers = [] } ∷ J) (notes s J) ≡ content s J (notes s J)
 stays_by_tick s room J m = stays_by_other s room J (Tick m) false false (λ r t. refl)
 
-pub stays_by_end : (s : Settings) → HasRoom s.limit → (J : Journal) (i : ℕ) → content s (record { item = End i; refused = false; lost = false; answers = [] } ∷ J) (notes s J) ≡ content s J (notes s J)
+pub stays_by_end : (s : Settings) → HasRoom s.num_traces → (J : Journal) (i : ℕ) → content s (record { item = End i; refused = false; lost = false; answers = [] } ∷ J) (notes s J) ≡ content s J (notes s J)
 stays_by_end s room J i = stays_by_other s room J (End i) false false (λ r t. refl)
 
 -- ---- where nothing is due

@@ -121,7 +121,7 @@ module _ (s : Settings) (J : Journal) (noted : Notes) (h : Sound s J noted) (due
       older_apart = (Pairs-right (IsApart (is_open now)) k.front (d.opening ∷ k.back) (rw (k.is) at (hn.apart))).0
 
       fr : (rest : List Opening) × (noted.openings ≡ in_buffer s noted ++ rest)
-      fr = buffer_front s.limit noted.openings
+      fr = buffer_front s.num_traces noted.openings
 
       sorted : Pairs IsOlder (k.front ++ d.opening ∷ k.back)
       sorted = rw (k.is) at (Pairs-left IsOlder (in_buffer s noted) fr.0 (rw fr.1 at (h.ordered)))
@@ -141,7 +141,7 @@ undecided_stand s noted = Each-reverse (λ (o : Opening). Split o (in_buffer s n
     (Each-filter (λ (o : Opening). Split o (in_buffer s noted)) (is_open noted) (in_buffer s noted) (Split-each (in_buffer s noted))) (Each-passes (is_open noted) (in_buffer s noted)))
 
 pub undecided_ascend : (s : Settings) (J : Journal) (noted : Notes) → Sound s J noted → Pairs IsEarlier (undecided s noted)
-undecided_ascend s J noted h = let fr = buffer_front s.limit noted.openings in
+undecided_ascend s J noted h = let fr = buffer_front s.num_traces noted.openings in
     Pairs-reverse IsOlder (filter (is_open noted) (in_buffer s noted)) (Pairs-filter IsOlder (is_open noted) (in_buffer s noted) (Pairs-left IsOlder (in_buffer s noted) fr.0 (rw fr.1 at (h.ordered))))
 
 -- the next decision deals with its episode, which stands open in the buffer until then
@@ -149,7 +149,7 @@ abbrev Deals : Settings → Journal → ℕ → Decision → Type 0
 Deals s J dealt d = Dealing d (content s J (notes_dealt s J dealt)) (content s J (notes_dealt s J (suc dealt)))
     × ((is_open (notes_dealt s J dealt) d.opening ≡ true) × Split d.opening (in_buffer s (notes_dealt s J dealt)))
 
-deals : (s : Settings) → HasRoom s.limit → (J : Journal) (dealt : ℕ) (d : Decision) → slice_get (decisions_now s J) dealt ≡ Some d → Deals s J dealt d
+deals : (s : Settings) → HasRoom s.num_traces → (J : Journal) (dealt : ℕ) (d : Decision) → slice_get (decisions_now s J) dealt ≡ Some d → Deals s J dealt d
 deals s room [] dealt d e = absurd (cc e)
 deals s room (e ∷ J) dealt d is =
     let noted = after_item s e J e.item (notes s J) in
@@ -160,10 +160,10 @@ deals s room (e ∷ J) dealt d is =
     let stand = Each-due (λ (o : Opening). Split o (in_buffer s noted) × (is_open noted o ≡ true)) s e J e.item noted (undecided_stand s noted) in
     (dealing s (e ∷ J) noted h due e.answers ascends stand dealt d is hn, (open_now s (e ∷ J) noted h due e.answers ascends stand dealt d is, (place s (e ∷ J) noted h due e.answers ascends stand dealt d is).0))
 
-pub dealt_with : (s : Settings) → HasRoom s.limit → (J : Journal) (dealt : ℕ) (d : Decision) → slice_get (decisions_now s J) dealt ≡ Some d
+pub dealt_with : (s : Settings) → HasRoom s.num_traces → (J : Journal) (dealt : ℕ) (d : Decision) → slice_get (decisions_now s J) dealt ≡ Some d
     → Dealing d (content s J (notes_dealt s J dealt)) (content s J (notes_dealt s J (suc dealt)))
 dealt_with s room J dealt d is = (deals s room J dealt d is).0
 
-pub open_dealt : (s : Settings) → HasRoom s.limit → (J : Journal) (dealt : ℕ) (d : Decision) → slice_get (decisions_now s J) dealt ≡ Some d
+pub open_dealt : (s : Settings) → HasRoom s.num_traces → (J : Journal) (dealt : ℕ) (d : Decision) → slice_get (decisions_now s J) dealt ≡ Some d
     → (is_open (notes_dealt s J dealt) d.opening ≡ true) × Split d.opening (in_buffer s (notes_dealt s J dealt))
 open_dealt s room J dealt d is = (deals s room J dealt d is).1

@@ -38,7 +38,7 @@ Each-in_turn P s J [] answers h = tt
 Each-in_turn P s J (o ∷ os) [] h = tt
 Each-in_turn P s J (o ∷ os) (a ∷ answers) h = (h.0, Each-in_turn P s J os answers h.1)
 
-pub decided_stays : (s : Settings) → HasRoom s.limit → (J : Journal) (e : Entry) (at : ℕ) (v : Verdict) → decided_as (notes s J) at ≡ Some v → decided_as (notes s (e ∷ J)) at ≡ Some v
+pub decided_stays : (s : Settings) → HasRoom s.num_traces → (J : Journal) (e : Entry) (at : ℕ) (v : Verdict) → decided_as (notes s J) at ≡ Some v → decided_as (notes s (e ∷ J)) at ≡ Some v
 unfolding notes
 decided_stays s room J e at v h = ap (λ (r : Option Decision). option_map (λ (d : Decision). d.verdict) r)
     (find_past (λ (d : Decision). d.opening.at == at) (reverse ds) (after_item s e J e.item (notes s J)).decisions (Each-reverse (λ (d : Decision). (d.opening.at == at) ≡ false) ds others)
@@ -83,7 +83,7 @@ found_in_turn s J (o ∷ due) (a ∷ answers) old (suc dealt) d p e =
     ∙ found_in_turn s J due answers (first ∷ old) dealt d p.1 e
 
 -- each decision made at the last item is noted
-pub noted_decision : (s : Settings) → HasRoom s.limit → (J : Journal) (dealt : ℕ) (d : Decision) → slice_get (decisions_now s J) dealt ≡ Some d → decided_as (notes s J) d.opening.at ≡ Some d.verdict
+pub noted_decision : (s : Settings) → HasRoom s.num_traces → (J : Journal) (dealt : ℕ) (d : Decision) → slice_get (decisions_now s J) dealt ≡ Some d → decided_as (notes s J) d.opening.at ≡ Some d.verdict
 unfolding notes
 noted_decision s room [] dealt d is = absurd (cc is)
 noted_decision s room (e ∷ J) dealt d is =

@@ -13,7 +13,8 @@ pub mid_get : {X : Type 0} (front : List X) (x : X) (back : List X) → slice_ge
 mid_get [] x back = refl
 mid_get (y ∷ front) x back = mid_get front x back
 
--- In the world `at given n out C` the shard's last item has these answers so far, and so many of its episodes were decided; the shard has these spans to ship, and these are counted.
+-- In the world `at given n out C` the shard's last item has these answers so far, and so many of its episodes were
+-- decided; the shard has these spans to ship, and these are counted.
 module _ (s : Settings) (e : Entry) (J : Journal) (at : (given : List (List Bool)) (n : ℕ) (out : List Arrival) (counted : List DroppedSpan) → World) (Leads : World → World → Type 0)
     (same : (w after : World) → w ≡ after → Leads w after) (joined : (w mid after : World) → Leads w mid → Leads mid after → Leads w after)
     (decides : (given : List (List Bool)) (n : ℕ) (out : List Arrival) (C : List DroppedSpan) (o : Opening) (answers : List Bool) → slice_get (due_now s (e ∷ J)) n ≡ Some o → are_answered (policies_for s (spans_since (e ∷ J) o)) answers (spans_since (e ∷ J) o) ≡ true

@@ -1,5 +1,6 @@
 -- Worked rows of what is enabled: with two lanes and two shards, by numbers of answers, and after the sink has failed.
--- Each row also says that its first steps run. The laws of the headline hold too of a table that only forbids more: these rows don't.
+-- Each row also says that its first steps run. The laws of the headline hold too of a table that only forbids more:
+-- these rows don't.
 use Rattle.std.specs.Prelude.{◌≡◌, Bool, true, false, is_some, List, [], ◌∷◌, ◌++◌, map, Option, Some, None, option_map, refl}
 use Rattle.std.specs.Fmt.{digits}
 use Rattle.hex.specs.Hex.{encode_with}
@@ -8,15 +9,16 @@ use Rattle.span_size.specs.Size.{size_of}
 use Rattle.policy_tree.specs.Tree.{Policies, no_more, one_more, rate_limiting}
 use Rattle.journal_theory.specs.Journal.{notes}
 use Rattle.span_ids.specs.declared.outcome.Reason.TheVariants.{InvalidId, QueueFull, NoMemory, Evicted, NotSampled, LateNotSampled, ExporterDown}
-use Rattle.world_theory.specs.World.{Config}
-use Rattle.world_theory.specs.Step.{Step, receive, route, refuse, take, tick, close, end, decide, ship, pull, hand, fail, spoil, step, run}
-use Rattle.world_theory.proofs.Samples.{always, errors, configured, error, plain, send, is_enabled_after}
+use Rattle.world_theory.specs.World.{CoreConfig}
+use Rattle.world_theory.specs.Step.{Step, receive, route, refuse, take, tick, close, end, decide, ship, pull, hand, fail, drop_batch, step, run}
+use Rattle.world_theory.proofs.Samples.{always, errors, configured, error, plain, send, is_enabled_after, of_size}
 
-abbrev of_one : Config
+abbrev of_one : CoreConfig
 of_one = configured errors (Some 1) 1 1
 
--- whether each of these steps is enabled after the first ones, with one lane and one shard; nothing, where those don't run
-abbrev are_enabled_after : Config → List Step → List Step → Option (List Bool)
+-- whether each of these steps is enabled after the first ones, with one lane and one shard; nothing, where those don't
+-- run
+abbrev are_enabled_after : CoreConfig → List Step → List Step → Option (List Bool)
 are_enabled_after c before steps = option_map (λ w. map (λ s. is_some (step c w s)) steps) (run c 1 1 before)
 
 -- the same with two lanes and two shards: trace 1 goes to shard 1, trace 2 to shard 0
@@ -53,8 +55,9 @@ due_first : are_enabled_after of_one (send (error 1) ++ take 0 false false ∷ s
 unfolding notes
 due_first = refl
 
--- two episodes are due at one tick: the second is decided while the first's span is unshipped, and then there is no third
-abbrev of_many : Config
+-- two episodes are due at one tick: the second is decided while the first's span is unshipped, and then there is no
+-- third
+abbrev of_many : CoreConfig
 of_many = configured errors None 1 1
 
 abbrev two_due : List Step
@@ -88,8 +91,8 @@ unfolding notes
 no_asking = refl
 
 -- any trace is too big
-abbrev too_big : Config
-too_big = record (configured limited None 0 0) { maximum_size = 1 }
+abbrev too_big : CoreConfig
+too_big = of_size 1 (configured limited None 0 0)
 
 -- it is decided by no policy before anything else is taken, and asks for no answer
 too_big_first : are_enabled_after too_big (receive 0 0 0 (plain 1 ∷ plain 1 ∷ []) ∷ route 0 0 ∷ route 0 0 ∷ take 0 false false ∷ []) (by_answers ++ take 0 false false ∷ tick 0 10 ∷ end 0 1 ∷ close 0 ∷ [])
@@ -125,27 +128,27 @@ ticker_by_shard = refl
 -- ---- the exporter
 
 -- two spans are released, one of them in a batch that may have two
-abbrev of_two : Config
-of_two = record { policies = errors; wait = 10; root_wait = 0; maximum_size = 0; limit = Some 1; sampled_size = 1; non_sampled_size = 1; batch_size = 2 }
+abbrev of_two : CoreConfig
+of_two = record { shard = record { policies = errors; decision_wait = 10; root_wait = 0; maximum_trace_size = 0; num_traces = Some 1; sampled_cache_size = 1; non_sampled_cache_size = 1; senders = 0 }; batch_size = 2 }
 
 abbrev half_full : List Step
 half_full = receive 0 0 0 (error 1 ∷ error 1 ∷ []) ∷ route 0 0 ∷ route 0 0 ∷ take 0 false false ∷ take 0 false false ∷ tick 0 10 ∷ decide 0 [] ∷ ship 0 ∷ ship 0 ∷ pull ∷ []
 
-half_a_batch : are_enabled_after of_two half_full (pull ∷ hand ∷ fail ∷ spoil NoMemory ∷ spoil ExporterDown ∷ []) ≡ Some (true ∷ true ∷ true ∷ true ∷ false ∷ [])
+half_a_batch : are_enabled_after of_two half_full (pull ∷ hand ∷ fail ∷ drop_batch NoMemory ∷ drop_batch ExporterDown ∷ []) ≡ Some (true ∷ true ∷ true ∷ true ∷ false ∷ [])
 unfolding notes
 half_a_batch = refl
 
 -- whether the batch may be given up, by each reason
-abbrev spoils : List Step
-spoils = map spoil (InvalidId ∷ QueueFull ∷ NoMemory ∷ Evicted ∷ NotSampled ∷ LateNotSampled ∷ ExporterDown ∷ [])
+abbrev drops_batch : List Step
+drops_batch = map drop_batch (InvalidId ∷ QueueFull ∷ NoMemory ∷ Evicted ∷ NotSampled ∷ LateNotSampled ∷ ExporterDown ∷ [])
 
-spoils_while_up : are_enabled_after of_two half_full spoils ≡ Some (false ∷ false ∷ true ∷ false ∷ false ∷ false ∷ false ∷ [])
+drops_batch_while_up : are_enabled_after of_two half_full drops_batch ≡ Some (false ∷ false ∷ true ∷ false ∷ false ∷ false ∷ false ∷ [])
 unfolding notes
-spoils_while_up = refl
+drops_batch_while_up = refl
 
-spoils_while_down : are_enabled_after of_two (half_full ++ fail ∷ []) spoils ≡ Some (false ∷ false ∷ true ∷ false ∷ false ∷ false ∷ true ∷ [])
+drops_batch_while_down : are_enabled_after of_two (half_full ++ fail ∷ []) drops_batch ≡ Some (false ∷ false ∷ true ∷ false ∷ false ∷ false ∷ true ∷ [])
 unfolding notes
-spoils_while_down = refl
+drops_batch_while_down = refl
 
 -- nothing but what needs the sink stops with it
 pulls_while_down : are_enabled_after of_two (half_full ++ fail ∷ []) (pull ∷ hand ∷ fail ∷ []) ≡ Some (true ∷ false ∷ false ∷ [])

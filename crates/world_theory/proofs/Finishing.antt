@@ -1,5 +1,5 @@
--- At the last End each episode that stands undecided is decided.
--- For runs that end closed: of scripts (`script_run`'s `scripts_are_runs_of_the_core`) and of threads (`span_weave`'s `weave`).
+-- At the last End each episode that stands undecided is decided. For runs that end closed: of scripts (`script_run`'s
+-- `scripts_are_runs_of_the_core`) and of threads (`span_weave`'s `weave`).
 use Rattle.std.proofs.Common.{◌≡◌, ◌≤◌, ℕ, Bool, true, false, cond, not, ◌&&◌, ◌||◌, ◌==◌, List, [], ◌∷◌, ◌++◌, length, filter, flat_map, find, reverse, take, Option, Some, None, option_map, is_none, refl, ap, sym, subst, ◌∙◌, arith, append_assoc, eq-eqb}
 use Rattle.std.specs.List.{list_any}
 use Rattle.std.proofs.lemmas.List.{reverse-append, reverse-reverse}

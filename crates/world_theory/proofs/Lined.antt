@@ -15,7 +15,7 @@ use Rattle.span_ids.specs.declared.outcome.Verdict.{Verdict}
 use Rattle.span_ids.specs.declared.outcome.Verdict.TheVariants.{Sampled, NotSampled}
 use Rattle.span_ids.specs.declared.outcome.Reason.TheVariants.{NotSampled as DecidedAgainst}
 use Rattle.span_ids.specs.Route.{shard_of}
-use Rattle.world_theory.specs.World.{Lane, Shard, goes_to, ids_go_to, is_same_conn}
+use Rattle.world_theory.specs.World.{CoreLane, CoreShard, goes_to, ids_go_to, is_same_conn}
 use Rattle.world_theory.specs.Headline.{ComesFirst, have_same_trace}
 use Rattle.journal_theory.proofs.ListFacts.{Each, Each-append, Each-weaker, Pairs, Across, Pairs-append, Pairs-right}
 use Rattle.world_theory.proofs.Content.{content, IsOther, Taking, kept, late, dropped}
@@ -121,7 +121,7 @@ line_dealt d sent before after queue h = by_verdict d.verdict
 
 -- ---- the whole
 
-abbrev pub line : Settings → Shard → List Arrival
+abbrev pub line : Settings → CoreShard → List Arrival
 line s sh = line_of sh.unshipped (content s sh.journal (notes_dealt s sh.journal sh.dealt)) sh.queue
 
 -- of a lane
@@ -131,15 +131,15 @@ IsOnLane j a = a.key.conn.lane ≡ j
 abbrev pub GoesTo : ℕ → ℕ → Arrival → Type 0
 GoesTo n i a = goes_to n i a ≡ true
 
-pub record Lined (s : Settings) (n : ℕ) (behind : List Arrival) (lanes : List Lane) (shards : List Shard) : Type 0 where
+pub record Lined (s : Settings) (n : ℕ) (behind : List Arrival) (lanes : List CoreLane) (shards : List CoreShard) : Type 0 where
   pub back : Pairs ComesFirst behind
-  pub in_line : (i : ℕ) (sh : Shard) → slice_get shards i ≡ Some sh → Pairs ComesFirst (line s sh)
-  pub back_line : (i : ℕ) (sh : Shard) → slice_get shards i ≡ Some sh → Across ComesFirst behind (line s sh)
-  pub routes : (i : ℕ) (sh : Shard) → slice_get shards i ≡ Some sh → Each (GoesTo n i) (line s sh)
-  pub in_lane : (j : ℕ) (l : Lane) → slice_get lanes j ≡ Some l → Pairs ComesFirst l.unrouted
-  pub back_lane : (j : ℕ) (l : Lane) → slice_get lanes j ≡ Some l → Across ComesFirst behind l.unrouted
-  pub own : (j : ℕ) (l : Lane) → slice_get lanes j ≡ Some l → Each (IsOnLane j) l.unrouted
-  pub between : (i : ℕ) (sh : Shard) (j : ℕ) (l : Lane) → slice_get shards i ≡ Some sh → slice_get lanes j ≡ Some l → Across ComesFirst (line s sh) l.unrouted
+  pub in_line : (i : ℕ) (sh : CoreShard) → slice_get shards i ≡ Some sh → Pairs ComesFirst (line s sh)
+  pub back_line : (i : ℕ) (sh : CoreShard) → slice_get shards i ≡ Some sh → Across ComesFirst behind (line s sh)
+  pub routes : (i : ℕ) (sh : CoreShard) → slice_get shards i ≡ Some sh → Each (GoesTo n i) (line s sh)
+  pub in_lane : (j : ℕ) (l : CoreLane) → slice_get lanes j ≡ Some l → Pairs ComesFirst l.unrouted
+  pub back_lane : (j : ℕ) (l : CoreLane) → slice_get lanes j ≡ Some l → Across ComesFirst behind l.unrouted
+  pub own : (j : ℕ) (l : CoreLane) → slice_get lanes j ≡ Some l → Each (IsOnLane j) l.unrouted
+  pub between : (i : ℕ) (sh : CoreShard) (j : ℕ) (l : CoreLane) → slice_get shards i ≡ Some sh → slice_get lanes j ≡ Some l → Across ComesFirst (line s sh) l.unrouted
 
 -- what stands at a place after a write
 pub set_cases : {X : Type 0} (xs : List X) (i j : ℕ) (y z : X) → slice_get (slice_set xs i y) j ≡ Some z → ((j ≡ i) × (y ≡ z)) ⊎ ((j ≡ i → ⊥) × (slice_get xs j ≡ Some z))
@@ -174,7 +174,7 @@ across_after xs ys zs k h = Each-weaker (λ x. Each (ComesFirst x) ys) (λ x. Ea
 across_before : (xs ys zs : List Arrival) → Keeps ComesFirst xs ys → Across ComesFirst xs zs → Across ComesFirst ys zs
 across_before xs ys zs k h = k.each (λ x. Each (ComesFirst x) zs) h
 
-module _ (s : Settings) (n : ℕ) (behind : List Arrival) (lanes : List Lane) (shards : List Shard) (h : Lined s n behind lanes shards) where
+module _ (s : Settings) (n : ℕ) (behind : List Arrival) (lanes : List CoreLane) (shards : List CoreShard) (h : Lined s n behind lanes shards) where
   pub back_keeps : (behind' : List Arrival) → Keeps ComesFirst behind behind' → Lined s n behind' lanes shards
   back_keeps behind' k = record {
     back = k.pairs h.back;
@@ -187,7 +187,7 @@ module _ (s : Settings) (n : ℕ) (behind : List Arrival) (lanes : List Lane) (s
     between = h.between;
   }
 
-  pub line_keeps : (i : ℕ) (sh sh' : Shard) → slice_get shards i ≡ Some sh → Keeps ComesFirst (line s sh) (line s sh') → Lined s n behind lanes (slice_set shards i sh')
+  pub line_keeps : (i : ℕ) (sh sh' : CoreShard) → slice_get shards i ≡ Some sh → Keeps ComesFirst (line s sh) (line s sh') → Lined s n behind lanes (slice_set shards i sh')
   line_keeps i sh sh' g k = record {
     back = h.back;
     in_line = at_each (λ i sh. Pairs ComesFirst (line s sh)) shards i sh' (k.pairs (h.in_line i sh g)) h.in_line;
@@ -199,31 +199,31 @@ module _ (s : Settings) (n : ℕ) (behind : List Arrival) (lanes : List Lane) (s
     between = λ i' sh2 j l e f. at_each (λ i sh. Across ComesFirst (line s sh) l.unrouted) shards i sh' (across_before (line s sh) (line s sh') l.unrouted k (h.between i sh j l g f)) (λ i sh e. h.between i sh j l e f) i' sh2 e;
   }
 
-  pub lane_keeps : (j : ℕ) (l l' : Lane) → slice_get lanes j ≡ Some l → Keeps ComesFirst l.unrouted l'.unrouted → Lined s n behind (slice_set lanes j l') shards
+  pub lane_keeps : (j : ℕ) (l l' : CoreLane) → slice_get lanes j ≡ Some l → Keeps ComesFirst l.unrouted l'.unrouted → Lined s n behind (slice_set lanes j l') shards
   lane_keeps j l l' g k = record {
     back = h.back;
     in_line = h.in_line;
     back_line = h.back_line;
     routes = h.routes;
-    in_lane = at_each (λ j (l : Lane). Pairs ComesFirst l.unrouted) lanes j l' (k.pairs (h.in_lane j l g)) h.in_lane;
-    back_lane = at_each (λ j (l : Lane). Across ComesFirst behind l.unrouted) lanes j l' (across_after behind l.unrouted l'.unrouted k (h.back_lane j l g)) h.back_lane;
-    own = at_each (λ j (l : Lane). Each (IsOnLane j) l.unrouted) lanes j l' (k.each (IsOnLane j) (h.own j l g)) h.own;
-    between = λ i sh j' l2 e f. at_each (λ j (l : Lane). Across ComesFirst (line s sh) l.unrouted) lanes j l' (across_after (line s sh) l.unrouted l'.unrouted k (h.between i sh j l e g)) (λ j l f. h.between i sh j l e f) j' l2 f;
+    in_lane = at_each (λ j (l : CoreLane). Pairs ComesFirst l.unrouted) lanes j l' (k.pairs (h.in_lane j l g)) h.in_lane;
+    back_lane = at_each (λ j (l : CoreLane). Across ComesFirst behind l.unrouted) lanes j l' (across_after behind l.unrouted l'.unrouted k (h.back_lane j l g)) h.back_lane;
+    own = at_each (λ j (l : CoreLane). Each (IsOnLane j) l.unrouted) lanes j l' (k.each (IsOnLane j) (h.own j l g)) h.own;
+    between = λ i sh j' l2 e f. at_each (λ j (l : CoreLane). Across ComesFirst (line s sh) l.unrouted) lanes j l' (across_after (line s sh) l.unrouted l'.unrouted k (h.between i sh j l e g)) (λ j l f. h.between i sh j l e f) j' l2 f;
   }
 
   -- a lane receives spans that come after all that are on their way
-  pub lane_grows : (j : ℕ) (l l' : Lane) (new : List Arrival) → slice_get lanes j ≡ Some l → l'.unrouted ≡ l.unrouted ++ new → Pairs ComesFirst new → Each (IsOnLane j) new
-      → Across ComesFirst behind new → Across ComesFirst l.unrouted new → ((i : ℕ) (sh : Shard) → slice_get shards i ≡ Some sh → Across ComesFirst (line s sh) new)
+  pub lane_grows : (j : ℕ) (l l' : CoreLane) (new : List Arrival) → slice_get lanes j ≡ Some l → l'.unrouted ≡ l.unrouted ++ new → Pairs ComesFirst new → Each (IsOnLane j) new
+      → Across ComesFirst behind new → Across ComesFirst l.unrouted new → ((i : ℕ) (sh : CoreShard) → slice_get shards i ≡ Some sh → Across ComesFirst (line s sh) new)
       → Lined s n behind (slice_set lanes j l') shards
   lane_grows j l l' new g q p o b u f = record {
     back = h.back;
     in_line = h.in_line;
     back_line = h.back_line;
     routes = h.routes;
-    in_lane = at_each (λ j (l : Lane). Pairs ComesFirst l.unrouted) lanes j l' (subst (λ z. Pairs ComesFirst z) (sym q) (Pairs-append ComesFirst l.unrouted new (h.in_lane j l g) p u)) h.in_lane;
-    back_lane = at_each (λ j (l : Lane). Across ComesFirst behind l.unrouted) lanes j l' (grown behind (h.back_lane j l g) b) h.back_lane;
-    own = at_each (λ j (l : Lane). Each (IsOnLane j) l.unrouted) lanes j l' (subst (λ z. Each (IsOnLane j) z) (sym q) (Each-append (IsOnLane j) l.unrouted new (h.own j l g) o)) h.own;
-    between = λ i sh j' l2 e f'. at_each (λ j (l : Lane). Across ComesFirst (line s sh) l.unrouted) lanes j l' (grown (line s sh) (h.between i sh j l e g) (f i sh e)) (λ j l f. h.between i sh j l e f) j' l2 f';
+    in_lane = at_each (λ j (l : CoreLane). Pairs ComesFirst l.unrouted) lanes j l' (subst (λ z. Pairs ComesFirst z) (sym q) (Pairs-append ComesFirst l.unrouted new (h.in_lane j l g) p u)) h.in_lane;
+    back_lane = at_each (λ j (l : CoreLane). Across ComesFirst behind l.unrouted) lanes j l' (grown behind (h.back_lane j l g) b) h.back_lane;
+    own = at_each (λ j (l : CoreLane). Each (IsOnLane j) l.unrouted) lanes j l' (subst (λ z. Each (IsOnLane j) z) (sym q) (Each-append (IsOnLane j) l.unrouted new (h.own j l g) o)) h.own;
+    between = λ i sh j' l2 e f'. at_each (λ j (l : CoreLane). Across ComesFirst (line s sh) l.unrouted) lanes j l' (grown (line s sh) (h.between i sh j l e g) (f i sh e)) (λ j l f. h.between i sh j l e f) j' l2 f';
   }
     where
       joined : (xs : List Arrival) → Across ComesFirst xs l.unrouted → Across ComesFirst xs new → Across ComesFirst xs (l.unrouted ++ new)
@@ -234,7 +234,7 @@ module _ (s : Settings) (n : ℕ) (behind : List Arrival) (lanes : List Lane) (s
       grown xs a b = subst (λ z. Across ComesFirst xs z) (sym q) (joined xs a b)
 
   -- a shard's first unsent span goes behind
-  pub ships : (i : ℕ) (sh sh' : Shard) (a : Arrival) (behind' : List Arrival) → slice_get shards i ≡ Some sh → line s sh ≡ a ∷ line s sh' → behind' ≡ behind ++ a ∷ [] → Lined s n behind' lanes (slice_set shards i sh')
+  pub ships : (i : ℕ) (sh sh' : CoreShard) (a : Arrival) (behind' : List Arrival) → slice_get shards i ≡ Some sh → line s sh ≡ a ∷ line s sh' → behind' ≡ behind ++ a ∷ [] → Lined s n behind' lanes (slice_set shards i sh')
   ships i sh sh' a behind' g q r = subst (λ z. Lined s n z lanes (slice_set shards i sh')) (sym r) (record {
     back = Pairs-append ComesFirst behind (a ∷ []) h.back (tt, tt) (Each-weaker (λ x. Each (ComesFirst x) (a ∷ line s sh')) (λ x. Each (ComesFirst x) (a ∷ [])) behind (λ x p. (p.0, tt)) across);
     in_line = at_each (λ i sh. Pairs ComesFirst (line s sh)) shards i sh' pairs.1 h.in_line;
@@ -257,14 +257,14 @@ module _ (s : Settings) (n : ℕ) (behind : List Arrival) (lanes : List Lane) (s
       goes : Each (GoesTo n i) (a ∷ line s sh')
       goes = subst (λ z. Each (GoesTo n i) z) q (h.routes i sh g)
 
-      before_lane : (j : ℕ) (l : Lane) → slice_get lanes j ≡ Some l → Across ComesFirst (a ∷ line s sh') l.unrouted
+      before_lane : (j : ℕ) (l : CoreLane) → slice_get lanes j ≡ Some l → Across ComesFirst (a ∷ line s sh') l.unrouted
       before_lane j l e = subst (λ z. Across ComesFirst z l.unrouted) q (h.between i sh j l g e)
 
       more_behind : (xs : List Arrival) → Across ComesFirst behind xs → Each (ComesFirst a) xs → Across ComesFirst (behind ++ a ∷ []) xs
       more_behind xs b c = Each-append (λ x. Each (ComesFirst x) xs) behind (a ∷ []) b (c, tt)
 
   -- a lane's first span for a shard goes into that shard's queue
-  pub routes_one : (j i : ℕ) (l l' : Lane) (sh sh' : Shard) (a : Arrival) (front rest : List Arrival) → slice_get lanes j ≡ Some l → slice_get shards i ≡ Some sh
+  pub routes_one : (j i : ℕ) (l l' : CoreLane) (sh sh' : CoreShard) (a : Arrival) (front rest : List Arrival) → slice_get lanes j ≡ Some l → slice_get shards i ≡ Some sh
       → l.unrouted ≡ front ++ a ∷ rest → l'.unrouted ≡ front ++ rest → line s sh' ≡ line s sh ++ a ∷ [] → goes_to n i a ≡ true → Each (λ x. goes_to n i x ≡ false) front
       → Lined s n behind (slice_set lanes j l') (slice_set shards i sh')
   routes_one j i l l' sh sh' a front rest gl gs was becomes grows goes others = record {
@@ -272,16 +272,16 @@ module _ (s : Settings) (n : ℕ) (behind : List Arrival) (lanes : List Lane) (s
     in_line = at_each (λ i sh. Pairs ComesFirst (line s sh)) shards i sh' (subst (λ z. Pairs ComesFirst z) (sym grows) (Pairs-append ComesFirst (line s sh) (a ∷ []) (h.in_line i sh gs) (tt, tt) line_first)) h.in_line;
     back_line = at_each (λ i sh. Across ComesFirst behind (line s sh)) shards i sh' (subst (λ z. Across ComesFirst behind z) (sym grows) (joined behind (line s sh) (h.back_line i sh gs) back_first)) h.back_line;
     routes = at_each (λ i sh. Each (GoesTo n i) (line s sh)) shards i sh' (subst (λ z. Each (GoesTo n i) z) (sym grows) (Each-append (GoesTo n i) (line s sh) (a ∷ []) (h.routes i sh gs) (goes, tt))) h.routes;
-    in_lane = at_each (λ j (l : Lane). Pairs ComesFirst l.unrouted) lanes j l' (lane_rest.pairs (h.in_lane j l gl)) h.in_lane;
-    back_lane = at_each (λ j (l : Lane). Across ComesFirst behind l.unrouted) lanes j l' (across_after behind l.unrouted l'.unrouted lane_rest (h.back_lane j l gl)) h.back_lane;
-    own = at_each (λ j (l : Lane). Each (IsOnLane j) l.unrouted) lanes j l' (lane_rest.each (IsOnLane j) (h.own j l gl)) h.own;
+    in_lane = at_each (λ j (l : CoreLane). Pairs ComesFirst l.unrouted) lanes j l' (lane_rest.pairs (h.in_lane j l gl)) h.in_lane;
+    back_lane = at_each (λ j (l : CoreLane). Across ComesFirst behind l.unrouted) lanes j l' (across_after behind l.unrouted l'.unrouted lane_rest (h.back_lane j l gl)) h.back_lane;
+    own = at_each (λ j (l : CoreLane). Each (IsOnLane j) l.unrouted) lanes j l' (lane_rest.each (IsOnLane j) (h.own j l gl)) h.own;
     between = λ i' sh2 j' l2 e f. at_each (λ i sh. Across ComesFirst (line s sh) l2.unrouted) shards i sh'
-        (at_each_other (λ j (l : Lane). Across ComesFirst (line s sh') l.unrouted) lanes j l'
+        (at_each_other (λ j (l : CoreLane). Across ComesFirst (line s sh') l.unrouted) lanes j l'
         (subst (λ z. Across ComesFirst z l'.unrouted) (sym grows) (Each-append (λ x. Each (ComesFirst x) l'.unrouted) (line s sh) (a ∷ []) (across_after (line s sh) l.unrouted l'.unrouted lane_rest (h.between i sh j l gs gl)) (a_first, tt)))
         (λ j2 l3 d q. subst (λ z. Across ComesFirst z l3.unrouted) (sym grows) (Each-append (λ x. Each (ComesFirst x) l3.unrouted) (line s sh) (a ∷ []) (h.between i sh j2 l3 gs q)
         (Each-weaker (IsOnLane j2) (ComesFirst a) l3.unrouted (λ y p. other_lane_first a y (λ r. d (sym p ∙ sym r ∙ a_lane))) (h.own j2 l3 q), tt)))
         j' l2 f)
-        (λ i3 sh3 e3. at_each (λ j (l : Lane). Across ComesFirst (line s sh3) l.unrouted) lanes j l' (across_after (line s sh3) l.unrouted l'.unrouted lane_rest (h.between i3 sh3 j l e3 gl)) (λ j2 l3 q. h.between i3 sh3 j2 l3 e3 q) j' l2 f)
+        (λ i3 sh3 e3. at_each (λ j (l : CoreLane). Across ComesFirst (line s sh3) l.unrouted) lanes j l' (across_after (line s sh3) l.unrouted l'.unrouted lane_rest (h.between i3 sh3 j l e3 gl)) (λ j2 l3 q. h.between i3 sh3 j2 l3 e3 q) j' l2 f)
         i' sh2 e;
   }
     where

@@ -4,12 +4,12 @@ use Rattle.std.proofs.Common.{◌≡◌, ℕ, Bool, true, List, [], ◌∷◌, �
 use Rattle.journal_theory.specs.Journal.{Entry, Settings, Journal, answered}
 use Rattle.otlp_types.specs.declared.arrival.Item.{Item}
 use Rattle.otlp_types.specs.declared.arrival.Item.TheVariants.{Span, Tick, End}
-use Rattle.world_theory.specs.World.{Config, Shard, World, new_world, new_shard, settings}
+use Rattle.world_theory.specs.World.{CoreConfig, CoreShard, World, new_world, new_shard, settings}
 use Rattle.journal_theory.specs.Marked.{marks_apply_to_ids}
 use Rattle.world_theory.proofs.Lined.{at_each}
 use Rattle.world_theory.proofs.Order.{replicated}
 use Rattle.world_theory.proofs.Balance.{same_settings}
-use Rattle.world_theory.proofs.Steps.{Stepped, received_by, routed, refused_by, took_span, took_tick, closed_by, took_end, answered_by, decided_one, shipped, pulled, handed_over, failed, spoiled}
+use Rattle.world_theory.proofs.Steps.{Stepped, received_by, routed, refused_by, took_span, took_tick, closed_by, took_end, answered_by, decided_one, shipped, pulled, handed_over, failed, batch_dropped}
 
 -- the marks of an item could apply to it
 abbrev pub IsMarked : Settings → (before : Journal) → (refused lost : Bool) → Item → Type 0
@@ -32,18 +32,18 @@ marked_same s [] answers h = h
 marked_same s (e ∷ before) answers h = h
 
 -- so of each shard
-abbrev pub AllMarked : Settings → List Shard → Type 0
-AllMarked s shards = (i : ℕ) (sh : Shard) → slice_get shards i ≡ Some sh → AreMarked s sh.journal
+abbrev pub AllMarked : Settings → List CoreShard → Type 0
+AllMarked s shards = (i : ℕ) (sh : CoreShard) → slice_get shards i ≡ Some sh → AreMarked s sh.journal
 
 pub marked_new : (s : Settings) (shards : ℕ) (lanes : ℕ) → AllMarked s (new_world lanes shards).shards
-marked_new s shards lanes i sh e = subst (λ (sh : Shard). AreMarked s sh.journal) (replicated shards i new_shard sh e) tt
+marked_new s shards lanes i sh e = subst (λ (sh : CoreShard). AreMarked s sh.journal) (replicated shards i new_shard sh e) tt
 
-module _ (c : Config) (w : World) (h : AllMarked (settings c w) w.shards) where
+module _ (c : CoreConfig) (w : World) (h : AllMarked (settings c w) w.shards) where
   abbrev s : Settings
   s = settings c w
 
-  put : (i : ℕ) (sh' : Shard) → AreMarked s sh'.journal → AllMarked s (slice_set w.shards i sh')
-  put i sh' k = at_each (λ i (sh : Shard). AreMarked s sh.journal) w.shards i sh' k h
+  put : (i : ℕ) (sh' : CoreShard) → AreMarked s sh'.journal → AllMarked s (slice_set w.shards i sh')
+  put i sh' k = at_each (λ i (sh : CoreShard). AreMarked s sh.journal) w.shards i sh' k h
 
   marked : (next : World) → Stepped c w next → AllMarked s next.shards
   marked next (received_by lane ordinal moment records l g n e) = subst (λ (next : World). AllMarked s next.shards) e h
@@ -59,7 +59,7 @@ module _ (c : Config) (w : World) (h : AllMarked (settings c w) w.shards) where
   marked next (pulled a rest u e) = subst (λ (next : World). AllMarked s next.shards) e h
   marked next (handed_over b d e) = subst (λ (next : World). AllMarked s next.shards) e h
   marked next (failed d e) = subst (λ (next : World). AllMarked s next.shards) e h
-  marked next (spoiled r b a e) = subst (λ (next : World). AllMarked s next.shards) e h
+  marked next (batch_dropped r b a e) = subst (λ (next : World). AllMarked s next.shards) e h
 
-pub marked_step : (c : Config) (w next : World) → Stepped c w next → AllMarked (settings c w) w.shards → AllMarked (settings c next) next.shards
+pub marked_step : (c : CoreConfig) (w next : World) → Stepped c w next → AllMarked (settings c w) w.shards → AllMarked (settings c next) next.shards
 marked_step c w next st h = subst (λ (s : Settings). AllMarked s next.shards) (sym (same_settings c w next st)) (marked c w h next st)

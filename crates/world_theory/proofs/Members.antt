@@ -37,7 +37,7 @@ joined_later s J e o a h = record { ids = h.ids; valid = h.valid; lost = h.lost;
 abbrev pub AreJoined : Settings → Journal → Notes → Opening → Type 0
 AreJoined s J noted o = is_open noted o ≡ true → Each (Joined s J o) (spans_since J o)
 
-module _ (s : Settings) (room : HasRoom s.limit) (J : Journal) (h : Each (AreJoined s J (notes s J)) (in_buffer s (notes s J))) where
+module _ (s : Settings) (room : HasRoom s.num_traces) (J : Journal) (h : Each (AreJoined s J (notes s J)) (in_buffer s (notes s J))) where
   abbrev noted : Notes
   noted = notes s J
 
@@ -104,7 +104,7 @@ module _ (s : Settings) (room : HasRoom s.limit) (J : Journal) (h : Each (AreJoi
       abbrev opened : Opening
       opened = record { at = length J; trace = ids.trace; moment = clock (taken false ∷ J) }
 
-      by_opens : Each IsApart (in_buffer s (notes s J)) → finding s (notes s J) ids.trace ≡ opens → Each (AreJoined s (taken false ∷ J) (notes s J)) (last_of s.limit (opened ∷ (notes s J).openings))
+      by_opens : Each IsApart (in_buffer s (notes s J)) → finding s (notes s J) ids.trace ≡ opens → Each (AreJoined s (taken false ∷ J) (notes s J)) (last_of s.num_traces (opened ∷ (notes s J).openings))
       by_opens f fi = subst (λ z. Each (AreJoined s (taken false ∷ J) (notes s J)) z) (sym (m.with_next opened)) (
         (λ p. subst (λ z. Each (Joined s (taken false ∷ J) opened) z) (sym (one_more s room J (notes s J) sound a ids has lost given opened (omega arith) (same_trace-refl ids.trace) ∙ ap (λ z. z ++ a ∷ []) (spans_before J opened (omega arith))))
             (record { ids = ids; valid = has; lost = lost; given = given; later = []; before = J; split = refl; holds = inr (fi, refl) }, tt)),
@@ -112,11 +112,11 @@ module _ (s : Settings) (room : HasRoom s.limit) (J : Journal) (h : Each (AreJoi
             (Each-left (AreJoined s J (notes s J)) m.kept out (subst (λ z. Each (AreJoined s J (notes s J)) z) m.was h)) (Each-left IsApart m.kept out (subst (λ z. Each IsApart z) m.was f)),
       )
         where
-          m : Makes s.limit (notes s J).openings
-          m = makes_room s.limit room (notes s J).openings
+          m : Makes s.num_traces (notes s J).openings
+          m = makes_room s.num_traces room (notes s J).openings
 
           out : List Opening
-          out = option_to_list (leaving s.limit (notes s J).openings)
+          out = option_to_list (leaving s.num_traces (notes s J).openings)
 
       by_found : Each (AreJoined s (taken false ∷ J) (after_finding s ids.trace lost (length J) (clock (taken false ∷ J)) (notes s J) (finding s (notes s J) ids.trace)))
           (in_buffer s (after_finding s ids.trace lost (length J) (clock (taken false ∷ J)) (notes s J) (finding s (notes s J) ids.trace)))
@@ -144,9 +144,9 @@ module _ (s : Settings) (room : HasRoom s.limit) (J : Journal) (h : Each (AreJoi
       go (Some ids) e true = by_nothing a lost given true (λ o. never (is_of_trace o.trace a))
       go (Some ids) e false = by_found a lost given ids e
 
-pub all_joined : (s : Settings) → HasRoom s.limit → (J : Journal) → Each (AreJoined s J (notes s J)) (in_buffer s (notes s J))
+pub all_joined : (s : Settings) → HasRoom s.num_traces → (J : Journal) → Each (AreJoined s J (notes s J)) (in_buffer s (notes s J))
 unfolding notes
-all_joined s room [] = subst (λ z. Each (AreJoined s [] no_notes) z) (sym (last_of_nil s.limit)) tt
+all_joined s room [] = subst (λ z. Each (AreJoined s [] no_notes) z) (sym (last_of_nil s.num_traces)) tt
 all_joined s room (e ∷ J) =
     let k = by_item s room J (all_joined s room J) e.item e.refused e.lost e.answers in
     let after = after_item s e J e.item (notes s J) in
@@ -154,8 +154,8 @@ all_joined s room (e ∷ J) =
     Each-weaker (AreJoined s (e ∷ J) after) (AreJoined s (e ∷ J) (after_decisions ds after)) (in_buffer s after) (λ o f p. f (open_before after ds o p)) k
 
 -- so where some decisions were not dealt with
-pub joined_dealt : (s : Settings) → HasRoom s.limit → (J : Journal) (dealt : ℕ) → Each (AreJoined s J (notes_dealt s J dealt)) (in_buffer s (notes_dealt s J dealt))
-joined_dealt s room [] dealt = subst (λ z. Each (AreJoined s [] no_notes) z) (sym (last_of_nil s.limit)) tt
+pub joined_dealt : (s : Settings) → HasRoom s.num_traces → (J : Journal) (dealt : ℕ) → Each (AreJoined s J (notes_dealt s J dealt)) (in_buffer s (notes_dealt s J dealt))
+joined_dealt s room [] dealt = subst (λ z. Each (AreJoined s [] no_notes) z) (sym (last_of_nil s.num_traces)) tt
 joined_dealt s room (e ∷ J) dealt =
     let k = by_item s room J (all_joined s room J) e.item e.refused e.lost e.answers in
     let after = after_item s e J e.item (notes s J) in

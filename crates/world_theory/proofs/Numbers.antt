@@ -5,7 +5,7 @@ use Rattle.std.proofs.lemmas.List.{append-nil}
 use Rattle.otlp_types.specs.declared.arrival.Arrival.{Arrival}
 use Rattle.otlp_types.specs.declared.arrival.Record.{Record}
 use Rattle.span_ids.specs.declared.keys.ConnKey.{ConnKey}
-use Rattle.world_theory.specs.World.{Config, Lane, World, new_lane}
+use Rattle.world_theory.specs.World.{CoreConfig, CoreLane, World, new_lane}
 use Rattle.world_theory.specs.Step.{is_of_conn, arrivals}
 use Rattle.world_theory.specs.Headline.{IsNumbered}
 use Rattle.journal_theory.proofs.ListFacts.{tally-append}
@@ -38,7 +38,7 @@ new_follow conn moment (r ∷ rs) before next e = (refl, e, new_follow conn mome
 
 -- ---- all lanes
 
-abbrev pub AllFollow : ℕ → List Lane → Type 0
+abbrev pub AllFollow : ℕ → List CoreLane → Type 0
 AllFollow n lanes = EachLane (λ lane spans. Follows lane [] spans) n lanes
 
 pub follow_new : (n m : ℕ) → AllFollow n (replicate m new_lane)
@@ -50,7 +50,7 @@ follow_more lane ordinal moment records spans h =
     let conn : ConnKey = record { lane = lane; ordinal = ordinal } in
     Follows-append lane [] spans _ h (new_follow conn moment records spans (count_by (is_of_conn conn) spans) (sym (count_is conn spans)))
 
-pub follow_step : (c : Config) (w next : World) → Stepped c w next → AllFollow 0 w.lanes → AllFollow 0 next.lanes
+pub follow_step : (c : CoreConfig) (w next : World) → Stepped c w next → AllFollow 0 w.lanes → AllFollow 0 next.lanes
 follow_step = lanes_step (λ lane spans. Follows lane [] spans) follow_more
 
 pub are_numbered : (w : World) → AllFollow 0 w.lanes → IsNumbered w

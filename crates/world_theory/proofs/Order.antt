@@ -12,7 +12,7 @@ use Rattle.span_ids.specs.declared.keys.ArrivalKey.{ArrivalKey}
 use Rattle.span_ids.specs.declared.keys.ConnKey.{ConnKey}
 use Rattle.otlp_types.specs.declared.arrival.Arrival.{Arrival}
 use Rattle.otlp_types.specs.declared.arrival.Item.TheVariants.{Span, Tick, End}
-use Rattle.world_theory.specs.World.{Config, Lane, Shard, World, new_world, new_lane, new_shard, settings, has_due, same_key, is_same_conn}
+use Rattle.world_theory.specs.World.{CoreConfig, CoreLane, CoreShard, World, new_world, new_lane, new_shard, settings, has_due, same_key, is_same_conn}
 use Rattle.world_theory.specs.Step.{is_of_conn, arrivals, has_ids}
 use Rattle.world_theory.specs.Headline.{ComesFirst, have_same_trace, handed_spans, InReceivedOrder, OfEachRun}
 use Rattle.journal_theory.proofs.Notes.{HasRoom}
@@ -23,7 +23,7 @@ use Rattle.world_theory.proofs.Answered.{content_same}
 use Rattle.journal_theory.specs.Journal.{answered}
 use Rattle.world_theory.proofs.Dealing.{dealt_with}
 use Rattle.world_theory.proofs.Single.{key_self, total-at}
-use Rattle.world_theory.proofs.Steps.{Stepped, received_by, routed, refused_by, took_span, took_tick, closed_by, took_end, answered_by, decided_one, shipped, pulled, handed_over, failed, spoiled}
+use Rattle.world_theory.proofs.Steps.{Stepped, received_by, routed, refused_by, took_span, took_tick, closed_by, took_end, answered_by, decided_one, shipped, pulled, handed_over, failed, batch_dropped}
 use Rattle.world_theory.proofs.Balance.{occ, occ-append, weigh, amount, same_settings, has_valid}
 use Rattle.world_theory.proofs.Received.{on_conn, count_is, AllNumbered, none_below, own_lane}
 use Rattle.world_theory.proofs.OnePlace.{of_each_run, Accounted, accounted_new, accounted_step}
@@ -35,12 +35,12 @@ use Rattle.world_theory.proofs.Lined.{line_of, line_taken, line_dealt, line, IsO
 abbrev IsKnown : ℕ → List Arrival → Arrival → Type 0
 IsKnown lane received a = a.key.conn.lane ≡ lane → a.key.number < on_conn a.key.conn received
 
-known_at : (k : ArrivalKey) (n : ℕ) (lanes : List Lane) (i : ℕ) (l : Lane) → slice_get lanes i ≡ Some l → AllNumbered n lanes → k.conn.lane ≡ n + i → 0 < total (λ (l : Lane). occ k l.received) lanes → k.number < on_conn k.conn l.received
+known_at : (k : ArrivalKey) (n : ℕ) (lanes : List CoreLane) (i : ℕ) (l : CoreLane) → slice_get lanes i ≡ Some l → AllNumbered n lanes → k.conn.lane ≡ n + i → 0 < total (λ (l : CoreLane). occ k l.received) lanes → k.number < on_conn k.conn l.received
 known_at k n [] i l e h q p = absurd (cc e)
 known_at k n (x ∷ rest) zero l e h q p =
     let j : x ≡ l = cc e in
     let z = none_below k (suc n) rest h.1 (omega arith) in
-    subst (λ (l : Lane). k.number < on_conn k.conn l.received) j (go ((k.conn.lane == n) && nat_lt k.number (on_conn k.conn x.received)) refl (h.0 k) (omega (arith, z)))
+    subst (λ (l : CoreLane). k.number < on_conn k.conn l.received) j (go ((k.conn.lane == n) && nat_lt k.number (on_conn k.conn x.received)) refl (h.0 k) (omega (arith, z)))
   where
     go : (b : Bool) → ((k.conn.lane == n) && nat_lt k.number (on_conn k.conn x.received)) ≡ b → occ k x.received ≡ cond b 1 0 → 0 < occ k x.received → k.number < on_conn k.conn x.received
     go true e f g = ltb-true k.number (on_conn k.conn x.received) (and_parts (k.conn.lane == n) (nat_lt k.number (on_conn k.conn x.received)) e).1
@@ -56,7 +56,7 @@ occurs (x ∷ xs) =
 abbrev pub behind : World → List Arrival
 behind w = flat_map (λ (b : List Arrival). b) w.handed ++ (w.batch ++ w.exported)
 
-module _ (c : Config) (w : World) (acc : Accounted c w) (lane : ℕ) (l : Lane) (g : slice_get w.lanes lane ≡ Some l) where
+module _ (c : CoreConfig) (w : World) (acc : Accounted c w) (lane : ℕ) (l : CoreLane) (g : slice_get w.lanes lane ≡ Some l) where
   known : (spans : List Arrival) → ((k : ArrivalKey) → occ k spans ≤ amount k (settings c w) w) → Each (IsKnown lane l.received) spans
   known spans f = Each-weaker (λ (a : Arrival). 0 < occ a.key spans) (IsKnown lane l.received) spans
       (λ a p q. known_at a.key 0 w.lanes lane l g acc.numbered (omega arith) (omega (arith, f a.key, acc.balanced a.key))) (occurs spans)
@@ -65,9 +65,9 @@ module _ (c : Config) (w : World) (acc : Accounted c w) (lane : ℕ) (l : Lane) 
   known_behind = known (behind w) (λ k. omega (arith, occ-append k (flat_map (λ (b : List Arrival). b) w.handed) (w.batch ++ w.exported), occ-append k w.batch w.exported))
 
   known_unrouted : Each (IsKnown lane l.received) l.unrouted
-  known_unrouted = known l.unrouted (λ k. omega (arith, total-at (λ (l : Lane). occ k l.unrouted) w.lanes lane l g))
+  known_unrouted = known l.unrouted (λ k. omega (arith, total-at (λ (l : CoreLane). occ k l.unrouted) w.lanes lane l g))
 
-  known_line : (i : ℕ) (sh : Shard) → slice_get w.shards i ≡ Some sh → Each (IsKnown lane l.received) (line (settings c w) sh)
+  known_line : (i : ℕ) (sh : CoreShard) → slice_get w.shards i ≡ Some sh → Each (IsKnown lane l.received) (line (settings c w) sh)
   known_line i sh e = known (line (settings c w) sh) (λ k.
       let s = settings c w in
       omega (arith, occ-append k sh.unshipped (content (settings c w) sh.journal (notes_dealt (settings c w) sh.journal sh.dealt) ++ sh.queue), occ-append k (content (settings c w) sh.journal (notes_dealt (settings c w) sh.journal sh.dealt)) sh.queue, total-at (weigh k (settings c w)) w.shards i sh e))
@@ -116,21 +116,21 @@ replicated (suc n) (suc i) x y e = replicated n i x y e
 
 -- ---- a step
 
-pub record Ordered (c : Config) (w : World) : Type 0 where
+pub record Ordered (c : CoreConfig) (w : World) : Type 0 where
   pub accounted : Accounted c w
   pub lined : Lined (settings c w) (length w.shards) (behind w) w.lanes w.shards
 
-module _ (c : Config) (room : HasRoom c.limit) (w : World) (h : Ordered c w) where
+module _ (c : CoreConfig) (room : HasRoom c.shard.num_traces) (w : World) (h : Ordered c w) where
   abbrev s : Settings
   s = settings c w
 
   abbrev n : ℕ
   n = length w.shards
 
-  now_noted : (sh : Shard) → has_due s sh ≡ false → line s sh ≡ line_of sh.unshipped (content s sh.journal (notes s sh.journal)) sh.queue
+  now_noted : (sh : CoreShard) → has_due s sh ≡ false → line s sh ≡ line_of sh.unshipped (content s sh.journal (notes s sh.journal)) sh.queue
   now_noted sh e = ap (λ z. line_of sh.unshipped (content s sh.journal z) sh.queue) (all_dealt s sh.journal sh.dealt e)
 
-  still_line : (sh : Shard) (after : List Arrival) → has_due s sh ≡ false → after ≡ content s sh.journal (notes s sh.journal) → Keeps ComesFirst (line s sh) (line_of (sh.unshipped ++ []) after sh.queue)
+  still_line : (sh : CoreShard) (after : List Arrival) → has_due s sh ≡ false → after ≡ content s sh.journal (notes s sh.journal) → Keeps ComesFirst (line s sh) (line_of (sh.unshipped ++ []) after sh.queue)
   still_line sh after e q = keeps_same ComesFirst (line s sh) (line_of (sh.unshipped ++ []) after sh.queue)
       (now_noted sh e ∙ ap (λ z. line_of sh.unshipped z sh.queue) (sym q) ∙ ap (λ z. line_of z after sh.queue) (sym (append-nil sh.unshipped)))
 
@@ -155,7 +155,7 @@ module _ (c : Config) (room : HasRoom c.limit) (w : World) (h : Ordered c w) whe
   lined_step next (took_span shard refused lost sh a rest g q d m e) = subst (λ (next : World). Lined s n (behind next) next.lanes next.shards) e (
       let v = has_valid a.key c room w sh.journal refused lost a.rec.span.ids m in
       let did : Effect = effect_of_span s sh.journal refused a a.rec.span.ids in
-      let sh' : Shard = record { queue = rest; journal = record { item = Span a; refused = refused; lost = lost; answers = [] } ∷ sh.journal; dealt = 0; unshipped = sh.unshipped ++ did.released } in
+      let sh' : CoreShard = record { queue = rest; journal = record { item = Span a; refused = refused; lost = lost; answers = [] } ∷ sh.journal; dealt = 0; unshipped = sh.unshipped ++ did.released } in
       line_keeps s n (behind w) w.lanes w.shards h.lined shard sh (record { queue = rest; journal = record { item = Span a; refused = refused; lost = lost; answers = [] } ∷ sh.journal; dealt = 0; unshipped = sh.unshipped ++ did.released }) g
       (keeps_then ComesFirst (line s sh) (line_of sh.unshipped (content s sh.journal (notes s sh.journal)) (a ∷ rest)) (line s sh')
       (keeps_same ComesFirst (line s sh) (line_of sh.unshipped (content s sh.journal (notes s sh.journal)) (a ∷ rest)) (now_noted sh d ∙ ap (λ z. line_of sh.unshipped (content s sh.journal (notes s sh.journal)) z) q))
@@ -169,7 +169,7 @@ module _ (c : Config) (room : HasRoom c.limit) (w : World) (h : Ordered c w) whe
       line_keeps s n (behind w) w.lanes w.shards h.lined shard sh (record { queue = sh.queue; journal = record { item = End sender; refused = false; lost = false; answers = [] } ∷ sh.journal; dealt = 0; unshipped = sh.unshipped ++ [] }) g
       (still_line sh _ d (stays_by_end s room sh.journal sender)))
   lined_step next (answered_by shard sh answers o g d i e) = subst (λ (next : World). Lined s n (behind next) next.lanes next.shards) e (
-      let sh' : Shard = record sh { journal = answered sh.journal answers } in
+      let sh' : CoreShard = record sh { journal = answered sh.journal answers } in
       line_keeps s n (behind w) w.lanes w.shards h.lined shard sh (record sh { journal = answered sh.journal answers }) g
       (keeps_same ComesFirst (line s sh) (line s sh') (ap (λ z. line_of sh.unshipped z sh.queue) (sym (content_same s room sh.journal sh.dealt answers o d i)))))
   lined_step next (decided_one shard sh d g i e) = subst (λ (next : World). Lined s n (behind next) next.lanes next.shards) e (
@@ -188,11 +188,11 @@ module _ (c : Config) (room : HasRoom c.limit) (w : World) (h : Ordered c w) whe
       back_keeps s n (behind w) w.lanes w.shards h.lined (flat_map (λ (b : List Arrival). b) (w.handed ++ w.batch ∷ []) ++ ([] ++ w.exported)) (keeps_same ComesFirst (behind w) (flat_map (λ (b : List Arrival). b) (w.handed ++ w.batch ∷ []) ++ ([] ++ w.exported))
       (behind_handed w)))
   lined_step next (failed d e) = subst (λ (next : World). Lined s n (behind next) next.lanes next.shards) e h.lined
-  lined_step next (spoiled r b a e) = subst (λ (next : World). Lined s n (behind next) next.lanes next.shards) e (
+  lined_step next (batch_dropped r b a e) = subst (λ (next : World). Lined s n (behind next) next.lanes next.shards) e (
       back_keeps s n (behind w) w.lanes w.shards h.lined (flat_map (λ (b : List Arrival). b) w.handed ++ ([] ++ w.exported)) (keeps_after ComesFirst (flat_map (λ (b : List Arrival). b) w.handed) (w.batch ++ w.exported) w.exported (keeps_back ComesFirst w.batch w.exported)))
 
 -- the number of shards stays
-pub same_shards : (c : Config) (w next : World) → Stepped c w next → length next.shards ≡ length w.shards
+pub same_shards : (c : CoreConfig) (w next : World) → Stepped c w next → length next.shards ≡ length w.shards
 same_shards c w next (received_by lane ordinal moment records l g n e) = ap (λ (w : World). length w.shards) (sym e)
 same_shards c w next (routed lane shard l sh a rest g m t e) = ap (λ (w : World). length w.shards) (sym e) ∙ length-slice_set w.shards shard _
 same_shards c w next (refused_by lane shard l a rest g t e) = ap (λ (w : World). length w.shards) (sym e)
@@ -206,16 +206,16 @@ same_shards c w next (shipped shard sh a rest g u e) = ap (λ (w : World). lengt
 same_shards c w next (pulled a rest u e) = ap (λ (w : World). length w.shards) (sym e)
 same_shards c w next (handed_over b d e) = ap (λ (w : World). length w.shards) (sym e)
 same_shards c w next (failed d e) = ap (λ (w : World). length w.shards) (sym e)
-same_shards c w next (spoiled r b a e) = ap (λ (w : World). length w.shards) (sym e)
+same_shards c w next (batch_dropped r b a e) = ap (λ (w : World). length w.shards) (sym e)
 
-pub ordered_step : (c : Config) → HasRoom c.limit → (w next : World) → Stepped c w next → Ordered c w → Ordered c next
+pub ordered_step : (c : CoreConfig) → HasRoom c.shard.num_traces → (w next : World) → Stepped c w next → Ordered c w → Ordered c next
 ordered_step c room w next st h = record {
   accounted = accounted_step c room w next st h.accounted;
   lined = subst (λ (s : Settings). Lined s (length next.shards) (behind next) next.lanes next.shards) (sym (same_settings c w next st))
       (subst (λ (n : ℕ). Lined (settings c w) n (behind next) next.lanes next.shards) (sym (same_shards c w next st)) (lined_step c room w h next st));
 }
 
-pub ordered_new : (c : Config) → HasRoom c.limit → (lanes shards : ℕ) → Ordered c (new_world lanes shards)
+pub ordered_new : (c : CoreConfig) → HasRoom c.shard.num_traces → (lanes shards : ℕ) → Ordered c (new_world lanes shards)
 ordered_new c room lanes shards = record {
   accounted = accounted_new c room lanes shards;
   lined = record {
@@ -230,14 +230,14 @@ ordered_new c room lanes shards = record {
   };
 }
   where
-    no_line : (i : ℕ) (sh : Shard) → slice_get (replicate shards new_shard) i ≡ Some sh → line (settings c (new_world lanes shards)) sh ≡ []
-    no_line i sh e = let k : new_shard ≡ sh = replicated shards i new_shard sh e in subst (λ (sh : Shard). line (settings c (new_world lanes shards)) sh ≡ []) k (rw (last_of_nil c.limit) refl)
+    no_line : (i : ℕ) (sh : CoreShard) → slice_get (replicate shards new_shard) i ≡ Some sh → line (settings c (new_world lanes shards)) sh ≡ []
+    no_line i sh e = let k : new_shard ≡ sh = replicated shards i new_shard sh e in subst (λ (sh : CoreShard). line (settings c (new_world lanes shards)) sh ≡ []) k (rw (last_of_nil c.shard.num_traces) refl)
 
-    no_lane : (j : ℕ) (l : Lane) → slice_get (replicate lanes new_lane) j ≡ Some l → l.unrouted ≡ []
-    no_lane j l e = let k : new_lane ≡ l = replicated lanes j new_lane l e in subst (λ (l : Lane). l.unrouted ≡ []) k refl
+    no_lane : (j : ℕ) (l : CoreLane) → slice_get (replicate lanes new_lane) j ≡ Some l → l.unrouted ≡ []
+    no_lane j l e = let k : new_lane ≡ l = replicated lanes j new_lane l e in subst (λ (l : CoreLane). l.unrouted ≡ []) k refl
 
 pub in_received_order : OfEachRun (λ c w. InReceivedOrder w)
 in_received_order = of_each_run Ordered (λ c w. InReceivedOrder w) ordered_new ordered_step gives
   where
-    gives : (c : Config) → HasRoom c.limit → (w : World) → Ordered c w → InReceivedOrder w
+    gives : (c : CoreConfig) → HasRoom c.shard.num_traces → (w : World) → Ordered c w → InReceivedOrder w
     gives c room w h = AllPairs-from ComesFirst (handed_spans w) (Pairs-left ComesFirst (handed_spans w) (w.batch ++ w.exported) h.lined.back)

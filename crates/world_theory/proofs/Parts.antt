@@ -13,10 +13,10 @@ use Rattle.span_ids.specs.declared.outcome.Verdict.{Verdict}
 use Rattle.span_ids.specs.declared.outcome.Verdict.TheVariants.{Sampled, NotSampled}
 use Rattle.span_ids.specs.declared.outcome.Reason.{Reason}
 use Rattle.span_ids.specs.declared.outcome.Reason.TheVariants.{InvalidId, QueueFull, NoMemory, Evicted, LateNotSampled, ExporterDown, NotSampled as DecidedAgainst}
-use Rattle.world_theory.specs.World.{Config, Lane, Shard, World, settings, has_due, same_key}
+use Rattle.world_theory.specs.World.{CoreConfig, CoreLane, CoreShard, World, settings, has_due, same_key}
 use Rattle.journal_theory.specs.Marked.{marks_apply_to_ids, marks_apply_to}
 use Rattle.world_theory.specs.Places.{Place, buffered, counted_under}
-use Rattle.world_theory.specs.Headline.{Taken, fate_of, HasFate, HasCause, WasReceived, is_past_release, is_where, is_where_late, is_buffered, is_span_with, was_taken, handed_spans, PlaceFitsFate, CountedWithCause, MeetsRemembered, OnlyReleased, ShipsOutput, EndsLast, OfEachRun, Headline}
+use Rattle.world_theory.specs.Headline.{TakenSpan, fate_of, HasFate, HasCause, WasReceived, is_past_release, is_where, is_where_late, is_buffered, is_span_with, was_taken, handed_spans, PlaceFitsFate, CountedWithCause, MeetsRemembered, OnlyReleased, ShipsOutput, EndsLast, OfEachRun, Headline}
 use Rattle.world_theory.proofs.OnePlace.{in_one_place}
 use Rattle.world_theory.proofs.Order.{in_received_order}
 use Rattle.world_theory.proofs.AfterClose.{nothing_after_close}
@@ -52,7 +52,7 @@ fits shard false f e = ap (λ (f : Fate). is_where shard false f (buffered shard
 or_left : (a b : Bool) → a ≡ true → (a || b) ≡ true
 or_left a b e = ap (λ (z : Bool). z || b) e
 
-place_fits : (c : Config) (w : World) (t : Taken w) (place : Place) → TakenAt c w t place → is_where t.shard (has_due (settings c w) t.of) (fate_of c w t) place ≡ true
+place_fits : (c : CoreConfig) (w : World) (t : TakenSpan w) (place : Place) → TakenAt c w t place → is_where t.shard (has_due (settings c w) t.of) (fate_of c w t) place ≡ true
 place_fits c w t place (waits_there p r f g) = ap (is_where t.shard (has_due (settings c w) t.of) (fate_of c w t)) p ∙ fits t.shard (has_due (settings c w) t.of) (fate_of c w t) g
 place_fits c w t place (sent_there p f) = ap (λ (f : Fate). is_where t.shard (has_due (settings c w) t.of) f place) f ∙ or_left (is_past_release t.shard place) (has_due (settings c w) t.of && is_buffered t.shard place) p
 place_fits c w t place (counted_there r p f) = ap (λ (f : Fate). is_where t.shard (has_due (settings c w) t.of) f place) f ∙ ap (is_where t.shard (has_due (settings c w) t.of) (is_counted r)) p ∙ or_left (is_same_reason r r) (has_due (settings c w) t.of && false) (same_reason r)
@@ -74,7 +74,7 @@ not_refused s J refused lost ids i o v e f m = go refused (subst (λ (x : Findin
     go false e = refl
     go true e = absurd (cc e)
 
-late_place : (c : Config) (w : World) (t : Taken w) (o : Opening) (v : Verdict) (place : Place) → finding (settings c w) (notes (settings c w) t.before) t.ids.trace ≡ meets o v → t.refused ≡ false → TakenAt c w t place → is_where_late t.shard v place ≡ true
+late_place : (c : CoreConfig) (w : World) (t : TakenSpan w) (o : Opening) (v : Verdict) (place : Place) → finding (settings c w) (notes (settings c w) t.before) t.ids.trace ≡ meets o v → t.refused ≡ false → TakenAt c w t place → is_where_late t.shard v place ≡ true
 late_place c w t o v place f r (waits_there p q (inl g) e) = absurd (cc (f, g.1))
 late_place c w t o v place f r (waits_there p q (inr g) e) = absurd (cc (f, g))
 late_place c w t o v place f r (sent_there p e) = go v (own_fate ∙ e)
@@ -106,7 +106,7 @@ answered_behind s J dealt (x ∷ later) before e is h = further later (subst (λ
 pub meets_remembered : OfEachRun MeetsRemembered
 meets_remembered = of_whole_answered MeetsRemembered gives
   where
-    gives : (c : Config) → HasRoom c.limit → (w : World) → Whole c w → AllAnswered (settings c w) w.shards → MeetsRemembered c w
+    gives : (c : CoreConfig) → HasRoom c.shard.num_traces → (w : World) → Whole c w → AllAnswered (settings c w) w.shards → MeetsRemembered c w
     gives c room w h answered t v e =
         let s = settings c w in
         let m = met (finding (settings c w) (notes (settings c w) t.before) t.ids.trace) v e in
@@ -117,22 +117,22 @@ meets_remembered = of_whole_answered MeetsRemembered gives
 
 -- ---- the cause of a count
 
-taken_of : (c : Config) (w : World) (shard : ℕ) (sh : Shard) (a : Arrival) (became : Fate) → slice_get w.shards shard ≡ Some sh → FateIs (settings c w) sh.journal a became → HasFate c w a became
+taken_of : (c : CoreConfig) (w : World) (shard : ℕ) (sh : CoreShard) (a : Arrival) (became : Fate) → slice_get w.shards shard ≡ Some sh → FateIs (settings c w) sh.journal a became → HasFate c w a became
 taken_of c w shard sh a became g f = (record { shard = shard; of = sh; in_world = g; arrival = a; ids = f.ids; valid = f.valid; refused = f.refused; lost = f.lost; answers = f.given; later = f.later; before = f.before; split = f.split }, refl, f.is)
 
-has_fate : (c : Config) (w : World) (a : Arrival) (became : Fate) → HasF (settings c w) w.shards a became → HasFate c w a became
+has_fate : (c : CoreConfig) (w : World) (a : Arrival) (became : Fate) → HasF (settings c w) w.shards a became → HasFate c w a became
 has_fate c w a became k = taken_of c w k.shard k.sh a became k.at k.fate
 
-module _ (c : Config) (room : HasRoom c.limit) (w : World) (h : Whole c w) where
+module _ (c : CoreConfig) (room : HasRoom c.shard.num_traces) (w : World) (h : Whole c w) where
   -- a shard that took a span of the key has it in its journal
   taken_hit : (k : ArrivalKey) → was_taken w k ≡ true → 0 < in_journals k w
   taken_hit k e = go w.shards e
     where
-      go : (shards : List Shard) → list_any (λ (sh : Shard). list_any (λ (e : Entry). is_span_with k e.item) sh.journal) shards ≡ true → 0 < total (λ (sh : Shard). in_journal k sh.journal) shards
+      go : (shards : List CoreShard) → list_any (λ (sh : CoreShard). list_any (λ (e : Entry). is_span_with k e.item) sh.journal) shards ≡ true → 0 < total (λ (sh : CoreShard). in_journal k sh.journal) shards
       go [] e = absurd (cc e)
       go (sh ∷ rest) e = here (list_any (λ (e : Entry). is_span_with k e.item) sh.journal) refl e (go rest)
         where
-          here : (b : Bool) → list_any (λ (e : Entry). is_span_with k e.item) sh.journal ≡ b → (b || list_any (λ (sh : Shard). list_any (λ (e : Entry). is_span_with k e.item) sh.journal) rest) ≡ true → (list_any (λ (sh : Shard). list_any (λ (e : Entry). is_span_with k e.item) sh.journal) rest ≡ true → 0 < total (λ (sh : Shard). in_journal k sh.journal) rest) → 0 < in_journal k sh.journal + total (λ (sh : Shard). in_journal k sh.journal) rest
+          here : (b : Bool) → list_any (λ (e : Entry). is_span_with k e.item) sh.journal ≡ b → (b || list_any (λ (sh : CoreShard). list_any (λ (e : Entry). is_span_with k e.item) sh.journal) rest) ≡ true → (list_any (λ (sh : CoreShard). list_any (λ (e : Entry). is_span_with k e.item) sh.journal) rest ≡ true → 0 < total (λ (sh : CoreShard). in_journal k sh.journal) rest) → 0 < in_journal k sh.journal + total (λ (sh : CoreShard). in_journal k sh.journal) rest
           here true q e f = omega (arith, tally-some (λ (e : Entry). is_span_with k e.item) sh.journal q)
           here false q e f = omega (arith, f e)
 
@@ -145,7 +145,7 @@ module _ (c : Config) (room : HasRoom c.limit) (w : World) (h : Whole c w) where
       go true e = absurd (omega (arith, taken_hit k e, h.once k, got_at_most_once k 0 w.lanes h.ordered.accounted.numbered))
 
   -- two received spans of one key are one
-  one_received : (a b : Arrival) (i j : ℕ) (l m : Lane) → slice_get w.lanes i ≡ Some l → slice_get w.lanes j ≡ Some m → Split a l.received → Split b m.received → b.key ≡ a.key → b ≡ a
+  one_received : (a b : Arrival) (i j : ℕ) (l m : CoreLane) → slice_get w.lanes i ≡ Some l → slice_get w.lanes j ≡ Some m → Split a l.received → Split b m.received → b.key ≡ a.key → b ≡ a
   one_received a b i j l m g e p q s =
       let most : occ a.key (all_received w.lanes) ≤ 1 = omega (arith, occ_all a.key w.lanes, got_at_most_once a.key 0 w.lanes h.ordered.accounted.numbered) in
       (one_hit (λ (x : Arrival). same_key x.key a.key) (all_received w.lanes) b a most (ap (λ (k : ArrivalKey). same_key k a.key) s ∙ key_self a.key) (key_self a.key) (in_all b w.lanes j m e q) (in_all a w.lanes i l g p)).0

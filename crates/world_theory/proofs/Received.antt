@@ -8,11 +8,11 @@ use Rattle.otlp_types.specs.declared.arrival.Record.{Record}
 use Rattle.span_ids.specs.declared.keys.ArrivalKey.{ArrivalKey}
 use Rattle.span_ids.specs.declared.keys.ConnKey.{ConnKey}
 use Rattle.otlp_types.specs.declared.arrival.Arrival.{Arrival}
-use Rattle.world_theory.specs.World.{Config, Lane, World, new_lane, same_key}
+use Rattle.world_theory.specs.World.{CoreConfig, CoreLane, World, new_lane, same_key}
 use Rattle.world_theory.specs.Step.{is_of_conn, arrivals}
 use Rattle.journal_theory.proofs.ListFacts.{tally, tally-append, tally-any, tally-some, total}
 use Rattle.world_theory.proofs.Balance.{occ}
-use Rattle.world_theory.proofs.Steps.{Stepped, received_by, routed, refused_by, took_span, took_tick, closed_by, took_end, answered_by, decided_one, shipped, pulled, handed_over, failed, spoiled, or_both}
+use Rattle.world_theory.proofs.Steps.{Stepped, received_by, routed, refused_by, took_span, took_tick, closed_by, took_end, answered_by, decided_one, shipped, pulled, handed_over, failed, batch_dropped, or_both}
 
 -- how many were received on a connection
 abbrev pub on_conn : ConnKey → List Arrival → ℕ
@@ -125,20 +125,20 @@ numbered_more lane ordinal moment rs spans h k = go (matches k conn moment) refl
 -- ---- all lanes
 
 -- this holds of what each lane received, with the lane's number
-abbrev pub EachLane : (ℕ → List Arrival → Type 0) → ℕ → List Lane → Type 0
+abbrev pub EachLane : (ℕ → List Arrival → Type 0) → ℕ → List CoreLane → Type 0
 EachLane P n [] = Unit {0}
 EachLane P n (l ∷ rest) = P n l.received × EachLane P (suc n) rest
 
-abbrev pub AllNumbered : ℕ → List Lane → Type 0
+abbrev pub AllNumbered : ℕ → List CoreLane → Type 0
 AllNumbered n lanes = EachLane Numbered n lanes
 
 module _ (P : ℕ → List Arrival → Type 0) where
-  pub lane_at : (n : ℕ) (lanes : List Lane) (i : ℕ) (l : Lane) → slice_get lanes i ≡ Some l → EachLane P n lanes → (m : ℕ) → m ≡ n + i → P m l.received
+  pub lane_at : (n : ℕ) (lanes : List CoreLane) (i : ℕ) (l : CoreLane) → slice_get lanes i ≡ Some l → EachLane P n lanes → (m : ℕ) → m ≡ n + i → P m l.received
   lane_at n [] i l e h m q = absurd (cc e)
-  lane_at n (x ∷ rest) zero l e h m q = let k : x ≡ l = cc e in let j : n ≡ m = omega arith in subst (λ (l : Lane). P m l.received) k (subst (λ (i : ℕ). P i x.received) j h.0)
+  lane_at n (x ∷ rest) zero l e h m q = let k : x ≡ l = cc e in let j : n ≡ m = omega arith in subst (λ (l : CoreLane). P m l.received) k (subst (λ (i : ℕ). P i x.received) j h.0)
   lane_at n (x ∷ rest) (suc i) l e h m q = lane_at (suc n) rest i l e h.1 m (omega arith)
 
-  lane_set : (n : ℕ) (lanes : List Lane) (i : ℕ) (l : Lane) (m : ℕ) → m ≡ n + i → P m l.received → EachLane P n lanes → EachLane P n (slice_set lanes i l)
+  lane_set : (n : ℕ) (lanes : List CoreLane) (i : ℕ) (l : CoreLane) (m : ℕ) → m ≡ n + i → P m l.received → EachLane P n lanes → EachLane P n (slice_set lanes i l)
   lane_set n [] i l m q k h = h
   lane_set n (x ∷ rest) zero l m q k h = let j : m ≡ n = omega arith in (subst (λ (i : ℕ). P i l.received) j k, h.1)
   lane_set n (x ∷ rest) (suc i) l m q k h = (h.0, lane_set (suc n) rest i l m (omega arith) k h.1)
@@ -150,7 +150,7 @@ module _ (P : ℕ → List Arrival → Type 0) where
   -- each step keeps it, where a request's arrivals do
   pub lanes_step : ((lane ordinal moment : ℕ) (records : List Record) (spans : List Arrival) → P lane spans
       → P lane (spans ++ arrivals (record { lane = lane; ordinal = ordinal }) (count_by (is_of_conn (record { lane = lane; ordinal = ordinal })) spans) moment records))
-      → (c : Config) (w next : World) → Stepped c w next → EachLane P 0 w.lanes → EachLane P 0 next.lanes
+      → (c : CoreConfig) (w next : World) → Stepped c w next → EachLane P 0 w.lanes → EachLane P 0 next.lanes
   lanes_step more c w next (received_by lane ordinal moment records l g n e) h =
       rw (← e) (lane_set 0 w.lanes lane _ lane (omega arith) (more lane ordinal moment records l.received (lane_at 0 w.lanes lane l g h lane (omega arith))) h)
   lanes_step more c w next (routed lane shard l sh a rest g m t e) h = rw (← e) (lane_set 0 w.lanes lane _ lane (omega arith) (lane_at 0 w.lanes lane l g h lane (omega arith)) h)
@@ -165,7 +165,7 @@ module _ (P : ℕ → List Arrival → Type 0) where
   lanes_step more c w next (pulled a rest u e) h = rw (← e) h
   lanes_step more c w next (handed_over b d e) h = rw (← e) h
   lanes_step more c w next (failed d e) h = rw (← e) h
-  lanes_step more c w next (spoiled r b a e) h = rw (← e) h
+  lanes_step more c w next (batch_dropped r b a e) h = rw (← e) h
 
 pub own_lane : (lane : ℕ) (spans : List Arrival) (k : ArrivalKey) → Numbered lane spans → (k.conn.lane ≡ lane → ⊥) → occ k spans ≡ 0
 own_lane lane spans k h n = h k ∙ ap (λ (b : Bool). cond {A = ℕ} (b && nat_lt k.number (on_conn k.conn spans)) 1 0) (ne_eqb k.conn.lane lane n)
@@ -177,15 +177,15 @@ at_most_once lane spans k h = go ((k.conn.lane == lane) && nat_lt k.number (on_c
     go true e = omega arith
     go false e = omega arith
 
-pub none_below : (k : ArrivalKey) (n : ℕ) (lanes : List Lane) → AllNumbered n lanes → k.conn.lane < n → total (λ (l : Lane). occ k l.received) lanes ≡ 0
+pub none_below : (k : ArrivalKey) (n : ℕ) (lanes : List CoreLane) → AllNumbered n lanes → k.conn.lane < n → total (λ (l : CoreLane). occ k l.received) lanes ≡ 0
 none_below k n [] h l = refl
 none_below k n (x ∷ rest) h l = omega (arith, own_lane n x.received k h.0 (λ q. omega arith), none_below k (suc n) rest h.1 (omega arith))
 
-pub got_at_most_once : (k : ArrivalKey) (n : ℕ) (lanes : List Lane) → AllNumbered n lanes → total (λ (l : Lane). occ k l.received) lanes ≤ 1
+pub got_at_most_once : (k : ArrivalKey) (n : ℕ) (lanes : List CoreLane) → AllNumbered n lanes → total (λ (l : CoreLane). occ k l.received) lanes ≤ 1
 got_at_most_once k n [] h = omega arith
 got_at_most_once k n (x ∷ rest) h = go (k.conn.lane == n) refl (got_at_most_once k (suc n) rest h.1)
   where
-    go : (b : Bool) → (k.conn.lane == n) ≡ b → total (λ (l : Lane). occ k l.received) rest ≤ 1 → occ k x.received + total (λ (l : Lane). occ k l.received) rest ≤ 1
+    go : (b : Bool) → (k.conn.lane == n) ≡ b → total (λ (l : CoreLane). occ k l.received) rest ≤ 1 → occ k x.received + total (λ (l : CoreLane). occ k l.received) rest ≤ 1
     go true e r = let q = eqb-true k.conn.lane n e in omega (arith, at_most_once n x.received k h.0, none_below k (suc n) rest h.1 (omega arith))
     go false e r = omega (arith, own_lane n x.received k h.0 (eqb-false k.conn.lane n e))
 
@@ -194,21 +194,21 @@ numbered_new = lanes_new Numbered numbered_none
 
 -- ---- whether a key was received
 
-pub not_got : (k : ArrivalKey) (lanes : List Lane) → list_any (λ (l : Lane). list_any (λ a. same_key a.key k) l.received) lanes ≡ false → total (λ (l : Lane). occ k l.received) lanes ≡ 0
+pub not_got : (k : ArrivalKey) (lanes : List CoreLane) → list_any (λ (l : CoreLane). list_any (λ a. same_key a.key k) l.received) lanes ≡ false → total (λ (l : CoreLane). occ k l.received) lanes ≡ 0
 not_got k [] e = refl
 not_got k (l ∷ rest) e =
-    let b = or_both (list_any (λ a. same_key a.key k) l.received) (list_any (λ (l : Lane). list_any (λ a. same_key a.key k) l.received) rest) e in
+    let b = or_both (list_any (λ a. same_key a.key k) l.received) (list_any (λ (l : CoreLane). list_any (λ a. same_key a.key k) l.received) rest) e in
     omega (arith, tally-any (λ (a : Arrival). same_key a.key k) l.received b.0, not_got k rest b.1)
 
-pub some_got : (k : ArrivalKey) (lanes : List Lane) → list_any (λ (l : Lane). list_any (λ a. same_key a.key k) l.received) lanes ≡ true → 0 < total (λ (l : Lane). occ k l.received) lanes
+pub some_got : (k : ArrivalKey) (lanes : List CoreLane) → list_any (λ (l : CoreLane). list_any (λ a. same_key a.key k) l.received) lanes ≡ true → 0 < total (λ (l : CoreLane). occ k l.received) lanes
 some_got k [] e = absurd (cc e)
 some_got k (l ∷ rest) e = go (list_any (λ a. same_key a.key k) l.received) refl e (some_got k rest)
   where
-    go : (b : Bool) → list_any (λ (a : Arrival). same_key a.key k) l.received ≡ b → (b || list_any (λ (l : Lane). list_any (λ a. same_key a.key k) l.received) rest) ≡ true
-        → (list_any (λ (l : Lane). list_any (λ a. same_key a.key k) l.received) rest ≡ true → 0 < total (λ (l : Lane). occ k l.received) rest) → 0 < occ k l.received + total (λ (l : Lane). occ k l.received) rest
+    go : (b : Bool) → list_any (λ (a : Arrival). same_key a.key k) l.received ≡ b → (b || list_any (λ (l : CoreLane). list_any (λ a. same_key a.key k) l.received) rest) ≡ true
+        → (list_any (λ (l : CoreLane). list_any (λ a. same_key a.key k) l.received) rest ≡ true → 0 < total (λ (l : CoreLane). occ k l.received) rest) → 0 < occ k l.received + total (λ (l : CoreLane). occ k l.received) rest
     go true q e f = omega (arith, tally-some (λ (a : Arrival). same_key a.key k) l.received q)
     go false q e f = omega (arith, f e)
 
 -- each step keeps the lanes numbered
-pub numbered_step : (c : Config) (w next : World) → Stepped c w next → AllNumbered 0 w.lanes → AllNumbered 0 next.lanes
+pub numbered_step : (c : CoreConfig) (w next : World) → Stepped c w next → AllNumbered 0 w.lanes → AllNumbered 0 next.lanes
 numbered_step = lanes_step Numbered numbered_more

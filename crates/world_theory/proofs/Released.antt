@@ -10,7 +10,7 @@ use Rattle.otlp_types.specs.declared.arrival.Item.TheVariants.{Span, Tick, End}
 use Rattle.span_ids.specs.declared.outcome.Verdict.{Verdict}
 use Rattle.span_ids.specs.declared.outcome.Verdict.TheVariants.{Sampled, NotSampled}
 use Rattle.span_ids.specs.declared.outcome.Reason.TheVariants.{LateNotSampled, NotSampled as DecidedAgainst}
-use Rattle.world_theory.specs.World.{Config, Shard, World, new_world, new_shard, settings}
+use Rattle.world_theory.specs.World.{CoreConfig, CoreShard, World, new_world, new_shard, settings}
 use Rattle.journal_theory.proofs.Notes.{HasRoom, is_open}
 use Rattle.journal_theory.proofs.ListFacts.{Each, Each-append, Each-left, Each-right, Each-weaker, Each-split, Split}
 use Rattle.journal_theory.proofs.Sound.{sound_item, sound_notes}
@@ -20,7 +20,7 @@ use Rattle.world_theory.proofs.Members.{Took, Joined, AreJoined, all_joined, by_
 use Rattle.world_theory.proofs.Answered.{split_answered, fate_answered}
 use Rattle.journal_theory.specs.Journal.{due_now, answered, IsAnsweredUpTo}
 use Rattle.world_theory.proofs.Decided.{decided_stays, noted_decision}
-use Rattle.world_theory.proofs.Steps.{Stepped, received_by, routed, refused_by, took_span, took_tick, closed_by, took_end, answered_by, decided_one, shipped, pulled, handed_over, failed, spoiled}
+use Rattle.world_theory.proofs.Steps.{Stepped, received_by, routed, refused_by, took_span, took_tick, closed_by, took_end, answered_by, decided_one, shipped, pulled, handed_over, failed, batch_dropped}
 use Rattle.world_theory.proofs.Balance.{same_settings, has_valid}
 use Rattle.world_theory.proofs.Order.{behind, behind_pulled, behind_handed, replicated}
 use Rattle.world_theory.proofs.Lined.{at_each}
@@ -45,12 +45,12 @@ decided_member b None e = absurd (cc e)
 decided_member true (Some v) e = ap (λ (v : Verdict). fate_of_verdict DecidedAgainst v) (inside v e)
 decided_member false (Some v) e = ap (λ (v : Verdict). fate_of_verdict DecidedAgainst v) (inside v e)
 
-pub fate_stays : (s : Settings) → HasRoom s.limit → (J : Journal) (e : Entry) (own : ℕ) (f : Finding) → fate_of_finding s (notes s J) own f ≡ is_released → fate_of_finding s (notes s (e ∷ J)) own f ≡ is_released
+pub fate_stays : (s : Settings) → HasRoom s.num_traces → (J : Journal) (e : Entry) (own : ℕ) (f : Finding) → fate_of_finding s (notes s J) own f ≡ is_released → fate_of_finding s (notes s (e ∷ J)) own f ≡ is_released
 fate_stays s room J e own (meets o v) h = h
 fate_stays s room J e own (joins o) h = decided_member _ (decided_as (notes s (e ∷ J)) o.at) (decided_stays s room J e o.at Sampled (decided_of_member _ (decided_as (notes s J) o.at) h))
 fate_stays s room J e own opens h = decided_member _ (decided_as (notes s (e ∷ J)) own) (decided_stays s room J e own Sampled (decided_of_member _ (decided_as (notes s J) own) h))
 
-pub released_later : (s : Settings) → HasRoom s.limit → (J : Journal) (e : Entry) (a : Arrival) → IsReleased s J a → IsReleased s (e ∷ J) a
+pub released_later : (s : Settings) → HasRoom s.num_traces → (J : Journal) (e : Entry) (a : Arrival) → IsReleased s J a → IsReleased s (e ∷ J) a
 released_later s room J e a h = record {
   ids = h.ids;
   valid = h.valid;
@@ -63,7 +63,7 @@ released_later s room J e a h = record {
 }
 
 -- answers to the next decision take nothing back
-pub released_answered : (s : Settings) → HasRoom s.limit → (J : Journal) (k : ℕ) (answers : List Bool) (o : Opening) → slice_get (due_now s J) k ≡ Some o → IsAnsweredUpTo s J k → (a : Arrival) → IsReleased s J a → IsReleased s (answered J answers) a
+pub released_answered : (s : Settings) → HasRoom s.num_traces → (J : Journal) (k : ℕ) (answers : List Bool) (o : Opening) → slice_get (due_now s J) k ≡ Some o → IsAnsweredUpTo s J k → (a : Arrival) → IsReleased s J a → IsReleased s (answered J answers) a
 released_answered s room J k answers o d i a h =
     let p = split_answered J answers h.later h.before a false h.lost h.given h.split in
     record { ids = h.ids; valid = h.valid; lost = h.lost; given = p.1; later = p.0; before = h.before; split = p.2; holds = fate_answered s room J k answers o d i h.before false h.ids is_released (inl refl) h.holds }
@@ -77,7 +77,7 @@ released_member s J o a h d = record { ids = h.ids; valid = h.valid; lost = h.lo
     go (inr p) = ap (fate_of_finding s (notes s J) (length h.before)) p.0 ∙ decided_member _ (decided_as (notes s J) (length h.before)) (ap (decided_as (notes s J)) p.1 ∙ d)
 
 -- the spans of a due episode joined it
-pub joined_due : (s : Settings) → HasRoom s.limit → (J : Journal) (dealt : ℕ) (d : Decision) → slice_get (decisions_now s J) dealt ≡ Some d → Each (Joined s J d.opening) d.spans
+pub joined_due : (s : Settings) → HasRoom s.num_traces → (J : Journal) (dealt : ℕ) (d : Decision) → slice_get (decisions_now s J) dealt ≡ Some d → Each (Joined s J d.opening) d.spans
 joined_due s room [] dealt d is = absurd (cc is)
 joined_due s room (e ∷ J) dealt d is =
     let noted = after_item s e J e.item (notes s J) in
@@ -88,7 +88,7 @@ joined_due s room (e ∷ J) dealt d is =
     let joined = by_item s room J (all_joined s room J) e.item e.refused e.lost e.answers in
     subst (λ z. Each (Joined s (e ∷ J) d.opening) z) (sym t.spans) (Each-split (AreJoined s (e ∷ J) noted) d.opening (in_buffer s noted) p.0 joined p.1)
 
-pub released_by_decision : (s : Settings) → HasRoom s.limit → (J : Journal) (dealt : ℕ) (d : Decision) → slice_get (decisions_now s J) dealt ≡ Some d → Each (IsReleased s J) (effect_of_decision d).released
+pub released_by_decision : (s : Settings) → HasRoom s.num_traces → (J : Journal) (dealt : ℕ) (d : Decision) → slice_get (decisions_now s J) dealt ≡ Some d → Each (IsReleased s J) (effect_of_decision d).released
 released_by_decision s room J dealt d is = go d.verdict refl
   where
     go : (v : Verdict) → d.verdict ≡ v → Each (IsReleased s J) (effect_of_verdict DecidedAgainst d.spans v).released
@@ -96,7 +96,7 @@ released_by_decision s room J dealt d is = go d.verdict refl
     go Sampled e = Each-weaker (Joined s J d.opening) (IsReleased s J) d.spans (λ a h. released_member s J d.opening a h (noted_decision s room J dealt d is ∙ ap (λ (v : Verdict). Some v) e)) (joined_due s room J dealt d is)
 
 -- a late span is released at once
-pub released_at_once : (s : Settings) → HasRoom s.limit → (J : Journal) (a : Arrival) (refused lost : Bool) (ids : Ids) → a.rec.span.ids ≡ Some ids → Each (IsReleased s (record { item = Span a; refused = refused; lost = lost; answers = [] } ∷ J)) (effect_of_span s J refused a a.rec.span.ids).released
+pub released_at_once : (s : Settings) → HasRoom s.num_traces → (J : Journal) (a : Arrival) (refused lost : Bool) (ids : Ids) → a.rec.span.ids ≡ Some ids → Each (IsReleased s (record { item = Span a; refused = refused; lost = lost; answers = [] } ∷ J)) (effect_of_span s J refused a a.rec.span.ids).released
 released_at_once s room J a refused lost ids has = subst (λ (z : Option Ids). Each (IsReleased s (record { item = Span a; refused = refused; lost = lost; answers = [] } ∷ J)) (effect_of_span s J refused a z).released) (sym has) (go refused)
   where
     late_one : (o : Opening) (v : Verdict) → finding s (notes s J) ids.trace ≡ meets o v → Each (IsReleased s (record { item = Span a; refused = false; lost = lost; answers = [] } ∷ J)) (effect_of_verdict LateNotSampled (a ∷ []) v).released
@@ -106,7 +106,7 @@ released_at_once s room J a refused lost ids has = subst (λ (z : Option Ids). E
     by_finding : (f : Finding) → finding s (notes s J) ids.trace ≡ f → Each (IsReleased s (record { item = Span a; refused = false; lost = lost; answers = [] } ∷ J)) (effect_of_finding s J (notes s J) a f).released
     by_finding (joins o) e = tt
     by_finding (meets o v) e = late_one o v e
-    by_finding opens e = subst (λ z. Each (IsReleased s (record { item = Span a; refused = false; lost = lost; answers = [] } ∷ J)) z) (sym (gone_released s room J (notes s J) (sound_notes s room J) a ids has lost [] (leaving s.limit (notes s J).openings))) tt
+    by_finding opens e = subst (λ z. Each (IsReleased s (record { item = Span a; refused = false; lost = lost; answers = [] } ∷ J)) z) (sym (gone_released s room J (notes s J) (sound_notes s room J) a ids has lost [] (leaving s.num_traces (notes s J).openings))) tt
 
     go : (refused : Bool) → Each (IsReleased s (record { item = Span a; refused = refused; lost = lost; answers = [] } ∷ J)) (effect_of_span s J refused a (Some ids)).released
     go true = tt
@@ -114,14 +114,14 @@ released_at_once s room J a refused lost ids has = subst (λ (z : Option Ids). E
 
 -- ---- in the world
 
-pub record HasReleased (s : Settings) (shards : List Shard) (a : Arrival) : Type 0 where
+pub record HasReleased (s : Settings) (shards : List CoreShard) (a : Arrival) : Type 0 where
   pub shard : ℕ
-  pub sh : Shard
+  pub sh : CoreShard
   pub at : slice_get shards shard ≡ Some sh
   pub released : IsReleased s sh.journal a
 
-pub record Releasing (s : Settings) (shards : List Shard) (past : List Arrival) : Type 0 where
-  pub sent : (i : ℕ) (sh : Shard) → slice_get shards i ≡ Some sh → Each (IsReleased s sh.journal) sh.unshipped
+pub record Releasing (s : Settings) (shards : List CoreShard) (past : List Arrival) : Type 0 where
+  pub sent : (i : ℕ) (sh : CoreShard) → slice_get shards i ≡ Some sh → Each (IsReleased s sh.journal) sh.unshipped
   pub gone : Each (HasReleased s shards) past
 
 pub get_set : {X : Type 0} (xs : List X) (i : ℕ) (x y : X) → slice_get xs i ≡ Some x → slice_get (slice_set xs i y) i ≡ Some y
@@ -136,8 +136,8 @@ get_set_other (x ∷ xs) zero (suc j) y d = refl
 get_set_other (x ∷ xs) (suc i) zero y d = refl
 get_set_other (x ∷ xs) (suc i) (suc j) y d = get_set_other xs i j y (λ q. d (ap suc q))
 
-module _ (s : Settings) (shards : List Shard) (past : List Arrival) (h : Releasing s shards past) where
-  pub shard_grows : (i : ℕ) (sh sh' : Shard) → slice_get shards i ≡ Some sh → ((a : Arrival) → IsReleased s sh.journal a → IsReleased s sh'.journal a) → Each (IsReleased s sh'.journal) sh'.unshipped → Releasing s (slice_set shards i sh') past
+module _ (s : Settings) (shards : List CoreShard) (past : List Arrival) (h : Releasing s shards past) where
+  pub shard_grows : (i : ℕ) (sh sh' : CoreShard) → slice_get shards i ≡ Some sh → ((a : Arrival) → IsReleased s sh.journal a → IsReleased s sh'.journal a) → Each (IsReleased s sh'.journal) sh'.unshipped → Releasing s (slice_set shards i sh') past
   shard_grows i sh sh' g f k = record {
     sent = at_each (λ i sh. Each (IsReleased s sh.journal) sh.unshipped) shards i sh' k h.sent;
     gone = Each-weaker (HasReleased s shards) (HasReleased s (slice_set shards i sh')) past (λ a r. go a r (cases_eq r.shard i)) h.gone;
@@ -147,10 +147,10 @@ module _ (s : Settings) (shards : List Shard) (past : List Arrival) (h : Releasi
       go a r (inl e) =
           let q : Some r.sh ≡ Some sh = sym r.at ∙ ap (slice_get shards) e ∙ g in
           let j : r.sh ≡ sh = cc q in
-          record { shard = i; sh = sh'; at = get_set shards i sh sh' g; released = f a (subst (λ (sh : Shard). IsReleased s sh.journal a) j r.released) }
+          record { shard = i; sh = sh'; at = get_set shards i sh sh' g; released = f a (subst (λ (sh : CoreShard). IsReleased s sh.journal a) j r.released) }
       go a r (inr d) = record { shard = r.shard; sh = r.sh; at = get_set_other shards i r.shard sh' d ∙ r.at; released = r.released }
 
-  pub goes_past : (i : ℕ) (sh sh' : Shard) (a : Arrival) (past' : List Arrival) → slice_get shards i ≡ Some sh → sh'.journal ≡ sh.journal → sh.unshipped ≡ a ∷ sh'.unshipped → past' ≡ past ++ a ∷ [] → Releasing s (slice_set shards i sh') past'
+  pub goes_past : (i : ℕ) (sh sh' : CoreShard) (a : Arrival) (past' : List Arrival) → slice_get shards i ≡ Some sh → sh'.journal ≡ sh.journal → sh.unshipped ≡ a ∷ sh'.unshipped → past' ≡ past ++ a ∷ [] → Releasing s (slice_set shards i sh') past'
   goes_past i sh sh' a past' g j u e =
       let k = subst (λ z. Each (IsReleased s sh.journal) z) u (h.sent i sh g) in
       let m = shard_grows i sh sh' g (λ b r. subst (λ (z : Journal). IsReleased s z b) (sym j) r) (subst (λ (z : Journal). Each (IsReleased s z) sh'.unshipped) (sym j) k.1) in
@@ -163,17 +163,17 @@ module _ (s : Settings) (shards : List Shard) (past : List Arrival) (h : Releasi
   pub goes_back : (past' : List Arrival) → ((P : Arrival → Type 0) → Each P past → Each P past') → Releasing s shards past'
   goes_back past' f = record { sent = h.sent; gone = f (HasReleased s shards) h.gone }
 
-abbrev pub ReleasingAt : Config → World → Type 0
+abbrev pub ReleasingAt : CoreConfig → World → Type 0
 ReleasingAt c w = Releasing (settings c w) w.shards (behind w)
 
-pub releasing_new : (c : Config) → HasRoom c.limit → (lanes shards : ℕ) → ReleasingAt c (new_world lanes shards)
-releasing_new c room lanes shards = record { sent = λ i sh e. subst (λ (sh : Shard). Each (IsReleased (settings c (new_world lanes shards)) sh.journal) sh.unshipped) (replicated shards i new_shard sh e) tt; gone = tt }
+pub releasing_new : (c : CoreConfig) → HasRoom c.shard.num_traces → (lanes shards : ℕ) → ReleasingAt c (new_world lanes shards)
+releasing_new c room lanes shards = record { sent = λ i sh e. subst (λ (sh : CoreShard). Each (IsReleased (settings c (new_world lanes shards)) sh.journal) sh.unshipped) (replicated shards i new_shard sh e) tt; gone = tt }
 
-module _ (c : Config) (room : HasRoom c.limit) (w : World) (h : ReleasingAt c w) where
+module _ (c : CoreConfig) (room : HasRoom c.shard.num_traces) (w : World) (h : ReleasingAt c w) where
   abbrev s : Settings
   s = settings c w
 
-  more_sent : (sh : Shard) (e : Entry) (more : List Arrival) → Each (IsReleased s sh.journal) sh.unshipped → Each (IsReleased s (e ∷ sh.journal)) more → Each (IsReleased s (e ∷ sh.journal)) (sh.unshipped ++ more)
+  more_sent : (sh : CoreShard) (e : Entry) (more : List Arrival) → Each (IsReleased s sh.journal) sh.unshipped → Each (IsReleased s (e ∷ sh.journal)) more → Each (IsReleased s (e ∷ sh.journal)) (sh.unshipped ++ more)
   more_sent sh e more k m = Each-append (IsReleased s (e ∷ sh.journal)) sh.unshipped more (Each-weaker (IsReleased s sh.journal) (IsReleased s (e ∷ sh.journal)) sh.unshipped (λ a r. released_later s room sh.journal e a r) k) m
 
   stays : (behind' : List Arrival) → behind w ≡ behind' → Releasing s w.shards behind'
@@ -208,8 +208,8 @@ module _ (c : Config) (room : HasRoom c.limit) (w : World) (h : ReleasingAt c w)
   releasing next (pulled a rest u e) = subst (λ (next : World). Releasing s next.shards (behind next)) e (stays _ (behind_pulled w a rest u))
   releasing next (handed_over b d e) = subst (λ (next : World). Releasing s next.shards (behind next)) e (stays _ (behind_handed w))
   releasing next (failed d e) = subst (λ (next : World). Releasing s next.shards (behind next)) e h
-  releasing next (spoiled r b a e) = subst (λ (next : World). Releasing s next.shards (behind next)) e (goes_back s w.shards (behind w) h (flat_map (λ (b : List Arrival). b) w.handed ++ ([] ++ w.exported))
+  releasing next (batch_dropped r b a e) = subst (λ (next : World). Releasing s next.shards (behind next)) e (goes_back s w.shards (behind w) h (flat_map (λ (b : List Arrival). b) w.handed ++ ([] ++ w.exported))
       (λ P p. Each-append P (flat_map (λ (b : List Arrival). b) w.handed) w.exported (Each-left P (flat_map (λ (b : List Arrival). b) w.handed) (w.batch ++ w.exported) p) (Each-right P w.batch w.exported (Each-right P (flat_map (λ (b : List Arrival). b) w.handed) (w.batch ++ w.exported) p))))
 
-pub releasing_step : (c : Config) → HasRoom c.limit → (w next : World) → Stepped c w next → ReleasingAt c w → ReleasingAt c next
+pub releasing_step : (c : CoreConfig) → HasRoom c.shard.num_traces → (w next : World) → Stepped c w next → ReleasingAt c w → ReleasingAt c next
 releasing_step c room w next st h = subst (λ (s : Settings). Releasing s next.shards (behind next)) (sym (same_settings c w next st)) (releasing c room w h next st)

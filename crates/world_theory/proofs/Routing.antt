@@ -5,7 +5,7 @@ use Rattle.std.specs.List.{position, remove}
 use Rattle.std.specs.Prelude.{Result, Ok, Err, OnOk, OnErr, is_err}
 use Rattle.otlp_types.specs.declared.arrival.Arrival.{Arrival}
 use Rattle.span_ids.specs.declared.outcome.Reason.TheVariants.{QueueFull}
-use Rattle.world_theory.specs.World.{Config, Lane, Shard, World, goes_to}
+use Rattle.world_theory.specs.World.{CoreConfig, CoreLane, CoreShard, World, goes_to}
 use Rattle.world_theory.specs.Step.{route, refuse, step, take_first}
 use Rattle.world_theory.proofs.Firsts.{first_taken, none_taken}
 
@@ -42,7 +42,7 @@ on_err (Err x) e p = p
 pub reads_same : {X : Type 0} (xs : List X) (i : ℕ) (x y : X) → slice_get xs i ≡ Some x → slice_get xs i ≡ Some y → x ≡ y
 reads_same xs i x y e f = let both : Some x ≡ Some y = sym e ∙ f in cc
 
-module _ (c : Config) (w : World) (lane shard : ℕ) (l : Lane) (sh : Shard) (g : slice_get w.lanes lane ≡ Some l) (h : slice_get w.shards shard ≡ Some sh)
+module _ (c : CoreConfig) (w : World) (lane shard : ℕ) (l : CoreLane) (sh : CoreShard) (g : slice_get w.lanes lane ≡ Some l) (h : slice_get w.shards shard ≡ Some sh)
     (n : ℕ) (at : n ≡ length w.shards) (found : Option ℕ) (is : found ≡ position (goes_to n shard) l.unrouted) where
   none : found ≡ None → take_first (goes_to (length w.shards) shard) l.unrouted ≡ None
   none e = none_taken (goes_to (length w.shards) shard) l.unrouted (subst (λ (k : ℕ). position (goes_to k shard) l.unrouted ≡ None) at (sym is ∙ e))
@@ -69,14 +69,14 @@ module _ (c : Config) (w : World) (lane shard : ℕ) (l : Lane) (sh : Shard) (g 
   pub no_refuse : found ≡ None → step c w (refuse lane shard) ≡ None
   no_refuse e = rw (g, h, none e) refl
 
-  pub routes : (i : ℕ) (new : Lane) (grown : Shard) → found ≡ Some i → new ≡ record l { unrouted = remove l.unrouted i } → ((a : Arrival) → grown ≡ record sh { queue = sh.queue ++ get_or l.unrouted i a ∷ [] })
+  pub routes : (i : ℕ) (new : CoreLane) (grown : CoreShard) → found ≡ Some i → new ≡ record l { unrouted = remove l.unrouted i } → ((a : Arrival) → grown ≡ record sh { queue = sh.queue ++ get_or l.unrouted i a ∷ [] })
       → step c w (route lane shard) ≡ Some (record w { lanes = slice_set w.lanes lane new; shards = slice_set w.shards shard grown })
   routes i new grown e f q =
       let r = some_first i e in
       let t : take_first (goes_to (length w.shards) shard) l.unrouted ≡ Some (get_or l.unrouted i r.0.0, remove l.unrouted i) = first i r.0.0 e in
       rw (g, h, t, f, q r.0.0) refl
 
-  pub refuses : (i : ℕ) (a : Arrival) (new : Lane) → found ≡ Some i → a ≡ get_or l.unrouted i a → new ≡ record l { unrouted = remove l.unrouted i }
+  pub refuses : (i : ℕ) (a : Arrival) (new : CoreLane) → found ≡ Some i → a ≡ get_or l.unrouted i a → new ≡ record l { unrouted = remove l.unrouted i }
       → step c w (refuse lane shard) ≡ Some (record w { lanes = slice_set w.lanes lane new; counted = w.counted ++ record { reason = QueueFull; key = a.key } ∷ [] })
   refuses i a new e f q =
       let t : take_first (goes_to (length w.shards) shard) l.unrouted ≡ Some (a, remove l.unrouted i) = first i a e ∙ ap (λ (z : Arrival). Some (z, remove l.unrouted i)) (sym f) in

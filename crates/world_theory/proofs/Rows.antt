@@ -1,5 +1,5 @@
--- Worked runs of the core: where each step is enabled and what it counts, and one span from its receipt to the closed world.
--- No contract rests on it: it shows the definitions on worked cases.
+-- Worked runs of the core: where each step is enabled and what it counts, and one span from its receipt to the closed
+-- world. No contract rests on it: it shows the definitions on worked cases.
 use Rattle.std.specs.Prelude.{◌≡◌, ℕ, true, false, List, [], ◌∷◌, ◌++◌, map, Some, None, option_map, refl}
 use Rattle.std.specs.Fmt.{digits}
 use Rattle.hex.specs.Hex.{encode_with}
@@ -10,14 +10,14 @@ use Rattle.otlp_types.specs.declared.arrival.Record.{Record}
 use Rattle.span_ids.specs.declared.ids.TraceId.{TraceId}
 use Rattle.span_ids.specs.declared.outcome.Reason.TheVariants.{InvalidId, QueueFull, NoMemory, ExporterDown, Evicted, NotSampled, LateNotSampled}
 use Rattle.span_ids.specs.Route.{shard_of}
-use Rattle.world_theory.specs.World.{Config}
-use Rattle.world_theory.specs.Step.{Step, receive, route, refuse, take, tick, close, end, decide, ship, pull, hand, fail, spoil, run}
+use Rattle.world_theory.specs.World.{CoreConfig}
+use Rattle.world_theory.specs.Step.{Step, receive, route, refuse, take, tick, close, end, decide, ship, pull, hand, fail, drop_batch, run}
 use Rattle.world_theory.specs.Places.{places, buffered, counted_under, queued, unshipped}
-use Rattle.world_theory.proofs.Samples.{always, errors, configured, error, plain, invalid, key, send, is_enabled_after, numbers_under, handed_numbers, is_closed}
+use Rattle.world_theory.proofs.Samples.{always, errors, configured, error, plain, invalid, key, send, is_enabled_after, numbers_under, handed_numbers, is_closed, of_size}
 
 -- ---- one span through the world
 
-abbrev first_config : Config
+abbrev first_config : CoreConfig
 first_config = configured always None 0 0
 
 abbrev one_span : List Step
@@ -38,7 +38,7 @@ second_tick_while_due = refl
 
 -- every step that this world has words for, but `fail`
 abbrev others : List Step
-others = receive 0 0 0 [] ∷ receive 0 1 7 (plain 1 ∷ []) ∷ route 0 0 ∷ refuse 0 0 ∷ take 0 false false ∷ take 0 true false ∷ take 0 false true ∷ tick 0 20 ∷ close 0 ∷ end 0 0 ∷ end 0 1 ∷ end 0 2 ∷ decide 0 [] ∷ ship 0 ∷ pull ∷ hand ∷ spoil NoMemory ∷ spoil ExporterDown ∷ []
+others = receive 0 0 0 [] ∷ receive 0 1 7 (plain 1 ∷ []) ∷ route 0 0 ∷ refuse 0 0 ∷ take 0 false false ∷ take 0 true false ∷ take 0 false true ∷ tick 0 20 ∷ close 0 ∷ end 0 0 ∷ end 0 1 ∷ end 0 2 ∷ decide 0 [] ∷ ship 0 ∷ pull ∷ hand ∷ drop_batch NoMemory ∷ drop_batch ExporterDown ∷ []
 
 pub only_fail_at_last : map (is_enabled_after first_config one_span) others ++ is_enabled_after first_config one_span fail ∷ []
     ≡ map (λ s. Some false) others ++ Some true ∷ []
@@ -54,7 +54,7 @@ routes = refl
 
 -- ---- lanes
 
-abbrev of_one : Config
+abbrev of_one : CoreConfig
 of_one = configured errors (Some 1) 1 1
 
 -- numbers count the spans with invalid ids, each connection by itself
@@ -207,9 +207,9 @@ pub pull_while_down : is_enabled_after of_one (exported ++ fail ∷ []) pull ≡
 unfolding notes
 pull_while_down = refl
 
-pub spoil_for_memory_while_down : is_enabled_after of_one (batched ++ fail ∷ []) (spoil NoMemory) ≡ Some true
+pub drop_batch_for_memory_while_down : is_enabled_after of_one (batched ++ fail ∷ []) (drop_batch NoMemory) ≡ Some true
 unfolding notes
-spoil_for_memory_while_down = refl
+drop_batch_for_memory_while_down = refl
 
 pub fail_while_batched : is_enabled_after of_one batched fail ≡ Some true
 unfolding notes
@@ -243,30 +243,30 @@ pub fail_twice : is_enabled_after of_one (fail ∷ []) fail ≡ Some false
 unfolding notes
 fail_twice = refl
 
-pub spoil_nothing : is_enabled_after of_one [] (spoil NoMemory) ≡ Some false
+pub drop_batch_nothing : is_enabled_after of_one [] (drop_batch NoMemory) ≡ Some false
 unfolding notes
-spoil_nothing = refl
+drop_batch_nothing = refl
 
-pub spoil_for_memory : numbers_under NoMemory (run of_one 1 1 (batched ++ spoil NoMemory ∷ [])) ≡ Some (0 ∷ [])
+pub drop_batch_for_memory : numbers_under NoMemory (run of_one 1 1 (batched ++ drop_batch NoMemory ∷ [])) ≡ Some (0 ∷ [])
 unfolding notes
-spoil_for_memory = refl
+drop_batch_for_memory = refl
 
-pub spoil_while_up : is_enabled_after of_one batched (spoil ExporterDown) ≡ Some false
+pub drop_batch_while_up : is_enabled_after of_one batched (drop_batch ExporterDown) ≡ Some false
 unfolding notes
-spoil_while_up = refl
+drop_batch_while_up = refl
 
-pub spoil_for_another_reason : is_enabled_after of_one (batched ++ fail ∷ []) (spoil Evicted) ≡ Some false
+pub drop_batch_for_another_reason : is_enabled_after of_one (batched ++ fail ∷ []) (drop_batch Evicted) ≡ Some false
 unfolding notes
-spoil_for_another_reason = refl
+drop_batch_for_another_reason = refl
 
-pub spoil_while_down : numbers_under ExporterDown (run of_one 1 1 (batched ++ fail ∷ spoil ExporterDown ∷ [])) ≡ Some (0 ∷ [])
+pub drop_batch_while_down : numbers_under ExporterDown (run of_one 1 1 (batched ++ fail ∷ drop_batch ExporterDown ∷ [])) ≡ Some (0 ∷ [])
 unfolding notes
-spoil_while_down = refl
+drop_batch_while_down = refl
 
 -- ---- order
 
-abbrev of_two : Config
-of_two = record { policies = always; wait = 10; root_wait = 0; maximum_size = 0; limit = Some 1; sampled_size = 1; non_sampled_size = 1; batch_size = 2 }
+abbrev of_two : CoreConfig
+of_two = record { shard = record { policies = always; decision_wait = 10; root_wait = 0; maximum_trace_size = 0; num_traces = Some 1; sampled_cache_size = 1; non_sampled_cache_size = 1; senders = 0 }; batch_size = 2 }
 
 -- two requests of one trace: its spans keep their order from the lane to the batch
 pub batch_of_two : option_map handed_numbers (run of_two 1 1 (receive 0 0 0 (plain 1 ∷ []) ∷ receive 0 0 0 (plain 1 ∷ []) ∷ route 0 0 ∷ route 0 0 ∷ take 0 false false ∷ take 0 false false ∷ tick 0 10 ∷ decide 0 [] ∷ ship 0 ∷ ship 0 ∷ pull ∷ pull ∷ hand ∷ [])) ≡ Some ((0 ∷ 1 ∷ []) ∷ [])
@@ -285,9 +285,10 @@ decided_is_unshipped = refl
 
 -- ---- too big
 
--- the text of a span without an error is {"spanId":"01","traceId":"00000000000000000000000000000001"}: 60 bytes; two are too big
-abbrev too_big : Config
-too_big = record (configured always None 0 0) { maximum_size = 119 }
+-- the text of a span without an error is {"spanId":"01","traceId":"00000000000000000000000000000001"}: 60 bytes; two
+-- are too big
+abbrev too_big : CoreConfig
+too_big = of_size 119 (configured always None 0 0)
 
 abbrev three_spans : List Step
 three_spans = receive 0 0 0 (plain 1 ∷ plain 1 ∷ plain 1 ∷ []) ∷ route 0 0 ∷ route 0 0 ∷ route 0 0 ∷ take 0 false false ∷ take 0 false false ∷ decide 0 [] ∷ take 0 false false ∷ []
@@ -298,7 +299,7 @@ unfolding notes size_of print_from escape_byte encode_with digits
 too_big_by_second = (refl, refl)
 
 -- at the bound it waits
-pub not_too_big : is_enabled_after (record too_big { maximum_size = 120 }) (send (plain 1) ++ take 0 false false ∷ send (plain 1) ++ take 0 false false ∷ []) (decide 0 []) ≡ Some false
+pub not_too_big : is_enabled_after (of_size 120 too_big) (send (plain 1) ++ take 0 false false ∷ send (plain 1) ++ take 0 false false ∷ []) (decide 0 []) ≡ Some false
 unfolding notes size_of print_from escape_byte encode_with digits
 not_too_big = refl
 

@@ -13,7 +13,7 @@ use Rattle.otlp_types.specs.declared.arrival.Record.{Record}
 use Rattle.span_ids.specs.declared.ids.TraceId.{TraceId}
 use Rattle.span_ids.specs.declared.keys.ArrivalKey.{ArrivalKey}
 use Rattle.span_ids.specs.declared.outcome.Reason.{Reason}
-use Rattle.world_theory.specs.World.{Config, Lane, Shard, World, settings}
+use Rattle.world_theory.specs.World.{CoreConfig, CoreLane, CoreShard, World, settings}
 use Rattle.world_theory.specs.Step.{Step, receive, route, step, run}
 use Rattle.world_theory.specs.Places.{waiting}
 
@@ -26,8 +26,12 @@ abbrev pub errors : Policies
 errors = one_more (leaf (StatusCode (pos 2 ∷ []))) no_more
 
 -- a wait of 10 milliseconds, batches of one span
-abbrev pub configured : Policies → (limit : Option ℕ) → (sampled non_sampled : ℕ) → Config
-configured policies limit sampled non_sampled = record { policies = policies; wait = 10; root_wait = 0; maximum_size = 0; limit = limit; sampled_size = sampled; non_sampled_size = non_sampled; batch_size = 1 }
+abbrev pub configured : Policies → (num_traces : Option ℕ) → (sampled non_sampled : ℕ) → CoreConfig
+configured policies num_traces sampled non_sampled = record { shard = record { policies = policies; decision_wait = 10; root_wait = 0; maximum_trace_size = 0; num_traces = num_traces; sampled_cache_size = sampled; non_sampled_cache_size = non_sampled; senders = 0 }; batch_size = 1 }
+
+-- with this greatest size of a trace
+abbrev pub of_size : (maximum : ℕ) → CoreConfig → CoreConfig
+of_size maximum c = record c { shard = record (c.shard) { maximum_trace_size = maximum } }
 
 -- a trace id that ends with this byte: of two shards, an odd one goes to shard 1
 abbrev pub trace : (t : ℕ) → TraceId
@@ -62,7 +66,7 @@ abbrev pub send : Record → List Step
 send r = receive 0 0 0 (r ∷ []) ∷ route 0 0 ∷ []
 
 -- whether the step is enabled after these, with one lane and one shard; nothing, where these don't run
-abbrev pub is_enabled_after : Config → List Step → Step → Option Bool
+abbrev pub is_enabled_after : CoreConfig → List Step → Step → Option Bool
 is_enabled_after c before s = option_map (λ w. is_some (step c w s)) (run c 1 1 before)
 
 -- the numbers counted under a reason
@@ -74,5 +78,5 @@ abbrev pub handed_numbers : World → List (List ℕ)
 handed_numbers w = map (λ batch. map (λ (a : Arrival). a.key.number) batch) w.handed
 
 -- the world is closed
-abbrev pub is_closed : Config → World → Bool
-is_closed c w = list_all (λ (l : Lane). l.ended) w.lanes && list_all (λ (sh : Shard). have_ended sh.journal (settings c w).senders) w.shards && (length (waiting c w) == 0)
+abbrev pub is_closed : CoreConfig → World → Bool
+is_closed c w = list_all (λ (l : CoreLane). l.ended) w.lanes && list_all (λ (sh : CoreShard). have_ended sh.journal (settings c w).senders) w.shards && (length (waiting c w) == 0)

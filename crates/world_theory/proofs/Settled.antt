@@ -56,25 +56,25 @@ item_opens s e J (Span a) noted = go a.rec.span.ids
     go None = as_before refl
     go (Some ids) = marked ids e.refused _
 
-pub out_stays : (s : Settings) → HasRoom s.limit → (J : Journal) (e : Entry) (at : ℕ) → at < length J → is_in_buffer s (notes s J) at ≡ false → is_in_buffer s (notes s (e ∷ J)) at ≡ false
+pub out_stays : (s : Settings) → HasRoom s.num_traces → (J : Journal) (e : Entry) (at : ℕ) → at < length J → is_in_buffer s (notes s J) at ≡ false → is_in_buffer s (notes s (e ∷ J)) at ≡ false
 unfolding notes
 out_stays s room J e at l h = go (item_opens s e J e.item (notes s J))
   where
     old : List Opening
     old = (notes s J).openings
 
-    m : Makes s.limit (notes s J).openings
-    m = makes_room s.limit room (notes s J).openings
+    m : Makes s.num_traces (notes s J).openings
+    m = makes_room s.num_traces room (notes s J).openings
 
     each : Each (λ (o : Opening). (o.at == at) ≡ false) (in_buffer s (notes s J))
     each = any_false (λ (o : Opening). o.at == at) (in_buffer s (notes s J)) h
 
-    go : Opens J (notes s J).openings (after_item s e J e.item (notes s J)).openings → list_any (λ (o : Opening). o.at == at) (last_of s.limit (after_item s e J e.item (notes s J)).openings) ≡ false
-    go (as_before q) = ap (λ z. list_any (λ (o : Opening). o.at == at) (last_of s.limit z)) q ∙ h
-    go (one_opens o p q) = ap (λ z. list_any (λ (o : Opening). o.at == at) (last_of s.limit z)) q ∙ ap (list_any (λ (o : Opening). o.at == at)) (m.with_next o)
-        ∙ any_none (λ (o : Opening). o.at == at) (o ∷ m.kept) (ne_eqb o.at at (λ r. omega arith), Each-left (λ (o : Opening). (o.at == at) ≡ false) m.kept (option_to_list (leaving s.limit (notes s J).openings)) (subst (λ z. Each (λ (o : Opening). (o.at == at) ≡ false) z) m.was each))
+    go : Opens J (notes s J).openings (after_item s e J e.item (notes s J)).openings → list_any (λ (o : Opening). o.at == at) (last_of s.num_traces (after_item s e J e.item (notes s J)).openings) ≡ false
+    go (as_before q) = ap (λ z. list_any (λ (o : Opening). o.at == at) (last_of s.num_traces z)) q ∙ h
+    go (one_opens o p q) = ap (λ z. list_any (λ (o : Opening). o.at == at) (last_of s.num_traces z)) q ∙ ap (list_any (λ (o : Opening). o.at == at)) (m.with_next o)
+        ∙ any_none (λ (o : Opening). o.at == at) (o ∷ m.kept) (ne_eqb o.at at (λ r. omega arith), Each-left (λ (o : Opening). (o.at == at) ≡ false) m.kept (option_to_list (leaving s.num_traces (notes s J).openings)) (subst (λ z. Each (λ (o : Opening). (o.at == at) ≡ false) z) m.was each))
 
-pub undecided_stays : (s : Settings) → HasRoom s.limit → (J : Journal) (e : Entry) (at : ℕ) → at < length J → is_in_buffer s (notes s J) at ≡ false → decided_as (notes s J) at ≡ None → decided_as (notes s (e ∷ J)) at ≡ None
+pub undecided_stays : (s : Settings) → HasRoom s.num_traces → (J : Journal) (e : Entry) (at : ℕ) → at < length J → is_in_buffer s (notes s J) at ≡ false → decided_as (notes s J) at ≡ None → decided_as (notes s (e ∷ J)) at ≡ None
 unfolding notes
 undecided_stays s room J e at l h d = ap (λ (r : Option Decision). option_map (λ (d : Decision). d.verdict) r)
     (find_past (λ (d : Decision). d.opening.at == at) (reverse ds) (after_item s e J e.item (notes s J)).decisions (Each-reverse (λ (d : Decision). (d.opening.at == at) ≡ false) ds others)
@@ -95,7 +95,7 @@ fate_decided : (b : Bool) (v : Verdict) → fate_of_member_decided b (Some v) �
 fate_decided true v = refl
 fate_decided false v = refl
 
-member_settles : (s : Settings) → HasRoom s.limit → (J : Journal) (e : Entry) (r : Reason) (at : ℕ) → at < length J → fate_of_member s (notes s J) at ≡ is_counted r → fate_of_member s (notes s (e ∷ J)) at ≡ is_counted r
+member_settles : (s : Settings) → HasRoom s.num_traces → (J : Journal) (e : Entry) (r : Reason) (at : ℕ) → at < length J → fate_of_member s (notes s J) at ≡ is_counted r → fate_of_member s (notes s (e ∷ J)) at ≡ is_counted r
 member_settles s room J e r at l h = go (decided_as (notes s J) at) refl (is_in_buffer s (notes s J) at) refl h
   where
     go : (d : Option Verdict) → decided_as (notes s J) at ≡ d → (b : Bool) → is_in_buffer s (notes s J) at ≡ b → fate_of_member_decided b d ≡ is_counted r → fate_of_member s (notes s (e ∷ J)) at ≡ is_counted r
@@ -116,7 +116,7 @@ pub record FateIs (s : Settings) (J : Journal) (a : Arrival) (became : Fate) : T
   pub split : J ≡ later ++ record { item = Span a; refused = refused; lost = lost; answers = given } ∷ before
   pub is : fate s J before refused ids ≡ became
 
-joins_below : (s : Settings) → HasRoom s.limit → (J : Journal) (t : TraceId) (o : Opening) → finding s (notes s J) t ≡ joins o → o.at < length J
+joins_below : (s : Settings) → HasRoom s.num_traces → (J : Journal) (t : TraceId) (o : Opening) → finding s (notes s J) t ≡ joins o → o.at < length J
 joins_below s room J t o f = go (meeting s J (notes s J) t sound)
   where
     sound : Sound s J (notes s J)
@@ -133,7 +133,7 @@ joins_below s room J t o f = go (meeting s J (notes s J) t sound)
         one : joins x ≡ joins o → x ≡ o
         one q = cc q
 
-pub fate_settles : (s : Settings) → HasRoom s.limit → (J : Journal) (e : Entry) (a : Arrival) (r : Reason) → FateIs s J a (is_counted r) → FateIs s (e ∷ J) a (is_counted r)
+pub fate_settles : (s : Settings) → HasRoom s.num_traces → (J : Journal) (e : Entry) (a : Arrival) (r : Reason) → FateIs s J a (is_counted r) → FateIs s (e ∷ J) a (is_counted r)
 fate_settles s room J e a r h = record { ids = h.ids; valid = h.valid; refused = h.refused; lost = h.lost; given = h.given; later = e ∷ h.later; before = h.before; split = ap (λ (z : Journal). e ∷ z) h.split; is = go h.refused h.is }
   where
     shorter : length h.before < length J
@@ -149,7 +149,7 @@ fate_settles s room J e a r h = record { ids = h.ids; valid = h.valid; refused =
     go false k = by_finding (finding s (notes s h.before) h.ids.trace) refl k
 
 -- and so where the next decision is given answers
-pub fate_is_answered : (s : Settings) → HasRoom s.limit → (J : Journal) (k : ℕ) (answers : List Bool) (o : Opening) → slice_get (due_now s J) k ≡ Some o → IsAnsweredUpTo s J k → (a : Arrival) (became : Fate) →
+pub fate_is_answered : (s : Settings) → HasRoom s.num_traces → (J : Journal) (k : ℕ) (answers : List Bool) (o : Opening) → slice_get (due_now s J) k ≡ Some o → IsAnsweredUpTo s J k → (a : Arrival) (became : Fate) →
     (became ≡ is_released) ⊎ ((r : Reason) × (became ≡ is_counted r)) → FateIs s J a became → FateIs s (answered J answers) a became
 fate_is_answered s room J k answers o d i a became which h =
     let p = split_answered J answers h.later h.before a h.refused h.lost h.given h.split in
@@ -165,19 +165,19 @@ member_fate s J o a became h d = record { ids = h.ids; valid = h.valid; refused 
 
 -- ---- what is counted, with its fate
 
-pub released_keeps : (s : Settings) → HasRoom s.limit → (J : Journal) (e : Entry) (a : Arrival) → FateIs s J a is_released → FateIs s (e ∷ J) a is_released
+pub released_keeps : (s : Settings) → HasRoom s.num_traces → (J : Journal) (e : Entry) (a : Arrival) → FateIs s J a is_released → FateIs s (e ∷ J) a is_released
 released_keeps s room J e a h = record { ids = h.ids; valid = h.valid; refused = h.refused; lost = h.lost; given = h.given; later = e ∷ h.later; before = h.before; split = ap (λ (z : Journal). e ∷ z) h.split; is = go h.refused h.is }
   where
     go : (b : Bool) → fate s J h.before b h.ids ≡ is_released → fate s (e ∷ J) h.before b h.ids ≡ is_released
     go true k = absurd (cc k)
     go false k = fate_stays s room J e (length h.before) (finding s (notes s h.before) h.ids.trace) k
 
-pub counted_by_decision : (s : Settings) → HasRoom s.limit → (J : Journal) (dealt : ℕ) (d : Decision) → slice_get (decisions_now s J) dealt ≡ Some d → d.verdict ≡ NotSampled → Each (λ (a : Arrival). FateIs s J a (is_counted DecidedAgainst)) d.spans
+pub counted_by_decision : (s : Settings) → HasRoom s.num_traces → (J : Journal) (dealt : ℕ) (d : Decision) → slice_get (decisions_now s J) dealt ≡ Some d → d.verdict ≡ NotSampled → Each (λ (a : Arrival). FateIs s J a (is_counted DecidedAgainst)) d.spans
 counted_by_decision s room J dealt d is v = Each-weaker (Joined s J d.opening) (λ (a : Arrival). FateIs s J a (is_counted DecidedAgainst)) d.spans
     (λ a h. member_fate s J d.opening a (is_counted DecidedAgainst) h
     (ap (fate_of_member_decided (is_in_buffer s (notes s J) d.opening.at)) (noted_decision s room J dealt d is ∙ ap (λ (v : Verdict). Some v) v) ∙ fate_decided (is_in_buffer s (notes s J) d.opening.at) NotSampled)) (joined_due s room J dealt d is)
 
-module _ (s : Settings) (room : HasRoom s.limit) (J : Journal) (a : Arrival) (ids : Ids) (has : a.rec.span.ids ≡ Some ids) (lost : Bool) where
+module _ (s : Settings) (room : HasRoom s.num_traces) (J : Journal) (a : Arrival) (ids : Ids) (has : a.rec.span.ids ≡ Some ids) (lost : Bool) where
   abbrev taken : Bool → Entry
   taken refused = record { item = Span a; refused = refused; lost = lost; answers = [] }
 
@@ -206,14 +206,14 @@ module _ (s : Settings) (room : HasRoom s.limit) (J : Journal) (a : Arrival) (id
       ap (λ (ds : List Decision). reverse ds ++ noted.decisions) (none_given (due_at s (taken false) J (Span a) noted)) ∙ same_decisions s (taken false) J (Span a) (notes s J)
 
   -- the episode that leaves undecided
-  pub evicted_fate : (o : Opening) → finding s (notes s J) ids.trace ≡ opens → leaving s.limit (notes s J).openings ≡ Some o → decided_as (notes s J) o.at ≡ None → Each (λ (b : Arrival). FateIs s (taken false ∷ J) b (is_counted Evicted)) (spans_since J o)
+  pub evicted_fate : (o : Opening) → finding s (notes s J) ids.trace ≡ opens → leaving s.num_traces (notes s J).openings ≡ Some o → decided_as (notes s J) o.at ≡ None → Each (λ (b : Arrival). FateIs s (taken false ∷ J) b (is_counted Evicted)) (spans_since J o)
   evicted_fate o f out d = Each-weaker (Joined s J o) (λ (b : Arrival). FateIs s (taken false ∷ J) b (is_counted Evicted)) (spans_since J o)
       (λ b h. member_fate s (taken false ∷ J) o b (is_counted Evicted) (record { ids = h.ids; valid = h.valid; lost = h.lost; given = h.given; later = taken false ∷ h.later; before = h.before; split = ap (λ (z : Journal). taken false ∷ z) h.split; holds = h.holds })
       (ap (fate_of_member_decided (is_in_buffer s (notes s (taken false ∷ J)) o.at)) (ap (λ (z : List Decision). option_map (λ (d : Decision). d.verdict) (find (λ (d : Decision). d.opening.at == o.at) z)) same_after ∙ d) ∙ ap (λ b. fate_of_member_decided b None) gone))
       (Each-split (AreJoined s J (notes s J)) o (in_buffer s (notes s J)) place (all_joined s room J) (ap is_none d))
     where
-      m : Makes s.limit (notes s J).openings
-      m = makes_room s.limit room (notes s J).openings
+      m : Makes s.num_traces (notes s J).openings
+      m = makes_room s.num_traces room (notes s J).openings
 
       is : in_buffer s (notes s J) ≡ m.kept ++ o ∷ []
       is = m.was ∙ ap (λ z. m.kept ++ option_to_list z) out
@@ -225,7 +225,7 @@ module _ (s : Settings) (room : HasRoom s.limit) (J : Journal) (a : Arrival) (id
       sound = sound_notes s room J
 
       fr : (rest : List Opening) × ((notes s J).openings ≡ in_buffer s (notes s J) ++ rest)
-      fr = buffer_front s.limit (notes s J).openings
+      fr = buffer_front s.num_traces (notes s J).openings
 
       sorted : Pairs IsOlder (m.kept ++ o ∷ [])
       sorted = subst (λ z. Pairs IsOlder z) is (Pairs-left IsOlder (in_buffer s (notes s J)) fr.0 (subst (λ z. Pairs IsOlder z) fr.1 sound.ordered))
@@ -237,5 +237,5 @@ module _ (s : Settings) (room : HasRoom s.limit) (J : Journal) (a : Arrival) (id
       newest = let l = (Each-right (λ (x : Opening). x.at < length J) m.kept (o ∷ []) below).0 in ne_eqb (length J) o.at (λ q. omega arith)
 
       gone : is_in_buffer s (notes s (taken false ∷ J)) o.at ≡ false
-      gone = ap (λ z. list_any (λ (x : Opening). x.at == o.at) (last_of s.limit z)) (opens_after f) ∙ ap (list_any (λ (x : Opening). x.at == o.at)) (m.with_next opened)
+      gone = ap (λ z. list_any (λ (x : Opening). x.at == o.at) (last_of s.num_traces z)) (opens_after f) ∙ ap (list_any (λ (x : Opening). x.at == o.at)) (m.with_next opened)
           ∙ any_none (λ (x : Opening). x.at == o.at) (opened ∷ m.kept) (newest, Each-weaker (λ (x : Opening). Each (IsOlder x) (o ∷ [])) (λ (x : Opening). (x.at == o.at) ≡ false) m.kept (λ x p. let l : o.at < x.at = p.0 in ne_eqb x.at o.at (λ q. omega arith)) (Pairs-across IsOlder m.kept (o ∷ []) sorted))

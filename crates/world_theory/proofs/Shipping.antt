@@ -7,22 +7,22 @@ use Rattle.journal_theory.specs.Journal.{Entry, Settings, Journal, Decision, due
 use Rattle.journal_theory.specs.Fate.{Effect, effect, effect_dealt, effect_of_taking, effect_of_decision, effect_of_decisions, ◌then◌}
 use Rattle.otlp_types.specs.declared.arrival.Arrival.{Arrival}
 use Rattle.otlp_types.specs.declared.arrival.Item.TheVariants.{Span, Tick, End}
-use Rattle.world_theory.specs.World.{Config, Shard, World, new_world, new_shard, settings, has_due}
+use Rattle.world_theory.specs.World.{CoreConfig, CoreShard, World, new_world, new_shard, settings, has_due}
 use Rattle.world_theory.proofs.Content.{take_whole, length_in_turn, not_below}
 use Rattle.journal_theory.proofs.Notes.{HasRoom}
 use Rattle.world_theory.proofs.Answered.{effect_dealt_same}
 use Rattle.world_theory.proofs.Lined.{at_each}
 use Rattle.world_theory.proofs.Order.{replicated}
 use Rattle.world_theory.proofs.Balance.{same_settings}
-use Rattle.world_theory.proofs.Steps.{Stepped, received_by, routed, refused_by, took_span, took_tick, closed_by, took_end, answered_by, decided_one, shipped, pulled, handed_over, failed, spoiled}
+use Rattle.world_theory.proofs.Steps.{Stepped, received_by, routed, refused_by, took_span, took_tick, closed_by, took_end, answered_by, decided_one, shipped, pulled, handed_over, failed, batch_dropped}
 
 -- what is unshipped is the end of what was released
-abbrev pub HasShipped : Settings → Shard → Type 0
+abbrev pub HasShipped : Settings → CoreShard → Type 0
 HasShipped s sh = (shipped : List Arrival) × (shipped ++ sh.unshipped ≡ (effect_dealt s sh.journal sh.dealt).released)
 
 -- so of each shard
-abbrev pub AllShipped : Settings → List Shard → Type 0
-AllShipped s shards = (i : ℕ) (sh : Shard) → slice_get shards i ≡ Some sh → HasShipped s sh
+abbrev pub AllShipped : Settings → List CoreShard → Type 0
+AllShipped s shards = (i : ℕ) (sh : CoreShard) → slice_get shards i ≡ Some sh → HasShipped s sh
 
 -- where nothing is due, all was dealt with
 all_done : (s : Settings) (J : Journal) (dealt : ℕ) → nat_lt dealt (length (due_now s J)) ≡ false → effect_dealt s J dealt ≡ effect s J
@@ -42,7 +42,7 @@ by_decision s (e ∷ J) dealt d is = ap (λ (z : List Arrival). (effect s J then
     ∙ sym (append_assoc (effect s J then effect_of_taking s e J).released (effect_of_decisions (take dealt (decisions_now s (e ∷ J)))).released (effect_of_decision d).released)
 
 -- an item is taken where nothing is due
-taken : (s : Settings) (sh : Shard) (e : Entry) (queue : List Arrival) → has_due s sh ≡ false → HasShipped s sh
+taken : (s : Settings) (sh : CoreShard) (e : Entry) (queue : List Arrival) → has_due s sh ≡ false → HasShipped s sh
     → HasShipped s (record { queue = queue; journal = e ∷ sh.journal; dealt = 0; unshipped = sh.unshipped ++ (effect_of_taking s e sh.journal).released })
 taken s sh e queue n h = (h.0, sym (append_assoc h.0 sh.unshipped new) ∙ ap (λ (z : List Arrival). z ++ new) (h.1 ∙ ap (λ (f : Effect). f.released) (all_done s sh.journal sh.dealt n)) ∙ sym (append-nil ((effect s sh.journal).released ++ new)))
   where
@@ -52,12 +52,12 @@ taken s sh e queue n h = (h.0, sym (append_assoc h.0 sh.unshipped new) ∙ ap (�
 pub shipped_new : (s : Settings) (lanes shards : ℕ) → AllShipped s (new_world lanes shards).shards
 shipped_new s lanes shards i sh e = subst (HasShipped s) (replicated shards i new_shard sh e) ([], refl)
 
-module _ (c : Config) (room : HasRoom c.limit) (w : World) (h : AllShipped (settings c w) w.shards) where
+module _ (c : CoreConfig) (room : HasRoom c.shard.num_traces) (w : World) (h : AllShipped (settings c w) w.shards) where
   abbrev s : Settings
   s = settings c w
 
-  put : (i : ℕ) (sh' : Shard) → HasShipped s sh' → AllShipped s (slice_set w.shards i sh')
-  put i sh' k = at_each (λ i (sh : Shard). HasShipped s sh) w.shards i sh' k h
+  put : (i : ℕ) (sh' : CoreShard) → HasShipped s sh' → AllShipped s (slice_set w.shards i sh')
+  put i sh' k = at_each (λ i (sh : CoreShard). HasShipped s sh) w.shards i sh' k h
 
   ships : (next : World) → Stepped c w next → AllShipped s next.shards
   ships next (received_by lane ordinal moment records l g n e) = subst (λ (next : World). AllShipped s next.shards) e h
@@ -80,7 +80,7 @@ module _ (c : Config) (room : HasRoom c.limit) (w : World) (h : AllShipped (sett
   ships next (pulled a rest u e) = subst (λ (next : World). AllShipped s next.shards) e h
   ships next (handed_over b d e) = subst (λ (next : World). AllShipped s next.shards) e h
   ships next (failed d e) = subst (λ (next : World). AllShipped s next.shards) e h
-  ships next (spoiled r b a e) = subst (λ (next : World). AllShipped s next.shards) e h
+  ships next (batch_dropped r b a e) = subst (λ (next : World). AllShipped s next.shards) e h
 
-pub shipped_step : (c : Config) → HasRoom c.limit → (w next : World) → Stepped c w next → AllShipped (settings c w) w.shards → AllShipped (settings c next) next.shards
+pub shipped_step : (c : CoreConfig) → HasRoom c.shard.num_traces → (w next : World) → Stepped c w next → AllShipped (settings c w) w.shards → AllShipped (settings c next) next.shards
 shipped_step c room w next st h = subst (λ (s : Settings). AllShipped s next.shards) (sym (same_settings c w next st)) (ships c room w h next st)

@@ -4,7 +4,7 @@ use Rattle.std.proofs.Common.{◌≡◌, ℕ, zero, suc, ◌<◌, ◌≤◌, Boo
 use Rattle.std.proofs.lemmas.Bool.{and_parts}
 use Rattle.otlp_types.specs.declared.arrival.Arrival.{Arrival}
 use Rattle.span_ids.specs.declared.keys.ArrivalKey.{ArrivalKey}
-use Rattle.world_theory.specs.World.{Lane, same_key}
+use Rattle.world_theory.specs.World.{CoreLane, same_key}
 use Rattle.journal_theory.proofs.ListFacts.{Split, Split-cons, tally, tally-append, total}
 use Rattle.world_theory.proofs.Balance.{occ, occ-append}
 
@@ -80,18 +80,18 @@ one_long (x ∷ y ∷ xs) e = absurd (omega arith)
 
 -- ---- one arrival of a key
 
-abbrev pub all_received : List Lane → List Arrival
-all_received lanes = flat_map (λ (l : Lane). l.received) lanes
+abbrev pub all_received : List CoreLane → List Arrival
+all_received lanes = flat_map (λ (l : CoreLane). l.received) lanes
 
-pub occ_all : (k : ArrivalKey) (lanes : List Lane) → occ k (all_received lanes) ≡ total (λ (l : Lane). occ k l.received) lanes
+pub occ_all : (k : ArrivalKey) (lanes : List CoreLane) → occ k (all_received lanes) ≡ total (λ (l : CoreLane). occ k l.received) lanes
 occ_all k [] = refl
 occ_all k (l ∷ rest) = omega (arith, occ-append k l.received (all_received rest), occ_all k rest)
 
-pub in_all : (b : Arrival) (lanes : List Lane) (i : ℕ) (l : Lane) → slice_get lanes i ≡ Some l → Split b l.received → Split b (all_received lanes)
+pub in_all : (b : Arrival) (lanes : List CoreLane) (i : ℕ) (l : CoreLane) → slice_get lanes i ≡ Some l → Split b l.received → Split b (all_received lanes)
 in_all b [] i l e h = absurd (cc e)
 in_all b (x ∷ rest) zero l e h =
     let k : l ≡ x = cc e in
-    let m = subst (λ (l : Lane). Split b l.received) k h in
+    let m = subst (λ (l : CoreLane). Split b l.received) k h in
     record { front = m.front; back = m.back ++ all_received rest; is = ap (λ (z : List Arrival). z ++ all_received rest) m.is ∙ append_assoc m.front (b ∷ m.back) (all_received rest) }
 in_all b (x ∷ rest) (suc i) l e h =
     let m = in_all b rest i l e h in

@@ -6,7 +6,7 @@ use Rattle.journal_theory.specs.Journal.{Settings, Journal, Opening, is_in_buffe
 use Rattle.journal_theory.specs.Fate.{waits, is_released, fate, fate_of_finding, fate_of_member_decided, DroppedSpan}
 use Rattle.otlp_types.specs.declared.arrival.Arrival.{Arrival}
 use Rattle.span_ids.specs.declared.keys.ArrivalKey.{ArrivalKey}
-use Rattle.world_theory.specs.World.{Config, Lane, Shard, World, settings, same_key}
+use Rattle.world_theory.specs.World.{CoreConfig, CoreLane, CoreShard, World, settings, same_key}
 use Rattle.world_theory.specs.Places.{Place, HeldKey, is_waiting, unrouted, queued, buffered, unshipped, exported, in_batch, handed, counted_under, held_at, buffered_spans, held_by_lanes, held_by_shard, held_by_shards, held, places}
 use Rattle.world_theory.specs.Headline.{is_past_release}
 use Rattle.journal_theory.proofs.Notes.{HasRoom, is_open}
@@ -35,7 +35,7 @@ none_of : {X : Type 0} (o : Option X) → is_none o ≡ true → o ≡ None
 none_of None e = refl
 none_of (Some x) e = absurd (cc e)
 
-each_waits : (s : Settings) → HasRoom s.limit → (J : Journal) (dealt : ℕ) → Each (Waits s J dealt) (content s J (notes_dealt s J dealt))
+each_waits : (s : Settings) → HasRoom s.num_traces → (J : Journal) (dealt : ℕ) → Each (Waits s J dealt) (content s J (notes_dealt s J dealt))
 each_waits s room J dealt = Each-spill (Waits s J dealt) (spans_since J) (is_open (notes_dealt s J dealt)) (in_buffer s (notes_dealt s J dealt))
     (Each-both (λ (o : Opening). Split o (in_buffer s (notes_dealt s J dealt))) (AreJoined s J (notes_dealt s J dealt)) (λ (o : Opening). is_open (notes_dealt s J dealt) o ≡ true → Each (Waits s J dealt) (spans_since J o)) (in_buffer s (notes_dealt s J dealt))
     (λ o place f p. Each-weaker (Joined s J o) (Waits s J dealt) (spans_since J o) (λ a j. record { opening = o; joined = j; inside = inside o place; undecided = none_of (decided_as (notes_dealt s J dealt) o.at) p }) (f p))
@@ -68,16 +68,16 @@ abbrev pub is_count : Place → Bool
 is_count (counted_under reason) = true
 is_count _ = false
 
-pub data Stands (c : Config) (w : World) (place : Place) (k : ArrivalKey) : Type 0 where
+pub data Stands (c : CoreConfig) (w : World) (place : Place) (k : ArrivalKey) : Type 0 where
   on_its_way : is_waiting place ≡ true → 0 < before_journals k w → Stands c w place k
-  waits_in : (i : ℕ) (sh : Shard) (a : Arrival) → slice_get w.shards i ≡ Some sh → a.key ≡ k → place ≡ buffered i → Waits (settings c w) sh.journal sh.dealt a → Stands c w place k
-  sent_by : (i : ℕ) (sh : Shard) (a : Arrival) → slice_get w.shards i ≡ Some sh → a.key ≡ k → is_past_release i place ≡ true → is_count place ≡ false → FateIs (settings c w) sh.journal a is_released → Stands c w place k
+  waits_in : (i : ℕ) (sh : CoreShard) (a : Arrival) → slice_get w.shards i ≡ Some sh → a.key ≡ k → place ≡ buffered i → Waits (settings c w) sh.journal sh.dealt a → Stands c w place k
+  sent_by : (i : ℕ) (sh : CoreShard) (a : Arrival) → slice_get w.shards i ≡ Some sh → a.key ≡ k → is_past_release i place ≡ true → is_count place ≡ false → FateIs (settings c w) sh.journal a is_released → Stands c w place k
   in_counts : (n : DroppedSpan) → Split n w.counted → place ≡ counted_under n.reason → n.key ≡ k → Stands c w place k
 
 pub has_fate_of : (s : Settings) (J : Journal) (a : Arrival) → IsReleased s J a → FateIs s J a is_released
 has_fate_of s J a i = record { ids = i.ids; valid = i.valid; refused = false; lost = i.lost; given = i.given; later = i.later; before = i.before; split = i.split; is = i.holds }
 
-module _ (c : Config) (room : HasRoom c.limit) (w : World) (h : Whole c w) where
+module _ (c : CoreConfig) (room : HasRoom c.shard.num_traces) (w : World) (h : Whole c w) where
   abbrev s : Settings
   s = settings c w
 
@@ -91,22 +91,22 @@ module _ (c : Config) (room : HasRoom c.limit) (w : World) (h : Whole c w) where
   waiting_at : (place : Place) (spans : List Arrival) → is_waiting place ≡ true → Each (λ (a : Arrival). 0 < before_journals a.key w) spans → Each Known (held_at place spans)
   waiting_at place spans e k = at_place place spans (Each-weaker (λ (a : Arrival). 0 < before_journals a.key w) (λ (a : Arrival). Stands c w place a.key) spans (λ a p. on_its_way e p) k)
 
-  by_lanes : (n : ℕ) (lanes : List Lane) → Each (λ (l : Lane). Each (λ (a : Arrival). 0 < before_journals a.key w) l.unrouted) lanes → Each Known (held_by_lanes n lanes)
+  by_lanes : (n : ℕ) (lanes : List CoreLane) → Each (λ (l : CoreLane). Each (λ (a : Arrival). 0 < before_journals a.key w) l.unrouted) lanes → Each Known (held_by_lanes n lanes)
   by_lanes n [] k = tt
   by_lanes n (l ∷ rest) k = Each-append Known (held_at (unrouted n) l.unrouted) (held_by_lanes (n + 1) rest) (waiting_at (unrouted n) l.unrouted refl k.0) (by_lanes (n + 1) rest k.1)
 
-  lanes_wait : Each (λ (l : Lane). Each (λ (a : Arrival). 0 < before_journals a.key w) l.unrouted) w.lanes
-  lanes_wait = Each-weaker (λ (l : Lane). Split l w.lanes) (λ (l : Lane). Each (λ (a : Arrival). 0 < before_journals a.key w) l.unrouted) w.lanes
+  lanes_wait : Each (λ (l : CoreLane). Each (λ (a : Arrival). 0 < before_journals a.key w) l.unrouted) w.lanes
+  lanes_wait = Each-weaker (λ (l : CoreLane). Split l w.lanes) (λ (l : CoreLane). Each (λ (a : Arrival). 0 < before_journals a.key w) l.unrouted) w.lanes
       (λ l p. Each-weaker (λ (a : Arrival). Split a l.unrouted) (λ (a : Arrival). 0 < before_journals a.key w) l.unrouted
-      (λ a q. omega (arith, total-split (λ (l : Lane). occ a.key l.unrouted) w.lanes l p, split_hit (λ (b : Arrival). same_key b.key a.key) l.unrouted a q (key_self a.key))) (Split-each l.unrouted)) (Split-each w.lanes)
+      (λ a q. omega (arith, total-split (λ (l : CoreLane). occ a.key l.unrouted) w.lanes l p, split_hit (λ (b : Arrival). same_key b.key a.key) l.unrouted a q (key_self a.key))) (Split-each l.unrouted)) (Split-each w.lanes)
 
-  by_shard : (n : ℕ) (sh : Shard) → slice_get w.shards n ≡ Some sh → Each Known (held_by_shard s n sh)
+  by_shard : (n : ℕ) (sh : CoreShard) → slice_get w.shards n ≡ Some sh → Each Known (held_by_shard s n sh)
   by_shard n sh g = Each-append Known (held_at (queued n) sh.queue ++ held_at (buffered n) (buffered_spans s sh.journal sh.dealt)) (held_at (unshipped n) sh.unshipped)
       (Each-append Known (held_at (queued n) sh.queue) (held_at (buffered n) (buffered_spans s sh.journal sh.dealt)) in_queue in_buffer) unsent
     where
       in_queue : Each Known (held_at (queued n) sh.queue)
       in_queue = waiting_at (queued n) sh.queue refl (Each-weaker (λ (a : Arrival). Split a sh.queue) (λ (a : Arrival). 0 < before_journals a.key w) sh.queue
-          (λ a q. omega (arith, total-at (λ (sh : Shard). occ a.key sh.queue) w.shards n sh g, split_hit (λ (b : Arrival). same_key b.key a.key) sh.queue a q (key_self a.key))) (Split-each sh.queue))
+          (λ a q. omega (arith, total-at (λ (sh : CoreShard). occ a.key sh.queue) w.shards n sh g, split_hit (λ (b : Arrival). same_key b.key a.key) sh.queue a q (key_self a.key))) (Split-each sh.queue))
 
       in_buffer : Each Known (held_at (buffered n) (buffered_spans s sh.journal sh.dealt))
       in_buffer = at_place (buffered n) (buffered_spans s sh.journal sh.dealt) (subst (λ (z : List Arrival). Each (λ (a : Arrival). Stands c w (buffered n) a.key) z) (sym (content_is s sh.journal (notes_dealt s sh.journal sh.dealt)))
@@ -116,7 +116,7 @@ module _ (c : Config) (room : HasRoom c.limit) (w : World) (h : Whole c w) where
       unsent = at_place (unshipped n) sh.unshipped (Each-weaker (IsReleased s sh.journal) (λ (a : Arrival). Stands c w (unshipped n) a.key) sh.unshipped
           (λ a p. sent_by n sh a g refl (eq-eqb n n refl) refl (has_fate_of s sh.journal a p)) (h.releasing.sent n sh g))
 
-  by_shards : (n : ℕ) (shards : List Shard) → ((i : ℕ) (sh : Shard) → slice_get shards i ≡ Some sh → slice_get w.shards (n + i) ≡ Some sh) → Each Known (held_by_shards s n shards)
+  by_shards : (n : ℕ) (shards : List CoreShard) → ((i : ℕ) (sh : CoreShard) → slice_get shards i ≡ Some sh → slice_get w.shards (n + i) ≡ Some sh) → Each Known (held_by_shards s n shards)
   by_shards n [] f = tt
   by_shards n (sh ∷ rest) f = Each-append Known (held_by_shard s n sh) (held_by_shards s (n + 1) rest) (by_shard n sh first)
       (by_shards (n + 1) rest (λ i x e. let q : n + suc i ≡ (n + 1) + i = omega arith in subst (λ (j : ℕ). slice_get w.shards j ≡ Some x) q (f (suc i) x e)))

@@ -11,8 +11,8 @@ use Rattle.otlp_types.specs.declared.arrival.Arrival.{Arrival}
 use Rattle.otlp_types.specs.declared.arrival.Item.TheVariants.{Span, Tick, End}
 use Rattle.span_ids.specs.declared.outcome.Reason.{Reason}
 use Rattle.span_ids.specs.declared.outcome.Reason.TheVariants.{QueueFull}
-use Rattle.world_theory.specs.World.{Config, Lane, Shard, World, settings, ticker, has_due, goes_to}
-use Rattle.world_theory.specs.Step.{Step, receive, route, refuse, take as take_step, tick, close, end, decide, ship, pull, hand, fail, spoil, is_of_conn, arrivals, with_lane, after_receive, take_first, next_for, after_taking, take_on, sender_is_done, after_decision, ship_on, pull_from, spoil_applies, is_empty, step}
+use Rattle.world_theory.specs.World.{CoreConfig, CoreLane, CoreShard, World, settings, ticker, has_due, goes_to}
+use Rattle.world_theory.specs.Step.{Step, receive, route, refuse, take as take_step, tick, close, end, decide, ship, pull, hand, fail, drop_batch, is_of_conn, arrivals, with_lane, after_receive, take_first, next_for, after_taking, take_on, sender_is_done, after_decision, ship_on, pull_from, drop_batch_applies, is_empty, step}
 use Rattle.journal_theory.specs.Marked.{marks_apply_to_ids}
 use Rattle.journal_theory.proofs.ListFacts.{Each}
 
@@ -58,41 +58,41 @@ taken p (x ∷ xs) r e = go (p x) refl e (taken p xs)
 -- ---- the steps
 
 -- the world where a decision that stands in the journal was dealt with
-abbrev pub after_dealing : World → (shard : ℕ) → Shard → Effect → World
+abbrev pub after_dealing : World → (shard : ℕ) → CoreShard → Effect → World
 after_dealing w shard sh did = record w {
   shards = slice_set w.shards shard (record sh { dealt = sh.dealt + 1; unshipped = sh.unshipped ++ did.released });
   counted = w.counted ++ did.counted;
 }
 
-pub data Stepped (c : Config) (w next : World) : Type 0 where
-  received_by : (lane ordinal moment : ℕ) (records : List Record) (l : Lane) → slice_get w.lanes lane ≡ Some l → l.ended ≡ false
+pub data Stepped (c : CoreConfig) (w next : World) : Type 0 where
+  received_by : (lane ordinal moment : ℕ) (records : List Record) (l : CoreLane) → slice_get w.lanes lane ≡ Some l → l.ended ≡ false
       → after_receive w lane l (arrivals (record { lane = lane; ordinal = ordinal }) (count_by (is_of_conn (record { lane = lane; ordinal = ordinal })) l.received) moment records) ≡ next → Stepped c w next
-  routed : (lane shard : ℕ) (l : Lane) (sh : Shard) (a : Arrival) (rest : List Arrival) → slice_get w.lanes lane ≡ Some l → slice_get w.shards shard ≡ Some sh
+  routed : (lane shard : ℕ) (l : CoreLane) (sh : CoreShard) (a : Arrival) (rest : List Arrival) → slice_get w.lanes lane ≡ Some l → slice_get w.shards shard ≡ Some sh
       → TakenOut (goes_to (length w.shards) shard) l.unrouted a rest
       → record w { lanes = slice_set w.lanes lane (record l { unrouted = rest }); shards = slice_set w.shards shard (record sh { queue = sh.queue ++ a ∷ [] }) } ≡ next → Stepped c w next
-  refused_by : (lane shard : ℕ) (l : Lane) (a : Arrival) (rest : List Arrival) → slice_get w.lanes lane ≡ Some l
+  refused_by : (lane shard : ℕ) (l : CoreLane) (a : Arrival) (rest : List Arrival) → slice_get w.lanes lane ≡ Some l
       → TakenOut (goes_to (length w.shards) shard) l.unrouted a rest
       → record w { lanes = slice_set w.lanes lane (record l { unrouted = rest }); counted = w.counted ++ counts QueueFull (a ∷ []) } ≡ next → Stepped c w next
-  took_span : (shard : ℕ) (refused lost : Bool) (sh : Shard) (a : Arrival) (rest : List Arrival) → slice_get w.shards shard ≡ Some sh → sh.queue ≡ a ∷ rest
+  took_span : (shard : ℕ) (refused lost : Bool) (sh : CoreShard) (a : Arrival) (rest : List Arrival) → slice_get w.shards shard ≡ Some sh → sh.queue ≡ a ∷ rest
       → has_due (settings c w) sh ≡ false → marks_apply_to_ids (settings c w) sh.journal refused lost a.rec.span.ids ≡ true
       → after_taking c w shard sh (record { item = Span a; refused = refused; lost = lost; answers = [] }) rest ≡ next → Stepped c w next
-  took_tick : (shard moment : ℕ) (sh : Shard) → slice_get w.shards shard ≡ Some sh → has_due (settings c w) sh ≡ false → has_ended sh.journal (ticker w) ≡ false
+  took_tick : (shard moment : ℕ) (sh : CoreShard) → slice_get w.shards shard ≡ Some sh → has_due (settings c w) sh ≡ false → has_ended sh.journal (ticker w) ≡ false
       → after_taking c w shard sh (record { item = Tick moment; refused = false; lost = false; answers = [] }) sh.queue ≡ next → Stepped c w next
-  closed_by : (lane : ℕ) (l : Lane) → slice_get w.lanes lane ≡ Some l → l.ended ≡ false → with_lane w lane (record l { ended = true }) ≡ next → Stepped c w next
-  took_end : (shard sender : ℕ) (sh : Shard) → slice_get w.shards shard ≡ Some sh → has_due (settings c w) sh ≡ false → has_ended sh.journal sender ≡ false
+  closed_by : (lane : ℕ) (l : CoreLane) → slice_get w.lanes lane ≡ Some l → l.ended ≡ false → with_lane w lane (record l { ended = true }) ≡ next → Stepped c w next
+  took_end : (shard sender : ℕ) (sh : CoreShard) → slice_get w.shards shard ≡ Some sh → has_due (settings c w) sh ≡ false → has_ended sh.journal sender ≡ false
       → sender_is_done w shard sh sender (slice_get w.lanes sender) ≡ true
       → after_taking c w shard sh (record { item = End sender; refused = false; lost = false; answers = [] }) sh.queue ≡ next → Stepped c w next
   -- a decision is taken in two: its answers go to the journal, and then it is dealt with
-  answered_by : (shard : ℕ) (sh : Shard) (answers : List Bool) (o : Opening) → slice_get w.shards shard ≡ Some sh → slice_get (due_now (settings c w) sh.journal) sh.dealt ≡ Some o
+  answered_by : (shard : ℕ) (sh : CoreShard) (answers : List Bool) (o : Opening) → slice_get w.shards shard ≡ Some sh → slice_get (due_now (settings c w) sh.journal) sh.dealt ≡ Some o
       → IsAnsweredUpTo (settings c w) sh.journal sh.dealt → record w { shards = slice_set w.shards shard (record sh { journal = answered sh.journal answers }) } ≡ next → Stepped c w next
-  decided_one : (shard : ℕ) (sh : Shard) (d : Decision) → slice_get w.shards shard ≡ Some sh → slice_get (decisions_now (settings c w) sh.journal) sh.dealt ≡ Some d
+  decided_one : (shard : ℕ) (sh : CoreShard) (d : Decision) → slice_get w.shards shard ≡ Some sh → slice_get (decisions_now (settings c w) sh.journal) sh.dealt ≡ Some d
       → after_dealing w shard sh (effect_of_decision d) ≡ next → Stepped c w next
-  shipped : (shard : ℕ) (sh : Shard) (a : Arrival) (rest : List Arrival) → slice_get w.shards shard ≡ Some sh → sh.unshipped ≡ a ∷ rest
+  shipped : (shard : ℕ) (sh : CoreShard) (a : Arrival) (rest : List Arrival) → slice_get w.shards shard ≡ Some sh → sh.unshipped ≡ a ∷ rest
       → record w { shards = slice_set w.shards shard (record sh { unshipped = rest }); exported = w.exported ++ a ∷ [] } ≡ next → Stepped c w next
   pulled : (a : Arrival) (rest : List Arrival) → w.exported ≡ a ∷ rest → record w { exported = rest; batch = w.batch ++ a ∷ [] } ≡ next → Stepped c w next
   handed_over : is_empty w.batch ≡ false → w.down ≡ false → record w { handed = w.handed ++ w.batch ∷ []; batch = [] } ≡ next → Stepped c w next
   failed : w.down ≡ false → record w { down = true } ≡ next → Stepped c w next
-  spoiled : (reason : Reason) → is_empty w.batch ≡ false → spoil_applies w reason ≡ true → record w { counted = w.counted ++ counts reason w.batch; batch = [] } ≡ next → Stepped c w next
+  batch_dropped : (reason : Reason) → is_empty w.batch ≡ false → drop_batch_applies w reason ≡ true → record w { counted = w.counted ++ counts reason w.batch; batch = [] } ≡ next → Stepped c w next
 
 pub or_both : (a b : Bool) → (a || b) ≡ false → (a ≡ false) × (b ≡ false)
 or_both true b e = absurd (cc e)
@@ -103,17 +103,17 @@ not_not true e = refl
 not_not false e = absurd (cc e)
 
 -- any step but a decision
-abbrev pub is_plain : {c : Config} {w next : World} → Stepped c w next → Bool
+abbrev pub is_plain : {c : CoreConfig} {w next : World} → Stepped c w next → Bool
 is_plain (answered_by shard sh answers o g d i e) = false
 is_plain (decided_one shard sh d g i e) = false
 is_plain _ = true
 
-pub data Steps (c : Config) (w next : World) : Type 0 where
+pub data Steps (c : CoreConfig) (w next : World) : Type 0 where
   plain : (st : Stepped c w next) → is_plain st ≡ true → Steps c w next
-  decided_by : (shard : ℕ) (sh : Shard) (answers : List Bool) (o : Opening) → slice_get w.shards shard ≡ Some sh → slice_get (due_now (settings c w) sh.journal) sh.dealt ≡ Some o
+  decided_by : (shard : ℕ) (sh : CoreShard) (answers : List Bool) (o : Opening) → slice_get w.shards shard ≡ Some sh → slice_get (due_now (settings c w) sh.journal) sh.dealt ≡ Some o
       → are_answered (policies_for (settings c w) (spans_since sh.journal o)) answers (spans_since sh.journal o) ≡ true → after_decision w shard sh answers (effect_of_decision (decision (settings c w) sh.journal o answers)) ≡ next → Steps c w next
 
-pub stepped : (c : Config) (w next : World) (s : Step) → step c w s ≡ Some next → Steps c w next
+pub stepped : (c : CoreConfig) (w next : World) (s : Step) → step c w s ≡ Some next → Steps c w next
 stepped c w next (receive lane ordinal moment records) e =
     let k = and_then_some _ (slice_get w.lanes lane) next e in
     let m = some_unless k.0.ended _ next k.2 in
@@ -131,7 +131,7 @@ stepped c w next (refuse lane shard) e =
 stepped c w next (take_step shard refused lost) e =
     let k = and_then_some _ (slice_get w.shards shard) next e in go k.0 k.1 k.0.queue refl k.2
   where
-    go : (sh : Shard) → slice_get w.shards shard ≡ Some sh → (q : List Arrival) → sh.queue ≡ q → take_on c w shard refused lost sh q ≡ Some next → Steps c w next
+    go : (sh : CoreShard) → slice_get w.shards shard ≡ Some sh → (q : List Arrival) → sh.queue ≡ q → take_on c w shard refused lost sh q ≡ Some next → Steps c w next
     go sh g [] q e = absurd (cc e)
     go sh g (a ∷ rest) q e =
         let m = some_if (not (has_due (settings c w) sh) && marks_apply_to_ids (settings c w) sh.journal refused lost a.rec.span.ids) _ next e in
@@ -161,7 +161,7 @@ stepped c w next (decide shard answers) e =
 stepped c w next (ship shard) e =
     let k = and_then_some _ (slice_get w.shards shard) next e in go k.0 k.1 k.0.unshipped refl k.2
   where
-    go : (sh : Shard) → slice_get w.shards shard ≡ Some sh → (q : List Arrival) → sh.unshipped ≡ q → ship_on w shard sh q ≡ Some next → Steps c w next
+    go : (sh : CoreShard) → slice_get w.shards shard ≡ Some sh → (q : List Arrival) → sh.unshipped ≡ q → ship_on w shard sh q ≡ Some next → Steps c w next
     go sh g [] q e = absurd (cc e)
     go sh g (a ∷ rest) q e = plain (shipped shard sh a rest g q (cc e)) refl
 stepped c w next pull e = go w.exported refl e
@@ -174,7 +174,7 @@ stepped c w next hand e =
     let b = or_both (is_empty w.batch) w.down m.0 in
     plain (handed_over b.0 b.1 m.1) refl
 stepped c w next fail e = let m = some_unless w.down _ next e in plain (failed m.0 m.1) refl
-stepped c w next (spoil reason) e =
-    let m = some_unless (is_empty w.batch || not (spoil_applies w reason)) _ next e in
-    let b = or_both (is_empty w.batch) (not (spoil_applies w reason)) m.0 in
-    plain (spoiled reason b.0 (not_not (spoil_applies w reason) b.1) m.1) refl
+stepped c w next (drop_batch reason) e =
+    let m = some_unless (is_empty w.batch || not (drop_batch_applies w reason)) _ next e in
+    let b = or_both (is_empty w.batch) (not (drop_batch_applies w reason)) m.0 in
+    plain (batch_dropped reason b.0 (not_not (drop_batch_applies w reason) b.1) m.1) refl

@@ -9,9 +9,9 @@ use Rattle.otlp_types.specs.declared.arrival.Item.TheVariants.{Span}
 use Rattle.span_ids.specs.declared.keys.ArrivalKey.{ArrivalKey}
 use Rattle.span_ids.specs.declared.outcome.Reason.{Reason}
 use Rattle.span_ids.specs.declared.outcome.Reason.TheVariants.{InvalidId, QueueFull, NoMemory, Evicted, LateNotSampled, ExporterDown, NotSampled as DecidedAgainst}
-use Rattle.world_theory.specs.World.{Config, Shard, World, settings, has_due, same_key}
+use Rattle.world_theory.specs.World.{CoreConfig, CoreShard, World, settings, has_due, same_key}
 use Rattle.world_theory.specs.Places.{Place, buffered, counted_under, places}
-use Rattle.world_theory.specs.Headline.{Taken, fate_of, is_past_release, is_span_with}
+use Rattle.world_theory.specs.Headline.{TakenSpan, fate_of, is_past_release, is_span_with}
 use Rattle.journal_theory.proofs.Notes.{HasRoom}
 use Rattle.journal_theory.proofs.ListFacts.{Each-split, Split, tally}
 use Rattle.world_theory.proofs.Content.{all_dealt}
@@ -25,14 +25,14 @@ use Rattle.world_theory.proofs.Stands.{waits_fate, Stands, on_its_way, waits_in,
 use Rattle.world_theory.proofs.Whole.{Whole}
 
 -- by its fate, where a span stands that a shard took
-pub data TakenAt (c : Config) (w : World) (t : Taken w) (place : Place) : Type 0 where
+pub data TakenAt (c : CoreConfig) (w : World) (t : TakenSpan w) (place : Place) : Type 0 where
   waits_there : place ≡ buffered t.shard → t.refused ≡ false
       → ((o : Opening) × (finding (settings c w) (notes (settings c w) t.before) t.ids.trace ≡ joins o)) ⊎ (finding (settings c w) (notes (settings c w) t.before) t.ids.trace ≡ opens)
       → (has_due (settings c w) t.of ≡ false → fate_of c w t ≡ waits) → TakenAt c w t place
   sent_there : is_past_release t.shard place ≡ true → fate_of c w t ≡ is_released → TakenAt c w t place
   counted_there : (r : Reason) → place ≡ counted_under r → fate_of c w t ≡ is_counted r → TakenAt c w t place
 
-module _ (c : Config) (room : HasRoom c.limit) (w : World) (h : Whole c w) (t : Taken w) where
+module _ (c : CoreConfig) (room : HasRoom c.shard.num_traces) (w : World) (h : Whole c w) (t : TakenSpan w) where
   abbrev s : Settings
   s = settings c w
 
@@ -55,30 +55,30 @@ module _ (c : Config) (room : HasRoom c.limit) (w : World) (h : Whole c w) (t : 
   in_one = omega (arith, h.once k, at_most)
 
   pub was_routed : before_journals k w ≡ 0
-  was_routed = omega (arith, h.once k, at_most, own_hit, total-at (λ (sh : Shard). in_journal k sh.journal) w.shards t.shard t.of t.in_world)
+  was_routed = omega (arith, h.once k, at_most, own_hit, total-at (λ (sh : CoreShard). in_journal k sh.journal) w.shards t.shard t.of t.in_world)
 
   pub one_place : (place : Place) × (places c w k ≡ place ∷ [])
-  one_place = one_long (places c w k) (omega (arith, length_places k c w, h.ordered.accounted.balanced k, h.once k, at_most, own_hit, total-at (λ (sh : Shard). in_journal k sh.journal) w.shards t.shard t.of t.in_world))
+  one_place = one_long (places c w k) (omega (arith, length_places k c w, h.ordered.accounted.balanced k, h.once k, at_most, own_hit, total-at (λ (sh : CoreShard). in_journal k sh.journal) w.shards t.shard t.of t.in_world))
 
   -- an entry with its key is its own
-  record IsOwn (i : ℕ) (sh : Shard) (a : Arrival) (refused : Bool) (before : Journal) : Type 0 where
+  record IsOwn (i : ℕ) (sh : CoreShard) (a : Arrival) (refused : Bool) (before : Journal) : Type 0 where
     shard : i ≡ t.shard
     of : sh ≡ t.of
     arrival : a ≡ t.arrival
     refusal : refused ≡ t.refused
     past : before ≡ t.before
 
-  own : (i : ℕ) (sh : Shard) (a : Arrival) (refused lost : Bool) (given : List (List Bool)) (later before : Journal) → slice_get w.shards i ≡ Some sh → a.key ≡ k → sh.journal ≡ later ++ record { item = Span a; refused = refused; lost = lost; answers = given } ∷ before → IsOwn i sh a refused before
+  own : (i : ℕ) (sh : CoreShard) (a : Arrival) (refused lost : Bool) (given : List (List Bool)) (later before : Journal) → slice_get w.shards i ≡ Some sh → a.key ≡ k → sh.journal ≡ later ++ record { item = Span a; refused = refused; lost = lost; answers = given } ∷ before → IsOwn i sh a refused before
   unfolding own_split
   own i sh a refused lost given later before g q is =
       let e : Entry = record { item = Span a; refused = refused; lost = lost; answers = given } in
       let hit : same_key a.key k ≡ true = ap (λ (j : ArrivalKey). same_key j k) q ∙ key_self k in
       let place : Split (record { item = Span a; refused = refused; lost = lost; answers = given }) sh.journal = record { front = later; back = before; is = is } in
-      let i_is : i ≡ t.shard = one_at (λ (sh : Shard). in_journal k sh.journal) w.shards i t.shard sh t.of in_one g t.in_world (split_hit (λ (e : Entry). is_span_with k e.item) sh.journal (record { item = Span a; refused = refused; lost = lost; answers = given }) place hit) own_hit in
+      let i_is : i ≡ t.shard = one_at (λ (sh : CoreShard). in_journal k sh.journal) w.shards i t.shard sh t.of in_one g t.in_world (split_hit (λ (e : Entry). is_span_with k e.item) sh.journal (record { item = Span a; refused = refused; lost = lost; answers = given }) place hit) own_hit in
       let both : Some sh ≡ Some t.of = sym g ∙ ap (slice_get w.shards) i_is ∙ t.in_world in
       let sh_is : sh ≡ t.of = cc both in
-      let there : Split (record { item = Span a; refused = refused; lost = lost; answers = given }) t.of.journal = record { front = later; back = before; is = ap (λ (sh : Shard). sh.journal) (sym sh_is) ∙ is } in
-      let few : tally (λ (e : Entry). is_span_with k e.item) t.of.journal ≤ 1 = omega (arith, in_one, total-at (λ (sh : Shard). in_journal k sh.journal) w.shards t.shard t.of t.in_world) in
+      let there : Split (record { item = Span a; refused = refused; lost = lost; answers = given }) t.of.journal = record { front = later; back = before; is = ap (λ (sh : CoreShard). sh.journal) (sym sh_is) ∙ is } in
+      let few : tally (λ (e : Entry). is_span_with k e.item) t.of.journal ≤ 1 = omega (arith, in_one, total-at (λ (sh : CoreShard). in_journal k sh.journal) w.shards t.shard t.of t.in_world) in
       let same = one_hit (λ (e : Entry). is_span_with k e.item) t.of.journal (record { item = Span a; refused = refused; lost = lost; answers = given }) entry few hit (key_self k) there own_split in
       let items : Span a ≡ Span t.arrival = ap (λ (e : Entry). e.item) same.0 in
       record { shard = i_is; of = sh_is; arrival = cc items; refusal = ap (λ (e : Entry). e.refused) same.0; past = same.1 }
@@ -89,10 +89,10 @@ module _ (c : Config) (room : HasRoom c.limit) (w : World) (h : Whole c w) (t : 
   own_fate : (J before : Journal) (refused : Bool) (ids : Ids) → J ≡ t.of.journal → before ≡ t.before → refused ≡ t.refused → ids ≡ t.ids → fate s J before refused ids ≡ fate_of c w t
   own_fate J before refused ids p q r e = λ i. fate s (p i) (q i) (r i) (e i)
 
-  by_fate : (i : ℕ) (sh : Shard) (a : Arrival) (became : Fate) → slice_get w.shards i ≡ Some sh → a.key ≡ k → FateIs s sh.journal a became → (i ≡ t.shard) × (fate_of c w t ≡ became)
+  by_fate : (i : ℕ) (sh : CoreShard) (a : Arrival) (became : Fate) → slice_get w.shards i ≡ Some sh → a.key ≡ k → FateIs s sh.journal a became → (i ≡ t.shard) × (fate_of c w t ≡ became)
   by_fate i sh a became g q f =
       let o = own i sh a f.refused f.lost f.given f.later f.before g q f.split in
-      (o.shard, sym (own_fate sh.journal f.before f.refused f.ids (ap (λ (sh : Shard). sh.journal) o.of) o.past o.refusal (own_ids a f.ids o.arrival f.valid)) ∙ f.is)
+      (o.shard, sym (own_fate sh.journal f.before f.refused f.ids (ap (λ (sh : CoreShard). sh.journal) o.of) o.past o.refusal (own_ids a f.ids o.arrival f.valid)) ∙ f.is)
 
   -- a count, by its cause
   by_count : (place : Place) (n : DroppedSpan) → Split n w.counted → place ≡ counted_under n.reason → n.key ≡ k → Caused s w.lanes w.shards w.down n → TakenAt c w t place
@@ -126,8 +126,8 @@ module _ (c : Config) (room : HasRoom c.limit) (w : World) (h : Whole c w) (t : 
       let o = own i sh a false j.lost j.given j.later j.before g q j.split in
       let ids = own_ids a j.ids o.arrival j.valid in
       waits_there (e ∙ ap buffered o.shard) (sym o.refusal) (found j.holds o.past ids) (λ n.
-      let n' = subst (λ (sh : Shard). has_due s sh ≡ false) (sym o.of) n in
-      sym (own_fate sh.journal j.before false j.ids (ap (λ (sh : Shard). sh.journal) o.of) o.past o.refusal ids) ∙ waits_fate s sh.journal sh.dealt a (all_dealt s sh.journal sh.dealt n') x)
+      let n' = subst (λ (sh : CoreShard). has_due s sh ≡ false) (sym o.of) n in
+      sym (own_fate sh.journal j.before false j.ids (ap (λ (sh : CoreShard). sh.journal) o.of) o.past o.refusal ids) ∙ waits_fate s sh.journal sh.dealt a (all_dealt s sh.journal sh.dealt n') x)
     where
       found : (finding s (notes s x.joined.before) x.joined.ids.trace ≡ joins x.opening) ⊎ ((finding s (notes s x.joined.before) x.joined.ids.trace ≡ opens) × (length x.joined.before ≡ x.opening.at)) → x.joined.before ≡ t.before → x.joined.ids ≡ t.ids
           → ((o : Opening) × (finding s (notes s t.before) t.ids.trace ≡ joins o)) ⊎ (finding s (notes s t.before) t.ids.trace ≡ opens)

@@ -97,7 +97,7 @@ opened_decisions s (e ∷ J) = Each-append (λ (d : Decision). Split d.opening o
     os = noted.openings
 
     fr : (rest : List Opening) × (os ≡ in_buffer s noted ++ rest)
-    fr = buffer_front s.limit os
+    fr = buffer_front s.num_traces os
 
 -- two openings at one position are one
 unique_at : (os : List Opening) → Pairs IsOlder os → (x y : Opening) → Split x os → Split y os → x.at ≡ y.at → x ≡ y
@@ -130,7 +130,7 @@ each_there s past (p ∷ sooner) rest o [] answers h e = cc
 each_there s past (p ∷ sooner) rest o (g ∷ given) answers h e =
     each_there s past sooner rest o given answers (and_parts (are_answered (policies_for s (spans_since past p)) g (spans_since past p)) (are_each_answered s past (sooner ++ o ∷ rest) given) h).1 e
 
-pub was_decided : (s : Settings) → HasRoom s.limit → (J : Journal) → IsAnswered s J → (t : TraceId) (o : Opening) (v : Verdict) → finding s (notes s J) t ≡ meets o v → WasDecided s J t v
+pub was_decided : (s : Settings) → HasRoom s.num_traces → (J : Journal) → IsAnswered s J → (t : TraceId) (o : Opening) (v : Verdict) → finding s (notes s J) t ≡ meets o v → WasDecided s J t v
 was_decided s room J answered t o v f = go (meeting s J (notes s J) t sound)
   where
     sound : Sound s J (notes s J)

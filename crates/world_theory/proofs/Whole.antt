@@ -1,7 +1,7 @@
 -- What every step keeps.
 -- For the laws of the headline, `headline` and each of its parts.
 use Rattle.std.proofs.Common.{ℕ, length}
-use Rattle.world_theory.specs.World.{Config, World, new_world, settings}
+use Rattle.world_theory.specs.World.{CoreConfig, World, new_world, settings}
 use Rattle.world_theory.specs.Headline.{OfEachRun}
 use Rattle.journal_theory.proofs.Notes.{HasRoom}
 use Rattle.world_theory.proofs.Steps.{Stepped}
@@ -16,7 +16,7 @@ use Rattle.world_theory.proofs.Shipping.{AllShipped, shipped_new, shipped_step}
 use Rattle.world_theory.proofs.EndsLast.{AllEnded, ended_new, ended_step}
 
 -- all that holds of the worlds of a run
-pub record Whole (c : Config) (w : World) : Type 0 where
+pub record Whole (c : CoreConfig) (w : World) : Type 0 where
   pub ordered : Ordered c w
   pub releasing : ReleasingAt c w
   pub sourced : SourcedAt c w
@@ -25,7 +25,7 @@ pub record Whole (c : Config) (w : World) : Type 0 where
   pub shipped : AllShipped (settings c w) w.shards
   pub ended : AllEnded (length w.shards) w.lanes w.shards
 
-whole_new : (c : Config) → HasRoom c.limit → (lanes shards : ℕ) → Whole c (new_world lanes shards)
+whole_new : (c : CoreConfig) → HasRoom c.shard.num_traces → (lanes shards : ℕ) → Whole c (new_world lanes shards)
 whole_new c room lanes shards = record {
   ordered = ordered_new c room lanes shards;
   releasing = releasing_new c room lanes shards;
@@ -36,7 +36,7 @@ whole_new c room lanes shards = record {
   ended = ended_new lanes shards;
 }
 
-whole_step : (c : Config) → HasRoom c.limit → (w next : World) → Stepped c w next → Whole c w → Whole c next
+whole_step : (c : CoreConfig) → HasRoom c.shard.num_traces → (w next : World) → Stepped c w next → Whole c w → Whole c next
 whole_step c room w next st h = record {
   ordered = ordered_step c room w next st h.ordered;
   releasing = releasing_step c room w next st h.releasing;
@@ -48,9 +48,9 @@ whole_step c room w next st h = record {
 }
 
 -- what follows of it holds of every run
-pub of_whole : (Q : Config → World → Type 0) → ((c : Config) → HasRoom c.limit → (w : World) → Whole c w → Q c w) → OfEachRun Q
+pub of_whole : (Q : CoreConfig → World → Type 0) → ((c : CoreConfig) → HasRoom c.shard.num_traces → (w : World) → Whole c w → Q c w) → OfEachRun Q
 of_whole Q gives = of_each_run Whole Q whole_new whole_step gives
 
 -- with the answers that each decision was given
-pub of_whole_answered : (Q : Config → World → Type 0) → ((c : Config) → HasRoom c.limit → (w : World) → Whole c w → AllAnswered (settings c w) w.shards → Q c w) → OfEachRun Q
+pub of_whole_answered : (Q : CoreConfig → World → Type 0) → ((c : CoreConfig) → HasRoom c.shard.num_traces → (w : World) → Whole c w → AllAnswered (settings c w) w.shards → Q c w) → OfEachRun Q
 of_whole_answered Q gives = of_each_answered Whole Q whole_new whole_step gives

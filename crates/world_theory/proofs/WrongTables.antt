@@ -9,14 +9,14 @@ use Rattle.otlp_types.specs.declared.arrival.Item.TheVariants.{Span as SpanItem,
 use Rattle.span_ids.specs.declared.outcome.Verdict.TheVariants.{Sampled}
 use Rattle.span_ids.specs.declared.outcome.Reason.{Reason}
 use Rattle.span_ids.specs.declared.outcome.Reason.TheVariants.{QueueFull, Evicted}
-use Rattle.world_theory.specs.World.{Config, Lane, Shard, World, new_world, new_lane, new_shard, settings, has_due}
+use Rattle.world_theory.specs.World.{CoreConfig, CoreLane, CoreShard, World, new_world, new_lane, new_shard, settings, has_due}
 use Rattle.world_theory.specs.Step.{Step, receive, route, take as take_step, tick, close, end, decide, ship, pull, hand, after_taking, step}
-use Rattle.world_theory.specs.Headline.{Taken, WasReceived, IsNumbered, CountedWithCause, InOnePlace, PlaceFitsFate, ShipsOutput, is_where, InReceivedOrder, EndsLast, MeetsRemembered, OnlyReleased}
+use Rattle.world_theory.specs.Headline.{TakenSpan, WasReceived, IsNumbered, CountedWithCause, InOnePlace, PlaceFitsFate, ShipsOutput, is_where, InReceivedOrder, EndsLast, MeetsRemembered, OnlyReleased}
 use Rattle.world_theory.proofs.Samples.{always, errors, configured, error, plain, recorded, ids_of, key, send}
 
 -- a step table: the world that a step gives, where it is enabled
 abbrev pub Table : Type 0
-Table = Config → World → Step → Option World
+Table = CoreConfig → World → Step → Option World
 
 -- the world that was reached, or the new world with one lane and one shard
 abbrev pub reached : Option World → World
@@ -24,18 +24,18 @@ reached None = new_world 1 1
 reached (Some w) = w
 
 -- the world after these steps by a table, or None where one isn't enabled
-abbrev pub run_by : Table → Config → World → List Step → Option World
+abbrev pub run_by : Table → CoreConfig → World → List Step → Option World
 run_by table c w [] = Some w
 run_by table c w (s ∷ rest) = option_and_then (λ next. run_by table c next rest) (table c w s)
 
-abbrev pub world_by : Table → Config → List Step → World
+abbrev pub world_by : Table → CoreConfig → List Step → World
 world_by table c steps = reached (run_by table c (new_world 1 1) steps)
 
 -- the first lane and the first shard of a world
-abbrev pub lane_of : World → Lane
+abbrev pub lane_of : World → CoreLane
 lane_of w = get_or w.lanes 0 new_lane
 
-abbrev pub shard_of_one : World → Shard
+abbrev pub shard_of_one : World → CoreShard
 shard_of_one w = get_or w.shards 0 new_shard
 
 -- ---- evicted spans, booked as if a queue had been full
@@ -47,7 +47,7 @@ misread r = r
 abbrev pub misbooks : Table
 misbooks c w s = option_map (λ (next : World). record next { counted = map (λ (n : DroppedSpan). record { reason = misread n.reason; key = n.key }) next.counted }) (step c w s)
 
-abbrev pub of_one : Config
+abbrev pub of_one : CoreConfig
 of_one = configured errors (Some 1) 1 1
 
 abbrev pub misbooked : World
@@ -63,7 +63,7 @@ misbooked_without_cause h =
     let k = h (first_of misbooked) QueueFull (record { lane = 0; of = lane_of misbooked; in_world = refl; has = (0, omega arith, refl) }) refl in
     let q : true ≡ false = k.1 in cc q
 
-abbrev pub evicted_taken : Taken misbooked
+abbrev pub evicted_taken : TakenSpan misbooked
 unfolding notes
 evicted_taken = record { shard = 0; of = shard_of_one misbooked; in_world = refl; arrival = first_of misbooked; ids = ids_of 1; valid = refl; refused = false; lost = false; answers = []; later = take 1 (shard_of_one misbooked).journal; before = []; split = refl }
 
@@ -76,19 +76,19 @@ misbooked_does_not_fit h = go (h evicted_taken).0 (h evicted_taken).1 (h evicted
 
 -- ---- a late span, refused for want of memory
 
-abbrev pub takes_anyway : Config → World → (shard : ℕ) → (refused lost : Bool) → Shard → List Arrival → Option World
+abbrev pub takes_anyway : CoreConfig → World → (shard : ℕ) → (refused lost : Bool) → CoreShard → List Arrival → Option World
 takes_anyway c w shard refused lost sh [] = None
 takes_anyway c w shard refused lost sh (a ∷ rest) = if not (has_due (settings c w) sh) then Some (after_taking c w shard sh (record { item = SpanItem a; refused = refused; lost = lost; answers = [] }) rest) else None
 
 abbrev pub refuses_late : Table
-refuses_late c w (take_step shard refused lost) = option_and_then (λ (sh : Shard). takes_anyway c w shard refused lost sh sh.queue) (slice_get w.shards shard)
+refuses_late c w (take_step shard refused lost) = option_and_then (λ (sh : CoreShard). takes_anyway c w shard refused lost sh sh.queue) (slice_get w.shards shard)
 refuses_late c w s = step c w s
 
 abbrev pub late_refused : World
 unfolding notes
 late_refused = world_by refuses_late of_one (send (error 1) ++ take_step 0 false false ∷ tick 0 10 ∷ decide 0 [] ∷ send (plain 1) ++ take_step 0 true false ∷ [])
 
-abbrev pub last_taken : Taken late_refused
+abbrev pub last_taken : TakenSpan late_refused
 unfolding notes
 last_taken = record { shard = 0; of = shard_of_one late_refused; in_world = refl; arrival = get_or (lane_of late_refused).received 1 (first_of late_refused); ids = ids_of 1; valid = refl; refused = true; lost = false; answers = []; later = []; before = drop 1 (shard_of_one late_refused).journal; split = refl }
 
@@ -102,10 +102,10 @@ abbrev pub changed : Arrival → Arrival
 changed a = record { key = a.key; moment = a.moment; rec = recorded a.rec.span.ids 0 99 }
 
 abbrev pub changes : Table
-changes c w (route lane shard) = option_map (λ (next : World). record next { shards = map (λ (sh : Shard). record sh { queue = map changed sh.queue }) next.shards }) (step c w (route lane shard))
+changes c w (route lane shard) = option_map (λ (next : World). record next { shards = map (λ (sh : CoreShard). record sh { queue = map changed sh.queue }) next.shards }) (step c w (route lane shard))
 changes c w s = step c w s
 
-abbrev pub of_always : Config
+abbrev pub of_always : CoreConfig
 of_always = configured always (Some 1) 1 1
 
 abbrev pub altered : World
@@ -129,8 +129,8 @@ altered_never_received h = not_received (h altered_span (0, omega arith, refl)).
     not_received : WasReceived altered altered_span → ⊥
     not_received r = at_lane r.lane r.of r.in_world r.has
       where
-        at_lane : (lane : ℕ) (l : Lane) → slice_get altered.lanes lane ≡ Some l → Contains l.received altered_span → ⊥
-        at_lane zero l e k = let q : lane_of altered ≡ l = cc e in let m = subst (λ (l : Lane). Contains l.received altered_span) (sym q) k in in_list m.0 m.1 m.2
+        at_lane : (lane : ℕ) (l : CoreLane) → slice_get altered.lanes lane ≡ Some l → Contains l.received altered_span → ⊥
+        at_lane zero l e k = let q : lane_of altered ≡ l = cc e in let m = subst (λ (l : CoreLane). Contains l.received altered_span) (sym q) k in in_list m.0 m.1 m.2
         at_lane (suc n) l e k = absurd (cc e)
 
 -- ---- one of two spans of one key, lost
@@ -139,7 +139,7 @@ abbrev pub first_number : Arrival → Arrival
 first_number a = record { key = record { conn = a.key.conn; number = 0 }; moment = a.moment; rec = a.rec }
 
 abbrev pub loses : Table
-loses c w (receive lane ordinal moment records) = option_map (λ (next : World). record next { lanes = map (λ (l : Lane). record l { received = map first_number l.received; unrouted = take 1 (map first_number l.unrouted) }) next.lanes }) (step c w (receive lane ordinal moment records))
+loses c w (receive lane ordinal moment records) = option_map (λ (next : World). record next { lanes = map (λ (l : CoreLane). record l { received = map first_number l.received; unrouted = take 1 (map first_number l.unrouted) }) next.lanes }) (step c w (receive lane ordinal moment records))
 loses c w s = step c w s
 
 abbrev pub one_lost : World
@@ -182,10 +182,10 @@ batch_handed_again h = let q : 3 ≡ 1 = h.received (key 0) refl in absurd (omeg
 -- ---- the last routed first
 
 abbrev pub turns_queue : Table
-turns_queue c w (route lane shard) = option_map (λ (next : World). record next { shards = map (λ (sh : Shard). record sh { queue = reverse sh.queue }) next.shards }) (step c w (route lane shard))
+turns_queue c w (route lane shard) = option_map (λ (next : World). record next { shards = map (λ (sh : CoreShard). record sh { queue = reverse sh.queue }) next.shards }) (step c w (route lane shard))
 turns_queue c w s = step c w s
 
-abbrev pub of_two : Config
+abbrev pub of_two : CoreConfig
 of_two = record of_always { batch_size = 2 }
 
 abbrev pub turned : World
@@ -198,7 +198,7 @@ newest_first h = let q : 1 < 0 = h 0 1 (first_of turned) (omega arith) (omega ar
 
 -- ---- a lane's End, taken while a span of the lane is queued
 
-abbrev pub ends_anyway : Config → World → (shard sender : ℕ) → Shard → Option World
+abbrev pub ends_anyway : CoreConfig → World → (shard sender : ℕ) → CoreShard → Option World
 ends_anyway c w shard sender sh = Some (after_taking c w shard sh (record { item = EndItem sender; refused = false; lost = false; answers = [] }) sh.queue)
 
 abbrev pub ends_early : Table
@@ -216,7 +216,7 @@ ends_before_last_span h = let q : false ≡ true = h 0 0 (shard_of_one early) (l
 -- ---- the last released shipped first
 
 abbrev pub turns_released : Table
-turns_released c w (decide shard answers) = option_map (λ (next : World). record next { shards = map (λ (sh : Shard). record sh { unshipped = reverse sh.unshipped }) next.shards }) (step c w (decide shard answers))
+turns_released c w (decide shard answers) = option_map (λ (next : World). record next { shards = map (λ (sh : CoreShard). record sh { unshipped = reverse sh.unshipped }) next.shards }) (step c w (decide shard answers))
 turns_released c w s = step c w s
 
 abbrev pub ships_last : World

@@ -16,7 +16,7 @@ use Rattle.span_ids.specs.declared.outcome.Verdict.{Verdict}
 use Rattle.span_ids.specs.declared.outcome.Verdict.TheVariants.{Sampled, NotSampled}
 use Rattle.span_ids.specs.declared.outcome.Reason.{Reason}
 use Rattle.span_ids.specs.declared.outcome.Reason.TheVariants.{InvalidId, QueueFull, Evicted, NotSampled as DecidedAgainst, NoMemory, ExporterDown, LateNotSampled}
-use Rattle.world_theory.specs.World.{KeepsATrace, Config, Lane, Shard, World, settings, has_due, is_same_conn, same_key}
+use Rattle.world_theory.specs.World.{KeepsATrace, CoreConfig, CoreLane, CoreShard, World, settings, has_due, is_same_conn, same_key}
 use Rattle.world_theory.specs.Step.{Step, fail, step, run, is_of_conn, lane_is_done}
 use Rattle.world_theory.specs.Places.{Place, buffered, unshipped, exported, in_batch, handed, counted_under, places, IsClosed}
 
@@ -25,14 +25,14 @@ use Rattle.world_theory.specs.Places.{Place, buffered, unshipped, exported, in_b
 -- a lane received this span, as it stands
 pub record WasReceived (w : World) (a : Arrival) : Type 0 where
   pub lane : ℕ
-  pub of : Lane
+  pub of : CoreLane
   pub in_world : slice_get w.lanes lane ≡ Some of
   pub has : Contains of.received a
 
 -- a shard took a span: its marks and the answers that stand with it, and the shard's journal before and after it
-pub record Taken (w : World) : Type 0 where
+pub record TakenSpan (w : World) : Type 0 where
   pub shard : ℕ
-  pub of : Shard
+  pub of : CoreShard
   pub in_world : slice_get w.shards shard ≡ Some of
   pub arrival : Arrival
   pub ids : Ids
@@ -45,27 +45,27 @@ pub record Taken (w : World) : Type 0 where
   pub split : of.journal ≡ later ++ record { item = Span arrival; refused = refused; lost = lost; answers = answers } ∷ before
 
 -- the fate of a span that was taken, by its shard's journal
-abbrev pub fate_of : (c : Config) (w : World) → Taken w → Fate
+abbrev pub fate_of : (c : CoreConfig) (w : World) → TakenSpan w → Fate
 fate_of c w t = fate (settings c w) t.of.journal t.before t.refused t.ids
 
 -- a shard took the span, and by its journal this became of it
-abbrev pub HasFate : Config → World → Arrival → Fate → Type 0
-HasFate c w a became = (t : Taken w) × (t.arrival ≡ a) × (fate_of c w t ≡ became)
+abbrev pub HasFate : CoreConfig → World → Arrival → Fate → Type 0
+HasFate c w a became = (t : TakenSpan w) × (t.arrival ≡ a) × (fate_of c w t ≡ became)
 
 -- ---- one place
 
 -- a lane received a span of this key
 abbrev pub is_received : World → ArrivalKey → Bool
-is_received w k = list_any (λ (l : Lane). list_any (λ a. same_key a.key k) l.received) w.lanes
+is_received w k = list_any (λ (l : CoreLane). list_any (λ a. same_key a.key k) l.received) w.lanes
 
 -- a received span's key names its lane, and its number is how many spans its connection received before it: so no two
 -- received spans have one key
 abbrev pub IsNumbered : World → Type 0
-IsNumbered w = (lane : ℕ) (l : Lane) (before later : List Arrival) (a : Arrival) → slice_get w.lanes lane ≡ Some l → l.received ≡ before ++ a ∷ later
+IsNumbered w = (lane : ℕ) (l : CoreLane) (before later : List Arrival) (a : Arrival) → slice_get w.lanes lane ≡ Some l → l.received ≡ before ++ a ∷ later
     → (a.key.conn.lane ≡ lane) × (a.key.number ≡ count_by (is_of_conn a.key.conn) before)
 
 -- received spans are numbered, each received key has one place, and no other key has any
-pub record InOnePlace (c : Config) (w : World) : Type 0 where
+pub record InOnePlace (c : CoreConfig) (w : World) : Type 0 where
   pub numbered : IsNumbered w
   pub received : (k : ArrivalKey) → IsTrue (is_received w k) → length (places c w k) ≡ 1
   pub others : (k : ArrivalKey) → IsFalse (is_received w k) → places c w k ≡ []
@@ -99,8 +99,8 @@ is_where shard due is_released place = is_past_release shard place || due && is_
 is_where shard due (is_counted reason) place = is_under reason place || due && is_buffered shard place
 
 -- each span that a shard took is in one place, which fits its fate
-abbrev pub PlaceFitsFate : Config → World → Type 0
-PlaceFitsFate c w = (t : Taken w)
+abbrev pub PlaceFitsFate : CoreConfig → World → Type 0
+PlaceFitsFate c w = (t : TakenSpan w)
     → (place : Place) × (places c w t.arrival.key ≡ place ∷ []) × IsTrue (is_where t.shard (has_due (settings c w) t.of) (fate_of c w t) place)
 
 -- ---- counted with its cause
@@ -113,10 +113,10 @@ is_span_with k (End sender) = false
 
 -- some shard took the span of this key
 abbrev pub was_taken : World → ArrivalKey → Bool
-was_taken w k = list_any (λ (sh : Shard). list_any (λ (e : Entry). is_span_with k e.item) sh.journal) w.shards
+was_taken w k = list_any (λ (sh : CoreShard). list_any (λ (e : Entry). is_span_with k e.item) sh.journal) w.shards
 
 -- the cause of a count; that a queue was full, or that memory was refused, is an input of its step
-abbrev pub HasCause : Config → World → Arrival → Reason → Type 0
+abbrev pub HasCause : CoreConfig → World → Arrival → Reason → Type 0
 HasCause c w a InvalidId = a.rec.span.ids ≡ None
 HasCause c w a QueueFull = IsSome a.rec.span.ids × IsFalse (was_taken w a.key)
 HasCause c w a NoMemory = HasFate c w a (is_counted NoMemory) ⊎ HasFate c w a is_released
@@ -126,7 +126,7 @@ HasCause c w a LateNotSampled = HasFate c w a (is_counted LateNotSampled)
 HasCause c w a ExporterDown = IsTrue w.down × HasFate c w a is_released
 
 -- a received span that is counted under a reason has its cause
-abbrev pub CountedWithCause : Config → World → Type 0
+abbrev pub CountedWithCause : CoreConfig → World → Type 0
 CountedWithCause c w = (a : Arrival) (reason : Reason) → WasReceived w a → places c w a.key ≡ counted_under reason ∷ [] → HasCause c w a reason
 
 -- ---- received order
@@ -174,36 +174,36 @@ is_where_late shard NotSampled place = is_under LateNotSampled place
 
 -- A span that was taken while its trace was remembered was not refused, and is where that verdict puts it: in this
 -- world and, since journals only grow, in every later one.
-abbrev pub MeetsRemembered : Config → World → Type 0
-MeetsRemembered c w = (t : Taken w) (v : Verdict) → remembered (settings c w) (notes (settings c w) t.before) t.ids.trace ≡ Some v
+abbrev pub MeetsRemembered : CoreConfig → World → Type 0
+MeetsRemembered c w = (t : TakenSpan w) (v : Verdict) → remembered (settings c w) (notes (settings c w) t.before) t.ids.trace ≡ Some v
     → (t.refused ≡ false) × ((place : Place) × (places c w t.arrival.key ≡ place ∷ []) × IsTrue (is_where_late t.shard v place))
     × WasDecided (settings c w) t.before t.ids.trace v
 
 -- what was handed over was received as it stands, and is what its shard's journal releases
-abbrev pub OnlyReleased : Config → World → Type 0
+abbrev pub OnlyReleased : CoreConfig → World → Type 0
 OnlyReleased c w = (a : Arrival) → Contains (handed_spans w) a → WasReceived w a × HasFate c w a is_released
 
 -- what each shard has shipped, followed by what it has not shipped, is what its journal released
-abbrev pub ShipsOutput : Config → World → Type 0
-ShipsOutput c w = (shard : ℕ) (sh : Shard) → slice_get w.shards shard ≡ Some sh
+abbrev pub ShipsOutput : CoreConfig → World → Type 0
+ShipsOutput c w = (shard : ℕ) (sh : CoreShard) → slice_get w.shards shard ≡ Some sh
     → (shipped : List Arrival) × (shipped ++ sh.unshipped ≡ (effect_dealt (settings c w) sh.journal sh.dealt).released)
 
 -- ---- close
 
 -- a shard that took a lane's End has nothing of that lane to come
 abbrev pub EndsLast : World → Type 0
-EndsLast w = (shard lane : ℕ) (sh : Shard) (l : Lane) → slice_get w.shards shard ≡ Some sh → slice_get w.lanes lane ≡ Some l
+EndsLast w = (shard lane : ℕ) (sh : CoreShard) (l : CoreLane) → slice_get w.shards shard ≡ Some sh → slice_get w.lanes lane ≡ Some l
     → IsTrue (has_ended sh.journal lane) → IsTrue (lane_is_done w shard sh lane l)
 
 -- from a closed world only `fail` is enabled, which changes neither what was handed over nor the counts
-abbrev pub NothingAfterClose : Config → World → Type 0
+abbrev pub NothingAfterClose : CoreConfig → World → Type 0
 NothingAfterClose c w = IsClosed c w → (s : Step) (next : World) → step c w s ≡ Some next
     → (s ≡ fail) × (next.handed ≡ w.handed) × (next.counted ≡ w.counted)
 
 -- ---- all of it
 
 -- all parts of the headline
-pub record HoldsOf (c : Config) (w : World) : Type 0 where
+pub record HoldsOf (c : CoreConfig) (w : World) : Type 0 where
   pub one_place : InOnePlace c w
   pub fits : PlaceFitsFate c w
   pub cause : CountedWithCause c w
@@ -215,8 +215,8 @@ pub record HoldsOf (c : Config) (w : World) : Type 0 where
   pub after_close : NothingAfterClose c w
 
 -- in every run, for every configuration that keeps a trace and every number of lanes and shards
-abbrev pub OfEachRun : (Config → World → Type 0) → Type 0
-OfEachRun P = (c : Config) (lanes shards : ℕ) (steps : List Step) (w : World) → KeepsATrace c → run c lanes shards steps ≡ Some w → P c w
+abbrev pub OfEachRun : (CoreConfig → World → Type 0) → Type 0
+OfEachRun P = (c : CoreConfig) (lanes shards : ℕ) (steps : List Step) (w : World) → KeepsATrace c → run c lanes shards steps ≡ Some w → P c w
 
 -- the headline: in every run all of it holds
 abbrev pub Headline : Type 0

@@ -6,7 +6,7 @@ use Rattle.journal_theory.specs.Fate.{DroppedSpan}
 use Rattle.otlp_types.specs.declared.arrival.Arrival.{Arrival}
 use Rattle.span_ids.specs.declared.keys.ArrivalKey.{ArrivalKey}
 use Rattle.span_ids.specs.declared.outcome.Reason.{Reason}
-use Rattle.world_theory.specs.World.{Config, Lane, Shard, World, settings, same_key}
+use Rattle.world_theory.specs.World.{CoreConfig, CoreLane, CoreShard, World, settings, same_key}
 
 -- a place of a span
 pub data Place : Type 0 where
@@ -52,34 +52,34 @@ abbrev pub buffered_spans : Settings → Journal → (dealt : ℕ) → List Arri
 buffered_spans s past dealt = flat_map (spans_since past) (undecided s (notes_dealt s past dealt))
 
 -- what the lanes hold, where the first has this number
-abbrev pub held_by_lanes : (number : ℕ) → List Lane → List HeldKey
+abbrev pub held_by_lanes : (number : ℕ) → List CoreLane → List HeldKey
 held_by_lanes n [] = []
 held_by_lanes n (l ∷ rest) = held_at (unrouted n) l.unrouted ++ held_by_lanes (n + 1) rest
 
 -- what the shard of this number holds
-abbrev pub held_by_shard : Settings → (number : ℕ) → Shard → List HeldKey
+abbrev pub held_by_shard : Settings → (number : ℕ) → CoreShard → List HeldKey
 held_by_shard s n sh = held_at (queued n) sh.queue ++ held_at (buffered n) (buffered_spans s sh.journal sh.dealt) ++ held_at (unshipped n) sh.unshipped
 
 -- what the shards hold, where the first has this number
-abbrev pub held_by_shards : Settings → (number : ℕ) → List Shard → List HeldKey
+abbrev pub held_by_shards : Settings → (number : ℕ) → List CoreShard → List HeldKey
 held_by_shards s n [] = []
 held_by_shards s n (sh ∷ rest) = held_by_shard s n sh ++ held_by_shards s (n + 1) rest
 
 -- all keys that the world holds, each occurrence with its place
-abbrev pub held : Config → World → List HeldKey
+abbrev pub held : CoreConfig → World → List HeldKey
 held c w = held_by_lanes 0 w.lanes ++ held_by_shards (settings c w) 0 w.shards ++ held_at exported w.exported ++ held_at in_batch w.batch
     ++ flat_map (held_at handed) w.handed ++ map (λ (n : DroppedSpan). record { place = counted_under n.reason; key = n.key }) w.counted
 
 -- the places of a key: one for each of its occurrences
-abbrev pub places : Config → World → ArrivalKey → List Place
+abbrev pub places : CoreConfig → World → ArrivalKey → List Place
 places c w k = map (λ (h : HeldKey). h.place) (filter (λ (h : HeldKey). same_key h.key k) (held c w))
 
 -- what waits
-abbrev pub waiting : Config → World → List HeldKey
+abbrev pub waiting : CoreConfig → World → List HeldKey
 waiting c w = filter (λ (h : HeldKey). is_waiting h.place) (held c w)
 
 -- closed: every lane has ended, every shard has taken every sender's End, and nothing waits
-pub record IsClosed (c : Config) (w : World) : Type 0 where
-  pub lanes_ended : IsTrue (list_all (λ (l : Lane). l.ended) w.lanes)
-  pub ends_taken : IsTrue (list_all (λ (sh : Shard). have_ended sh.journal (settings c w).senders) w.shards)
+pub record IsClosed (c : CoreConfig) (w : World) : Type 0 where
+  pub lanes_ended : IsTrue (list_all (λ (l : CoreLane). l.ended) w.lanes)
+  pub ends_taken : IsTrue (list_all (λ (sh : CoreShard). have_ended sh.journal (settings c w).senders) w.shards)
   pub nothing_waits : waiting c w ≡ []

@@ -12,32 +12,25 @@ use Rattle.span_ids.specs.declared.keys.ArrivalKey.{ArrivalKey}
 
 -- ---- the world
 
--- The settings of each shard, and the size of a batch: the waits are in milliseconds, a `root_wait` of 0 is off, the
--- greatest size of a trace is in bytes, where 0 is none, a `limit` of None is no limit on the traces of a shard, a
--- cache of size 0 is off.
-pub record Config : Type 0 where
-  pub policies : Policies
-  pub wait : ℕ
-  pub root_wait : ℕ
-  pub maximum_size : ℕ
-  pub limit : Option ℕ
-  pub sampled_size : ℕ
-  pub non_sampled_size : ℕ
+-- the settings of each shard, whose senders are those of the world, and the greatest number of spans in a batch; a cache
+-- of size 0 is off
+pub record CoreConfig : Type 0 where
+  pub shard : Settings
   pub batch_size : ℕ
 
 -- a limit is at least 1: with a limit of 0 a span that opens an episode would stand nowhere
-abbrev pub KeepsATrace : Config → Type 0
-KeepsATrace c = c.limit ≢ Some 0
+abbrev pub KeepsATrace : CoreConfig → Type 0
+KeepsATrace c = c.shard.num_traces ≢ Some 0
 
 -- a lane: what it has received, what of that has valid ids and is still to be routed, and whether it receives no more
-pub record Lane : Type 0 where
+pub record CoreLane : Type 0 where
   pub received : List Arrival
   pub unrouted : List Arrival
   pub ended : Bool
 
 -- a shard: its queue, its journal, how many of the decisions at the journal's last item were dealt with, and what it
 -- released and has not shipped
-pub record Shard : Type 0 where
+pub record CoreShard : Type 0 where
   pub queue : List Arrival
   pub journal : Journal
   pub dealt : ℕ
@@ -46,8 +39,8 @@ pub record Shard : Type 0 where
 -- The lanes, the shards and the exporter. What is counted is one list of keys, each with its reason: it keeps the order
 -- between reasons too, as the steps give it.
 pub record World : Type 0 where
-  pub lanes : List Lane
-  pub shards : List Shard
+  pub lanes : List CoreLane
+  pub shards : List CoreShard
   pub exported : List Arrival
   pub batch : List Arrival
   pub handed : List (List Arrival)
@@ -55,11 +48,11 @@ pub record World : Type 0 where
   pub down : Bool
 
 -- a lane that has received nothing
-abbrev pub new_lane : Lane
+abbrev pub new_lane : CoreLane
 new_lane = record { received = []; unrouted = []; ended = false }
 
 -- a shard that has taken nothing
-abbrev pub new_shard : Shard
+abbrev pub new_shard : CoreShard
 new_shard = record { queue = []; journal = []; dealt = 0; unshipped = [] }
 
 -- the world before any step, with so many lanes and shards
@@ -71,15 +64,15 @@ abbrev pub ticker : World → ℕ
 ticker w = length w.lanes
 
 -- the settings of each shard, with so many senders
-abbrev pub settings_for : Config → (senders : ℕ) → Settings
-settings_for c senders = record { policies = c.policies; wait = c.wait; root_wait = c.root_wait; maximum_size = c.maximum_size; limit = c.limit; sampled_size = c.sampled_size; non_sampled_size = c.non_sampled_size; senders = senders }
+abbrev pub settings_for : CoreConfig → (senders : ℕ) → Settings
+settings_for c senders = record (c.shard) { senders = senders }
 
 -- the settings of each shard of the world
-abbrev pub settings : Config → World → Settings
+abbrev pub settings : CoreConfig → World → Settings
 settings c w = settings_for c (length w.lanes + 1)
 
 -- something is due: an episode was due at the shard's last item and was not dealt with
-abbrev pub has_due : Settings → Shard → Bool
+abbrev pub has_due : Settings → CoreShard → Bool
 has_due s sh = nat_lt sh.dealt (length (due_now s sh.journal))
 
 -- ---- keys and routes

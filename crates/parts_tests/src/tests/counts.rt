@@ -1,9 +1,9 @@
 //! Each count through the trait, one that would pass the greatest number, and the sums of what several counted.
-use drop_ledger::{BookFull, Count, Counter, Report, Tally, numbers_are_sums, total};
+use drop_ledger::{Count, Counter, CounterOverflow, Report, Tally, numbers_are_sums, total};
 use span_ids::Reason;
 
 /// Adds by the trait.
-fn add_to<C: Counter>(counter: &mut C, count: Count, n: u64) -> Result<(), BookFull> {
+fn add_to<C: Counter>(counter: &mut C, count: Count, n: u64) -> Result<(), CounterOverflow> {
     counter.add(count, n)
 }
 
@@ -18,7 +18,7 @@ fn added() -> (bool, [u64; 9]) {
         fits &= add_to(&mut report, *count, n) == Ok(());
     }
     fits &= report.add(Count::Handed, u64::MAX - 2) == Ok(());
-    fits &= add_to(&mut report, Count::Handed, 1) == Err(BookFull);
+    fits &= add_to(&mut report, Count::Handed, 1) == Err(CounterOverflow);
     (fits, report.numbers())
 }
 

@@ -63,7 +63,7 @@ fn exporter_of(
 /// Pulls a span, and flushes a batch that it fills.
 fn pulled(exporter: &mut Exporter<FailingSink>, rec: Record) -> Flushed {
     if exporter.is_full() {
-        return Flushed::Spoiled(0, Reason::Evicted);
+        return Flushed::BatchDropped(0, Reason::Evicted);
     }
     let conn = ConnKey {
         lane: 0,
@@ -126,7 +126,7 @@ fn exported(
     let exporter = exporter_of(alloc, size, piece, room)?;
     let seen = sent(exporter, records, line, held);
     for flushed in &seen.0 {
-        if matches!(flushed, Flushed::Spoiled(_, Reason::NoMemory)) {
+        if matches!(flushed, Flushed::BatchDropped(_, Reason::NoMemory)) {
             return Err(Fail::from(AllocError));
         }
     }
@@ -144,7 +144,7 @@ fn sink_fails_within_a_line(rt: HostRuntime) -> Result<(), Fail> {
         b"a line\n",
         held.as_bytes(),
     )?;
-    let down = Flushed::Spoiled(1, Reason::ExporterDown);
+    let down = Flushed::BatchDropped(1, Reason::ExporterDown);
     let flushes = [Flushed::Handed(1), down, down, Flushed::Empty];
     assert_eq!(rt; seen, (flushes, Err(SinkFault::Down), true, 1, true));
     Ok(())
@@ -153,7 +153,7 @@ fn sink_fails_within_a_line(rt: HostRuntime) -> Result<(), Fail> {
 /// What a flush of `n` spans answers, where a write has failed and where none has.
 fn answer(n: u64, failed: bool) -> Flushed {
     if failed {
-        Flushed::Spoiled(n, Reason::ExporterDown)
+        Flushed::BatchDropped(n, Reason::ExporterDown)
     } else {
         Flushed::Handed(n)
     }

@@ -1,7 +1,7 @@
 //! A queue of two and one of the greatest capacity in one thread, and the open gate.
 ghost use Rattle.std.specs.Prelude.{◌<◌};
 
-use lane_queue::{Gate, ListPort, OpenGate, Place, Port, popped_then_held_is_pushed};
+use lane_queue::{Gate, GatePlace, ListPort, OpenGate, Port, popped_then_held_is_pushed};
 use std::alloc::{AllocError, Global};
 use std::cell::Cell;
 use std::test::Fail;
@@ -71,22 +71,22 @@ fn greatest_queue_fills(rt: HostRuntime) -> Result<(), Fail> {
 /// A gate that keeps the last place.
 #[derive(Drop)]
 struct LastPlace {
-    place: Cell<Option<Place>>,
+    place: Cell<Option<GatePlace>>,
 }
 
 impl Gate for LastPlace {
-    fn reach(&self, place: Place) {
+    fn reach(&self, place: GatePlace) {
         self.place.set(Some(place));
     }
 }
 
 /// Reaches a place by the trait.
-fn pass<G: Gate>(gate: &G, place: Place) {
+fn pass<G: Gate>(gate: &G, place: GatePlace) {
     gate.reach(place);
 }
 
 /// The place that a gate keeps once this one is reached.
-fn kept(gate: &LastPlace, place: Place) -> Option<Place> {
+fn kept(gate: &LastPlace, place: GatePlace) -> Option<GatePlace> {
     pass(&OpenGate, place);
     pass(gate, place);
     gate.place.get()
@@ -98,9 +98,9 @@ fn gates_are_reached(rt: HostRuntime) {
         place: Cell::new(None),
     };
     let (lane, ordinal) = (0, 1);
-    let connected = Place::Connected { lane, ordinal };
-    let served = Place::Served { lane, ordinal };
-    let taken = Place::Taken { shard: 2 };
+    let connected = GatePlace::Connected { lane, ordinal };
+    let served = GatePlace::Served { lane, ordinal };
+    let taken = GatePlace::Taken { shard: 2 };
     let places = [
         kept(&gate, connected),
         kept(&gate, served),

@@ -14,15 +14,15 @@ use trace_hash::TraceHashing;
 /// The numbers that a shard is made with: times in milliseconds, sizes in traces.
 #[derive(Clone, Copy)]
 pub struct Numbers {
-    pub wait: u64,
+    pub decision_wait: u64,
     pub root_wait: u64,
-    pub maximum_size: u64,
-    pub limit: usize,
+    pub maximum_trace_size: u64,
+    pub num_traces: usize,
     pub sampled: usize,
     pub non_sampled: usize,
     pub senders: usize,
-    ghost waits: { 0 < wait },
-    ghost keeps_a_trace: { 0 < limit },
+    ghost waits: { 0 < decision_wait },
+    ghost keeps_a_trace: { 0 < num_traces },
     ghost has_senders: { 0 < senders },
 }
 
@@ -44,12 +44,12 @@ impl LimitedShard {
         let limiter = Budgets::new(alloc, &policies)?;
         let setup = ShardSetup {
             hashing: TraceHashing::Fixed,
-            wait: numbers.wait,
+            decision_wait: numbers.decision_wait,
             root_wait: numbers.root_wait,
-            maximum_size: numbers.maximum_size,
-            limit: numbers.limit,
-            sampled: numbers.sampled,
-            non_sampled: numbers.non_sampled,
+            maximum_trace_size: numbers.maximum_trace_size,
+            num_traces: numbers.num_traces,
+            sampled_cache_size: numbers.sampled,
+            non_sampled_cache_size: numbers.non_sampled,
             senders: numbers.senders,
         };
         let shard = Shard::new(alloc, policies, setup)?;

@@ -50,8 +50,8 @@ pub struct Entry {
 pub struct Past<'a> {
     pub entries: &'a [Entry],
     pub root_wait: u64,
-    pub maximum_size: u64,
-    pub limit: usize,
+    pub maximum_trace_size: u64,
+    pub num_traces: usize,
     pub sampled: usize,
     pub non_sampled: usize,
 }
@@ -108,7 +108,7 @@ impl Past<'_> {
 
     /// Whether the episode that opened there is in the buffer.
     fn is_in_buffer(&self, opening: usize, end: usize) -> bool {
-        self.openings(opening.saturating_add(1), end) < self.limit
+        self.openings(opening.saturating_add(1), end) < self.num_traces
     }
 
     /// Whether a span of the trace has an error, from the opening on.
@@ -156,7 +156,7 @@ impl Past<'_> {
         let mut size: u64 = 0;
         for at in opening..end {
             size = size.saturating_add(self.size_at(trace, at));
-            let is_too_big = self.maximum_size > 0 && size > self.maximum_size;
+            let is_too_big = self.maximum_trace_size > 0 && size > self.maximum_trace_size;
             let decides = match self.entries.get(at)?.kind {
                 Kind::Span(_, _, _) => is_too_big,
                 Kind::Tick => self.is_due(trace, opening, at),
@@ -177,7 +177,7 @@ impl Past<'_> {
     fn leaving(&self, end: usize) -> Option<usize> {
         for at in 0..end {
             let after = self.openings(at.saturating_add(1), end).saturating_add(1);
-            if opened(self.entries.get(at)?).is_some() && after == self.limit {
+            if opened(self.entries.get(at)?).is_some() && after == self.num_traces {
                 return Some(at);
             }
         }

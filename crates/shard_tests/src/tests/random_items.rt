@@ -94,11 +94,11 @@ fn decide(rt: &impl Abort, shard: &mut LimitedShard, past: &Past<'_>) {
 struct Setting {
     seed: u64,
     root_wait: u64,
-    maximum_size: u64,
-    limit: usize,
+    maximum_trace_size: u64,
+    num_traces: usize,
     sampled: usize,
     non_sampled: usize,
-    ghost keeps_a_trace: { 0 < limit },
+    ghost keeps_a_trace: { 0 < num_traces },
 }
 
 impl Setting {
@@ -107,8 +107,8 @@ impl Setting {
         Past {
             entries,
             root_wait: self.root_wait,
-            maximum_size: self.maximum_size,
-            limit: self.limit,
+            maximum_trace_size: self.maximum_trace_size,
+            num_traces: self.num_traces,
             sampled: self.sampled,
             non_sampled: self.non_sampled,
         }
@@ -118,10 +118,10 @@ impl Setting {
     fn shard(&self, alloc: Global) -> Result<LimitedShard, AllocError> {
         let policies = policy_on(alloc, Some(2))?;
         let numbers = Numbers {
-            wait: WAIT,
+            decision_wait: WAIT,
             root_wait: self.root_wait,
-            maximum_size: self.maximum_size,
-            limit: self.limit,
+            maximum_trace_size: self.maximum_trace_size,
+            num_traces: self.num_traces,
             sampled: self.sampled,
             non_sampled: self.non_sampled,
             senders: 1,
@@ -165,14 +165,19 @@ fn run(rt: &impl Abort, alloc: Global, setting: Setting) -> Result<(), Fail> {
 }
 
 /// Runs with buffers of one to three traces and caches of none to two decisions.
-fn runs(rt: &impl Abort, alloc: Global, maximum_size: u64, root_wait: u64) -> Result<(), Fail> {
-    for limit in 1..4 {
+fn runs(
+    rt: &impl Abort,
+    alloc: Global,
+    maximum_trace_size: u64,
+    root_wait: u64,
+) -> Result<(), Fail> {
+    for num_traces in 1..4 {
         for sizes in 0..9 {
             let setting = Setting {
-                seed: (limit * 9 + sizes) as u64,
+                seed: (num_traces * 9 + sizes) as u64,
                 root_wait,
-                maximum_size,
-                limit,
+                maximum_trace_size,
+                num_traces,
                 sampled: sizes / 3,
                 non_sampled: sizes % 3,
             };

@@ -124,7 +124,7 @@ impl Choice {
             26 | 27 => Step::Pull,
             28 => Step::Hand,
             _ if self.more % 16 == 0 && self.closing => Step::Fail,
-            _ => Step::Spoil {
+            _ => Step::DropBatch {
                 reason: match self.more % 8 {
                     0 => Reason::NoMemory,
                     1 | 2 => Reason::ExporterDown,

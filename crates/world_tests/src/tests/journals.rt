@@ -1,4 +1,5 @@
 //! Worked journals, played through what a journal says.
+use crate::tests::settings::plain_settings;
 use otlp_types::List;
 use plain_shards::{Event, event_item, policy_on};
 use plain_spans::numbered_ids;
@@ -16,23 +17,19 @@ use std::test::Fail;
 #[derive(Clone, Copy)]
 struct Given {
     code: Option<i32>,
-    maximum_size: u64,
-    sampled_size: usize,
-    non_sampled_size: usize,
+    maximum_trace_size: u64,
+    sampled_cache_size: usize,
+    non_sampled_cache_size: usize,
 }
 
 /// Two senders, a wait of ten seconds, room for one trace, and what is given.
 fn settings_with(alloc: Global, given: Given) -> Result<Settings, AllocError> {
-    Ok(Settings {
-        policies: policy_on(alloc, given.code)?,
-        wait: 10_000,
-        root_wait: 0,
-        maximum_size: given.maximum_size,
-        limit: Some(1),
-        sampled_size: given.sampled_size,
-        non_sampled_size: given.non_sampled_size,
-        senders: 2,
-    })
+    let mut settings = plain_settings(policy_on(alloc, given.code)?);
+    settings.decision_wait = 10_000;
+    settings.maximum_trace_size = given.maximum_trace_size;
+    settings.sampled_cache_size = given.sampled_cache_size;
+    settings.non_sampled_cache_size = given.non_sampled_cache_size;
+    Ok(settings)
 }
 
 /// What is still to be released and to be counted, by numbers, and reasons and numbers; and whether at each item just
@@ -155,7 +152,7 @@ fn plays(
     counted: &[(u8, u64)],
 ) -> Result<(), Fail> {
     let found = played(alloc, given, events, released, counted)?;
-    assert_eq!(rt; found, [true; 3], "{}", given.maximum_size);
+    assert_eq!(rt; found, [true; 3], "{}", given.maximum_trace_size);
     Ok(())
 }
 
@@ -170,9 +167,9 @@ fn full_buffer_evicts_undecided(rt: HostRuntime) -> Result<(), Fail> {
     ];
     let given = Given {
         code: None,
-        maximum_size: 0,
-        sampled_size: 0,
-        non_sampled_size: 0,
+        maximum_trace_size: 0,
+        sampled_cache_size: 0,
+        non_sampled_cache_size: 0,
     };
     plays(&rt, rt.alloc(), given, &events, &[2], &[(4, 0), (4, 1)])
 }
@@ -193,9 +190,9 @@ fn cache_of_one_forgets(rt: HostRuntime) -> Result<(), Fail> {
     ];
     let given = Given {
         code: Some(2),
-        maximum_size: 0,
-        sampled_size: 1,
-        non_sampled_size: 0,
+        maximum_trace_size: 0,
+        sampled_cache_size: 1,
+        non_sampled_cache_size: 0,
     };
     plays(&rt, rt.alloc(), given, &events, &[0, 1, 2], &[(5, 3)])
 }
@@ -217,9 +214,9 @@ const RENEWING: [Event; 11] = [
 /// A policy on errors, and two traces of each kind remembered.
 const ON_ERRORS: Given = Given {
     code: Some(2),
-    maximum_size: 0,
-    sampled_size: 2,
-    non_sampled_size: 2,
+    maximum_trace_size: 0,
+    sampled_cache_size: 2,
+    non_sampled_cache_size: 2,
 };
 
 #[test]
@@ -254,9 +251,9 @@ fn too_big_is_decided_at_once(rt: HostRuntime) -> Result<(), Fail> {
         (94, &[], &[(5, 0), (5, 1), (6, 2)]),
         (93, &[], &[(5, 0), (6, 1), (6, 2)]),
     ];
-    for (maximum_size, released, counted) in rows {
+    for (maximum_trace_size, released, counted) in rows {
         let given = Given {
-            maximum_size,
+            maximum_trace_size,
             ..ON_ERRORS
         };
         plays(&rt, rt.alloc(), given, &events, released, counted)?;

@@ -1,8 +1,9 @@
 //! Random runs beside a plain simulation of the table of steps.
 use crate::tests::choices::{Choice, choose};
+use crate::tests::settings::plain_settings;
 use crate::tests::simulated::Simulated;
 use plain_shards::policy_on;
-use span_world::{Config, Refusal, World};
+use span_world::{CoreConfig, StepRefusal, World};
 use std::alloc::{AllocError, Global};
 use std::test::Fail;
 
@@ -17,27 +18,27 @@ fn step_both(
     let step = choice.step(alloc)?;
     let is_enabled = simulated.step(&step);
     let mut answer = world.step(step);
-    if answer == Err(Refusal::NoMemory) {
+    if answer == Err(StepRefusal::NoMemory) {
         answer = world.step(choice.step(alloc)?);
     }
     let is_same = match answer {
         Ok(()) => is_enabled,
-        Err(Refusal::NotEnabled) => !is_enabled,
-        Err(Refusal::NoMemory) => false,
+        Err(StepRefusal::NotEnabled) => !is_enabled,
+        Err(StepRefusal::NoMemory) => false,
     };
     Ok(is_same && simulated.is_like(world))
 }
 
 /// The world of two lanes and two shards, beside which the simulation runs.
-fn new_world(alloc: Global, root_wait: u64, maximum_size: u64) -> Result<World, AllocError> {
-    let config = Config {
-        policies: policy_on(alloc, Some(2))?,
-        wait: 10,
-        root_wait,
-        maximum_size,
-        limit: Some(2),
-        sampled_size: 1,
-        non_sampled_size: 2,
+fn new_world(alloc: Global, root_wait: u64, maximum_trace_size: u64) -> Result<World, AllocError> {
+    let mut shard = plain_settings(policy_on(alloc, Some(2))?);
+    shard.root_wait = root_wait;
+    shard.maximum_trace_size = maximum_trace_size;
+    shard.num_traces = Some(2);
+    shard.sampled_cache_size = 1;
+    shard.non_sampled_cache_size = 2;
+    let config = CoreConfig {
+        shard,
         batch_size: 2,
     };
     World::new(alloc, 2, 2, config)
@@ -81,9 +82,9 @@ fn run_beside(
     seed: u64,
     reached: &mut [bool; 11],
 ) -> Result<Option<u64>, AllocError> {
-    let (root_wait, maximum_size) = (seed % 3 * 3, seed % 2 * 200);
-    let mut simulated = Simulated::new(alloc, root_wait, maximum_size)?;
-    let mut world = new_world(alloc, root_wait, maximum_size)?;
+    let (root_wait, maximum_trace_size) = (seed % 3 * 3, seed % 2 * 200);
+    let mut simulated = Simulated::new(alloc, root_wait, maximum_trace_size)?;
+    let mut world = new_world(alloc, root_wait, maximum_trace_size)?;
     let differs_at = first_difference(alloc, seed, &mut world, &mut simulated);
     note(reached, &world, &simulated);
     differs_at

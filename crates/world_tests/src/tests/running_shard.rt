@@ -41,8 +41,8 @@ pub enum Found {
 const WAIT: u64 = 10;
 
 /// How many bytes a span has of which nothing is told but its ids and whether it has an error:
-/// `{"spanId":"16 digits","traceId":"32 digits"}`, where it has a parent `,"parentSpanId":"16 digits"` beside them, and with
-/// an error `,"status":{"code":2}`.
+/// `{"spanId":"16 digits","traceId":"32 digits"}`, where it has a parent `,"parentSpanId":"16 digits"` beside them, and
+/// with an error `,"status":{"code":2}`.
 fn size_of(span: &Kept) -> u64 {
     let ids = if span.root { 74 } else { 108 };
     let status = if span.error { 20 } else { 0 };
@@ -51,8 +51,8 @@ fn size_of(span: &Kept) -> u64 {
 
 impl Episode {
     /// Whether its spans have more bytes than the maximum, where there is one.
-    fn is_too_big(&self, maximum_size: u64) -> bool {
-        maximum_size > 0 && self.size > maximum_size
+    fn is_too_big(&self, maximum_trace_size: u64) -> bool {
+        maximum_trace_size > 0 && self.size > maximum_trace_size
     }
 
     /// A span of this trace was taken at this moment.
@@ -188,10 +188,10 @@ impl Shard {
     }
 
     /// Undecided episodes that are too big become due. Whether there are some.
-    pub fn fall_due_by_size(&mut self, maximum_size: u64) -> bool {
+    pub fn fall_due_by_size(&mut self, maximum_trace_size: u64) -> bool {
         for episode in self.ring.iter_mut() {
             if let Some(it) = episode {
-                it.is_due = it.verdict.is_none() && it.is_too_big(maximum_size);
+                it.is_due = it.verdict.is_none() && it.is_too_big(maximum_trace_size);
             }
         }
         self.is_due()
@@ -206,11 +206,11 @@ impl Shard {
 
     /// Decides the first episode that is due: its trace, and whether that is sampled. A trace with an error is, where
     /// it isn't too big.
-    pub fn decide(&mut self, maximum_size: u64) -> Option<(u8, bool)> {
+    pub fn decide(&mut self, maximum_trace_size: u64) -> Option<(u8, bool)> {
         for episode in self.ring.iter_mut() {
             match episode {
                 Some(it) if it.is_due => {
-                    let verdict = it.error && !it.is_too_big(maximum_size);
+                    let verdict = it.error && !it.is_too_big(maximum_trace_size);
                     it.is_due = false;
                     it.verdict = Some(verdict);
                     return Some((it.trace, verdict));

@@ -45,7 +45,7 @@ struct Lane {
 pub struct Simulated {
     spans: Vec<Kept>,
     root_wait: u64,
-    maximum_size: u64,
+    maximum_trace_size: u64,
     lanes: [Lane; 2],
     shards: [Shard; 2],
     handed: usize,
@@ -55,7 +55,11 @@ pub struct Simulated {
 }
 
 impl Simulated {
-    pub fn new(alloc: Global, root_wait: u64, maximum_size: u64) -> Result<Simulated, AllocError> {
+    pub fn new(
+        alloc: Global,
+        root_wait: u64,
+        maximum_trace_size: u64,
+    ) -> Result<Simulated, AllocError> {
         let nowhere = Kept {
             key: ArrivalKey {
                 conn: ConnKey {
@@ -77,7 +81,7 @@ impl Simulated {
         Ok(Simulated {
             spans: vec![in alloc; nowhere; SPANS]?,
             root_wait,
-            maximum_size,
+            maximum_trace_size,
             lanes: [lane; 2],
             shards: [Shard::new(); 2],
             handed: 0,
@@ -135,7 +139,7 @@ impl Simulated {
             Step::Ship { shard } => (Place::Unshipped(*shard), Place::Exported, true),
             Step::Pull => (Place::Exported, Place::Batched, batched < 2),
             Step::Hand => return self.hand(),
-            Step::Spoil { reason } => return self.spoil(*reason),
+            Step::DropBatch { reason } => return self.drop_batch(*reason),
             _ => return false,
         };
         applies && move_first(&mut self.spans, from, to)
@@ -190,7 +194,7 @@ impl Simulated {
             }
         }
         move_first(&mut self.spans, queued, place);
-        self.was_too_big = shard.fall_due_by_size(self.maximum_size) || self.was_too_big;
+        self.was_too_big = shard.fall_due_by_size(self.maximum_trace_size) || self.was_too_big;
         true
     }
 
@@ -224,7 +228,7 @@ impl Simulated {
 
     fn decide(&mut self, number: usize) -> bool {
         let decided = match self.shards.get_mut(number) {
-            Some(shard) => shard.decide(self.maximum_size),
+            Some(shard) => shard.decide(self.maximum_trace_size),
             None => None,
         };
         let (trace, place) = match decided {
@@ -245,7 +249,7 @@ impl Simulated {
         true
     }
 
-    fn spoil(&mut self, reason: Reason) -> bool {
+    fn drop_batch(&mut self, reason: Reason) -> bool {
         let applies = match reason {
             Reason::NoMemory => true,
             Reason::ExporterDown => self.down,

@@ -1,10 +1,11 @@
 //! Worked runs.
+use crate::tests::settings::plain_settings;
 use otlp_types::{AnyValue, Boxed, KeyValue, List, Record, Span, Text};
 use plain_shards::one_policy;
 use plain_spans::{numbered_ids, plain_record};
 use policy_tree::{Join, Leaf, Limit, Policies, Policy, PolicyKind, Wanted};
 use span_ids::Reason;
-use span_world::{Config, Refusal, Step, World};
+use span_world::{CoreConfig, Step, StepRefusal, World};
 use std::alloc::{AllocError, Global};
 use std::process::Abort;
 use std::test::Fail;
@@ -25,7 +26,7 @@ enum Act<'a> {
     Hand,
     Close,
     End(u16),
-    Spoil(Reason),
+    DropBatch(Reason),
     Fail,
 }
 
@@ -65,8 +66,8 @@ const ALL_KINDS: [Act<'static>; 17] = [
     Act::Ship,
     Act::Pull,
     Act::Hand,
-    Act::Spoil(Reason::NoMemory),
-    Act::Spoil(Reason::ExporterDown),
+    Act::DropBatch(Reason::NoMemory),
+    Act::DropBatch(Reason::ExporterDown),
     Act::Fail,
     Act::Fail,
 ];
@@ -140,7 +141,7 @@ fn plain_step(act: Act<'_>) -> Step {
         Act::Hand => Step::Hand,
         Act::Close => Step::Close { lane: 0 },
         Act::End(sender) => Step::End { shard: 0, sender },
-        Act::Spoil(reason) => Step::Spoil { reason },
+        Act::DropBatch(reason) => Step::DropBatch { reason },
         _ => Step::Fail,
     }
 }
@@ -172,7 +173,7 @@ fn outcome_of(alloc: Global, world: &mut World, acts: &[Act<'_>]) -> Result<Outc
     let mut enabled = [false; 17];
     for (is_enabled, act) in enabled.iter_mut().zip(acts) {
         match world.step(step_of(alloc, *act)?) {
-            Err(Refusal::NoMemory) => return Err(AllocError),
+            Err(StepRefusal::NoMemory) => return Err(AllocError),
             answer => *is_enabled = answer.is_ok(),
         }
     }
@@ -189,24 +190,20 @@ fn outcome_of(alloc: Global, world: &mut World, acts: &[Act<'_>]) -> Result<Outc
 fn play(
     alloc: Global,
     policies: Policies,
-    maximum_size: u64,
+    maximum_trace_size: u64,
     first: &[Act<'_>],
     then: &[Act<'_>],
 ) -> Result<Outcome, AllocError> {
-    let config = Config {
-        policies,
-        wait: 10,
-        root_wait: 0,
-        maximum_size,
-        limit: Some(1),
-        sampled_size: 0,
-        non_sampled_size: 0,
+    let mut shard = plain_settings(policies);
+    shard.maximum_trace_size = maximum_trace_size;
+    let config = CoreConfig {
+        shard,
         batch_size: 1,
     };
     match World::replay(alloc, 1, 1, config, steps_of(alloc, first)?) {
         Ok(mut world) => outcome_of(alloc, &mut world, then),
-        Err((_, Refusal::NoMemory)) => Err(AllocError),
-        Err((place, Refusal::NotEnabled)) => Ok(Outcome {
+        Err((_, StepRefusal::NoMemory)) => Err(AllocError),
+        Err((place, StepRefusal::NotEnabled)) => Ok(Outcome {
             refused_at: Some(place),
             handed_one: false,
             enabled: [false; 17],
@@ -253,14 +250,14 @@ fn second_tick_while_due(rt: HostRuntime) -> Result<(), Fail> {
 fn decided_by(
     alloc: Global,
     policies: Policies,
-    maximum_size: u64,
+    maximum_trace_size: u64,
     first: &[Act<'_>],
     answers: &[bool],
 ) -> Result<Result<usize, usize>, AllocError> {
     let found = play(
         alloc,
         policies,
-        maximum_size,
+        maximum_trace_size,
         first,
         &[Act::Decide(answers)],
     )?;
@@ -293,11 +290,17 @@ fn asks_twice(alloc: Global) -> Result<Policies, AllocError> {
 /// The decision of that policy after these acts.
 fn decided_by_asking(
     alloc: Global,
-    maximum_size: u64,
+    maximum_trace_size: u64,
     first: &[Act<'_>],
     answers: &[bool],
 ) -> Result<Result<usize, usize>, AllocError> {
-    decided_by(alloc, asks_twice(alloc)?, maximum_size, first, answers)
+    decided_by(
+        alloc,
+        asks_twice(alloc)?,
+        maximum_trace_size,
+        first,
+        answers,
+    )
 }
 
 /// So many spans are counted in the row of a table.
@@ -337,8 +340,8 @@ fn too_big_is_due_at_its_span(rt: HostRuntime) -> Result<(), Fail> {
         (73, &[false], refused),
     ];
     for row in 0..rows.len() {
-        let (maximum_size, answers, counted) = rows[row];
-        let found = decided_by_asking(rt.alloc(), maximum_size, &TAKEN, answers)?;
+        let (maximum_trace_size, answers, counted) = rows[row];
+        let found = decided_by_asking(rt.alloc(), maximum_trace_size, &TAKEN, answers)?;
         counts(&rt, row, found, counted);
     }
     Ok(())

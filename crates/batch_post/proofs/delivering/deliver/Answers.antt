@@ -1,5 +1,5 @@
 use Rattle.std.proofs.Common.{sym, ◌++◌, ◌∷◌, []}
-use Rattle.batch_post.specs.declared.outcome.Fate.TheVariants.{Delivered, GivenUp}
+use Rattle.batch_post.specs.declared.outcome.BatchFate.TheVariants.{Delivered, GivenUp}
 use Rattle.batch_post.proofs.Attempts.{verdict_again, verdict_taken, verdict_ends, all_again, tried_on, delivered_so}
 use Rattle.batch_post.proofs.delivering.deliver.Goals as goal
 

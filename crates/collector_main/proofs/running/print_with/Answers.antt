@@ -2,7 +2,7 @@ use Rattle.std.proofs.Common.{◌∙◌, ℕ, List, Option, Err, inr, refl, ap, 
 use Rattle.span_sink.specs.Sinks.{SinkState}
 use Rattle.pipeline.specs.Outcome.{SinkAnswers}
 use Rattle.pipeline.specs.Promise.{CoreRunTells}
-use Rattle.pipeline.specs.declared.fault.RunFault.TheVariants.{NoMemory}
+use Rattle.pipeline.specs.declared.fault.ServeFault.TheVariants.{NoMemory}
 use Rattle.collector_main.proofs.running.print_with.Goals as goal
 
 pub returns : goal.returns

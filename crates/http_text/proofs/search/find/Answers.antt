@@ -1,6 +1,6 @@
 use Rattle.std.proofs.Common.{◌∙◌, sym, ap, subst, arith, drop, length-drop}
 use Rattle.std.proofs.lemmas.List.{take_rest}
-use Rattle.http_text.specs.declared.search.Step.TheVariants.{Found, On, Pause}
+use Rattle.http_text.specs.declared.search.SearchStep.TheVariants.{Found, On, Pause}
 use Rattle.http_text.specs.Search.{IsStep, step}
 use Rattle.http_text.proofs.SearchLemmas.{step_is, searched_on, searched_found, searched_open}
 use Rattle.http_text.proofs.search.find.Goals as goal

@@ -4,7 +4,7 @@ use Rattle.slab.specs.Slab.{get}
 use Rattle.http_lane.specs.Intake.{Submits}
 use Rattle.lane_turns.specs.declared.serving.Next.{Next}
 use Rattle.lane_turns.specs.Acts.{lane_now}
-use Rattle.lane_turns.specs.Driven.{Table, Round, IsRound, RunsFrom}
+use Rattle.lane_turns.specs.Driven.{Table, DriverRound, IsRound, RunsFrom}
 use Rattle.lane_turns.proofs.Runs.{fits_first}
 use Rattle.lane_turns.proofs.Told.{more_rounds, last_round}
 use Rattle.lane_turns.proofs.Uncounted.{acts_more}
@@ -51,7 +51,7 @@ returns-then-is_full-clause-driven g c =
     let then = lane_now c.turn-done.new.lane (g.C.Counter.counted c.turn-done.new.counts) in
     let acts = c.loop.invariant.3 in
     let went = c.turn-done.ensures.fits c.args.lane.now.number first acts c.loop.invariant.4 in
-    let round : Round g.row.D.Denot g.row.P.Denot = record {
+    let round : DriverRound g.row.D.Denot g.row.P.Denot = record {
       next = c.next-next.result.0;
       moment = c.next-next.result.1;
       piece = c.next-next.new.piece;
@@ -81,7 +81,7 @@ loop-preserved g c =
     let then = lane_now c.turn-done.new.lane (g.C.Counter.counted c.turn-done.new.counts) in
     let acts = c.loop.invariant.3 in
     let went = c.turn-done.ensures.fits c.args.lane.now.number first acts c.loop.invariant.4 in
-    let round : Round g.row.D.Denot g.row.P.Denot = record {
+    let round : DriverRound g.row.D.Denot g.row.P.Denot = record {
       next = c.next-next.result.0;
       moment = c.next-next.result.1;
       piece = c.next-next.new.piece;

@@ -4,7 +4,7 @@ use Rattle.http_lane.specs.Intake.{Submits}
 use Rattle.http_lane.specs.Connection.{in_head}
 use Rattle.http_lane.specs.Requests.{Awaits}
 use Rattle.lane_turns.specs.Acts.{Act, LaneNow, lane_now, Fits, acts_uncounted}
-use Rattle.lane_turns.specs.Driven.{Round, RunsFrom, IsDriven}
+use Rattle.lane_turns.specs.Driven.{DriverRound, RunsFrom, IsDriven}
 use Rattle.lane_turns.proofs.serving.serve_turns.Given as goal
 
 -- the acts so far led here; and a run from here on is, behind the rounds so far, a whole one
@@ -14,6 +14,6 @@ invariant-loop g l =
     × IfSome l.spare (λ engine. Awaits engine (in_head l.allowed []))
     × (acts : List Act) × Fits (Submits g.P.Port.takes g.P.Port.refuses) l.allowed l.fn.lane.number (lane_now l.fn.lane (g.C.Counter.counted l.fn.counts)) (get l.table) acts (lane_now l.lane (g.C.Counter.counted l.counts))
     × (acts_uncounted acts ≡ false)
-    × ((rounds : List (Round g.row.D.Denot g.row.P.Denot)) (last : g.row.D.Denot) (after : LaneNow g.row.P.Denot) (is_full : Bool)
+    × ((rounds : List (DriverRound g.row.D.Denot g.row.P.Denot)) (last : g.row.D.Denot) (after : LaneNow g.row.P.Denot) (is_full : Bool)
     → RunsFrom g.D.Driver.asks g.D.Driver.hears (Submits g.P.Port.takes g.P.Port.refuses) l.allowed (lane_now l.fn.lane (g.C.Counter.counted l.fn.counts)) l.driver (get l.table) acts (lane_now l.lane (g.C.Counter.counted l.counts)) rounds last after is_full
     → IsDriven g.D.Driver.asks g.D.Driver.hears (Submits g.P.Port.takes g.P.Port.refuses) l.allowed l.fn.driver (lane_now l.fn.lane (g.C.Counter.counted l.fn.counts)) last after is_full)

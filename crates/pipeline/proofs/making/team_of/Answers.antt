@@ -11,7 +11,7 @@ shard_jobs-requires-clause-seats g c = (omega (arith, c.args.ends.seats.ok.0, c.
 
 pub lane_jobs-requires-clause-columns : goal.lane_jobs-requires-clause-columns
 lane_jobs-requires-clause-columns g c = (
-  omega (arith, c.take_last-senders.ensures.len, c.requires.columns.0, c.requires.feeds.0),
+  omega (arith, c.take_last-senders.ensures.len, c.requires.columns.0, c.requires.acceptors.0),
   (All-pop (λ v. 0 < length v.items) c.args.columns.items c.take_last-senders.new.self.items (Some c.take_last-senders.result) c.take_last-senders.ensures.items c.requires.columns.1).0,
 )
 

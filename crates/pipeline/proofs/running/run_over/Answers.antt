@@ -30,8 +30,8 @@ returns-in-Ok-run_team-clause-sink g c =
 
 pub run_team-requires-send-J : goal.run_team-requires-send-J
 run_team-requires-send-J g c κs within =
-    let feed : IsSend (param 0 g.row.V) = record { owned = c.type_bounds.send-V.owned; leaving = c.type_bounds.send-V.leaving } in
-    param_send _ _ (arg_send _ no _ (lane_job_send _ (param 0 g.row.V) (param 6 g.row.C) (param 3 g.row.G) (param 4 g.row.P) (param 5 g.row.M) (param 8 g.row.R) g.C.Room feed c.type_bounds.sync-G c.type_bounds.sync-P c.type_bounds.sync-M c.type_bounds.sync-R))
+    let acceptor : IsSend (param 0 g.row.V) = record { owned = c.type_bounds.send-V.owned; leaving = c.type_bounds.send-V.leaving } in
+    param_send _ _ (arg_send _ no _ (lane_job_send _ (param 0 g.row.V) (param 6 g.row.C) (param 3 g.row.G) (param 4 g.row.P) (param 5 g.row.M) (param 8 g.row.R) g.C.Room acceptor c.type_bounds.sync-G c.type_bounds.sync-P c.type_bounds.sync-M c.type_bounds.sync-R))
 
 pub run_team-requires-send-K : goal.run_team-requires-send-K
 run_team-requires-send-K g c κs within = param_send _ _ (arg_send _ no _ (ticker_job_send _ _ _ _ _ c.type_bounds.send-T c.type_bounds.sync-R))
@@ -51,7 +51,7 @@ run_team-requires-send-L-Left g c κs within = param_send _ _ (arg_send _ no _ (
 -- what all were given
 abbrev given_of : (g : Over) → After-add g → Given g.row.V.Denot g.row.T.Denot
 given_of g c = record {
-  feeds = map (λ j. j.feed) c.in-Ok.made.team.first.items;
+  acceptors = map (λ j. j.acceptor) c.in-Ok.made.team.first.items;
   ticks = c.in-Ok.made.team.second.ticks;
   columns = map (λ j. j.lane.ports) c.in-Ok.made.team.first.items;
   ticker = c.in-Ok.made.team.second.senders.items;
@@ -83,7 +83,7 @@ all_done g c =
     let shards = c.args.config.now.shards in
     let ports = (given_of g c).columns in
     let ticker = (given_of g c).ticker in record {
-      lane_count = omega (arith, length-map made.team.first.items (λ j. j.feed), made.team.first.ok.0, e.lanes.0);
+      lane_count = omega (arith, length-map made.team.first.items (λ j. j.acceptor), made.team.first.ok.0, e.lanes.0);
       shard_count = omega (arith, length-map {B = ShardIn} third (λ j. record { seat = j.seat; receiver = j.receiver; sender = j.sender }), made.team.third.ok.0, e.shards.0);
       senders = refl;
       ends = subst (λ z. HasEnds nodes shards ports ticker (map (λ x. x.receiver) ins) (map (λ x. x.sender) ins) z made.shipments) (sym (twice (λ x. x.seat) (λ j. record { seat = j.seat; receiver = j.receiver; sender = j.sender }) third))
@@ -92,7 +92,7 @@ all_done g c =
       new_batch = c.requires.new_exporter.0;
       up = c.requires.new_exporter.3;
       exporter_ends = c.requires.exporter_ends;
-      lanes_did = lanes_did g.V.LaneServer.serves c.args.config.now.keeps_doubles g.C.Room.capacity (λ j. j.number) (λ j. j.feed) (λ j. j.lane)
+      lanes_did = lanes_did g.V.LaneServer.serves c.args.config.now.keeps_doubles g.C.Room.capacity (λ j. j.number) (λ j. j.acceptor) (λ j. j.lane)
           (λ l. record { senders = l.senders.items; counted = l.counts; is_full = l.is_full }) _ (λ j l h. h) 0 made.team.first.items c.in-Ok-run_team.left.first.items e.numbers.0
           (all_both (λ j. (j.lane.number ≡ j.number) × (j.room.items ≡ []) × (length j.lane.ports ≤ vec_capacity j.room)) (λ j. (j.lane.connected ≡ 0) × (j.lane.keeps_doubles ≡ c.args.config.now.keeps_doubles)) (λ j. (j.lane.number ≡ j.number) × (j.lane.connected ≡ 0) × (j.lane.keeps_doubles ≡ c.args.config.now.keeps_doubles)) made.team.first.items (λ j h k. (h.0, k.0, k.1)) e.lanes.1 e.new_lanes) ran.first;
       ticker_did = subst (λ n. TickerDid g.T.Ticks.gives n made.team.second.ticks made.team.second.senders.items c.in-Ok-run_team.left.second.items) e.ticker.0 ran.second;
@@ -157,9 +157,9 @@ returns-in-Ok-run_team-clause-worked g c =
     (subst HaveOneHistoryEach (seats_are g b) joined.seats) in record {
       given = given_of g b;
       left = left;
-      worked = subst (λ n. Worked g.V.LaneServer.serves g.T.Ticks.gives (settings_for (core_of c.args.config.now) (c.args.config.now.lanes + 1)) (nodes_of c.args.config.now) c.args.config.now.keeps_doubles n c.args.config.now.export_capacity c.args.config.now.lanes c.args.config.now.shards (given_of g b) left) (sym c.requires.runs.queue)
-          (subst (λ n. Worked g.V.LaneServer.serves g.T.Ticks.gives (settings_for (core_of c.args.config.now) (c.args.config.now.lanes + 1)) (nodes_of c.args.config.now) c.args.config.now.keeps_doubles g.C.Room.capacity n c.args.config.now.lanes c.args.config.now.shards (given_of g b) left) (sym c.requires.runs.export) all);
-      feeds_are = c.in-Ok.ensures.feeds;
+      worked = subst (λ n. Worked g.V.LaneServer.serves g.T.Ticks.gives (settings_for (core_of c.args.config.now) (c.args.config.now.lanes + 1)) (nodes_of c.args.config.now) c.args.config.now.keeps_doubles n c.args.config.now.export_capacity c.args.config.now.lanes c.args.config.now.shards (given_of g b) left) (sym c.requires.runs.1)
+          (subst (λ n. Worked g.V.LaneServer.serves g.T.Ticks.gives (settings_for (core_of c.args.config.now) (c.args.config.now.lanes + 1)) (nodes_of c.args.config.now) c.args.config.now.keeps_doubles g.C.Room.capacity n c.args.config.now.lanes c.args.config.now.shards (given_of g b) left) (sym c.requires.runs.2) all);
+      acceptors_are = c.in-Ok.ensures.acceptors;
       ticks_are = c.in-Ok.ensures.ticker.1;
       exporter_is = refl;
       exporter_left = refl;

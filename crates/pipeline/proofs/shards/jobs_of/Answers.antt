@@ -2,7 +2,8 @@ use Rattle.std.proofs.Common.{sym, subst, arith, map, vec_len, All, Some, refl}
 use Rattle.std.proofs.lemmas.List.Elements.{All-push, All-pop}
 use Rattle.lane_queue.specs.Ends.{IsNew}
 use Rattle.pipeline.specs.Made.{NumberedFrom, HasNodes, IsReady}
-use Rattle.pipeline.specs.Promise.{HasSettings, IsNewShard}
+use Rattle.config_shards.specs.Shards.{IsNewShard}
+use Rattle.pipeline.specs.Promise.{HasSettings}
 use Rattle.pipeline.proofs.Dealt.{dealt, numbered, all_dealt, all_reverse}
 use Rattle.pipeline.proofs.shards.jobs_of.Goals as goal
 

@@ -1,7 +1,8 @@
 use Rattle.std.proofs.Common.{◌≡◌, ◌+◌, ◌++◌, ◌≤◌, All, map, reverse, vec_len, vec_capacity}
 use Rattle.lane_queue.specs.Ends.{IsNew}
 use Rattle.pipeline.specs.Made.{NumberedFrom, HasNodes, IsReady}
-use Rattle.pipeline.specs.Promise.{HasSettings, IsNewShard}
+use Rattle.config_shards.specs.Shards.{IsNewShard}
+use Rattle.pipeline.specs.Promise.{HasSettings}
 use Rattle.pipeline.proofs.shards.jobs_of.Given as goal
 
 abbrev pub invariant-loop-shard : goal.invariant-loop-shard

@@ -12,7 +12,7 @@ use Rattle.policy_tree.specs.declared.policy.PolicyKind.TheFolds.{the_lemmas}
 use Rattle.policy_eval.specs.Policies.{plain}
 use Rattle.policy_eval.specs.Given.{answer_given, next_answer}
 use Rattle.policy_eval.specs.Meaning.{answer_of, joined_seen}
-use Rattle.policy_eval.specs.declared.answer.Seen.{Seen}
+use Rattle.policy_eval.specs.declared.answer.AnswersSeen.{AnswersSeen}
 use Rattle.policy_eval.proofs.Turns.{part_at}
 use Rattle.policy_eval.proofs.Known.{KnowsIn, known-at}
 use Rattle.policy_eval.proofs.GivenTurns.{Taken, Part, part-first, part-more, part-stop, part-last}
@@ -35,7 +35,7 @@ loop-part-init t c =
     let spans = c.args.spans.now in
     let p = policy_meaning c.args.policy.now in
     let whole : p ≡ joined c.in-Joined.join parts = let is = c.in-Joined.is in let items = c.as_slice-part-items.ensures in search (rules, the_lemmas) in
-    let P = λ (seen : Seen). Part bs spans p c.in-Joined.join parts c.args.asked parts c.args.asked seen in
+    let P = λ (seen : AnswersSeen). Part bs spans p c.in-Joined.join parts c.args.asked parts c.args.asked seen in
     (subst P (sym c.none-seen.ensures) (part-first bs spans p c.in-Joined.join c.args.asked parts whole c.requires.within), subst (λ (q : Meant). are_known c.args.searches.now (expressions_of q) ≡ true) whole c.requires.known, refl)
 
 pub loop-part-preserved : goal.loop-part-preserved
@@ -53,7 +53,7 @@ loop-part-preserved t c =
     let here = part_at T items i c.part-item.result c.loop-part-test.true c.part-item.is c.loop-part.invariant.0 in
     let taken : Taken bs spans (policy_meaning c.part-item.result) c.loop-part.next behind a = record { answer = c.answer_given-given.ensures.answer; asked = c.answer_given-given.ensures.asked } in
     let rest = meaning (drop (i + 1) items) in
-    let W = λ (x : Seen). Part bs spans whole join (meaning items) c.args.asked rest behind x in
+    let W = λ (x : AnswersSeen). Part bs spans whole join (meaning items) c.args.asked rest behind x in
     let known = known-at c.loop-part.searches items i c.part-item.result c.loop-part-test.true c.part-item.is c.loop-part.invariant.1 in
     let same = c.answer_given-given.ensures.same in
     (subst W (sym c.with-seen.ensures) (part-more bs spans whole join (meaning items) c.args.asked (policy_meaning c.part-item.result) rest c.loop-part.next behind seen a here taken (sym c.ends.ensures ∙ c.if-ends.false)), subst (λ s. KnowsIn s rest) (sym same) known.1, same ∙ c.loop-part.invariant.2)
@@ -74,7 +74,7 @@ returns-then-ends t c =
     let taken : Taken bs spans (policy_meaning c.part-item.result) c.loop-part.next behind a = record { answer = c.answer_given-given.ensures.answer; asked = c.answer_given-given.ensures.asked } in
     let rest = meaning (drop (i + 1) items) in
     let stop = part-stop bs spans whole join (meaning items) c.args.asked (policy_meaning c.part-item.result) rest c.loop-part.next behind seen a here taken (sym c.ends.ensures ∙ c.if-ends.true) in
-    record { answer = c.joined.ensures ∙ ap (λ (x : Seen). answer_of (joined_seen join x)) c.with-seen.ensures ∙ stop.answer; asked = stop.asked; same = c.answer_given-given.ensures.same ∙ c.loop-part.invariant.2 }
+    record { answer = c.joined.ensures ∙ ap (λ (x : AnswersSeen). answer_of (joined_seen join x)) c.with-seen.ensures ∙ stop.answer; asked = stop.asked; same = c.answer_given-given.ensures.same ∙ c.loop-part.invariant.2 }
 
 pub returns-after-loop-part : goal.returns-after-loop-part
 returns-after-loop-part t c =

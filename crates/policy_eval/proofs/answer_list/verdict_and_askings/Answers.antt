@@ -5,7 +5,7 @@ use Rattle.std.proofs.lemmas.Grind.{common_steps}
 use Rattle.policy_tree.specs.declared.policy.Policy.{Policy}
 use Rattle.policy_tree.specs.Tree.{Policies, one_more}
 use Rattle.policy_tree.specs.Meaning.{meaning, policy_meaning}
-use Rattle.policy_eval.specs.declared.answer.Seen.{Seen}
+use Rattle.policy_eval.specs.declared.answer.AnswersSeen.{AnswersSeen}
 use Rattle.policy_eval.proofs.Turns.{next_part}
 use Rattle.policy_eval.proofs.Known.{KnowsIn, known-at}
 use Rattle.policy_eval.proofs.GivenTurns.{Taken, AtTop, at_top-more, at_top-last}
@@ -24,7 +24,7 @@ loop-policy-preserved c =
     let T = λ (r : Policies). AtTop bs spans all r next c.loop-policy.seen in
     let here : T (one_more (policy_meaning p) rest) = subst T (next_part items i p c.loop-policy-test.true c.policy-item.is) c.loop-policy.invariant.0 in
     let taken : Taken bs spans (policy_meaning p) next c.answer_given-given.result.1 c.answer_given-given.result.0 = record { answer = c.answer_given-given.ensures.answer; asked = c.answer_given-given.ensures.asked } in
-    let W = λ (x : Seen). AtTop bs spans all rest c.answer_given-given.result.1 x in
+    let W = λ (x : AnswersSeen). AtTop bs spans all rest c.answer_given-given.result.1 x in
     let known = known-at c.loop-policy.searches items i p c.loop-policy-test.true c.policy-item.is c.loop-policy.invariant.1 in
     let same = c.answer_given-given.ensures.same in
     (subst W (sym c.with-seen.ensures) (at_top-more bs spans all (policy_meaning p) rest next c.answer_given-given.result.1 c.loop-policy.seen c.answer_given-given.result.0 here taken), subst (λ s. KnowsIn s rest) (sym same) known.1, same ∙ c.loop-policy.invariant.2)

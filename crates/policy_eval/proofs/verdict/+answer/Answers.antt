@@ -7,7 +7,7 @@ use Rattle.policy_tree.specs.Tree.{Policy as Meant, leaf, limiting, joined, Poli
 use Rattle.policy_tree.specs.Meaning.{meaning, policy_meaning}
 use Rattle.policy_tree.specs.declared.policy.PolicyKind.TheFolds.{the_lemmas}
 use Rattle.policy_eval.specs.declared.answer.Answer.{Answer}
-use Rattle.policy_eval.specs.declared.answer.Seen.{Seen}
+use Rattle.policy_eval.specs.declared.answer.AnswersSeen.{AnswersSeen}
 use Rattle.policy_eval.specs.Meaning.{answer_of, joined_seen}
 use Rattle.policy_eval.specs.Walks.{Answers}
 use Rattle.policy_eval.proofs.Turns.{Turn, turn-first, turn-more, turn-stop, turn-last, answers-leaf, answers-rate, part_at, counted_nodes}
@@ -25,7 +25,7 @@ loop-part-init g t c =
     let p = policy_meaning c.args.policy.now in
     let parts = meaning c.as_slice-part-items.result.now in
     let whole : p ≡ joined c.in-Joined.join parts = let is = c.in-Joined.is in let items = c.as_slice-part-items.ensures in search (rules, the_lemmas) in
-    let P = λ (seen : Seen). Turn S H A s0 p c.in-Joined.join parts c.args.node c.args.second c.args.spans.now s0 parts (c.args.node + 1) seen in
+    let P = λ (seen : AnswersSeen). Turn S H A s0 p c.in-Joined.join parts c.args.node c.args.second c.args.spans.now s0 parts (c.args.node + 1) seen in
     (subst P (sym c.none-seen.ensures) (turn-first S H A s0 p c.in-Joined.join parts c.args.node c.args.second c.args.spans.now whole c.requires.numbers c.requires.known), subst (λ (q : Meant). are_known c.args.searches.now (expressions_of q) ≡ true) whole c.requires.expressions, refl)
 
 pub loop-part-preserved : goal.loop-part-preserved
@@ -46,7 +46,7 @@ loop-part-preserved g t c =
     let rest = meaning (drop (c.loop-part.part-index + 1) items) in
     let p = policy_meaning c.part-item.result in
     let N = λ (k : ℕ). Turn S H A s0 whole join (meaning items) c.args.node c.args.second c.args.spans.now after rest (next + k) c.with-seen.result in
-    let W = λ (x : Seen). Turn S H A s0 whole join (meaning items) c.args.node c.args.second c.args.spans.now after rest (next + nodes p) x in
+    let W = λ (x : AnswersSeen). Turn S H A s0 whole join (meaning items) c.args.node c.args.second c.args.spans.now after rest (next + nodes p) x in
     let few : nodes p ≤ 64 = omega (arith, here.counted, here.within) in
     let count : c.count.result ≡ nodes p = c.count.ensures ∙ counted_nodes (nodes p) few in
     let more = turn-more S H A s0 whole join (meaning items) c.args.node c.args.second c.args.spans.now s after p rest next seen c.answer-given.result here c.answer-given.ensures.answers c.answer-given.ensures.keeps (sym c.ends.ensures ∙ c.if-ends.false) in
@@ -72,7 +72,7 @@ returns-then-ends-clause-answers g t c =
     let rest = meaning (drop (c.loop-part.part-index + 1) items) in
     let P = λ (a : Answer). Answers A whole c.args.node c.args.second c.args.spans.now a s0 after in
     let stop = turn-stop S H A s0 whole join (meaning items) c.args.node c.args.second c.args.spans.now s after (policy_meaning c.part-item.result) rest next seen c.answer-given.result here c.answer-given.ensures.answers (sym c.ends.ensures ∙ c.if-ends.true) in
-    subst P (sym (c.joined.ensures ∙ ap (λ (x : Seen). answer_of (joined_seen join x)) c.with-seen.ensures)) stop
+    subst P (sym (c.joined.ensures ∙ ap (λ (x : AnswersSeen). answer_of (joined_seen join x)) c.with-seen.ensures)) stop
 
 pub returns-after-loop-part-clause-answers : goal.returns-after-loop-part-clause-answers
 returns-after-loop-part-clause-answers g t c =

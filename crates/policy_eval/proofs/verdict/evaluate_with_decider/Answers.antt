@@ -6,7 +6,7 @@ use Rattle.policy_tree.specs.declared.policy.Policy.{Policy}
 use Rattle.policy_tree.specs.Tree.{Policies, one_more, nodes, nodes_in}
 use Rattle.policy_tree.specs.Meaning.{meaning, policy_meaning}
 use Rattle.policy_eval.specs.Meaning.{none_seen, none_first, first_with}
-use Rattle.policy_eval.specs.declared.answer.Seen.{Seen}
+use Rattle.policy_eval.specs.declared.answer.AnswersSeen.{AnswersSeen}
 use Rattle.policy_eval.specs.declared.decider.Firsts.{Firsts}
 use Rattle.policy_eval.proofs.Turns.{Top, top-first, top-more, top-last, next_part, counted_nodes}
 use Rattle.policy_eval.proofs.Known.{KnowsIn, known-at}
@@ -20,9 +20,9 @@ loop-place-init g c =
     let s0 = c.args.limiter.now in
     let all = meaning c.args.policies.now in
     let few : nodes_in all ≤ 64 = search rules in
-    let T = λ (r : Policies) (seen : Seen) (firsts : Firsts). Top S H A s0 all (c.args.now / 1000) c.args.spans.now s0 r 0 seen 0 firsts in
+    let T = λ (r : Policies) (seen : AnswersSeen) (firsts : Firsts). Top S H A s0 all (c.args.now / 1000) c.args.spans.now s0 r 0 seen 0 firsts in
     let first : T all none_seen none_first = top-first S H A s0 all (c.args.now / 1000) c.args.spans.now few c.requires.nodes in
-    let P = λ (seen : Seen). T all seen none_first in
+    let P = λ (seen : AnswersSeen). T all seen none_first in
     let F = λ (firsts : Firsts). T all c.none-seen.result firsts in
     let Q = λ (items : List Policy). T (meaning items) c.none-seen.result c.none-firsts.result in
     (subst Q (sym c.as_slice-all.ensures.policies) (subst F (sym c.none-firsts.ensures) (subst P (sym c.none-seen.ensures) first)), subst (λ (items : List Policy). KnowsIn c.args.searches.now (meaning items)) (sym c.as_slice-all.ensures.policies) c.requires.expressions, refl)
@@ -49,7 +49,7 @@ loop-place-preserved g c =
     let here : T (one_more (policy_meaning p) rest) = subst T (next_part items i p c.loop-place-test.true c.index-all-place.is) c.loop-place.invariant.0 in
     let N = λ (k : ℕ). Top S H A s0 all second spans t rest (next + k) c.with-seen.result (place + 1) c.with-firsts.result in
     let F = λ (f : Firsts). Top S H A s0 all second spans t rest (next + nodes (policy_meaning p)) c.with-seen.result (place + 1) f in
-    let W = λ (x : Seen). Top S H A s0 all second spans t rest (next + nodes (policy_meaning p)) x (place + 1) (first_with c.answer-given.result place firsts) in
+    let W = λ (x : AnswersSeen). Top S H A s0 all second spans t rest (next + nodes (policy_meaning p)) x (place + 1) (first_with c.answer-given.result place firsts) in
     let few : nodes (policy_meaning p) ≤ 64 = omega (arith, here.counted, here.within) in
     let count : c.count.result ≡ nodes (policy_meaning p) = c.count.ensures ∙ counted_nodes (nodes (policy_meaning p)) few in
     let known = known-at c.loop-place.searches items i p c.loop-place-test.true c.index-all-place.is c.loop-place.invariant.1 in

@@ -3,7 +3,7 @@ use Rattle.std.proofs.lemmas.List.{length-replicate}
 use Rattle.script_run.specs.Connections.{Contacts}
 use Rattle.script_run.specs.World.{empty_queues}
 use Rattle.script_session.specs.Pulling.{AreQuiet, ends_of}
-use Rattle.script_session.specs.Replay.{settings_by}
+use Rattle.config_shards.specs.Shards.{settings_by}
 use Rattle.script_session.proofs.Nodes.{nodes-new}
 use Rattle.script_session.proofs.Quiet.{none-due-now, ends-now}
 use Rattle.script_session.proofs.replay.replay_run.Goals as goal
@@ -21,7 +21,7 @@ invariant_of-session-clause-ends g c =
     ends-now (length c.in-Ok.parts.connections.connected) false false _ _ refl refl (subst P (sym lanes) made.2)
 
 pub invariant_of-session-clause-some : goal.invariant_of-session-clause-some
-invariant_of-session-clause-some g c = let made = c.in-Ok.ensures.shards in omega (arith, made.0, c.requires.shards)
+invariant_of-session-clause-some g c = let made = c.in-Ok.ensures.shards in omega (arith, made.0, c.requires.ranges.some_shard)
 
 pub invariant_of-session-clause-empty : goal.invariant_of-session-clause-empty
 invariant_of-session-clause-empty g c = let made = c.in-Ok.ensures.shards in c.in-Ok.ensures.queues ∙ ap (empty_queues c.args.config.queue_capacity) (sym made.0)

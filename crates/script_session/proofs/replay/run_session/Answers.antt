@@ -5,7 +5,8 @@ use Rattle.tsc_script.specs.Instructions.{close}
 use Rattle.script_session.specs.declared.session.Session.{Session}
 use Rattle.script_run.specs.World.{new_world, PlaysAll}
 use Rattle.script_run.specs.Counts.{Reports}
-use Rattle.script_session.specs.Replay.{Run, settings_by}
+use Rattle.config_shards.specs.Shards.{settings_by}
+use Rattle.script_session.specs.Replay.{ReplayRun}
 use Rattle.script_session.specs.Pulling.{AreOf}
 use Rattle.script_session.proofs.Numbers.{Reports-new}
 use Rattle.script_session.proofs.Leading.{leads_to, fell_before}
@@ -18,7 +19,7 @@ returns g c = λ config can unused new limiter.
     let now = c.play_script-played.new.machine in
     let script = c.play_script-played.ensures in
     let s = settings_by config in
-    let run : Run = record {
+    let run : ReplayRun = record {
       settings = s;
       sizes = record { batch = session.output.0.size; queue = session.queue_capacity; keeps_doubles = session.keeps_doubles };
       lanes = config.lanes;

@@ -1,6 +1,6 @@
 use Rattle.std.proofs.Common.{◌≡◌, ◌++◌}
 use Rattle.toml.specs.View.{members_view, table_view}
-use Rattle.tsc_config.specs.Headers.{fields_in}
+use Rattle.tsc_config.specs.HeaderFields.{fields_in}
 use Rattle.tsc_config.proofs.headers.fields_in.Given as goal
 
 -- the fields so far, and those that are left

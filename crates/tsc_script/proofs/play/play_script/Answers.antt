@@ -1,6 +1,6 @@
 use Rattle.std.proofs.Common.{◌≡◌, ◌+◌, ℕ, Some, List, [], ◌∷◌, ◌++◌, refl, sym, ap, ◌∙◌, subst, arith, inl, inr}
 use Rattle.tsc_script.specs.Instructions.{Instruction, instruction_of_command}
-use Rattle.tsc_script.specs.Reads.{Turn, bytes_given}
+use Rattle.tsc_script.specs.Reads.{SourceTurn, bytes_given}
 use Rattle.tsc_script.proofs.Turns.{Gives-none, Gives-then, Counts-none, Counts-then, GoOn-append, LastGave-append, Spends-append, cut_short}
 use Rattle.tsc_script.proofs.Playing.{Follows, Follows-none, Follows-line}
 use Rattle.tsc_script.proofs.Last.{command-goes_on, command-open}
@@ -186,7 +186,7 @@ returns-in-Close-clause-whole g c =
     let so_far = c.loop-number.invariant.turns in
     let more = c.in-LineFeed.ensures.turns in
     let behind = c.expect_end.ensures.turns in
-    let all : List Turn = (so_far.0 ++ more.0) ++ behind.0 in
+    let all : List SourceTurn = (so_far.0 ++ more.0) ++ behind.0 in
     let gives = Gives-then _ _ _ (so_far.0 ++ more.0) behind.0 (Gives-then _ _ _ so_far.0 more.0 so_far.1 more.1) behind.1 in
     let f = follows_close (so_far.0 ++ more.0) behind.0 c.read_line.new.line.items c.read_line.new.buffer.bytes c.loop-number.number so_far.4
     (follows_on so_far.0 more.0 _ _ c.loop-number.number so_far.4 so_far.5 more.3.1) in
@@ -200,7 +200,7 @@ returns-in-Close-clause-stopped g c =
     let so_far = c.loop-number.invariant.turns in
     let more = c.in-LineFeed.ensures.turns in
     let behind = c.expect_end.ensures.turns in
-    let all : List Turn = (so_far.0 ++ more.0) ++ behind.0 in
+    let all : List SourceTurn = (so_far.0 ++ more.0) ++ behind.0 in
     let gives = Gives-then _ _ _ (so_far.0 ++ more.0) behind.0 (Gives-then _ _ _ so_far.0 more.0 so_far.1 more.1) behind.1 in
     let f = follows_close (so_far.0 ++ more.0) behind.0 c.read_line.new.line.items c.read_line.new.buffer.bytes c.loop-number.number so_far.4
     (follows_on so_far.0 more.0 _ _ c.loop-number.number so_far.4 so_far.5 more.3.1) in
@@ -214,7 +214,7 @@ returns-in-Close-clause-refused g c =
     let so_far = c.loop-number.invariant.turns in
     let more = c.in-LineFeed.ensures.turns in
     let behind = c.expect_end.ensures.turns in
-    let all : List Turn = (so_far.0 ++ more.0) ++ behind.0 in
+    let all : List SourceTurn = (so_far.0 ++ more.0) ++ behind.0 in
     let gives = Gives-then _ _ _ (so_far.0 ++ more.0) behind.0 (Gives-then _ _ _ so_far.0 more.0 so_far.1 more.1) behind.1 in
     let f = follows_close (so_far.0 ++ more.0) behind.0 c.read_line.new.line.items c.read_line.new.buffer.bytes c.loop-number.number so_far.4
     (follows_on so_far.0 more.0 _ _ c.loop-number.number so_far.4 so_far.5 more.3.1) in
@@ -227,7 +227,7 @@ returns-in-Close-clause-caused g c =
     let so_far = c.loop-number.invariant.turns in
     let more = c.in-LineFeed.ensures.turns in
     let behind = c.expect_end.ensures.turns in
-    let xs : List Turn = so_far.0 ++ more.0 in
+    let xs : List SourceTurn = so_far.0 ++ more.0 in
     let counts = Counts-then _ _ _ xs behind.0 (Counts-then _ _ _ so_far.0 more.0 so_far.2 more.2) behind.2 in
     let f = follows_close xs behind.0 c.read_line.new.line.items c.read_line.new.buffer.bytes c.loop-number.number so_far.4
     (follows_on so_far.0 more.0 _ _ c.loop-number.number so_far.4 so_far.5 more.3.1) in (

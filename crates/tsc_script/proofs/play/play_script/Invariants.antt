@@ -1,7 +1,7 @@
 use Rattle.std.proofs.Common.{◌≡◌, ◌≤◌, true, false, vec_capacity, List}
 use Rattle.tsc_script.specs.declared.limits.TheConstants.{MAX_LINE_BYTES}
-use Rattle.tsc_script.specs.Reads.{Turn, bytes_given, Gives, GoOn}
-use Rattle.tsc_script.specs.ToRead.{Counts}
+use Rattle.tsc_script.specs.Reads.{SourceTurn, bytes_given, Gives, GoOn}
+use Rattle.tsc_script.specs.ToRead.{CountsReads}
 use Rattle.tsc_script.specs.Instructions.{Instruction}
 use Rattle.tsc_script.proofs.Playing.{Follows}
 use Rattle.tsc_script.proofs.play.play_script.Given as goal
@@ -10,7 +10,7 @@ use Rattle.tsc_script.proofs.play.play_script.Given as goal
 abbrev pub invariant-loop-number : goal.invariant-loop-number
 invariant-loop-number g l = record {
   room : MAX_LINE_BYTES ≤ vec_capacity l.line;
-  turns : (turns : List Turn) × Gives (g.R.Source.given l.fn.reader) (g.R.Source.given l.reader) turns × Counts 0 l.buffer.reads turns × GoOn turns
+  turns : (turns : List SourceTurn) × Gives (g.R.Source.given l.fn.reader) (g.R.Source.given l.reader) turns × CountsReads 0 l.buffer.reads turns × GoOn turns
       × (done : List Instruction) × Follows (bytes_given turns) l.buffer.bytes l.number done × g.M.Machine.leads l.fn.machine done l.machine;
   still_open : g.M.Machine.is_closed l.machine ≡ false;
   still_up : g.M.Machine.is_up l.machine ≡ true;

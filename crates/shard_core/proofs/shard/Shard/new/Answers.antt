@@ -9,7 +9,7 @@ use Rattle.shard_core.proofs.shard.Shard.new.Goals as goal
 pub returns-in-Ok-clause-stands : goal.returns-in-Ok-clause-stands
 returns-in-Ok-clause-stands c =
     let made = c.in-Ok.ensures in
-    new_stands c.args.policies c.args.setup.wait c.args.setup.root_wait c.args.setup.maximum_size c.args.setup.senders c.in-Ok.buffer c.in-Ok.cache c.in-Ok.ends.items (ap (λ (b : Buffer). b.episodes) made.buffer)
+    new_stands c.args.policies c.args.setup.decision_wait c.args.setup.root_wait c.args.setup.maximum_trace_size c.args.setup.senders c.in-Ok.buffer c.in-Ok.cache c.in-Ok.ends.items (ap (λ (b : Buffer). b.episodes) made.buffer)
     (ap (λ (l : CacheLists). l.sampled.traces) made.cache) (ap (λ (l : CacheLists). l.not_sampled.traces) made.cache) made.ends
 
 pub returns-in-Ok-clause-running : goal.returns-in-Ok-clause-running
@@ -18,5 +18,5 @@ returns-in-Ok-clause-running c = new_runs c.args.setup.senders c.in-Ok.ends.item
 pub invariant_of-result : goal.invariant_of-result
 invariant_of-result c =
     let made = c.in-Ok.ensures in
-    let k = new_keeps c.in-Ok.buffer c.in-Ok.cache c.args.setup.limit made.buffer c.requires.keeps_a_trace in
+    let k = new_keeps c.in-Ok.buffer c.in-Ok.cache c.args.setup.num_traces made.buffer c.requires.keeps_a_trace in
     (c.requires.waits, k.0, ap (λ (b : Buffer). have_spans b.episodes) made.buffer, k.1, k.2, c.in_ok-searches.ensures)

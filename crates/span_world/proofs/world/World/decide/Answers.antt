@@ -1,7 +1,7 @@
 use Rattle.std.proofs.Common.{◌≡◌, ◌+◌, ◌++◌, Some, None, Option, List, Bool, true, is_some, refl, ap, sym, subst, arith, ◌∙◌}
 use Rattle.shard_journal.specs.Settings.{settings_of}
 use Rattle.journal_theory.specs.Journal.{Settings, answered}
-use Rattle.world_theory.specs.World.{Shard, settings_for}
+use Rattle.world_theory.specs.World.{CoreShard, settings_for}
 use Rattle.world_theory.specs.Step.{decide}
 use Rattle.span_world.specs.Core.{config_of}
 use Rattle.span_world.specs.Answers.{next_decision}
@@ -40,7 +40,7 @@ returns c =
     let is = ap (settings_for (config_of (the_view c.self.inside).config)) c.self.invariant.0 in
     let may =
     ap (λ (a : List Bool). is_some (next_decision (settings_of c.self.inside.settings) c.index.result.now a)) (sym c.as_slice-given.ensures.value) ∙ sym c.may_decide.ensures.enabled ∙ c.if-not-may_decide.false in
-    let here = subst (λ (x : Shard). is_some (next_decision (settings_of c.self.inside.settings) x c.args.answers.items) ≡ true) same may in
+    let here = subst (λ (x : CoreShard). is_some (next_decision (settings_of c.self.inside.settings) x c.args.answers.items) ≡ true) same may in
     let did = some_of (next_decision (settings_of c.self.inside.settings) c.index_mut.result.now c.args.answers.items) here in
     let next = subst (λ (s : Settings). next_decision s c.index_mut.result.now c.args.answers.items ≡ Some did.0) is did.1 in
     let asked = ap (next_decision (settings_of c.self.inside.settings) c.index_mut.result.now) c.from_vec-answers.ensures ∙ did.1 in

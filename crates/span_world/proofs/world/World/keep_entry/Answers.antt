@@ -1,6 +1,6 @@
 use Rattle.std.proofs.Common.{◌<◌, length, refl, ap, sym, subst, ◌∙◌}
 use Rattle.shard_journal.specs.Settings.{settings_of}
-use Rattle.world_theory.specs.World.{Shard, settings_for}
+use Rattle.world_theory.specs.World.{CoreShard, settings_for}
 use Rattle.world_theory.specs.Step.{after_taking}
 use Rattle.span_world.specs.Answers.{queue_after}
 use Rattle.span_world.specs.Core.{Core, config_of}
@@ -33,5 +33,5 @@ returns c =
       λ sh g.
           kept_is by w c.args.shard c.index_mut.result.now e (queue_after e.item c.index_mut.result.now.queue) (settings_of c.self.inside.settings) c.take.new.self c.take.new.counted.items
           (ap (settings_for by) c.self.invariant.0) c.in_ok-take.ensures.shard c.in_ok-take.ensures.counted
-          ∙ ap (λ (x : Shard). after_taking by w c.args.shard x e (queue_after e.item x.queue)) (reads_same c.self.inside.shards.items c.args.shard c.index_mut.result.now sh m g),
+          ∙ ap (λ (x : CoreShard). after_taking by w c.args.shard x e (queue_after e.item x.queue)) (reads_same c.self.inside.shards.items c.args.shard c.index_mut.result.now sh m g),
     )

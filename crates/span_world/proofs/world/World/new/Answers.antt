@@ -9,15 +9,6 @@ pub invariant_of-result : goal.invariant_of-result
 invariant_of-result c =
     let lanes : c.args.lanes + 1 ≡ length c.in_ok-new_lanes.field-0.items + 1 = omega (arith, ap length c.in_ok-new_lanes.ensures, length-replicate c.args.lanes new_lane) in (
       lanes,
-      rw (c.in_ok-shards.ensures.shards, c.in_ok-shards.ensures.looks) (new_looks (settings_of (record {
-        policies = c.args.config.policies;
-        wait = c.args.config.wait;
-        root_wait = c.args.config.root_wait;
-        maximum_size = c.args.config.maximum_size;
-        limit = c.args.config.limit;
-        sampled_size = c.args.config.sampled_size;
-        non_sampled_size = c.args.config.non_sampled_size;
-        senders = c.args.lanes + 1;
-      })) c.args.shards),
+      rw (c.in_ok-shards.ensures.shards, c.in_ok-shards.ensures.looks) (new_looks (settings_of (record c.args.config.shard { senders = c.args.lanes + 1 })) c.args.shards),
       rw c.searches.view_is c.in_ok-searches.ensures,
     )

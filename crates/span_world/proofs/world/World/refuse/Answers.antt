@@ -1,6 +1,6 @@
 use Rattle.std.proofs.Common.{◌≡◌, Some, length, refl, sym, subst, ◌∙◌}
 use Rattle.std.specs.List.{position}
-use Rattle.world_theory.specs.World.{Lane, goes_to}
+use Rattle.world_theory.specs.World.{CoreLane, goes_to}
 use Rattle.span_world.specs.Core.{config_of}
 use Rattle.span_world.specs.contracts.world.World.{the_view}
 use Rattle.world_theory.proofs.Routing.{read_is, reads_same, refuses}
@@ -24,7 +24,7 @@ returns c =
     let n = length c.self.inside.shards.items in
     let l = c.index_mut.result.now in
     let m = read_is c.self.inside.lanes.items c.args.lane l p.has_lane c.index_mut.ensures.value in
-    let is = subst (λ (x : Lane). position (goes_to n c.args.shard) x.unrouted ≡ Some c.in-Some.place) (reads_same c.self.inside.lanes.items c.args.lane p.from l p.lane_is m) p.place in
+    let is = subst (λ (x : CoreLane). position (goes_to n c.args.shard) x.unrouted ≡ Some c.in-Some.place) (reads_same c.self.inside.lanes.items c.args.lane p.from l p.lane_is m) p.place in
     rw (← c.self.view_is) (
       refl,
       rw (c.push_reserved.ensures.items, c.try_reserve.ensures.items, c.dropped.ensures) (refuses (config_of (the_view c.self.inside).config) (the_view c.self.inside).world c.args.lane c.args.shard l p.to m p.shard_is n refl (position (goes_to n c.args.shard) l.unrouted) refl

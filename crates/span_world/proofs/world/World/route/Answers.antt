@@ -1,6 +1,6 @@
 use Rattle.std.proofs.Common.{◌≡◌, ◌+◌, Some, length, slice_set, refl, sym, subst, ◌∙◌}
 use Rattle.std.specs.List.{position}
-use Rattle.world_theory.specs.World.{Lane, goes_to}
+use Rattle.world_theory.specs.World.{CoreLane, goes_to}
 use Rattle.span_world.specs.Core.{config_of}
 use Rattle.span_world.specs.contracts.world.World.{the_view}
 use Rattle.world_theory.proofs.Routing.{read_is, reads_same, put_back, routes}
@@ -39,7 +39,7 @@ returns c =
     let l = c.index_mut-2.result.now in
     let m = read_is c.self.inside.lanes.items c.args.lane l p.has_lane c.index_mut-2.ensures.value in
     let k = read_is c.self.inside.shards.items c.args.shard c.index_mut.result.now p.has_shard c.index_mut.ensures.value in
-    let is = subst (λ (x : Lane). position (goes_to n c.args.shard) x.unrouted ≡ Some c.in-Some.place) (reads_same c.self.inside.lanes.items c.args.lane p.from l p.lane_is m) p.place in
+    let is = subst (λ (x : CoreLane). position (goes_to n c.args.shard) x.unrouted ≡ Some c.in-Some.place) (reads_same c.self.inside.lanes.items c.args.lane p.from l p.lane_is m) p.place in
     rw (← c.self.view_is) (
       refl,
       routes (config_of (the_view c.self.inside).config) (the_view c.self.inside).world c.args.lane c.args.shard l c.index_mut.result.now m k n refl (position (goes_to n c.args.shard) l.unrouted) refl

@@ -1,6 +1,6 @@
 use Rattle.std.proofs.Common.{ap, refl, arith}
 use Rattle.shard_journal.specs.Settings.{settings_of}
-use Rattle.world_theory.specs.World.{Shard}
+use Rattle.world_theory.specs.World.{CoreShard}
 use Rattle.world_theory.proofs.Routing.{read_is}
 use Rattle.span_world.proofs.Looking.{looks_stay}
 use Rattle.span_world.proofs.Items.{ships}
@@ -11,7 +11,7 @@ use Rattle.span_world.proofs.world.World.ship.Goals as goal
 pub invariant_of-self-2 : goal.invariant_of-self-2
 invariant_of-self-2 c =
     let m = read_is c.self.inside.shards.items c.args.shard c.index_mut.result.now (omega arith) c.index_mut.ensures.value in
-    (c.self.invariant.0, looks_stay (settings_of c.self.inside.settings) c.self.inside.shards.items c.self.inside.looks.items c.args.shard c.index_mut.result.now c.ship.new.self c.self.invariant.1 m (ap (λ (sh : Shard). sh.journal) c.ship.ensures.rest), c.self.invariant.2)
+    (c.self.invariant.0, looks_stay (settings_of c.self.inside.settings) c.self.inside.shards.items c.self.inside.looks.items c.args.shard c.index_mut.result.now c.ship.new.self c.self.invariant.1 m (ap (λ (sh : CoreShard). sh.journal) c.ship.ensures.rest), c.self.invariant.2)
 
 pub returns : goal.returns
 returns c =

@@ -1,0 +1,3 @@
+pub mod Least
+mod Orders
+pub mod Rows

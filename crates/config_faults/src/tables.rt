@@ -1,0 +1,196 @@
+//! The settings of the tables that are no policy's: of each its key, what its value is to be, and its default.
+ghost use Rattle.std.specs.Prelude.{◌≡◌, map, pos};
+ghost use Rattle.config_faults.specs.Tables as spec;
+
+use crate::settings::{DefaultValue, Setting, ValueKind};
+
+/// The keys whose value is a whole number, those within `decision_cache` and `export` too.
+#[derive(Clone, Copy)]
+pub enum NumberKey {
+    DecisionWait,
+    RootWait,
+    /// Another name of `RootWait`.
+    RootReceived,
+    NumTraces,
+    Lanes,
+    Shards,
+    QueueCapacity,
+    ExportCapacity,
+    SendBatchSize,
+    MaxConnections,
+    MemoryLimit,
+    MaximumTraceSize,
+    Tick,
+    SampledCacheSize,
+    NonSampledCacheSize,
+    /// Of `export`, as those that follow.
+    Timeout,
+    RetryInitial,
+    RetryMax,
+    RetryFor,
+    CloseWait,
+    QueueBatches,
+}
+
+impl NumberKey {
+    /// Its name, its default, its lowest and its greatest number.
+    pub fn row(self) -> (&'static str, i64, i64, i64)
+        ensures name { result.0.now ≡ (spec.number_row self).name }
+        ensures default { result.1 ≡ pos (spec.number_row self).default }
+        ensures lowest { result.2 ≡ pos (spec.number_row self).lowest }
+        ensures greatest { result.3 ≡ pos (spec.number_row self).greatest }
+    {
+        match self {
+            NumberKey::DecisionWait => ("decision_wait_ms", 30_000, 1, 3_600_000),
+            NumberKey::RootWait => ("root_wait_ms", 0, 0, 3_600_000),
+            NumberKey::RootReceived => ("decision_wait_after_root_received_ms", 0, 0, 3_600_000),
+            NumberKey::NumTraces => ("num_traces", 50_000, 1, 1_000_000),
+            NumberKey::Lanes => ("lanes", 1, 1, 64),
+            NumberKey::Shards => ("shards", 1, 1, 64),
+            NumberKey::QueueCapacity => ("queue_capacity", 1024, 1, 65_536),
+            NumberKey::ExportCapacity => ("export_capacity", 1024, 1, 65_536),
+            NumberKey::SendBatchSize => ("send_batch_size", 512, 1, 8192),
+            NumberKey::MaxConnections => ("max_connections", 1024, 1, 65_536),
+            NumberKey::MemoryLimit => ("memory_limit_mib", 0, 0, 1_048_576),
+            NumberKey::MaximumTraceSize => ("maximum_trace_size_bytes", 0, 0, 1_073_741_824),
+            NumberKey::Tick => ("tick_ms", 1000, 1, 60_000),
+            NumberKey::SampledCacheSize => ("sampled_cache_size", 0, 0, 1_000_000),
+            NumberKey::NonSampledCacheSize => ("non_sampled_cache_size", 0, 0, 1_000_000),
+            NumberKey::Timeout => ("timeout_ms", 10_000, 1, 600_000),
+            NumberKey::RetryInitial => ("retry_initial_ms", 500, 1, 3_600_000),
+            NumberKey::RetryMax => ("retry_max_ms", 30_000, 1, 3_600_000),
+            NumberKey::RetryFor => ("retry_for_ms", 300_000, 0, 86_400_000),
+            NumberKey::CloseWait => ("close_wait_ms", 10_000, 0, 3_600_000),
+            NumberKey::QueueBatches => ("queue_batches", 256, 1, 65_536),
+        }
+    }
+}
+
+/// The keys of a configuration whose value is one of two texts.
+#[derive(Clone, Copy)]
+pub enum ChoiceKey {
+    QueueFull,
+    OutputFault,
+    DoubleValues,
+}
+
+impl ChoiceKey {
+    /// Its name, its default, and the other text that it takes.
+    pub fn row(self) -> (&'static str, &'static str, &'static str)
+        ensures name { result.0.now ≡ (spec.choice_row self).name }
+        ensures default { result.1.now ≡ (spec.choice_row self).default }
+        ensures other { result.2.now ≡ (spec.choice_row self).other }
+    {
+        match self {
+            ChoiceKey::QueueFull => ("queue_full", "partial", "retry"),
+            ChoiceKey::OutputFault => ("output_fault", "discard", "stop"),
+            ChoiceKey::DoubleValues => ("double_values", "discard", "keep"),
+        }
+    }
+}
+
+/// The keys whose value is a text that has a default.
+#[derive(Clone, Copy)]
+pub enum TextKey {
+    Listen,
+}
+
+impl TextKey {
+    /// Its name and its default.
+    pub fn row(self) -> (&'static str, &'static str)
+        ensures name { result.0.now ≡ (spec.text_row self).name }
+        ensures default { result.1.now ≡ (spec.text_row self).default }
+    {
+        match self {
+            TextKey::Listen => ("listen", "127.0.0.1:4318"),
+        }
+    }
+}
+
+/// The settings of a configuration that are no tables.
+pub fn top_settings() -> [Setting; 21]
+    ensures { map spec.setting_of result ≡ spec.top_settings }
+{
+    [
+        number_setting(NumberKey::DecisionWait),
+        root_setting(NumberKey::RootWait),
+        root_setting(NumberKey::RootReceived),
+        number_setting(NumberKey::NumTraces),
+        number_setting(NumberKey::Lanes),
+        number_setting(NumberKey::Shards),
+        number_setting(NumberKey::Tick),
+        number_setting(NumberKey::QueueCapacity),
+        number_setting(NumberKey::ExportCapacity),
+        number_setting(NumberKey::SendBatchSize),
+        number_setting(NumberKey::MaxConnections),
+        number_setting(NumberKey::MemoryLimit),
+        number_setting(NumberKey::MaximumTraceSize),
+        text_setting(TextKey::Listen),
+        Setting::Default("accept_gzip", ValueKind::Truth, DefaultValue::Off),
+        Setting::Default("sample_on_first_match", ValueKind::Truth, DefaultValue::Off),
+        choice_setting(ChoiceKey::QueueFull),
+        choice_setting(ChoiceKey::OutputFault),
+        choice_setting(ChoiceKey::DoubleValues),
+        Setting::Default("close_at_end_of_input", ValueKind::Truth, DefaultValue::Off),
+        Setting::Optional("admin", ValueKind::Text),
+    ]
+}
+
+/// The sizes of the caches of decisions.
+pub fn cache_settings() -> [Setting; 2]
+    ensures { map spec.setting_of result ≡ spec.cache_settings }
+{
+    [
+        number_setting(NumberKey::SampledCacheSize),
+        number_setting(NumberKey::NonSampledCacheSize),
+    ]
+}
+
+/// The settings of `export`.
+pub fn export_settings() -> [Setting; 9]
+    ensures { map spec.setting_of result ≡ spec.export_settings }
+{
+    [
+        Setting::Required("endpoint", ValueKind::Endpoint),
+        number_setting(NumberKey::Timeout),
+        number_setting(NumberKey::RetryInitial),
+        number_setting(NumberKey::RetryMax),
+        number_setting(NumberKey::RetryFor),
+        number_setting(NumberKey::CloseWait),
+        number_setting(NumberKey::QueueBatches),
+        Setting::Default("lines", ValueKind::Truth, DefaultValue::Off),
+        Setting::Optional("headers", ValueKind::Headers),
+    ]
+}
+
+fn number_setting(key: NumberKey) -> Setting
+    ensures { spec.setting_of result ≡ spec.number_setting key }
+{
+    let (name, default, lowest, greatest) = key.row();
+    let value = ValueKind::Integer(lowest, greatest);
+    Setting::Default(name, value, DefaultValue::Number(default))
+}
+
+/// One of the two names of the wait from a trace's root on, of which neither has a default of its own.
+fn root_setting(key: NumberKey) -> Setting
+    ensures { spec.setting_of result ≡ spec.root_setting key }
+{
+    let (name, _, lowest, greatest) = key.row();
+    Setting::Optional(name, ValueKind::Integer(lowest, greatest))
+}
+
+fn choice_setting(key: ChoiceKey) -> Setting
+    ensures { spec.setting_of result ≡ spec.choice_setting key }
+{
+    Setting::Default(
+        key.row().0,
+        ValueKind::Choice(key),
+        DefaultValue::Choice(key),
+    )
+}
+
+fn text_setting(key: TextKey) -> Setting
+    ensures { spec.setting_of result ≡ spec.text_setting key }
+{
+    Setting::Default(key.row().0, ValueKind::Text, DefaultValue::Text(key))
+}

@@ -1,0 +1,3 @@
+mod FaultLists
+mod Told
+mod FaultRows

@@ -1,0 +1,2 @@
+-- All faults of a text.
+pub mod FaultLists

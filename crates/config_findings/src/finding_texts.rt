@@ -1,0 +1,185 @@
+//! What is said of a fault of a configuration: its place, and what would be right. A place is written as the keys that
+//! lead to it, with the number of an item from 0. No contract says more than that a text is made; tests/faulty.py
+//! compares them.
+
+use config_faults::{ConfigFault, ItemKind, PolicyType, ValueKind};
+use policy_tree::PolicyFault;
+use std::alloc::{AllocError, Global};
+use toml::Value;
+
+/// The place of a key of the table at a place.
+pub fn key_place(alloc: Global, place: &str, key: &str) -> Result<String, AllocError> {
+    if place.is_empty() {
+        String::from_str(alloc, key)
+    } else {
+        format!(in alloc; "{place}.{key}")
+    }
+}
+
+/// The place of an item of the array at a place.
+pub fn item_place(alloc: Global, place: &str, index: u64) -> Result<String, AllocError> {
+    format!(in alloc; "{place}[{index}]")
+}
+
+/// The text that a table has no such key. A key that isn't bare is written between quotation marks.
+pub fn unknown_text(alloc: Global, place: &str, key: &str) -> Result<String, AllocError> {
+    let here = if is_bare(key) {
+        key_place(alloc, place, key)?
+    } else {
+        let quoted = format!(in alloc; "{key:?}")?;
+        key_place(alloc, place, quoted.as_str())?
+    };
+    format!(in alloc; "{here}: no such key")
+}
+
+/// The text that a key stands beside another name of the same setting.
+pub fn twice_text(alloc: Global, key: &str, other: &str) -> Result<String, AllocError> {
+    format!(in alloc; "{key}: another name of {other}, which stands there too")
+}
+
+/// Whether a key can stand without quotation marks (TOML 1.0, "Keys").
+fn is_bare(key: &str) -> bool {
+    !key.is_empty()
+        && key.bytes().all(|byte| byte.is_ascii_alphanumeric() || byte == b'_' || byte == b'-')
+}
+
+/// The text that a key is missing.
+pub fn missing_text(alloc: Global, place: &str) -> Result<String, AllocError> {
+    format!(in alloc; "{place}: missing")
+}
+
+/// The text that something of another type is wanted.
+pub fn wrong_text(alloc: Global, place: &str, wanted: &str) -> Result<String, AllocError> {
+    format!(in alloc; "{place}: {wanted} is wanted")
+}
+
+/// A value as it could stand in the file, in one line.
+fn shown(alloc: Global, value: &Value) -> Result<String, AllocError> {
+    match value {
+        Value::String(text) => {
+            let text = text.as_str();
+            format!(in alloc; "{text:?}")
+        }
+        _ => format!(in alloc; "{value}"),
+    }
+}
+
+/// What is said of a value that has this fault where a value of this kind is wanted.
+pub fn value_text(
+    alloc: Global,
+    place: &str,
+    value: &Value,
+    wanted: ValueKind,
+    fault: ConfigFault,
+) -> Result<String, AllocError> {
+    if fault == ConfigFault::WrongType {
+        return wrong_text(alloc, place, type_text(wanted));
+    }
+    if let ValueKind::Headers = wanted {
+        return headers_text(alloc, place);
+    }
+    let value = shown(alloc, value)?;
+    match wanted {
+        ValueKind::Integer(0, i64::MAX) => format!(in alloc; "{place}: {value} is below 0"),
+        ValueKind::Integer(lowest, greatest) => {
+            format!(in alloc; "{place}: {value} is not from {lowest} to {greatest}")
+        }
+        ValueKind::Choice(key) => {
+            let (_, default, other) = key.row();
+            format!(in alloc; "{place}: {value} is none of {default}, {other}")
+        }
+        ValueKind::Endpoint => {
+            format!(in alloc; "{place}: {value} is not of the form http://HOST:PORT/PATH")
+        }
+        ValueKind::PolicyType => {
+            let names = type_names(alloc)?;
+            format!(in alloc; "{place}: {value} is none of {names}")
+        }
+        _ => format!(in alloc; "{place}: {value} is not from 0 to 100 with at most four decimals"),
+    }
+}
+
+/// What is said of fields of which one can't be sent. It shows none of them: they may be secret.
+fn headers_text(alloc: Global, place: &str) -> Result<String, AllocError> {
+    format!(in alloc;
+        "{place}: a name or a text that can't be sent, or a field that is the collector's own"
+    )
+}
+
+/// The names of the types of policy.
+fn type_names(alloc: Global) -> Result<String, AllocError> {
+    let mut names = String::new(alloc);
+    for kind in PolicyType::all() {
+        if !names.is_empty() {
+            names.push_str(", ")?;
+        }
+        names.push_str(kind.name())?;
+    }
+    Ok(names)
+}
+
+/// What a value of this kind is.
+fn type_text(wanted: ValueKind) -> &'static str {
+    match wanted {
+        ValueKind::Integer(..) | ValueKind::Whole => "a whole number",
+        ValueKind::Truth => "true or false",
+        ValueKind::Text | ValueKind::Endpoint | ValueKind::PolicyType | ValueKind::Choice(_) =>
+            "a text",
+        ValueKind::Percentage => "a number",
+        ValueKind::Array(_) => "an array",
+        ValueKind::Headers => "a table of texts",
+    }
+}
+
+/// What is said of an item that has this fault where an item of this kind is wanted.
+pub fn item_text(
+    alloc: Global,
+    place: &str,
+    item: &Value,
+    kind: ItemKind,
+    fault: ConfigFault,
+) -> Result<String, AllocError> {
+    match (kind, fault) {
+        (ItemKind::StatusCode, ConfigFault::OutOfRange) => {
+            let item = shown(alloc, item)?;
+            format!(in alloc; "{place}: {item} is none of OK, ERROR, UNSET")
+        }
+        (ItemKind::Allocation, _) => wrong_text(
+            alloc,
+            place,
+            "a table of policy, a text, and percent, from 1 to 100,",
+        ),
+        _ => wrong_text(alloc, place, "a text"),
+    }
+}
+
+/// The text that the order of a composite is another one than that of its parts.
+pub fn order_text(alloc: Global, place: &str) -> Result<String, AllocError> {
+    format!(in alloc;
+        "{place}.policy_order: not the names of composite_sub_policy, as they stand there"
+    )
+}
+
+/// What is said of policies that have this fault.
+pub fn policy_fault_text(alloc: Global, fault: PolicyFault) -> Result<String, AllocError> {
+    let said = match fault {
+        PolicyFault::EmptyList => "a list of policies is empty",
+        PolicyFault::TooDeep => "policies are nested deeper than 8",
+        PolicyFault::TooMany => "there are more than 64 policies",
+        PolicyFault::SameName => "two policies of one list have the same name",
+        PolicyFault::CrossedBounds => "the bounds of a policy leave nothing between them",
+        PolicyFault::NoValues => "the values or status codes of a policy are an empty list",
+        PolicyFault::NoMemory => "no memory",
+    };
+    format!(in alloc; "policies: {said}")
+}
+
+/// What is said of a text in `values` that is no regular expression.
+pub fn no_expression_text(alloc: Global, text: &str) -> Result<String, AllocError> {
+    format!(in alloc; "policies: {text:?} is no regular expression")
+}
+
+/// What is said of a regular expression in `values` that is too big.
+pub fn big_expression_text(alloc: Global, text: &str) -> Result<String, AllocError> {
+    format!(in alloc; "policies: {text:?} takes more than about 1 MiB, compiled")
+}

@@ -1,0 +1,13 @@
+-- What a fault is told as.
+use Rattle.std.specs.Prelude.{ℕ, List, codes}
+use Rattle.http_text.specs.declared.request.RequestRefusal.{RequestRefusal}
+use Rattle.http_text.specs.declared.request.RequestRefusal.TheVariants.{HeadTooLarge, BadRequest, NotFound, MethodNotAllowed, UnsupportedMediaType, BodyTooLarge, NotGzip}
+
+abbrev pub fault_text : RequestRefusal → List ℕ
+fault_text HeadTooLarge = codes "the head is too large"
+fault_text BadRequest = codes "the head is no request of HTTP/1.1"
+fault_text NotFound = codes "the target is unknown"
+fault_text MethodNotAllowed = codes "the method is not POST"
+fault_text UnsupportedMediaType = codes "the content is no JSON, or has a coding that is not taken"
+fault_text BodyTooLarge = codes "the body is too large"
+fault_text NotGzip = codes "the body is no gzip stream"

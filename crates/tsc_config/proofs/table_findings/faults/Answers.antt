@@ -1,6 +1,0 @@
-use Rattle.std.proofs.Common.{rules}
-use Rattle.tsc_config.proofs.Told.{some_told}
-use Rattle.tsc_config.proofs.table_findings.faults.Goals as goal
-
-pub returns-clause-some : goal.returns-clause-some
-returns-clause-some c = some_told _ _ _ _ c.with_big.ensures (search rules) (search rules)
